@@ -1,0 +1,7 @@
+pub mod Counting
+pub mod Filling
+pub mod Indexes
+pub mod Merging
+pub mod NameLemmas
+pub mod Values
+pub mod Words

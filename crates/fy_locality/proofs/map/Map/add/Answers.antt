@@ -1,0 +1,13 @@
+use Rattle.std.proofs.Common.{◌≡◌, ◌∙◌, Option, Some, None, Err, false, ap, sym}
+use Rattle.std.specs.Option.{option_copied}
+use Rattle.fy_locality.specs.declared.map.MapFault.{MapFault}
+use Rattle.fy_locality.specs.declared.map.MapFault.TheVariants.{Name, NoMemory}
+use Rattle.fy_locality.specs.Locality.{locality_of, are_names, refusal_of}
+use Rattle.fy_locality.proofs.Indexes.{no_name, not_true, renamed, unmade}
+use Rattle.fy_locality.proofs.map.Map.add.Goals as goal
+
+pub returns-in-Err-clause-refused : goal.returns-in-Err-clause-refused
+returns-in-Err-clause-refused c = λ fault e. renamed fault _ e (no_name c.args.self.now (locality_of c.args.id.now c.args.machine.now c.args.zone.now (option_copied c.args.hall) (option_copied c.args.dc)) (not_true _ c.in-Err.ensures.accepted.1))
+
+pub returns-in-Err-clause-memory : goal.returns-in-Err-clause-memory
+returns-in-Err-clause-memory c = λ e. unmade _ e (no_name c.args.self.now (locality_of c.args.id.now c.args.machine.now c.args.zone.now (option_copied c.args.hall) (option_copied c.args.dc)) (not_true _ c.in-Err.ensures.accepted.1))

@@ -1,0 +1,5 @@
+pub mod Key
+pub mod Locality
+pub mod Members
+pub mod Name
+pub mod Noted

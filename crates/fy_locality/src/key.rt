@@ -1,0 +1,28 @@
+//! The five things by which processes are told apart.
+ghost use Rattle.std.specs.Prelude.{◌≡◌};
+ghost use Rattle.fy_locality.specs.Key.{key_text};
+
+/// One part of a locality.
+#[derive(Clone, Copy, PartialEq, Eq, Debug)]
+pub enum Key {
+    Process,
+    Machine,
+    Zone,
+    DataHall,
+    DataCenter,
+}
+
+impl Key {
+    /// The key as every text of the product writes it: `processid`, `machineid`, `zoneid`, `data_hall`, `dcid`.
+    pub fn text(self) -> &'static str
+        ensures { result.now ≡ key_text self }
+    {
+        match self {
+            Key::Process => "processid",
+            Key::Machine => "machineid",
+            Key::Zone => "zoneid",
+            Key::DataHall => "data_hall",
+            Key::DataCenter => "dcid",
+        }
+    }
+}

@@ -1,0 +1,23 @@
+//! Who the processes are: names, numbers, the keys of a locality, and sets of processes.
+#![tactic(auto)]
+
+mod key;
+pub mod laws;
+mod locality;
+mod map;
+mod name;
+mod process_set;
+mod processes;
+#[cfg(test)]
+mod tests;
+
+pub use key::Key;
+pub use locality::Locality;
+pub use map::{Map, MapFault};
+pub use name::{BadName, Name};
+pub use process_set::ProcSet;
+pub use processes::Processes;
+
+/// The number of a process: its place in the list of processes.
+#[derive(Clone, Copy, PartialEq, Eq, Debug)]
+pub struct ProcId(pub u32);

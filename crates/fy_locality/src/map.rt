@@ -1,0 +1,293 @@
+//! Where each process stands.
+ghost use Rattle.std.specs.Prelude.{◌≡◌, ◌<◌, ◌≤◌, ◌++◌, nat_lt, ℕ, [], ◌∷◌, Some, None, length, IfOk, OnErr, slice_get, ◌≢◌, IfSome, IfNone, IfErr, IsTrue, ◌↔◌};
+ghost use Rattle.std.specs.FinSet as sets;
+ghost use Rattle.std.specs.Option.{option_copied};
+ghost use Rattle.indexmap.specs.IndexMap.{spare};
+ghost use Rattle.fy_locality.specs.declared.key.Key.TheVariants.{Process};
+ghost use Rattle.fy_locality.specs.Locality.{value_of, has_value, values_of, IsIndex, group_of, locality_of, taken_or_full, refusal_of};
+ghost use Rattle.fy_locality.specs.Noted.{Notes};
+
+use crate::{BadName, Key, Locality, Name, ProcId, ProcSet};
+use indexmap::IndexMap;
+use std::alloc::{AllocError, AllocFailed, Global};
+use std::marker::Model;
+
+/// The processes in order of their numbers, and for each key its values in the order in which they were first seen,
+/// each with the processes that have it.
+pub struct Map {
+    processes: Vec<Locality>,
+    ids: IndexMap<Name, ProcSet>,
+    machines: IndexMap<Name, ProcSet>,
+    zones: IndexMap<Name, ProcSet>,
+    halls: IndexMap<Name, ProcSet>,
+    centers: IndexMap<Name, ProcSet>,
+}
+
+impl Model for Map {
+    ghost use Rattle.std.specs.Prelude.{List};
+    ghost use Rattle.fy_locality.specs.declared.locality.Locality.{Locality};
+
+    ghost Value = { List Locality };
+
+    ghost use Rattle.fy_locality.specs.Locality.{IsIndexed};
+
+    ghost view = { λ m. m.processes.items };
+
+    ghost invariant = { λ m. IsIndexed m.processes.items m.ids.entries m.machines.entries m.zones.entries m.halls.entries m.centers.entries };
+}
+
+impl Map {
+    ghost use Rattle.fy_locality.specs.declared.map.MapFault.{MapFault};
+    ghost use Rattle.fy_locality.specs.declared.map.MapFault.TheVariants.{NoMemory};
+
+    /// No process.
+    pub fn make(alloc: Global) -> Self
+        ensures { result ≡ [] }
+    {
+        Map {
+            processes: Vec::new(alloc),
+            ids: IndexMap::new(alloc),
+            machines: IndexMap::new(alloc),
+            zones: IndexMap::new(alloc),
+            halls: IndexMap::new(alloc),
+            centers: IndexMap::new(alloc),
+        }
+    }
+
+    /// How many processes there are: at most 1024.
+    pub fn len(&self) -> u32
+        ensures count { result ≡ length self.now }
+        ensures few { length self.now ≤ 1024 }
+    {
+        self.processes.len() as u32
+    }
+
+    /// Whether there is no process.
+    pub fn is_empty(&self) -> bool
+        ensures { IsTrue result ↔ (self.now ≡ []) }
+    {
+        self.processes.is_empty()
+    }
+
+    fn index(&self, key: Key) -> &IndexMap<Name, ProcSet>
+        ensures index { IsIndex self.now key result.now.entries }
+        ensures few { length self.now ≤ 1024 }
+    {
+        match key {
+            Key::Process => &self.ids,
+            Key::Machine => &self.machines,
+            Key::Zone => &self.zones,
+            Key::DataHall => &self.halls,
+            Key::DataCenter => &self.centers,
+        }
+    }
+
+    /// The value of a key at a process, where it has one.
+    pub fn value(&self, p: ProcId, key: Key) -> Option<Name>
+        requires { p.0 < length self.now }
+        ensures { result ≡ value_of self.now key p.0 }
+    {
+        self.processes[p.0 as usize].value(key)
+    }
+
+    /// How many different values of a key there are.
+    pub fn value_count(&self, key: Key) -> u32
+        ensures { result ≡ length (values_of self.now key) }
+    {
+        self.index(key).len() as u32
+    }
+
+    /// A value of a key by its place, in the order in which they were first seen.
+    pub fn value_at(&self, key: Key, i: u32) -> Option<Name>
+        ensures { result ≡ slice_get (values_of self.now key) i }
+    {
+        match self.index(key).get_index(i as usize) {
+            Some((name, _)) => Some(*name),
+            None => None,
+        }
+    }
+
+    /// The processes with a value of a key: one look-up.
+    pub fn members(&self, key: Key, value: &Name) -> ProcSet
+        ensures { (q : ℕ) → sets.contains result q ≡ has_value self.now key value.now q }
+    {
+        group(self.index(key), value)
+    }
+
+    /// Every process.
+    pub fn everyone(&self) -> ProcSet
+        ensures { (q : ℕ) → sets.contains result q ≡ nat_lt q (length self.now) }
+    {
+        let mut all = ProcSet::empty();
+        for p in 0..self.len() {
+            all.put(ProcId(p));
+        }
+        all
+    }
+
+    /// The process with a name.
+    pub fn find(&self, id: &Name) -> Option<ProcId>
+        ensures found { IfSome result (λ p. value_of self.now Process p.0 ≡ Some id.now) }
+        ensures within { IfSome result (λ p. p.0 < length self.now) }
+        ensures missing { IfNone result ((p : ℕ) → value_of self.now Process p ≢ Some id.now) }
+    {
+        match self.ids.get_index_of(id) {
+            Some(at) => Some(ProcId(at as u32)),
+            None => None,
+        }
+    }
+
+    /// An equal map, or no memory.
+    pub fn try_copy(&self, alloc: Global) -> Result<Map, AllocError>
+        ensures { IfOk result (λ copy. copy ≡ self.now) }
+    {
+        Ok(Map {
+            processes: Vec::from_slice(alloc, &self.processes)?,
+            ids: copied(&self.ids)?,
+            machines: copied(&self.machines)?,
+            zones: copied(&self.zones)?,
+            halls: copied(&self.halls)?,
+            centers: copied(&self.centers)?,
+        })
+    }
+
+    /// One more process, which gets the next number. In order: a text that is no name, an `id` that is there already,
+    /// 1024 processes are there already, no memory. A refused process leaves the map as it was.
+    pub fn add(
+        &mut self,
+        id: &str,
+        machine: &str,
+        zone: &str,
+        hall: Option<&str>,
+        dc: Option<&str>,
+    ) -> Result<ProcId, MapFault>
+        ensures refused { (fault : MapFault) → refusal_of self.old (locality_of id.now machine.now zone.now (option_copied hall.entry) (option_copied dc.entry)) ≡ Some fault → result ≡ Err fault }
+        ensures memory { refusal_of self.old (locality_of id.now machine.now zone.now (option_copied hall.entry) (option_copied dc.entry)) ≡ None → IfErr result (λ fault. fault ≡ NoMemory) }
+        ensures number { IfOk result (λ p. p.0 ≡ length self.old) }
+        ensures added { IfOk result (λ p. self.new ≡ self.old ++ locality_of id.now machine.now zone.now (option_copied hall.entry) (option_copied dc.entry) ∷ []) }
+        ensures err { OnErr result (self.new ≡ self.old) }
+    {
+        match Locality::make(id, machine, zone, hall, dc) {
+            Ok(locality) => self.push(locality),
+            Err(BadName) => Err(MapFault::Name),
+        }
+    }
+
+    fn refusal(&self, id: &Name) -> Option<MapFault>
+        ensures { result ≡ taken_or_full self.now id.now }
+    {
+        if self.ids.contains_key(id) {
+            return Some(MapFault::Twice);
+        }
+        if self.processes.len() >= 1024 {
+            return Some(MapFault::TooMany);
+        }
+        None
+    }
+
+    /// One more process whose names are known, as `add` does: refused where its name is there already, where 1024
+    /// processes are there already, and for want of memory, in this order.
+    pub fn push(&mut self, locality: Locality) -> Result<ProcId, MapFault>
+        ensures refused { (fault : MapFault) → taken_or_full self.old locality.process ≡ Some fault → result ≡ Err fault }
+        ensures memory { taken_or_full self.old locality.process ≡ None → IfErr result (λ fault. fault ≡ NoMemory) }
+        ensures ok { IfOk result (λ p. (p.0 ≡ length self.old) × (self.new ≡ self.old ++ locality ∷ [])) }
+        ensures err { OnErr result (self.new ≡ self.old) }
+    {
+        let number = ProcId(self.len());
+        if let Some(fault) = self.refusal(&locality.process) {
+            return Err(fault);
+        }
+        self.processes.reserve(1)?;
+        self.ids.reserve(1)?;
+        self.machines.reserve(1)?;
+        self.zones.reserve(1)?;
+        self.halls.reserve(1)?;
+        self.centers.reserve(1)?;
+        note(&mut self.ids, Some(locality.process), number);
+        note(&mut self.machines, Some(locality.machine), number);
+        note(&mut self.zones, Some(locality.zone), number);
+        note(&mut self.halls, locality.data_hall, number);
+        note(&mut self.centers, locality.data_center, number);
+        self.processes.push(locality)?;
+        Ok(number)
+    }
+}
+
+// Written out, so that whoever drops a map makes one call.
+impl Drop for Map {
+    fn drop(self) {
+        let Map {
+            processes: _,
+            ids: _,
+            machines: _,
+            zones: _,
+            halls: _,
+            centers: _,
+        } = self;
+    }
+}
+
+/// Why a process was not added.
+#[derive(Clone, Copy, PartialEq, Eq, Debug)]
+pub enum MapFault {
+    /// One of the texts is no name.
+    Name,
+    /// A process with this name is there already.
+    Twice,
+    /// 1024 processes are there already.
+    TooMany,
+    NoMemory,
+}
+
+impl From<AllocError> for MapFault {
+    ghost use Rattle.fy_locality.specs.declared.map.MapFault.TheVariants.{NoMemory};
+    ghost use Rattle.std.specs.Prelude.{◌≡◌};
+
+    ghost from_gives = { λ _ e. e ≡ NoMemory };
+
+    fn from(_: AllocError) -> MapFault {
+        MapFault::NoMemory
+    }
+}
+
+impl<T: Drop> From<AllocFailed<T>> for MapFault {
+    ghost use Rattle.fy_locality.specs.declared.map.MapFault.TheVariants.{NoMemory};
+    ghost use Rattle.std.specs.Prelude.{◌≡◌};
+
+    ghost from_gives = { λ _ e. e ≡ NoMemory };
+
+    fn from(_: AllocFailed<T>) -> MapFault {
+        MapFault::NoMemory
+    }
+}
+
+/// The same values again with their processes, in memory of their own.
+fn copied(index: &IndexMap<Name, ProcSet>) -> Result<IndexMap<Name, ProcSet>, AllocError>
+    ensures { IfOk result (λ copy. copy.entries ≡ index.now.entries) }
+{
+    let copy = index.clone()?;
+    Ok(copy)
+}
+
+/// The processes kept for a value.
+fn group(index: &IndexMap<Name, ProcSet>, value: &Name) -> ProcSet
+    ensures { result ≡ group_of index.now.entries value.now }
+{
+    match index.get(value) {
+        Some(members) => *members,
+        None => ProcSet::empty(),
+    }
+}
+
+/// Puts a process into the set of its value, where it has one.
+fn note(index: &mut IndexMap<Name, ProcSet>, value: Option<Name>, p: ProcId)
+    requires room { 0 < spare index.old }
+    requires small { p.0 < 1024 }
+    ensures { Notes index.old.entries value p.0 index.new.entries }
+{
+    if let Some(name) = value {
+        let mut members = group(index, &name);
+        members.put(p);
+        let _ = index.insert(name, members);
+    }
+}

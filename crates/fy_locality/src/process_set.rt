@@ -1,0 +1,151 @@
+//! A set of processes in 16 words.
+ghost use Rattle.std.specs.Prelude.{◌≡◌, ◌↔◌, ◌<◌, ◌≤◌, ℕ, true, false, IsTrue, IfSome, IfNone};
+ghost use Rattle.std.specs.Ordering.{nat_cmp};
+ghost use Rattle.std.specs.FinSet as sets;
+ghost use Rattle.fy_locality.specs.Members.{IsLeast};
+
+use crate::{ProcId, Processes};
+use std::marker::Model;
+
+/// A set of processes, each below 1024. It takes no memory and is `Copy`.
+#[derive(Clone, Copy)]
+pub struct ProcSet {
+    words: [u64; 16],
+}
+
+impl Model for ProcSet {
+    ghost use Rattle.std.specs.Ordering.{nat_cmp};
+    ghost use Rattle.std.specs.FinSet as sets;
+    ghost use Rattle.std.specs.Coded.{coded_ℕ};
+
+    ghost Value = { sets.FinSet nat_cmp };
+
+    ghost coded = { sets.code coded_ℕ };
+
+    ghost use Rattle.fy_locality.specs.Members.{members, words_of, AreWords, words_of-members};
+
+    ghost view = { λ s. members s.words };
+
+    ghost invariant = { λ s. AreWords s.words };
+
+    ghost inverse = { λ v. record { words = words_of v } };
+
+    ghost inverse_ok = { λ a h. λ i. record { words = words_of-members a.words h i } };
+}
+
+impl ProcSet {
+    /// The set of no process.
+    pub fn empty() -> Self
+        ensures { result ≡ sets.empty }
+    {
+        ProcSet { words: [0; 16] }
+    }
+
+    /// Puts a process in.
+    pub fn put(&mut self, p: ProcId)
+        requires { p.0 < 1024 }
+        ensures { self.new ≡ sets.insert self.old p.0 }
+    {
+        self.words[p.0 as usize / 64] |= 1u64 << (p.0 % 64);
+    }
+
+    /// Takes a process out.
+    pub fn drop_one(&mut self, p: ProcId)
+        requires { p.0 < 1024 }
+        ensures { self.new ≡ sets.remove self.old p.0 }
+    {
+        self.words[p.0 as usize / 64] &= !(1u64 << (p.0 % 64));
+    }
+
+    /// Whether a process is in the set.
+    pub fn has(&self, p: ProcId) -> bool
+        requires { p.0 < 1024 }
+        ensures { result ≡ sets.contains self.now p.0 }
+    {
+        self.words[p.0 as usize / 64] & (1u64 << (p.0 % 64)) != 0
+    }
+
+    /// How many processes are in the set.
+    pub fn len(&self) -> u32
+        ensures count { result ≡ sets.len self.now }
+        ensures bounded { result ≤ 1024 }
+    {
+        let mut count = 0;
+        for word in &self.words {
+            count += word.count_ones();
+        }
+        count
+    }
+
+    /// Whether no process is in the set.
+    pub fn is_empty(&self) -> bool
+        ensures { IsTrue result ↔ (self.now ≡ sets.empty) }
+    {
+        match self.least() {
+            Some(_) => false,
+            None => true,
+        }
+    }
+
+    /// The least process in the set.
+    pub fn least(&self) -> Option<ProcId>
+        ensures some { IfSome result (λ p. IsLeast self.now p.0) }
+        ensures small { IfSome result (λ p. p.0 < 1024) }
+        ensures none { IfNone result (self.now ≡ sets.empty) }
+    {
+        for k in 0..16 {
+            let word = self.words[k];
+            if word != 0 {
+                return Some(ProcId(k as u32 * 64 + word.trailing_zeros()));
+            }
+        }
+        None
+    }
+
+    /// The processes in the set, by rising number.
+    pub fn iter(&self) -> Processes
+        ensures { result ≡ self.now }
+    {
+        Processes { rest: *self }
+    }
+
+    /// Those of either set.
+    pub fn union(&self, other: &ProcSet) -> ProcSet
+        ensures { result ≡ sets.union self.now other.now }
+    {
+        let mut words = self.words;
+        for k in 0..16 {
+            words[k] |= other.words[k];
+        }
+        ProcSet { words }
+    }
+
+    /// Those of both sets.
+    pub fn intersection(&self, other: &ProcSet) -> ProcSet
+        ensures { result ≡ sets.intersection self.now other.now }
+    {
+        let mut words = self.words;
+        for k in 0..16 {
+            words[k] &= other.words[k];
+        }
+        ProcSet { words }
+    }
+
+    /// Those of this set that aren't in the other.
+    pub fn difference(&self, other: &ProcSet) -> ProcSet
+        ensures { result ≡ sets.difference self.now other.now }
+    {
+        let mut words = self.words;
+        for k in 0..16 {
+            words[k] &= !other.words[k];
+        }
+        ProcSet { words }
+    }
+
+    /// Every member is below 1024.
+    pub fn members_are_small(&self)
+        ensures { (q : ℕ) → sets.contains self.now q ≡ true → q < 1024 }
+    {
+        let _words = &self.words;
+    }
+}
