@@ -1,0 +1,12 @@
+pub mod Answered
+pub mod Bounds
+pub mod Counts
+pub mod Numerals
+pub mod Readings
+pub mod SatLaws
+pub mod Shapes
+pub mod Tests
+pub mod TextLaws
+pub mod TextOnce
+pub mod Texts
+pub mod Walk

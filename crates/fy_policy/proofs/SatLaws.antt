@@ -1,0 +1,56 @@
+-- the empty set satisfies nothing, and a larger set satisfies more
+use Rattle.std.proofs.Common.{◌≡◌, ℕ, ◌≤◌, Bool, true, false, ◌&&◌, List, [], ◌∷◌, length, refl, sym, ap, ◌∙◌, true≢false, arith}
+use Rattle.std.specs.List.{AllByRecursion}
+use Rattle.fy_locality.specs.declared.locality.Locality.{Locality}
+use Rattle.fy_locality.specs.declared.key.Key.{Key}
+use Rattle.fy_locality.specs.Locality.{has_value}
+use Rattle.fy_policy.specs.Sat.{Sat, SatAll, AtLeast, group}
+use Rattle.fy_policy.specs.Tree.{Tree, one, across, every, Parts, none, part, IsCounted, AreCounted, HasPart}
+
+-- what each name passes, each name passes
+weaker : (P Q : List ℕ → Type 0) → ((v : List ℕ) → P v → Q v) → (names : List (List ℕ)) → AllByRecursion P names → AllByRecursion Q names
+weaker P Q f [] h = tt
+weaker P Q f (v ∷ vs) h = (f v h.0, weaker P Q f vs h.1)
+
+pub AtLeast-weaker : (n : ℕ) (P Q : List ℕ → Type 0) → ((v : List ℕ) → P v → Q v) → AtLeast n P → AtLeast n Q
+AtLeast-weaker n P Q f h = record { names = h.names; many = h.many; different = h.different; each = weaker P Q f h.names h.each }
+
+larger_group : (processes : List Locality) (key : Key) (v : List ℕ) (s t : ℕ → Bool) → ((p : ℕ) → s p ≡ true → t p ≡ true) → (p : ℕ) → group processes key v s p ≡ true → group processes key v t p ≡ true
+larger_group processes key v s t more p h = both (s p) (t p) (has_value processes key v p) (more p) h
+  where
+    both : (a b c : Bool) → (a ≡ true → b ≡ true) → (a && c) ≡ true → (b && c) ≡ true
+    both true b c f h = ap (λ x. x && c) (f refl) ∙ h
+    both false b c f h = absurd (true≢false (sym h))
+
+mutual
+  unfolding Sat
+
+  pub Sat-more : (processes : List Locality) (q : Tree) (s t : ℕ → Bool) → ((p : ℕ) → s p ≡ true → t p ≡ true) → Sat processes q s → Sat processes q t
+  Sat-more processes one s t more h = (h.0, h.1, more h.0 h.2)
+  Sat-more processes (across n key q) s t more h =
+      AtLeast-weaker n _ _ (λ v e. (e.0, Sat-more processes q (group processes key v s) (group processes key v t) (larger_group processes key v s t more) e.1)) h
+  Sat-more processes (every qs) s t more h = SatAll-more processes qs s t more h
+
+  SatAll-more : (processes : List Locality) (qs : Parts) (s t : ℕ → Bool) → ((p : ℕ) → s p ≡ true → t p ≡ true) → SatAll processes qs s → SatAll processes qs t
+  SatAll-more processes none s t more h = tt
+  SatAll-more processes (part q qs) s t more h = (Sat-more processes q s t more h.0, SatAll-more processes qs s t more h.1)
+
+first_fails : (n : ℕ) (P : List ℕ → Type 0) → 1 ≤ n → ((v : List ℕ) → P v → ⊥) → AtLeast n P → ⊥
+first_fails n P least fails h = go h.names h.many h.each
+  where
+    go : (names : List (List ℕ)) → n ≤ length names → AllByRecursion P names → ⊥
+    go [] many each = absurd (omega arith)
+    go (v ∷ vs) many each = fails v each.0
+
+mutual
+  unfolding Sat
+
+  pub Sat-none : (processes : List Locality) (q : Tree) (s : ℕ → Bool) → IsCounted q → ((p : ℕ) → s p ≡ false) → Sat processes q s → ⊥
+  Sat-none processes one s counted empty h = true≢false (sym h.2 ∙ empty h.0)
+  Sat-none processes (across n key q) s counted empty h =
+      first_fails n _ counted.0 (λ v e. Sat-none processes q (group processes key v s) counted.2 (λ p. ap (λ b. b && has_value processes key v p) (empty p)) e.1) h
+  Sat-none processes (every qs) s counted empty h = SatAll-none processes qs s counted.0 counted.1 empty h
+
+  SatAll-none : (processes : List Locality) (qs : Parts) (s : ℕ → Bool) → HasPart qs → AreCounted qs → ((p : ℕ) → s p ≡ false) → SatAll processes qs s → ⊥
+  SatAll-none processes none s has counted empty h = has
+  SatAll-none processes (part q qs) s has counted empty h = Sat-none processes q s counted.0 empty h.0
