@@ -1,0 +1,149 @@
+-- the sets in 16 words, and the sets as tests
+use Rattle.std.proofs.Common.{zero, suc, ◌≡◌, ◌↔◌, ℕ, ◌<◌, Bool, true, false, cond, ◌&&◌, not, List, [], ◌∷◌, length, get_or, take, refl, sym, ap, subst, ◌∙◌, arith, true≢false}
+use Rattle.std.specs.List.{AllByRecursion, list_all, position, position_from}
+use Rattle.std.proofs.lemmas.Iterator.Adapters.{position_from-zero}
+use Rattle.std.specs.Prelude.{Option, None, Some, ◌+◌}
+use Rattle.std.specs.Ordering.{nat_cmp}
+use Rattle.std.specs.FinSet as sets
+use Rattle.std.specs.Cmp.{nat_cmp_total}
+use Rattle.fy_locality.specs.declared.locality.Locality.{Locality}
+use Rattle.fy_policy.specs.Tree.{Tree, one, IsPolicy}
+use Rattle.fy_policy.specs.Sat.{Sat, satisfies}
+use Rattle.fy_decide.specs.declared.dead_book.Loss.{Loss}
+use Rattle.fy_decide.specs.declared.dead_book.Loss.TheVariants.{Emptied, Gone}
+use Rattle.fy_decide.specs.Losses.{AreShort, AreSatisfied, all_short, all_satisfied, with_set, without_set, everyone, first_unmet, MayDestroy, may_destroy}
+use Rattle.fy_decide.specs.DeadBook.{Casualties, IsSafe, struck}
+
+union_is : (s t : sets.FinSet nat_cmp) → sets.contains (sets.union s t) ≡ with_set (sets.contains s) (sets.contains t)
+union_is s t = λ i p. sets.contains-union nat_cmp_total s t p i
+
+difference_is : (s t : sets.FinSet nat_cmp) → sets.contains (sets.difference s t) ≡ without_set (sets.contains s) (sets.contains t)
+difference_is s t = λ i p. sets.contains-difference nat_cmp_total s t p i
+
+abbrev May : Casualties → sets.FinSet nat_cmp → Loss → Type 0
+May book s loss = MayDestroy book.processes book.policies (sets.contains book.destroyed) (sets.contains book.left) (sets.contains s) loss
+
+abbrev may : Casualties → sets.FinSet nat_cmp → Loss → Bool
+may book s loss = may_destroy book.processes book.policies (sets.contains book.destroyed) (sets.contains book.left) (sets.contains s) loss
+
+abbrev Short : Casualties → sets.FinSet nat_cmp → Type 0
+Short book s = AreShort book.processes book.policies (sets.contains (sets.union book.destroyed s))
+
+abbrev Enough : Casualties → sets.FinSet nat_cmp → Type 0
+Enough book s = AreSatisfied book.processes book.policies (sets.contains (sets.difference book.left s))
+
+module _ (book : Casualties) (s : sets.FinSet nat_cmp) where
+  short : Short book s → AreShort book.processes book.policies (with_set (sets.contains book.destroyed) (sets.contains s))
+  short = subst (λ t. AreShort book.processes book.policies t) (union_is book.destroyed s)
+
+  short_back : AreShort book.processes book.policies (with_set (sets.contains book.destroyed) (sets.contains s)) → Short book s
+  short_back = subst (λ t. AreShort book.processes book.policies t) (sym (union_is book.destroyed s))
+
+  enough : Enough book s → AreSatisfied book.processes book.policies (without_set (sets.contains book.left) (sets.contains s))
+  enough = subst (λ t. AreSatisfied book.processes book.policies t) (difference_is book.left s)
+
+  enough_back : AreSatisfied book.processes book.policies (without_set (sets.contains book.left) (sets.contains s)) → Enough book s
+  enough_back = subst (λ t. AreSatisfied book.processes book.policies t) (sym (difference_is book.left s))
+
+  -- what the code tests, of its own copies of these
+  pub as_short : (policies : List Tree) (u : sets.FinSet nat_cmp) (b : Bool) → policies ≡ book.policies → u ≡ sets.union book.destroyed s → (b ≡ true) ↔ AreShort book.processes policies (sets.contains u) → (b ≡ true) ↔ Short book s
+  as_short policies u b e f law = subst (λ t. (b ≡ true) ↔ AreShort book.processes book.policies (sets.contains t)) f (subst (λ qs. (b ≡ true) ↔ AreShort book.processes qs (sets.contains u)) e law)
+
+  pub as_short_test : (policies : List Tree) (u : sets.FinSet nat_cmp) (b : Bool) → policies ≡ book.policies → u ≡ sets.union book.destroyed s → b ≡ all_short book.processes policies (sets.contains u) → b ≡ all_short book.processes book.policies (sets.contains (sets.union book.destroyed s))
+  as_short_test policies u b e f law = law ∙ ap (λ qs. all_short book.processes qs (sets.contains u)) e ∙ ap (λ t. all_short book.processes book.policies (sets.contains t)) f
+
+  pub as_enough : (policies : List Tree) (u : sets.FinSet nat_cmp) (b : Bool) → policies ≡ book.policies → u ≡ sets.difference book.left s → (b ≡ true) ↔ AreSatisfied book.processes policies (sets.contains u) → (b ≡ true) ↔ Enough book s
+  as_enough policies u b e f law = subst (λ t. (b ≡ true) ↔ AreSatisfied book.processes book.policies (sets.contains t)) f (subst (λ qs. (b ≡ true) ↔ AreSatisfied book.processes qs (sets.contains u)) e law)
+
+  pub as_enough_test : (policies : List Tree) (u : sets.FinSet nat_cmp) (b : Bool) → policies ≡ book.policies → u ≡ sets.difference book.left s → b ≡ all_satisfied book.processes policies (sets.contains u) → b ≡ all_satisfied book.processes book.policies (sets.contains (sets.difference book.left s))
+  as_enough_test policies u b e f law = law ∙ ap (λ qs. all_satisfied book.processes qs (sets.contains u)) e ∙ ap (λ t. all_satisfied book.processes book.policies (sets.contains t)) f
+
+  -- not short
+  pub refused : (loss : Loss) (b : Bool) → b ≡ false → (b ≡ true) ↔ Short book s → (false ≡ true) ↔ May book s loss
+  refused loss b fails law = (λ e. absurd (true≢false (sym e)), λ m. absurd (true≢false (sym (law.1 (short_back (first loss m))) ∙ fails)))
+    where
+      first : (loss : Loss) → May book s loss → AreShort book.processes book.policies (with_set (sets.contains book.destroyed) (sets.contains s))
+      first Emptied m = m
+      first Gone m = m.0
+
+  pub refused_test : (loss : Loss) (b : Bool) → b ≡ false → b ≡ all_short book.processes book.policies (sets.contains (sets.union book.destroyed s)) → false ≡ may book s loss
+  refused_test loss b off is = go loss
+    where
+      fails : all_short book.processes book.policies (with_set (sets.contains book.destroyed) (sets.contains s)) ≡ false
+      fails = ap (λ t. all_short book.processes book.policies t) (sym (union_is book.destroyed s)) ∙ sym is ∙ off
+
+      go : (loss : Loss) → false ≡ may book s loss
+      go Emptied = sym fails
+      go Gone = sym (ap (λ b. b && all_satisfied book.processes book.policies (without_set (sets.contains book.left) (sets.contains s))) fails)
+
+  -- short, and emptied
+  pub emptied : (loss : Loss) (b : Bool) → loss ≡ Emptied → b ≡ true → (b ≡ true) ↔ Short book s → (true ≡ true) ↔ May book s loss
+  emptied loss b is on law = (λ _. subst (May book s) (sym is) (short (law.0 on)), λ _. refl)
+
+  pub emptied_test : (loss : Loss) (b : Bool) → loss ≡ Emptied → b ≡ true → b ≡ all_short book.processes book.policies (sets.contains (sets.union book.destroyed s)) → true ≡ may book s loss
+  emptied_test loss b is on test = sym (ap (may book s) is ∙ ap (λ t. all_short book.processes book.policies t) (sym (union_is book.destroyed s)) ∙ sym test ∙ on)
+
+  -- short, and gone
+  pub gone : (loss : Loss) (b r : Bool) → loss ≡ Gone → b ≡ true → (b ≡ true) ↔ Short book s → (r ≡ true) ↔ Enough book s → (r ≡ true) ↔ May book s loss
+  gone loss b r is on law left = (λ e. subst (May book s) (sym is) (short (law.0 on), enough (left.0 e)), λ m. left.1 (enough_back (subst (May book s) is m).1))
+
+  pub gone_test : (loss : Loss) (b r : Bool) → loss ≡ Gone → b ≡ true → b ≡ all_short book.processes book.policies (sets.contains (sets.union book.destroyed s)) → r ≡ all_satisfied book.processes book.policies (sets.contains (sets.difference book.left s)) → r ≡ may book s loss
+  gone_test loss b r is on test left =
+      left
+      ∙ ap (λ t. all_satisfied book.processes book.policies t) (difference_is book.left s)
+      ∙ sym (ap (λ b. b && all_satisfied book.processes book.policies (without_set (sets.contains book.left) (sets.contains s))) (ap (λ t. all_short book.processes book.policies t) (sym (union_is book.destroyed s)) ∙ sym test ∙ on))
+      ∙ sym (ap (may book s) is)
+
+  -- a strike keeps the book safe
+  pub IsSafe-emptied : (loss : Loss) → loss ≡ Emptied → IsSafe book → May book s loss → IsSafe (record book { destroyed = sets.union book.destroyed s })
+  IsSafe-emptied loss is safe m = record { short = short_back (subst (May book s) is m); satisfied = safe.satisfied }
+
+  pub IsSafe-gone : (loss : Loss) → loss ≡ Gone → May book s loss → IsSafe (record book { destroyed = sets.union book.destroyed s; left = sets.difference book.left s })
+  IsSafe-gone loss is m = let both : May book s Gone = subst (May book s) is m in record { short = short_back both.0; satisfied = enough_back both.1 }
+
+-- ---- a new book
+pub each_of : {X : Type 0} (P : X → Type 0) (xs : List X) → ((k : ℕ) (d : X) → k < length xs → P (get_or xs k d)) → AllByRecursion P xs
+each_of P [] each = tt
+each_of P (x ∷ xs) each = (each zero x (omega arith), each_of P xs (λ k d h. each (suc k) d (omega arith)))
+
+nobody_short : (processes : List Locality) (policies : List Tree) (s : ℕ → Bool)
+    → ((processes : List Locality) (policy : Tree) (s : ℕ → Bool) → IsPolicy policy → ((p : ℕ) → s p ≡ false) → Sat processes policy s → ⊥)
+    → ((p : ℕ) → s p ≡ false) → AllByRecursion IsPolicy policies → AreShort processes policies s
+nobody_short processes [] s law empty within = tt
+nobody_short processes (q ∷ qs) s law empty within = (λ sat. law processes q s within.0 empty sat, nobody_short processes qs s law empty within.1)
+
+none_found : {X : Type 0} (t : X → Bool) (i : ℕ) (xs : List X) → position_from t i xs ≡ None → AllByRecursion (λ x. t x ≡ false) xs
+none_found t i [] e = tt
+none_found t i (x ∷ xs) e = go (λ h. none_found t (i + 1) xs h) (t x) refl e
+  where
+    go : (position_from t (i + 1) xs ≡ None → AllByRecursion (λ x. t x ≡ false) xs) → (b : Bool) → t x ≡ b → cond b (Some i) (position_from t (i + 1) xs) ≡ None → (t x ≡ false) × AllByRecursion (λ x. t x ≡ false) xs
+    go later true is h = absurd (let y : ⊥ = cc in y)
+    go later false is h = (is, later h)
+
+each_satisfied : (processes : List Locality) (policies : List Tree) (s : ℕ → Bool)
+    → ((processes : List Locality) (policy : Tree) (s : ℕ → Bool) → (satisfies processes policy s ≡ true) ↔ Sat processes policy s)
+    → AllByRecursion (λ P. not (satisfies processes P s) ≡ false) policies → AreSatisfied processes policies s
+each_satisfied processes [] s law h = tt
+each_satisfied processes (q ∷ qs) s law h = ((law processes q s).0 (turned (satisfies processes q s) h.0), each_satisfied processes qs s law h.1)
+  where
+    turned : (b : Bool) → not b ≡ false → b ≡ true
+    turned true e = refl
+    turned false e = absurd (true≢false e)
+
+-- nobody destroyed and everyone left, where all processes satisfy each policy
+pub IsSafe-new : (processes : List Locality) (policies : List Tree) (destroyed left : sets.FinSet nat_cmp)
+    → ((processes : List Locality) (policy : Tree) (s : ℕ → Bool) → IsPolicy policy → ((p : ℕ) → s p ≡ false) → Sat processes policy s → ⊥)
+    → ((processes : List Locality) (policy : Tree) (s : ℕ → Bool) → (satisfies processes policy s ≡ true) ↔ Sat processes policy s)
+    → destroyed ≡ sets.empty → AllByRecursion IsPolicy policies → position (λ P. not (satisfies processes P (sets.contains left))) policies ≡ None
+    → IsSafe (record { processes = processes; policies = policies; destroyed = destroyed; left = left })
+IsSafe-new processes policies destroyed left none law nobody within met = record {
+  short = nobody_short processes policies (sets.contains destroyed) none (λ p. ap (λ s. sets.contains s p) nobody ∙ sets.contains-empty nat_cmp p) within;
+  satisfied = each_satisfied processes policies (sets.contains left) law (none_found _ 0 policies (sym (position_from-zero (λ P. not (satisfies processes P (sets.contains left))) policies) ∙ met));
+}
+
+-- the place of the first policy that a set of all processes doesn't satisfy
+pub first_unmet-of : (processes : List Locality) (policies : List Tree) (all : ℕ → Bool) → ((q : ℕ) → all q ≡ everyone processes q) → position (λ P. not (satisfies processes P all)) policies ≡ first_unmet processes policies
+first_unmet-of processes policies all same = λ i. position (λ P. not (satisfies processes P (λ q. same q i))) policies
+
+pub none_unmet : {T : Type 0} (o : Option ℕ) (i : ℕ) → o ≡ None → o ≡ Some i → T
+none_unmet o i e f = absurd (let x : ⊥ = cc in x)

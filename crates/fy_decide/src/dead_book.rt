@@ -1,0 +1,198 @@
+//! Who was destroyed, who is left, and whether more may be destroyed.
+ghost use Rattle.std.specs.Prelude.{◌≡◌, ◌↔◌, ℕ, not, IsTrue, IfOk, OnOk, IfErr, Some, None};
+ghost use Rattle.std.specs.List.{position, AllByRecursion};
+ghost use Rattle.std.specs.FinSet as sets;
+ghost use Rattle.fy_policy.specs.Sat.{satisfies};
+ghost use Rattle.fy_policy.specs.Tree.{IsPolicy};
+ghost use Rattle.fy_decide.specs.Losses.{AreShort, AreSatisfied, all_short, all_satisfied, first_unmet, MayDestroy, may_destroy};
+ghost use Rattle.fy_decide.specs.DeadBook.{IsFresh, struck};
+
+use fy_locality::{Map, ProcSet};
+use fy_policy::{Policy, laws, satisfied};
+use std::alloc::{AllocError, AllocFailed, Global};
+use std::marker::Model;
+
+/// Why there is no book.
+#[derive(Clone, Copy, PartialEq, Eq, Debug)]
+pub enum MakeFault {
+    /// The policy at this place is the first that all processes together don't satisfy.
+    Unmet { index: usize },
+    NoMemory,
+}
+
+impl From<AllocError> for MakeFault {
+    ghost use Rattle.fy_decide.specs.declared.dead_book.MakeFault.TheVariants.{NoMemory};
+    ghost use Rattle.std.specs.Prelude.{◌≡◌};
+
+    ghost from_gives = { λ _ e. e ≡ NoMemory };
+
+    fn from(_: AllocError) -> MakeFault {
+        MakeFault::NoMemory
+    }
+}
+
+impl<T: Drop> From<AllocFailed<T>> for MakeFault {
+    ghost use Rattle.fy_decide.specs.declared.dead_book.MakeFault.TheVariants.{NoMemory};
+    ghost use Rattle.std.specs.Prelude.{◌≡◌};
+
+    ghost from_gives = { λ _ e. e ≡ NoMemory };
+
+    fn from(_: AllocFailed<T>) -> MakeFault {
+        MakeFault::NoMemory
+    }
+}
+
+/// How processes are lost: an emptied one comes back without its data, a gone one doesn't come back.
+#[derive(Clone, Copy, PartialEq, Eq, Debug)]
+pub enum Loss {
+    Emptied,
+    Gone,
+}
+
+/// The destroyed, and those left. The destroyed are short of every policy, and those left satisfy each.
+pub struct DeadBook {
+    map: Map,
+    policies: Vec<Policy>,
+    destroyed: ProcSet,
+    left: ProcSet,
+}
+
+impl Model for DeadBook {
+    ghost use Rattle.std.specs.Coded.{codes, coded_ℕ};
+    ghost use Rattle.std.specs.FinSet as sets;
+    ghost use Rattle.std.specs.Ordering.{nat_cmp};
+    ghost use Rattle.fy_locality.specs.contracts.locality.Locality as e;
+    ghost use Rattle.fy_policy.specs.Tree.{tree_code};
+    ghost use Rattle.fy_decide.specs.DeadBook.{Casualties, IsSafe};
+
+    ghost Value = { Casualties };
+
+    ghost coded = { Prim.hlevel (codes, tree_code, e.the_row.coded, sets.code {R = nat_cmp} coded_ℕ) };
+
+    ghost view = { λ b. record { processes = b.map; policies = b.policies.items; destroyed = b.destroyed; left = b.left } };
+
+    ghost invariant = { λ b. IsSafe (record { processes = b.map; policies = b.policies.items; destroyed = b.destroyed; left = b.left }) };
+}
+
+// Written out, so that whoever drops a book makes one call.
+impl Drop for DeadBook {
+    fn drop(self) {
+        let DeadBook {
+            map: _,
+            policies: _,
+            destroyed: _,
+            left: _,
+        } = self;
+    }
+}
+
+/// Whether the set is short of every policy.
+fn are_short(policies: &[Policy], map: &Map, set: &ProcSet) -> bool
+    ensures relation { IsTrue result ↔ AreShort map.now policies.now (sets.contains set.now) }
+    ensures test { result ≡ all_short map.now policies.now (sets.contains set.now) }
+{
+    policies.iter().all(|policy| !satisfied(policy, map, set))
+}
+
+/// Whether the set satisfies each policy.
+fn are_satisfied(policies: &[Policy], map: &Map, set: &ProcSet) -> bool
+    ensures relation { IsTrue result ↔ AreSatisfied map.now policies.now (sets.contains set.now) }
+    ensures test { result ≡ all_satisfied map.now policies.now (sets.contains set.now) }
+{
+    policies.iter().all(|policy| satisfied(policy, map, set))
+}
+
+/// The place of the first policy that the set doesn't satisfy.
+fn unmet(policies: &[Policy], map: &Map, set: &ProcSet) -> Option<usize>
+    ensures { result ≡ position (λ P. not (satisfies map.now P (sets.contains set.now))) policies.now }
+{
+    policies
+        .iter()
+        .position(|policy| !satisfied(policy, map, set))
+}
+
+/// The same policies, in memory of their own.
+fn copies(alloc: Global, policies: &[Policy]) -> Result<Vec<Policy>, AllocError>
+    ensures same { IfOk result (λ copies. copies.items ≡ policies.now) }
+    ensures limits { OnOk result (AllByRecursion IsPolicy policies.now) }
+{
+    let mut copies = Vec::new(alloc);
+    for policy in policies {
+        let copy = policy.try_copy(alloc)?;
+        copies.push(copy)?;
+    }
+    Ok(copies)
+}
+
+impl DeadBook {
+    ghost use Rattle.fy_decide.specs.declared.dead_book.MakeFault.TheVariants.{Unmet, NoMemory};
+
+    /// Nobody is destroyed and everyone is left. Refused with the first policy that all processes together don't
+    /// satisfy, then for want of memory.
+    pub fn make(alloc: Global, map: &Map, policies: &[Policy]) -> Result<DeadBook, MakeFault>
+        ensures made { IfOk result (IsFresh map.now policies.now) }
+        ensures unmet { (i : ℕ) → first_unmet map.now policies.now ≡ Some i → result ≡ Err (Unmet i) }
+        ensures memory { first_unmet map.now policies.now ≡ None → IfErr result (λ fault. fault ≡ NoMemory) }
+    {
+        laws::empty_satisfies_none();
+        laws::test_is_satisfaction();
+        let left = map.everyone();
+        if let Some(index) = unmet(policies, map, &left) {
+            return Err(MakeFault::Unmet { index });
+        }
+        let policies = copies(alloc, policies)?;
+        let map = map.try_copy(alloc)?;
+        Ok(DeadBook {
+            map,
+            policies,
+            destroyed: ProcSet::empty(),
+            left,
+        })
+    }
+
+    /// Whether the set may be lost: the destroyed with it are short of every policy and, where it is gone, those left
+    /// without it satisfy each. Takes no memory.
+    pub fn may_destroy(&self, set: &ProcSet, loss: Loss) -> bool
+        ensures relation { IsTrue result ↔ MayDestroy self.now.processes self.now.policies (sets.contains self.now.destroyed) (sets.contains self.now.left) (sets.contains set.now) loss }
+        ensures test { result ≡ may_destroy self.now.processes self.now.policies (sets.contains self.now.destroyed) (sets.contains self.now.left) (sets.contains set.now) loss }
+    {
+        if !are_short(&self.policies, &self.map, &self.destroyed.union(set)) {
+            return false;
+        }
+        match loss {
+            Loss::Emptied => true,
+            Loss::Gone => are_satisfied(&self.policies, &self.map, &self.left.difference(set)),
+        }
+    }
+
+    /// Takes the loss of a set down. Takes no memory.
+    pub fn strike(&mut self, set: &ProcSet, loss: Loss)
+        requires { MayDestroy self.old.processes self.old.policies (sets.contains self.old.destroyed) (sets.contains self.old.left) (sets.contains set.now) loss }
+        ensures { self.new ≡ struck self.old set.now loss }
+    {
+        self.destroyed = self.destroyed.union(set);
+        match loss {
+            Loss::Emptied => {}
+            Loss::Gone => self.left = self.left.difference(set),
+        }
+    }
+
+    /// The destroyed: they are short of every policy.
+    pub fn destroyed(&self) -> ProcSet
+        ensures destroyed { result ≡ self.now.destroyed }
+        ensures short { AreShort self.now.processes self.now.policies (sets.contains self.now.destroyed) }
+    {
+        self.destroyed
+    }
+
+    /// Those left: they satisfy every policy.
+    pub fn left(&self) -> ProcSet
+        ensures left { result ≡ self.now.left }
+        ensures satisfied { AreSatisfied self.now.processes self.now.policies (sets.contains self.now.left) }
+    {
+        self.left
+    }
+}
+
+#[cfg(test)]
+mod tests;
