@@ -1,0 +1,31 @@
+//! Lines of a slice.
+
+ghost use Rattle.std.specs.Prelude.{◌≡◌, ◌<◌, ◌∷◌, ◌++◌, length, IfSome, IfNone};
+ghost use Rattle.fy_lines.specs.Lines.{lines_of, IsLine};
+
+/// The first line without its line feed, and all that follows it. The last line may lack the feed.
+#[tactic(auto, using(crate::proofs::SplitLemmas::lines_of_split, crate::proofs::SplitLemmas::lines_of_lone))]
+pub fn first_line(bytes: &[u8]) -> (&[u8], &[u8])
+    requires { 0 < length bytes.now }
+    ensures first { lines_of bytes.now ≡ result.0.now ∷ lines_of result.1.now }
+    ensures shorter { length result.1.now < length bytes.now }
+{
+    match first_ended(bytes) {
+        Some((line, rest)) => (line, rest),
+        None => (bytes, &[]),
+    }
+}
+
+/// The first line without its line feed, and all that follows it; `None` where no line feed is
+/// left, so that a last line without its feed is told apart from one that has it.
+pub fn first_ended(bytes: &[u8]) -> Option<(&[u8], &[u8])>
+    ensures some { IfSome result (λ p. (bytes.now ≡ p.0.now ++ 10 ∷ p.1.now) × IsLine p.0.now) }
+    ensures none { IfNone result (IsLine bytes.now) }
+{
+    for i in 0..bytes.len() {
+        if bytes[i] == b'\n' {
+            return Some((&bytes[..i], &bytes[i + 1..]));
+        }
+    }
+    None
+}
