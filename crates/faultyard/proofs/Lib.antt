@@ -1,0 +1,5 @@
+pub mod AnswerLemmas
+pub mod CommandLemmas
+pub mod InputLemmas
+pub mod LineLemmas
+pub mod WordLemmas

@@ -1,0 +1,118 @@
+-- lines that say something, and the first that doesn't
+use Rattle.std.proofs.Common.{◌≡◌, ◌∙◌, ◌<◌, ◌≤◌, ◌+◌, suc, Bool, true, false, cond, ltb, ℕ, List, [], ◌∷◌, ◌++◌, length, Option, Some, None, refl, sym, ap, subst, arith}
+use Rattle.std.specs.Prelude.{Result, Ok, Err, IfErr, IfSome}
+use Rattle.std.specs.List.{position, position_or_len}
+use Rattle.std.proofs.lemmas.Bool.Decides.{nat_tests}
+use Rattle.std.proofs.lemmas.List.{append-nil, append_assoc, length_push}
+use Rattle.fy_decide.specs.DeadBook.{Casualties}
+use Rattle.fy_decide.specs.declared.dead_book.MakeFault.{MakeFault}
+use Rattle.fy_decide.specs.declared.dead_book.MakeFault.TheVariants.{Unmet, NoMemory}
+use Rattle.fy_lines.specs.Lines.{lines_of}
+use Rattle.faultyard.specs.declared.stop.JudgeFault.{JudgeFault}
+use Rattle.faultyard.specs.declared.stop.Stop.{Stop}
+use Rattle.faultyard.specs.declared.stop.Stop.TheVariants.{JudgeTooLong, JudgeLine, Read as StopRead, Write as StopWrite, NoMemory as StopNoMemory}
+use Rattle.faultyard.specs.declared.judge.input.LineFault.{LineFault}
+use Rattle.faultyard.specs.declared.judge.input.LineFault.TheVariants.{Fault, NoMemory as LineNoMemory}
+use Rattle.faultyard.specs.JudgeViews.{IfFault, line_stop_of}
+use Rattle.fy_decide.specs.Losses.{first_unmet}
+use Rattle.faultyard.specs.JudgeLines.{Input, nothing, said_of, Step, Says}
+use Rattle.faultyard.specs.JudgeTexts.{most_bytes, FirstFault, IsFaultless, Judges, too_long, line_fault, policy_unmet, IfRefusal, IfUnmet, unmet_stop}
+
+-- one line more
+pub Says-push : (i : Input) (lines : List (List ℕ)) (j : Input) (line : List ℕ) (k : Input) → Says i lines j → Step j (said_of line) (Ok k) → Says i (lines ++ line ∷ []) k
+Says-push i [] j line k same step = (k, subst (λ x. Step x (said_of line) (Ok k)) (sym same) step, refl)
+Says-push i (l ∷ ls) j line k said step = (said.0, said.1, Says-push said.0 ls j line k said.2 step)
+
+pub split-push : (bytes : List ℕ) (good : List (List ℕ)) (rest line next : List ℕ) → lines_of bytes ≡ good ++ lines_of rest → lines_of rest ≡ line ∷ lines_of next → lines_of bytes ≡ (good ++ line ∷ []) ++ lines_of next
+split-push bytes good rest line next split first = split ∙ ap (λ ls. good ++ ls) first ∙ sym (append_assoc good (line ∷ []) (lines_of next))
+
+-- the first faulty line
+pub first_fault : (bytes : List ℕ) (good : List (List ℕ)) (input : Input) (rest line next : List ℕ) (n : ℕ) (fault : JudgeFault) → length bytes ≤ most_bytes → lines_of bytes ≡ good ++ lines_of rest → lines_of rest ≡ line ∷ lines_of next → Says nothing good input
+    → n ≡ length good → Step input (said_of line) (Err fault) → Judges bytes (Err (JudgeLine (n + 1) fault))
+first_fault bytes good input rest line next n fault short split first said count step = line_fault (n + 1) fault short (record {
+  good = good;
+  bad = line;
+  more = lines_of next;
+  input = input;
+  lines = split ∙ ap (λ ls. good ++ ls) first;
+  said = said;
+  at_fault = step;
+  number = ap (λ k. k + 1) count;
+})
+
+-- the end of the lines
+pub faultless : (bytes : List ℕ) (good : List (List ℕ)) (rest : List ℕ) (input : Input) → length bytes ≤ most_bytes → lines_of bytes ≡ good ++ lines_of rest → rest ≡ [] → Says nothing good input → IsFaultless bytes input
+faultless bytes good rest input short split done said = record {
+  short = short;
+  said = subst (λ ls. Says nothing ls input) (sym (split ∙ ap (λ r. good ++ lines_of r) done ∙ append-nil good)) said;
+}
+
+-- what an answer of DeadBook::make says of the policies
+module _ (o : Option ℕ) (r : Result Casualties MakeFault) (refused : (k : ℕ) → o ≡ Some k → r ≡ Err (Unmet k)) (memory : o ≡ None → IfErr r (λ f. f ≡ NoMemory)) where
+  pub all_met : (b : Casualties) → r ≡ Ok b → o ≡ None
+  all_met b ok = go o refl
+    where
+      go : (x : Option ℕ) → o ≡ x → o ≡ None
+      go None is = is
+      go (Some k) is = let e : r ≡ Err (Unmet k) = refused k is in absurd (let y : ⊥ = cc in y)
+
+  pub unmet_at : (k : ℕ) → r ≡ Err (Unmet k) → o ≡ Some k
+  unmet_at k err = go o refl
+    where
+      go : (x : Option ℕ) → o ≡ x → o ≡ Some k
+      go None is = let f : Unmet k ≡ NoMemory = subst (λ x. IfErr x (λ f. f ≡ NoMemory)) err (memory is) in absurd (let y : ⊥ = cc in y)
+      go (Some j) is = let e : r ≡ Err (Unmet j) = refused j is in is ∙ ap Some (let same : j ≡ k = cc in same)
+
+pub position-within : {X : Type 0} (p : X → Bool) (xs : List X) (k : ℕ) → position p xs ≡ Some k → k < length xs
+position-within p xs k e = go (ltb (position_or_len p xs) (length xs)) refl e
+  where
+    go : (b : Bool) → ltb (position_or_len p xs) (length xs) ≡ b → cond b (Some (position_or_len p xs)) None ≡ Some k → k < length xs
+    go true t is = let same : position_or_len p xs ≡ k = cc in let below : position_or_len p xs < length xs = grind (arith, nat_tests) in omega arith
+    go false t is = absurd (let y : ⊥ = cc in y)
+
+-- the stop for a line that is not taken is the refusal of the bytes
+pub line_refused : (bytes : List ℕ) (good : List (List ℕ)) (input : Input) (rest line next : List ℕ) (n : ℕ) (f : LineFault) → length bytes ≤ most_bytes → lines_of bytes ≡ good ++ lines_of rest → lines_of rest ≡ line ∷ lines_of next → Says nothing good input
+    → n ≡ length good → IfFault f (λ fault. Step input (said_of line) (Err fault)) → IfRefusal (line_stop_of (n + 1) f) (Judges bytes (Err (line_stop_of (n + 1) f)))
+line_refused bytes good input rest line next n (Fault fault) short split first said count step = first_fault bytes good input rest line next n fault short split first said count step
+line_refused bytes good input rest line next n LineNoMemory short split first said count step = tt
+
+pub no_write : (n : ℕ) (f : LineFault) → line_stop_of n f ≡ StopWrite → ⊥
+no_write n (Fault fault) e = let x : ⊥ = cc in x
+no_write n LineNoMemory e = let x : ⊥ = cc in x
+
+-- the refusal for a policy that isn't met
+pub unmet_refused : (f : MakeFault) (i : Input) (r : Result Casualties MakeFault) → ((k : ℕ) → first_unmet i.processes i.policies ≡ Some k → r ≡ Err (Unmet k)) → (first_unmet i.processes i.policies ≡ None → IfErr r (λ f. f ≡ NoMemory)) → r ≡ Err f
+    → (bytes : List ℕ) → IsFaultless bytes i → IfRefusal (unmet_stop f) (Judges bytes (Err (unmet_stop f)))
+unmet_refused (Unmet k) i r refused memory is bytes faultless = policy_unmet i k faultless (unmet_at (first_unmet i.processes i.policies) r refused memory k is)
+unmet_refused NoMemory i r refused memory is bytes faultless = tt
+
+pub unmet_no_write : (f : MakeFault) → unmet_stop f ≡ StopWrite → ⊥
+unmet_no_write (Unmet k) e = let x : ⊥ = cc in x
+unmet_no_write NoMemory e = let x : ⊥ = cc in x
+
+pub unmet_few : (f : MakeFault) (i : Input) (r : Result Casualties MakeFault) → ((k : ℕ) → first_unmet i.processes i.policies ≡ Some k → r ≡ Err (Unmet k)) → (first_unmet i.processes i.policies ≡ None → IfErr r (λ f. f ≡ NoMemory)) → r ≡ Err f → length i.policies ≤ 8 → IfUnmet f (λ k. k < 8)
+unmet_few (Unmet k) i r refused memory is few = let below : k < length i.policies = position-within _ i.policies k (unmet_at (first_unmet i.processes i.policies) r refused memory k is) in omega arith
+unmet_few NoMemory i r refused memory is few = tt
+
+-- ---- of known bytes
+pub known_refused : (o : Option (List ℕ)) (bytes : List ℕ) (stop : Stop) → IfSome o (λ xs. bytes ≡ xs) → IfRefusal stop (Judges bytes (Err stop)) → IfRefusal stop (IfSome o (λ xs. Judges xs (Err stop)))
+known_refused o bytes stop same refused = go stop refused
+  where
+    at : (stop : Stop) → (o : Option (List ℕ)) → IfSome o (λ xs. bytes ≡ xs) → Judges bytes (Err stop) → IfSome o (λ xs. Judges xs (Err stop))
+    at stop None same j = tt
+    at stop (Some xs) same j = subst (λ ys. Judges ys (Err stop)) same j
+
+    go : (stop : Stop) → IfRefusal stop (Judges bytes (Err stop)) → IfRefusal stop (IfSome o (λ xs. Judges xs (Err stop)))
+    go JudgeTooLong j = at JudgeTooLong o same j
+    go (JudgeLine line fault) j = at (JudgeLine line fault) o same j
+    go StopRead j = tt
+    go StopWrite j = tt
+    go StopNoMemory j = tt
+
+pub known_answered : (o : Option (List ℕ)) (bytes text : List ℕ) (P : List ℕ → Type 0) → IfSome o (λ xs. bytes ≡ xs) → Judges bytes (Ok text) → P text → IfSome o (λ xs. (t : List ℕ) × Judges xs (Ok t) × P t)
+known_answered None bytes text P same j p = tt
+known_answered (Some xs) bytes text P same j p = (text, subst (λ ys. Judges ys (Ok text)) same j, p)
+
+pub known_long : (o : Option (List ℕ)) → IfSome o (λ xs. most_bytes < length xs) → IfSome o (λ xs. Judges xs (Err JudgeTooLong))
+known_long None h = tt
+known_long (Some xs) h = too_long h

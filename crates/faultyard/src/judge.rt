@@ -1,0 +1,134 @@
+//! The engine behind `faultyard judge`: bytes in, answers out.
+ghost use Rattle.std.specs.Prelude.{◌≡◌, ◌≤◌, ◌≢◌, ℕ, List, length, IfOk, IfErr, OnErr, IfSome, true, ◌<◌};
+ghost use Rattle.std.specs.Io.KnownBytes.{Appends};
+ghost use Rattle.fy_lines.specs.Fronts.{AppendsFront};
+ghost use Rattle.faultyard.specs.JudgeTexts.{most_bytes, IsFaultless, Judges, IfRefusal, IfUnmet, unmet_stop};
+ghost use Rattle.faultyard.specs.JudgeViews.{line_stop_of};
+
+mod answer;
+mod input;
+mod line;
+#[cfg(test)]
+mod tests;
+
+use crate::stop::{JudgeFault, Stop};
+use answer::answer_asks;
+use fy_decide::{DeadBook, MakeFault};
+use fy_lines::{InputFault, OutputFault, first_line, read_limited, write_bytes};
+use input::{Input, LineFault};
+use std::alloc::Global;
+use std::io::{Read, Write};
+
+/// The most bytes that an input has.
+const MOST_BYTES: usize = 1_048_576;
+
+/// The stop for a line that is not taken.
+fn line_stop(line: u32, fault: LineFault) -> Stop
+    ensures { result ≡ line_stop_of line fault }
+{
+    match fault {
+        LineFault::Fault(fault) => Stop::JudgeLine { line, fault },
+        LineFault::NoMemory => Stop::NoMemory,
+    }
+}
+
+/// What all lines say, or the first fault of the first faulty one.
+fn read_lines(alloc: Global, bytes: &[u8]) -> Result<Input, Stop>
+    requires { length bytes.now ≤ most_bytes }
+    ensures read { IfOk result (IsFaultless bytes.now) }
+    ensures refused { IfErr result (λ stop. IfRefusal stop (Judges bytes.now (Err stop))) }
+    ensures no_other { IfErr result (λ stop. stop ≢ Stop.Write) }
+{
+    let mut input = Input::new(alloc);
+    let mut rest = bytes;
+    let mut number = 0;
+    while !rest.is_empty() {
+        let (line, next) = first_line(rest);
+        number += 1;
+        if let Err(fault) = input.take_line(alloc, line) {
+            return Err(line_stop(number, fault));
+        }
+        rest = next;
+    }
+    Ok(input)
+}
+
+/// The stop for policies and processes that make no book.
+fn unmet(fault: MakeFault) -> Stop
+    requires { IfUnmet fault (λ k. k < 8) }
+    ensures { result ≡ unmet_stop fault }
+{
+    match fault {
+        MakeFault::Unmet { index } => Stop::JudgeLine {
+            line: index as u32 + 1,
+            fault: JudgeFault::PolicyUnmet,
+        },
+        MakeFault::NoMemory => Stop::NoMemory,
+    }
+}
+
+/// The answers to what all lines say.
+fn answers(alloc: Global, input: &Input) -> Result<Vec<u8>, Stop>
+    ensures answered { IfOk result (λ text. (bytes : List ℕ) → IsFaultless bytes input.now → Judges bytes (Ok text.items)) }
+    ensures refused { IfErr result (λ stop. (bytes : List ℕ) → IsFaultless bytes input.now → IfRefusal stop (Judges bytes (Err stop))) }
+    ensures no_other { IfErr result (λ stop. stop ≢ Stop.Write) }
+{
+    match DeadBook::make(alloc, input.map(), input.policies()) {
+        Ok(mut book) => match answer_asks(alloc, input, &mut book) {
+            Ok(text) => Ok(text),
+            Err(_) => Err(Stop::NoMemory),
+        },
+        Err(fault) => Err(unmet(fault)),
+    }
+}
+
+/// The answers to the bytes of an input.
+fn judged(alloc: Global, bytes: &[u8]) -> Result<Vec<u8>, Stop>
+    requires { length bytes.now ≤ most_bytes }
+    ensures answered { IfOk result (λ text. Judges bytes.now (Ok text.items)) }
+    ensures refused { IfErr result (λ stop. IfRefusal stop (Judges bytes.now (Err stop))) }
+    ensures no_other { IfErr result (λ stop. stop ≢ Stop.Write) }
+{
+    match read_lines(alloc, bytes) {
+        Ok(input) => match answers(alloc, &input) {
+            Ok(text) => Ok(text),
+            Err(stop) => Err(stop),
+        },
+        Err(stop) => Err(stop),
+    }
+}
+
+/// Reads policies, processes and asks from the reader to its end, and writes a line for each ask.
+///
+/// The whole input is read and judged before the first byte is written.
+///
+/// # Errors
+///
+/// `JudgeTooLong` over 1,048,576 bytes, and `JudgeLine` for the first faulty line: nothing is written then. `Read` where
+/// the reader fails, `NoMemory` where memory was refused: nothing is written then either. `Write` where the writer fails
+/// or takes no byte: a front of the answers is out.
+pub fn run_judge<R: Read, W: Write>(
+    alloc: Global,
+    reader: &mut R,
+    writer: &mut W,
+) -> Result<bool, Stop>
+    ensures done { IfOk result (λ done. (done ≡ true) × IfSome (R.remaining reader.old) (λ bytes. (text : List ℕ) × Judges bytes (Ok text) × Appends (W.contents writer.old) (W.contents writer.new) text)) }
+    ensures refused { IfErr result (λ stop. IfRefusal stop (IfSome (R.remaining reader.old) (λ bytes. Judges bytes (Err stop)))) }
+    ensures nothing_out { IfErr result (λ stop. stop ≢ Stop.Write → W.contents writer.new ≡ W.contents writer.old) }
+    ensures front_out { result ≡ Err Stop.Write → IfSome (R.remaining reader.old) (λ bytes. (text : List ℕ) × Judges bytes (Ok text) × AppendsFront (W.contents writer.old) (W.contents writer.new) text) }
+{
+    let bytes = match read_limited(alloc, reader, MOST_BYTES) {
+        Ok(bytes) => bytes,
+        Err(InputFault::TooLong) => return Err(Stop::JudgeTooLong),
+        Err(InputFault::Reader) => return Err(Stop::Read),
+        Err(InputFault::NoMemory) => return Err(Stop::NoMemory),
+    };
+    let text = match judged(alloc, &bytes) {
+        Ok(text) => text,
+        Err(stop) => return Err(stop),
+    };
+    match write_bytes(writer, &text) {
+        Ok(()) => Ok(true),
+        Err(OutputFault) => Err(Stop::Write),
+    }
+}

@@ -1,0 +1,69 @@
+//! The answers to the asks.
+ghost use Rattle.std.specs.Prelude.{◌≡◌, ◌<◌, ◌++◌, ℕ, List, length, OnOk, IfOk};
+ghost use Rattle.std.specs.FinSet as sets;
+ghost use Rattle.faultyard.specs.declared.judge.line.Ask.{Ask};
+ghost use Rattle.faultyard.specs.JudgeLines.{Input};
+ghost use Rattle.faultyard.specs.JudgeTexts.{answer_of, answer_line, answers_text, granted_after};
+ghost use Rattle.faultyard.specs.JudgeBooks.{Stands};
+ghost use Rattle.fy_decide.specs.DeadBook.{IsFresh};
+
+use super::input::Input as JudgeInput;
+use super::line::Ask as JudgeAsk;
+use fy_decide::{DeadBook, Loss};
+use fy_locality::ProcSet;
+use std::alloc::{AllocError, Global};
+
+/// What is answered to an ask.
+#[derive(Clone, Copy, PartialEq, Eq, Debug)]
+pub enum Answer {
+    Yes,
+    No,
+    WasGone,
+}
+
+impl Answer {
+    fn line(self) -> &'static str
+        ensures { result.now ≡ answer_line self }
+    {
+        match self {
+            Answer::Yes => "yes\n",
+            Answer::No => "no\n",
+            Answer::WasGone => "gone\n",
+        }
+    }
+}
+
+/// The answer to one ask, whose loss is taken down where it is yes.
+fn answer_ask(book: &mut DeadBook, ask: JudgeAsk) -> Answer
+    requires { ask.process.0 < 1024 }
+    ensures { (i : Input) (granted : List Ask) → Stands i granted book.old → ask.process.0 < length i.processes → (result ≡ answer_of i granted ask) × Stands i (granted_after granted ask result) book.new }
+{
+    if !book.left().has(ask.process) {
+        return Answer::WasGone;
+    }
+    let mut set = ProcSet::empty();
+    set.put(ask.process);
+    if !book.may_destroy(&set, ask.loss) {
+        return Answer::No;
+    }
+    book.strike(&set, ask.loss);
+    Answer::Yes
+}
+
+/// The line of each answer, in order.
+pub fn answer_asks(
+    alloc: Global,
+    input: &JudgeInput,
+    book: &mut DeadBook,
+) -> Result<Vec<u8>, AllocError>
+    requires { IsFresh input.now.processes input.now.policies book.old }
+    ensures { IfOk result (λ text. text.items ≡ answers_text input.now) }
+{
+    let _processes = input.map().len();
+    let mut text = Vec::new(alloc);
+    for ask in input.asks() {
+        let answer = answer_ask(book, *ask);
+        text.extend_from_slice(answer.line().as_bytes())?;
+    }
+    Ok(text)
+}

@@ -1,0 +1,201 @@
+//! What the lines so far say.
+ghost use Rattle.std.specs.Prelude.{◌≡◌, ◌≢◌, Some, OnOk, IfErr};
+ghost use Rattle.faultyard.specs.JudgeLines.{policy, process, ask, said_of, nothing, Step, IsInput};
+ghost use Rattle.faultyard.specs.JudgeViews.{IfFault, policy_fault_of, process_fault_of};
+
+use super::line::{Ask, Keyword, announced_by, asked_id, first_word, policy_text, process_of};
+use crate::stop::JudgeFault;
+use fy_decide::Loss;
+use fy_locality::{Locality, Map, MapFault, Name};
+use fy_policy::{Policy, PolicyFault, read_policy};
+use std::alloc::{AllocFailed, Global};
+use std::marker::Model;
+
+/// Why a line is not taken.
+#[derive(Clone, Copy, PartialEq, Eq, Debug)]
+pub enum LineFault {
+    Fault(JudgeFault),
+    NoMemory,
+}
+
+impl<T: Drop> From<AllocFailed<T>> for LineFault {
+    ghost use Rattle.faultyard.specs.declared.judge.input.LineFault.TheVariants.{NoMemory};
+    ghost use Rattle.std.specs.Prelude.{◌≡◌};
+
+    ghost from_gives = { λ _ e. e ≡ NoMemory };
+
+    fn from(_: AllocFailed<T>) -> LineFault {
+        LineFault::NoMemory
+    }
+}
+
+/// The policies, the processes and the asks of the lines so far.
+pub struct Input {
+    policies: Vec<Policy>,
+    map: Map,
+    asks: Vec<Ask>,
+}
+
+impl Model for Input {
+    ghost use Rattle.std.specs.Coded.{codes, coded_ℕ};
+    ghost use Rattle.fy_locality.specs.contracts.locality.Locality as l;
+    ghost use Rattle.fy_policy.specs.Tree.{tree_code};
+    ghost use Rattle.faultyard.specs.contracts.judge.line.Ask as a;
+    ghost use Rattle.faultyard.specs.JudgeLines.{Input, IsInput};
+
+    ghost Value = { Input };
+
+    ghost coded = { Prim.hlevel (codes, tree_code, l.the_row.coded, a.the_row.coded) };
+
+    ghost view = { λ i. record { policies = i.policies.items; processes = i.map; asks = i.asks.items } };
+
+    ghost invariant = { λ i. IsInput (record { policies = i.policies.items; processes = i.map; asks = i.asks.items }) };
+}
+
+// Written out, so that whoever drops an input makes one call.
+impl Drop for Input {
+    fn drop(self) {
+        let Input {
+            policies: _,
+            map: _,
+            asks: _,
+        } = self;
+    }
+}
+
+impl Input {
+    /// Nothing said.
+    pub fn new(alloc: Global) -> Self
+        ensures { result ≡ nothing }
+    {
+        Input {
+            policies: Vec::new(alloc),
+            map: Map::make(alloc),
+            asks: Vec::new(alloc),
+        }
+    }
+
+    /// The asks, each of a process that is there.
+    pub fn asks(&self) -> &[Ask]
+        ensures asks { result.now ≡ self.now.asks }
+        ensures input { IsInput self.now }
+    {
+        &self.asks
+    }
+
+    /// The policies, of which there are at most eight.
+    pub fn policies(&self) -> &[Policy]
+        ensures policies { result.now ≡ self.now.policies }
+        ensures input { IsInput self.now }
+    {
+        &self.policies
+    }
+
+    /// The processes.
+    pub fn map(&self) -> &Map
+        ensures { result.now ≡ self.now.processes }
+    {
+        &self.map
+    }
+
+    /// Takes the next line.
+    pub fn take_line(&mut self, alloc: Global, line: &[u8]) -> Result<(), LineFault>
+        ensures taken { OnOk result (Step self.old (said_of line.now) (Ok self.new)) }
+        ensures refused { IfErr result (λ e. IfFault e (λ fault. Step self.old (said_of line.now) (Err fault))) }
+    {
+        let (word, rest) = first_word(line);
+        let Some(rest) = rest else {
+            return Err(LineFault::Fault(JudgeFault::Syntax));
+        };
+        match announced_by(word) {
+            Some(Keyword::Policy) => match policy_text(rest) {
+                Some(text) => self.take_policy(alloc, text),
+                None => Err(LineFault::Fault(JudgeFault::Syntax)),
+            },
+            Some(Keyword::Process) => match process_of(rest) {
+                Some(locality) => self.take_process(locality),
+                None => Err(LineFault::Fault(JudgeFault::Syntax)),
+            },
+            Some(Keyword::Ask(loss)) => match asked_id(rest) {
+                Some(id) => self.take_ask(loss, id),
+                None => Err(LineFault::Fault(JudgeFault::Syntax)),
+            },
+            None => Err(LineFault::Fault(JudgeFault::Syntax)),
+        }
+    }
+
+    fn take_policy(&mut self, alloc: Global, text: &str) -> Result<(), LineFault>
+        ensures taken { OnOk result (Step self.old (Some (policy text.now)) (Ok self.new)) }
+        ensures refused { IfErr result (λ e. IfFault e (λ fault. Step self.old (Some (policy text.now)) (Err fault))) }
+    {
+        if !self.map.is_empty() {
+            return Err(LineFault::Fault(JudgeFault::Syntax));
+        }
+        let policy = match read_policy(alloc, text) {
+            Ok(policy) => policy,
+            Err(fault) => return Err(policy_fault(fault)),
+        };
+        if self.policies.len() >= 8 {
+            return Err(LineFault::Fault(JudgeFault::TooMany));
+        }
+        self.policies.push(policy)?;
+        Ok(())
+    }
+
+    fn take_process(&mut self, locality: Locality) -> Result<(), LineFault>
+        ensures taken { OnOk result (Step self.old (Some (process locality)) (Ok self.new)) }
+        ensures refused { IfErr result (λ e. IfFault e (λ fault. Step self.old (Some (process locality)) (Err fault))) }
+    {
+        if self.policies.is_empty() {
+            return Err(LineFault::Fault(JudgeFault::Syntax));
+        }
+        if !self.asks.is_empty() {
+            return Err(LineFault::Fault(JudgeFault::Syntax));
+        }
+        if let Err(fault) = self.map.push(locality) {
+            return Err(process_fault(fault));
+        }
+        Ok(())
+    }
+
+    fn take_ask(&mut self, loss: Loss, id: Name) -> Result<(), LineFault>
+        ensures taken { OnOk result (Step self.old (Some (ask loss id)) (Ok self.new)) }
+        ensures refused { IfErr result (λ e. IfFault e (λ fault. Step self.old (Some (ask loss id)) (Err fault))) }
+    {
+        if self.map.is_empty() {
+            return Err(LineFault::Fault(JudgeFault::Syntax));
+        }
+        let Some(process) = self.map.find(&id) else {
+            return Err(LineFault::Fault(JudgeFault::Unknown));
+        };
+        self.asks.push(Ask { loss, process })?;
+        Ok(())
+    }
+}
+
+/// A policy's fault as a fault of its line.
+fn policy_fault(fault: PolicyFault) -> LineFault
+    ensures { result ≡ policy_fault_of fault }
+{
+    match fault {
+        PolicyFault::NoMemory => LineFault::NoMemory,
+        PolicyFault::TooLong
+        | PolicyFault::Syntax
+        | PolicyFault::Count
+        | PolicyFault::Depth
+        | PolicyFault::Nodes => LineFault::Fault(JudgeFault::Policy),
+    }
+}
+
+/// A process's fault as a fault of its line. Its names are names already.
+fn process_fault(fault: MapFault) -> LineFault
+    requires { fault ≢ MapFault.Name }
+    ensures { result ≡ process_fault_of fault }
+{
+    match fault {
+        MapFault::Twice => LineFault::Fault(JudgeFault::Twice),
+        MapFault::TooMany => LineFault::Fault(JudgeFault::TooMany),
+        MapFault::NoMemory => LineFault::NoMemory,
+        MapFault::Name => unreachable!(),
+    }
+}

@@ -1,0 +1,124 @@
+//! The engine on the worked examples, and with readers and writers that fail.
+use super::run_judge;
+use crate::stop::{JudgeFault, Stop};
+use std::io;
+use std::io::{ErrorKind, Read, Write};
+use std::test::Fail;
+
+const CLUSTER: &str =
+    "policy Across(2,zoneid,One())\nproc p0 m0 z0 - d0\nproc p1 m1 z0 - d0\nproc p2 m2 z1 - d0\nproc p3 m3 z1 - d0\nproc p4 m4 z2 - d0\nproc p5 m5 z2 - d0\n";
+
+/// Gives a byte a call, and fails at one of its calls.
+#[derive(Drop)]
+struct Failing<'a> {
+    bytes: &'a [u8],
+    calls_left: usize,
+}
+
+impl Read for Failing<'_> {
+    fn read(&mut self, buf: &mut [u8]) -> io::Result<usize> {
+        if self.calls_left == 0 {
+            return Err(io::Error::from(ErrorKind::Interrupted));
+        }
+        self.calls_left -= 1;
+        match (self.bytes, buf) {
+            ([first, rest @ ..], [place, ..]) => {
+                *place = *first;
+                self.bytes = rest;
+                Ok(1)
+            }
+            _ => Ok(0),
+        }
+    }
+}
+
+/// Takes some bytes, one a call, and then fails.
+#[derive(Drop)]
+struct Narrow {
+    room: usize,
+    taken: usize,
+}
+
+impl Write for Narrow {
+    fn write(&mut self, buf: &[u8]) -> io::Result<usize> {
+        if self.taken >= self.room {
+            return Err(io::Error::from(ErrorKind::Other));
+        }
+        let count = buf.len().min(1);
+        self.taken = self.taken.saturating_add(count);
+        Ok(count)
+    }
+
+    fn flush(&mut self) -> io::Result<()> {
+        Ok(())
+    }
+}
+
+#[test]
+fn answers_the_worked_examples(rt: HostRuntime) -> Result<(), Fail> {
+    let cases = [
+        (CLUSTER, "", ""),
+        (
+            CLUSTER,
+            "destroy p0\ndestroy p1\ndestroy p2\ndestroy p0\n",
+            "yes\nyes\nno\ngone\n",
+        ),
+        (
+            CLUSTER,
+            "empty p0\ndestroy p0\nempty p0",
+            "yes\nyes\ngone\n",
+        ),
+        ("", "", ""),
+    ];
+    for (cluster, asks, want) in cases {
+        let mut input = String::from_str(rt.alloc(), cluster)?;
+        input.push_str(asks)?;
+        let mut written: Vec<u8> = Vec::new(rt.alloc());
+        let done = run_judge(rt.alloc(), &mut input.as_bytes(), &mut written);
+        assert_eq!(rt; done, Ok(true), "{asks}");
+        assert_eq!(rt; written.as_slice(), want.as_bytes(), "{asks}");
+    }
+    Ok(())
+}
+
+#[test]
+fn writes_nothing_for_a_refused_input(rt: HostRuntime) -> Result<(), Fail> {
+    let cases = [
+        ("destroy p9\n", 8u32, JudgeFault::Unknown),
+        ("proc p0 m0 z0 - d0\n", 8, JudgeFault::Twice),
+        ("destroy p0\nproc p6 m6 z2 - d0\n", 9, JudgeFault::Syntax),
+        ("destroy p0\n\ndestroy p9\n", 9, JudgeFault::Syntax),
+    ];
+    for (more, line, fault) in cases {
+        let mut input = String::from_str(rt.alloc(), CLUSTER)?;
+        input.push_str(more)?;
+        let mut written: Vec<u8> = Vec::new(rt.alloc());
+        let done = run_judge(rt.alloc(), &mut input.as_bytes(), &mut written);
+        assert_eq!(rt; done, Err(Stop::JudgeLine { line, fault }), "{more}");
+        assert_eq!(rt; written.len(), 0, "{more}");
+    }
+    Ok(())
+}
+
+#[test]
+fn stops_where_the_reader_or_the_writer_fails(rt: HostRuntime) -> Result<(), Fail> {
+    let mut input = String::from_str(rt.alloc(), CLUSTER)?;
+    input.push_str("destroy p0\ndestroy p1\n")?;
+    for calls_left in [0usize, 1, 30, 150, 166] {
+        let mut reader = Failing {
+            bytes: input.as_bytes(),
+            calls_left,
+        };
+        let mut written: Vec<u8> = Vec::new(rt.alloc());
+        let done = run_judge(rt.alloc(), &mut reader, &mut written);
+        assert_eq!(rt; done, Err(Stop::Read), "{calls_left}");
+        assert_eq!(rt; written.len(), 0, "{calls_left}");
+    }
+    for room in 0usize..8 {
+        let mut writer = Narrow { room, taken: 0 };
+        let done = run_judge(rt.alloc(), &mut input.as_bytes(), &mut writer);
+        assert_eq!(rt; done, Err(Stop::Write), "{room}");
+        assert_eq!(rt; writer.taken, room);
+    }
+    Ok(())
+}

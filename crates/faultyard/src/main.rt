@@ -1,0 +1,66 @@
+//! `faultyard`: a fault injector for a simulated storage cluster.
+#![tactic(auto)]
+
+mod judge;
+mod stop;
+mod task;
+#[cfg(test)]
+mod tests;
+
+use judge::run_judge;
+use std::env;
+use std::io::ErrorKind;
+use std::process::ExitCode;
+use stop::{Stop, write_stop};
+use task::{Task, read_task};
+
+/// The status of a program whose words are no command.
+const USAGE: u8 = 2;
+
+fn main(rt: HostRuntime) -> ExitCode {
+    let words = match arguments(&rt) {
+        Ok(words) => words,
+        Err(status) => return status,
+    };
+    let done = match read_task(rt.alloc(), words.as_slice()) {
+        Ok(Task::Judge) => run_judge(rt.alloc(), &mut rt.stdin(), &mut rt.stdout()),
+        Err(error) => return answered(&rt, &error),
+    };
+    match done {
+        Ok(_) => ExitCode::SUCCESS,
+        Err(stop) => stopped(&rt, stop),
+    }
+}
+
+/// The words of the command line, the program's name first, or the status to end with.
+fn arguments(rt: &HostRuntime) -> Result<Vec<String>, ExitCode> {
+    match env::args(rt) {
+        Ok(words) => words
+            .collect(rt.alloc())
+            .map_err(|_| stopped(rt, Stop::NoMemory)),
+        Err(error) if error.kind() == ErrorKind::OutOfMemory => Err(stopped(rt, Stop::NoMemory)),
+        Err(_) => {
+            // The command line reads texts alone.
+            let _ = rt.eprintln("error: invalid UTF-8 was detected in one or more arguments");
+            Err(ExitCode::from(USAGE))
+        }
+    }
+}
+
+/// Prints what the command line answers in place of a task: help, or what is wrong with the words.
+fn answered(rt: &HostRuntime, error: &clap::Error) -> ExitCode {
+    if error.kind() == clap::error::ErrorKind::OutOfMemory {
+        return stopped(rt, Stop::NoMemory);
+    }
+    match error.print(rt) {
+        Err(_) if !error.use_stderr() => stopped(rt, Stop::Write),
+        _ if error.use_stderr() => ExitCode::from(USAGE),
+        _ => ExitCode::SUCCESS,
+    }
+}
+
+/// Writes the fault line, as far as standard error takes it.
+fn stopped(rt: &HostRuntime, stop: Stop) -> ExitCode {
+    let _ = write_stop(&stop, &mut rt.stderr());
+    ExitCode::from(stop.status())
+}
