@@ -42,7 +42,17 @@ fn holds_exactly(set: &ProcSet, numbers: &[u32]) -> bool {
 
 /// A number of four digits, as a name that takes no memory.
 fn digits_of(number: u32) -> [u8; 4] {
-    [1000, 100, 10, 1].map(|place| b'0' + (number / place % 10) as u8)
+    [
+        digit(number / 1000),
+        digit(number / 100),
+        digit(number / 10),
+        digit(number),
+    ]
+}
+
+/// The last digit of a number.
+fn digit(number: u32) -> u8 {
+    b'0' + (number % 10) as u8
 }
 
 fn set_of(numbers: &[u32]) -> ProcSet {
@@ -101,6 +111,8 @@ fn names_are_equal_by_their_characters(rt: HostRuntime) -> Result<(), Fail> {
     for other in ["z", "z00", "z1", "Z0"] {
         assert!(rt; name != Name::make(other)?, "{other}");
     }
+    assert!(rt; Name::from_bytes(b"z0")? == name);
+    assert!(rt; Name::from_bytes(b"z\xff").is_err());
     Ok(())
 }
 
@@ -186,7 +198,7 @@ fn values_are_in_first_seen_order(rt: HostRuntime) -> Result<(), Fail> {
         assert_eq!(rt; map.value_count(key), count);
     }
     for (place, text) in [(0, Some("z0")), (1, Some("z1")), (2, Some("z2")), (3, None)] {
-        assert!(rt; spells(map.value_at(Key::Zone, place), text));
+        assert!(rt; value_at_is(&map, place, text));
     }
     Ok(())
 }
@@ -211,27 +223,56 @@ fn a_map_finds_processes(rt: HostRuntime) -> Result<(), Fail> {
     Ok(())
 }
 
+/// A copy of a map with one more process.
+fn copy_with_hall(alloc: Global, map: &Map) -> Result<Map, MapFault> {
+    let mut copy = map.try_copy(alloc)?;
+    let _ = added(&mut copy, "p6", "z0", Some("h0"))?;
+    Ok(copy)
+}
+
+fn is_cluster(map: &Map) -> bool {
+    map.len() == 6 && has_group(map, Key::Zone, "z0", &[0, 1]) && found(map, "p6") == None
+}
+
+fn is_copy_with_hall(map: &Map) -> bool {
+    map.len() == 7
+        && has_group(map, Key::Zone, "z0", &[0, 1, 6])
+        && has_group(map, Key::Zone, "z2", &[4, 5])
+        && has_group(map, Key::Machine, "m0", &[0, 6])
+        && has_group(map, Key::DataHall, "h0", &[6])
+        && has_group(map, Key::DataCenter, "d0", &[0, 1, 2, 3, 4, 5, 6])
+}
+
 #[test]
 fn a_copy_goes_its_own_way(rt: HostRuntime) -> Result<(), Fail> {
     let map = cluster(rt.alloc())?;
-    let mut copy = map.try_copy(rt.alloc())?;
-    assert_eq!(rt; added(&mut copy, "p6", "z0", Some("h0"))?, 6);
-    assert!(rt; map.len() == 6 && copy.len() == 7);
-    assert!(rt; has_group(&map, Key::Zone, "z0", &[0, 1]));
-    assert!(rt; has_group(&copy, Key::Zone, "z0", &[0, 1, 6]));
-    assert!(rt; has_group(&copy, Key::Machine, "m0", &[0, 6]));
-    assert!(rt; has_group(&copy, Key::DataHall, "h0", &[6]));
+    let copy = copy_with_hall(rt.alloc(), &map)?;
+    let both = (is_cluster(&map), is_copy_with_hall(&copy));
+    assert_eq!(rt; both, (true, true));
+    Ok(())
+}
+
+fn pushed(map: &mut Map, id: &str) -> Result<u32, MapFault> {
+    match Locality::make(id, "m6", "z0", None, None) {
+        Ok(locality) => map.push(locality).map(|p| p.0),
+        Err(BadName) => Err(MapFault::Name),
+    }
+}
+
+#[test]
+fn a_locality_is_pushed(rt: HostRuntime) -> Result<(), Fail> {
+    let mut map = cluster(rt.alloc())?;
+    assert_eq!(rt; pushed(&mut map, "p6"), Ok(6));
+    assert_eq!(rt; pushed(&mut map, "p6"), Err(MapFault::Twice));
+    assert!(rt; has_group(&map, Key::Zone, "z0", &[0, 1, 6]));
     Ok(())
 }
 
 #[test]
 fn additions_are_refused_in_order(rt: HostRuntime) -> Result<(), Fail> {
     let mut map = cluster(rt.alloc())?;
-    assert_eq!(rt; map.add("p0", "m 0", "z0", None, None), Err(MapFault::Name));
-    assert_eq!(rt;
-        map.add("p0", "m0", "z0", None, Some("")),
-        Err(MapFault::Name)
-    );
+    assert_eq!(rt; add_with(&mut map, "m 0", "d0"), Some(MapFault::Name));
+    assert_eq!(rt; add_with(&mut map, "m0", ""), Some(MapFault::Name));
     assert_eq!(rt; added(&mut map, "", "z0", None), Err(MapFault::Name));
     assert_eq!(rt; added(&mut map, "p0", "-z", None), Err(MapFault::Name));
     assert_eq!(rt;
@@ -243,15 +284,28 @@ fn additions_are_refused_in_order(rt: HostRuntime) -> Result<(), Fail> {
     Ok(())
 }
 
+/// Adds the process that is named by its number, and says whether it got that number.
+fn adds(map: &mut Map, number: u32) -> bool {
+    let digits = digits_of(number);
+    match str::from_utf8(&digits) {
+        Ok(id) => added(map, id, "z0", None) == Ok(number),
+        Err(_) => false,
+    }
+}
+
+fn add_with(map: &mut Map, machine: &str, dc: &str) -> Option<MapFault> {
+    map.add("p0", machine, "z0", None, Some(dc)).err()
+}
+
+fn value_at_is(map: &Map, place: u32, text: Option<&str>) -> bool {
+    spells(map.value_at(Key::Zone, place), text)
+}
+
 #[test]
 fn a_full_map_refuses_in_order(rt: HostRuntime) -> Result<(), Fail> {
     let mut map = Map::make(rt.alloc());
     for number in 0..1024 {
-        let digits = digits_of(number);
-        assert_eq!(rt;
-            added(&mut map, str::from_utf8(&digits)?, "z0", None)?,
-            number
-        );
+        assert!(rt; adds(&mut map, number));
     }
     let refused = [
         ("1024", "z0", MapFault::TooMany),
@@ -267,7 +321,11 @@ fn a_full_map_refuses_in_order(rt: HostRuntime) -> Result<(), Fail> {
 }
 
 /// Adds one process, and says whether the map is right after it: one longer, or as it was where memory was refused.
-fn adds_or_stays(map: &mut Map, id: &str) -> bool {
+fn adds_or_stays(map: &mut Map, number: u32) -> bool {
+    let digits = digits_of(number);
+    let Ok(id) = str::from_utf8(&digits) else {
+        return false;
+    };
     let before = map.len();
     match added(map, id, "z0", Some(id)) {
         Ok(p) => p == before && found(map, id) == Some(p),
@@ -285,8 +343,7 @@ fn adds_or_stays(map: &mut Map, id: &str) -> bool {
 fn a_refused_addition_leaves_the_map(rt: HostRuntime) -> Result<(), Fail> {
     let mut map = Map::make(rt.alloc());
     for number in 0..40 {
-        let digits = digits_of(number);
-        assert!(rt; adds_or_stays(&mut map, str::from_utf8(&digits)?));
+        assert!(rt; adds_or_stays(&mut map, number));
     }
     assert!(rt; map.len() >= 39);
     Ok(())
