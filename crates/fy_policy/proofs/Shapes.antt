@@ -8,7 +8,7 @@ use Rattle.fy_locality.specs.declared.key.Key.{Key}
 use Rattle.fy_policy.specs.declared.shape.Shape.{Shape, Across, And, And', Row_of-Shape, end_of-Shape, more_of-Shape, items-the_row-Shape, items_hidden-the_row-Shape-0}
 use Rattle.fy_policy.specs.Sat.{satisfies, all_satisfy}
 use Rattle.fy_policy.specs.Shape.{tree_of, parts_of}
-use Rattle.fy_policy.specs.Tree.{Tree, every, Parts, none, part, AreCounted, HasPart, IsCounted}
+use Rattle.fy_policy.specs.Tree.{Tree, every, Parts, none, part, AreCounted, IsCounted}
 
 abbrev row_of : Shape → (n : Count) × Row_of-Shape n
 row_of (And' _ row) = (_, row)

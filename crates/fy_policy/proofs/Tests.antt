@@ -1,13 +1,13 @@
 -- the test of satisfaction: it is the relation, it goes by members alone, and the empty set fails it
-use Rattle.std.proofs.Common.{zero, suc, ◌≡◌, ◌↔◌, ℕ, ◌+◌, ◌<◌, ◌≤◌, Bool, true, false, cond, leb, ◌&&◌, ◌||◌, List, [], ◌∷◌, length, filter, Some, refl, sym, ap, subst, ◌∙◌, arith}
-use Rattle.std.specs.List.{IsDistinct, AllByRecursion, list_any, range_with_len}
+use Rattle.std.proofs.Common.{◌≡◌, ◌↔◌, ℕ, ◌+◌, ◌<◌, ◌≤◌, Bool, true, false, leb, ◌&&◌, List, length, filter, Some, refl, sym, ap, ◌∙◌, arith}
+use Rattle.std.specs.List.{IsDistinct}
 use Rattle.std.specs.Set.{is_member}
 use Rattle.std.specs.Str.{bytes_eq}
 use Rattle.std.proofs.lemmas.Bool.Decides.{nat_tests}
 use Rattle.fy_locality.specs.declared.locality.Locality.{Locality}
 use Rattle.fy_locality.specs.declared.key.Key.{Key}
 use Rattle.fy_locality.specs.Locality.{has_value, value_of, values_of}
-use Rattle.fy_policy.specs.Sat.{Sat, SatAll, AtLeast, IsValueOf, group, satisfies, all_satisfy}
+use Rattle.fy_policy.specs.Sat.{Sat, SatAll, IsValueOf, group, satisfies, all_satisfy}
 use Rattle.fy_policy.specs.Tree.{Tree, one, across, every, Parts, none, part, IsCounted, AreCounted, HasPart}
 use Rattle.fy_policy.proofs.Counts.{any_found, found_any, count-none, IsDistinct-filter, each_passes, few_pass, weaker}
 

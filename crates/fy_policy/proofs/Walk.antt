@@ -1,11 +1,10 @@
 -- the values that occur in a set, one after another
-use Rattle.std.proofs.Common.{zero, suc, inl, inr, ◌≡◌, ◌≢◌, ℕ, ◌+◌, ◌<◌, ◌≤◌, Bool, true, false, cond, leb, eqb, ltb, ◌&&◌, ◌||◌, not, List, [], ◌∷◌, length, filter, Option, Some, None, refl, sym, ap, subst, ◌∙◌, arith}
+use Rattle.std.proofs.Common.{inl, inr, ◌≡◌, ◌≢◌, ℕ, ◌+◌, ◌<◌, ◌≤◌, Bool, true, false, cond, leb, eqb, ltb, ◌&&◌, not, List, length, filter, Option, Some, None, refl, sym, ap, ◌∙◌, arith}
 use Rattle.std.specs.Ordering.{nat_cmp}
 use Rattle.std.specs.FinSet as sets
 use Rattle.std.specs.Cmp.{nat_cmp_total, unsigned_tied}
 use Rattle.std.specs.List.{list_any, range_with_len}
 use Rattle.std.specs.Option.{option_eq}
-use Rattle.std.specs.Set.{is_member}
 use Rattle.std.specs.Str.{bytes_eq}
 use Rattle.std.proofs.lemmas.Bool.{cases_eq}
 use Rattle.std.proofs.lemmas.Bool.Decides.{nat_tests}
@@ -20,7 +19,7 @@ use Rattle.fy_locality.specs.Members.{IsLeast}
 use Rattle.fy_policy.specs.Sat.{group, satisfies}
 use Rattle.fy_policy.specs.Tree.{Tree, one, across, IsCounted}
 use Rattle.fy_policy.proofs.Counts.{any_found, found_any, count-none, count-without, number_of, fewer}
-use Rattle.fy_policy.proofs.Tests.{ValuesDiffer, ValuesOccur, IsEmptyIn, satisfies-none}
+use Rattle.fy_policy.proofs.Tests.{ValuesDiffer, ValuesOccur, satisfies-none}
 
 -- how many values have a group in s that passes
 abbrev pub passing : List Locality → Key → Tree → (ℕ → Bool) → ℕ

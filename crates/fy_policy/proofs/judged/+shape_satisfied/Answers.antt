@@ -1,11 +1,10 @@
-use Rattle.std.proofs.Common.{◌≡◌, ◌≢◌, inl, inr, ◌≤◌, ◌<◌, ◌+◌, ℕ, length, slice_index_or, true, false, leb, sym, ap, subst, ◌∙◌, arith}
+use Rattle.std.proofs.Common.{◌≡◌, ◌≢◌, inl, inr, ◌≤◌, ◌<◌, ◌+◌, ℕ, length, slice_index_or, true, sym, ap, subst, ◌∙◌, arith}
 use Rattle.std.specs.FinSet as sets
 use Rattle.std.proofs.lemmas.Bool.{cases_eq}
 use Rattle.std.proofs.lemmas.List.{get_or_default}
-use Rattle.fy_policy.specs.declared.shape.Shape.{Shape}
 use Rattle.fy_policy.specs.Sat.{satisfies}
 use Rattle.fy_policy.specs.Shape.{tree_of}
-use Rattle.fy_policy.specs.Tree.{IsCounted, across}
+use Rattle.fy_policy.specs.Tree.{IsCounted}
 use Rattle.fy_policy.proofs.Counts.{number_of}
 use Rattle.fy_policy.proofs.Shapes.{satisfies-And, part_is_counted', all_pass, one_fails, inner_counted}
 use Rattle.fy_policy.proofs.Walk.{passing, passing-keyless, passing-group, passing-empty, fewer-group, fewer-dropped, satisfies-across, one_more, none_more, enough, too_few, no_least}

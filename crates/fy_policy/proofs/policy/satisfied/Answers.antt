@@ -1,7 +1,7 @@
-use Rattle.std.proofs.Common.{◌≡◌, ap, sym, subst, ◌∙◌}
+use Rattle.std.proofs.Common.{ap, sym, subst, ◌∙◌}
 use Rattle.std.specs.FinSet as sets
 use Rattle.fy_policy.specs.Sat.{satisfies}
-use Rattle.fy_policy.specs.Tree.{IsCounted, IsPolicy}
+use Rattle.fy_policy.specs.Tree.{IsCounted}
 use Rattle.fy_policy.proofs.Tests.{as_relation}
 use Rattle.fy_policy.proofs.policy.satisfied.Goals as goal
 
