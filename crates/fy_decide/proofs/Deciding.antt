@@ -1,18 +1,18 @@
 -- the sets in 16 words, and the sets as tests
-use Rattle.std.proofs.Common.{zero, suc, ◌≡◌, ◌↔◌, ℕ, ◌<◌, Bool, true, false, cond, ◌&&◌, not, List, [], ◌∷◌, length, get_or, take, refl, sym, ap, subst, ◌∙◌, arith, true≢false}
-use Rattle.std.specs.List.{AllByRecursion, list_all, position, position_from}
+use Rattle.std.proofs.Common.{zero, suc, ◌≡◌, ◌↔◌, ℕ, ◌<◌, Bool, true, false, cond, ◌&&◌, not, List, [], ◌∷◌, length, get_or, refl, sym, ap, subst, ◌∙◌, arith, true≢false}
+use Rattle.std.specs.List.{AllByRecursion, position, position_from}
 use Rattle.std.proofs.lemmas.Iterator.Adapters.{position_from-zero}
 use Rattle.std.specs.Prelude.{Option, None, Some, ◌+◌}
 use Rattle.std.specs.Ordering.{nat_cmp}
 use Rattle.std.specs.FinSet as sets
 use Rattle.std.specs.Cmp.{nat_cmp_total}
 use Rattle.fy_locality.specs.declared.locality.Locality.{Locality}
-use Rattle.fy_policy.specs.Tree.{Tree, one, IsPolicy}
+use Rattle.fy_policy.specs.Tree.{Tree, IsPolicy}
 use Rattle.fy_policy.specs.Sat.{Sat, satisfies}
 use Rattle.fy_decide.specs.declared.dead_book.Loss.{Loss}
 use Rattle.fy_decide.specs.declared.dead_book.Loss.TheVariants.{Emptied, Gone}
 use Rattle.fy_decide.specs.Losses.{AreShort, AreSatisfied, all_short, all_satisfied, with_set, without_set, everyone, first_unmet, MayDestroy, may_destroy}
-use Rattle.fy_decide.specs.DeadBook.{Casualties, IsSafe, struck}
+use Rattle.fy_decide.specs.DeadBook.{Casualties, IsSafe}
 
 union_is : (s t : sets.FinSet nat_cmp) → sets.contains (sets.union s t) ≡ with_set (sets.contains s) (sets.contains t)
 union_is s t = λ i p. sets.contains-union nat_cmp_total s t p i

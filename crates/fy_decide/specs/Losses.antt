@@ -1,5 +1,5 @@
 -- what may be destroyed: sets of processes are tests on their numbers
-use Rattle.std.specs.Prelude.{◌≡◌, ℕ, Bool, true, not, ◌&&◌, ◌||◌, nat_lt, List, Option, length}
+use Rattle.std.specs.Prelude.{ℕ, Bool, not, ◌&&◌, ◌||◌, nat_lt, List, Option, length}
 use Rattle.std.specs.List.{list_all, position, AllByRecursion}
 use Rattle.fy_locality.specs.declared.locality.Locality.{Locality}
 use Rattle.fy_policy.specs.Tree.{Tree}

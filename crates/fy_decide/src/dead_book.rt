@@ -37,8 +37,8 @@ impl<T: Drop> From<AllocFailed<T>> for MakeFault {
 
     ghost from_gives = { λ _ e. e ≡ NoMemory };
 
-    fn from(_: AllocFailed<T>) -> MakeFault {
-        MakeFault::NoMemory
+    fn from(failed: AllocFailed<T>) -> MakeFault {
+        MakeFault::from(AllocError::from(failed))
     }
 }
 

@@ -157,7 +157,7 @@ fn losses_are_taken_down(rt: HostRuntime) {
     assert_eq!(rt; end, Some((0b0011, 0b1110)));
 }
 
-/// More policies than a cluster has. What the last two ask for, the others don't.
+/// More policies than a cluster may have. What the last two ask for, the others don't.
 const MANY: [&str; 10] = [
     "Across(2,zoneid,One())",
     "Across(2,zoneid,One())",

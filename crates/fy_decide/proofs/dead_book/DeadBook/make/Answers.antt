@@ -1,6 +1,5 @@
-use Rattle.std.proofs.Common.{◌≡◌, None, ap, subst, sym, ◌∙◌}
-use Rattle.std.specs.FinSet as sets
-use Rattle.fy_decide.specs.DeadBook.{Casualties, IsSafe}
+use Rattle.std.proofs.Common.{subst, sym, ◌∙◌}
+use Rattle.fy_decide.specs.DeadBook.{IsSafe}
 use Rattle.fy_decide.proofs.Deciding.{IsSafe-new, first_unmet-of, none_unmet}
 use Rattle.fy_decide.proofs.dead_book.DeadBook.make.Goals as goal
 
