@@ -9,7 +9,7 @@ ghost use Rattle.fy_decide.specs.DeadBook.{IsFresh};
 
 use super::input::Input as JudgeInput;
 use super::line::Ask as JudgeAsk;
-use fy_decide::{DeadBook, Loss};
+use fy_decide::DeadBook;
 use fy_locality::ProcSet;
 use std::alloc::{AllocError, Global};
 
