@@ -1,0 +1,4 @@
+pub mod Least
+pub mod Rights
+pub use Rattle.fy_kinds.specs.Kinds
+pub use Rattle.fy_locality.specs.Locality

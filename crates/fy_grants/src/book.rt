@@ -1,0 +1,215 @@
+//! The book of grants and protections.
+ghost use Rattle.std.specs.Prelude.{◌≡◌, ◌<◌, ℕ, true, not, length, [], ◌∷◌, ◌++◌, map, replicate, Some, None, IfOk, IfErr, IsOk, OnOk, OnErr};
+ghost use Rattle.std.specs.FinSet as sets;
+ghost use Rattle.fy_kinds.specs.Kinds.{with_all, without_all, no_deed};
+ghost use Rattle.fy_grants.specs.Least.{LeastWith};
+ghost use Rattle.fy_grants.specs.Rights.{grants_of, protections_of, no_rights, is_covered, is_protected, give_refusal, with_grant, take_refusal, without_grant, with_protection};
+ghost use Rattle.fy_grants.specs.declared.book.BookFault.TheVariants.{NoMemory};
+
+use crate::Grant;
+use crate::grant::push_last;
+use crate::scopes::{covered_by, least_protected};
+use fy_kinds::KindSet;
+use fy_locality::{Map, ProcId, ProcSet};
+use std::alloc::{AllocError, AllocFailed, Global};
+use std::marker::Model;
+
+/// The grants of each actor in the order in which they were given, at most 4096 in all, and for each process the kinds
+/// from which it is protected.
+#[derive(Drop)]
+pub struct Book {
+    grants: Vec<Vec<Grant>>,
+    given: usize,
+    protections: Vec<KindSet>,
+}
+
+impl Model for Book {
+    ghost use Rattle.std.specs.Prelude.{◌≡◌, ◌≤◌, map};
+    ghost use Rattle.fy_grants.specs.Rights.{Rights};
+
+    ghost Value = { Rights };
+
+    ghost view = { λ b. record { grants = map (λ own. own.items) b.grants.items; protections = b.protections.items } };
+
+    ghost use Rattle.fy_grants.specs.Rights.{IsCounted};
+
+    ghost invariant = { λ b. IsCounted (map (λ own. own.items) b.grants.items) b.given };
+}
+
+impl Book {
+    ghost use Rattle.fy_grants.specs.declared.book.BookFault.{BookFault};
+
+    /// A book for so many actors and processes, by number, without grants and protections; or no memory.
+    pub fn make(alloc: Global, actors: u32, processes: u32) -> Result<Book, AllocError>
+        ensures { IfOk result (λ book. book ≡ no_rights actors processes) }
+    {
+        Ok(Book {
+            grants: no_grants(alloc, actors)?,
+            given: 0,
+            protections: no_protections(alloc, processes)?,
+        })
+    }
+
+    /// How many actors there are.
+    pub fn actors(&self) -> usize
+        ensures { result ≡ length self.now.grants }
+    {
+        self.grants.len()
+    }
+
+    /// How many processes there are.
+    pub fn processes(&self) -> usize
+        ensures { result ≡ length self.now.protections }
+    {
+        self.protections.len()
+    }
+
+    /// One more grant, last in its actor's list. In order: no such actor, 4096 grants are there already, no memory. A
+    /// refused grant leaves the book as it was.
+    pub fn give(&mut self, grant: Grant) -> Result<(), BookFault>
+        ensures refused { (fault : BookFault) → give_refusal self.old grant ≡ Some fault → result ≡ Err fault }
+        ensures memory { give_refusal self.old grant ≡ None → IfErr result (λ fault. fault ≡ NoMemory) }
+        ensures given { OnOk result (self.new ≡ with_grant self.old grant) }
+        ensures err { OnErr result (self.new ≡ self.old) }
+    {
+        let actor = grant.actor as usize;
+        if actor >= self.grants.len() {
+            return Err(BookFault::NoActor);
+        }
+        if self.given >= 4096 {
+            return Err(BookFault::Full);
+        }
+        push_last(&mut self.grants[actor], grant)?;
+        self.given += 1;
+        Ok(())
+    }
+
+    /// Takes a grant away, by its place in its actor's list, which closes up. In order: no such actor, no such place.
+    pub fn take(&mut self, actor: u32, index: u32) -> Result<(), BookFault>
+        ensures refused { (fault : BookFault) → take_refusal self.old actor index ≡ Some fault → result ≡ Err fault }
+        ensures accepted { take_refusal self.old actor index ≡ None → IsOk result }
+        ensures taken { OnOk result (self.new ≡ without_grant self.old actor index) }
+        ensures err { OnErr result (self.new ≡ self.old) }
+    {
+        let (actor, index) = (actor as usize, index as usize);
+        if actor >= self.grants.len() {
+            return Err(BookFault::NoActor);
+        }
+        if index >= self.grants[actor].len() {
+            return Err(BookFault::NoSuch);
+        }
+        let _ = self.grants[actor].remove(index);
+        self.given -= 1;
+        Ok(())
+    }
+
+    /// Adds to the kinds from which a process is protected.
+    pub fn protect(&mut self, p: ProcId, kinds: KindSet)
+        requires { p.0 < length self.old.protections }
+        ensures { self.new ≡ with_protection self.old p.0 (with_all (protections_of self.old p.0) kinds) }
+    {
+        let place = p.0 as usize;
+        self.protections[place] = self.protections[place].union(kinds);
+    }
+
+    /// Takes out of the kinds from which a process is protected.
+    pub fn unprotect(&mut self, p: ProcId, kinds: KindSet)
+        requires { p.0 < length self.old.protections }
+        ensures { self.new ≡ with_protection self.old p.0 (without_all (protections_of self.old p.0) kinds) }
+    {
+        let place = p.0 as usize;
+        self.protections[place] = self.protections[place].difference(kinds);
+    }
+
+    /// The grants of an actor; an actor that isn't there has none.
+    pub fn grants(&self, actor: u32) -> &[Grant]
+        ensures { result.now ≡ grants_of self.now actor }
+    {
+        match self.grants.get(actor as usize) {
+            Some(grants) => grants.as_slice(),
+            None => &[],
+        }
+    }
+
+    /// The kinds from which a process is protected.
+    pub fn protections(&self, p: ProcId) -> KindSet
+        requires { p.0 < length self.now.protections }
+        ensures { result ≡ protections_of self.now p.0 }
+    {
+        self.protections[p.0 as usize]
+    }
+
+    /// The least process of a set that no grant of the actor with all these kinds covers.
+    pub fn uncovered(&self, actor: u32, kinds: KindSet, map: &Map, set: &ProcSet) -> Option<ProcId>
+        requires counts { length map.now ≡ length self.now.protections }
+        requires members { (q : ℕ) → sets.contains set.now q ≡ true → q < length self.now.protections }
+        ensures { LeastWith (sets.contains set.now) (λ q. not (is_covered map.now (grants_of self.now actor) kinds q)) result }
+    {
+        set.difference(&covered_by(self.grants(actor), kinds, map))
+            .least()
+    }
+
+    /// The least process of a set that is protected from some of these kinds.
+    pub fn barred(&self, kinds: KindSet, set: &ProcSet) -> Option<ProcId>
+        requires members { (q : ℕ) → sets.contains set.now q ≡ true → q < length self.now.protections }
+        ensures { LeastWith (sets.contains set.now) (is_protected self.now kinds) result }
+    {
+        least_protected(&self.protections, kinds, set)
+    }
+}
+
+/// Why a grant was not given or taken.
+#[derive(Clone, Copy, PartialEq, Eq, Debug)]
+pub enum BookFault {
+    /// There is no actor with this number.
+    NoActor,
+    /// The actor has no grant at this place.
+    NoSuch,
+    /// 4096 grants are there already.
+    Full,
+    NoMemory,
+}
+
+impl From<AllocError> for BookFault {
+    ghost use Rattle.fy_grants.specs.declared.book.BookFault.TheVariants.{NoMemory};
+    ghost use Rattle.std.specs.Prelude.{◌≡◌};
+
+    ghost from_gives = { λ _ e. e ≡ NoMemory };
+
+    fn from(_: AllocError) -> BookFault {
+        BookFault::NoMemory
+    }
+}
+
+impl<T: Drop> From<AllocFailed<T>> for BookFault {
+    ghost use Rattle.fy_grants.specs.declared.book.BookFault.TheVariants.{NoMemory};
+    ghost use Rattle.std.specs.Prelude.{◌≡◌};
+
+    ghost from_gives = { λ _ e. e ≡ NoMemory };
+
+    fn from(_: AllocFailed<T>) -> BookFault {
+        BookFault::NoMemory
+    }
+}
+
+/// As many empty lists of grants as there are actors.
+fn no_grants(alloc: Global, actors: u32) -> Result<Vec<Vec<Grant>>, AllocError>
+    ensures { IfOk result (λ lists. map (λ own. own.items) lists.items ≡ replicate actors []) }
+{
+    let mut lists = Vec::new(alloc);
+    for _actor in 0..actors {
+        lists.push(Vec::new(alloc))?;
+    }
+    Ok(lists)
+}
+
+/// As many empty sets of kinds as there are processes.
+fn no_protections(alloc: Global, processes: u32) -> Result<Vec<KindSet>, AllocError>
+    ensures { IfOk result (λ sets. sets.items ≡ replicate processes no_deed) }
+{
+    let mut sets = Vec::new(alloc);
+    for _process in 0..processes {
+        sets.push(KindSet::empty())?;
+    }
+    Ok(sets)
+}

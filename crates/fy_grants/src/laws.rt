@@ -1,0 +1,23 @@
+//! Laws of what a book holds after a change, for the crates above.
+ghost use Rattle.std.specs.Prelude.{◌≡◌, ◌<◌, ◌==◌, ◌++◌, ◌∷◌, ℕ, [], length, remove, if◌then◌else◌};
+ghost use Rattle.fy_kinds.specs.declared.kind_set.KindSet.{KindSet};
+ghost use Rattle.fy_grants.specs.declared.grant.Grant.{Grant};
+ghost use Rattle.fy_grants.specs.Rights.{Rights, grants_of, protections_of, with_grant, without_grant, with_protection};
+
+/// A grant goes to its actor's list alone.
+pub fn grants_after_give()
+    ensures lists { (rights : Rights) (grant : Grant) (a : ℕ) → grant.actor < length rights.grants → grants_of (with_grant rights grant) a ≡ (if grant.actor == a then grants_of rights a ++ grant ∷ [] else grants_of rights a) }
+    ensures actors { (rights : Rights) (grant : Grant) → length (with_grant rights grant).grants ≡ length rights.grants }
+{}
+
+/// A grant leaves its actor's list alone.
+pub fn grants_after_take()
+    ensures lists { (rights : Rights) (actor index a : ℕ) → actor < length rights.grants → grants_of (without_grant rights actor index) a ≡ (if actor == a then remove (grants_of rights a) index else grants_of rights a) }
+    ensures actors { (rights : Rights) (actor index : ℕ) → length (without_grant rights actor index).grants ≡ length rights.grants }
+{}
+
+/// A change of one process leaves the protections of the others.
+pub fn protections_after_change()
+    ensures kinds { (rights : Rights) (p q : ℕ) (kinds : KindSet) → p < length rights.protections → protections_of (with_protection rights p kinds) q ≡ (if p == q then kinds else protections_of rights q) }
+    ensures processes { (rights : Rights) (p : ℕ) (kinds : KindSet) → length (with_protection rights p kinds).protections ≡ length rights.protections }
+{}

@@ -1,0 +1,12 @@
+//! Who may do what to which processes: grants of actors and protections of processes.
+#![tactic(auto)]
+
+mod book;
+mod grant;
+pub mod laws;
+mod scopes;
+#[cfg(test)]
+mod tests;
+
+pub use book::{Book, BookFault};
+pub use grant::{Grant, Scope};

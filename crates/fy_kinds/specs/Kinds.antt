@@ -1,0 +1,114 @@
+-- the kinds of kill in their order, and sets of them with clogging
+use Rattle.std.specs.Prelude.{ℕ, ◌+◌, Bool, true, false, ◌&&◌, ◌||◌, not, ◌==◌, List, [], ◌∷◌, map, codes, if◌then◌else◌}
+use Rattle.std.specs.Int.RustNames.{bit_and}
+use Rattle.std.specs.List.{list_all, list_any}
+use Rattle.fy_kinds.specs.declared.kind.Kind.{Kind}
+use Rattle.fy_kinds.specs.declared.kind.Kind.TheVariants.{RebootProcess, Reboot, RebootAndDelete, KillInstantly}
+use Rattle.fy_kinds.specs.declared.kind_set.KindSet.{KindSet}
+
+-- the place of a kind in their order, from the mildest
+abbrev pub rank : Kind → ℕ
+rank RebootProcess = 0
+rank Reboot = 1
+rank RebootAndDelete = 2
+rank KillInstantly = 3
+
+-- how kinds are written
+abbrev pub kind_text : Kind → List ℕ
+kind_text RebootProcess = codes "RebootProcess"
+kind_text Reboot = codes "Reboot"
+kind_text RebootAndDelete = codes "RebootAndDelete"
+kind_text KillInstantly = codes "KillInstantly"
+
+-- the kinds that empty the disk
+abbrev pub is_destroying : Kind → Bool
+is_destroying RebootProcess = false
+is_destroying Reboot = false
+is_destroying RebootAndDelete = true
+is_destroying KillInstantly = true
+
+-- what a grant allows or a protection forbids: a kill of a kind, or clogging
+pub data Deed : Type 0 where
+  Striking : Kind → Deed
+  Clogging : Deed
+
+-- every deed, in the order in which sets are written
+abbrev pub deeds : List Deed
+deeds = Striking RebootProcess ∷ Striking Reboot ∷ Striking RebootAndDelete ∷ Striking KillInstantly ∷ Clogging ∷ []
+
+-- the place of a deed among them
+abbrev pub place : Deed → ℕ
+place (Striking kind) = rank kind
+place Clogging = 4
+
+-- whether a deed is in a set
+abbrev pub has : KindSet → Deed → Bool
+has kinds (Striking RebootProcess) = kinds.reboot_process
+has kinds (Striking Reboot) = kinds.reboot
+has kinds (Striking RebootAndDelete) = kinds.reboot_and_delete
+has kinds (Striking KillInstantly) = kinds.kill_instantly
+has kinds Clogging = kinds.clog
+
+-- the set of the deeds that pass a test
+abbrev pub those : (Deed → Bool) → KindSet
+those f = record {
+  reboot_process = f (Striking RebootProcess);
+  reboot = f (Striking Reboot);
+  reboot_and_delete = f (Striking RebootAndDelete);
+  kill_instantly = f (Striking KillInstantly);
+  clog = f Clogging;
+}
+
+-- the set of no deed
+abbrev pub no_deed : KindSet
+no_deed = those (λ _. false)
+
+-- the set of one deed
+abbrev pub only : Deed → KindSet
+only deed = those (λ d. place d == place deed)
+
+-- the deeds of either set, of both, and of the first alone
+abbrev pub with_all : KindSet → KindSet → KindSet
+with_all a b = those (λ d. has a d || has b d)
+
+abbrev pub in_both : KindSet → KindSet → KindSet
+in_both a b = those (λ d. has a d && has b d)
+
+abbrev pub without_all : KindSet → KindSet → KindSet
+without_all a b = those (λ d. has a d && not (has b d))
+
+-- whether every deed asked for is in the set
+abbrev pub has_all : KindSet → KindSet → Bool
+has_all kinds asked = list_all (λ d. not (has asked d) || has kinds d) deeds
+
+-- whether some deed asked for is in the set
+abbrev pub has_some : KindSet → KindSet → Bool
+has_some kinds asked = list_any (λ d. has asked d && has kinds d) deeds
+
+-- ---- sets as five bits
+
+-- the bit of a deed
+abbrev pub bit_of : Deed → ℕ
+bit_of (Striking RebootProcess) = 1
+bit_of (Striking Reboot) = 2
+bit_of (Striking RebootAndDelete) = 4
+bit_of (Striking KillInstantly) = 8
+bit_of Clogging = 16
+
+-- the bits of the deeds of a set that are in a list
+abbrev pub bits_among : KindSet → List Deed → ℕ
+bits_among kinds [] = 0
+bits_among kinds (d ∷ ds) = (if has kinds d then bit_of d else 0) + bits_among kinds ds
+
+-- the deeds whose bit is set
+abbrev pub set_of_bits : ℕ → KindSet
+set_of_bits bits = those (λ d. not (bit_and bits (bit_of d) == 0))
+
+-- how sets are written: a text for each deed
+abbrev pub deed_text : Deed → List ℕ
+deed_text (Striking kind) = kind_text kind
+deed_text Clogging = codes "Clog"
+
+-- every deed with its text and the set of it alone
+abbrev pub table : List (List ℕ × KindSet)
+table = map (λ d. (deed_text d, only d)) deeds

@@ -1,0 +1,2 @@
+pub mod Kinds
+pub use Rattle.fy_locality.specs.Locality

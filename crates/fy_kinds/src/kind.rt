@@ -1,0 +1,47 @@
+//! What a kill does to a process.
+ghost use Rattle.std.specs.Prelude.{◌≡◌, nat_lt};
+ghost use Rattle.fy_kinds.specs.Kinds.{kind_text, is_destroying, rank};
+
+/// What a kill does to a process, from the mildest to the hardest.
+#[derive(Clone, Copy, PartialEq, Eq, PartialOrd, Ord, Debug)]
+pub enum Kind {
+    /// Down; nothing on the disk is lost.
+    RebootProcess,
+    /// Down; what the disk hasn't synced may be lost.
+    Reboot,
+    /// Down, and the disk is emptied.
+    RebootAndDelete,
+    /// Gone for good, and the disk is emptied.
+    KillInstantly,
+}
+
+impl Kind {
+    /// The kind as every text of the product writes it: `RebootProcess`, `Reboot`, `RebootAndDelete`, `KillInstantly`.
+    pub fn text(self) -> &'static str
+        ensures { result.now ≡ kind_text self }
+    {
+        match self {
+            Kind::RebootProcess => "RebootProcess",
+            Kind::Reboot => "Reboot",
+            Kind::RebootAndDelete => "RebootAndDelete",
+            Kind::KillInstantly => "KillInstantly",
+        }
+    }
+
+    /// Whether the disk is emptied.
+    pub fn is_destroying(self) -> bool
+        ensures { result ≡ is_destroying self }
+    {
+        match self {
+            Kind::RebootProcess | Kind::Reboot => false,
+            Kind::RebootAndDelete | Kind::KillInstantly => true,
+        }
+    }
+
+    /// Whether this kind is harder than the other.
+    pub fn is_above(self, other: Kind) -> bool
+        ensures { result ≡ nat_lt (rank other) (rank self) }
+    {
+        self > other
+    }
+}

@@ -1,0 +1,28 @@
+//! Laws of sets of kinds, for the crates above.
+ghost use Rattle.std.specs.Prelude.{◌≡◌, ◌&&◌, ◌||◌, not};
+ghost use Rattle.fy_kinds.specs.declared.kind.Kind.{Kind};
+ghost use Rattle.fy_kinds.specs.declared.kind_set.KindSet.{KindSet};
+ghost use Rattle.fy_kinds.specs.Kinds.{Deed, rank, has, only, with_all, in_both, without_all, has_all, has_some};
+
+/// Kinds of one rank are one kind.
+pub fn kinds_by_rank()
+    ensures { (k l : Kind) → rank k ≡ rank l → k ≡ l }
+{}
+
+/// Sets with the same members are equal.
+pub fn same_members()
+    ensures { (a b : KindSet) → ((d : Deed) → has a d ≡ has b d) → a ≡ b }
+{}
+
+/// The members of sets that were put together.
+pub fn members_together()
+    ensures either { (a b : KindSet) (d : Deed) → has (with_all a b) d ≡ (has a d || has b d) }
+    ensures both { (a b : KindSet) (d : Deed) → has (in_both a b) d ≡ (has a d && has b d) }
+    ensures first { (a b : KindSet) (d : Deed) → has (without_all a b) d ≡ (has a d && not (has b d)) }
+{}
+
+/// To have all or some of one deed is to have it.
+pub fn one_deed()
+    ensures all { (kinds : KindSet) (d : Deed) → has_all kinds (only d) ≡ has kinds d }
+    ensures some { (kinds : KindSet) (d : Deed) → has_some kinds (only d) ≡ has kinds d }
+{}

@@ -1,0 +1,15 @@
+//! Kinds of kill, sets of kinds, orders to kill, and verdicts on them.
+#![tactic(auto)]
+
+mod kind;
+mod kind_set;
+pub mod laws;
+mod order;
+#[cfg(test)]
+mod tests;
+mod verdict;
+
+pub use kind::Kind;
+pub use kind_set::KindSet;
+pub use order::{Floor, KillOrder, Target};
+pub use verdict::{Rule, Verdict};
