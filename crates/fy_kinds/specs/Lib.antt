@@ -1,2 +1,3 @@
 pub mod Kinds
+pub mod Orders
 pub use Rattle.fy_locality.specs.Locality

@@ -4,6 +4,7 @@ ghost use Rattle.fy_kinds.specs.Kinds.{rank};
 
 use crate::Kind;
 use fy_locality::{Key, Name};
+use std::marker::Model;
 
 /// The processes with one value of a key.
 #[derive(Clone, Copy, PartialEq, Eq)]
@@ -23,7 +24,20 @@ pub struct KillOrder {
     kind: Kind,
     floor: Kind,
     tear: u64,
-    ghost ordered: { rank floor ≤ rank kind },
+}
+
+impl Model for KillOrder {
+    ghost use Rattle.std.specs.Prelude.{◌≤◌};
+    ghost use Rattle.fy_kinds.specs.Kinds.{rank};
+    ghost use Rattle.fy_kinds.specs.Orders.{Order};
+
+    ghost Value = { Order };
+
+    ghost view = { λ o. record { target = o.target; kind = o.kind; floor = o.floor; tear = o.tear } };
+
+    ghost invariant = { λ o. rank o.floor ≤ rank o.kind };
+
+    ghost inverse = { λ v. record { target = v.target; kind = v.kind; floor = v.floor; tear = v.tear } };
 }
 
 impl KillOrder {
