@@ -1,5 +1,5 @@
 //! The book of grants and protections.
-ghost use Rattle.std.specs.Prelude.{◌≡◌, ◌<◌, ℕ, true, not, length, [], ◌∷◌, ◌++◌, map, replicate, Some, None, IfOk, IfErr, IsOk, OnOk, OnErr};
+ghost use Rattle.std.specs.Prelude.{◌≡◌, ◌<◌, not, length, [], ◌∷◌, ◌++◌, map, replicate, Some, None, IfOk, IfErr, IsOk, OnOk, OnErr};
 ghost use Rattle.std.specs.FinSet as sets;
 ghost use Rattle.fy_kinds.specs.Kinds.{with_all, without_all, no_deed};
 ghost use Rattle.fy_grants.specs.Least.{LeastWith};
@@ -8,15 +8,14 @@ ghost use Rattle.fy_grants.specs.declared.book.BookFault.TheVariants.{NoMemory};
 
 use crate::Grant;
 use crate::grant::push_last;
-use crate::scopes::{covered_by, least_protected};
+use crate::scopes::{least_protected, left_uncovered};
 use fy_kinds::KindSet;
 use fy_locality::{Map, ProcId, ProcSet};
-use std::alloc::{AllocError, AllocFailed, Global};
+use std::alloc::{AllocError, Global};
 use std::marker::Model;
 
 /// The grants of each actor in the order in which they were given, at most 4096 in all, and for each process the kinds
 /// from which it is protected.
-#[derive(Drop)]
 pub struct Book {
     grants: Vec<Vec<Grant>>,
     given: usize,
@@ -34,6 +33,17 @@ impl Model for Book {
     ghost use Rattle.fy_grants.specs.Rights.{IsCounted};
 
     ghost invariant = { λ b. IsCounted (map (λ own. own.items) b.grants.items) b.given };
+}
+
+// Written out, so that whoever drops a book makes one call.
+impl Drop for Book {
+    fn drop(self) {
+        let Book {
+            grants: _,
+            given: _,
+            protections: _,
+        } = self;
+    }
 }
 
 impl Book {
@@ -139,19 +149,17 @@ impl Book {
         self.protections[p.0 as usize]
     }
 
-    /// The least process of a set that no grant of the actor with all these kinds covers.
+    /// The least process of a set that no grant of the actor with all these kinds covers. An actor that isn't there has
+    /// no grants.
     pub fn uncovered(&self, actor: u32, kinds: KindSet, map: &Map, set: &ProcSet) -> Option<ProcId>
-        requires counts { length map.now ≡ length self.now.protections }
-        requires members { (q : ℕ) → sets.contains set.now q ≡ true → q < length self.now.protections }
         ensures { LeastWith (sets.contains set.now) (λ q. not (is_covered map.now (grants_of self.now actor) kinds q)) result }
     {
-        set.difference(&covered_by(self.grants(actor), kinds, map))
-            .least()
+        left_uncovered(self.grants(actor), kinds, map, set).least()
     }
 
-    /// The least process of a set that is protected from some of these kinds.
+    /// The least process of a set that is protected from some of these kinds. A process that isn't there is protected
+    /// from none.
     pub fn barred(&self, kinds: KindSet, set: &ProcSet) -> Option<ProcId>
-        requires members { (q : ℕ) → sets.contains set.now q ≡ true → q < length self.now.protections }
         ensures { LeastWith (sets.contains set.now) (is_protected self.now kinds) result }
     {
         least_protected(&self.protections, kinds, set)
@@ -177,17 +185,6 @@ impl From<AllocError> for BookFault {
     ghost from_gives = { λ _ e. e ≡ NoMemory };
 
     fn from(_: AllocError) -> BookFault {
-        BookFault::NoMemory
-    }
-}
-
-impl<T: Drop> From<AllocFailed<T>> for BookFault {
-    ghost use Rattle.fy_grants.specs.declared.book.BookFault.TheVariants.{NoMemory};
-    ghost use Rattle.std.specs.Prelude.{◌≡◌};
-
-    ghost from_gives = { λ _ e. e ≡ NoMemory };
-
-    fn from(_: AllocFailed<T>) -> BookFault {
         BookFault::NoMemory
     }
 }

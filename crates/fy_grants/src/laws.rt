@@ -1,7 +1,10 @@
-//! Laws of what a book holds after a change, for the crates above.
-ghost use Rattle.std.specs.Prelude.{◌≡◌, ◌<◌, ◌==◌, ◌++◌, ◌∷◌, ℕ, [], length, remove, if◌then◌else◌};
+//! Laws of what a book holds after a change and of the least process, for the crates above.
+ghost use Rattle.std.specs.Prelude.{◌≡◌, ◌<◌, ◌==◌, ◌++◌, ◌∷◌, ℕ, Bool, true, Option, [], length, remove, if◌then◌else◌};
+ghost use Rattle.std.specs.Option.{option_map};
+ghost use Rattle.fy_locality.specs.declared.ProcId.{ProcId};
 ghost use Rattle.fy_kinds.specs.declared.kind_set.KindSet.{KindSet};
 ghost use Rattle.fy_grants.specs.declared.grant.Grant.{Grant};
+ghost use Rattle.fy_grants.specs.Least.{LeastWith, least_with};
 ghost use Rattle.fy_grants.specs.Rights.{Rights, grants_of, protections_of, with_grant, without_grant, with_protection};
 
 /// A grant goes to its actor's list alone.
@@ -20,4 +23,9 @@ pub fn grants_after_take()
 pub fn protections_after_change()
     ensures kinds { (rights : Rights) (p q : ℕ) (kinds : KindSet) → p < length rights.protections → protections_of (with_protection rights p kinds) q ≡ (if p == q then kinds else protections_of rights q) }
     ensures processes { (rights : Rights) (p : ℕ) (kinds : KindSet) → length (with_protection rights p kinds).protections ≡ length rights.protections }
+{}
+
+/// The least process of a set that passes a test is the first one found below a bound of the set.
+pub fn least_is_first_found()
+    ensures { (count : ℕ) (set test : ℕ → Bool) (found : Option ProcId) → ((q : ℕ) → set q ≡ true → q < count) → LeastWith set test found → option_map (λ p. p.0) found ≡ least_with count set test }
 {}
