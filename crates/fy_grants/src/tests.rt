@@ -1,6 +1,6 @@
 use super::*;
 use fy_kinds::{Kind, KindSet, Target};
-use fy_locality::{BadName, Key, Map, MapFault, Name, ProcId, ProcSet};
+use fy_locality::{Key, Map, MapFault, Name, ProcId, ProcSet};
 use std::alloc::Global;
 use std::test::Fail;
 
@@ -28,17 +28,6 @@ fn to_all(actor: u32, kind: Kind) -> Grant {
     }
 }
 
-fn in_zone(actor: u32, kinds: KindSet, zone: &str) -> Result<Grant, BadName> {
-    Ok(Grant {
-        actor,
-        kinds,
-        scope: Scope::Where(Target {
-            key: Key::Zone,
-            value: Name::make(zone)?,
-        }),
-    })
-}
-
 fn set_of(numbers: &[u32]) -> ProcSet {
     let mut set = ProcSet::empty();
     for number in numbers {
@@ -47,8 +36,21 @@ fn set_of(numbers: &[u32]) -> ProcSet {
     set
 }
 
-fn give(book: &mut Book, grant: Grant) -> Result<(), BookFault> {
-    book.give(grant)
+fn give(book: &mut Book, actor: u32, kind: Kind) -> Result<(), BookFault> {
+    book.give(to_all(actor, kind))
+}
+
+/// Gives a grant for the processes of a zone.
+fn give_in_zone(book: &mut Book, actor: u32, kinds: KindSet, value: Name) -> Result<(), BookFault> {
+    let scope = Scope::Where(Target {
+        key: Key::Zone,
+        value,
+    });
+    book.give(Grant {
+        actor,
+        kinds,
+        scope,
+    })
 }
 
 fn take(book: &mut Book, actor: u32, index: u32) -> Result<(), BookFault> {
@@ -117,16 +119,15 @@ fn gives_or_stays(book: &mut Book) -> bool {
 fn a_book_takes_4096_grants(rt: HostRuntime) -> Result<(), Fail> {
     let mut book = Book::make(rt.alloc(), 1, 6)?;
     assert_eq!(rt; (book.actors(), book.processes()), (1, 6));
-    let (own, other) = (to_all(0, Kind::Reboot), to_all(1, Kind::Reboot));
-    assert_eq!(rt; give(&mut book, other), Err(BookFault::NoActor));
+    assert_eq!(rt; give(&mut book, 1, Kind::Reboot), Err(BookFault::NoActor));
     fill(&mut book, 4096)?;
-    assert_eq!(rt; give(&mut book, own), Err(BookFault::Full));
-    assert_eq!(rt; give(&mut book, other), Err(BookFault::NoActor));
+    assert_eq!(rt; give(&mut book, 0, Kind::Reboot), Err(BookFault::Full));
+    assert_eq!(rt; give(&mut book, 1, Kind::Reboot), Err(BookFault::NoActor));
     assert_eq!(rt; book.grants(0).len(), 4096);
     assert_eq!(rt; take(&mut book, 0, 4095), Ok(()));
     assert_eq!(rt; take(&mut book, 0, 4095), Err(BookFault::NoSuch));
-    assert_eq!(rt; give(&mut book, own), Ok(()));
-    assert_eq!(rt; give(&mut book, own), Err(BookFault::Full));
+    assert_eq!(rt; give(&mut book, 0, Kind::Reboot), Ok(()));
+    assert_eq!(rt; give(&mut book, 0, Kind::Reboot), Err(BookFault::Full));
     Ok(())
 }
 
@@ -134,9 +135,9 @@ fn a_book_takes_4096_grants(rt: HostRuntime) -> Result<(), Fail> {
 fn lists_close_up(rt: HostRuntime) -> Result<(), Fail> {
     let mut book = Book::make(rt.alloc(), 5, 6)?;
     for kind in [Kind::KillInstantly, Kind::RebootProcess, Kind::Reboot] {
-        give(&mut book, to_all(3, kind))?;
+        give(&mut book, 3, kind)?;
     }
-    give(&mut book, to_all(4, Kind::RebootAndDelete))?;
+    give(&mut book, 4, Kind::RebootAndDelete)?;
     assert_eq!(rt; take(&mut book, 3, 1), Ok(()));
     assert!(rt; holds_kinds(&book, 3, &[Kind::KillInstantly, Kind::Reboot]));
     assert!(rt; holds_kinds(&book, 4, &[Kind::RebootAndDelete]));
@@ -151,7 +152,7 @@ fn a_taken_grant_covers_no_more(rt: HostRuntime) -> Result<(), Fail> {
     let map = cluster(rt.alloc())?;
     let mut book = Book::make(rt.alloc(), 5, 6)?;
     let reboot = KindSet::of(Kind::Reboot);
-    give(&mut book, to_all(3, Kind::Reboot))?;
+    give(&mut book, 3, Kind::Reboot)?;
     assert_eq!(rt; uncovered(&book, 3, reboot, &map, &[0, 5]), None);
     let instantly = uncovered(&book, 3, KindSet::of(Kind::KillInstantly), &map, &[0, 5]);
     assert_eq!(rt; instantly, Some(ProcId(0)));
@@ -167,14 +168,14 @@ fn grants_of_a_value_cover_its_processes(rt: HostRuntime) -> Result<(), Fail> {
     let map = cluster(rt.alloc())?;
     let mut book = Book::make(rt.alloc(), 5, 6)?;
     let reboot = KindSet::of(Kind::Reboot);
-    give(&mut book, in_zone(4, reboot, "z0")?)?;
-    give(&mut book, in_zone(4, KindSet::of_clog(), "z1")?)?;
+    give_in_zone(&mut book, 4, reboot, Name::make("z0")?)?;
+    give_in_zone(&mut book, 4, KindSet::of_clog(), Name::make("z1")?)?;
     assert_eq!(rt; uncovered(&book, 4, reboot, &map, &[1, 5]), Some(ProcId(5)));
     assert_eq!(rt;
         uncovered(&book, 4, reboot, &map, &[0, 3, 4]),
         Some(ProcId(3))
     );
-    give(&mut book, in_zone(4, reboot, "z2")?)?;
+    give_in_zone(&mut book, 4, reboot, Name::make("z2")?)?;
     assert_eq!(rt; uncovered(&book, 4, reboot, &map, &[1, 5]), None);
     assert_eq!(rt; uncovered(&book, 9, reboot, &map, &[2, 4]), Some(ProcId(2)));
     Ok(())
