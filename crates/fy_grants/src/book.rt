@@ -1,5 +1,5 @@
 //! The book of grants and protections.
-ghost use Rattle.std.specs.Prelude.{◌≡◌, ◌<◌, not, length, [], ◌∷◌, ◌++◌, map, replicate, Some, None, IfOk, IfErr, IsOk, OnOk, OnErr};
+ghost use Rattle.std.specs.Prelude.{◌≡◌, ◌<◌, not, length, [], map, replicate, Some, None, IfOk, IfErr, IsOk, OnOk, OnErr};
 ghost use Rattle.std.specs.FinSet as sets;
 ghost use Rattle.fy_kinds.specs.Kinds.{with_all, without_all, no_deed};
 ghost use Rattle.fy_grants.specs.Least.{LeastWith};
@@ -23,7 +23,7 @@ pub struct Book {
 }
 
 impl Model for Book {
-    ghost use Rattle.std.specs.Prelude.{◌≡◌, ◌≤◌, map};
+    ghost use Rattle.std.specs.Prelude.{map};
     ghost use Rattle.fy_grants.specs.Rights.{Rights};
 
     ghost Value = { Rights };

@@ -67,13 +67,15 @@ no_deed = those (λ _. false)
 abbrev pub only : Deed → KindSet
 only deed = those (λ d. place d == place deed)
 
--- the deeds of either set, of both, and of the first alone
+-- the deeds of either set
 abbrev pub with_all : KindSet → KindSet → KindSet
 with_all a b = those (λ d. has a d || has b d)
 
+-- the deeds of both sets
 abbrev pub in_both : KindSet → KindSet → KindSet
 in_both a b = those (λ d. has a d && has b d)
 
+-- the deeds of the first set that aren't in the second
 abbrev pub without_all : KindSet → KindSet → KindSet
 without_all a b = those (λ d. has a d && not (has b d))
 
