@@ -5,7 +5,7 @@ use fy_locality::ProcId;
 /// Why a kind is barred. Of several rules the first of this order is named.
 #[derive(Clone, Copy, PartialEq, Eq, Debug)]
 pub enum Rule {
-    /// No process is struck.
+    /// No process that is left has the target's value.
     NoTarget,
     /// No grant of the actor that has the kind covers this process, the least such one.
     NoGrant { process: ProcId },
