@@ -14,10 +14,10 @@ use Rattle.fy_decide.specs.declared.dead_book.Loss.TheVariants.{Emptied, Gone}
 use Rattle.fy_decide.specs.Losses.{AreShort, AreSatisfied, all_short, all_satisfied, with_set, without_set, everyone, first_unmet, MayDestroy, may_destroy}
 use Rattle.fy_decide.specs.DeadBook.{Casualties, IsSafe}
 
-union_is : (s t : sets.FinSet nat_cmp) → sets.contains (sets.union s t) ≡ with_set (sets.contains s) (sets.contains t)
+pub union_is : (s t : sets.FinSet nat_cmp) → sets.contains (sets.union s t) ≡ with_set (sets.contains s) (sets.contains t)
 union_is s t = λ i p. sets.contains-union nat_cmp_total s t p i
 
-difference_is : (s t : sets.FinSet nat_cmp) → sets.contains (sets.difference s t) ≡ without_set (sets.contains s) (sets.contains t)
+pub difference_is : (s t : sets.FinSet nat_cmp) → sets.contains (sets.difference s t) ≡ without_set (sets.contains s) (sets.contains t)
 difference_is s t = λ i p. sets.contains-difference nat_cmp_total s t p i
 
 abbrev May : Casualties → sets.FinSet nat_cmp → Loss → Type 0
@@ -112,7 +112,7 @@ nobody_short : (processes : List Locality) (policies : List Tree) (s : ℕ → B
 nobody_short processes [] s law empty within = tt
 nobody_short processes (q ∷ qs) s law empty within = (λ sat. law processes q s within.0 empty sat, nobody_short processes qs s law empty within.1)
 
-none_found : {X : Type 0} (t : X → Bool) (i : ℕ) (xs : List X) → position_from t i xs ≡ None → AllByRecursion (λ x. t x ≡ false) xs
+pub none_found : {X : Type 0} (t : X → Bool) (i : ℕ) (xs : List X) → position_from t i xs ≡ None → AllByRecursion (λ x. t x ≡ false) xs
 none_found t i [] e = tt
 none_found t i (x ∷ xs) e = go (λ h. none_found t (i + 1) xs h) (t x) refl e
   where
@@ -120,7 +120,7 @@ none_found t i (x ∷ xs) e = go (λ h. none_found t (i + 1) xs h) (t x) refl e
     go later true is h = absurd (let y : ⊥ = cc in y)
     go later false is h = (is, later h)
 
-each_satisfied : (processes : List Locality) (policies : List Tree) (s : ℕ → Bool)
+pub each_satisfied : (processes : List Locality) (policies : List Tree) (s : ℕ → Bool)
     → ((processes : List Locality) (policy : Tree) (s : ℕ → Bool) → (satisfies processes policy s ≡ true) ↔ Sat processes policy s)
     → AllByRecursion (λ P. not (satisfies processes P s) ≡ false) policies → AreSatisfied processes policies s
 each_satisfied processes [] s law h = tt

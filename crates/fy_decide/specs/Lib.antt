@@ -1,5 +1,10 @@
 pub mod DeadBook
 pub mod Losses
+pub mod Verdicts
 pub use Rattle.fy_locality.specs.Locality
 pub use Rattle.fy_policy.specs.Sat
 pub use Rattle.fy_policy.specs.Tree
+pub use Rattle.fy_kinds.specs.Kinds
+pub use Rattle.fy_kinds.specs.Orders
+pub use Rattle.fy_grants.specs.Least
+pub use Rattle.fy_grants.specs.Rights

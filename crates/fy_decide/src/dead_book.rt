@@ -4,9 +4,11 @@ ghost use Rattle.std.specs.List.{position, AllByRecursion};
 ghost use Rattle.std.specs.FinSet as sets;
 ghost use Rattle.fy_policy.specs.Sat.{satisfies};
 ghost use Rattle.fy_policy.specs.Tree.{IsPolicy};
-ghost use Rattle.fy_decide.specs.Losses.{AreShort, AreSatisfied, all_short, all_satisfied, first_unmet, MayDestroy, may_destroy};
+ghost use Rattle.fy_decide.specs.Losses.{AreShort, AreSatisfied, all_short, all_satisfied, first_unmet, MayDestroy, may_destroy, with_set, without_set};
 ghost use Rattle.fy_decide.specs.DeadBook.{IsFresh, struck};
+ghost use Rattle.fy_decide.specs.Verdicts.{targets, loss_of};
 
+use fy_kinds::{Kind, Target};
 use fy_locality::{Map, ProcSet};
 use fy_policy::{Policy, laws, satisfied};
 use std::alloc::{AllocError, AllocFailed, Global};
@@ -47,6 +49,19 @@ impl<T: Drop> From<AllocFailed<T>> for MakeFault {
 pub enum Loss {
     Emptied,
     Gone,
+}
+
+impl Loss {
+    /// The loss that a kind of kill brings: none where it is no destroying kind.
+    pub fn of(kind: Kind) -> Option<Loss>
+        ensures { result ≡ loss_of kind }
+    {
+        match kind {
+            Kind::RebootProcess | Kind::Reboot => None,
+            Kind::RebootAndDelete => Some(Loss::Emptied),
+            Kind::KillInstantly => Some(Loss::Gone),
+        }
+    }
 }
 
 /// The destroyed, and those left. The destroyed are short of every policy, and those left satisfy each.
@@ -111,6 +126,15 @@ fn unmet(policies: &[Policy], map: &Map, set: &ProcSet) -> Option<usize>
         .position(|policy| !satisfied(policy, map, set))
 }
 
+/// The place of the first policy that the set satisfies.
+fn met(policies: &[Policy], map: &Map, set: &ProcSet) -> Option<usize>
+    ensures { result ≡ position (λ P. satisfies map.now P (sets.contains set.now)) policies.now }
+{
+    policies
+        .iter()
+        .position(|policy| satisfied(policy, map, set))
+}
+
 /// The same policies, in memory of their own.
 fn copies(alloc: Global, policies: &[Policy]) -> Result<Vec<Policy>, AllocError>
     ensures same { IfOk result (λ copies. copies.items ≡ policies.now) }
@@ -163,6 +187,29 @@ impl DeadBook {
             Loss::Emptied => true,
             Loss::Gone => are_satisfied(&self.policies, &self.map, &self.left.difference(set)),
         }
+    }
+
+    /// The place of the first policy that the destroyed with the set would satisfy.
+    pub(crate) fn too_many_destroyed(&self, set: &ProcSet) -> Option<usize>
+        ensures { result ≡ position (λ P. satisfies self.now.processes P (with_set (sets.contains self.now.destroyed) (sets.contains set.now))) self.now.policies }
+    {
+        met(&self.policies, &self.map, &self.destroyed.union(set))
+    }
+
+    /// The place of the first policy that those left without the set would be short of.
+    pub(crate) fn too_few_left(&self, set: &ProcSet) -> Option<usize>
+        ensures { result ≡ position (λ P. not (satisfies self.now.processes P (without_set (sets.contains self.now.left) (sets.contains set.now)))) self.now.policies }
+    {
+        unmet(&self.policies, &self.map, &self.left.difference(set))
+    }
+
+    /// Those left that have the target's value of its key; the map is the one that the book was made of.
+    pub fn targets(&self, map: &Map, target: &Target) -> ProcSet
+        requires { map.now ≡ self.now.processes }
+        ensures { (p : ℕ) → sets.contains result p ≡ targets self.now.processes (sets.contains self.now.left) target.now p }
+    {
+        map.members(target.key, &target.value)
+            .intersection(&self.left)
     }
 
     /// Takes the loss of a set down. Takes no memory.

@@ -2,5 +2,8 @@
 #![tactic(auto)]
 
 mod dead_book;
+pub mod laws;
+mod verdict;
 
 pub use dead_book::{DeadBook, Loss, MakeFault};
+pub use verdict::{judge, judge_clog};

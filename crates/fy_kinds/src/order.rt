@@ -24,20 +24,17 @@ pub struct KillOrder {
     kind: Kind,
     floor: Kind,
     tear: u64,
+    ghost ordered: { rank floor ≤ rank kind },
 }
 
 impl Model for KillOrder {
-    ghost use Rattle.std.specs.Prelude.{◌≤◌};
-    ghost use Rattle.fy_kinds.specs.Kinds.{rank};
     ghost use Rattle.fy_kinds.specs.Orders.{Order};
 
     ghost Value = { Order };
 
-    ghost view = { λ o. record { target = o.target; kind = o.kind; floor = o.floor; tear = o.tear } };
+    ghost view = { λ o. record { target = o.target; kind = o.kind; floor = o.floor; tear = o.tear; ordered = o.ordered } };
 
-    ghost invariant = { λ o. rank o.floor ≤ rank o.kind };
-
-    ghost inverse = { λ v. record { target = v.target; kind = v.kind; floor = v.floor; tear = v.tear } };
+    ghost inverse = { λ v. record { target = v.target; kind = v.kind; floor = v.floor; tear = v.tear; ordered = v.ordered } };
 }
 
 impl KillOrder {

@@ -12,9 +12,9 @@ pub enum Rule {
     /// This process is protected from the kind, the least such one.
     Protected { process: ProcId },
     /// The destroyed would satisfy this policy, the least such one.
-    TooManyDestroyed { policy: u32 },
+    TooManyDestroyed { policy: usize },
     /// Those left would be short of this policy, the least such one.
-    TooFewLeft { policy: u32 },
+    TooFewLeft { policy: usize },
 }
 
 /// What comes of an order: the kind that strikes, if one does, and the rule that bars the ordered kind, if one does.

@@ -1,0 +1,132 @@
+//! Asks for verdicts on a cluster as large as a cluster may be: `verdicts ROUNDS`, with sixteen orders a round. The
+//! verdicts are counted, so that no call is left out.
+#![tactic(auto)]
+
+use fy_decide::{DeadBook, judge};
+use fy_grants::{Book, Grant, Scope};
+use fy_kinds::{Kind, KindSet, KillOrder, Target};
+use fy_locality::{Key, Map, Name};
+use fy_policy::{Policy, read_policy};
+use std::alloc::Global;
+use std::env;
+use std::process::ExitCode;
+use std::time::Instant;
+
+const PROCESSES: u32 = 1024;
+const ZONES: u32 = 64;
+const GRANTS: u32 = 4096;
+const ORDERS: u64 = 16;
+
+/// Each is met by all processes together, and by those that any sixteen zones leave.
+const POLICIES: [&str; 8] = [
+    "Across(20,zoneid,One())",
+    "Across(21,zoneid,One())",
+    "Across(2,data_hall,Across(10,zoneid,One()))",
+    "And(Across(2,data_hall,One()),Across(22,zoneid,One()))",
+    "Across(300,processid,One())",
+    "Across(310,machineid,One())",
+    "And(One(),Across(2,dcid,Across(150,machineid,One())),Across(305,processid,One()))",
+    "Across(20,zoneid,Across(2,processid,One()))",
+];
+
+fn cluster(alloc: Global) -> Option<Map> {
+    let mut map = Map::make(alloc);
+    for p in 0..PROCESSES {
+        let id = format!(in alloc; "p{p}").ok()?;
+        let machine = format!(in alloc; "m{p}").ok()?;
+        let zone = format!(in alloc; "z{}", p % ZONES).ok()?;
+        let half = format!(in alloc; "h{}", p % 2).ok()?;
+        let _ = map.add(&id, &machine, &zone, Some(&half), Some(&half)).ok()?;
+    }
+    Some(map)
+}
+
+fn policies(alloc: Global) -> Option<Vec<Policy>> {
+    let mut policies = Vec::new(alloc);
+    for text in POLICIES {
+        policies.push(read_policy(alloc, text).ok()?).ok()?;
+    }
+    Some(policies)
+}
+
+/// All grants are of one actor, each for one process, and together they cover every process from every kind.
+fn book(alloc: Global, map: &Map) -> Option<Book> {
+    let mut book = Book::make(alloc, 1, map.len()).ok()?;
+    let kinds = [
+        Kind::RebootProcess,
+        Kind::Reboot,
+        Kind::RebootAndDelete,
+        Kind::KillInstantly,
+    ];
+    for g in 0..GRANTS {
+        let value = map.value_at(Key::Process, g % PROCESSES)?;
+        let target = Target {
+            key: Key::Process,
+            value,
+        };
+        book.give(Grant {
+            actor: 0,
+            kinds: KindSet::of(kinds[(g / PROCESSES % 4) as usize]),
+            scope: Scope::Where(target),
+        })
+        .ok()?;
+    }
+    Some(book)
+}
+
+/// One order for each of the first zones, of sixteen processes.
+fn orders(alloc: Global) -> Option<Vec<KillOrder>> {
+    let mut orders = Vec::new(alloc);
+    for zone in 0..ORDERS {
+        let text = format!(in alloc; "z{zone}").ok()?;
+        let value = Name::make(&text).ok()?;
+        let target = Target {
+            key: Key::Zone,
+            value,
+        };
+        let order = KillOrder::make(target, Kind::KillInstantly, Kind::RebootProcess, 0).ok()?;
+        orders.push(order).ok()?;
+    }
+    Some(orders)
+}
+
+/// How many of the verdicts strike as ordered, and the microseconds that they took.
+fn timed(rt: &HostRuntime, rounds: u64) -> Option<(u64, u128)> {
+    let alloc = rt.alloc();
+    let map = cluster(alloc)?;
+    let policies = policies(alloc)?;
+    let dead = DeadBook::make(alloc, &map, &policies).ok()?;
+    let book = book(alloc, &map)?;
+    let orders = orders(alloc)?;
+    let mut count = 0;
+    let start = Instant::now(rt).ok()?;
+    for _round in 0..rounds {
+        for order in &orders {
+            if judge(&dead, &book, &map, 0, order).rule.is_none() {
+                count += 1;
+            }
+        }
+    }
+    Some((count, start.elapsed(rt).ok()?.as_micros()))
+}
+
+fn rounds(rt: &HostRuntime) -> Option<u64> {
+    let words: Vec<String> = env::args(rt).ok()?.collect(rt.alloc()).ok()?;
+    words.get(1)?.parse::<u64>().ok()
+}
+
+fn main(rt: HostRuntime) -> ExitCode {
+    let rounds = rounds(&rt).unwrap_or(1);
+    match timed(&rt, rounds) {
+        Some((count, took)) if count == rounds * ORDERS => {
+            let each = took / u128::from(count.max(1));
+            let _ = println!(rt; "{count} verdicts in {took} microseconds, {each} a verdict");
+            ExitCode::SUCCESS
+        }
+        Some((count, _)) => {
+            let _ = println!(rt; "only {count} orders struck as ordered");
+            ExitCode::FAILURE
+        }
+        None => ExitCode::FAILURE,
+    }
+}

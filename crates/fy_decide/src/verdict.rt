@@ -1,0 +1,135 @@
+//! What an actor may do to whom.
+ghost use Rattle.std.specs.Prelude.{◌≡◌, ◌<◌, ℕ, true, length};
+ghost use Rattle.std.specs.FinSet as sets;
+ghost use Rattle.fy_kinds.specs.Kinds.{Deed, Striking, Clogging, only};
+ghost use Rattle.fy_decide.specs.Verdicts.{situation_of, targets, bar, hardest, verdict, first_rule, leave_rules, loss_rules};
+ghost use Rattle.fy_decide.specs.DeadBook.{Casualties};
+ghost use Rattle.fy_grants.specs.Rights.{Rights};
+
+use crate::DeadBook;
+use fy_grants::Book;
+use fy_kinds::{KillOrder, Kind, KindSet, Rule, Target, Verdict};
+use fy_locality::{Map, ProcSet};
+
+/// The kinds, hardest first.
+const HARDEST_FIRST: [Kind; 4] = [
+    Kind::KillInstantly,
+    Kind::RebootAndDelete,
+    Kind::Reboot,
+    Kind::RebootProcess,
+];
+
+/// Why an actor has no leave to do this to the targets.
+fn no_leave(book: &Book, map: &Map, actor: u32, kinds: KindSet, targets: &ProcSet) -> Option<Rule>
+    requires members { (q : ℕ) → sets.contains targets.now q ≡ true → q < length map.now }
+    ensures { (dead : Casualties) (deed : Deed) → dead.processes ≡ map.now → kinds ≡ only deed → result ≡ first_rule (leave_rules (situation_of dead book.now actor) deed (sets.contains targets.now)) }
+{
+    // To be protected from some of one kind is to be protected from it.
+    fy_kinds::laws::one_deed();
+    fy_grants::laws::least_is_first_found();
+    if targets.is_empty() {
+        return Some(Rule::NoTarget);
+    }
+    if let Some(process) = book.uncovered(actor, kinds, map, targets) {
+        return Some(Rule::NoGrant { process });
+    }
+    match book.barred(kinds, targets) {
+        Some(process) => Some(Rule::Protected { process }),
+        None => None,
+    }
+}
+
+/// What replication doesn't bear of a loss of the targets by this kind.
+fn unborne(dead: &DeadBook, kind: Kind, targets: &ProcSet) -> Option<Rule>
+    ensures { (rights : Rights) (actor : ℕ) → result ≡ first_rule (loss_rules (situation_of dead.now rights actor) (Striking kind) (sets.contains targets.now)) }
+{
+    if !kind.is_destroying() {
+        return None;
+    }
+    if let Some(policy) = dead.too_many_destroyed(targets) {
+        return Some(Rule::TooManyDestroyed { policy });
+    }
+    if kind != Kind::KillInstantly {
+        return None;
+    }
+    match dead.too_few_left(targets) {
+        Some(policy) => Some(Rule::TooFewLeft { policy }),
+        None => None,
+    }
+}
+
+/// The bar of a kind of kill.
+fn bar(
+    dead: &DeadBook,
+    book: &Book,
+    map: &Map,
+    actor: u32,
+    kind: Kind,
+    targets: &ProcSet,
+) -> Option<Rule>
+    requires map { map.now ≡ dead.now.processes }
+    requires members { (q : ℕ) → sets.contains targets.now q ≡ true → q < length map.now }
+    ensures { result ≡ bar (situation_of dead.now book.now actor) (Striking kind) (sets.contains targets.now) }
+{
+    match no_leave(book, map, actor, KindSet::of(kind), targets) {
+        Some(rule) => Some(rule),
+        None => unborne(dead, kind, targets),
+    }
+}
+
+/// The hardest kind that an order allows and that has no bar.
+fn strongest(
+    dead: &DeadBook,
+    book: &Book,
+    map: &Map,
+    actor: u32,
+    order: &KillOrder,
+    targets: &ProcSet,
+) -> Option<Kind>
+    requires map { map.now ≡ dead.now.processes }
+    requires members { (q : ℕ) → sets.contains targets.now q ≡ true → q < length map.now }
+    ensures { result ≡ hardest (situation_of dead.now book.now actor) order.now (sets.contains targets.now) }
+{
+    for kind in HARDEST_FIRST {
+        let above = kind.is_above(order.kind());
+        let below = order.floor().is_above(kind);
+        if !above && !below && bar(dead, book, map, actor, kind, targets).is_none() {
+            return Some(kind);
+        }
+    }
+    None
+}
+
+/// The verdict on an order of an actor: the hardest kind, from the ordered one down to its floor, that has no bar at the
+/// order's targets, and the bar of the ordered kind. It changes nothing; the caller strikes. The map is the one that
+/// the dead book was made of. Takes no memory.
+pub fn judge(dead: &DeadBook, book: &Book, map: &Map, actor: u32, order: &KillOrder) -> Verdict
+    requires map { map.now ≡ dead.now.processes }
+    ensures { result ≡ verdict (situation_of dead.now book.now actor) order.now }
+{
+    let targets = dead.targets(map, &order.target());
+    let rule = bar(dead, book, map, actor, order.kind(), &targets);
+    let struck = match rule {
+        None => Some(order.kind()),
+        Some(_) => strongest(dead, book, map, actor, order, &targets),
+    };
+    Verdict { struck, rule }
+}
+
+/// Why an actor may not clog a target: the first three rules. Takes no memory.
+pub fn judge_clog(
+    dead: &DeadBook,
+    book: &Book,
+    map: &Map,
+    actor: u32,
+    target: &Target,
+) -> Option<Rule>
+    requires map { map.now ≡ dead.now.processes }
+    ensures { result ≡ bar (situation_of dead.now book.now actor) Clogging (targets dead.now.processes (sets.contains dead.now.left) target.now) }
+{
+    let targets = dead.targets(map, target);
+    no_leave(book, map, actor, KindSet::of_clog(), &targets)
+}
+
+#[cfg(test)]
+mod tests;
