@@ -86,13 +86,13 @@ impl Yard {
     }
 
     fn protect(&mut self, p: u32, kinds: KindSet) {
-        if p < self.map.len() {
+        if (p as usize) < self.book.processes() {
             self.book.protect(ProcId(p), kinds);
         }
     }
 
     fn unprotect(&mut self, p: u32, kinds: KindSet) {
-        if p < self.map.len() {
+        if (p as usize) < self.book.processes() {
             self.book.unprotect(ProcId(p), kinds);
         }
     }
