@@ -1,5 +1,5 @@
 -- an answer, by what the dead book keeps
-use Rattle.std.proofs.Common.{◌≡◌, ◌∙◌, ◌<◌, ◌≤◌, zero, suc, Bool, true, false, cond, ◌&&◌, ◌||◌, not, eqb, ltb, ℕ, List, [], ◌∷◌, ◌++◌, ◌+◌, length, drop, get_or, refl, sym, ap, subst, arith}
+use Rattle.std.proofs.Common.{◌≡◌, ◌∙◌, ◌<◌, ◌≤◌, zero, suc, Bool, true, false, cond, ◌&&◌, ◌||◌, not, eqb, ℕ, List, [], ◌∷◌, ◌++◌, ◌+◌, length, drop, get_or, refl, sym, ap, arith}
 use Rattle.std.specs.Ordering.{nat_cmp}
 use Rattle.std.specs.FinSet as sets
 use Rattle.std.specs.Cmp.{nat_cmp_total, unsigned_tied}
@@ -15,7 +15,7 @@ use Rattle.faultyard.specs.declared.judge.line.Ask.{Ask}
 use Rattle.faultyard.specs.declared.judge.answer.Answer.{Answer}
 use Rattle.faultyard.specs.declared.judge.answer.Answer.TheVariants.{Yes, No, WasGone}
 use Rattle.faultyard.specs.JudgeLines.{Input}
-use Rattle.faultyard.specs.JudgeTexts.{is_for_good, destroyed_by, gone_by, left_by, answer_of, answers_of, answer_line, answers_text, granted_after}
+use Rattle.faultyard.specs.JudgeTexts.{is_for_good, destroyed_by, gone_by, left_by, answer_of, answers_of, answer_line, granted_after}
 use Rattle.faultyard.specs.JudgeBooks.{Stands}
 
 any-push : (f : Ask → Bool) (xs : List Ask) (a : Ask) → list_any f (xs ++ a ∷ []) ≡ (list_any f xs || f a)

@@ -1,5 +1,5 @@
 -- the next line, by what the parts of the input say
-use Rattle.std.proofs.Common.{◌≡◌, ◌≢◌, ◌∙◌, ◌≤◌, ◌<◌, ◌⊎◌, inl, inr, zero, suc, Bool, true, false, cond, eqb, leb, ℕ, List, [], ◌∷◌, ◌++◌, length, Option, Some, None, refl, sym, ap, subst, arith}
+use Rattle.std.proofs.Common.{◌≡◌, ◌≢◌, ◌∙◌, ◌<◌, ◌⊎◌, inl, inr, Bool, true, false, cond, eqb, leb, ℕ, List, [], ◌∷◌, ◌++◌, length, Option, Some, None, refl, sym, ap, subst, arith}
 use Rattle.std.specs.Prelude.{Result, Ok, Err, IfErr}
 use Rattle.std.specs.List.{AllByRecursion}
 use Rattle.std.specs.Set.{is_member}
@@ -12,7 +12,6 @@ use Rattle.fy_locality.specs.declared.map.MapFault.{MapFault}
 use Rattle.fy_locality.specs.declared.map.MapFault.TheVariants.{Name, Twice, TooMany, NoMemory}
 use Rattle.fy_locality.specs.Locality.{values_of, taken_or_full}
 use Rattle.faultyard.specs.declared.judge.line.Ask.{Ask}
-use Rattle.faultyard.specs.declared.stop.JudgeFault.{JudgeFault}
 use Rattle.fy_policy.specs.declared.fault.PolicyFault.{PolicyFault}
 use Rattle.fy_policy.specs.declared.fault.PolicyFault.TheVariants.{TooLong as PolicyTooLong, Syntax as PolicySyntax, Count as PolicyCount, Depth as PolicyDepth, Nodes as PolicyNodes, NoMemory as PolicyNoMemory}
 use Rattle.fy_policy.specs.Reading.{Reads}

@@ -1,9 +1,9 @@
 -- lines that say something, and the first that doesn't
-use Rattle.std.proofs.Common.{◌≡◌, ◌∙◌, ◌<◌, ◌≤◌, ◌+◌, suc, Bool, true, false, cond, ltb, ℕ, List, [], ◌∷◌, ◌++◌, length, Option, Some, None, refl, sym, ap, subst, arith}
+use Rattle.std.proofs.Common.{◌≡◌, ◌∙◌, ◌<◌, ◌≤◌, ◌+◌, Bool, true, false, cond, ltb, ℕ, List, [], ◌∷◌, ◌++◌, length, Option, Some, None, refl, sym, ap, subst, arith}
 use Rattle.std.specs.Prelude.{Result, Ok, Err, IfErr, IfSome}
 use Rattle.std.specs.List.{position, position_or_len}
 use Rattle.std.proofs.lemmas.Bool.Decides.{nat_tests}
-use Rattle.std.proofs.lemmas.List.{append-nil, append_assoc, length_push}
+use Rattle.std.proofs.lemmas.List.{append-nil, append_assoc}
 use Rattle.fy_decide.specs.DeadBook.{Casualties}
 use Rattle.fy_decide.specs.declared.dead_book.MakeFault.{MakeFault}
 use Rattle.fy_decide.specs.declared.dead_book.MakeFault.TheVariants.{Unmet, NoMemory}
@@ -16,7 +16,7 @@ use Rattle.faultyard.specs.declared.judge.input.LineFault.TheVariants.{Fault, No
 use Rattle.faultyard.specs.JudgeViews.{IfFault, line_stop_of}
 use Rattle.fy_decide.specs.Losses.{first_unmet}
 use Rattle.faultyard.specs.JudgeLines.{Input, nothing, said_of, Step, Says}
-use Rattle.faultyard.specs.JudgeTexts.{most_bytes, FirstFault, IsFaultless, Judges, too_long, line_fault, policy_unmet, IfRefusal, IfUnmet, unmet_stop}
+use Rattle.faultyard.specs.JudgeTexts.{most_bytes, IsFaultless, Judges, too_long, line_fault, policy_unmet, IfRefusal, IfUnmet, unmet_stop}
 
 -- one line more
 pub Says-push : (i : Input) (lines : List (List ℕ)) (j : Input) (line : List ℕ) (k : Input) → Says i lines j → Step j (said_of line) (Ok k) → Says i (lines ++ line ∷ []) k

@@ -1,5 +1,5 @@
 -- what the program's own values of a line say
-use Rattle.std.specs.Prelude.{◌≡◌, ◌≢◌, ℕ, List, [], ◌∷◌}
+use Rattle.std.specs.Prelude.{◌≢◌, ℕ, List}
 use Rattle.std.specs.List.{AllByRecursion}
 use Rattle.faultyard.specs.declared.stop.JudgeFault.{JudgeFault}
 use Rattle.faultyard.specs.declared.stop.Stop.{Stop}

@@ -1,5 +1,5 @@
 -- how many members sixteen words have, and the least
-use Rattle.std.proofs.Common.{◌≡◌, ◌≢◌, ℕ, ◌+◌, ◌*◌, ◌-◌, ◌/◌, ◌%◌, ◌^◌, ◌<◌, ◌≤◌, Bool, true, false, ◌&&◌, List, length, inl, inr, zero, suc, refl, sym, ap, ◌∙◌, arith, cond, eqb, ltb, get_or}
+use Rattle.std.proofs.Common.{◌≡◌, ◌≢◌, ℕ, ◌+◌, ◌*◌, ◌-◌, ◌/◌, ◌%◌, ◌^◌, ◌<◌, ◌≤◌, Bool, true, false, ◌&&◌, List, inl, inr, zero, suc, refl, sym, ap, ◌∙◌, arith, cond, eqb, ltb, get_or}
 use Rattle.std.specs.Ordering.{nat_cmp}
 use Rattle.std.specs.Prelude.{count_ones}
 use lib.Count.{ones, ones_in}
@@ -11,7 +11,7 @@ use Rattle.std.proofs.lemmas.Nat.{ones_cat, mod-pow-add, mod_below}
 use Rattle.std.proofs.Math.Pow.{pow_pos}
 use Rattle.std.proofs.lemmas.Bool.{cases_lt, cases_eq}
 use Rattle.std.proofs.lemmas.Bool.Decides.{nat_tests}
-use Rattle.fy_locality.specs.Members.{has_bit, members, members_below, AreWords, contains-members, contains-members_below, contains-members_at, len-members_below, members_are, IsLeast}
+use Rattle.fy_locality.specs.Members.{has_bit, members, members_below, AreWords, contains-members, contains-members_below, contains-members_at, members_are, IsLeast}
 
 no_ones : count_ones 0 ≡ 0
 unfolding ones ones_in

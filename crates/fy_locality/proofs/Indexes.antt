@@ -1,6 +1,6 @@
 -- an index of the values of a key, after one more process
-use Rattle.std.proofs.Common.{◌≡◌, ℕ, ◌+◌, ◌<◌, ◌≤◌, zero, suc, Bool, true, false, cond, ◌&&◌, ◌||◌, not, List, [], ◌∷◌, ◌++◌, length, Option, Some, None, refl, sym, ap, subst, ◌∙◌, arith, eqb, ltb, leb, inl, inr}
-use Rattle.std.specs.Prelude.{slice_get, option_and_then, unwrap_or, filter, is_some, IsOk, OnOk, Result, Ok, Err}
+use Rattle.std.proofs.Common.{◌≡◌, ℕ, ◌+◌, ◌<◌, ◌≤◌, zero, suc, Bool, true, false, cond, ◌&&◌, ◌||◌, List, [], ◌∷◌, ◌++◌, length, Option, Some, None, refl, sym, ap, subst, ◌∙◌, arith, eqb, leb}
+use Rattle.std.specs.Prelude.{unwrap_or, is_some, IsOk, OnOk, Result, Ok, Err}
 use Rattle.std.specs.Ordering.{nat_cmp}
 use Rattle.std.specs.FinSet as sets
 use Rattle.std.specs.Cmp.{nat_cmp_total, unsigned_tied}
@@ -9,9 +9,8 @@ use Rattle.std.specs.Map.{keys_of, lookup}
 use Rattle.std.specs.Option.{option_eq}
 use Rattle.std.specs.Str.{bytes_eq}
 use Rattle.std.specs.Set.{is_member}
-use Rattle.std.proofs.lemmas.Cmp.{nat_list_eq_equiv}
 use Rattle.std.proofs.lemmas.Slice.Eq.{bytes_eq-Decides}
-use Rattle.std.proofs.lemmas.List.{append-nil, length_push}
+use Rattle.std.proofs.lemmas.List.{length_push}
 use Rattle.std.proofs.lemmas.List.Elements.{filter_map-append}
 use Rattle.std.proofs.lemmas.Bool.Decides.{nat_tests}
 use Rattle.indexmap.specs.IndexSet.{insert_key}
@@ -21,7 +20,7 @@ use Rattle.fy_locality.specs.declared.key.Key.{Key}
 use Rattle.fy_locality.specs.declared.key.Key.TheVariants.{Process, Machine, Zone, DataHall, DataCenter}
 use Rattle.fy_locality.specs.declared.map.MapFault.{MapFault}
 use Rattle.fy_locality.specs.declared.map.MapFault.TheVariants.{Name, Twice, TooMany}
-use Rattle.fy_locality.specs.Locality.{value_in, value_of, has_value, values_of, group_of, are_names, taken_or_full, refusal_of, IsIndex, IsIndexed}
+use Rattle.fy_locality.specs.Locality.{value_in, has_value, values_of, group_of, are_names, taken_or_full, refusal_of, IsIndex, IsIndexed}
 use Rattle.fy_locality.specs.Noted.{noted, Notes}
 use Rattle.fy_locality.proofs.Values.{values_of-push, values_of-nil, no_value}
 

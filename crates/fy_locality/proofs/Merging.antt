@@ -1,6 +1,5 @@
 -- sixteen words merged pair by pair: the set that they stand for
-use Rattle.std.proofs.Common.{◌≡◌, ◌≢◌, ℕ, ◌+◌, ◌-◌, ◌/◌, ◌%◌, ◌^◌, ◌<◌, ◌≤◌, Bool, true, false, ◌&&◌, ◌||◌, not, min, max, List, length, inl, inr, zero, suc, refl, sym, ap, ◌∙◌, arith, cond, eqb, ltb, get_or}
-use Rattle.std.specs.Ordering.{nat_cmp}
+use Rattle.std.proofs.Common.{◌≡◌, ℕ, ◌+◌, ◌-◌, ◌/◌, ◌%◌, ◌^◌, ◌<◌, ◌≤◌, Bool, false, ◌&&◌, ◌||◌, not, min, max, List, length, inl, inr, refl, sym, ap, ◌∙◌, arith, eqb, ltb, get_or}
 use Rattle.std.specs.Prelude.{bit_and, bit_or}
 use Rattle.std.specs.Int.{bit_at, w64}
 use Rattle.std.specs.FinSet as sets

@@ -59,6 +59,7 @@ pub fn answer_asks(
     requires { IsFresh input.now.processes input.now.policies book.old }
     ensures { IfOk result (λ text. text.items ≡ answers_text input.now) }
 {
+    // A map has at most 1024 processes, so the number of each ask fits a set.
     let _processes = input.map().len();
     let mut text = Vec::new(alloc);
     for ask in input.asks() {

@@ -11,6 +11,9 @@ use fy_policy::{Policy, PolicyFault, read_policy};
 use std::alloc::{AllocFailed, Global};
 use std::marker::Model;
 
+/// How many policies an input may have.
+const MOST_POLICIES: usize = 8;
+
 /// Why a line is not taken.
 #[derive(Clone, Copy, PartialEq, Eq, Debug)]
 pub enum LineFault {
@@ -135,7 +138,7 @@ impl Input {
             Ok(policy) => policy,
             Err(fault) => return Err(policy_fault(fault)),
         };
-        if self.policies.len() >= 8 {
+        if self.policies.len() >= MOST_POLICIES {
             return Err(LineFault::Fault(JudgeFault::TooMany));
         }
         self.policies.push(policy)?;

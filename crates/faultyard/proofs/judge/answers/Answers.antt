@@ -1,4 +1,4 @@
-use Rattle.std.proofs.Common.{◌≡◌, ◌∙◌, ℕ, List, Option, Some, None, Ok, Err, ap, sym, subst}
+use Rattle.std.proofs.Common.{◌≡◌, ◌∙◌, ℕ, List, Ok, Err, sym, subst}
 use Rattle.fy_decide.specs.Losses.{first_unmet}
 use Rattle.faultyard.specs.JudgeTexts.{Judges, IsFaultless, IfRefusal, answered}
 use Rattle.faultyard.proofs.LineLemmas.{all_met, unmet_refused}

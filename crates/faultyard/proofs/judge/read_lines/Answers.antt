@@ -1,4 +1,4 @@
-use Rattle.std.proofs.Common.{◌≡◌, ◌∙◌, ◌∷◌, ◌++◌, ◌+◌, ◌≤◌, [], length, refl, ap, sym, subst, arith, Err}
+use Rattle.std.proofs.Common.{◌∙◌, ◌∷◌, ◌++◌, ◌+◌, [], length, refl, ap, sym, subst, arith, Err}
 use Rattle.std.proofs.lemmas.List.{length_push}
 use Rattle.faultyard.specs.JudgeLines.{nothing}
 use Rattle.faultyard.specs.JudgeTexts.{Judges, IfRefusal}

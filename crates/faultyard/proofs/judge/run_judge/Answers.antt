@@ -1,5 +1,5 @@
-use Rattle.std.proofs.Common.{◌≡◌, ◌∙◌, ◌<◌, ℕ, List, length, Ok, Err, refl, ap, sym, subst}
-use Rattle.faultyard.proofs.LineLemmas.{known_long, known_refused, known_answered}
+use Rattle.std.proofs.Common.{Err, ap}
+use Rattle.faultyard.proofs.LineLemmas.{known_long}
 use Rattle.faultyard.proofs.judge.run_judge.Goals as goal
 
 pub returns-in-Err-TooLong-clause-refused : goal.returns-in-Err-TooLong-clause-refused

@@ -1,4 +1,4 @@
-use Rattle.std.proofs.Common.{Some, subst, sym, ap, ◌∙◌}
+use Rattle.std.proofs.Common.{subst, sym, ap, ◌∙◌}
 use Rattle.std.specs.FinSet as sets
 use Rattle.fy_locality.specs.Noted.{Notes}
 use Rattle.fy_locality.proofs.Indexes.{Notes-some, on_ok}

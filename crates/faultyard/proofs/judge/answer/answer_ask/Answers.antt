@@ -1,7 +1,6 @@
 use Rattle.std.proofs.Common.{◌≡◌, ◌∙◌, ◌∷◌, ◌++◌, [], true, ap, sym, subst}
 use Rattle.std.specs.FinSet as sets
 use Rattle.faultyard.specs.JudgeBooks.{Stands}
-use Rattle.faultyard.specs.declared.judge.line.Ask.{Ask}
 use Rattle.faultyard.proofs.AnswerLemmas.{answer_no, answer_yes, stands_after}
 use Rattle.faultyard.proofs.judge.answer.answer_ask.Goals as goal
 

@@ -1,4 +1,4 @@
-use Rattle.std.proofs.Common.{◌≡◌, ◌∙◌, ◌<◌, ◌≤◌, ◌++◌, ◌+◌, ◌∷◌, [], List, length, drop, slice_index_or, refl, ap, sym, subst, arith}
+use Rattle.std.proofs.Common.{◌≡◌, ◌∙◌, ◌<◌, ◌++◌, ◌+◌, [], List, length, drop, slice_index_or, refl, ap, sym, subst}
 use Rattle.std.specs.List.{flat_map, AllByRecursion}
 use Rattle.fy_decide.specs.declared.dead_book.Loss.TheVariants.{Emptied}
 use Rattle.faultyard.specs.JudgeBooks.{Stands}

@@ -1,8 +1,5 @@
-use Rattle.std.proofs.Common.{◌≡◌, ◌∙◌, Option, Some, None, Err, false, ap, sym}
 use Rattle.std.specs.Option.{option_copied}
-use Rattle.fy_locality.specs.declared.map.MapFault.{MapFault}
-use Rattle.fy_locality.specs.declared.map.MapFault.TheVariants.{Name, NoMemory}
-use Rattle.fy_locality.specs.Locality.{locality_of, are_names, refusal_of}
+use Rattle.fy_locality.specs.Locality.{locality_of}
 use Rattle.fy_locality.proofs.Indexes.{no_name, not_true, renamed, unmade}
 use Rattle.fy_locality.proofs.map.Map.add.Goals as goal
 

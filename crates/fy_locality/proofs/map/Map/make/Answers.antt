@@ -1,5 +1,3 @@
-use Rattle.std.proofs.Common.{[], sym, subst}
-use Rattle.fy_locality.specs.Locality.{IsIndexed}
 use Rattle.fy_locality.proofs.Indexes.{IsIndexed-nil, IsIndexed-same}
 use Rattle.fy_locality.proofs.map.Map.make.Goals as goal
 

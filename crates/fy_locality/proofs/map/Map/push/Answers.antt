@@ -1,5 +1,5 @@
-use Rattle.std.proofs.Common.{◌≡◌, ◌∷◌, ◌++◌, ◌∙◌, [], Some, None, length, refl, ap, sym}
-use Rattle.fy_locality.specs.Locality.{IsIndexed, taken_or_full}
+use Rattle.std.proofs.Common.{◌≡◌, ◌∷◌, ◌++◌, ◌∙◌, [], None, length, refl, ap, sym}
+use Rattle.fy_locality.specs.Locality.{taken_or_full}
 use Rattle.fy_locality.proofs.Indexes.{IsIndexed-push, IsIndexed-same, Notes-from}
 use Rattle.fy_locality.proofs.map.Map.push.Goals as goal
 

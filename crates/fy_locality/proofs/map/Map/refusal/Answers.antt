@@ -1,8 +1,7 @@
-use Rattle.std.proofs.Common.{◌≡◌, ◌∙◌, ◌<◌, ◌≤◌, ℕ, length, Bool, true, false, ap, sym, arith, leb}
+use Rattle.std.proofs.Common.{◌∙◌, ap, sym, arith}
 use Rattle.std.specs.Str.{bytes_eq}
 use Rattle.std.specs.Set.{is_member}
-use Rattle.fy_locality.specs.declared.key.Key.TheVariants.{Process}
-use Rattle.fy_locality.specs.Locality.{values_of, taken_or_full}
+use Rattle.fy_locality.specs.Locality.{taken_or_full}
 use Rattle.fy_locality.proofs.Indexes.{is_some-lookup, taken, full, free}
 use Rattle.fy_locality.proofs.map.Map.refusal.Goals as goal
 

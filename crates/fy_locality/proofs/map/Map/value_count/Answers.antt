@@ -1,5 +1,4 @@
 use Rattle.std.proofs.Common.{◌≡◌, ap, ◌∙◌, length, arith}
-use Rattle.std.specs.Map.{keys_of}
 use Rattle.fy_locality.specs.Locality.{values_of}
 use Rattle.fy_locality.proofs.Values.{length-values_of}
 use Rattle.fy_locality.proofs.Indexes.{length-keys}

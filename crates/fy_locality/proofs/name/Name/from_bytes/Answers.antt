@@ -1,4 +1,4 @@
-use Rattle.std.proofs.Common.{subst, sym, ◌++◌, ◌∙◌, length, drop, List, ℕ}
+use Rattle.std.proofs.Common.{subst, sym, ◌++◌, length, drop, List, ℕ}
 use Rattle.std.specs.Prelude.{replicate}
 use Rattle.fy_locality.specs.Name.{IsStored}
 use Rattle.fy_locality.proofs.NameLemmas.{IsStored-made}

@@ -1,4 +1,4 @@
-use Rattle.std.proofs.Common.{◌<◌, ap, sym, subst, ◌∙◌}
+use Rattle.std.proofs.Common.{◌<◌, sym, subst}
 use Rattle.std.specs.FinSet as sets
 use Rattle.fy_locality.proofs.Counting.{len-without_least}
 use Rattle.fy_locality.proofs.processes.ProcessesIterator.next.Goals as goal

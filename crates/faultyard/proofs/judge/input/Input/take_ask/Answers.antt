@@ -1,5 +1,5 @@
-use Rattle.std.proofs.Common.{◌≡◌, ◌≢◌, ◌∷◌, ◌++◌, ◌∙◌, [], List, Some, Ok, Err, true, length, ap, sym, subst, true≢false, arith}
-use Rattle.faultyard.specs.declared.stop.JudgeFault.TheVariants.{Syntax, Policy, TooMany, Unknown}
+use Rattle.std.proofs.Common.{Some, Ok, Err, sym, subst}
+use Rattle.faultyard.specs.declared.stop.JudgeFault.TheVariants.{Syntax, Unknown}
 use Rattle.faultyard.specs.JudgeLines.{Input, ask, Step, ask_early, ask_unknown, ask_next}
 use Rattle.faultyard.proofs.InputLemmas.{untrue}
 use Rattle.faultyard.proofs.judge.input.Input.take_ask.Goals as goal

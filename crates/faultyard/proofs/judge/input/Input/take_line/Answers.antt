@@ -1,4 +1,4 @@
-use Rattle.std.proofs.Common.{◌≡◌, ◌∙◌, Some, None, ap, sym, subst}
+use Rattle.std.proofs.Common.{◌∙◌, Some, ap, sym}
 use Rattle.faultyard.proofs.InputLemmas.{lone_unsaid, keyword_unsaid}
 use Rattle.faultyard.specs.JudgeLines.{words_of}
 use Rattle.faultyard.proofs.WordLemmas.{nothing_said}

@@ -1,9 +1,8 @@
-use Rattle.std.proofs.Common.{◌≡◌, ◌≢◌, ◌∷◌, ◌++◌, ◌∙◌, [], List, Some, Ok, Err, true, length, ap, sym, subst, true≢false, arith}
-use Rattle.faultyard.specs.declared.stop.JudgeFault.TheVariants.{Syntax, Policy, TooMany, Unknown}
+use Rattle.std.proofs.Common.{Some, Ok, Err, sym, subst}
+use Rattle.faultyard.specs.declared.stop.JudgeFault.TheVariants.{Syntax}
 use Rattle.faultyard.specs.JudgeLines.{Input, process, Step, process_early, process_late, process_next}
 use Rattle.faultyard.specs.JudgeViews.{IfFault, process_fault_of}
-use Rattle.fy_locality.specs.Locality.{taken_or_full}
-use Rattle.faultyard.proofs.InputLemmas.{untrue, settled, unrefused, no_bad_name, process_refused, empty_list, full_list}
+use Rattle.faultyard.proofs.InputLemmas.{settled, unrefused, no_bad_name, process_refused, empty_list, full_list}
 use Rattle.faultyard.proofs.judge.input.Input.take_process.Goals as goal
 
 pub returns-then-is_empty-clause-refused : goal.returns-then-is_empty-clause-refused
