@@ -1,0 +1,140 @@
+//! The disk itself.
+ghost use Rattle.std.specs.Prelude.{◌≡◌, ◌≤◌, [], ◌∷◌, ◌++◌, length, take, drop, vec_len, slice_get, IfOk, IfErr, OnOk};
+ghost use Rattle.std.specs.Option.{option_copied};
+ghost use Rattle.fy_disk.specs.Disk.{outlives, survivors};
+
+use crate::Item;
+use std::alloc::Global;
+use std::marker::Model;
+
+/// The items of one process, each in order of writing: first those synced, then those not yet synced.
+#[derive(Drop)]
+pub struct Disk {
+    items: Vec<Item>,
+    synced: usize,
+}
+
+impl Model for Disk {
+    ghost use Rattle.std.specs.Prelude.{◌≤◌, take, drop, length};
+    ghost use Rattle.fy_disk.specs.Disk.{Stored};
+
+    ghost Value = { Stored };
+
+    ghost view = { λ d. record { synced = take d.synced d.items.items; unsynced = drop d.synced d.items.items } };
+
+    ghost invariant = { λ d. d.synced ≤ length d.items.items };
+}
+
+impl Disk {
+    /// A disk with nothing on it.
+    pub fn make(alloc: Global) -> Disk
+        ensures { result ≡ record { synced = []; unsynced = [] } }
+    {
+        Disk {
+            items: Vec::new(alloc),
+            synced: 0,
+        }
+    }
+
+    /// Writes an item behind all others. It isn't synced yet.
+    ///
+    /// Where the memory for it is refused, the item is handed back and the disk stays as it was.
+    pub fn write(&mut self, item: Item) -> Result<(), Item>
+        ensures written { OnOk result (self.new ≡ record { synced = self.old.synced; unsynced = self.old.unsynced ++ item ∷ [] }) }
+        ensures refused { IfErr result (λ back. (back ≡ item) × (self.new ≡ self.old)) }
+    {
+        match self.items.push(item) {
+            Ok(()) => Ok(()),
+            Err(refused) => Err(refused.value),
+        }
+    }
+
+    /// Syncs every unsynced item, and says how many they were.
+    pub fn sync(&mut self) -> usize
+        ensures count { result ≡ length self.old.unsynced }
+        ensures moved { self.new ≡ record { synced = self.old.synced ++ self.old.unsynced; unsynced = [] } }
+    {
+        let count = self.unsynced_len();
+        self.synced = self.items.len();
+        count
+    }
+
+    /// Crashes: of the unsynced items those stay, and count as synced, whose place among them (from 0) is below 64 and
+    /// has a 1 in `tear`. The others are lost.
+    pub fn crash(&mut self, tear: u64)
+        ensures { self.new ≡ record { synced = self.old.synced ++ survivors tear self.old.unsynced; unsynced = [] } }
+    {
+        keep_survivors(&mut self.items, self.synced, tear);
+        self.synced = self.items.len();
+    }
+
+    /// Loses everything.
+    pub fn wipe(&mut self)
+        ensures { self.new ≡ record { synced = []; unsynced = [] } }
+    {
+        self.items.clear();
+        self.synced = 0;
+    }
+
+    /// A synced item by its place, from 0.
+    pub fn durable(&self, place: usize) -> Option<&Item>
+        ensures { option_copied result ≡ slice_get self.now.synced place }
+    {
+        self.synced_items().get(place)
+    }
+
+    /// An unsynced item by its place among the unsynced ones, from 0.
+    pub fn pending(&self, place: usize) -> Option<&Item>
+        ensures { option_copied result ≡ slice_get self.now.unsynced place }
+    {
+        self.unsynced_items().get(place)
+    }
+
+    /// How many items are synced.
+    pub fn synced_len(&self) -> usize
+        ensures { result ≡ length self.now.synced }
+    {
+        self.synced_items().len()
+    }
+
+    /// How many items aren't synced yet.
+    pub fn unsynced_len(&self) -> usize
+        ensures { result ≡ length self.now.unsynced }
+    {
+        self.unsynced_items().len()
+    }
+
+    fn synced_items(&self) -> &[Item]
+        ensures { result.now ≡ self.now.synced }
+    {
+        &self.items[..self.synced]
+    }
+
+    fn unsynced_items(&self) -> &[Item]
+        ensures { result.now ≡ self.now.unsynced }
+    {
+        &self.items[self.synced..]
+    }
+}
+
+/// Whether the unsynced item at a place outlives a crash.
+fn outlives_crash(tear: u64, place: usize) -> bool
+    ensures { result ≡ outlives tear place }
+{
+    place < 64 && (tear >> place) & 1 == 1
+}
+
+/// Drops those of the items from `synced` on that don't outlive a crash, and closes the gaps.
+fn keep_survivors(items: &mut Vec<Item>, synced: usize, tear: u64)
+    requires { synced ≤ length items.old.items }
+    ensures { items.new.items ≡ take synced items.old.items ++ survivors tear (drop synced items.old.items) }
+{
+    let mut kept = synced;
+    for at in synced..items.len() {
+        if outlives_crash(tear, at - synced) {
+            items.swap(kept, at);
+            kept += 1;
+        }
+    }
+    items.truncate(kept);
+}
