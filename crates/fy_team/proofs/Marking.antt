@@ -1,5 +1,5 @@
 -- flags as a set of numbers, and who has marked a record
-use Rattle.std.proofs.Common.{◌≡◌, ◌↔◌, ◌≢◌, ℕ, zero, suc, ◌+◌, ◌-◌, ◌<◌, ◌≤◌, Bool, true, false, cond, ◌&&◌, ◌||◌, eqb, leb, List, [], ◌∷◌, length, get_or, set, replicate, refl, sym, ap, ◌∙◌, arith}
+use Rattle.std.proofs.Common.{◌≡◌, ◌↔◌, ◌≢◌, ℕ, zero, suc, ◌+◌, ◌-◌, ◌<◌, ◌≤◌, Bool, true, false, cond, ◌&&◌, ◌||◌, eqb, leb, List, [], ◌∷◌, ◌++◌, length, get_or, set, replicate, refl, sym, ap, ◌∙◌, arith}
 use Rattle.std.specs.Prelude.{Option, Some, None, slice_get}
 use Rattle.std.specs.List.{All, list_all}
 use Rattle.std.specs.Option.{option_map_or}
@@ -10,7 +10,8 @@ use Rattle.std.proofs.lemmas.Bool.Decides.{nat_tests}
 use Rattle.std.proofs.lemmas.List.Elements.{All-cons, All-head, All-tail}
 use Rattle.fy_locality.specs.declared.ProcId.{ProcId}
 use Rattle.fy_team.specs.Marks.{set_from, set_of}
-use Rattle.fy_team.specs.Teams.{Roster, Record, is_acked, IsAcked, all_marked, members_of}
+use Rattle.std.proofs.lemmas.Option.{slice_get-get_or}
+use Rattle.fy_team.specs.Teams.{Roster, Record, marked_by, begun_for, is_marked, is_acked, IsAcked, all_marked, members_of}
 
 -- the flag of a number, where the first flag is that of the number given
 flag_at : ℕ → List Bool → ℕ → Bool
@@ -130,3 +131,74 @@ acked-IsAcked roster rec = (forth (slice_get roster.records rec) refl, back)
         ap (λ found. option_map_or (λ it. option_map_or (all_marked it.marks) (members_of roster it.team) false) found false) h.there
         ∙ ap (λ members. option_map_or (all_marked h.held.marks) members false) h.team
         ∙ marked_each h.held.marks h.members h.marked
+
+-- ---- what a mark changes
+
+slice_get-set : {X : Type 0} (xs : List X) (i r : ℕ) (x : X) → i < length xs → slice_get (set xs i x) r ≡ cond (eqb r i) (Some x) (slice_get xs r)
+slice_get-set [] i r x within = absurd (omega arith)
+slice_get-set (y ∷ ys) zero zero x within = refl
+slice_get-set (y ∷ ys) zero (suc r) x within = ap (λ b. cond b (Some x) (slice_get ys r)) (let e : false ≡ eqb (suc r) 0 = grind (arith, nat_tests) in e)
+slice_get-set (y ∷ ys) (suc i) zero x within = ap (λ b. cond b (Some x) (Some y)) (let e : false ≡ eqb 0 (suc i) = grind (arith, nat_tests) in e)
+slice_get-set (y ∷ ys) (suc i) (suc r) x within = slice_get-set ys i r x (omega arith) ∙ ap (λ b. cond b (Some x) (slice_get ys r)) (let e : eqb r i ≡ eqb (suc r) (suc i) = grind (arith, nat_tests) in e)
+
+abbrev with_mark : ℕ → Record → Record
+with_mark p it = record it { marks = sets.insert it.marks p }
+
+pub marked-teams : (roster : Roster) (rec p : ℕ) → (marked_by rec p roster).teams ≡ roster.teams
+marked-teams roster rec p = go (slice_get roster.records rec)
+  where
+    go : (found : Option Record) → (option_map_or (λ it. record roster { records = set roster.records rec (record it { marks = sets.insert it.marks p }) }) found roster).teams ≡ roster.teams
+    go None = refl
+    go (Some it) = refl
+
+pub marked-marks : (roster : Roster) (rec p r q : ℕ) → rec < length roster.records → is_marked (marked_by rec p roster) r q ≡ ((eqb r rec && eqb q p) || is_marked roster r q)
+marked-marks roster rec p r q within = go (slice_get roster.records rec) refl
+  where
+    none : slice_get roster.records rec ≡ None → ⊥
+    none e = let is : slice_get roster.records rec ≡ Some (get_or roster.records rec (record { team = 0; payload = []; marks = sets.empty })) = slice_get-get_or roster.records rec (record { team = 0; payload = []; marks = sets.empty }) within in let x : ⊥ = cc in x
+
+    after : (it : Record) → slice_get roster.records rec ≡ Some it → (b : Bool) → eqb r rec ≡ b → option_map_or (λ held. sets.contains held.marks q) (cond b (Some (with_mark p it)) (slice_get roster.records r)) false ≡ ((b && eqb q p) || option_map_or (λ held. sets.contains held.marks q) (slice_get roster.records r) false)
+    after it is true e =
+        sets.contains-insert nat_cmp_total it.marks p q
+        ∙ ap (λ b. b || sets.contains it.marks q) (unsigned_tied q p)
+        ∙ ap (λ found. eqb q p || option_map_or (λ (held : Record). sets.contains held.marks q) found false) (sym is ∙ ap (slice_get roster.records) (sym (same_number r rec e)))
+    after it is false e = refl
+
+    go : (found : Option Record) → slice_get roster.records rec ≡ found → option_map_or (λ it. sets.contains it.marks q) (slice_get (option_map_or (λ it. record roster { records = set roster.records rec (record it { marks = sets.insert it.marks p }) }) found roster).records r) false ≡ ((eqb r rec && eqb q p) || is_marked roster r q)
+    go None is = absurd (none is)
+    go (Some it) is = ap (λ found. option_map_or (λ (held : Record). sets.contains held.marks q) found false) (slice_get-set roster.records rec r (record it { marks = sets.insert it.marks p }) within) ∙ after it is (eqb r rec) refl
+
+insert_present : (s : sets.FinSet nat_cmp) (p : ℕ) → sets.contains s p ≡ true → sets.insert s p ≡ s
+insert_present s p there = sets.same_set nat_cmp_total sets.nat_cmp-IsAntisymmetric _ _ (λ q. sets.contains-insert nat_cmp_total s p q ∙ ap (λ b. b || sets.contains s q) (unsigned_tied q p) ∙ go q (eqb q p) refl)
+  where
+    go : (q : ℕ) (b : Bool) → eqb q p ≡ b → (b || sets.contains s q) ≡ sets.contains s q
+    go q true e = sym there ∙ ap (sets.contains s) (sym (same_number q p e))
+    go q false e = refl
+
+set_same : {X : Type 0} (xs : List X) (i : ℕ) (x : X) → slice_get xs i ≡ Some x → set xs i x ≡ xs
+set_same [] i x is = refl
+set_same (y ∷ ys) zero x is = ap (λ z. z ∷ ys) (let e : x ≡ y = cc in e)
+set_same (y ∷ ys) (suc i) x is = ap (λ zs. y ∷ zs) (set_same ys i x is)
+
+-- a mark that is there already changes nothing
+pub marked-again : (roster : Roster) (rec p : ℕ) → is_marked roster rec p ≡ true → marked_by rec p roster ≡ roster
+marked-again roster rec p there = go (slice_get roster.records rec) refl there
+  where
+    go : (found : Option Record) → slice_get roster.records rec ≡ found → option_map_or (λ it. sets.contains it.marks p) found false ≡ true → option_map_or (λ it. record roster { records = set roster.records rec (record it { marks = sets.insert it.marks p }) }) found roster ≡ roster
+    go None is e = refl
+    go (Some it) is e =
+        ap (λ marks. record roster { records = set roster.records rec (record it { marks = marks }) }) (insert_present it.marks p e)
+        ∙ ap (λ records. record roster { records = records }) (set_same roster.records rec it is)
+
+abbrev marked_in : Option Record → ℕ → Bool
+marked_in found q = option_map_or (λ (held : Record). sets.contains held.marks q) found false
+
+-- nobody has marked a record that was just begun
+pub begun-marks : (roster : Roster) (team : ℕ) (payload : List ℕ) (r q : ℕ) → is_marked (begun_for team payload roster) r q ≡ is_marked roster r q
+begun-marks roster team payload r q = go roster.records r
+  where
+    go : (records : List Record) (r : ℕ) → marked_in (slice_get (records ++ record { team = team; payload = payload; marks = sets.empty } ∷ []) r) q ≡ marked_in (slice_get records r) q
+    go [] zero = sets.contains-empty nat_cmp q
+    go [] (suc r) = refl
+    go (it ∷ records) zero = refl
+    go (it ∷ records) (suc r) = go records r

@@ -21,28 +21,30 @@ pub both : (a b : Bool) → (a && b) ≡ true → (a ≡ true) × (b ≡ true)
 both true b e = (refl, e)
 both false b e = absurd (let x : ⊥ = cc in x)
 
+no_less : (low q : ℕ) → leb low q ≡ true → low ≤ q
+no_less low q e = grind (arith, nat_tests)
+
 -- what is left of the test from a place on
 pub rises-at : (low : ℕ) (ps : List ProcId) (k : ℕ) (d : ProcId) → k < length ps → rises_from low (drop k ps) ≡ (leb low (get_or ps k d).0 && rises_from ((get_or ps k d).0 + 1) (drop (suc k) ps))
 rises-at low ps k d within = ap (rises_from low) (drop-cons ps k d within)
 
 least_at : (low : ℕ) (ps : List ProcId) (k : ℕ) (d : ProcId) → rises_from low ps ≡ true → k < length ps → low ≤ (get_or ps k d).0
 least_at low [] k d rising within = absurd (omega arith)
-least_at low (p ∷ ps) zero d rising within = let e : leb low p.0 ≡ true = (both _ _ rising).0 in grind (arith, nat_tests)
+least_at low (p ∷ ps) zero d rising within = no_less low p.0 (both (leb low p.0) (rises_from (p.0 + 1) ps) rising).0
 least_at low (p ∷ ps) (suc k) d rising within =
-    let e : leb low p.0 ≡ true = (both _ _ rising).0 in
-    let here : low ≤ p.0 = grind (arith, nat_tests) in
-    let rest : rises_from (p.0 + 1) ps ≡ true = (both _ _ rising).1 in
+    let first : (leb low p.0 ≡ true) × (rises_from (p.0 + 1) ps ≡ true) = both (leb low p.0) (rises_from (p.0 + 1) ps) rising in
     let within' : k < length ps = omega arith in
-    let there : p.0 + 1 ≤ (get_or ps k d).0 = least_at (p.0 + 1) ps k d rest within' in
+    let here : low ≤ p.0 = no_less low p.0 first.0 in
+    let there : p.0 + 1 ≤ (get_or ps k d).0 = least_at (p.0 + 1) ps k d first.1 within' in
     omega arith
 
 rises-between : (low : ℕ) (ps : List ProcId) → rises_from low ps ≡ true → (i j : ℕ) (d : ProcId) → i < j → j < length ps → (get_or ps i d).0 < (get_or ps j d).0
 rises-between low [] rising i j d lt within = absurd (omega arith)
 rises-between low (p ∷ ps) rising i zero d lt within = absurd (omega arith)
 rises-between low (p ∷ ps) rising zero (suc j) d lt within =
-    let rest : rises_from (p.0 + 1) ps ≡ true = (both _ _ rising).1 in
+    let first : (leb low p.0 ≡ true) × (rises_from (p.0 + 1) ps ≡ true) = both (leb low p.0) (rises_from (p.0 + 1) ps) rising in
     let within' : j < length ps = omega arith in
-    let there : p.0 + 1 ≤ (get_or ps j d).0 = least_at (p.0 + 1) ps j d rest within' in
+    let there : p.0 + 1 ≤ (get_or ps j d).0 = least_at (p.0 + 1) ps j d first.1 within' in
     omega arith
 rises-between low (p ∷ ps) rising (suc i) (suc j) d lt within = rises-between (p.0 + 1) ps (both _ _ rising).1 i j d (omega arith) (omega arith)
 
