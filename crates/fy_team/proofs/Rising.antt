@@ -1,7 +1,7 @@
 -- members that rise, and teams that satisfy their policies
-use Rattle.std.proofs.Common.{◌≡◌, ◌↔◌, ℕ, zero, suc, ◌+◌, ◌<◌, ◌≤◌, Bool, true, false, cond, not, ◌&&◌, ◌||◌, eqb, leb, List, [], ◌∷◌, ◌++◌, length, get_or, take, drop, refl, sym, ap, subst, ◌∙◌, arith, IsTrue}
+use Rattle.std.proofs.Common.{◌≡◌, ◌↔◌, ℕ, zero, suc, ◌+◌, ◌<◌, ◌≤◌, Bool, true, false, cond, ◌&&◌, ◌||◌, eqb, leb, List, [], ◌∷◌, ◌++◌, length, get_or, drop, refl, ap, ◌∙◌, arith}
 use Rattle.std.specs.Prelude.{Option, Some, None, slice_get}
-use Rattle.std.specs.List.{All, AllByRecursion, AllPairs, list_any}
+use Rattle.std.specs.List.{All, AllPairs, list_any}
 use Rattle.std.specs.Ordering.{nat_cmp}
 use Rattle.std.specs.FinSet as sets
 use Rattle.std.proofs.lemmas.Bool.Decides.{nat_tests}
@@ -12,8 +12,7 @@ use Rattle.fy_locality.specs.declared.locality.Locality.{Locality}
 use Rattle.fy_policy.specs.Tree.{Tree}
 use Rattle.fy_policy.specs.Sat.{Sat, satisfies}
 use Rattle.fy_team.specs.Teams.{Team, rises_from, are_members, is_among, IsFormed, AreFormed, unfit}
-use Rattle.fy_team.specs.declared.fault.TeamFault.{TeamFault}
-use Rattle.fy_team.specs.declared.fault.TeamFault.TheVariants.{NoPolicy, NoProcess, Gone, TeamShort}
+use Rattle.fy_team.specs.declared.fault.TeamFault.TheVariants.{NoProcess, Gone, TeamShort}
 
 -- ---- rising numbers
 

@@ -48,11 +48,7 @@ impl Drop for KeptRecord {
 
 impl KeptRecord {
     /// A record without marks, and with the room for all of them.
-    pub(crate) fn make(
-        alloc: Global,
-        team: u32,
-        payload: Payload,
-    ) -> Result<KeptRecord, AllocError>
+    pub(crate) fn make(alloc: Global, team: u32, payload: Payload) -> Result<KeptRecord, AllocError>
         ensures { IfOk result (λ made. made ≡ record { team = team; payload = payload; marks = sets.empty }) }
     {
         let marks = no_marks(alloc)?;

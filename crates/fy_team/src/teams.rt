@@ -6,10 +6,9 @@ ghost use Rattle.fy_team.specs.declared.fault.TeamFault.{TeamFault};
 ghost use Rattle.fy_team.specs.declared.fault.TeamFault.TheVariants.{NoMemory};
 
 use crate::forming::unfit;
-use crate::laws;
 use crate::record::KeptRecord;
 use crate::team::KeptTeam;
-use crate::{Members, TeamFault};
+use crate::{Members, TeamFault, laws};
 use fy_disk::Payload;
 use fy_locality::{Map, ProcId, ProcSet};
 use fy_policy::Policy;

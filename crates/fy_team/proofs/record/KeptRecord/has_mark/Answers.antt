@@ -1,4 +1,4 @@
-use Rattle.std.proofs.Common.{◌≡◌, ◌≤◌, false, get_or, ap, sym, ◌∙◌, arith}
+use Rattle.std.proofs.Common.{◌≤◌, false, get_or, ap, sym, ◌∙◌, arith}
 use Rattle.std.specs.FinSet as sets
 use Rattle.fy_team.specs.Teams.{Record}
 use Rattle.fy_team.proofs.Marking.{contains-set_of}

@@ -1,4 +1,4 @@
-use Rattle.std.proofs.Common.{sym, ap, ◌∙◌, arith}
+use Rattle.std.proofs.Common.{ap, ◌∙◌, arith}
 use Rattle.std.specs.FinSet as sets
 use Rattle.fy_team.specs.Teams.{Record}
 use Rattle.fy_team.proofs.Marking.{set_of-set}

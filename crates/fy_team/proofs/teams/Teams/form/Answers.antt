@@ -1,6 +1,6 @@
-use Rattle.std.proofs.Common.{◌≡◌, ap, sym, subst, ◌∙◌, [], ◌∷◌, ◌++◌}
+use Rattle.std.proofs.Common.{◌≡◌, ap, sym, subst, ◌∙◌}
 use Rattle.std.specs.Prelude.{None, slice_get}
-use Rattle.fy_team.specs.Teams.{Roster, Team, IsFormed, AreFormed, unfit}
+use Rattle.fy_team.specs.Teams.{Roster, Team, AreFormed, unfit}
 use Rattle.fy_team.proofs.Rising.{AreFormed-push}
 use Rattle.fy_team.proofs.teams.Teams.form.Goals as goal
 
