@@ -10,19 +10,20 @@ use std::marker::Model;
 /// The items of one process, each in order of writing: first those synced, then those not yet synced.
 #[derive(Drop)]
 pub struct Disk {
-    items: Vec<Item>,
-    synced: usize,
+    synced: Vec<Item>,
+    unsynced: Vec<Item>,
 }
 
 impl Model for Disk {
-    ghost use Rattle.std.specs.Prelude.{◌≤◌, take, drop, length};
+    ghost use Rattle.std.specs.Prelude.{◌≤◌, ◌+◌, vec_len};
+    ghost use Rattle.std.specs.Vec.{vec_capacity};
     ghost use Rattle.fy_disk.specs.Disk.{Stored};
 
     ghost Value = { Stored };
 
-    ghost view = { λ d. record { synced = take d.synced d.items.items; unsynced = drop d.synced d.items.items } };
+    ghost view = { λ d. record { synced = d.synced.items; unsynced = d.unsynced.items } };
 
-    ghost invariant = { λ d. d.synced ≤ length d.items.items };
+    ghost invariant = { λ d. vec_len d.synced + vec_len d.unsynced ≤ vec_capacity d.synced };
 }
 
 impl Disk {
@@ -31,8 +32,8 @@ impl Disk {
         ensures { result ≡ record { synced = []; unsynced = [] } }
     {
         Disk {
-            items: Vec::new(alloc),
-            synced: 0,
+            synced: Vec::new(alloc),
+            unsynced: Vec::new(alloc),
         }
     }
 
@@ -43,7 +44,11 @@ impl Disk {
         ensures written { OnOk result (self.new ≡ record { synced = self.old.synced; unsynced = self.old.unsynced ++ item ∷ [] }) }
         ensures refused { IfErr result (λ back. (back ≡ item) × (self.new ≡ self.old)) }
     {
-        match self.items.push(item) {
+        // A place among the synced items too, so that no later sync takes memory.
+        if self.synced.reserve(self.unsynced.len() + 1).is_err() {
+            return Err(item);
+        }
+        match self.unsynced.push(item) {
             Ok(()) => Ok(()),
             Err(refused) => Err(refused.value),
         }
@@ -54,8 +59,8 @@ impl Disk {
         ensures count { result ≡ length self.old.unsynced }
         ensures moved { self.new ≡ record { synced = self.old.synced ++ self.old.unsynced; unsynced = [] } }
     {
-        let count = self.unsynced_len();
-        self.synced = self.items.len();
+        let count = self.unsynced.len();
+        let _ = self.synced.append(&mut self.unsynced);
         count
     }
 
@@ -64,56 +69,44 @@ impl Disk {
     pub fn crash(&mut self, tear: u64)
         ensures { self.new ≡ record { synced = self.old.synced ++ survivors tear self.old.unsynced; unsynced = [] } }
     {
-        keep_survivors(&mut self.items, self.synced, tear);
-        self.synced = self.items.len();
+        keep_survivors(&mut self.unsynced, tear);
+        let _ = self.synced.append(&mut self.unsynced);
     }
 
     /// Loses everything.
     pub fn wipe(&mut self)
         ensures { self.new ≡ record { synced = []; unsynced = [] } }
     {
-        self.items.clear();
-        self.synced = 0;
+        self.synced.clear();
+        self.unsynced.clear();
     }
 
     /// A synced item by its place, from 0.
     pub fn durable(&self, place: usize) -> Option<&Item>
         ensures { option_copied result ≡ slice_get self.now.synced place }
     {
-        self.synced_items().get(place)
+        self.synced.get(place)
     }
 
     /// An unsynced item by its place among the unsynced ones, from 0.
     pub fn pending(&self, place: usize) -> Option<&Item>
         ensures { option_copied result ≡ slice_get self.now.unsynced place }
     {
-        self.unsynced_items().get(place)
+        self.unsynced.get(place)
     }
 
     /// How many items are synced.
     pub fn synced_len(&self) -> usize
         ensures { result ≡ length self.now.synced }
     {
-        self.synced_items().len()
+        self.synced.len()
     }
 
     /// How many items aren't synced yet.
     pub fn unsynced_len(&self) -> usize
         ensures { result ≡ length self.now.unsynced }
     {
-        self.unsynced_items().len()
-    }
-
-    fn synced_items(&self) -> &[Item]
-        ensures { result.now ≡ self.now.synced }
-    {
-        &self.items[..self.synced]
-    }
-
-    fn unsynced_items(&self) -> &[Item]
-        ensures { result.now ≡ self.now.unsynced }
-    {
-        &self.items[self.synced..]
+        self.unsynced.len() // those that a crash may tear off
     }
 }
 
@@ -124,14 +117,14 @@ fn outlives_crash(tear: u64, place: usize) -> bool
     place < 64 && (tear >> place) & 1 == 1
 }
 
-/// Drops those of the items from `synced` on that don't outlive a crash, and closes the gaps.
-fn keep_survivors(items: &mut Vec<Item>, synced: usize, tear: u64)
-    requires { synced ≤ length items.old.items }
-    ensures { items.new.items ≡ take synced items.old.items ++ survivors tear (drop synced items.old.items) }
+/// Drops those of the items that don't outlive a crash, and closes the gaps.
+fn keep_survivors(items: &mut Vec<Item>, tear: u64)
+    ensures kept { items.new.items ≡ survivors tear items.old.items }
+    ensures fewer { vec_len items.new ≤ vec_len items.old }
 {
-    let mut kept = synced;
-    for at in synced..items.len() {
-        if outlives_crash(tear, at - synced) {
+    let mut kept = 0;
+    for at in 0..items.len() {
+        if outlives_crash(tear, at) {
             items.swap(kept, at);
             kept += 1;
         }

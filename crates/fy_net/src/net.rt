@@ -77,11 +77,13 @@ impl Net {
         Ok(())
     }
 
-    /// Sends a message and answers its number. It uses up one place of the room.
+    /// Sends a message and answers its number, which is beyond each number given out before. It uses up one place of the
+    /// room.
     pub fn send(&mut self, body: Body) -> u64
         requires room { 0 < self.old.room }
         requires process { process_of body < length self.old.until }
         ensures number { result ≡ self.old.sent }
+        ensures unused { All (λ message. message.number < result) self.old.in_flight }
         ensures sent { self.new ≡ sent_on body self.old }
     {
         let number = self.sent;

@@ -11,7 +11,7 @@ use Rattle.fy_locality.specs.declared.ProcId.{ProcId}
 use Rattle.fy_locality.specs.declared.locality.Locality.{Locality}
 use Rattle.fy_policy.specs.Tree.{Tree}
 use Rattle.fy_policy.specs.Sat.{Sat, satisfies}
-use Rattle.fy_team.specs.Teams.{Team, rises_from, are_members, is_among, IsFormed, AreFormed, unfit}
+use Rattle.fy_team.specs.Teams.{Team, is_among, IsFormed, AreFormed, unfit}
 use Rattle.fy_team.specs.declared.fault.TeamFault.TheVariants.{NoProcess, Gone, TeamShort}
 
 -- ---- rising numbers
@@ -22,6 +22,11 @@ both false b e = absurd (let x : ⊥ = cc in x)
 
 no_less : (low q : ℕ) → leb low q ≡ true → low ≤ q
 no_less low q e = grind (arith, nat_tests)
+
+-- the numbers rise, the first being no less than low
+abbrev pub rises_from : ℕ → List ProcId → Bool
+rises_from low [] = true
+rises_from low (p ∷ ps) = leb low p.0 && rises_from (p.0 + 1) ps
 
 -- what is left of the test from a place on
 pub rises-at : (low : ℕ) (ps : List ProcId) (k : ℕ) (d : ProcId) → k < length ps → rises_from low (drop k ps) ≡ (leb low (get_or ps k d).0 && rises_from ((get_or ps k d).0 + 1) (drop (suc k) ps))
@@ -47,8 +52,21 @@ rises-between low (p ∷ ps) rising zero (suc j) d lt within =
     omega arith
 rises-between low (p ∷ ps) rising (suc i) (suc j) d lt within = rises-between (p.0 + 1) ps (both _ _ rising).1 i j d (omega arith) (omega arith)
 
-pub members-rise : (ps : List ProcId) → are_members ps ≡ true → AllPairs (λ p q. p.0 < q.0) ps
-members-rise ps valid = rises-between 0 ps (both _ _ valid).1
+tested : (low q : ℕ) → low ≤ q → leb low q ≡ true
+tested low q le = grind (arith, nat_tests)
+
+pub untested : (low q : ℕ) → q < low → leb low q ≡ false
+untested low q lt = grind (arith, nat_tests)
+
+from_pairs : (low : ℕ) (ps : List ProcId) → ((d : ProcId) → 0 < length ps → low ≤ (get_or ps 0 d).0) → AllPairs (λ p q. p.0 < q.0) ps → rises_from low ps ≡ true
+from_pairs low [] first rising = refl
+from_pairs low (p ∷ ps) first rising =
+    ap (λ b. b && rises_from (p.0 + 1) ps) (tested low p.0 (first p (omega arith)))
+    ∙ from_pairs (p.0 + 1) ps (λ d within. let next : p.0 < (get_or ps 0 d).0 = rising 0 1 d (omega arith) (omega arith) in omega arith) (λ i j d lt within. rising (suc i) (suc j) d (omega arith) (omega arith))
+
+-- the test is the relation
+pub rises-AllPairs : (ps : List ProcId) → (rises_from 0 ps ≡ true) ↔ AllPairs (λ p q. p.0 < q.0) ps
+rises-AllPairs ps = (rises-between 0 ps, from_pairs 0 ps (λ d within. omega arith))
 
 -- ---- teams
 

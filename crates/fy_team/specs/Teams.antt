@@ -1,6 +1,6 @@
 -- teams, the records that were begun for them, and who has marked each
-use Rattle.std.specs.Prelude.{◌≡◌, ℕ, ◌+◌, ◌<◌, ◌≤◌, Bool, true, false, ◌&&◌, ◌==◌, IsTrue, nat_le, nat_lt, List, [], ◌∷◌, ◌++◌, length, slice_get, slice_set, Option, Some, None, option_map, if◌then◌else◌}
-use Rattle.std.specs.List.{All, AllByRecursion, list_all, list_any}
+use Rattle.std.specs.Prelude.{◌≡◌, ℕ, ◌<◌, ◌≤◌, Bool, true, false, ◌==◌, nat_le, nat_lt, List, [], ◌∷◌, ◌++◌, length, slice_get, slice_set, Option, Some, None, option_map, if◌then◌else◌}
+use Rattle.std.specs.List.{All, AllByRecursion, AllPairs, list_all, list_any}
 use Rattle.std.specs.Option.{option_map_or}
 use Rattle.std.specs.Ordering.{nat_cmp}
 use Rattle.std.specs.FinSet as sets
@@ -33,14 +33,10 @@ nobody = record { teams = []; records = [] }
 
 -- ---- members
 
--- the numbers rise, the first being no less than low
-abbrev pub rises_from : ℕ → List ProcId → Bool
-rises_from low [] = true
-rises_from low (p ∷ ps) = nat_le low p.0 && rises_from (p.0 + 1) ps
-
 -- no more than 1024 processes by rising number
-abbrev pub are_members : List ProcId → Bool
-are_members ps = nat_le (length ps) 1024 && rises_from 0 ps
+pub record AreMembers (ps : List ProcId) : Type 0 where
+  pub few : length ps ≤ 1024
+  pub rising : AllPairs (λ p q. p.0 < q.0) ps
 
 -- whether the process with a number is one of these
 abbrev pub is_among : List ProcId → ℕ → Bool
@@ -122,7 +118,7 @@ pub record IsAcked (roster : Roster) (rec : ℕ) : Type 0 where
 
 -- members rise, each record is of a team that is there and is small, and nothing is beyond its limit
 pub record IsSound (roster : Roster) : Type 0 where
-  pub rising : All (λ team. IsTrue (are_members team.members)) roster.teams
+  pub rising : All (λ team. AreMembers team.members) roster.teams
   pub few_teams : length roster.teams ≤ 4096
   pub named : All (λ it. it.team < length roster.teams) roster.records
   pub small : All (λ it. length it.payload ≤ 256) roster.records

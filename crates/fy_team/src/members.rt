@@ -1,7 +1,7 @@
 //! The members of a team.
-ghost use Rattle.std.specs.Prelude.{◌≡◌, ◌<◌, ◌≤◌, true, false, length, IfOk, IfErr, IsTrue};
+ghost use Rattle.std.specs.Prelude.{◌≡◌, ◌↔◌, ◌<◌, IfOk, IfErr, IsTrue};
 ghost use Rattle.std.specs.List.{AllPairs};
-ghost use Rattle.fy_team.specs.Teams.{are_members, is_among, rises_from};
+ghost use Rattle.fy_team.specs.Teams.{AreMembers, is_among};
 ghost use Rattle.fy_team.specs.declared.fault.MembersFault.TheVariants.{NoMemory};
 
 use crate::MembersFault;
@@ -16,16 +16,16 @@ pub struct Members {
 }
 
 impl Model for Members {
-    ghost use Rattle.std.specs.Prelude.{List, IsTrue};
+    ghost use Rattle.std.specs.Prelude.{List};
     ghost use Rattle.fy_locality.specs.declared.ProcId.{ProcId};
 
     ghost Value = { List ProcId };
 
-    ghost use Rattle.fy_team.specs.Teams.{are_members};
+    ghost use Rattle.fy_team.specs.Teams.{AreMembers};
 
     ghost view = { λ m. m.processes.items };
 
-    ghost invariant = { λ m. IsTrue (are_members m.processes.items) };
+    ghost invariant = { λ m. AreMembers m.processes.items };
 }
 
 impl Members {
@@ -34,8 +34,8 @@ impl Members {
     /// `Members` where the numbers don't rise, one being no more than the one before it, or where there are more than
     /// 1024; then `NoMemory`.
     pub fn make(alloc: Global, processes: &[ProcId]) -> Result<Members, MembersFault>
-        ensures refused { are_members processes.now ≡ false → result ≡ Err MembersFault.Members }
-        ensures memory { are_members processes.now ≡ true → IfErr result (λ fault. fault ≡ NoMemory) }
+        ensures refused { ¬ AreMembers processes.now → result ≡ Err MembersFault.Members }
+        ensures memory { AreMembers processes.now → IfErr result (λ fault. fault ≡ NoMemory) }
         ensures made { IfOk result (λ made. made ≡ processes.now) }
     {
         if processes.len() > 1024 || !rise(processes) {
@@ -48,9 +48,7 @@ impl Members {
     /// The members by rising number.
     pub fn as_slice(&self) -> &[ProcId]
         ensures members { result.now ≡ self.now }
-        ensures valid { IsTrue (are_members self.now) }
-        ensures few { length self.now ≤ 1024 }
-        ensures rising { AllPairs (λ p q. p.0 < q.0) self.now }
+        ensures valid { AreMembers self.now }
     {
         self.processes.as_slice()
     }
@@ -75,7 +73,7 @@ impl Members {
 
 /// Whether each number is more than the one before it.
 fn rise(processes: &[ProcId]) -> bool
-    ensures { result ≡ rises_from 0 processes.now }
+    ensures { IsTrue result ↔ AllPairs (λ p q. p.0 < q.0) processes.now }
 {
     let mut low = 0u64;
     for p in processes {

@@ -7,6 +7,6 @@ pub loop-at-preserved : goal.loop-at-preserved
 loop-at-preserved c =
     let within : c.loop-at.at < length c.loop-at.items.items = omega arith in
     elim c.if-outlives_crash.branch [
-      | then-outlives_crash w ↦ rw (w.items-is, w.kept-is) (works_kept _ _ _ _ _ _ _ c.loop-at.invariant within (sym c.outlives_crash.ensures ∙ w.if-outlives_crash.true) w.swap.ensures.by_index)
-      | else-outlives_crash w ↦ rw (w.items-is, w.kept-is) (works_past _ _ _ _ _ _ c.loop-at.invariant within (sym c.outlives_crash.ensures ∙ w.if-outlives_crash.false))
+      | then-outlives_crash w ↦ rw (w.items-is, w.kept-is) (works_kept _ _ _ _ _ _ c.loop-at.invariant within (sym c.outlives_crash.ensures ∙ w.if-outlives_crash.true) w.swap.ensures.by_index)
+      | else-outlives_crash w ↦ rw (w.items-is, w.kept-is) (works_past _ _ _ _ _ c.loop-at.invariant within (sym c.outlives_crash.ensures ∙ w.if-outlives_crash.false))
     ]
