@@ -1,0 +1,153 @@
+-- messages whose numbers rise: where one stands, and what stays true as they come and go
+use Rattle.std.proofs.Common.{◌≡◌, ◌≢◌, ℕ, zero, suc, ◌+◌, ◌<◌, ◌≤◌, Bool, true, false, cond, not, eqb, List, [], ◌∷◌, ◌++◌, length, get_or, find, filter, Some, None, option_map, Result, Ok, Err, IfSome, IfNone, IsTrue, refl, sym, ap, ◌∙◌, arith}
+use Rattle.std.proofs.lemmas.Bool.{false≢true}
+use Rattle.std.proofs.lemmas.Option.{IfSome_then}
+use Rattle.std.proofs.lemmas.List.{length_push}
+use Rattle.std.proofs.lemmas.List.Elements.{All-cons, All-head, All-tail, All-weaker, All-push, All-filter}
+use Rattle.std.proofs.lemmas.List.Sorted.{IsNonDecreasingBy-from_default}
+use Rattle.std.proofs.lemmas.Bool.Decides.{nat_tests}
+use Rattle.std.proofs.lemmas.Cmp.{ranked}
+use Rattle.std.specs.List.{All}
+use Rattle.std.specs.List.Sorted.{IsSearchInRange, IsBinarySearchResult, IsNonDecreasingBy}
+use Rattle.std.specs.Ordering.{nat_cmp, ordering_index}
+use Rattle.std.specs.Result.{result_ok}
+use Rattle.fy_net.specs.declared.message.Body.{Body}
+use Rattle.fy_net.specs.declared.message.Body.TheVariants.{Store}
+use Rattle.fy_net.specs.declared.message.Message.{Message}
+use Rattle.fy_net.specs.Net.{Traffic, Rises, IsSound, body_of, without, process_of, left_by, sent_on, is_free, first_free_of}
+use Rattle.fy_net.specs.Places.{IsAt}
+
+some_message : Message
+some_message = record { number = 0; body = Store 0 (record { 0 = 0 }) }
+
+-- ---- rising numbers
+
+rises_lower : (low lower : ℕ) (ms : List Message) → lower ≤ low → Rises low ms → Rises lower ms
+rises_lower low lower [] le rising = tt
+rises_lower low lower (m ∷ ms) le rising = (omega arith, rising.1)
+
+rises_at : (low : ℕ) (ms : List Message) (k : ℕ) (d : Message) → Rises low ms → k < length ms → low ≤ (get_or ms k d).number
+rises_at low [] k d rising within = absurd (omega arith)
+rises_at low (m ∷ ms) zero d rising within = rising.0
+rises_at low (m ∷ ms) (suc k) d rising within = omega (arith, rising.0, rises_at (m.number + 1) ms k d rising.1 (omega arith))
+
+rises_between : (low : ℕ) (ms : List Message) (i j : ℕ) (d : Message) → Rises low ms → i < j → j < length ms → (get_or ms i d).number < (get_or ms j d).number
+rises_between low [] i j d rising lt within = absurd (omega arith)
+rises_between low (m ∷ ms) i zero d rising lt within = absurd (omega arith)
+rises_between low (m ∷ ms) zero (suc j) d rising lt within = omega (arith, rises_at (m.number + 1) ms j d rising.1 (omega arith))
+rises_between low (m ∷ ms) (suc i) (suc j) d rising lt within = rises_between (m.number + 1) ms i j d rising.1 (omega arith) (omega arith)
+
+-- ---- where a message stands
+
+eqb_same : (a b : ℕ) → a ≡ b → eqb a b ≡ true
+eqb_same a b e = grind (arith, nat_tests)
+
+eqb_other : (a b : ℕ) → a ≢ b → eqb a b ≡ false
+eqb_other a b e = grind (arith, nat_tests)
+
+without_lower : (number low : ℕ) (ms : List Message) → number < low → Rises low ms → without number ms ≡ ms
+without_lower number low [] lt rising = refl
+without_lower number low (m ∷ ms) lt rising =
+    let other : eqb m.number number ≡ false = eqb_other m.number number (λ same. omega (arith, rising.0)) in
+    rw other (ap (λ rest. m ∷ rest) (without_lower number (m.number + 1) ms (omega (arith, rising.0)) rising.1))
+
+-- the message at a place whose number is the one asked for
+pub is_at : (low : ℕ) (ms : List Message) (number i : ℕ) → Rises low ms → i < length ms → ((d : Message) → (get_or ms i d).number ≡ number) → IsAt ms number i
+is_at low [] number i rising within here = absurd (omega arith)
+is_at low (m ∷ ms) number zero rising within here =
+    let same : eqb m.number number ≡ true = eqb_same m.number number (here m) in
+    record {
+      within = within;
+      says = λ other. rw same refl;
+      others = rw same (sym (without_lower number (m.number + 1) ms (omega (arith, here m)) rising.1));
+    }
+is_at low (m ∷ ms) number (suc i) rising within here =
+    let before : m.number + 1 ≤ (get_or ms i m).number = rises_at (m.number + 1) ms i m rising.1 (omega arith) in
+    let other : eqb m.number number ≡ false = eqb_other m.number number (λ same. omega (arith, here m)) in
+    let later : IsAt ms number i = is_at (m.number + 1) ms number i rising.1 (omega arith) here in
+    record {
+      within = within;
+      says = λ d. rw other (later.says d);
+      others = rw other (ap (λ rest. m ∷ rest) later.others);
+    }
+
+-- no message has the number
+pub is_nowhere : (ms : List Message) (number : ℕ) → ((k : ℕ) (d : Message) → k < length ms → (get_or ms k d).number ≢ number) → body_of ms number ≡ None
+is_nowhere [] number none_has = refl
+is_nowhere (m ∷ ms) number none_has =
+    let other : eqb m.number number ≡ false = eqb_other m.number number (none_has 0 m (omega arith)) in
+    rw other (is_nowhere ms number (λ k d within. none_has (suc k) d (omega arith)))
+
+module _ (ms : List Message) (rising : Rises 0 ms) (number : ℕ) where
+  comparisons_rise : IsNonDecreasingBy (λ m. ordering_index (nat_cmp m.number number)) ms
+  comparisons_rise = IsNonDecreasingBy-from_default (λ m. ordering_index (nat_cmp m.number number)) ms some_message (λ i j le within.
+      let numbers_rise : (get_or ms i some_message).number ≤ (get_or ms j some_message).number = grind (arith, rises_between 0 ms i j some_message rising, λ (same : i ≡ j). ap (λ k. (get_or ms k some_message).number) same) in
+      grind (arith, nat_tests))
+
+  -- a binary search by number finds the message, or that there is none
+  pub searched_found : (r : Result ℕ ℕ) → IsSearchInRange r (length ms) → IsBinarySearchResult (λ m. nat_cmp m.number number) ms r → IfSome (result_ok r) (IsAt ms number)
+  searched_found (Ok at) within equal = is_at 0 ms number at rising within (λ d. ranked _ number _ (sym (equal d)))
+  searched_found (Err at) within parted = tt
+
+  pub searched_missing : (r : Result ℕ ℕ) → IsSearchInRange r (length ms) → IsBinarySearchResult (λ m. nat_cmp m.number number) ms r → IfNone (result_ok r) (body_of ms number ≡ None)
+  searched_missing (Ok at) within equal = tt
+  searched_missing (Err at) within parted =
+      let before : (k : ℕ) (d : Message) → k < at → (get_or ms k d).number < number = λ k d lt. ranked _ number _ (sym ((parted comparisons_rise).0 k d (omega arith) lt)) in
+      let behind : (k : ℕ) (d : Message) → at ≤ k → k < length ms → number < (get_or ms k d).number = λ k d le lt. ranked _ number _ (sym ((parted comparisons_rise).1 k d le lt)) in
+      is_nowhere ms number (λ k d lt same. grind (arith, before k d, behind k d))
+
+-- the first that passes has the least number of those that pass
+first_is_least : (p : Message → Bool) (low : ℕ) (ms : List Message) → Rises low ms → IfSome (option_map (λ m. m.number) (find p ms)) (λ number. All (λ m. IsTrue (p m) → number ≤ m.number) ms)
+first_is_least p low [] rising = tt
+first_is_least p low (m ∷ ms) rising =
+    elim (p m) as (λ b. p m ≡ b → IfSome (option_map (λ x. x.number) (cond b (Some m) (find p ms))) (λ number. All (λ x. IsTrue (p x) → number ≤ x.number) (m ∷ ms))) [
+      | true ↦ λ e. All-cons (λ (x : Message). IsTrue (p x) → m.number ≤ x.number) m ms (λ passes. omega arith) (λ k d within passes. omega (arith, rises_at (m.number + 1) ms k d rising.1 within))
+      | false ↦ λ e. IfSome_then (option_map (λ x. x.number) (find p ms)) (first_is_least p (m.number + 1) ms rising.1) (λ number rest. All-cons (λ (x : Message). IsTrue (p x) → number ≤ x.number) m ms (λ passes. absurd (false≢true (sym e ∙ passes))) rest)
+    ] refl
+
+pub first_free_is_least : (net : Traffic) (up : ℕ → Bool) → IsSound net → IfSome (first_free_of net up) (λ number. All (λ m. IsTrue (is_free net up m) → number ≤ m.number) net.in_flight)
+first_free_is_least net up sound = first_is_least (is_free net up) 0 net.in_flight sound.rising
+
+-- ---- messages that come and go
+
+rises_filtered : (p : Message → Bool) (low : ℕ) (ms : List Message) → Rises low ms → Rises low (filter p ms)
+rises_filtered p low [] rising = tt
+rises_filtered p low (m ∷ ms) rising =
+    elim (p m) as (λ b. Rises low (cond b (m ∷ filter p ms) (filter p ms))) [
+      | true ↦ (rising.0, rises_filtered p (m.number + 1) ms rising.1)
+      | false ↦ rises_lower (m.number + 1) low (filter p ms) (omega (arith, rising.0)) (rises_filtered p (m.number + 1) ms rising.1)
+    ]
+
+rises_with_next : (low next : ℕ) (ms : List Message) (body : Body) → low ≤ next → Rises low ms → All (λ m. m.number < next) ms → Rises low (ms ++ record { number = next; body = body } ∷ [])
+rises_with_next low next [] body le rising past = (le, tt)
+rises_with_next low next (m ∷ ms) body le rising past =
+    let here : m.number < next = All-head (λ (x : Message). x.number < next) m ms past in
+    (rising.0, rises_with_next (m.number + 1) next ms body (omega arith) rising.1 (All-tail (λ (x : Message). x.number < next) m ms past))
+
+filtered_is_shorter : (p : Message → Bool) (ms : List Message) → length (filter p ms) ≤ length ms
+filtered_is_shorter p [] = omega arith
+filtered_is_shorter p (m ∷ ms) =
+    let rest : length (filter p ms) ≤ length ms = filtered_is_shorter p ms in
+    elim (p m) as (λ b. length (cond b (m ∷ filter p ms) (filter p ms)) ≤ suc (length ms)) [ true ↦ omega arith | false ↦ omega arith ]
+
+pub sound_left : (net : Traffic) (number : ℕ) → IsSound net → IsSound (left_by number net)
+sound_left net number sound = record {
+  rising = rises_filtered _ 0 net.in_flight sound.rising;
+  past = All-filter _ (λ (m : Message). m.number < net.sent) net.in_flight sound.past;
+  known = All-filter _ (λ (m : Message). process_of m.body < length net.until) net.in_flight sound.known;
+  few = omega (arith, sound.few, filtered_is_shorter (λ m. not (eqb m.number number)) net.in_flight);
+  countable = sound.countable;
+  on_time = sound.on_time;
+}
+
+pub sound_sent : (net : Traffic) (body : Body) → 0 < net.room → process_of body < length net.until → IsSound net → IsSound (sent_on body net)
+sound_sent net body room known sound =
+    let next : Message = record { number = net.sent; body = body } in
+    record {
+      rising = rises_with_next 0 net.sent net.in_flight body (omega arith) sound.rising sound.past;
+      past = All-push (λ (m : Message). m.number < net.sent + 1) net.in_flight next (All-weaker (λ (m : Message). m.number < net.sent) (λ (m : Message). m.number < net.sent + 1) (λ m lt. omega arith) net.in_flight sound.past) (omega arith);
+      known = All-push (λ (m : Message). process_of m.body < length net.until) net.in_flight next sound.known known;
+      few = omega (arith, sound.few, length_push net.in_flight next);
+      countable = omega (arith, sound.countable);
+      on_time = sound.on_time;
+    }

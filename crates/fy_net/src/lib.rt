@@ -1,0 +1,14 @@
+//! A simulated network: numbered messages in flight, clogged processes and a clock.
+#![tactic(auto)]
+
+mod fault;
+pub mod laws;
+mod message;
+mod net;
+mod places;
+#[cfg(test)]
+mod tests;
+
+pub use fault::NetFault;
+pub use message::{Body, Message};
+pub use net::Net;

@@ -1,0 +1,68 @@
+//! Questions about parts of a network.
+ghost use Rattle.std.specs.Prelude.{◌≡◌, ℕ, not, ◌&&◌, nat_lt, slice_index, find, option_map, IfSome, IfNone, None};
+ghost use Rattle.std.specs.FinSet as sets;
+ghost use Rattle.fy_net.specs.Net.{Rises, body_of, process_of, is_reached};
+ghost use Rattle.fy_net.specs.Places.{IsAt};
+
+use crate::{Body, Message};
+use fy_locality::{ProcId, ProcSet};
+
+/// Where the message with a number stands.
+pub(crate) fn place_of(messages: &[Message], number: u64) -> Option<usize>
+    requires { Rises 0 messages.now }
+    ensures found { IfSome result (λ i. IsAt messages.now number i) }
+    ensures missing { IfNone result (body_of messages.now number ≡ None) }
+{
+    messages
+        .binary_search_by_key(&number, |message| message.number)
+        .ok()
+}
+
+/// Whether a clog of a process lasts beyond a time.
+pub(crate) fn lasts(until: &[u64], now: u64, p: ProcId) -> bool
+    ensures { result ≡ nat_lt now (slice_index until.now p.0) }
+{
+    match until.get(p.0 as usize) {
+        Some(end) => now < *end,
+        None => false,
+    }
+}
+
+/// Whether a message of this body finds its process up. A word to the client always does.
+pub(crate) fn reaches(up: &ProcSet, body: Body) -> bool
+    ensures { result ≡ is_reached (sets.contains up.now) body }
+{
+    match body {
+        Body::Store { to, .. } => is_member(up, to),
+        Body::Synced { .. } => true,
+    }
+}
+
+fn is_member(set: &ProcSet, p: ProcId) -> bool
+    ensures { result ≡ sets.contains set.now p.0 }
+{
+    set.members_are_small();
+    p.0 < 1024 && set.has(p)
+}
+
+/// Whether a message isn't clogged and finds its process up.
+fn may_be_taken(until: &[u64], now: u64, up: &ProcSet, message: Message) -> bool
+    ensures { result ≡ (not (nat_lt now (slice_index until.now (process_of message.body))) && is_reached (sets.contains up.now) message.body) }
+{
+    !lasts(until, now, message.body.process()) && reaches(up, message.body)
+}
+
+/// The number of the first message that isn't clogged and finds its process up.
+pub(crate) fn first_free_among(
+    messages: &[Message],
+    until: &[u64],
+    now: u64,
+    up: &ProcSet,
+) -> Option<u64>
+    ensures { result ≡ option_map (λ message. message.number) (find (λ message. not (nat_lt now (slice_index until.now (process_of message.body))) && is_reached (sets.contains up.now) message.body) messages.now) }
+{
+    messages
+        .iter()
+        .find(|message| may_be_taken(until, now, up, **message))
+        .map(|message| message.number)
+}

@@ -1,0 +1,5 @@
+pub mod Marks
+pub mod Teams
+pub use Rattle.fy_locality.specs.Locality
+pub use Rattle.fy_policy.specs.Sat
+pub use Rattle.fy_policy.specs.Tree

@@ -1,0 +1,82 @@
+//! Whether members make a team.
+ghost use Rattle.std.specs.Prelude.{◌≡◌, ◌≤◌, ℕ, false, nat_le, length, slice_get, Some};
+ghost use Rattle.std.specs.List.{list_any};
+ghost use Rattle.std.specs.FinSet as sets;
+ghost use Rattle.fy_team.specs.Teams.{is_among, unfit};
+
+use crate::TeamFault;
+use fy_locality::{Map, ProcId, ProcSet};
+use fy_policy::{Policy, satisfied};
+
+/// Why members don't make a team under the policy with this number.
+pub(crate) fn unfit(
+    map: &Map,
+    policies: &[Policy],
+    gone: &ProcSet,
+    members: &[ProcId],
+    policy: u32,
+) -> Option<TeamFault>
+    ensures { result ≡ unfit map.now (slice_get policies.now policy) gone.now members.now policy }
+{
+    let Some(need) = policies.get(policy as usize) else {
+        return Some(TeamFault::NoPolicy);
+    };
+    unfit_for(map, need, gone, members, policy)
+}
+
+/// Why members don't make a team under a policy, whose number is given.
+fn unfit_for(
+    map: &Map,
+    need: &Policy,
+    gone: &ProcSet,
+    members: &[ProcId],
+    policy: u32,
+) -> Option<TeamFault>
+    ensures { result ≡ unfit map.now (Some need.now) gone.now members.now policy }
+{
+    if has_stranger(map, members) {
+        return Some(TeamFault::NoProcess);
+    }
+    if has_some(gone, members) {
+        return Some(TeamFault::Gone);
+    }
+    if !satisfied(need, map, &set_of(members)) {
+        return Some(TeamFault::TeamShort { policy });
+    }
+    None
+}
+
+/// Whether some member is no process of the map.
+fn has_stranger(map: &Map, members: &[ProcId]) -> bool
+    ensures strangers { result ≡ list_any (λ p. nat_le (length map.now) p.0) members.now }
+    ensures few { length map.now ≤ 1024 }
+{
+    let count = map.len();
+    members.iter().any(|p| p.0 >= count)
+}
+
+/// Whether some member is in the set.
+fn has_some(set: &ProcSet, members: &[ProcId]) -> bool
+    ensures { result ≡ list_any (λ p. sets.contains set.now p.0) members.now }
+{
+    members.iter().any(|p| is_in(set, *p))
+}
+
+fn is_in(set: &ProcSet, p: ProcId) -> bool
+    ensures { result ≡ sets.contains set.now p.0 }
+{
+    set.members_are_small();
+    p.0 < 1024 && set.has(p)
+}
+
+/// The members as a set.
+fn set_of(members: &[ProcId]) -> ProcSet
+    requires { list_any (λ p. nat_le 1024 p.0) members.now ≡ false }
+    ensures { (q : ℕ) → sets.contains result q ≡ is_among members.now q }
+{
+    let mut set = ProcSet::empty();
+    for p in members {
+        set.put(*p);
+    }
+    set
+}

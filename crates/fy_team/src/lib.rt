@@ -1,0 +1,16 @@
+//! Teams of processes that satisfy a policy, records that are begun for them, and who has marked each record.
+#![tactic(auto)]
+
+mod fault;
+mod forming;
+pub mod laws;
+mod members;
+mod record;
+mod team;
+mod teams;
+#[cfg(test)]
+mod tests;
+
+pub use fault::{MembersFault, TeamFault};
+pub use members::Members;
+pub use teams::Teams;

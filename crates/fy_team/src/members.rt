@@ -1,0 +1,87 @@
+//! The members of a team.
+ghost use Rattle.std.specs.Prelude.{◌≡◌, ◌↔◌, ◌<◌, IfOk, IfErr, IsTrue};
+ghost use Rattle.std.specs.List.{AllPairs};
+ghost use Rattle.fy_team.specs.Teams.{AreMembers, is_among};
+ghost use Rattle.fy_team.specs.declared.fault.MembersFault.TheVariants.{NoMemory};
+
+use crate::MembersFault;
+use fy_locality::ProcId;
+use std::alloc::{AllocError, Global};
+use std::marker::Model;
+
+/// Processes by rising number, at most 1024 of them. They never change.
+#[derive(Drop)]
+pub struct Members {
+    processes: Vec<ProcId>,
+}
+
+impl Model for Members {
+    ghost use Rattle.std.specs.Prelude.{List};
+    ghost use Rattle.fy_locality.specs.declared.ProcId.{ProcId};
+
+    ghost Value = { List ProcId };
+
+    ghost use Rattle.fy_team.specs.Teams.{AreMembers};
+
+    ghost view = { λ m. m.processes.items };
+
+    ghost invariant = { λ m. AreMembers m.processes.items };
+}
+
+impl Members {
+    /// Members of these numbers, whether or not there are such processes.
+    ///
+    /// `Members` where the numbers don't rise, one being no more than the one before it, or where there are more than
+    /// 1024; then `NoMemory`.
+    pub fn make(alloc: Global, processes: &[ProcId]) -> Result<Members, MembersFault>
+        ensures refused { ¬ AreMembers processes.now → result ≡ Err MembersFault.Members }
+        ensures memory { AreMembers processes.now → IfErr result (λ fault. fault ≡ NoMemory) }
+        ensures made { IfOk result (λ made. made ≡ processes.now) }
+    {
+        if processes.len() > 1024 || !rise(processes) {
+            return Err(MembersFault::Members);
+        }
+        let processes = Vec::from_slice(alloc, processes)?;
+        Ok(Members { processes })
+    }
+
+    /// The members by rising number.
+    pub fn as_slice(&self) -> &[ProcId]
+        ensures members { result.now ≡ self.now }
+        ensures valid { AreMembers self.now }
+    {
+        self.processes.as_slice()
+    }
+
+    /// Whether a process is a member.
+    pub fn has(&self, p: ProcId) -> bool
+        ensures { result ≡ is_among self.now p.0 }
+    {
+        self.processes.iter().any(|member| member.0 == p.0)
+    }
+
+    /// Equal members in memory of their own.
+    ///
+    /// `AllocError` only where that memory is refused.
+    pub fn try_copy(&self, alloc: Global) -> Result<Members, AllocError>
+        ensures { IfOk result (λ copy. copy ≡ self.now) }
+    {
+        let processes = Vec::from_slice(alloc, &self.processes)?;
+        Ok(Members { processes })
+    }
+}
+
+/// Whether each number is more than the one before it.
+fn rise(processes: &[ProcId]) -> bool
+    ensures { IsTrue result ↔ AllPairs (λ p q. p.0 < q.0) processes.now }
+{
+    let mut low = 0u64;
+    for p in processes {
+        let number = u64::from(p.0);
+        if number < low {
+            return false;
+        }
+        low = number + 1;
+    }
+    true
+}
