@@ -3,14 +3,15 @@
 #
 #     bench/verdicts.sh [ROUNDS]
 #
-# The program in bench/verdicts is no crate of this repository: it is proved and built in a folder of its own, beside
-# copies of the crates, and run with sixteen verdicts a round.
+# The program bench/verdicts.rt.in is no crate of this repository, so the tests don't wait for it: it is proved and built
+# in a folder of its own, beside copies of the crates, and run with sixteen verdicts a round.
 set -euo pipefail
 cd "$(dirname "$0")/.."
 folder=$(mktemp -d)
 trap 'rm -rf "$folder"' EXIT
 cp -a crates "$folder/crates"
-cp -a bench/verdicts "$folder/crates/verdicts"
+mkdir -p "$folder/crates/verdicts/src"
+cp bench/verdicts.rt.in "$folder/crates/verdicts/src/main.rt"
 cp crates.txt "$folder/crates.txt"
 echo "verdicts: fy_decide fy_grants fy_kinds fy_policy fy_locality" >> "$folder/crates.txt"
 cd "$folder/crates/verdicts"

@@ -1,5 +1,6 @@
 //! Books of four and of six processes.
 use crate::{DeadBook, Loss, MakeFault};
+use fy_kinds::Kind;
 use fy_locality::{Map, ProcId, ProcSet};
 use fy_policy::{Policy, read_policy};
 use std::alloc::Global;
@@ -155,6 +156,14 @@ fn losses_are_taken_down(rt: HostRuntime) {
     ];
     let end = walked(alloc, 4, &["Across(2,zoneid,One())"], &emptied_first);
     assert_eq!(rt; end, Some((0b0011, 0b1110)));
+}
+
+#[test]
+fn kinds_bring_losses(rt: HostRuntime) {
+    assert_eq!(rt; Loss::of(Kind::RebootProcess), None);
+    assert_eq!(rt; Loss::of(Kind::Reboot), None);
+    assert_eq!(rt; Loss::of(Kind::RebootAndDelete), Some(Loss::Emptied));
+    assert_eq!(rt; Loss::of(Kind::KillInstantly), Some(Loss::Gone));
 }
 
 /// More policies than a cluster may have. What the last two ask for, the others don't.
