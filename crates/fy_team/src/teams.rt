@@ -142,6 +142,8 @@ impl Teams {
 
     /// Takes down that a process, member of the team or not, has marked a record, and answers whether the record is
     /// acknowledged now. A mark that is there already changes nothing. Takes no memory.
+    ///
+    /// Asks for a record that is there, and a process number below 1024.
     pub fn mark(&mut self, rec: u32, p: ProcId) -> bool
         requires there { rec < length self.old.records }
         requires small { p.0 < 1024 }
@@ -180,7 +182,7 @@ impl Teams {
         self.records.get(rec as usize)
     }
 
-    /// Whether there is such a record and a process has marked it.
+    /// Whether there is such a record and a process, of any number, has marked it.
     pub fn marked(&self, rec: u32, p: ProcId) -> bool
         ensures { result ≡ is_marked self.now rec p.0 }
     {
