@@ -34,6 +34,7 @@ install: build
 
 bench: build
 	bench/judge.py bin/faultyard
+	bench/verdicts.sh
 
 clean:
 	rm -rf bin crates/*/out
