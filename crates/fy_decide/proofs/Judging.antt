@@ -11,12 +11,14 @@ use Rattle.fy_locality.specs.declared.ProcId.{ProcId}
 use Rattle.fy_kinds.specs.declared.verdict.Rule.{Rule}
 use Rattle.fy_kinds.specs.declared.verdict.Rule.TheVariants.{NoTarget, NoGrant, Protected, TooManyDestroyed, TooFewLeft}
 use Rattle.fy_grants.specs.Least.{LeastWith, least_with}
-use Rattle.fy_kinds.specs.Kinds.{Deed, Striking, Clogging, rank, only}
+use Rattle.fy_kinds.specs.declared.kind_set.KindSet.{KindSet}
+use Rattle.fy_kinds.specs.Kinds.{Deed, Striking, Clogging, rank, has, has_some, only}
 use Rattle.fy_kinds.specs.declared.kind.Kind.{Kind}
 use Rattle.fy_kinds.specs.declared.kind.Kind.TheVariants.{RebootProcess, Reboot, RebootAndDelete, KillInstantly}
 use Rattle.fy_kinds.specs.Orders.{Order}
-use Rattle.fy_grants.specs.Rights.{is_covered}
-use Rattle.fy_decide.specs.Verdicts.{Situation, numbers, least, first_rule, leave_rules, loss_rules, bar, verdict, hardest, hardest_first, is_allowed, targets, loss_of}
+use Rattle.fy_grants.specs.Rights.{Rights, grants_of, protections_of, is_covered, is_protected}
+use Rattle.fy_decide.specs.DeadBook.{Casualties}
+use Rattle.fy_decide.specs.Verdicts.{Situation, situation_of, numbers, least, first_rule, leave_rules, loss_rules, bar, verdict, hardest, hardest_first, is_allowed, targets, loss_of}
 use Rattle.fy_decide.specs.declared.dead_book.Loss.{Loss}
 use Rattle.fy_decide.specs.declared.dead_book.Loss.TheVariants.{Emptied, Gone}
 use Rattle.fy_decide.specs.Losses.{AreShort, AreSatisfied, MayDestroy, with_set, without_set}
@@ -110,6 +112,29 @@ module _ (law : FirstFound) (situation : Situation) (deed : Deed) (s : ℕ → B
       sym (some_target any
       ∙ ap (λ r. first_rule (option_map NoGrant r ∷ protected ∷ [])) (least_is (λ q. not (granted q)) u found ∙ is)
       ∙ ap (λ r. first_rule (option_map Protected r ∷ [])) (least_is (λ q. situation.is_protected q deed) b barred))
+
+-- the same from what the two books answer, about the map and the set of one deed
+module _ (law : FirstFound) (one : (kinds : KindSet) (deed : Deed) → has_some kinds (only deed) ≡ has kinds deed) (dead : Casualties) (rights : Rights) (actor : ℕ) (deed : Deed) (map : List Locality) (kinds : KindSet) (same : dead.processes ≡ map) (single : kinds ≡ only deed)
+        (s : sets.FinSet nat_cmp) (members : (q : ℕ) → sets.contains s q ≡ true → q < length map) (no_target : Bool) (some : no_target ≡ false) (tested : (no_target ≡ true) ↔ (s ≡ sets.empty)) where
+  small : (q : ℕ) → sets.contains s q ≡ true → q < length dead.processes
+  small q member = subst (λ ps. q < length ps) (sym same) (members q member)
+
+  there : list_any (sets.contains s) (range_with_len 0 (length dead.processes)) ≡ true
+  there = subst (λ ps. list_any (sets.contains s) (range_with_len 0 (length ps)) ≡ true) (sym same) (somebody s (length map) members no_target some tested)
+
+  as_asked : (u : Option ProcId) → LeastWith (sets.contains s) (λ q. not (is_covered map (grants_of rights actor) kinds q)) u → LeastWith (sets.contains s) (λ q. not (is_covered dead.processes (grants_of rights actor) (only deed) q)) u
+  as_asked u found =
+      subst (λ ps. LeastWith (sets.contains s) (λ q. not (is_covered ps (grants_of rights actor) (only deed) q)) u) (sym same)
+      (subst (λ ks. LeastWith (sets.contains s) (λ q. not (is_covered map (grants_of rights actor) ks q)) u) single found)
+
+  pub uncovered_by : (u : Option ProcId) (p : ProcId) → LeastWith (sets.contains s) (λ q. not (is_covered map (grants_of rights actor) kinds q)) u → u ≡ Some p → Some (NoGrant p) ≡ first_rule (leave_rules (situation_of dead rights actor) deed (sets.contains s))
+  uncovered_by u p found is = leave_uncovered law (situation_of dead rights actor) deed (sets.contains s) small there u p (as_asked u found) is
+
+  pub barred_by : (u b found : Option ProcId) → LeastWith (sets.contains s) (λ q. not (is_covered map (grants_of rights actor) kinds q)) u → u ≡ None → LeastWith (sets.contains s) (is_protected rights kinds) b → b ≡ found → first_rule (option_map Protected found ∷ []) ≡ first_rule (leave_rules (situation_of dead rights actor) deed (sets.contains s))
+  barred_by u b found none is barred answer =
+      ap (λ o. first_rule (option_map Protected o ∷ [])) (sym answer)
+      ∙ leave_covered law (situation_of dead rights actor) deed (sets.contains s) small there u b (as_asked u none) is
+      (subst (λ t. LeastWith (sets.contains s) t b) (λ i q. (ap (has_some (protections_of rights q)) single ∙ one (protections_of rights q) deed) i) barred)
 
 -- ---- the bar of a kind
 pub bar_of_leave : (situation : Situation) (deed : Deed) (s : ℕ → Bool) (found : Option Rule) (rule : Rule) → found ≡ first_rule (leave_rules situation deed s) → found ≡ Some rule → Some rule ≡ bar situation deed s
