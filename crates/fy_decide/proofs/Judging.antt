@@ -115,7 +115,7 @@ module _ (law : FirstFound) (situation : Situation) (deed : Deed) (s : ℕ → B
 
 -- the same from what the two books answer, about the map and the set of one deed
 module _ (law : FirstFound) (one : (kinds : KindSet) (deed : Deed) → has_some kinds (only deed) ≡ has kinds deed) (dead : Casualties) (rights : Rights) (actor : ℕ) (deed : Deed) (map : List Locality) (kinds : KindSet) (same : dead.processes ≡ map) (single : kinds ≡ only deed)
-        (s : sets.FinSet nat_cmp) (members : (q : ℕ) → sets.contains s q ≡ true → q < length map) (no_target : Bool) (some : no_target ≡ false) (tested : (no_target ≡ true) ↔ (s ≡ sets.empty)) where
+    (s : sets.FinSet nat_cmp) (members : (q : ℕ) → sets.contains s q ≡ true → q < length map) (no_target : Bool) (some : no_target ≡ false) (tested : (no_target ≡ true) ↔ (s ≡ sets.empty)) where
   small : (q : ℕ) → sets.contains s q ≡ true → q < length dead.processes
   small q member = subst (λ ps. q < length ps) (sym same) (members q member)
 

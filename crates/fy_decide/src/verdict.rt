@@ -19,8 +19,8 @@ const HARDEST_FIRST: [Kind; 4] = [
     Kind::RebootProcess,
 ];
 
-/// Why an actor has no leave to do this to the targets.
-fn no_leave(book: &Book, map: &Map, actor: u32, kinds: KindSet, targets: &ProcSet) -> Option<Rule>
+/// The bar of a deed by the first three rules, those of leave.
+fn leave_bar(book: &Book, map: &Map, actor: u32, kinds: KindSet, targets: &ProcSet) -> Option<Rule>
     requires members { (q : ℕ) → sets.contains targets.now q ≡ true → q < length map.now }
     ensures { (dead : Casualties) (deed : Deed) → dead.processes ≡ map.now → kinds ≡ only deed → result ≡ first_rule (leave_rules (situation_of dead book.now actor) deed (sets.contains targets.now)) }
 {
@@ -39,8 +39,8 @@ fn no_leave(book: &Book, map: &Map, actor: u32, kinds: KindSet, targets: &ProcSe
     }
 }
 
-/// What replication doesn't bear of a loss of the targets by this kind.
-fn unborne(dead: &DeadBook, kind: Kind, targets: &ProcSet) -> Option<Rule>
+/// The bar of a kind of kill by the last two rules, those of replication.
+fn loss_bar(dead: &DeadBook, kind: Kind, targets: &ProcSet) -> Option<Rule>
     ensures { (rights : Rights) (actor : ℕ) → result ≡ first_rule (loss_rules (situation_of dead.now rights actor) (Striking kind) (sets.contains targets.now)) }
 {
     if !kind.is_destroying() {
@@ -58,7 +58,7 @@ fn unborne(dead: &DeadBook, kind: Kind, targets: &ProcSet) -> Option<Rule>
     }
 }
 
-/// The bar of a kind of kill.
+/// The bar of a kind of kill: the first of all five rules that bars it.
 fn bar(
     dead: &DeadBook,
     book: &Book,
@@ -71,14 +71,14 @@ fn bar(
     requires members { (q : ℕ) → sets.contains targets.now q ≡ true → q < length map.now }
     ensures { result ≡ bar (situation_of dead.now book.now actor) (Striking kind) (sets.contains targets.now) }
 {
-    match no_leave(book, map, actor, KindSet::of(kind), targets) {
+    match leave_bar(book, map, actor, KindSet::of(kind), targets) {
         Some(rule) => Some(rule),
-        None => unborne(dead, kind, targets),
+        None => loss_bar(dead, kind, targets),
     }
 }
 
 /// The hardest kind that an order allows and that has no bar.
-fn strongest(
+fn hardest(
     dead: &DeadBook,
     book: &Book,
     map: &Map,
@@ -111,7 +111,7 @@ pub fn judge(dead: &DeadBook, book: &Book, map: &Map, actor: u32, order: &KillOr
     let rule = bar(dead, book, map, actor, order.kind(), &targets);
     let struck = match rule {
         None => Some(order.kind()),
-        Some(_) => strongest(dead, book, map, actor, order, &targets),
+        Some(_) => hardest(dead, book, map, actor, order, &targets),
     };
     Verdict { struck, rule }
 }
@@ -128,7 +128,7 @@ pub fn judge_clog(
     ensures { result ≡ bar (situation_of dead.now book.now actor) Clogging (targets dead.now.processes (sets.contains dead.now.left) target.now) }
 {
     let targets = dead.targets(map, target);
-    no_leave(book, map, actor, KindSet::of_clog(), &targets)
+    leave_bar(book, map, actor, KindSet::of_clog(), &targets)
 }
 
 #[cfg(test)]

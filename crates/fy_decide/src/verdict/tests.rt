@@ -260,7 +260,7 @@ fn grants_come_before_protections(rt: HostRuntime) {
     }
 }
 
-/// Reboots a target, or a process of it by its process alone.
+/// An order to reboot a target, or its processes alone where that is barred.
 fn reboot(actor: u32, key: Key, value: &str, verdict: Verdict) -> Due<'_> {
     Due {
         actor,

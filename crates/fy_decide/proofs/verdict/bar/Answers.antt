@@ -6,7 +6,7 @@ use Rattle.fy_decide.proofs.Judging.{bar_of_leave, bar_of_loss}
 use Rattle.fy_decide.proofs.verdict.bar.Goals as goal
 
 pub returns-in-Some : goal.returns-in-Some
-returns-in-Some c = bar_of_leave (situation_of c.args.dead.now c.args.book.now c.args.actor) (Striking c.args.kind) (sets.contains c.args.targets.now) _ _ (c.no_leave.ensures c.args.dead.now (Striking c.args.kind) (sym c.requires.map) c.of.ensures) c.in-Some.is
+returns-in-Some c = bar_of_leave (situation_of c.args.dead.now c.args.book.now c.args.actor) (Striking c.args.kind) (sets.contains c.args.targets.now) _ _ (c.leave_bar.ensures c.args.dead.now (Striking c.args.kind) (sym c.requires.map) c.of.ensures) c.in-Some.is
 
 pub returns-in-None : goal.returns-in-None
-returns-in-None c = bar_of_loss (situation_of c.args.dead.now c.args.book.now c.args.actor) (Striking c.args.kind) (sets.contains c.args.targets.now) _ _ (c.no_leave.ensures c.args.dead.now (Striking c.args.kind) (sym c.requires.map) c.of.ensures) c.in-None.is (c.unborne.ensures c.args.book.now c.args.actor)
+returns-in-None c = bar_of_loss (situation_of c.args.dead.now c.args.book.now c.args.actor) (Striking c.args.kind) (sets.contains c.args.targets.now) _ _ (c.leave_bar.ensures c.args.dead.now (Striking c.args.kind) (sym c.requires.map) c.of.ensures) c.in-None.is (c.loss_bar.ensures c.args.book.now c.args.actor)

@@ -19,4 +19,4 @@ returns-in-Some c =
     (rule_of (situation_of c.args.dead.now c.args.book.now c.args.actor) c.args.order.now (sets.contains c.targets-targets.result) _ _
     (λ i p. (c.targets-targets.ensures p ∙ ap (λ target. targets c.args.dead.now.processes (sets.contains c.args.dead.now.left) target p) c.target.ensures) i)
     c.kind.ensures.kind c.bar-rule.ensures)
-    c.strongest-struck.ensures
+    c.hardest-struck.ensures

@@ -7,6 +7,6 @@ use Rattle.fy_decide.proofs.verdict.judge_clog.Goals as goal
 
 pub returns : goal.returns
 returns c =
-    c.no_leave.ensures c.args.dead.now Clogging (sym c.requires.map) c.of_clog.ensures
+    c.leave_bar.ensures c.args.dead.now Clogging (sym c.requires.map) c.of_clog.ensures
     ∙ bar_of_clog (situation_of c.args.dead.now c.args.book.now c.args.actor) (sets.contains c.targets-targets.result)
     ∙ ap (bar (situation_of c.args.dead.now c.args.book.now c.args.actor) Clogging) (λ i p. c.targets-targets.ensures p i)

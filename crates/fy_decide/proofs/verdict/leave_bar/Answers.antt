@@ -2,7 +2,7 @@ use Rattle.std.proofs.Common.{◌<◌, length, subst, sym}
 use Rattle.std.specs.FinSet as sets
 use Rattle.fy_decide.specs.Verdicts.{situation_of}
 use Rattle.fy_decide.proofs.Judging.{nobody, leave_untargeted, uncovered_by, barred_by}
-use Rattle.fy_decide.proofs.verdict.no_leave.Goals as goal
+use Rattle.fy_decide.proofs.verdict.leave_bar.Goals as goal
 
 pub returns-then-is_empty : goal.returns-then-is_empty
 returns-then-is_empty c = λ dead deed same only_one.

@@ -4,7 +4,7 @@ use Rattle.std.specs.List.{find}
 use Rattle.std.specs.FinSet as sets
 use Rattle.fy_kinds.specs.Kinds.{Striking}
 use Rattle.fy_decide.specs.Verdicts.{situation_of, bar, is_allowed, hardest_first}
-use Rattle.fy_decide.proofs.verdict.strongest.Given as goal
+use Rattle.fy_decide.proofs.verdict.hardest.Given as goal
 
 -- none of the kinds so far strikes
 abbrev pub invariant-loop-kind : goal.invariant-loop-kind
