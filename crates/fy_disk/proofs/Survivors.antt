@@ -54,8 +54,3 @@ works_kept test was now after kept at works within passes swapped =
       long = long ∙ works.long;
       wanted = ap (λ xs. xs ++ passing test (at + 1) (drop (at + 1) after)) more ∙ append_assoc (take kept now) (x ∷ []) _ ∙ ap (λ xs. take kept now ++ xs) (sym rest) ∙ works.wanted;
     }
-
--- no item is left
-pub works_at_end : (test : ℕ → Bool) (was now : List Item) (kept at : ℕ) → Works test was now kept at → length now ≤ at → take kept now ≡ passing test 0 was
-works_at_end test was now kept at works past =
-    sym (append-nil (take kept now)) ∙ ap (λ xs. take kept now ++ passing test at xs) (sym (drop_all at now past)) ∙ works.wanted

@@ -1,5 +1,4 @@
 pub mod Counting
-pub mod Filling
 pub mod Indexes
 pub mod Merging
 pub mod NameLemmas
