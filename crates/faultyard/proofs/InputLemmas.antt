@@ -17,7 +17,7 @@ use Rattle.fy_policy.specs.declared.fault.PolicyFault.TheVariants.{TooLong as Po
 use Rattle.fy_policy.specs.Reading.{Reads}
 use Rattle.faultyard.specs.declared.stop.JudgeFault.TheVariants.{Syntax}
 use Rattle.faultyard.specs.declared.judge.line.Keyword.{Keyword}
-use Rattle.faultyard.specs.JudgeLines.{Input, Said, policy, process, words_of, keyword_of, said_by, said_in, said_of, Step, unread, policy_refused, process_twice, process_too_many}
+use Rattle.faultyard.specs.JudgeLines.{Input, policy, process, words_of, keyword_of, said_by, said_in, said_of, Step, unread, policy_refused, process_twice, process_too_many}
 use Rattle.faultyard.specs.JudgeViews.{IfFault, policy_fault_of, process_fault_of}
 use Rattle.faultyard.proofs.WordLemmas.{no_words_said}
 
@@ -103,7 +103,3 @@ lone_unsaid i line word is = unsaid i line (ap said_in is ∙ no_words_said (key
 
 pub keyword_unsaid : (i : Input) (line word rest : List ℕ) (k : Option Keyword) → words_of line ≡ word ∷ words_of rest → k ≡ keyword_of word → said_by k (words_of rest) ≡ None → Step i (said_of line) (Err Syntax)
 keyword_unsaid i line word rest k is key none = unsaid i line (said_behind line word rest is ∙ ap (λ k. said_by k (words_of rest)) (sym key) ∙ none)
-
--- a line that says something
-pub keyword_said : (line word rest : List ℕ) (k : Option Keyword) (what : Option Said) → words_of line ≡ word ∷ words_of rest → k ≡ keyword_of word → what ≡ said_by k (words_of rest) → what ≡ said_of line
-keyword_said line word rest k what is key said = said ∙ ap (λ k. said_by k (words_of rest)) key ∙ sym (said_behind line word rest is)

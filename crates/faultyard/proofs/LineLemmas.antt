@@ -9,8 +9,7 @@ use Rattle.fy_decide.specs.declared.dead_book.MakeFault.{MakeFault}
 use Rattle.fy_decide.specs.declared.dead_book.MakeFault.TheVariants.{Unmet, NoMemory}
 use Rattle.fy_lines.specs.Lines.{lines_of}
 use Rattle.faultyard.specs.declared.stop.JudgeFault.{JudgeFault}
-use Rattle.faultyard.specs.declared.stop.Stop.{Stop}
-use Rattle.faultyard.specs.declared.stop.Stop.TheVariants.{JudgeTooLong, JudgeLine, Read as StopRead, Write as StopWrite, NoMemory as StopNoMemory}
+use Rattle.faultyard.specs.declared.stop.Stop.TheVariants.{JudgeTooLong, JudgeLine, Write as StopWrite}
 use Rattle.faultyard.specs.declared.judge.input.LineFault.{LineFault}
 use Rattle.faultyard.specs.declared.judge.input.LineFault.TheVariants.{Fault, NoMemory as LineNoMemory}
 use Rattle.faultyard.specs.JudgeViews.{IfFault, line_stop_of}
@@ -95,20 +94,6 @@ unmet_few (Unmet k) i r refused memory is few = let below : k < length i.policie
 unmet_few NoMemory i r refused memory is few = tt
 
 -- ---- of known bytes
-pub known_refused : (o : Option (List ℕ)) (bytes : List ℕ) (stop : Stop) → IfSome o (λ xs. bytes ≡ xs) → IfRefusal stop (Judges bytes (Err stop)) → IfRefusal stop (IfSome o (λ xs. Judges xs (Err stop)))
-known_refused o bytes stop same refused = go stop refused
-  where
-    at : (stop : Stop) → (o : Option (List ℕ)) → IfSome o (λ xs. bytes ≡ xs) → Judges bytes (Err stop) → IfSome o (λ xs. Judges xs (Err stop))
-    at stop None same j = tt
-    at stop (Some xs) same j = subst (λ ys. Judges ys (Err stop)) same j
-
-    go : (stop : Stop) → IfRefusal stop (Judges bytes (Err stop)) → IfRefusal stop (IfSome o (λ xs. Judges xs (Err stop)))
-    go JudgeTooLong j = at JudgeTooLong o same j
-    go (JudgeLine line fault) j = at (JudgeLine line fault) o same j
-    go StopRead j = tt
-    go StopWrite j = tt
-    go StopNoMemory j = tt
-
 pub known_answered : (o : Option (List ℕ)) (bytes text : List ℕ) (P : List ℕ → Type 0) → IfSome o (λ xs. bytes ≡ xs) → Judges bytes (Ok text) → P text → IfSome o (λ xs. (t : List ℕ) × Judges xs (Ok t) × P t)
 known_answered None bytes text P same j p = tt
 known_answered (Some xs) bytes text P same j p = (text, subst (λ ys. Judges ys (Ok text)) same j, p)

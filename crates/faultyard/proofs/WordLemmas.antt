@@ -1,7 +1,6 @@
 -- the words of what begins with a word
 use Rattle.std.proofs.Common.{◌≡◌, ◌∙◌, ◌≤◌, ◌⊎◌, inl, inr, zero, suc, Bool, true, false, cond, ◌&&◌, ltb, eqb, ℕ, List, [], ◌∷◌, ◌++◌, length, Option, Some, None, refl, sym, ap, ne_eqb, arith}
 use Rattle.fy_decide.specs.declared.dead_book.Loss.{Loss}
-use Rattle.fy_locality.specs.Name.{is_name}
 use Rattle.fy_locality.specs.Locality.{are_names, locality_of}
 use Rattle.std.specs.List.{list_all}
 use Rattle.std.specs.Str.{IsAscii, IsUtf8}
@@ -10,7 +9,7 @@ use Rattle.std.proofs.lemmas.Bool.Decides.{nat_tests}
 use Rattle.fy_lines.specs.Lines.{onto_first}
 use Rattle.faultyard.specs.declared.judge.line.Keyword.{Keyword}
 use Rattle.faultyard.specs.declared.judge.line.Keyword.TheVariants.{Policy as KeywordPolicy, Process as KeywordProcess, Ask as KeywordAsk}
-use Rattle.faultyard.specs.JudgeLines.{words_of, said_by, is_text, known, policy, process, ask}
+use Rattle.faultyard.specs.JudgeLines.{words_of, said_by, is_text, known, policy, process}
 use Rattle.faultyard.specs.JudgeViews.{IsWord}
 
 -- a word, a blank, and the rest
@@ -50,9 +49,6 @@ not_lone line word rest is one =
 pub one_fewer : (line word rest : List ℕ) (n : ℕ) → words_of line ≡ word ∷ words_of rest → (length (words_of rest) ≡ n → ⊥) → length (words_of line) ≡ suc n → ⊥
 one_fewer line word rest n is differ e = differ (let h : suc (length (words_of rest)) ≡ suc n = sym (ap length is) ∙ e in let x : length (words_of rest) ≡ n = omega arith in x)
 
-pub lone_is : (line word : List ℕ) (n : ℕ) → words_of line ≡ word ∷ [] → length (words_of line) ≡ suc (suc n) → ⊥
-lone_is line word n is e = let h : 1 ≡ suc (suc n) = sym (ap length is) ∙ e in let x : ⊥ = omega arith in x
-
 -- ---- what a keyword with the wrong number of words says
 pub one_word_said : (k : Option Keyword) (words : List (List ℕ)) → (k ≡ Some KeywordPolicy) ⊎ ((loss : Loss) × (k ≡ Some (KeywordAsk loss))) → (length words ≡ 1 → ⊥) → said_by k words ≡ None
 one_word_said k words (inl e) not = ap (λ o. said_by o words) e ∙ go words not
@@ -89,9 +85,6 @@ nothing_said words = refl
 -- ---- the words of each form
 pub policy_said : (words : List (List ℕ)) (word : List ℕ) → words ≡ word ∷ [] → (b : Bool) → b ≡ is_text word → cond b (Some (policy word)) None ≡ said_by (Some KeywordPolicy) words
 policy_said words word is b test = ap (λ b. cond b (Some (policy word)) None) test ∙ ap (said_by (Some KeywordPolicy)) (sym is)
-
-pub ask_said : (loss : Loss) (words : List (List ℕ)) (word : List ℕ) → words ≡ word ∷ [] → (b : Bool) → b ≡ is_name word → cond b (Some (ask loss word)) None ≡ said_by (Some (KeywordAsk loss)) words
-ask_said loss words word is b test = ap (λ b. cond b (Some (ask loss word)) None) test ∙ ap (said_by (Some (KeywordAsk loss))) (sym is)
 
 pub process_said : (words : List (List ℕ)) (a b c d e : List ℕ) → words ≡ a ∷ b ∷ c ∷ d ∷ e ∷ [] → (t : Bool) → t ≡ are_names (locality_of a b c (known d) (known e)) → cond t (Some (process (locality_of a b c (known d) (known e)))) None ≡ said_by (Some KeywordProcess) words
 process_said words a b c d e is t test = ap (λ t. cond t (Some (process (locality_of a b c (known d) (known e)))) None) test ∙ ap (said_by (Some KeywordProcess)) (sym is)

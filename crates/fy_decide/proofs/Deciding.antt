@@ -1,8 +1,7 @@
 -- the sets in 16 words, and the sets as tests
-use Rattle.std.proofs.Common.{zero, suc, ◌≡◌, ◌↔◌, ℕ, ◌<◌, Bool, true, false, cond, ◌&&◌, not, List, [], ◌∷◌, length, get_or, refl, sym, ap, subst, ◌∙◌, arith, true≢false}
-use Rattle.std.specs.List.{AllByRecursion, position, position_from}
-use Rattle.std.proofs.lemmas.Iterator.Adapters.{position_from-zero}
-use Rattle.std.specs.Prelude.{Option, None, Some, ◌+◌}
+use Rattle.std.proofs.Common.{◌≡◌, ◌↔◌, ℕ, Bool, true, false, cond, ◌&&◌, not, List, [], ◌∷◌, refl, sym, ap, subst, ◌∙◌, true≢false}
+use Rattle.std.specs.List.{AllByRecursion, position_from}
+use Rattle.std.specs.Prelude.{None, Some, ◌+◌}
 use Rattle.std.specs.Ordering.{nat_cmp}
 use Rattle.std.specs.FinSet as sets
 use Rattle.std.specs.Cmp.{nat_cmp_total}
@@ -11,7 +10,7 @@ use Rattle.fy_policy.specs.Tree.{Tree, IsPolicy}
 use Rattle.fy_policy.specs.Sat.{Sat, satisfies}
 use Rattle.fy_decide.specs.declared.dead_book.Loss.{Loss}
 use Rattle.fy_decide.specs.declared.dead_book.Loss.TheVariants.{Emptied, Gone}
-use Rattle.fy_decide.specs.Losses.{AreShort, AreSatisfied, all_short, all_satisfied, with_set, without_set, everyone, first_unmet, MayDestroy, may_destroy}
+use Rattle.fy_decide.specs.Losses.{AreShort, AreSatisfied, all_short, all_satisfied, with_set, without_set, everyone, MayDestroy, may_destroy}
 use Rattle.fy_decide.specs.DeadBook.{Casualties, IsSafe}
 
 pub union_is : (s t : sets.FinSet nat_cmp) → sets.contains (sets.union s t) ≡ with_set (sets.contains s) (sets.contains t)
@@ -101,17 +100,7 @@ module _ (book : Casualties) (s : sets.FinSet nat_cmp) where
   pub IsSafe-gone : (loss : Loss) → loss ≡ Gone → May book s loss → IsSafe (record book { destroyed = sets.union book.destroyed s; left = sets.difference book.left s })
   IsSafe-gone loss is m = let both : May book s Gone = subst (May book s) is m in record { short = short_back both.0; satisfied = enough_back both.1 }
 
--- ---- a new book
-pub each_of : {X : Type 0} (P : X → Type 0) (xs : List X) → ((k : ℕ) (d : X) → k < length xs → P (get_or xs k d)) → AllByRecursion P xs
-each_of P [] each = tt
-each_of P (x ∷ xs) each = (each zero x (omega arith), each_of P xs (λ k d h. each (suc k) d (omega arith)))
-
-nobody_short : (processes : List Locality) (policies : List Tree) (s : ℕ → Bool)
-    → ((processes : List Locality) (policy : Tree) (s : ℕ → Bool) → IsPolicy policy → ((p : ℕ) → s p ≡ false) → Sat processes policy s → ⊥)
-    → ((p : ℕ) → s p ≡ false) → AllByRecursion IsPolicy policies → AreShort processes policies s
-nobody_short processes [] s law empty within = tt
-nobody_short processes (q ∷ qs) s law empty within = (λ sat. law processes q s within.0 empty sat, nobody_short processes qs s law empty within.1)
-
+-- ---- what a search found
 pub none_found : {X : Type 0} (t : X → Bool) (i : ℕ) (xs : List X) → position_from t i xs ≡ None → AllByRecursion (λ x. t x ≡ false) xs
 none_found t i [] e = tt
 none_found t i (x ∷ xs) e = go (λ h. none_found t (i + 1) xs h) (t x) refl e
@@ -130,20 +119,23 @@ each_satisfied processes (q ∷ qs) s law h = ((law processes q s).0 (turned (sa
     turned true e = refl
     turned false e = absurd (true≢false e)
 
+-- ---- a new book
+nobody_short : (processes : List Locality) (policies : List Tree) (s : ℕ → Bool)
+    → ((processes : List Locality) (policy : Tree) (s : ℕ → Bool) → IsPolicy policy → ((p : ℕ) → s p ≡ false) → Sat processes policy s → ⊥)
+    → ((p : ℕ) → s p ≡ false) → AllByRecursion (λ P. IsPolicy P × Sat processes P (everyone processes)) policies → AreShort processes policies s
+nobody_short processes [] s law empty met = tt
+nobody_short processes (q ∷ qs) s law empty met = (λ sat. law processes q s met.0.0 empty sat, nobody_short processes qs s law empty met.1)
+
+each_met : (processes : List Locality) (policies : List Tree) → AllByRecursion (λ P. IsPolicy P × Sat processes P (everyone processes)) policies → AreSatisfied processes policies (everyone processes)
+each_met processes [] met = tt
+each_met processes (q ∷ qs) met = (met.0.1, each_met processes qs met.1)
+
 -- nobody destroyed and everyone left, where all processes satisfy each policy
 pub IsSafe-new : (processes : List Locality) (policies : List Tree) (destroyed left : sets.FinSet nat_cmp)
     → ((processes : List Locality) (policy : Tree) (s : ℕ → Bool) → IsPolicy policy → ((p : ℕ) → s p ≡ false) → Sat processes policy s → ⊥)
-    → ((processes : List Locality) (policy : Tree) (s : ℕ → Bool) → (satisfies processes policy s ≡ true) ↔ Sat processes policy s)
-    → destroyed ≡ sets.empty → AllByRecursion IsPolicy policies → position (λ P. not (satisfies processes P (sets.contains left))) policies ≡ None
+    → destroyed ≡ sets.empty → ((q : ℕ) → sets.contains left q ≡ everyone processes q) → AllByRecursion (λ P. IsPolicy P × Sat processes P (everyone processes)) policies
     → IsSafe (record { processes = processes; policies = policies; destroyed = destroyed; left = left })
-IsSafe-new processes policies destroyed left none law nobody within met = record {
-  short = nobody_short processes policies (sets.contains destroyed) none (λ p. ap (λ s. sets.contains s p) nobody ∙ sets.contains-empty nat_cmp p) within;
-  satisfied = each_satisfied processes policies (sets.contains left) law (none_found _ 0 policies (sym (position_from-zero (λ P. not (satisfies processes P (sets.contains left))) policies) ∙ met));
+IsSafe-new processes policies destroyed left none nobody all met = record {
+  short = nobody_short processes policies (sets.contains destroyed) none (λ p. ap (λ s. sets.contains s p) nobody ∙ sets.contains-empty nat_cmp p) met;
+  satisfied = subst (λ s. AreSatisfied processes policies s) (λ i q. sym (all q) i) (each_met processes policies met);
 }
-
--- the place of the first policy that a set of all processes doesn't satisfy
-pub first_unmet-of : (processes : List Locality) (policies : List Tree) (all : ℕ → Bool) → ((q : ℕ) → all q ≡ everyone processes q) → position (λ P. not (satisfies processes P all)) policies ≡ first_unmet processes policies
-first_unmet-of processes policies all same = λ i. position (λ P. not (satisfies processes P (λ q. same q i))) policies
-
-pub none_unmet : {T : Type 0} (o : Option ℕ) (i : ℕ) → o ≡ None → o ≡ Some i → T
-none_unmet o i e f = absurd (let x : ⊥ = cc in x)

@@ -36,7 +36,7 @@ swapped false false = refl
 
 -- ---- the least process of a set that passes a test, as the first number that does
 abbrev FirstFound : Type 0
-FirstFound = (count : ℕ) (set test : ℕ → Bool) (found : Option ProcId) → ((q : ℕ) → set q ≡ true → q < count) → LeastWith set test found → option_map (λ p. p.0) found ≡ least_with count set test
+FirstFound = (count : ℕ) (set test : ℕ → Bool) (found : Option ProcId) → ((q : ℕ) → set q ≡ true → q < count) → LeastWith set test found ↔ (option_map (λ p. p.0) found ≡ least_with count set test)
 
 back : (found : Option ProcId) → option_map {U = ProcId} (λ p. record { 0 = p }) (option_map (λ p. p.0) found) ≡ found
 back None = refl
@@ -87,7 +87,7 @@ first_of_both (Some x ∷ xs) ys = refl
 -- the rules of leave, by what was found
 module _ (law : FirstFound) (situation : Situation) (deed : Deed) (s : ℕ → Bool) (small : (q : ℕ) → s q ≡ true → q < length situation.processes) where
   least_is : (test : ℕ → Bool) (found : Option ProcId) → LeastWith s test found → least situation s test ≡ found
-  least_is test found is = ap (option_map (λ p. record { 0 = p })) (sym (law (length situation.processes) s test found small is)) ∙ back found
+  least_is test found is = ap (option_map (λ p. record { 0 = p })) (sym ((law (length situation.processes) s test found small).0 is)) ∙ back found
 
   abbrev granted : ℕ → Bool
   granted = is_covered situation.processes situation.grants (only deed)

@@ -1,16 +1,16 @@
 //! Who was destroyed, who is left, and whether more may be destroyed.
-ghost use Rattle.std.specs.Prelude.{◌≡◌, ◌↔◌, ℕ, not, IsTrue, IfOk, OnOk, IfErr, Some, None};
+ghost use Rattle.std.specs.Prelude.{◌≡◌, ◌↔◌, ℕ, not, IsTrue, IfOk, IfErr, Some, None};
 ghost use Rattle.std.specs.List.{position, AllByRecursion};
 ghost use Rattle.std.specs.FinSet as sets;
-ghost use Rattle.fy_policy.specs.Sat.{satisfies};
+ghost use Rattle.fy_policy.specs.Sat.{Sat, satisfies};
 ghost use Rattle.fy_policy.specs.Tree.{IsPolicy};
-ghost use Rattle.fy_decide.specs.Losses.{AreShort, AreSatisfied, all_short, all_satisfied, first_unmet, MayDestroy, may_destroy, with_set, without_set};
+ghost use Rattle.fy_decide.specs.Losses.{AreShort, AreSatisfied, all_short, all_satisfied, everyone, first_unmet, MayDestroy, may_destroy, with_set, without_set};
 ghost use Rattle.fy_decide.specs.DeadBook.{IsFresh, struck};
 ghost use Rattle.fy_decide.specs.Verdicts.{targets, loss_of};
 
 use fy_kinds::{Kind, Target};
 use fy_locality::{Map, ProcSet};
-use fy_policy::{Policy, laws, satisfied};
+use fy_policy::{Policy, laws, satisfied, try_copy_all};
 use std::alloc::{AllocError, AllocFailed, Global};
 use std::marker::Model;
 
@@ -119,11 +119,21 @@ fn are_satisfied(policies: &[Policy], map: &Map, set: &ProcSet) -> bool
 
 /// The place of the first policy that the set doesn't satisfy.
 fn unmet(policies: &[Policy], map: &Map, set: &ProcSet) -> Option<usize>
-    ensures { result ≡ position (λ P. not (satisfies map.now P (sets.contains set.now))) policies.now }
+    ensures place { result ≡ position (λ P. not (satisfies map.now P (sets.contains set.now))) policies.now }
+    ensures met { result ≡ None → AllByRecursion (λ P. IsPolicy P × Sat map.now P (sets.contains set.now)) policies.now }
 {
     policies
         .iter()
         .position(|policy| !satisfied(policy, map, set))
+}
+
+/// The place of the first policy that all processes together don't satisfy. Where there is none, each is within the
+/// limits of a policy and met. Takes no memory.
+pub fn first_unmet(policies: &[Policy], map: &Map) -> Option<usize>
+    ensures place { result ≡ first_unmet map.now policies.now }
+    ensures met { result ≡ None → AllByRecursion (λ P. IsPolicy P × Sat map.now P (everyone map.now)) policies.now }
+{
+    unmet(policies, map, &map.everyone())
 }
 
 /// The place of the first policy that the set satisfies.
@@ -133,19 +143,6 @@ fn met(policies: &[Policy], map: &Map, set: &ProcSet) -> Option<usize>
     policies
         .iter()
         .position(|policy| satisfied(policy, map, set))
-}
-
-/// The same policies, in memory of their own.
-fn copies(alloc: Global, policies: &[Policy]) -> Result<Vec<Policy>, AllocError>
-    ensures same { IfOk result (λ copies. copies.items ≡ policies.now) }
-    ensures limits { OnOk result (AllByRecursion IsPolicy policies.now) }
-{
-    let mut copies = Vec::new(alloc);
-    for policy in policies {
-        let copy = policy.try_copy(alloc)?;
-        copies.push(copy)?;
-    }
-    Ok(copies)
 }
 
 impl DeadBook {
@@ -159,12 +156,11 @@ impl DeadBook {
         ensures memory { first_unmet map.now policies.now ≡ None → IfErr result (λ fault. fault ≡ NoMemory) }
     {
         laws::empty_satisfies_none();
-        laws::test_is_satisfaction();
-        let left = map.everyone();
-        if let Some(index) = unmet(policies, map, &left) {
+        if let Some(index) = first_unmet(policies, map) {
             return Err(MakeFault::Unmet { index });
         }
-        let policies = copies(alloc, policies)?;
+        let left = map.everyone();
+        let policies = try_copy_all(alloc, policies)?;
         let map = map.try_copy(alloc)?;
         Ok(DeadBook {
             map,

@@ -5,5 +5,5 @@ mod dead_book;
 pub mod laws;
 mod verdict;
 
-pub use dead_book::{DeadBook, Loss, MakeFault};
+pub use dead_book::{DeadBook, Loss, MakeFault, first_unmet};
 pub use verdict::{judge, judge_clog};

@@ -1,6 +1,6 @@
 -- the least process of a set that passes a test, from sets of processes
 use Rattle.std.proofs.Common.{◌≡◌, ℕ, zero, suc, ◌+◌, ◌<◌, ◌≤◌, Bool, true, false, ◌&&◌, ◌||◌, not, cond, Option, Some, None, List, get_or, take, length, refl, sym, ap, ◌∙◌, arith, inl, inr}
-use Rattle.std.specs.Prelude.{IfSome, IfNone, slice_index_or}
+use Rattle.std.specs.Prelude.{◌↔◌, IfSome, IfNone, slice_index_or}
 use Rattle.std.specs.Option.{option_map}
 use Rattle.std.specs.List.{find, range_with_len}
 use Rattle.std.specs.Ordering.{nat_cmp}
@@ -100,7 +100,33 @@ first_found p a (suc n) x low high here before =
       | inr ge ↦ let same : a ≡ x = omega arith in ap (λ b. cond b (Some a) (find p (range_with_len (a + 1) n))) (ap p same ∙ here) ∙ ap Some same
     ]
 
-pub least_found : (count : ℕ) (set test : ℕ → Bool) (found : Option ProcId) → ((q : ℕ) → set q ≡ true → q < count) → LeastWith set test found → option_map (λ p. p.0) found ≡ least_with count set test
+found_none : (p : ℕ → Bool) (a n : ℕ) → find p (range_with_len a n) ≡ None → (q : ℕ) → a ≤ q → q < a + n → p q ≡ false
+found_none p a zero e q low high = absurd (let none : ⊥ = omega (arith, low, high) in none)
+found_none p a (suc n) e q low high = at (λ f l. found_none p (a + 1) n f q (omega (arith, l)) (omega (arith, high))) (p a) refl e
+  where
+    at : (find p (range_with_len (a + 1) n) ≡ None → a < q → p q ≡ false) → (b : Bool) → p a ≡ b → cond b (Some a) (find p (range_with_len (a + 1) n)) ≡ None → p q ≡ false
+    at rest true h f = absurd (let none : ⊥ = cc in none)
+    at rest false h f = elim (cases_lt a q) [ inl l ↦ rest f l | inr g ↦ let same : a ≡ q = omega (arith, low, g) in ap p (sym same) ∙ h ]
+
+found_some : (p : ℕ → Bool) (a n x : ℕ) → find p (range_with_len a n) ≡ Some x → (p x ≡ true) × ((q : ℕ) → a ≤ q → q < x → p q ≡ false)
+found_some p a zero x e = absurd (let none : ⊥ = cc in none)
+found_some p a (suc n) x e = at (found_some p (a + 1) n x) (p a) refl e
+  where
+    at : (find p (range_with_len (a + 1) n) ≡ Some x → (p x ≡ true) × ((q : ℕ) → a + 1 ≤ q → q < x → p q ≡ false)) → (b : Bool) → p a ≡ b → cond b (Some a) (find p (range_with_len (a + 1) n)) ≡ Some x → (p x ≡ true) × ((q : ℕ) → a ≤ q → q < x → p q ≡ false)
+    at rest true h f = let same : a ≡ x = cc in (ap p (sym same) ∙ h, λ q low below. absurd (let none : ⊥ = omega (arith, same, low, below) in none))
+    at rest false h f = ((rest f).0, λ q low below. elim (cases_lt a q) [ inl l ↦ (rest f).1 q (omega (arith, l)) below | inr g ↦ let same : a ≡ q = omega (arith, low, g) in ap p (sym same) ∙ h ])
+
+least_found : (count : ℕ) (set test : ℕ → Bool) (found : Option ProcId) → ((q : ℕ) → set q ≡ true → q < count) → LeastWith set test found → option_map (λ p. p.0) found ≡ least_with count set test
 least_found count set test None small none = sym (none_found _ 0 count (λ q. not_both (set q) (test q) (none q)))
 least_found count set test (Some p) small least =
     sym (first_found _ 0 count p.0 (omega arith) (omega (arith, small p.0 least.member)) (ap (λ b. b && test p.0) least.member ∙ least.passes) (λ q below. not_both (set q) (test q) (least.none_below q below)))
+
+found_least : (count : ℕ) (set test : ℕ → Bool) (found : Option ProcId) → ((q : ℕ) → set q ≡ true → q < count) → option_map (λ p. p.0) found ≡ least_with count set test → LeastWith set test found
+found_least count set test None small e = λ q member. second_false (set q) (test q) (found_none (λ q. set q && test q) 0 count (sym e) q (omega arith) (omega (arith, small q member))) member
+found_least count set test (Some p) small e =
+    let is = found_some (λ q. set q && test q) 0 count p.0 (sym e) in
+    let both = both_true (set p.0) (test p.0) is.0 in
+    record { member = both.0; passes = both.1; none_below = λ q below member. second_false (set q) (test q) (is.1 q (omega arith) below) member }
+
+pub least_is_found : (count : ℕ) (set test : ℕ → Bool) (found : Option ProcId) → ((q : ℕ) → set q ≡ true → q < count) → LeastWith set test found ↔ (option_map (λ p. p.0) found ≡ least_with count set test)
+least_is_found count set test found small = (least_found count set test found small, found_least count set test found small)

@@ -1,5 +1,5 @@
 //! Laws of what a book holds after a change and of the least process, for the crates above.
-ghost use Rattle.std.specs.Prelude.{◌≡◌, ◌<◌, ◌==◌, ◌++◌, ◌∷◌, ℕ, Bool, true, Option, [], length, remove, if◌then◌else◌};
+ghost use Rattle.std.specs.Prelude.{◌≡◌, ◌↔◌, ◌<◌, ◌==◌, ◌++◌, ◌∷◌, ℕ, Bool, true, Option, [], length, remove, if◌then◌else◌};
 ghost use Rattle.std.specs.Option.{option_map};
 ghost use Rattle.fy_locality.specs.declared.ProcId.{ProcId};
 ghost use Rattle.fy_kinds.specs.declared.kind_set.KindSet.{KindSet};
@@ -27,5 +27,5 @@ pub fn protections_after_change()
 
 /// The least process of a set that passes a test is the first one found below a bound of the set.
 pub fn least_is_first_found()
-    ensures { (count : ℕ) (set test : ℕ → Bool) (found : Option ProcId) → ((q : ℕ) → set q ≡ true → q < count) → LeastWith set test found → option_map (λ p. p.0) found ≡ least_with count set test }
+    ensures { (count : ℕ) (set test : ℕ → Bool) (found : Option ProcId) → ((q : ℕ) → set q ≡ true → q < count) → LeastWith set test found ↔ (option_map (λ p. p.0) found ≡ least_with count set test) }
 {}

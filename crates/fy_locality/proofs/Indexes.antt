@@ -49,13 +49,6 @@ is_some-lookup test (e ∷ es) = go (test e.0) (is_some-lookup test es)
     go false h = h
 
 -- ---- one value more
--- no value: nothing changes
-pub Notes-none : (es : Entries) (p : ℕ) → Notes es None p es
-Notes-none es p = record { seen = refl; grouped = λ v q. skip (sets.contains (group_of es v) q) (eqb q p) }
-  where
-    skip : (a b : Bool) → a ≡ (a || (b && false))
-    skip a b = grind arith
-
 -- the set of a value is put in with p
 pub Notes-some : (old new : Entries) (v : List ℕ) (p : ℕ) (s : sets.FinSet nat_cmp) → new ≡ insert_entry bytes_eq old v s
     → ((w : List ℕ) → lookup (bytes_eq w) new ≡ cond (bytes_eq v w) (Some s) (lookup (bytes_eq w) old)) → s ≡ sets.insert (group_of old v) p → Notes old (Some v) p new

@@ -65,6 +65,14 @@ impl ProcSet {
         self.words[p.0 as usize / 64] & (1u64 << (p.0 % 64)) != 0
     }
 
+    /// Whether a process with any number is in the set. None of 1024 or more is.
+    pub fn contains(&self, p: ProcId) -> bool
+        ensures { result ≡ sets.contains self.now p.0 }
+    {
+        self.members_are_small();
+        p.0 < 1024 && self.has(p)
+    }
+
     /// How many processes are in the set.
     pub fn len(&self) -> u32
         ensures count { result ≡ sets.len self.now }

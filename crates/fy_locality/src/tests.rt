@@ -371,6 +371,16 @@ fn a_set_holds_numbers(rt: HostRuntime) {
     ] {
         assert_eq!(rt; set.has(ProcId(number)), inside, "{number}");
     }
+    for (number, inside) in [
+        (62, false),
+        (63, true),
+        (1023, true),
+        (1024, false),
+        (1087, false),
+        (4294967295, false),
+    ] {
+        assert_eq!(rt; set.contains(ProcId(number)), inside, "{number}");
+    }
     set.drop_one(ProcId(63));
     set.drop_one(ProcId(5));
     assert!(rt; holds_exactly(&set, &[64, 1023]));

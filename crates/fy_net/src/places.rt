@@ -33,16 +33,9 @@ pub(crate) fn reaches(up: &ProcSet, body: Body) -> bool
     ensures { result ≡ is_reached (sets.contains up.now) body }
 {
     match body {
-        Body::Store { to, .. } => is_member(up, to),
+        Body::Store { to, .. } => up.contains(to),
         Body::Synced { .. } => true,
     }
-}
-
-fn is_member(set: &ProcSet, p: ProcId) -> bool
-    ensures { result ≡ sets.contains set.now p.0 }
-{
-    set.members_are_small();
-    p.0 < 1024 && set.has(p)
 }
 
 /// Whether a message isn't clogged and finds its process up.

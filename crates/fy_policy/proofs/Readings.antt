@@ -25,9 +25,6 @@ pub record CountSoFar (bytes : List ℕ) (i count : ℕ) : Type 0 where
   pub none_yet : i ≡ 0 → number ≡ 0
   pub digits : 0 < i → take i bytes ≡ numeral number
 
-pub no_count_yet : (bytes : List ℕ) → CountSoFar bytes 0 0
-no_count_yet bytes = record { number = 0; same = refl; none_yet = λ _. refl; digits = λ h. absurd (omega arith) }
-
 -- the bytes are those so far, the one here, and the others
 cut_at : (bytes : List ℕ) (i c : ℕ) → i < length bytes → c ≡ get_or bytes i 0 → bytes ≡ take i bytes ++ c ∷ drop (i + 1) bytes
 cut_at bytes i c within is =
@@ -56,10 +53,6 @@ count_more bytes (suc i) count c within is digit (inr some) so_far =
       none_yet = λ h. absurd (omega arith);
       digits = λ _. take_more bytes (suc i) 0 within ∙ (λ j. so_far.digits (omega arith) j ++ (sym is ∙ sym back) j ∷ []) ∙ sym (numeral_push so_far.number (c - 48) (omega arith) (omega arith));
     }
-
--- the comma
-pub count_ends : (bytes : List ℕ) (i count : ℕ) → i < length bytes → 44 ≡ get_or bytes i 0 → 0 < i → CountSoFar bytes i count → (n : ℕ) × (count ≡ min n 1025) × (bytes ≡ numeral n ++ 44 ∷ drop (i + 1) bytes)
-count_ends bytes i count within is some so_far = (so_far.number, so_far.same, cut_at bytes i 44 within is ∙ ap (λ t. t ++ 44 ∷ drop (i + 1) bytes) (so_far.digits some))
 
 numeral_begins : (n : ℕ) (xs : List ℕ) → numeral n ≡ xs → 0 < length xs
 numeral_begins zero [] e = absurd (let x : ⊥ = cc (numeral_zero) in x)
@@ -112,20 +105,11 @@ count_is_cut bytes (suc i) count past so_far n rest e =
 regroup : (n : ℕ) (k : Key) (rest : List ℕ) → numeral n ++ codes "," ++ key_text k ++ codes "," ++ rest ≡ numeral n ++ 44 ∷ (key_text k ++ 44 ∷ rest)
 regroup n k rest = simp append_assoc
 
-pub head_found : (bytes behind front rest : List ℕ) (n : ℕ) (k : Key) → bytes ≡ numeral n ++ 44 ∷ behind → behind ≡ key_text k ++ front → front ≡ codes "," ++ rest → bytes ≡ numeral n ++ codes "," ++ key_text k ++ codes "," ++ rest
-head_found bytes behind front rest n k e f g = e ∙ ap (λ t. numeral n ++ 44 ∷ t) (f ∙ ap (λ t. key_text k ++ t) g) ∙ sym (regroup n k rest)
-
 pub no_key : (bytes front : List ℕ) (m : ℕ) → bytes ≡ numeral m ++ 44 ∷ front → ((k : Key) (rest : List ℕ) → front ≡ key_text k ++ rest → ⊥) → (n : ℕ) (k : Key) (rest : List ℕ) → bytes ≡ numeral n ++ codes "," ++ key_text k ++ codes "," ++ rest → ⊥
 no_key bytes front m e h n k rest f = h k (44 ∷ rest) (numeral_then m n _ _ (sym e ∙ f ∙ regroup n k rest)).1
 
 pub no_comma : (bytes behind front : List ℕ) (m : ℕ) (l : Key) → bytes ≡ numeral m ++ 44 ∷ behind → behind ≡ key_text l ++ front → ((rest : List ℕ) → front ≡ codes "," ++ rest → ⊥) → (n : ℕ) (k : Key) (rest : List ℕ) → bytes ≡ numeral n ++ codes "," ++ key_text k ++ codes "," ++ rest → ⊥
 no_comma bytes behind front m l e f h n k rest g = h rest (key_once l k _ _ (sym f ∙ (numeral_then m n _ _ (sym e ∙ g ∙ regroup n k rest)).1)).1
-
-pub length-head : (bytes rest : List ℕ) (n : ℕ) (k : Key) → bytes ≡ numeral n ++ codes "," ++ key_text k ++ codes "," ++ rest → length rest < length bytes
-length-head bytes rest n k e =
-    let l : length bytes ≡ length (numeral n) + length (44 ∷ (key_text k ++ 44 ∷ rest)) = ap length (e ∙ regroup n k rest) ∙ length-append (numeral n) (44 ∷ (key_text k ++ 44 ∷ rest)) in
-    let m : length (key_text k ++ 44 ∷ rest) ≡ length (key_text k) + length (44 ∷ rest) = length-append (key_text k) (44 ∷ rest) in
-    omega arith
 
 -- ---- shapes
 pub fault_in : (fault : PolicyFault) (inner outer : List ℕ) → (BeginsWithNone inner → BeginsWithNone outer) → IsFaultAt fault inner → IsFaultAt fault outer
@@ -313,9 +297,6 @@ no_bracket bytes behind items so_far no_next no_end = every_fails bytes (λ us r
 -- ---- each call reads less
 pub length-behind : (bytes word rest : List ℕ) → bytes ≡ word ++ rest → length bytes ≡ length word + length rest
 length-behind bytes word rest e = ap length e ∙ length-append word rest
-
-pub length-found : (bytes rest : List ℕ) (q : Tree) → BeginsWith bytes q rest → length rest ≤ length bytes
-length-found bytes rest q found = let l = length-behind bytes (text found.tree) rest found.front in omega arith
 
 pub length-parts : (bytes behind : List ℕ) (items : List Shape) → PartsSoFar bytes items behind → length behind ≤ length bytes
 length-parts bytes behind items so_far = let l = length-behind bytes (parts_text so_far.all) behind so_far.front in omega arith

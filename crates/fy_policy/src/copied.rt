@@ -38,9 +38,20 @@ impl Policy {
     }
 }
 
+/// The same policies, in memory of their own, or no memory.
+pub fn try_copy_all(alloc: Global, policies: &[Policy]) -> Result<Vec<Policy>, AllocError>
+    ensures { IfOk result (λ copies. copies.items ≡ policies.now) }
+{
+    let mut copies = Vec::new(alloc);
+    for policy in policies {
+        copies.push(policy.try_copy(alloc)?)?;
+    }
+    Ok(copies)
+}
+
 #[cfg(test)]
 mod tests {
-    use crate::{policy_text, read_policy};
+    use crate::{policy_text, read_policy, try_copy_all};
     use std::test::Fail;
 
     #[test]
@@ -50,6 +61,21 @@ mod tests {
         let policy = read_policy(alloc, text)?;
         let copy = policy.try_copy(alloc)?;
         assert_eq!(rt; policy_text(alloc, &copy)?.as_str(), text);
+        Ok(())
+    }
+
+    #[test]
+    fn copies_have_the_same_texts(rt: HostRuntime) -> Result<(), Fail> {
+        let alloc = rt.alloc();
+        let texts = ["Across(2,dcid,One())", "One()"];
+        let mut policies = Vec::new(alloc);
+        for text in texts {
+            policies.push(read_policy(alloc, text)?)?;
+        }
+        let copies = try_copy_all(alloc, &policies)?;
+        assert_eq!(rt; copies.len(), 2);
+        assert_eq!(rt; policy_text(alloc, &copies[0])?.as_str(), texts[0]);
+        assert_eq!(rt; policy_text(alloc, &copies[1])?.as_str(), texts[1]);
         Ok(())
     }
 }

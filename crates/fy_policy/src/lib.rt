@@ -12,6 +12,7 @@ mod shape;
 mod text;
 pub mod text_laws;
 
+pub use copied::try_copy_all;
 pub use fault::PolicyFault;
 pub use policy::{Policy, satisfied};
 pub use reading::read_policy;

@@ -53,6 +53,7 @@ impl Policy {
 pub fn satisfied(policy: &Policy, map: &Map, set: &ProcSet) -> bool
     ensures satisfaction { IsTrue result ↔ Sat map.now policy.now (sets.contains set.now) }
     ensures test { result ≡ satisfies map.now policy.now (sets.contains set.now) }
+    ensures limits { IsPolicy policy.now }
 {
     laws::test_is_satisfaction();
     shape_satisfied(policy.shape(), map, set)

@@ -59,14 +59,7 @@ fn has_stranger(map: &Map, members: &[ProcId]) -> bool
 fn has_some(set: &ProcSet, members: &[ProcId]) -> bool
     ensures { result ≡ list_any (λ p. sets.contains set.now p.0) members.now }
 {
-    members.iter().any(|p| is_in(set, *p))
-}
-
-fn is_in(set: &ProcSet, p: ProcId) -> bool
-    ensures { result ≡ sets.contains set.now p.0 }
-{
-    set.members_are_small();
-    p.0 < 1024 && set.has(p)
+    members.iter().any(|p| set.contains(*p))
 }
 
 /// The members as a set.

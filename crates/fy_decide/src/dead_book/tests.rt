@@ -1,5 +1,5 @@
 //! Books of four and of six processes.
-use crate::{DeadBook, Loss, MakeFault};
+use crate::{DeadBook, Loss, MakeFault, first_unmet};
 use fy_kinds::Kind;
 use fy_locality::{Map, ProcId, ProcSet};
 use fy_policy::{Policy, read_policy};
@@ -86,6 +86,20 @@ fn the_first_unmet_policy_is_named(rt: HostRuntime) {
         ),
         unmet(1)
     );
+}
+
+/// The first policy that six processes don't satisfy, where the map and the policies are made.
+fn unmet_of(alloc: Global, texts: &[&str]) -> Option<Option<usize>> {
+    let map = first(alloc, 6)?;
+    let policies = read_all(alloc, texts)?;
+    Some(first_unmet(&policies, &map))
+}
+
+#[test]
+fn the_first_unmet_policy_is_found(rt: HostRuntime) {
+    let alloc = rt.alloc();
+    assert_eq!(rt; unmet_of(alloc, &["Across(4,zoneid,One())"]), Some(Some(0)));
+    assert_eq!(rt; unmet_of(alloc, &["Across(2,zoneid,One())"]), Some(None));
 }
 
 /// Asks for one loss after another, each of which is taken down where it may be: whether each answer is the one that

@@ -1,0 +1,14 @@
+//! What actors ask of a cluster, what it replies, and the journal of both.
+#![tactic(auto)]
+
+mod act;
+mod entry;
+mod journal;
+mod reply;
+#[cfg(test)]
+mod tests;
+
+pub use act::Act;
+pub use entry::Entry;
+pub use journal::Journal;
+pub use reply::{Refusal, Reply};

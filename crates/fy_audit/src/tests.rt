@@ -1,0 +1,181 @@
+use super::*;
+use fy_disk::Payload;
+use fy_grants::{Grant, Scope};
+use fy_kinds::{KillOrder, Kind, KindSet, Target};
+use fy_locality::{BadName, Key, Name, ProcId};
+use fy_team::Members;
+use std::alloc::Global;
+use std::test::Fail;
+
+const P0: ProcId = ProcId(0);
+
+const P2: ProcId = ProcId(2);
+
+fn zone(text: &str) -> Result<Target, BadName> {
+    Ok(Target {
+        key: Key::Zone,
+        value: Name::make(text)?,
+    })
+}
+
+/// The form of a team under policy 3, where its members are made.
+fn form(alloc: Global, members: &[ProcId]) -> Option<Act> {
+    let members = Members::make(alloc, members).ok()?;
+    Some(Act::Form { members, policy: 3 })
+}
+
+/// The begin of a record for team 4, where its payload is made.
+fn begin(alloc: Global, bytes: &[u8]) -> Option<Act> {
+    let payload = Payload::make(alloc, bytes).ok()?;
+    Some(Act::Begin { team: 4, payload })
+}
+
+fn copy(act: &Act, alloc: Global) -> Option<Act> {
+    act.try_copy(alloc).ok()
+}
+
+fn is_form(act: &Act, wanted: &[ProcId]) -> bool {
+    match act {
+        Act::Form { members, policy } => members.as_slice() == wanted && *policy == 3,
+        _ => false,
+    }
+}
+
+fn is_begin(act: &Act, wanted: &[u8]) -> bool {
+    match act {
+        Act::Begin { team, payload } => *team == 4 && payload.bytes() == wanted,
+        _ => false,
+    }
+}
+
+fn is_deliver(act: &Act, wanted: u64) -> bool {
+    match act {
+        Act::Deliver { message } => *message == wanted,
+        _ => false,
+    }
+}
+
+#[test]
+fn a_push_finds_the_room_that_was_made(rt: HostRuntime) -> Result<(), Fail> {
+    let mut journal = Journal::make(rt.alloc());
+    assert_eq!(rt; journal.len(), 0);
+    assert!(rt; journal.entry(0).is_none());
+    journal.reserve(1)?;
+    let reply = Reply::No(Refusal::NoMessage);
+    journal.push(7, Act::Deliver { message: 5 }, reply);
+    assert_eq!(rt; journal.len(), 1);
+    let entry = journal.entry(0).ok_or("no entry")?;
+    assert_eq!(rt; (entry.at, entry.by, entry.reply), (0, 7, reply));
+    assert!(rt; is_deliver(&entry.act, 5) && journal.entry(1).is_none());
+    Ok(())
+}
+
+#[test]
+fn acts_with_lists_are_copied(rt: HostRuntime) -> Result<(), Fail> {
+    let alloc = rt.alloc();
+    let forming = form(alloc, &[P0, P2]).ok_or("no form")?;
+    let beginning = begin(alloc, b"hi").ok_or("no begin")?;
+    let formed = copy(&forming, alloc).ok_or("no copy of the form")?;
+    let begun = copy(&beginning, alloc).ok_or("no copy of the begin")?;
+    assert!(rt; is_form(&formed, &[P0, P2]) && is_form(&forming, &[P0, P2]));
+    assert!(rt; is_begin(&begun, &[0x68, 0x69]) && is_begin(&beginning, b"hi"));
+    Ok(())
+}
+
+#[test]
+fn entries_are_numbered_by_place(rt: HostRuntime) -> Result<(), Fail> {
+    let alloc = rt.alloc();
+    let mut journal = Journal::make(alloc);
+    let forming = form(alloc, &[P0, P2]).ok_or("no form")?;
+    let beginning = begin(alloc, b"hi").ok_or("no begin")?;
+    journal.reserve(2)?;
+    journal.push(0, forming, Reply::Formed { team: 4 });
+    journal.push(1, beginning, Reply::Begun { rec: 0, first: 0 });
+    journal.entries_are_numbered();
+    let (first, second) = (journal.entry(0), journal.entry(1));
+    let (first, second) = (first.ok_or("no first")?, second.ok_or("no second")?);
+    assert_eq!(rt; (first.at, first.by), (0, 0));
+    assert_eq!(rt; (second.at, second.by), (1, 1));
+    assert_eq!(rt; first.reply, Reply::Formed { team: 4 });
+    assert_eq!(rt; second.reply, Reply::Begun { rec: 0, first: 0 });
+    assert!(rt; is_form(&first.act, &[P0, P2]) && is_begin(&second.act, b"hi"));
+    Ok(())
+}
+
+#[test]
+fn acts_on_targets_are_copied(rt: HostRuntime) -> Result<(), Fail> {
+    let alloc = rt.alloc();
+    let target = zone("z0")?;
+    let order = KillOrder::make(target, Kind::KillInstantly, Kind::Reboot, 5)?;
+    let kill = Act::Kill { order }.try_copy(alloc)?;
+    let clog = Act::Clog { target, ticks: 10 }.try_copy(alloc)?;
+    let unclog = Act::Unclog { target }.try_copy(alloc)?;
+    assert!(rt; matches!(&kill, Act::Kill { order: it } if *it == order));
+    assert!(rt; matches!(&clog, Act::Clog { target: it, ticks: 10 } if *it == target));
+    assert!(rt; matches!(&unclog, Act::Unclog { target: it } if *it == target));
+    Ok(())
+}
+
+#[test]
+fn acts_on_messages_are_copied(rt: HostRuntime) -> Result<(), Fail> {
+    let alloc = rt.alloc();
+    let deliver = Act::Deliver { message: u64::MAX }.try_copy(alloc)?;
+    let lose = Act::Lose { message: 6 }.try_copy(alloc)?;
+    let resend = Act::Resend {
+        rec: 7,
+        process: P2,
+    };
+    let resend = resend.try_copy(alloc)?;
+    assert!(rt; is_deliver(&deliver, u64::MAX));
+    assert!(rt; matches!(&lose, Act::Lose { message: 6 }));
+    assert!(rt;
+        matches!(
+            &resend,
+            Act::Resend {
+                rec: 7,
+                process: ProcId(2)
+            }
+        )
+    );
+    Ok(())
+}
+
+#[test]
+fn acts_of_storage_are_copied(rt: HostRuntime) -> Result<(), Fail> {
+    let alloc = rt.alloc();
+    let sync = Act::Sync { process: P2 }.try_copy(alloc)?;
+    let up = Act::Up { process: P2 }.try_copy(alloc)?;
+    let tick = Act::Tick { ticks: 9 }.try_copy(alloc)?;
+    assert!(rt; matches!(&sync, Act::Sync { process: ProcId(2) }));
+    assert!(rt; matches!(&up, Act::Up { process: ProcId(2) }));
+    assert!(rt; matches!(&tick, Act::Tick { ticks: 9 }));
+    Ok(())
+}
+
+#[test]
+fn acts_on_grants_are_copied(rt: HostRuntime) -> Result<(), Fail> {
+    let alloc = rt.alloc();
+    let grant = Grant {
+        actor: 3,
+        kinds: KindSet::of(Kind::Reboot),
+        scope: Scope::Where(zone("z1")?),
+    };
+    let give = Act::Give { grant }.try_copy(alloc)?;
+    let take = Act::Take { actor: 3, index: 8 }.try_copy(alloc)?;
+    assert!(rt; matches!(&give, Act::Give { grant: it } if *it == grant));
+    assert!(rt; matches!(&take, Act::Take { actor: 3, index: 8 }));
+    Ok(())
+}
+
+#[test]
+fn acts_on_protections_are_copied(rt: HostRuntime) -> Result<(), Fail> {
+    let (alloc, process) = (rt.alloc(), P2);
+    let kinds = KindSet::of_clog();
+    let protect = Act::Protect { process, kinds }.try_copy(alloc)?;
+    let unprotect = Act::Unprotect { process, kinds }.try_copy(alloc)?;
+    assert!(rt; matches!(&protect, Act::Protect { process: ProcId(2), kinds: it } if *it == kinds));
+    assert!(rt;
+        matches!(&unprotect, Act::Unprotect { process: ProcId(2), kinds: it } if *it == kinds)
+    );
+    Ok(())
+}

@@ -1,0 +1,91 @@
+-- from one entry to a whole journal
+use Rattle.std.proofs.Common.{◌≡◌, ◌↔◌, ℕ, Some, None, inl, inr, ◌⊎◌, ◌≤◌, ◌<◌, true, false, List, [], ◌∷◌, ◌++◌, length, map, refl, sym, ◌∙◌, ap, ap₂, subst, nat_le, le-leb}
+use Rattle.std.proofs.lemmas.Option.{slice_get-get_or}
+use Rattle.std.proofs.lemmas.Bool.{lt-leb, cases_lt}
+use Rattle.fy_kinds.specs.Orders.{Order}
+use Rattle.fy_kinds.specs.declared.verdict.Verdict.{Verdict as VerdictOf}
+use Rattle.fy_decide.specs.Verdicts.{Situation, verdict}
+use Rattle.fy_audit.specs.declared.act.Act.{Act}
+use Rattle.fy_audit.specs.declared.act.Act.TheVariants.{Kill}
+use Rattle.fy_audit.specs.declared.reply.Reply.{Reply}
+use Rattle.fy_audit.specs.declared.reply.Reply.TheVariants.{Verdict, No}
+use Rattle.fy_audit.specs.declared.reply.Refusal.TheVariants.{Stranger}
+use Rattle.fy_audit.specs.declared.entry.Entry.{Entry}
+use Rattle.fy_cluster.specs.declared.role.Role.TheVariants.{Fault}
+use Rattle.fy_cluster.specs.Setup.{Setup}
+use Rattle.fy_cluster.specs.History.{History, moment, after, history}
+use Rattle.fy_cluster.specs.Rules.{situation}
+use Rattle.fy_cluster.specs.Replies.{refusals, reasons, answer, reply, IsNext, LegalAfter, Legal}
+use Rattle.fy_cluster.specs.Survival.{by_and_act, RulesNamed}
+
+-- what each legal entry keeps, a legal journal keeps
+pub kept_after : (c : Setup) (Q : History → Type 0) → ((h : History) (e : Entry) → IsNext c h e → Q h → Q (moment c h e ∷ h)) → (h : History) (later : List Entry) → Q h → LegalAfter c h later → Q (after c h later)
+kept_after c Q step h [] q l = q
+kept_after c Q step h (e ∷ later) q l = kept_after c Q step (moment c h e ∷ h) later (step h e l.0 q) l.1
+
+-- the one lemma that leads from a journal's end to the history's front
+pub after-append : (c : Setup) (h : History) (xs ys : List Entry) → after c h (xs ++ ys) ≡ after c (after c h xs) ys
+after-append c h [] ys = refl
+after-append c h (e ∷ xs) ys = after-append c (moment c h e ∷ h) xs ys
+
+pub legal_parts : (c : Setup) (h : History) (xs ys : List Entry) → LegalAfter c h (xs ++ ys) → LegalAfter c h xs × LegalAfter c (after c h xs) ys
+legal_parts c h [] ys l = (tt, l)
+legal_parts c h (e ∷ xs) ys l = let rest = legal_parts c (moment c h e ∷ h) xs ys l.1 in ((l.0, rest.0), rest.1)
+
+cons_parts : {X : Type 0} (x y : X) (xs ys : List X) → x ∷ xs ≡ y ∷ ys → (x ≡ y) × (xs ≡ ys)
+cons_parts x y xs ys e = (cc, cc)
+
+same_entry : (x y : Entry) → x.at ≡ y.at → x.by ≡ y.by → x.act ≡ y.act → x.reply ≡ y.reply → x ≡ y
+same_entry x y p b a r = ap₂ (λ (u : ℕ × ℕ) (v : Act × Reply). record { at = u.0; by = u.1; act = v.0; reply = v.1 }) (ap₂ (λ s t. (s, t)) p b) (ap₂ (λ s t. (s, t)) a r)
+
+same_after : (c : Setup) (h : History) (xs ys : List Entry) → LegalAfter c h xs → LegalAfter c h ys → map by_and_act xs ≡ map by_and_act ys → xs ≡ ys
+same_after c h [] [] l k e = refl
+same_after c h [] (y ∷ ys) l k e = absurd (cc)
+same_after c h (x ∷ xs) [] l k e = absurd (cc)
+same_after c h (x ∷ xs) (y ∷ ys) l k e =
+    let parts = cons_parts (by_and_act x) (by_and_act y) (map by_and_act xs) (map by_and_act ys) e in
+    let b : x.by ≡ y.by = ap (λ (z : ℕ × Act). z.0) parts.0 in
+    let a : x.act ≡ y.act = ap (λ (z : ℕ × Act). z.1) parts.0 in
+    let rest = parts.1 in
+    let place : x.at ≡ y.at = l.0.place ∙ sym k.0.place in
+    let right : x.reply ≡ y.reply = l.0.right ∙ ap₂ (reply c h) b a ∙ sym k.0.right in
+    let same : x ≡ y = same_entry x y place b a right in
+    let moved : LegalAfter c (moment c h x ∷ h) ys = subst (λ z. LegalAfter c (moment c h z ∷ h) ys) (sym same) k.1 in
+    ap₂ (λ z zs. z ∷ zs) same (same_after c (moment c h x ∷ h) xs ys l.1 moved rest)
+
+pub same_acts_same_journal : (c : Setup) (xs ys : List Entry) → Legal c xs → Legal c ys → map by_and_act xs ≡ map by_and_act ys → xs ≡ ys
+same_acts_same_journal c xs ys l k e = same_after c [] xs ys l.1 k.1 e
+
+-- ---- kills carry their verdicts
+kill_known : (c : Setup) (h : History) (by : ℕ) (order : Order) → by < length c.roles → reply c h by (Kill order) ≡ Verdict (verdict (situation c h by) order)
+unfolding reply reasons refusals answer
+kill_known c h by order known =
+    let role = slice_get-get_or c.roles by Fault known in
+    let there : nat_le (length c.roles) by ≡ false = lt-leb _ _ known in
+    rw (there, role) refl
+
+kill_unknown : (c : Setup) (h : History) (by : ℕ) (order : Order) → length c.roles ≤ by → reply c h by (Kill order) ≡ No Stranger
+unfolding reply reasons refusals answer
+kill_unknown c h by order unknown = let none : nat_le (length c.roles) by ≡ true = le-leb _ _ unknown in rw none refl
+
+pub kills_judged : (c : Setup) (before later : List Entry) (e : Entry) (order : Order) → Legal c (before ++ e ∷ later) → e.act ≡ Kill order →
+    (e.by < length c.roles → e.reply ≡ Verdict (verdict (situation c (history c before) e.by) order)) × (length c.roles ≤ e.by → e.reply ≡ No Stranger)
+kills_judged c before later e order l a =
+    let next : IsNext c (history c before) e = (legal_parts c [] before (e ∷ later) l.1).1.0 in
+    let said : e.reply ≡ reply c (history c before) e.by (Kill order) = next.right ∙ ap (reply c (history c before) e.by) a in
+    (λ known. said ∙ kill_known c (history c before) e.by order known, λ unknown. said ∙ kill_unknown c (history c before) e.by order unknown)
+
+abbrev Named : Type 0
+Named = (situation : Situation) (order : Order) → ((verdict situation order).rule ≡ None) ↔ ((verdict situation order).struck ≡ Some order.kind)
+
+inside : (v w : VerdictOf) → Verdict v ≡ Verdict w → v ≡ w
+inside v w e = cc
+
+pub rules_named : Named → RulesNamed
+rules_named named c before later e order v l a r = at (cases_lt e.by (length c.roles))
+  where
+    at : (e.by < length c.roles) ⊎ (length c.roles ≤ e.by) → (v.rule ≡ None) ↔ (v.struck ≡ Some order.kind)
+    at (inl known) =
+        let same : v ≡ verdict (situation c (history c before) e.by) order = inside v _ (sym r ∙ (kills_judged c before later e order l a).0 known) in
+        subst (λ w. (w.rule ≡ None) ↔ (w.struck ≡ Some order.kind)) (sym same) (named (situation c (history c before) e.by) order)
+    at (inr unknown) = absurd (let wrong : Verdict v ≡ No Stranger = sym r ∙ (kills_judged c before later e order l a).1 unknown in let none : ⊥ = cc in none)

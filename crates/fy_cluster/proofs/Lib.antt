@@ -1,0 +1,5 @@
+pub mod Disks
+pub mod Journals
+pub mod Keepers
+pub mod Records
+pub mod Strikes

@@ -1,0 +1,6 @@
+pub mod Setup
+pub mod History
+pub mod Rules
+pub mod Replies
+pub mod Survival
+pub use Rattle.fy_locality.specs.Locality

@@ -1,0 +1,59 @@
+-- what every legal journal keeps
+use Rattle.std.specs.Prelude.{◌≡◌, ◌↔◌, ℕ, not, List, ◌∷◌, ◌++◌, Contains, IsTrue, IsFalse, Some, None, is_some, ◌≤◌, ◌<◌, length, map}
+use Rattle.std.specs.List.{list_any}
+use Rattle.fy_locality.specs.declared.ProcId.{ProcId}
+use Rattle.fy_kinds.specs.Orders.{Order}
+use Rattle.fy_kinds.specs.declared.verdict.Verdict.{Verdict}
+use Rattle.fy_grants.specs.Least.{LeastWith}
+use Rattle.fy_team.specs.Teams.{is_among}
+use Rattle.fy_decide.specs.Losses.{AreShort, AreSatisfied}
+use Rattle.fy_decide.specs.Verdicts.{verdict}
+use Rattle.fy_audit.specs.declared.act.Act.{Act}
+use Rattle.fy_audit.specs.declared.act.Act.TheVariants.{Kill}
+use Rattle.fy_audit.specs.declared.reply.Reply.TheVariants.{Verdict as Verdicted, No}
+use Rattle.fy_audit.specs.declared.reply.Refusal.TheVariants.{Stranger}
+use Rattle.fy_audit.specs.declared.entry.Entry.{Entry}
+use Rattle.fy_cluster.specs.Setup.{Setup, IsMet}
+use Rattle.fy_cluster.specs.History.{History, history, destroyed, left, synced, acked, keeps, keeper, team_of, payload_of}
+use Rattle.fy_cluster.specs.Rules.{situation}
+use Rattle.fy_cluster.specs.Replies.{Legal}
+
+-- who asked for what
+abbrev pub by_and_act : Entry → ℕ × Act
+by_and_act e = (e.by, e.act)
+
+-- some member of the record's team isn't destroyed, and every such member has the record synced
+pub record Kept (h : History) (r : ℕ) : Type 0 where
+  pub someone : IsTrue (list_any (λ p. not (destroyed h p.0)) (team_of h r))
+  pub everyone : (p : ProcId) → Contains (team_of h r) p → IsFalse (destroyed h p.0) → Contains (synced h p.0) (record { rec = r; payload = payload_of h r })
+
+-- the destroyed are short of every policy
+abbrev pub DestroyedShort : Type 0
+DestroyedShort = (c : Setup) (journal : List Entry) → IsMet c → Legal c journal → AreShort c.processes c.policies (destroyed (history c journal))
+
+-- those left satisfy every policy
+abbrev pub LeftSatisfy : Type 0
+LeftSatisfy = (c : Setup) (journal : List Entry) → IsMet c → Legal c journal → AreSatisfied c.processes c.policies (left c (history c journal))
+
+-- each kill by an actor of the cluster has the verdict as its reply, and any other No(Stranger)
+abbrev pub KillsJudged : Type 0
+KillsJudged = (c : Setup) (before later : List Entry) (e : Entry) (order : Order) → Legal c (before ++ e ∷ later) → e.act ≡ Kill order →
+    (e.by < length c.roles → e.reply ≡ Verdicted (verdict (situation c (history c before) e.by) order)) × (length c.roles ≤ e.by → e.reply ≡ No Stranger)
+
+-- no rule is named exactly where the ordered kind struck
+abbrev pub RulesNamed : Type 0
+RulesNamed = (c : Setup) (before later : List Entry) (e : Entry) (order : Order) (verdict : Verdict) → Legal c (before ++ e ∷ later) → e.act ≡ Kill order → e.reply ≡ Verdicted verdict → (verdict.rule ≡ None) ↔ (verdict.struck ≡ Some order.kind)
+
+-- every acknowledged record is kept
+abbrev pub RecordsKept : Type 0
+RecordsKept = (c : Setup) (journal : List Entry) → IsMet c → Legal c journal → (r : ℕ) → IsTrue (acked (history c journal) r) → Kept (history c journal) r
+
+-- there is a keeper of exactly the acknowledged records, and it is the least member of the record's team that keeps it
+abbrev pub KeepersFound : Type 0
+KeepersFound = (c : Setup) (journal : List Entry) → IsMet c → Legal c journal → (r : ℕ) →
+    (is_some (keeper c (history c journal) r) ≡ acked (history c journal) r)
+    × (IsTrue (acked (history c journal) r) → LeastWith (is_among (team_of (history c journal) r)) (keeps (history c journal) r) (keeper c (history c journal) r))
+
+-- the same acts by the same actors make the same journal
+abbrev pub SameActsSameJournal : Type 0
+SameActsSameJournal = (c : Setup) (xs ys : List Entry) → Legal c xs → Legal c ys → map by_and_act xs ≡ map by_and_act ys → xs ≡ ys

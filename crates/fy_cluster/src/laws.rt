@@ -1,0 +1,57 @@
+//! What every legal journal keeps, over the definitions alone.
+ghost use Rattle.fy_cluster.specs.Survival.{DestroyedShort, LeftSatisfy, KillsJudged, RulesNamed, RecordsKept, KeepersFound, SameActsSameJournal};
+
+/// The destroyed are short of every policy.
+pub fn destroyed_short()
+    ensures { DestroyedShort }
+{
+    fy_policy::laws::empty_satisfies_none();
+    fy_policy::laws::more_satisfies();
+    fy_decide::laws::struck_may_be_destroyed();
+}
+
+/// Those left satisfy every policy.
+pub fn left_satisfy()
+    ensures { LeftSatisfy }
+{
+    fy_policy::laws::more_satisfies();
+    fy_decide::laws::struck_may_be_destroyed();
+}
+
+/// Each kill by an actor has the verdict as its reply, and any other is a stranger's.
+pub fn kills_judged()
+    ensures { KillsJudged }
+{}
+
+/// Of a kill's verdict no rule is named exactly where the ordered kind struck.
+pub fn rules_named()
+    ensures { RulesNamed }
+{
+    fy_decide::laws::rule_is_named_for_less();
+}
+
+/// Every acknowledged record keeps a synced copy on an undestroyed member of its team, and each undestroyed member has
+/// one.
+pub fn records_kept()
+    ensures { RecordsKept }
+{
+    fy_policy::laws::test_is_satisfaction();
+    fy_policy::laws::more_satisfies();
+    destroyed_short();
+}
+
+/// There is a keeper of exactly the acknowledged records: the least member that isn't destroyed and has the record
+/// synced.
+pub fn keepers_found()
+    ensures { KeepersFound }
+{
+    fy_policy::laws::test_is_satisfaction();
+    fy_policy::laws::more_satisfies();
+    fy_grants::laws::least_is_first_found();
+    destroyed_short();
+}
+
+/// The same acts by the same actors make the same journal.
+pub fn same_acts_same_journal()
+    ensures { SameActsSameJournal }
+{}

@@ -1,0 +1,4 @@
+pub mod FromLaws
+pub mod Illegal
+pub mod MetPolicy
+pub mod Played

@@ -1,0 +1,68 @@
+-- journals that aren't legal: each is a legal one with one thing turned
+use Rattle.std.specs.Prelude.{false, List, [], ◌∷◌, ◌++◌, codes}
+use Rattle.fy_kinds.specs.declared.kind.Kind.TheVariants.{Reboot, KillInstantly}
+use Rattle.fy_kinds.specs.declared.verdict.Rule.TheVariants.{NoGrant, Protected, TooManyDestroyed}
+use Rattle.fy_audit.specs.declared.act.Act.TheVariants.{Form, Begin, Deliver, Resend, Tick, Protect}
+use Rattle.fy_audit.specs.declared.reply.Reply.TheVariants.{Formed, Begun, Stored, Marked, Sent, Time, Done}
+use Rattle.fy_audit.specs.declared.entry.Entry.{Entry}
+use Rattle.fy_cluster.specs.Setup.{Setup}
+use Rattle.fy_worked.specs.Clusters.{entry, process, zone_named, kill, struck, weakened, barred, cluster, six_processes, in_two_zones}
+use Rattle.fy_worked.specs.Leave.{destroying}
+use Rattle.fy_worked.specs.Records.{pair, hi, written_and_synced}
+use Rattle.fy_worked.specs.Messages.{begun}
+
+-- the second zone is killed too
+abbrev pub second_zone_killed : List Entry
+second_zone_killed =
+    entry 0 1 (kill (zone_named (codes "z0"))) (struck KillInstantly)
+    ∷ entry 1 1 (kill (zone_named (codes "z1"))) (struck KillInstantly)
+    ∷ []
+
+-- the second entry has the third place
+abbrev pub place_left_out : List Entry
+place_left_out =
+    entry 0 1 (kill (zone_named (codes "z0"))) (struck KillInstantly)
+    ∷ entry 2 1 (kill (zone_named (codes "z1"))) (weakened Reboot (TooManyDestroyed 0))
+    ∷ []
+
+-- who has a grant is told that it has none
+abbrev pub grant_overlooked : List Entry
+grant_overlooked =
+    entry 0 4 (Protect (process 1) destroying) Done
+    ∷ entry 1 1 (kill (zone_named (codes "z0"))) (weakened Reboot (NoGrant (process 0)))
+    ∷ []
+
+-- who has no grant is told of the protection
+abbrev pub protection_named_first : List Entry
+protection_named_first =
+    entry 0 4 (Protect (process 1) destroying) Done
+    ∷ entry 1 3 (kill (zone_named (codes "z0"))) (barred (Protected (process 1)))
+    ∷ []
+
+-- the first message has number 1
+abbrev pub number_left_out : List Entry
+number_left_out = entry 0 0 (Form pair 0) (Formed 0) ∷ entry 1 0 (Begin 0 hi) (Begun 0 1) ∷ []
+
+-- a store that arrives counts as a word
+abbrev pub marked_unsynced : List Entry
+marked_unsynced = begun ++ entry 2 0 (Deliver 0) (Marked false) ∷ []
+
+-- a word is delivered that nobody has sent
+abbrev pub word_never_sent : List Entry
+word_never_sent = begun ++ entry 2 0 (Deliver 0) Stored ∷ entry 3 0 (Deliver 2) (Marked false) ∷ []
+
+-- an acknowledged record is sent again
+abbrev pub sent_though_acknowledged : List Entry
+sent_though_acknowledged = written_and_synced ++ entry 9 0 (Resend 0 (process 2)) (Sent 4) ∷ []
+
+-- one of two zones is killed, so that too few are left
+abbrev pub too_few_left : List Entry
+too_few_left = entry 0 1 (kill (zone_named (codes "z0"))) (struck KillInstantly) ∷ []
+
+-- a cluster whose journal may have one entry
+abbrev pub short_lived : Setup
+short_lived = cluster six_processes in_two_zones 1
+
+-- two entries
+abbrev pub two_ticks : List Entry
+two_ticks = entry 0 0 (Tick 1) (Time 1) ∷ entry 1 0 (Tick 1) (Time 2) ∷ []

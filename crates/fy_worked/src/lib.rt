@@ -1,0 +1,4 @@
+//! Worked journals.
+#![tactic(auto)]
+
+pub mod laws;
