@@ -32,8 +32,10 @@ install: build
 	mkdir -p $(DESTDIR)$(PREFIX)/bin
 	cp bin/faultyard $(DESTDIR)$(PREFIX)/bin/faultyard
 
+# Beside the same command in plain Rust, where there is a rustc.
 bench: build
-	bench/judge.py bin/faultyard
+	if command -v rustc > /dev/null; then rustc --edition 2024 -C opt-level=3 -o bin/judge_by_hand bench/judge_by_hand.rs; fi
+	bench/judge.py bin/faultyard $$(ls bin/judge_by_hand 2> /dev/null)
 	bench/verdicts.sh
 
 clean:

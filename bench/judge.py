@@ -1,14 +1,17 @@
 #!/usr/bin/env python3
-"""Times `faultyard judge` on generated inputs of 6, 100 and 1024 processes under eight policies.
+"""Times `judge` of one or more programs on generated inputs of 6, 100 and 1024 processes under eight policies.
 
-    bench/judge.py PROGRAM [ROUNDS]
+    bench/judge.py [--rounds N] PROGRAM..
 
 Each input is filled with asks up to the limit of 1,048,576 bytes. The inputs are the same in each
-run. A row of the table is the best of ROUNDS runs (3 if left out): asks per second over the whole
-run of the program, reading and writing included, and the program's peak memory.
+run. The programs take turns, and have to write the same answers. A row of the table is the best of
+N runs (10 if left out): asks per second over the whole run of the program, reading and writing
+included, and the program's peak memory in a run of its own.
 """
+import argparse
 import os
 import random
+import re
 import subprocess
 import sys
 import tempfile
@@ -58,35 +61,53 @@ def judge_input(count):
 
 
 def timed(program, path):
-    """Seconds and peak memory (KiB) of one run, and what it wrote."""
+    """Seconds of one run, its status, and what it wrote."""
     with open(path, "rb") as given, tempfile.TemporaryFile() as written:
         started = time.perf_counter()
-        child = subprocess.Popen([program, "judge"], stdin=given, stdout=written)
-        _, status, usage = os.wait4(child.pid, 0)
+        status = subprocess.call([program, "judge"], stdin=given, stdout=written)
         seconds = time.perf_counter() - started
-        child.returncode = os.waitstatus_to_exitcode(status)
         written.seek(0)
-        return seconds, usage.ru_maxrss, child.returncode, written.read()
+        return seconds, status, written.read()
+
+
+def peak(program, path):
+    """The peak memory of one run in KiB, as the system tells it last before the end. (What it tells a
+    parent afterwards counts the parent's own memory before the program was started in its place.)"""
+    most = 0
+    with open(path, "rb") as given:
+        child = subprocess.Popen([program, "judge"], stdin=given, stdout=subprocess.DEVNULL)
+        while child.poll() is None:
+            try:
+                with open(f"/proc/{child.pid}/status") as told:
+                    found = re.search(r"VmHWM:\s+(\d+)", told.read())
+            except OSError:
+                found = None
+            most = int(found[1]) if found else most
+    return most
 
 
 def main():
-    if len(sys.argv) < 2:
-        sys.exit("usage: bench/judge.py PROGRAM [ROUNDS]")
-    program = os.path.abspath(sys.argv[1])
-    rounds = int(sys.argv[2]) if len(sys.argv) > 2 else 3
-    print(f"{'processes':>9} {'bytes':>9} {'asks':>7} {'yes':>5} {'gone':>6} {'seconds':>8} {'asks/s':>9} {'peak KiB':>9}")
+    words = argparse.ArgumentParser(usage="bench/judge.py [--rounds N] PROGRAM..")
+    words.add_argument("--rounds", type=int, default=10)
+    words.add_argument("programs", nargs="+")
+    words = words.parse_args()
+    width = max(len(program) for program in words.programs)
+    print(f"{'program':<{width}} {'processes':>9} {'asks':>7} {'yes':>5} {'gone':>6} {'seconds':>8} {'asks/s':>9} {'peak KiB':>9}")
     for count in (6, 100, 1024):
         data, asks = judge_input(count)
         with tempfile.NamedTemporaryFile(suffix=".judge") as file:
             file.write(data)
             file.flush()
-            runs = [timed(program, file.name) for _ in range(rounds)]
-        seconds, memory, status, written = min(runs)
-        answers = written.split(b"\n")[:-1]
-        if status != 0 or len(answers) != asks:
-            sys.exit(f"{count} processes: status {status}, {len(answers)} answers to {asks} asks")
-        yes, gone = answers.count(b"yes"), answers.count(b"gone")
-        print(f"{count:>9} {len(data):>9} {asks:>7} {yes:>5} {gone:>6} {seconds:>8.3f} {asks / seconds:>9.0f} {memory:>9}")
+            programs = [os.path.abspath(program) for program in words.programs]
+            rounds = [[timed(program, file.name) for program in programs] for _ in range(words.rounds)]
+            peaks = [peak(program, file.name) for program in programs]
+        for program, memory, runs in zip(words.programs, peaks, zip(*rounds)):
+            seconds, status, written = min(runs)
+            answers = written.split(b"\n")[:-1]
+            if status != 0 or len(answers) != asks or written != rounds[0][0][2]:
+                sys.exit(f"{program}, {count} processes: status {status}, {len(answers)} answers to {asks} asks, or other ones than {words.programs[0]}")
+            yes, gone = answers.count(b"yes"), answers.count(b"gone")
+            print(f"{program:<{width}} {count:>9} {asks:>7} {yes:>5} {gone:>6} {seconds:>8.3f} {asks / seconds:>9.0f} {memory:>9}")
 
 
 main()
