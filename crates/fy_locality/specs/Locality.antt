@@ -30,6 +30,12 @@ value_of processes key p = option_and_then (value_in key) (slice_get processes p
 abbrev pub has_value : List Locality → Key → List ℕ → ℕ → Bool
 has_value processes key v p = option_eq bytes_eq (value_of processes key p) (Some v)
 
+-- the set has exactly the processes with the value that process p has of a key
+pub record ArePeers (processes : List Locality) (key : Key) (p : ℕ) (set : sets.FinSet nat_cmp) : Type 0 where
+  pub value : List ℕ
+  pub had : value_of processes key p ≡ Some value
+  pub those : (q : ℕ) → sets.contains set q ≡ has_value processes key value q
+
 -- each name once, in the order in which they first come
 abbrev pub first_seen : List (List ℕ) → List (List ℕ)
 first_seen [] = []

@@ -37,16 +37,23 @@ impl Locality {
         })
     }
 
+    /// The value of a key at this process, where it has one.
+    pub(crate) fn name(&self, key: Key) -> Option<&Name>
+        ensures { option_copied result ≡ value_in key self.now }
+    {
+        match key {
+            Key::Process => Some(&self.process),
+            Key::Machine => Some(&self.machine),
+            Key::Zone => Some(&self.zone),
+            Key::DataHall => self.data_hall.as_ref(),
+            Key::DataCenter => self.data_center.as_ref(),
+        }
+    }
+
     /// The value of a key at this process.
     pub fn value(&self, key: Key) -> Option<Name>
         ensures { result ≡ value_in key self.now }
     {
-        match key {
-            Key::Process => Some(self.process),
-            Key::Machine => Some(self.machine),
-            Key::Zone => Some(self.zone),
-            Key::DataHall => self.data_hall,
-            Key::DataCenter => self.data_center,
-        }
+        self.name(key).copied()
     }
 }

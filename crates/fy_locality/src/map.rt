@@ -2,9 +2,12 @@
 ghost use Rattle.std.specs.Prelude.{◌≡◌, ◌<◌, ◌≤◌, ◌++◌, nat_lt, ℕ, [], ◌∷◌, Some, None, length, IfOk, OnErr, slice_get, ◌≢◌, IfSome, IfNone, IfErr, IsTrue, ◌↔◌};
 ghost use Rattle.std.specs.FinSet as sets;
 ghost use Rattle.std.specs.Option.{option_copied};
+ghost use Rattle.std.specs.List.{IsDistinct};
+ghost use Rattle.std.specs.Map.{keys_of};
+ghost use Rattle.std.specs.Str.{bytes_eq};
 ghost use Rattle.indexmap.specs.IndexMap.{spare};
 ghost use Rattle.fy_locality.specs.declared.key.Key.TheVariants.{Process};
-ghost use Rattle.fy_locality.specs.Locality.{value_of, has_value, values_of, IsIndex, group_of, locality_of, taken_or_full, refusal_of};
+ghost use Rattle.fy_locality.specs.Locality.{value_of, has_value, values_of, IsIndex, group_of, ArePeers, locality_of, taken_or_full, refusal_of};
 ghost use Rattle.fy_locality.specs.Noted.{Notes};
 
 use crate::{BadName, Key, Locality, Name, ProcId, ProcSet};
@@ -21,6 +24,16 @@ pub struct Map {
     zones: IndexMap<Name, ProcSet>,
     halls: IndexMap<Name, ProcSet>,
     centers: IndexMap<Name, ProcSet>,
+    places: Vec<Places>,
+}
+
+/// Where the values of one process stand among the values of their keys, so that no name has to be looked up for them.
+#[derive(Clone, Copy)]
+struct Places {
+    machine: usize,
+    zone: usize,
+    data_hall: usize,
+    data_center: usize,
 }
 
 impl Model for Map {
@@ -51,6 +64,7 @@ impl Map {
             zones: IndexMap::new(alloc),
             halls: IndexMap::new(alloc),
             centers: IndexMap::new(alloc),
+            places: Vec::new(alloc),
         }
     }
 
@@ -114,6 +128,31 @@ impl Map {
         group(self.index(key), value)
     }
 
+    /// The processes with the value that a process has of a key, itself among them; none where there is no such process,
+    /// or where it has no value of the key. Takes no memory.
+    pub fn peers(&self, p: ProcId, key: Key) -> Option<ProcSet>
+        ensures some { IfSome result (ArePeers self.now key p.0) }
+        ensures none { IfNone result (value_of self.now key p.0 ≡ None) }
+    {
+        let name = self.processes.get(p.0 as usize)?.name(key)?;
+        Some(group_near(self.index(key), self.place(p, key), name))
+    }
+
+    /// Where the value of a process likely stands among the values of a key. Nothing rests on it: who looks there checks
+    /// what is found.
+    fn place(&self, p: ProcId, key: Key) -> usize {
+        match self.places.get(p.0 as usize) {
+            Some(places) => match key {
+                Key::Process => p.0 as usize,
+                Key::Machine => places.machine,
+                Key::Zone => places.zone,
+                Key::DataHall => places.data_hall,
+                Key::DataCenter => places.data_center,
+            },
+            None => 0,
+        }
+    }
+
     /// Every process.
     pub fn everyone(&self) -> ProcSet
         ensures { (q : ℕ) → sets.contains result q ≡ nat_lt q (length self.now) }
@@ -148,6 +187,7 @@ impl Map {
             zones: copied(&self.zones)?,
             halls: copied(&self.halls)?,
             centers: copied(&self.centers)?,
+            places: Vec::from_slice(alloc, &self.places)?,
         })
     }
 
@@ -203,12 +243,20 @@ impl Map {
         self.zones.reserve(1)?;
         self.halls.reserve(1)?;
         self.centers.reserve(1)?;
+        self.places.reserve(1)?;
         note(&mut self.ids, Some(locality.process), number);
         note(&mut self.machines, Some(locality.machine), number);
         note(&mut self.zones, Some(locality.zone), number);
         note(&mut self.halls, locality.data_hall, number);
         note(&mut self.centers, locality.data_center, number);
         self.processes.push(locality)?;
+        // The room was made before, so this isn't refused.
+        let _ = self.places.push(Places {
+            machine: place_of(&self.machines, Some(locality.machine)),
+            zone: place_of(&self.zones, Some(locality.zone)),
+            data_hall: place_of(&self.halls, locality.data_hall),
+            data_center: place_of(&self.centers, locality.data_center),
+        });
         Ok(number)
     }
 }
@@ -223,6 +271,7 @@ impl Drop for Map {
             zones: _,
             halls: _,
             centers: _,
+            places: _,
         } = self;
     }
 }
@@ -276,6 +325,27 @@ fn group(index: &IndexMap<Name, ProcSet>, value: &Name) -> ProcSet
     match index.get(value) {
         Some(members) => *members,
         None => ProcSet::empty(),
+    }
+}
+
+/// The processes kept for a value: looked for at a place first, and else by its name.
+fn group_near(index: &IndexMap<Name, ProcSet>, place: usize, value: &Name) -> ProcSet
+    requires { IsDistinct bytes_eq (keys_of index.now.entries) }
+    ensures { result ≡ group_of index.now.entries value.now }
+{
+    if let Some((name, members)) = index.get_index(place) {
+        if name == value {
+            return *members;
+        }
+    }
+    group(index, value)
+}
+
+/// The place of a value, where there is one.
+fn place_of(index: &IndexMap<Name, ProcSet>, value: Option<Name>) -> usize {
+    match value {
+        Some(name) => index.get_index_of(&name).unwrap_or(0),
+        None => 0,
     }
 }
 

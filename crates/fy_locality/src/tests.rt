@@ -224,6 +224,30 @@ fn a_map_finds_processes(rt: HostRuntime) -> Result<(), Fail> {
 }
 
 /// A copy of a map with one more process.
+/// Whether a process has exactly these peers of a key; `None` stands for no value.
+fn has_peers(map: &Map, p: u32, key: Key, numbers: Option<&[u32]>) -> bool {
+    match (map.peers(ProcId(p), key), numbers) {
+        (Some(peers), Some(numbers)) => holds_exactly(&peers, numbers),
+        (None, None) => true,
+        _ => false,
+    }
+}
+
+#[test]
+fn processes_have_peers(rt: HostRuntime) -> Result<(), Fail> {
+    let map = cluster(rt.alloc())?;
+    let copy = copy_with_hall(rt.alloc(), &map)?;
+    assert!(rt; has_peers(&map, 1, Key::Zone, Some(&[0, 1])));
+    assert!(rt; has_peers(&map, 3, Key::Process, Some(&[3])));
+    assert!(rt; has_peers(&map, 4, Key::Machine, Some(&[4])));
+    assert!(rt; has_peers(&map, 5, Key::DataCenter, Some(&[0, 1, 2, 3, 4, 5])));
+    assert!(rt; has_peers(&map, 0, Key::DataHall, None));
+    assert!(rt; has_peers(&map, 6, Key::Zone, None));
+    assert!(rt; has_peers(&copy, 6, Key::Zone, Some(&[0, 1, 6])));
+    assert!(rt; has_peers(&copy, 6, Key::DataHall, Some(&[6])));
+    Ok(())
+}
+
 fn copy_with_hall(alloc: Global, map: &Map) -> Result<Map, MapFault> {
     let mut copy = map.try_copy(alloc)?;
     let _ = added(&mut copy, "p6", "z0", Some("h0"))?;

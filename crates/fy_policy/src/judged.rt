@@ -1,13 +1,12 @@
 //! Whether a set of processes satisfies a policy.
 ghost use Rattle.std.specs.Prelude.{◌≡◌};
 ghost use Rattle.std.specs.FinSet as sets;
-ghost use Rattle.fy_locality.specs.Locality.{value_of};
 ghost use Rattle.fy_policy.specs.Sat.{satisfies};
 ghost use Rattle.fy_policy.specs.Shape.{tree_of};
 ghost use Rattle.fy_policy.specs.Tree.{IsCounted, one};
 
 use crate::shape::Shape;
-use fy_locality::{Key, Map, Name, ProcId, ProcSet, laws};
+use fy_locality::{Map, ProcSet, laws};
 
 /// Whether the set satisfies the policy. Only values that occur in the set are looked at, each once, and no memory is
 /// taken.
@@ -23,10 +22,10 @@ pub(crate) fn shape_satisfied(shape: &Shape, map: &Map, set: &ProcSet) -> bool
             let mut found = 0;
             let mut rest = *set;
             while let Some(p) = rest.least() {
-                match value_at(map, p, *key) {
+                match map.peers(p, *key) {
                     None => rest.drop_one(p),
-                    Some(value) => {
-                        let group = rest.intersection(&map.members(*key, &value));
+                    Some(peers) => {
+                        let group = rest.intersection(&peers);
                         rest = rest.difference(&group);
                         if shape_satisfied(inner, map, &group) {
                             found += 1;
@@ -57,16 +56,5 @@ fn has_process(map: &Map, set: &ProcSet) -> bool
     match set.least() {
         Some(p) => p.0 < map.len(),
         None => false,
-    }
-}
-
-/// The value of a key at a number, where it is a process that has one.
-fn value_at(map: &Map, p: ProcId, key: Key) -> Option<Name>
-    ensures { result ≡ value_of map.now key p.0 }
-{
-    if p.0 < map.len() {
-        map.value(p, key)
-    } else {
-        None
     }
 }

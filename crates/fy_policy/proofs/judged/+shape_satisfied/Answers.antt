@@ -22,7 +22,7 @@ loop-p-preserved-in-None t c = record {
     all =
         ap (λ n. c.loop-p.found + n)
         (ap (λ s. passing c.args.map.now c.in-Across.key (tree_of c.in-Across.inner.value) (sets.contains s)) c.drop_one.ensures
-        ∙ passing-keyless c.args.map.now c.in-Across.key (tree_of c.in-Across.inner.value) c.loop-p.rest c.in-Some.p.0 (sym c.value_at.ensures ∙ c.in-None.is))
+        ∙ passing-keyless c.args.map.now c.in-Across.key (tree_of c.in-Across.inner.value) c.loop-p.rest c.in-Some.p.0 c.in-None.ensures.none)
         ∙ (c.loop-p.invariant.counts counted).all;
     few = (c.loop-p.invariant.counts counted).few;
   };
@@ -32,16 +32,16 @@ pub returns-then-found-wanted : goal.returns-then-found-wanted
 returns-then-found-wanted t c = λ counted.
     enough c.in-Across.wanted c.loop-p.found _ _ c.if-found-wanted.true
     (one_more _ _ _ _ c.in-Across.wanted _ (c.loop-p.invariant.counts counted).all
-    (passing-group c.args.map.now c.in-Across.key (tree_of c.in-Across.inner.value) c.loop-p.rest c.members.result c.intersection-group.result c.difference-rest.result c.in-Some.p.0 c.in-Some-value_at.value
-    (sym c.value_at.ensures ∙ c.in-Some-value_at.is) c.members.ensures c.intersection-group.ensures c.difference-rest.ensures c.values_differ.ensures c.values_occur.ensures (inner_counted _ _ _ _ c.in-Across.is counted).1)
+    (passing-group c.args.map.now c.in-Across.key (tree_of c.in-Across.inner.value) c.loop-p.rest c.in-Some-peers.peers c.intersection-group.result c.difference-rest.result c.in-Some.p.0 c.in-Some-peers.ensures.some.value
+    c.in-Some-peers.ensures.some.had c.in-Some-peers.ensures.some.those c.intersection-group.ensures c.difference-rest.ensures c.values_differ.ensures c.values_occur.ensures (inner_counted _ _ _ _ c.in-Across.is counted).1)
     (sym (c.shape_satisfied.ensures (subst (λ q. IsCounted (tree_of q)) (sym c.deref.ensures) (inner_counted _ _ _ _ c.in-Across.is counted).1) ∙ ap (λ q. satisfies c.args.map.now (tree_of q) (sets.contains c.intersection-group.result)) c.deref.ensures) ∙ c.if-shape_satisfied.true))
     ∙ sym (satisfies-across c.args.map.now c.in-Across.wanted c.in-Across.key (tree_of c.in-Across.inner.value) (sets.contains c.args.set.now))
     ∙ ap (λ q. satisfies c.args.map.now (tree_of q) (sets.contains c.args.set.now)) (sym c.in-Across.is)
 
 pub loop-p-smaller-else-found-wanted : goal.loop-p-smaller-else-found-wanted
 loop-p-smaller-else-found-wanted t c =
-    fewer-group c.args.map.now c.in-Across.key (tree_of c.in-Across.inner.value) c.loop-p.rest c.members.result c.intersection-group.result c.difference-rest.result c.in-Some.p.0 c.in-Some-value_at.value
-    (sym c.value_at.ensures ∙ c.in-Some-value_at.is) c.members.ensures c.intersection-group.ensures c.difference-rest.ensures c.in-Some.ensures.some.present c.in-Some.ensures.small
+    fewer-group c.args.map.now c.in-Across.key (tree_of c.in-Across.inner.value) c.loop-p.rest c.in-Some-peers.peers c.intersection-group.result c.difference-rest.result c.in-Some.p.0 c.in-Some-peers.ensures.some.value
+    c.in-Some-peers.ensures.some.had c.in-Some-peers.ensures.some.those c.intersection-group.ensures c.difference-rest.ensures c.in-Some.ensures.some.present c.in-Some.ensures.small
 
 pub loop-p-preserved-else-found-wanted : goal.loop-p-preserved-else-found-wanted
 loop-p-preserved-else-found-wanted t c = record {
@@ -49,8 +49,8 @@ loop-p-preserved-else-found-wanted t c = record {
   counts = λ counted. record {
     all =
         one_more _ _ _ _ c.in-Across.wanted _ (c.loop-p.invariant.counts counted).all
-        (passing-group c.args.map.now c.in-Across.key (tree_of c.in-Across.inner.value) c.loop-p.rest c.members.result c.intersection-group.result c.difference-rest.result c.in-Some.p.0 c.in-Some-value_at.value
-        (sym c.value_at.ensures ∙ c.in-Some-value_at.is) c.members.ensures c.intersection-group.ensures c.difference-rest.ensures c.values_differ.ensures c.values_occur.ensures (inner_counted _ _ _ _ c.in-Across.is counted).1)
+        (passing-group c.args.map.now c.in-Across.key (tree_of c.in-Across.inner.value) c.loop-p.rest c.in-Some-peers.peers c.intersection-group.result c.difference-rest.result c.in-Some.p.0 c.in-Some-peers.ensures.some.value
+        c.in-Some-peers.ensures.some.had c.in-Some-peers.ensures.some.those c.intersection-group.ensures c.difference-rest.ensures c.values_differ.ensures c.values_occur.ensures (inner_counted _ _ _ _ c.in-Across.is counted).1)
         (sym (c.shape_satisfied.ensures (subst (λ q. IsCounted (tree_of q)) (sym c.deref.ensures) (inner_counted _ _ _ _ c.in-Across.is counted).1) ∙ ap (λ q. satisfies c.args.map.now (tree_of q) (sets.contains c.intersection-group.result)) c.deref.ensures) ∙ c.if-shape_satisfied.true);
     few = c.if-found-wanted.false;
   };
@@ -58,8 +58,8 @@ loop-p-preserved-else-found-wanted t c = record {
 
 pub loop-p-smaller : goal.loop-p-smaller
 loop-p-smaller t c =
-    fewer-group c.args.map.now c.in-Across.key (tree_of c.in-Across.inner.value) c.loop-p.rest c.members.result c.intersection-group.result c.difference-rest.result c.in-Some.p.0 c.in-Some-value_at.value
-    (sym c.value_at.ensures ∙ c.in-Some-value_at.is) c.members.ensures c.intersection-group.ensures c.difference-rest.ensures c.in-Some.ensures.some.present c.in-Some.ensures.small
+    fewer-group c.args.map.now c.in-Across.key (tree_of c.in-Across.inner.value) c.loop-p.rest c.in-Some-peers.peers c.intersection-group.result c.difference-rest.result c.in-Some.p.0 c.in-Some-peers.ensures.some.value
+    c.in-Some-peers.ensures.some.had c.in-Some-peers.ensures.some.those c.intersection-group.ensures c.difference-rest.ensures c.in-Some.ensures.some.present c.in-Some.ensures.small
 
 pub loop-p-preserved : goal.loop-p-preserved
 loop-p-preserved t c = record {
@@ -67,8 +67,8 @@ loop-p-preserved t c = record {
   counts = λ counted. record {
     all =
         none_more _ _ _ _ _ (c.loop-p.invariant.counts counted).all
-        (passing-group c.args.map.now c.in-Across.key (tree_of c.in-Across.inner.value) c.loop-p.rest c.members.result c.intersection-group.result c.difference-rest.result c.in-Some.p.0 c.in-Some-value_at.value
-        (sym c.value_at.ensures ∙ c.in-Some-value_at.is) c.members.ensures c.intersection-group.ensures c.difference-rest.ensures c.values_differ.ensures c.values_occur.ensures (inner_counted _ _ _ _ c.in-Across.is counted).1)
+        (passing-group c.args.map.now c.in-Across.key (tree_of c.in-Across.inner.value) c.loop-p.rest c.in-Some-peers.peers c.intersection-group.result c.difference-rest.result c.in-Some.p.0 c.in-Some-peers.ensures.some.value
+        c.in-Some-peers.ensures.some.had c.in-Some-peers.ensures.some.those c.intersection-group.ensures c.difference-rest.ensures c.values_differ.ensures c.values_occur.ensures (inner_counted _ _ _ _ c.in-Across.is counted).1)
         (sym (c.shape_satisfied.ensures (subst (λ q. IsCounted (tree_of q)) (sym c.deref.ensures) (inner_counted _ _ _ _ c.in-Across.is counted).1) ∙ ap (λ q. satisfies c.args.map.now (tree_of q) (sets.contains c.intersection-group.result)) c.deref.ensures) ∙ c.if-shape_satisfied.false);
     few = (c.loop-p.invariant.counts counted).few;
   };
