@@ -30,14 +30,6 @@ some_find f g (x ∷ xs) ys s = at (some_find f g xs ys) (g x) s
     at more true s = s
     at more false s = more s
 
-none_found : {X : Type 0} (g : X → Bool) (xs ys : List X) → is_none (find g (xs ++ ys)) ≡ true → is_none (find g xs) ≡ true
-none_found g [] ys s = refl
-none_found g (x ∷ xs) ys s = at (none_found g xs ys) (g x) s
-  where
-    at : (is_none (find g (xs ++ ys)) ≡ true → is_none (find g xs) ≡ true) → (b : Bool) → is_none (cond b (Some x) (find g (xs ++ ys))) ≡ true → is_none (cond b (Some x) (find g xs)) ≡ true
-    at more true s = s
-    at more false s = more s
-
 last_found : {X : Type 0} (f g : X → Bool) (xs : List X) (y : X) → is_none (find g xs) ≡ true → g y ≡ true → f y ≡ true → some_is f (find g (xs ++ y ∷ [])) ≡ true
 last_found f g [] y s t k = rw t k
 last_found f g (x ∷ xs) y s t k = at (λ r. last_found f g xs y r t k) (g x) s
@@ -96,9 +88,6 @@ kept_by_sync p m s later i o =
     (not_any (λ m. destroys m p) later m
     (no_destroyer p later open_still)
     (sync_strikes_none m p s))
-
-open_before : (p : ℕ) (m : Moment) (later : List Moment) (i : ℕ) → is_open p (later ++ m ∷ []) i ≡ true → is_open p (later ++ []) i ≡ true
-open_before p m later i o = let before : is_open p later i ≡ true = none_found (closes p) later (m ∷ []) o in rw append-nil before
 
 own_more : (a b : Bool) → (a ≡ true → b ≡ true) → (o : Option Item) (x : Item) → Contains (option_to_list (if a then o else None)) x → Contains (option_to_list (if b then o else None)) x
 own_more true true w o x i = i

@@ -23,11 +23,6 @@ pub kept_after : (c : Setup) (Q : History → Type 0) → ((h : History) (e : En
 kept_after c Q step h [] q l = q
 kept_after c Q step h (e ∷ later) q l = kept_after c Q step (moment c h e ∷ h) later (step h e l.0 q) l.1
 
--- the one lemma that leads from a journal's end to the history's front
-pub after-append : (c : Setup) (h : History) (xs ys : List Entry) → after c h (xs ++ ys) ≡ after c (after c h xs) ys
-after-append c h [] ys = refl
-after-append c h (e ∷ xs) ys = after-append c (moment c h e ∷ h) xs ys
-
 pub legal_parts : (c : Setup) (h : History) (xs ys : List Entry) → LegalAfter c h (xs ++ ys) → LegalAfter c h xs × LegalAfter c (after c h xs) ys
 legal_parts c h [] ys l = (tt, l)
 legal_parts c h (e ∷ xs) ys l = let rest = legal_parts c (moment c h e ∷ h) xs ys l.1 in ((l.0, rest.0), rest.1)

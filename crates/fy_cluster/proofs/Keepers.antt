@@ -1,7 +1,6 @@
 -- from marks to copies: every acknowledged record is kept, and a keeper is found
 use Rattle.std.proofs.Common.{◌≡◌, ◌↔◌, ℕ, ◌<◌, Bool, true, false, not, List, [], ◌∷◌, length, Contains, Option, Some, None, is_some, option_map, refl, sym, ◌∙◌, ap, subst, inl, inr, slice_get, if◌then◌else◌, ◌==◌, eqb-true, eq-eqb}
 use Rattle.std.proofs.lemmas.Bool.{false≢true, or_cases, or_parts, and_from, not-false, not-true, true_from_ne_false, both_ways}
-use Rattle.std.proofs.lemmas.Option.{slice_get_within, get_or_from_slice_get}
 use Rattle.std.proofs.lemmas.List.Elements.{All-contains, All-from_recursion}
 use Rattle.std.proofs.lemmas.List.Folds.{Any-from_list_any}
 use Rattle.std.specs.List.{list_any, AllByRecursion, Any}
@@ -18,9 +17,6 @@ use Rattle.fy_cluster.specs.Survival.{Kept, DestroyedShort, KeepersFound}
 use Rattle.fy_cluster.proofs.Journals.{kept_after}
 use Rattle.fy_cluster.proofs.Strikes.{More}
 use Rattle.fy_cluster.proofs.Records.{Tested, Sound, sound_start, sound_next, slice_get-each, Known, HasCopy, acked_known, team_known, payload_known}
-
-slice_get-Contains : {X : Type 0} (xs : List X) (i : ℕ) (x : X) → slice_get xs i ≡ Some x → Contains xs x
-slice_get-Contains xs i x e = (i, slice_get_within xs i x e, get_or_from_slice_get xs i x x e)
 
 -- where no member is undestroyed, all are destroyed
 all_destroyed : (d : ℕ → Bool) (ps : List ProcId) → list_any (λ p. not (d p.0)) ps ≡ false → (p : ℕ) → is_among ps p ≡ true → d p ≡ true

@@ -59,7 +59,7 @@ struck_verdict c h e next k s =
 
 -- ---- one entry more
 
-pub some_is_true : {X : Type 0} (f : X → Bool) (o : Option X) → some_is f o ≡ true → (x : X) × (o ≡ Some x) × (f x ≡ true)
+some_is_true : {X : Type 0} (f : X → Bool) (o : Option X) → some_is f o ≡ true → (x : X) × (o ≡ Some x) × (f x ≡ true)
 some_is_true f None e = absurd (false≢true e)
 some_is_true f (Some x) e = (x, refl, e)
 

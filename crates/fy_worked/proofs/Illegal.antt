@@ -1,42 +1,33 @@
 -- wrong journals: each has an entry whose place or reply the definitions refute
-use Rattle.std.proofs.Common.{◌≡◌, ℕ, ◌≤◌, arith, false, [], ◌∷◌, Option, Some, None, refl, ap}
+use Rattle.std.proofs.Common.{◌≡◌, ℕ, ◌≤◌, arith, false, Option, Some, None, ap}
 use Rattle.fy_kinds.specs.declared.kind.Kind.TheVariants.{Reboot, RebootAndDelete, KillInstantly}
 use Rattle.fy_kinds.specs.declared.verdict.Rule.{Rule}
 use Rattle.fy_kinds.specs.declared.verdict.Rule.TheVariants.{NoGrant, Protected, TooManyDestroyed, TooFewLeft}
-use Rattle.fy_audit.specs.declared.entry.Entry.{Entry}
 use Rattle.fy_audit.specs.declared.reply.Refusal.TheVariants.{NoMessage, Acked}
 use Rattle.fy_audit.specs.declared.reply.Reply.{Reply}
 use Rattle.fy_audit.specs.declared.reply.Reply.TheVariants.{Verdict, Begun, Stored, Marked, Sent, No}
 use Rattle.fy_cluster.specs.Replies.{Legal}
-use Rattle.fy_cluster.specs.Survival.{SameActsSameJournal}
 use Rattle.fy_worked.specs.Clusters.{six, four, process, struck, weakened, barred}
-use Rattle.fy_worked.specs.Strikes.{two_zones}
 use Rattle.fy_worked.specs.Wrong as wrong
 use Rattle.fy_worked.proofs.Played.{cluster_on_literals}
-
--- ---- journals that would be legal beside the one of the same acts
 
 -- the rule of a verdict
 abbrev rule_of : Reply → Option Rule
 rule_of (Verdict verdict) = verdict.rule
 rule_of _ = None
 
-last_of_two : {X : Type 0} {x y z w : X} → x ∷ y ∷ [] ≡ z ∷ w ∷ [] → y ≡ w
-last_of_two e = cc
-
 killed_or_rebooted : struck KillInstantly ≡ weakened Reboot (TooManyDestroyed 0) → ⊥
 killed_or_rebooted e = let rules : None ≡ Some (TooManyDestroyed 0) = ap rule_of e in absurd (cc)
 
-pub second_zone_killed : SameActsSameJournal → Legal six two_zones → Legal six wrong.second_zone_killed → ⊥
-second_zone_killed law right l = killed_or_rebooted (ap (λ (e : Entry). e.reply) (last_of_two (law six wrong.second_zone_killed two_zones l right refl)))
+pub second_zone_killed : Legal six wrong.second_zone_killed → ⊥
+unfolding cluster_on_literals
+second_zone_killed l = killed_or_rebooted l.1.1.0.right
 
 two_or_one : ◌≡◌ {A = ℕ} 2 1 → ⊥
 two_or_one e = omega arith
 
-pub place_left_out : SameActsSameJournal → Legal six two_zones → Legal six wrong.place_left_out → ⊥
-place_left_out law right l = two_or_one (ap (λ (e : Entry). e.at) (last_of_two (law six wrong.place_left_out two_zones l right refl)))
-
--- ---- journals with an entry that may not come next
+pub place_left_out : Legal six wrong.place_left_out → ⊥
+place_left_out l = two_or_one l.1.1.0.place
 
 grant_or_protection : weakened Reboot (NoGrant (process 0)) ≡ weakened Reboot (Protected (process 1)) → ⊥
 grant_or_protection e = let rules : Some (NoGrant (process 0)) ≡ Some (Protected (process 1)) = ap rule_of e in absurd (cc)

@@ -1,9 +1,9 @@
--- the policy of the six is within its limits, and met
-use Rattle.std.proofs.Common.{◌≡◌, ◌↔◌, ℕ, Bool, true, List, refl, leb-true}
-use Rattle.fy_locality.specs.Locality.{values_of}
-use Rattle.fy_locality.specs.declared.locality.Locality.{Locality}
-use Rattle.fy_policy.specs.Tree.{Tree, IsPolicy}
-use Rattle.fy_policy.specs.Sat.{Sat, satisfies}
+-- the policy of the six is within its limits, and met: there is a process in each of two zones
+use Rattle.std.proofs.Common.{[], ◌∷◌, refl, leb-true, ltb-true}
+use Rattle.std.specs.Prelude.{codes}
+use Rattle.std.specs.List.{IsDistinct}
+use Rattle.fy_policy.specs.Tree.{IsPolicy}
+use Rattle.fy_policy.specs.Sat.{Sat}
 use Rattle.fy_decide.specs.Losses.{everyone}
 use Rattle.fy_cluster.specs.Setup.{IsMet}
 use Rattle.fy_worked.specs.Clusters.{six, in_two_zones, six_processes}
@@ -15,9 +15,14 @@ is_policy = record {
   small = leb-true 2 64 refl;
 }
 
-passes : satisfies six_processes in_two_zones (everyone six_processes) ≡ true
-unfolding satisfies values_of
-passes = refl
+in_zones : Sat six_processes in_two_zones (everyone six_processes)
+unfolding Sat IsDistinct
+in_zones = record {
+  names = codes "z0" ∷ codes "z1" ∷ [];
+  many = leb-true 2 2 refl;
+  different = ((refl, tt), (tt, tt));
+  each = (((0, refl), (0, ltb-true 0 6 refl, refl)), (((2, refl), (2, ltb-true 2 6 refl, refl)), tt));
+}
 
-pub six_is_met : ((processes : List Locality) (policy : Tree) (s : ℕ → Bool) → (satisfies processes policy s ≡ true) ↔ Sat processes policy s) → IsMet six
-six_is_met tests = ((is_policy, (tests six_processes in_two_zones (everyone six_processes)).0 passes), tt)
+pub six_is_met : IsMet six
+six_is_met = ((is_policy, in_zones), tt)

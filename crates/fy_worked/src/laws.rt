@@ -1,6 +1,6 @@
 //! Worked journals. Each law says of a journal that is written out that it is legal and, beside it, what it comes to; or of
 //! a wrong one that it isn't legal.
-ghost use Rattle.std.specs.Prelude.{◌≡◌, true, false, [], ◌∷◌, length, map, Some, None};
+ghost use Rattle.std.specs.Prelude.{◌≡◌, true, false, [], ◌∷◌, length, map, ℕ, List, IsTrue, Some, None, is_some};
 ghost use Rattle.fy_kinds.specs.declared.kind.Kind.TheVariants.{Reboot, RebootAndDelete, KillInstantly};
 ghost use Rattle.fy_kinds.specs.Kinds.{Striking};
 ghost use Rattle.fy_grants.specs.declared.grant.Scope.TheVariants.{All};
@@ -10,11 +10,12 @@ ghost use Rattle.fy_grants.specs.Least.{LeastWith};
 ghost use Rattle.fy_kinds.specs.declared.verdict.Rule.TheVariants.{TooManyDestroyed};
 ghost use Rattle.fy_decide.specs.Losses.{AreShort, AreSatisfied};
 ghost use Rattle.fy_decide.specs.Verdicts.{verdict};
+ghost use Rattle.fy_audit.specs.declared.entry.Entry.{Entry};
 ghost use Rattle.fy_cluster.specs.Setup.{IsMet};
 ghost use Rattle.fy_cluster.specs.History.{history, destroyed, gone, left, up, teams, records, team_of, sent, synced, unsynced, in_flight, now, clogged, marked, acked, keeps, keeper};
 ghost use Rattle.fy_cluster.specs.Rules.{grants, is_protected, situation};
 ghost use Rattle.fy_cluster.specs.Replies.{Legal};
-ghost use Rattle.fy_cluster.specs.Survival.{Kept};
+ghost use Rattle.fy_cluster.specs.Survival.{by_and_act, Kept};
 ghost use Rattle.fy_worked.specs.Clusters.{six, four, four_of_one, members, process, kill_and_reboot};
 ghost use Rattle.fy_worked.specs.Strikes.{two_zones, one_zone, second_kill, few_left, few_left_and_nothing_milder, one_is_enough, few_left_and_no_grant_to_empty, back_and_destroyed, emptied_is_left, killed_is_not_left, two_policies, no_hall, three_and_two, halls};
 ghost use Rattle.fy_worked.specs.Leave.{protected, given_and_taken, closed_up, one_zone_granted, half_unprotected, protected_from_the_start, full_of_grants, leave, rebooting, guarded, granted};
@@ -441,21 +442,15 @@ pub fn no_member_of_acknowledged()
 
 // ---- wrong journals
 
-/// A kill that is to be weakened isn't answered as one that struck: the same acts have one journal.
+/// A kill that is to be weakened isn't answered as one that struck.
 pub fn second_zone_killed()
     ensures { Legal six second_zone_killed → ⊥ }
-{
-    two_zones();
-    fy_cluster::laws::same_acts_same_journal();
-}
+{}
 
-/// No place is left out: the same acts have one journal, places and all.
+/// No place is left out.
 pub fn place_left_out()
     ensures { Legal six place_left_out → ⊥ }
-{
-    two_zones();
-    fy_cluster::laws::same_acts_same_journal();
-}
+{}
 
 /// Who has a grant isn't told that there is none.
 pub fn grant_overlooked()
@@ -503,11 +498,10 @@ pub fn two_ticks()
 /// All processes of the six satisfy their policy, which is within its limits.
 pub fn six_is_met()
     ensures { IsMet six }
-{
-    fy_policy::laws::test_is_satisfaction();
-}
+{}
 
 /// After a legal journal the destroyed are short of the policy, and those left satisfy it.
+#[tactic(auto, using(crate::proofs::FromLaws::short_after, crate::proofs::FromLaws::satisfied_after))]
 pub fn replication_stands()
     ensures short { AreShort six.processes six.policies (destroyed (history six written_and_synced)) }
     ensures satisfied { AreSatisfied six.processes six.policies (left six (history six two_zones)) }
@@ -522,22 +516,35 @@ pub fn replication_stands()
 /// What is acknowledged is kept: some member isn't destroyed, and each such member has the record synced.
 pub fn record_stands()
     ensures { Kept (history six written_and_synced) 0 }
-{
-    six_is_met();
-    written_and_synced();
-    fy_cluster::laws::records_kept();
-}
+{}
 
 /// The keeper of an acknowledged record is the least member that keeps it.
 pub fn least_keeps()
     ensures { LeastWith (is_among (team_of (history six first_acknowledged) 0)) (keeps (history six first_acknowledged) 0) (Some (process 0)) }
+{}
+
+/// Whatever legal journal the six have, every acknowledged record is kept, and has a keeper.
+#[tactic(auto, using(crate::proofs::FromLaws::six_keep, crate::proofs::FromLaws::six_have_keepers))]
+pub fn six_keep_records()
+    ensures kept { (journal : List Entry) → Legal six journal → (r : ℕ) → IsTrue (acked (history six journal) r) → Kept (history six journal) r }
+    ensures keepers { (journal : List Entry) → Legal six journal → (r : ℕ) → is_some (keeper six (history six journal) r) ≡ acked (history six journal) r }
 {
     six_is_met();
-    first_acknowledged();
+    fy_cluster::laws::records_kept();
     fy_cluster::laws::keepers_found();
 }
 
+/// No other legal journal has the acts of the two kills.
+#[tactic(auto, using(crate::proofs::FromLaws::two_zones_alone))]
+pub fn two_zones_alone()
+    ensures { (journal : List Entry) → Legal six journal → map by_and_act journal ≡ map by_and_act two_zones → journal ≡ two_zones }
+{
+    two_zones();
+    fy_cluster::laws::same_acts_same_journal();
+}
+
 /// What stands in a legal journal beside a kill is the verdict on it.
+#[tactic(auto, using(crate::proofs::FromLaws::verdict_stands))]
 pub fn verdict_stands()
     ensures { verdict (situation six (history six one_zone) 1) second_kill ≡ record { struck = Some Reboot; rule = Some (TooManyDestroyed 0) } }
 {

@@ -2,4 +2,4 @@ use Rattle.fy_worked.proofs.Illegal.{place_left_out}
 use Rattle.fy_worked.proofs.laws.place_left_out.Goals as goal
 
 pub returns : goal.returns
-returns c = place_left_out c.same_acts_same_journal.ensures c.two_zones.ensures.legal
+returns c = place_left_out

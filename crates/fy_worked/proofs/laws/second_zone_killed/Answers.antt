@@ -2,4 +2,4 @@ use Rattle.fy_worked.proofs.Illegal.{second_zone_killed}
 use Rattle.fy_worked.proofs.laws.second_zone_killed.Goals as goal
 
 pub returns : goal.returns
-returns c = second_zone_killed c.same_acts_same_journal.ensures c.two_zones.ensures.legal
+returns c = second_zone_killed
