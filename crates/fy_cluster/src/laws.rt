@@ -2,6 +2,7 @@
 ghost use Rattle.fy_cluster.specs.Survival.{DestroyedShort, LeftSatisfy, KillsJudged, RulesNamed, RecordsKept, KeepersFound, SameActsSameJournal};
 
 /// The destroyed are short of every policy.
+#[tactic(auto, using(crate::proofs::Strikes::destroyed_short))]
 pub fn destroyed_short()
     ensures { DestroyedShort }
 {
@@ -11,6 +12,7 @@ pub fn destroyed_short()
 }
 
 /// Those left satisfy every policy.
+#[tactic(auto, using(crate::proofs::Strikes::left_satisfy))]
 pub fn left_satisfy()
     ensures { LeftSatisfy }
 {
@@ -24,6 +26,7 @@ pub fn kills_judged()
 {}
 
 /// Of a kill's verdict no rule is named exactly where the ordered kind struck.
+#[tactic(auto, using(crate::proofs::Journals::rules_named))]
 pub fn rules_named()
     ensures { RulesNamed }
 {

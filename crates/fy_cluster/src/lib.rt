@@ -4,6 +4,8 @@
 mod config;
 pub mod laws;
 mod role;
+#[cfg(test)]
+mod tests;
 
 pub use config::{Config, MakeFault, Protection};
 pub use role::Role;
