@@ -62,7 +62,7 @@ abbrev LeastFound : Type 0
 LeastFound = (count : ℕ) (set test : ℕ → Bool) (found : Option ProcId) → ((q : ℕ) → set q ≡ true → q < count) → LeastWith set test found ↔ (option_map (λ p. p.0) found ≡ least_with count set test)
 
 -- who is among processes is one of them
-among_is : (ps : List ProcId) (q : ℕ) → is_among ps q ≡ true → Any (λ p. p.0 ≡ q) ps
+pub among_is : (ps : List ProcId) (q : ℕ) → is_among ps q ≡ true → Any (λ p. p.0 ≡ q) ps
 among_is ps q i = at (Any-from_list_any (λ p. p.0 == q) ps i)
   where
     at : Any (λ p. (p.0 == q) ≡ true) ps → Any (λ p. p.0 ≡ q) ps

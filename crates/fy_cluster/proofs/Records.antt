@@ -26,21 +26,21 @@ use Rattle.fy_cluster.proofs.Disks.{synced_still, synced_by}
 
 -- ---- lists
 
-slice_get-append : {X : Type 0} (xs ys : List X) (i : ℕ) (x : X) → slice_get xs i ≡ Some x → slice_get (xs ++ ys) i ≡ Some x
+pub slice_get-append : {X : Type 0} (xs ys : List X) (i : ℕ) (x : X) → slice_get xs i ≡ Some x → slice_get (xs ++ ys) i ≡ Some x
 slice_get-append [] ys i x e = absurd (cc)
 slice_get-append (y ∷ xs) ys zero x e = e
 slice_get-append (y ∷ xs) ys (suc i) x e = slice_get-append xs ys i x e
 
-slice_get-last : {X : Type 0} (xs : List X) (x : X) → slice_get (xs ++ x ∷ []) (length xs) ≡ Some x
+pub slice_get-last : {X : Type 0} (xs : List X) (x : X) → slice_get (xs ++ x ∷ []) (length xs) ≡ Some x
 slice_get-last [] x = refl
 slice_get-last (y ∷ xs) x = slice_get-last xs x
 
-slice_get-left : {X : Type 0} (xs ys : List X) (i : ℕ) → i < length xs → slice_get (xs ++ ys) i ≡ slice_get xs i
+pub slice_get-left : {X : Type 0} (xs ys : List X) (i : ℕ) → i < length xs → slice_get (xs ++ ys) i ≡ slice_get xs i
 slice_get-left [] ys i l = absurd (omega (arith, l))
 slice_get-left (x ∷ xs) ys zero l = refl
 slice_get-left (x ∷ xs) ys (suc i) l = slice_get-left xs ys i (omega (arith, l))
 
-slice_get-some : {X : Type 0} (xs : List X) (i : ℕ) → i < length xs → (x : X) × (slice_get xs i ≡ Some x)
+pub slice_get-some : {X : Type 0} (xs : List X) (i : ℕ) → i < length xs → (x : X) × (slice_get xs i ≡ Some x)
 slice_get-some [] i l = absurd (omega (arith, l))
 slice_get-some (y ∷ xs) zero l = (y, refl)
 slice_get-some (y ∷ xs) (suc i) l = slice_get-some xs i (omega (arith, l))
@@ -78,7 +78,7 @@ each_option P (Some x) w = (w x refl, tt)
 abbrev pub Known : History → ℕ → Type 0
 Known h r = (b : Begun) × (slice_get (records h) r ≡ Some b)
 
-abbrev record_of : Body → ℕ
+abbrev pub record_of : Body → ℕ
 record_of (Store r p) = r
 record_of (Synced r p) = r
 

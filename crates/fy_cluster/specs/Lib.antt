@@ -3,4 +3,5 @@ pub mod History
 pub mod Rules
 pub mod Replies
 pub mod Survival
+pub mod Standing
 pub use Rattle.fy_locality.specs.Locality

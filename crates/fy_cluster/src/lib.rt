@@ -1,11 +1,24 @@
 //! What a cluster is made of, and what every journal of one keeps.
 #![tactic(auto)]
 
+mod acts;
+mod clock;
+mod clogs;
+mod cluster;
 mod config;
+mod fault;
+mod kills;
 pub mod laws;
+mod machine;
+mod messages;
+mod processes;
+mod rights;
 mod role;
+mod teams;
 #[cfg(test)]
 mod tests;
 
+pub use cluster::Cluster;
 pub use config::{Config, MakeFault, Protection};
+pub use fault::Fault;
 pub use role::Role;

@@ -1,4 +1,8 @@
 //! The roles of actors.
+ghost use Rattle.std.specs.Prelude.{◌≡◌};
+ghost use Rattle.fy_cluster.specs.Replies.{may};
+
+use fy_audit::Act;
 
 /// What an actor may do. Each may order kills and clogs, as far as its grants go.
 #[derive(Clone, Copy, PartialEq, Eq, Debug)]
@@ -9,4 +13,18 @@ pub enum Role {
     Storage,
     /// Gives and takes grants and protections.
     Operator,
+}
+
+impl Role {
+    /// Whether an actor of this role may make the act.
+    pub(crate) fn may(self, act: &Act) -> bool
+        ensures { result ≡ may self act.now }
+    {
+        match act {
+            Act::Kill { .. } | Act::Clog { .. } | Act::Unclog { .. } => true,
+            Act::Give { .. } | Act::Take { .. } | Act::Protect { .. } | Act::Unprotect { .. } =>
+                self == Role::Operator,
+            _ => self == Role::Storage,
+        }
+    }
 }

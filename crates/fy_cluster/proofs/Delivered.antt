@@ -1,0 +1,291 @@
+-- messages are delivered
+use Rattle.std.proofs.Common.{◌==◌, ◌≡◌, ℕ, zero, suc, ◌<◌, List, [], ◌∷◌, ◌++◌, Bool, true, false, ◌&&◌, ◌||◌, not, Option, Some, None, option_map, refl, sym, ◌∙◌, ap, ap₂, subst, nat_lt, length, map, arith, slice_get, slice_set, slice_index, append-nil, le_refl, eqb-true, length-set, if◌then◌else◌}
+use Rattle.std.specs.Prelude.{option_and_then}
+use Rattle.std.proofs.lemmas.Bool.{true≢false}
+use Rattle.std.proofs.lemmas.Bool.Decides.{nat_tests}
+use Rattle.std.proofs.lemmas.Option.{slice_get-get_or, slice_get_within}
+use Rattle.std.proofs.lemmas.List.{get_or-set_same, get_or-set_other, length-map}
+use Rattle.std.specs.Option.{option_map_or}
+use Rattle.std.specs.List.{list_all}
+use Rattle.std.specs.FinSet as sets
+use Rattle.std.specs.Ordering.{nat_cmp}
+use Rattle.fy_locality.specs.declared.ProcId.{ProcId}
+use Rattle.fy_disk.specs.declared.item.Item.{Item}
+use Rattle.fy_disk.specs.Disk.{Stored as OnDisk}
+use Rattle.fy_net.specs.declared.message.Body.{Body}
+use Rattle.fy_net.specs.declared.message.Body.TheVariants.{Store, Synced}
+use Rattle.fy_net.specs.Net.{Traffic, process_of, body_of, is_clogged, left_by, take_refusal}
+use Rattle.fy_team.specs.Teams.{Team, Record, Roster, is_marked, is_acked, marked_by, all_marked}
+use Rattle.fy_audit.specs.declared.act.Act.TheVariants.{Deliver}
+use Rattle.fy_audit.specs.declared.reply.Reply.TheVariants.{Stored, Marked, No}
+use Rattle.fy_audit.specs.declared.reply.Refusal.TheVariants.{NoMessage, Clogged, NotUp}
+use Rattle.fy_cluster.specs.declared.machine.Machine.{Machine}
+use Rattle.fy_cluster.specs.Setup.{Setup}
+use Rattle.fy_cluster.specs.History.{History, Moment, Begun, some_is, sent, in_flight, now, clogged, up, writes, store_to, word_of, marks, marked, teams, records, team_of, payload_of, synced, unsynced}
+use Rattle.fy_cluster.specs.Replies.{refused, refusals, answer, on_delivery, is_down_store, is_acked_with}
+use Rattle.fy_cluster.specs.Standing.{Stands, Turn, Follows, moment_of, KeepsNet, KeepsTeams, stored, blank_disk, begun_of, IsLived}
+use Rattle.fy_cluster.proofs.Still.{dead_still, up_still, disks_still, teams_still, rights_still, stored_still}
+use Rattle.fy_cluster.proofs.DiskSteps.{synced_else, unsynced_else, own}
+use Rattle.fy_cluster.proofs.Refusals.{refuse}
+use Rattle.fy_cluster.proofs.Results.{some_is_same, some_not_none}
+use Rattle.fy_cluster.proofs.Losing.{flies, flies_not, was_sent, net_left, swap_eq}
+use Rattle.fy_cluster.proofs.Records.{Tested, Sound, Known, record_of, slice_get-each}
+use Rattle.fy_cluster.proofs.Keepers.{sound_after}
+
+pub sound_of : Tested → (c : Setup) (h : History) → IsLived c h → Sound c h
+sound_of tested c h l = subst (Sound c) l.same (sound_after tested c l.journal l.legal)
+
+-- ---- the reply
+
+not_sent : (c : Setup) (h : History) (by n : ℕ) → in_flight h n ≡ false → refused (refusals c h (Deliver n)) (answer c h by (Deliver n)) ≡ No NoMessage
+unfolding refusals answer
+not_sent c h by n f = rw f refl
+
+deliver_reply : (c : Setup) (h : History) (by n : ℕ) (b : Body) (x d : Bool) → in_flight h n ≡ true → slice_get (sent h) n ≡ Some b → clogged h (process_of b) ≡ x → is_down_store h b ≡ d
+    → refused (refusals c h (Deliver n)) (answer c h by (Deliver n)) ≡ refused ((x, Clogged) ∷ (d, NotUp) ∷ []) (on_delivery h b)
+unfolding refusals answer
+deliver_reply c h by n b x d f s ex ed = rw (f, s, ex, ed) refl
+
+pub none_there : (turn : Turn) (n : ℕ) (m : Machine) → Stands turn.setup turn.before m → body_of m.net.in_flight n ≡ None → Follows turn (Deliver n) (No NoMessage) m
+none_there turn n m k e = refuse turn (Deliver n) NoMessage m k (not_sent turn.setup turn.before turn.by n (flies_not turn.setup turn.before m.net k.net (was_sent turn.before) n e))
+
+-- whether a process is clogged is what the network says
+clog_is : (c : Setup) (h : History) (net : Traffic) (p : ℕ) → p < length net.until → KeepsNet c h net → is_clogged net p ≡ clogged h p
+clog_is c h net p l k = ap (λ t. nat_lt t (slice_index net.until p)) k.clock ∙ sym (k.ends p (now h) (let n = k.count in omega arith) (le_refl (now h)))
+
+pub is_held : (turn : Turn) (n : ℕ) (b : Body) (m : Machine) → Stands turn.setup turn.before m → body_of m.net.in_flight n ≡ Some b → process_of b < length m.net.until → is_clogged m.net (process_of b) ≡ true → Follows turn (Deliver n) (No Clogged) m
+is_held turn n b m k e l x =
+    let f = flies turn.setup turn.before m.net k.net n b e in
+    refuse turn (Deliver n) Clogged m k (deliver_reply turn.setup turn.before turn.by n b true _ f.0 f.1 (sym (clog_is turn.setup turn.before m.net (process_of b) l k.net) ∙ x) refl)
+
+pub is_down : (turn : Turn) (n rec : ℕ) (to : ProcId) (m : Machine) → Stands turn.setup turn.before m → body_of m.net.in_flight n ≡ Some (Store rec to) → to.0 < length m.net.until → is_clogged m.net to.0 ≡ false → sets.contains m.up to.0 ≡ false → Follows turn (Deliver n) (No NotUp) m
+is_down turn n rec to m k e l x u =
+    let f = flies turn.setup turn.before m.net k.net n (Store rec to) e in
+    let low : up turn.before to.0 ≡ false = sym (k.up.each to.0 (let c = k.net.count in omega arith)) ∙ u in
+    refuse turn (Deliver n) NotUp m k (deliver_reply turn.setup turn.before turn.by n (Store rec to) false true f.0 f.1 (sym (clog_is turn.setup turn.before m.net to.0 l k.net) ∙ x) (ap not low))
+
+-- ---- a store
+
+slice_get-map : {X Y : Type 0} (f : X → Y) (xs : List X) (i : ℕ) → slice_get (map f xs) i ≡ option_map f (slice_get xs i)
+slice_get-map f [] i = refl
+slice_get-map f (x ∷ xs) zero = refl
+slice_get-map f (x ∷ xs) (suc i) = slice_get-map f xs i
+
+pub record_is : (h : History) (roster : Roster) → KeepsTeams h roster → (rec : ℕ) → slice_get (records h) rec ≡ option_map begun_of (slice_get roster.records rec)
+record_is h roster k rec = ap (λ rs. slice_get rs rec) (sym k.records) ∙ slice_get-map begun_of roster.records rec
+
+pub payload_is : (h : History) (roster : Roster) → KeepsTeams h roster → (rec : ℕ) (x : List ℕ) → Some x ≡ option_map (λ (it : Record). it.payload) (slice_get roster.records rec) → x ≡ payload_of h rec
+payload_is h roster k rec x e = at (slice_get roster.records rec) refl e
+  where
+    at : (o : Option Record) → slice_get roster.records rec ≡ o → Some x ≡ option_map (λ (it : Record). it.payload) o → x ≡ payload_of h rec
+    at None s e = absurd (some_not_none x e)
+    at (Some it) s e = some_is_same x it.payload e ∙ sym (ap (λ (o : Option Begun). option_map_or (λ b. b.payload) o []) (record_is h roster k rec ∙ ap (option_map begun_of) s))
+
+pub payload_there : Tested → (turn : Turn) (n rec : ℕ) (to : ProcId) (m : Machine) → Stands turn.setup turn.before m → IsLived turn.setup turn.before → body_of m.net.in_flight n ≡ Some (Store rec to) → None ≡ option_map (λ (it : Record). it.payload) (slice_get m.teams.records rec) → ⊥
+payload_there tested turn n rec to m k l e none = at (slice_get m.teams.records rec) refl none
+  where
+    begun : Known turn.before rec
+    begun = slice_get-each (λ b. Known turn.before (record_of b)) (sent turn.before) n (Store rec to) (sound_of tested turn.setup turn.before l).sent_known (flies turn.setup turn.before m.net k.net n (Store rec to) e).1
+
+    at : (o : Option Record) → slice_get m.teams.records rec ≡ o → None ≡ option_map (λ (it : Record). it.payload) o → ⊥
+    at None s none = some_not_none begun.0 (sym begun.1 ∙ record_is turn.before m.teams k.teams rec ∙ ap (option_map begun_of) s)
+    at (Some it) s none = some_not_none it.payload (sym none)
+
+-- a list after one element was written over
+pub after_set : {X : Type 0} (xs : List X) (i p : ℕ) (x other : X) → i < length xs → p < length xs → slice_get (slice_set xs i x) p ≡ (if p == i then Some x else slice_get xs p)
+after_set xs i p x other l w = at (p == i) refl
+  where
+    at : (b : Bool) → (p == i) ≡ b → slice_get (slice_set xs i x) p ≡ (if b then Some x else slice_get xs p)
+    at true e = let same : p ≡ i = eqb-true p i e in rw same (slice_get-get_or (slice_set xs i x) i other (let n = length-set xs i x in omega arith) ∙ ap Some (get_or-set_same xs i x other l))
+    at false e =
+        let apart : p ≡ i → ⊥ = λ w. (let hit : (p == i) ≡ true = grind (arith, nat_tests) in true≢false (sym hit ∙ e)) in
+        slice_get-get_or (slice_set xs i x) p other (let n = length-set xs i x in omega arith) ∙ ap Some (get_or-set_other xs i p x other apart) ∙ sym (slice_get-get_or xs p other w)
+
+or_nothing : (b : Bool) → (b || false) ≡ b
+or_nothing true = refl
+or_nothing false = refl
+
+-- the machine once a store is delivered
+pub stores : (turn : Turn) (n rec : ℕ) (to : ProcId) (machine : Machine) (disk : OnDisk) (payload : List ℕ) (after : Machine) → Stands turn.setup turn.before machine
+    → body_of machine.net.in_flight n ≡ Some (Store rec to) → to.0 < length machine.net.until → is_clogged machine.net to.0 ≡ false → sets.contains machine.up to.0 ≡ true
+    → payload ≡ payload_of turn.before rec
+    → slice_get machine.disks.items to.0 ≡ Some disk
+    → after.dead ≡ machine.dead → after.book ≡ machine.book → after.up ≡ machine.up → after.net ≡ left_by n machine.net → after.teams ≡ machine.teams
+    → after.disks.items ≡ slice_set machine.disks.items to.0 (record { synced = disk.synced; unsynced = disk.unsynced ++ record { rec = rec; payload = payload } ∷ [] })
+    → Follows turn (Deliver n) Stored after
+stores turn n rec to machine disk payload after k e there x u held was e1 e2 e3 e4 e5 e6 = record {
+  right = sym (deliver_reply c h turn.by n (Store rec to) false false f.0 f.1 (sym (clog_is c h machine.net to.0 there k.net) ∙ x) (ap not (sym (k.up.each to.0 within) ∙ u)));
+  stands = record {
+    dead = rw e1 (dead_still c m h machine.dead (λ p. refl) k.dead);
+    rights = rw e2 (rights_still c m h machine.book refl refl refl refl k.rights);
+    disks = rw e6 (record {
+      count = length-set machine.disks.items to.0 _ ∙ k.disks.count;
+      each = λ p l. after_set machine.disks.items to.0 p _ blank_disk room (let n = k.disks.count in omega arith) ∙ at p l (p == to.0) refl;
+    });
+    up = rw e3 (up_still c m h machine.up (λ p. refl) refl k.up);
+    net = rw e4 (net_left c m h machine.net n f.0 refl (λ i. or_nothing (n == i) ∙ swap_eq i n) refl refl refl k.net);
+    teams = rw e5 (teams_still m h machine.teams refl refl (λ r p. ap (λ o. some_is (λ w. w.0 == r && w.1 == p) (option_and_then word_of o)) f.1) k.teams);
+  };
+}
+  where
+    c : Setup
+    c = turn.setup
+
+    h : History
+    h = turn.before
+
+    m : Moment
+    m = moment_of turn (Deliver n) Stored
+
+    f : (in_flight turn.before n ≡ true) × (slice_get (sent turn.before) n ≡ Some (Store rec to))
+    f = flies turn.setup turn.before machine.net k.net n (Store rec to) e
+
+    within : to.0 < length turn.setup.processes
+    within = let c = k.net.count in omega arith
+
+    room : to.0 < length machine.disks.items
+    room = let c = k.net.count in let d = k.disks.count in omega arith
+
+    wrote : (p : ℕ) → writes m p ≡ (if to.0 == p then Some rec else None)
+    wrote p = ap (option_and_then (store_to p)) f.1
+
+    disk_is : disk ≡ stored turn.before to.0
+    disk_is = some_is_same disk (stored turn.before to.0) (sym was ∙ k.disks.each to.0 within)
+
+    at : (p : ℕ) → p < length turn.setup.processes → (b : Bool) → (p == to.0) ≡ b
+        → (if b then Some (record { synced = disk.synced; unsynced = disk.unsynced ++ record { rec = rec; payload = payload } ∷ [] }) else slice_get machine.disks.items p) ≡ Some (stored (m ∷ h) p)
+    at p l true s =
+        let same : p ≡ to.0 = eqb-true p to.0 s in
+        let hit : (to.0 == p) ≡ true = swap_eq p to.0 ∙ s in
+        let mine : own m h p ≡ record { rec = rec; payload = payload } ∷ [] = rw (wrote p, hit) (ap (λ xs. record { rec = rec; payload = xs } ∷ []) (sym held)) in
+        ap Some (ap₂ (λ (xs ys : List Item). record { synced = xs; unsynced = ys })
+        (ap (λ (d : OnDisk). d.synced) disk_is ∙ ap (synced h) (sym same) ∙ sym (synced_else m h p refl))
+        (ap₂ (λ xs ys. xs ++ ys) (ap (λ (d : OnDisk). d.unsynced) disk_is ∙ ap (unsynced h) (sym same)) (sym mine) ∙ sym (unsynced_else m h p refl)))
+    at p l false s =
+        let miss : (to.0 == p) ≡ false = swap_eq p to.0 ∙ s in
+        k.disks.each p l ∙ ap Some (sym (stored_still m h p refl (wrote p ∙ rw miss refl)))
+
+-- ---- a word
+
+pub acked_same : (h : History) (roster : Roster) → KeepsTeams h roster → (rec : ℕ) → Known h rec → ((b : Begun) → slice_get (records h) rec ≡ Some b → (t : Team) × (slice_get (teams h) b.team ≡ Some t))
+    → is_acked roster rec ≡ list_all (λ q. marked h rec q.0) (team_of h rec)
+acked_same h roster k rec b joined = at (slice_get roster.records rec) refl
+  where
+    t : (t : Team) × (slice_get (teams h) b.0.team ≡ Some t)
+    t = joined b.0 b.1
+
+    team : team_of h rec ≡ t.0.members
+    team = rw (b.1, t.1) refl
+
+    each_same : (it : Record) → slice_get roster.records rec ≡ Some it → (ps : List ProcId) → all_marked it.marks ps ≡ list_all (λ q. marked h rec q.0) ps
+    each_same it s [] = refl
+    each_same it s (p ∷ ps) = ap₂ (λ a b. a && b) (sym (ap (λ (o : Option Record). option_map_or (λ it. sets.contains it.marks p.0) o false) s) ∙ k.marks rec p.0) (each_same it s ps)
+
+    at : (o : Option Record) → slice_get roster.records rec ≡ o → is_acked roster rec ≡ list_all (λ q. marked h rec q.0) (team_of h rec)
+    at None s = absurd (some_not_none b.0 (sym b.1 ∙ record_is h roster k rec ∙ ap (option_map begun_of) s))
+    at (Some it) s =
+        let same : b.0 ≡ begun_of it = some_is_same b.0 (begun_of it) (sym b.1 ∙ record_is h roster k rec ∙ ap (option_map begun_of) s) in
+        let there : slice_get roster.teams it.team ≡ Some t.0 = ap (λ ts. slice_get ts it.team) k.teams ∙ ap (λ (b : Begun). slice_get (teams h) b.team) (sym same) ∙ t.1 in
+        rw (s, there, team) (each_same it s t.0.members)
+
+pub rec_there : Tested → (turn : Turn) (n rec : ℕ) (from : ProcId) (m : Machine) → Stands turn.setup turn.before m → IsLived turn.setup turn.before → body_of m.net.in_flight n ≡ Some (Synced rec from) → rec < length m.teams.records
+rec_there tested turn n rec from m k l e =
+    let begun : Known turn.before rec = slice_get-each (λ b. Known turn.before (record_of b)) (sent turn.before) n (Synced rec from) (sound_of tested turn.setup turn.before l).sent_known (flies turn.setup turn.before m.net k.net n (Synced rec from) e).1 in
+    let within : rec < length (records turn.before) = slice_get_within (records turn.before) rec begun.0 begun.1 in
+    let same : length (map begun_of m.teams.records) ≡ length (records turn.before) = ap length k.teams.records in
+    let mapped : length (map begun_of m.teams.records) ≡ length m.teams.records = length-map m.teams.records begun_of in
+    omega arith
+
+all_same : (f g : ProcId → Bool) → ((p : ProcId) → f p ≡ g p) → (ps : List ProcId) → list_all f ps ≡ list_all g ps
+all_same f g w [] = refl
+all_same f g w (p ∷ ps) = ap₂ (λ a b. a && b) (w p) (all_same f g w ps)
+
+or_swap : (a b : Bool) → (a || b) ≡ (b || a)
+or_swap true true = refl
+or_swap true false = refl
+or_swap false true = refl
+or_swap false false = refl
+
+-- the machine once a process's word is delivered
+pub marks_now : Tested → ((roster : Roster) (rec p : ℕ) → (marked_by rec p roster).teams ≡ roster.teams) → ((roster : Roster) (rec p r q : ℕ) → rec < length roster.records → is_marked (marked_by rec p roster) r q ≡ ((r == rec && q == p) || is_marked roster r q))
+    → (turn : Turn) (n rec : ℕ) (from : ProcId) (machine : Machine) (done : Bool) (net : Traffic) (roster : Roster) → Stands turn.setup turn.before machine → IsLived turn.setup turn.before
+    → body_of machine.net.in_flight n ≡ Some (Synced rec from) → from.0 < length machine.net.until → is_clogged machine.net from.0 ≡ false
+    → net ≡ left_by n machine.net → roster ≡ marked_by rec from.0 machine.teams → done ≡ is_acked roster rec
+    → Follows turn (Deliver n) (Marked done) (record machine { net = net; teams = roster })
+marks_now tested same_teams more turn n rec from machine done net roster k l e there x left is told = rw left (record {
+  right = ap Marked acked_is ∙ sym (deliver_reply c h turn.by n (Synced rec from) false false f.0 f.1 (sym (clog_is c h machine.net from.0 there k.net) ∙ x) refl);
+  stands = record {
+    dead = dead_still c m h machine.dead (λ p. refl) k.dead;
+    rights = rights_still c m h machine.book refl refl refl refl k.rights;
+    disks = disks_still c m h machine.disks.items (λ p. refl) refl (λ p. refl) k.disks;
+    up = up_still c m h machine.up (λ p. refl) refl k.up;
+    net = net_left c m h machine.net n f.0 refl (λ i. or_nothing (n == i) ∙ swap_eq i n) refl refl refl k.net;
+    teams = kept;
+  };
+})
+  where
+    c : Setup
+    c = turn.setup
+
+    h : History
+    h = turn.before
+
+    m : Moment
+    m = moment_of turn (Deliver n) (Marked done)
+
+    f : (in_flight turn.before n ≡ true) × (slice_get (sent turn.before) n ≡ Some (Synced rec from))
+    f = flies turn.setup turn.before machine.net k.net n (Synced rec from) e
+
+    within : rec < length machine.teams.records
+    within = rec_there tested turn n rec from machine k l e
+
+    eq_swap : (a b : ℕ) → (a == b) ≡ (b == a)
+    eq_swap a b = swap_eq b a
+
+    marks_is : (r p : ℕ) → marks m r p ≡ (r == rec && p == from.0)
+    marks_is r p = ap (λ o. some_is (λ w. w.0 == r && w.1 == p) (option_and_then word_of o)) f.1 ∙ ap₂ (λ a b. a && b) (eq_swap rec r) (eq_swap from.0 p)
+
+    kept : KeepsTeams (m ∷ h) roster
+    kept = rw is (record {
+      teams = same_teams machine.teams rec from.0 ∙ k.teams.teams ∙ sym (append-nil (teams h));
+      records = records_same machine.teams ∙ k.teams.records ∙ sym (append-nil (records h));
+      marks = λ r p. more machine.teams rec from.0 r p within ∙ ap₂ (λ a b. a || b) (sym (marks_is r p)) (k.teams.marks r p);
+    })
+      where
+        set_same : (its : List Record) (i : ℕ) (it : Record) (s : sets.FinSet nat_cmp) → slice_get its i ≡ Some it → map begun_of (slice_set its i (record it { marks = s })) ≡ map begun_of its
+        set_same [] i it s w = refl
+        set_same (x ∷ its) zero it s w = ap (λ (y : Record). begun_of y ∷ map begun_of its) (sym (some_is_same x it w))
+        set_same (x ∷ its) (suc i) it s w = ap (λ ys. begun_of x ∷ ys) (set_same its i it s w)
+
+        records_same : (roster : Roster) → map begun_of (marked_by rec from.0 roster).records ≡ map begun_of roster.records
+        records_same roster = into (slice_get roster.records rec) refl
+          where
+            into : (o : Option Record) → slice_get roster.records rec ≡ o → map begun_of (option_map_or (λ it. record roster { records = slice_set roster.records rec (record it { marks = sets.insert it.marks from.0 }) }) o roster).records ≡ map begun_of roster.records
+            into None s = refl
+            into (Some it) s = set_same roster.records rec it (sets.insert it.marks from.0) s
+
+    sound : Sound c h
+    sound = sound_of tested c h l
+
+    begun : Known h rec
+    begun = slice_get-each (λ b. Known h (record_of b)) (sent h) n (Synced rec from) sound.sent_known f.1
+
+    team_same : team_of (m ∷ h) rec ≡ team_of h rec
+    team_same = ap₂ (λ rs ts. option_map_or (λ (b : Begun). option_map_or (λ (t : Team). t.members) (slice_get ts b.team) []) (slice_get rs rec) []) (append-nil (records h)) (append-nil (teams h))
+
+    acked_is : done ≡ is_acked_with h rec from.0
+    acked_is =
+        told
+        ∙ acked_same (m ∷ h) roster kept rec (begun.0, ap (λ rs. slice_get rs rec) (append-nil (records h)) ∙ begun.1)
+        (λ b w.
+        let t = slice_get-each (λ b. (t : Team) × (slice_get (teams h) b.team ≡ Some t)) (records h) rec b sound.joined (sym (ap (λ rs. slice_get rs rec) (append-nil (records h))) ∙ w) in
+        (t.0, ap (λ ts. slice_get ts b.team) (append-nil (teams h)) ∙ t.1))
+        ∙ ap (list_all (λ q. marked (m ∷ h) rec q.0)) team_same
+        ∙ all_same _ _ (λ q. ap (λ b. b || marked h rec q.0) (marks_is rec q.0 ∙ self rec (q.0 == from.0)) ∙ or_swap (q.0 == from.0) (marked h rec q.0)) (team_of h rec)
+      where
+        self : (r : ℕ) (b : Bool) → (r == r && b) ≡ b
+        self r b = let same : (r == r) ≡ true = grind (arith, nat_tests) in rw same refl
+
+-- what is in flight and isn't held may be taken
+pub may_be_taken : (net : Traffic) (n : ℕ) (b : Body) → body_of net.in_flight n ≡ Some b → is_clogged net (process_of b) ≡ false → take_refusal net n ≡ None
+may_be_taken net n b e x = rw e (rw x refl)

@@ -1,0 +1,91 @@
+-- one entry more in a legal journal
+use Rattle.std.proofs.Common.{◌≡◌, ℕ, zero, suc, ◌+◌, ◌<◌, true, false, List, [], ◌∷◌, ◌++◌, length, Some, None, Result, Ok, Err, IfOk, OnErr, refl, sym, ◌∙◌, ap, subst, arith, nat_le, slice_get, length-append}
+use Rattle.std.proofs.lemmas.Bool.Decides.{nat_tests}
+use Rattle.std.proofs.lemmas.Option.{slice_get_within}
+use Rattle.fy_audit.specs.declared.act.Act.{Act}
+use Rattle.fy_audit.specs.declared.reply.Reply.{Reply}
+use Rattle.fy_audit.specs.declared.reply.Reply.TheVariants.{No}
+use Rattle.fy_audit.specs.declared.reply.Refusal.TheVariants.{Stranger, WrongRole}
+use Rattle.fy_audit.specs.declared.entry.Entry.{Entry}
+use Rattle.fy_cluster.specs.declared.fault.Fault.{Fault}
+use Rattle.fy_cluster.specs.declared.role.Role.{Role}
+use Rattle.fy_cluster.specs.declared.machine.Machine.{Machine}
+use Rattle.fy_cluster.specs.Setup.{Setup}
+use Rattle.fy_cluster.specs.History.{History, moment, after, history}
+use Rattle.fy_cluster.specs.Replies.{refused, refusals, reasons, answer, reply, no_actor, may, IsNext, LegalAfter}
+use Rattle.fy_cluster.specs.Standing.{Stands, Turn, Comes, Answers, entry_of, IsKept, IsLived}
+use Rattle.fy_cluster.proofs.Refusals.{unmoved}
+
+-- ---- the two reasons that come before all
+
+past_roles : {X : Type 0} (xs : List X) (i : ℕ) → slice_get xs i ≡ None → nat_le (length xs) i ≡ true
+past_roles [] i e = grind (arith, nat_tests)
+past_roles (x ∷ xs) zero e = absurd (cc)
+past_roles (x ∷ xs) (suc i) e = let more = past_roles xs i e in grind (arith, nat_tests)
+
+within_roles : {X : Type 0} (xs : List X) (i : ℕ) (x : X) → slice_get xs i ≡ Some x → nat_le (length xs) i ≡ false
+within_roles xs i x e = let l = slice_get_within xs i x e in grind (arith, nat_tests)
+
+stranger : (c : Setup) (h : History) (by : ℕ) (act : Act) → slice_get c.roles by ≡ None → reply c h by act ≡ No Stranger
+unfolding reply reasons
+stranger c h by act e = let unknown : no_actor c by ≡ true = past_roles c.roles by e in rw unknown refl
+
+wrong_role : (c : Setup) (h : History) (by : ℕ) (act : Act) (role : Role) → slice_get c.roles by ≡ Some role → may role act ≡ false → reply c h by act ≡ No WrongRole
+unfolding reply reasons
+wrong_role c h by act role e m = let known : no_actor c by ≡ false = within_roles c.roles by role e in rw (known, e, m) refl
+
+may_reply : (c : Setup) (h : History) (by : ℕ) (act : Act) (role : Role) → slice_get c.roles by ≡ Some role → may role act ≡ true → reply c h by act ≡ refused (refusals c h act) (answer c h by act)
+unfolding reply reasons
+may_reply c h by act role e m = let known : no_actor c by ≡ false = within_roles c.roles by role e in rw (known, e, m) refl
+
+pub by_stranger : (turn : Turn) (by : ℕ) (act : Act) (m : Machine) → Stands turn.setup turn.before m → by ≡ turn.by → slice_get turn.setup.roles by ≡ None → Answers turn act (Ok (No Stranger)) m
+by_stranger turn by act m k same e = (sym (stranger turn.setup turn.before turn.by act (sym (ap (slice_get turn.setup.roles) same) ∙ e)), unmoved turn act Stranger m k)
+
+pub by_wrong_role : (turn : Turn) (by : ℕ) (act : Act) (role : Role) (m : Machine) → Stands turn.setup turn.before m → by ≡ turn.by → slice_get turn.setup.roles by ≡ Some role → may role act ≡ false → Answers turn act (Ok (No WrongRole)) m
+by_wrong_role turn by act role m k same e f = (sym (wrong_role turn.setup turn.before turn.by act role (sym (ap (slice_get turn.setup.roles) same) ∙ e) f), unmoved turn act WrongRole m k)
+
+pub by_actor : (turn : Turn) (by : ℕ) (act : Act) (role : Role) (result : Result Reply Fault) (m : Machine) → by ≡ turn.by → slice_get turn.setup.roles by ≡ Some role → may role act ≡ true → Comes turn act result m → Answers turn act result m
+by_actor turn by act role (Ok answered) m same e f k = (k.right ∙ sym (may_reply turn.setup turn.before turn.by act role (sym (ap (slice_get turn.setup.roles) same) ∙ e) f), k.stands)
+by_actor turn by act role (Err fault) m same e f k = k
+
+-- ---- the journal
+
+after-append : (c : Setup) (h : History) (xs ys : List Entry) → after c h (xs ++ ys) ≡ after c (after c h xs) ys
+after-append c h [] ys = refl
+after-append c h (x ∷ xs) ys = after-append c (moment c h x ∷ h) xs ys
+
+length-after : (c : Setup) (h : History) (xs : List Entry) → length (after c h xs) ≡ length h + length xs
+length-after c h [] = omega arith
+length-after c h (x ∷ xs) = length-after c (moment c h x ∷ h) xs ∙ (omega arith)
+
+pub length-history : (c : Setup) (journal : List Entry) → length (history c journal) ≡ length journal
+length-history c journal = length-after c [] journal ∙ (omega arith)
+
+legal-push : (c : Setup) (h : History) (xs : List Entry) (e : Entry) → LegalAfter c h xs → IsNext c (after c h xs) e → LegalAfter c h (xs ++ e ∷ [])
+legal-push c h [] e l next = (next, tt)
+legal-push c h (x ∷ xs) e l next = (l.0, legal-push c (moment c h x ∷ h) xs e l.1 next)
+
+-- a turn after a journal
+abbrev pub turn_after : Setup → List Entry → ℕ → Turn
+turn_after c journal by = record { setup = c; before = history c journal; by = by }
+
+-- its entry is the next of the journal
+pub kept_on : (c : Setup) (journal : List Entry) (by : ℕ) (act : Act) (answered : Reply) (m old : Machine) → IsKept c journal old → length journal < c.limit → Answers (turn_after c journal by) act (Ok answered) m
+    → IsKept c (journal ++ record { at = length journal; by = by; act = act; reply = answered } ∷ []) m
+kept_on c journal by act answered m old k room a =
+    let e : Entry = record { at = length journal; by = by; act = act; reply = answered } in
+    let same : entry_of (turn_after c journal by) act answered ≡ e = ap (λ n. record { at = n; by = by; act = act; reply = answered }) (length-history c journal) in
+    record {
+      setup = k.setup;
+      legal = (let l : length (journal ++ e ∷ []) ≡ length journal + 1 = length-append journal (e ∷ []) in omega arith, legal-push c [] journal e k.legal.1 (record { place = sym (length-history c journal); right = a.0 }));
+      stands = subst (λ h. Stands c h m) (ap (λ x. moment c (history c journal) x ∷ history c journal) same ∙ sym (after-append c [] journal (e ∷ []))) a.1;
+    }
+
+pub lived : (c : Setup) (journal : List Entry) (m : Machine) → IsKept c journal m → length journal < c.limit → IsLived c (history c journal)
+lived c journal m k room = record { journal = journal; same = refl; setup = k.setup; legal = k.legal; room = room }
+
+-- whether or not an entry was made, the journal is kept
+pub kept_after_act : (c : Setup) (journal entries : List Entry) (by : ℕ) (act : Act) (result : Result Reply Fault) (m old : Machine) → IsKept c journal old → length journal < c.limit → Answers (turn_after c journal by) act result m
+    → IfOk result (λ answered. entries ≡ journal ++ record { at = length journal; by = by; act = act; reply = answered } ∷ []) → OnErr result (entries ≡ journal) → IsKept c entries m
+kept_after_act c journal entries by act (Ok answered) m old k room a entered err = rw entered (kept_on c journal by act answered m old k room a)
+kept_after_act c journal entries by act (Err fault) m old k room a entered err = rw err (record { setup = k.setup; legal = k.legal; stands = a.1 })

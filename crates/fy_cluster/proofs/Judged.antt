@@ -1,0 +1,394 @@
+-- orders and clogs are answered from the books, and what they do
+use Rattle.std.proofs.Common.{◌==◌, ◌≡◌, ℕ, ◌+◌, ◌^◌, ◌<◌, ◌≤◌, min, max, List, [], ◌∷◌, ◌++◌, Bool, true, false, ◌&&◌, ◌||◌, not, Option, Some, None, is_none, refl, sym, ◌∙◌, ap, ap₂, nat_lt, length, arith, get_or, slice_get, slice_index, append-nil, if◌then◌else◌}
+use Rattle.std.proofs.lemmas.Bool.{or_from}
+use Rattle.std.proofs.lemmas.Bool.Decides.{nat_tests}
+use Rattle.std.proofs.lemmas.Option.{slice_get-get_or}
+use Rattle.std.specs.Option.{option_map_or}
+use Rattle.std.specs.FinSet as sets
+use Rattle.std.specs.Ordering.{nat_cmp}
+use Rattle.std.specs.Cmp.{nat_cmp_total}
+use Rattle.fy_kinds.specs.declared.kind.Kind.{Kind}
+use Rattle.fy_kinds.specs.declared.kind.Kind.TheVariants.{RebootProcess, Reboot, RebootAndDelete, KillInstantly}
+use Rattle.fy_kinds.specs.declared.order.Target.{Target}
+use Rattle.fy_kinds.specs.declared.verdict.Rule.{Rule}
+use Rattle.fy_kinds.specs.declared.verdict.Verdict.{Verdict as VerdictOf}
+use Rattle.fy_kinds.specs.Kinds.{Clogging, is_destroying}
+use Rattle.fy_kinds.specs.Orders.{Order}
+use Rattle.fy_decide.specs.DeadBook.{Casualties, struck}
+use Rattle.fy_decide.specs.Verdicts.{situation_of, targets, bar, verdict, loss_of}
+use Rattle.fy_disk.specs.declared.item.Item.{Item}
+use Rattle.fy_disk.specs.Disk.{Stored, outlives, passing}
+use Rattle.fy_net.specs.Net.{Traffic, last_tick}
+use Rattle.fy_audit.specs.declared.act.Act.TheVariants.{Kill, Clog, Unclog}
+use Rattle.fy_audit.specs.declared.reply.Reply.TheVariants.{Ruled, Verdict}
+use Rattle.fy_cluster.specs.declared.machine.Machine.{Machine}
+use Rattle.fy_cluster.specs.Setup.{Setup}
+use Rattle.fy_cluster.specs.History.{History, Moment, some_is, strikes, destroys, is_killing, closes, syncs, writes, tear_of, destroyed, gone, left, up, synced, unsynced, sent, now, takes_out, ticks, clogged_at}
+use Rattle.fy_cluster.specs.Rules.{situation}
+use Rattle.fy_cluster.specs.Replies.{refused, refusals, answer}
+use Rattle.fy_cluster.specs.Standing.{Stands, Turn, Follows, moment_of, KeepsDead, KeepsDisks, KeepsUp, KeepsNet, stored, left_on, blank_disk}
+use Rattle.fy_cluster.proofs.Still.{dead_still, up_still, disks_still, net_still, teams_still, rights_still, stored_still, disk_closes}
+use Rattle.fy_cluster.proofs.DiskSteps.{synced_at_close, unsynced_at_close, synced_at_strike}
+use Rattle.fy_cluster.proofs.Flights.{flying_still}
+use Rattle.fy_cluster.proofs.Refusals.{none_if}
+use Rattle.fy_cluster.proofs.Results.{some_is_same}
+
+-- what an answer to an actor rests on is what the books say
+pub situation_same : (c : Setup) (h : History) (m : Machine) → Stands c h m → (by : ℕ) → situation_of m.dead m.book by ≡ situation c h by
+situation_same c h m k by = λ i. record {
+  processes = k.dead.processes i;
+  policies = k.dead.policies i;
+  grants = k.rights.grants by i;
+  is_protected = λ p deed. k.rights.protections p deed i;
+  destroyed = λ p. k.dead.destroyed p i;
+  left = λ p. k.dead.left p i;
+}
+
+targets_same : (c : Setup) (h : History) (m : Machine) → Stands c h m → (target : Target) → targets m.dead.processes (sets.contains m.dead.left) target ≡ targets c.processes (left c h) target
+targets_same c h m k target = λ i. targets (k.dead.processes i) (λ p. k.dead.left p i) target
+
+bar_same : (c : Setup) (h : History) (m : Machine) → Stands c h m → (by actor : ℕ) → by ≡ actor → (target : Target)
+    → bar (situation_of m.dead m.book by) Clogging (targets m.dead.processes (sets.contains m.dead.left) target) ≡ bar (situation c h actor) Clogging (targets c.processes (left c h) target)
+bar_same c h m k by actor e target = ap₂ (λ s t. bar s Clogging t) (situation_same c h m k by ∙ ap (situation c h) e) (targets_same c h m k target)
+
+clog_reply : (c : Setup) (h : History) (by : ℕ) (target : Target) (n : ℕ) (rule : Option Rule) → rule ≡ bar (situation c h by) Clogging (targets c.processes (left c h) target)
+    → Ruled rule ≡ refused (refusals c h (Clog target n)) (answer c h by (Clog target n))
+unfolding refusals answer
+clog_reply c h by target n rule e = ap Ruled e
+
+unclog_reply : (c : Setup) (h : History) (by : ℕ) (target : Target) (rule : Option Rule) → rule ≡ bar (situation c h by) Clogging (targets c.processes (left c h) target)
+    → Ruled rule ≡ refused (refusals c h (Unclog target)) (answer c h by (Unclog target))
+unfolding refusals answer
+unclog_reply c h by target rule e = ap Ruled e
+
+-- ---- clogs
+
+-- a clog that a rule bars
+pub clog_barred : (turn : Turn) (target : Target) (n : ℕ) (rule : Rule) (machine : Machine) → Stands turn.setup turn.before machine
+    → (by : ℕ) → by ≡ turn.by
+    → Some rule ≡ bar (situation_of machine.dead machine.book by) Clogging (targets machine.dead.processes (sets.contains machine.dead.left) target) → Follows turn (Clog target n) (Ruled (Some rule)) machine
+clog_barred turn target n rule machine k by actor is = record {
+  right = clog_reply c h turn.by target n (Some rule) (is ∙ bar_same c h machine k by turn.by actor target);
+  stands = record {
+    dead = dead_still c m h machine.dead (λ p. none_if (m.targets p) None refl) k.dead;
+    rights = rights_still c m h machine.book refl refl refl refl k.rights;
+    disks = disks_still c m h machine.disks.items (λ p. none_if (m.targets p) None refl) refl (λ p. refl) k.disks;
+    up = up_still c m h machine.up (λ p. none_if (m.targets p) None refl) refl k.up;
+    net = net_still c m h machine.net refl (λ k. refl) refl refl refl k.net;
+    teams = teams_still m h machine.teams refl refl (λ r p. refl) k.teams;
+  };
+}
+  where
+    c : Setup
+    c = turn.setup
+
+    h : History
+    h = turn.before
+
+    m : Moment
+    m = moment_of turn (Clog target n) (Ruled (Some rule))
+
+pub unclog_barred : (turn : Turn) (target : Target) (rule : Rule) (machine : Machine) → Stands turn.setup turn.before machine
+    → (by : ℕ) → by ≡ turn.by
+    → Some rule ≡ bar (situation_of machine.dead machine.book by) Clogging (targets machine.dead.processes (sets.contains machine.dead.left) target) → Follows turn (Unclog target) (Ruled (Some rule)) machine
+unclog_barred turn target rule machine k by actor is = record {
+  right = unclog_reply c h turn.by target (Some rule) (is ∙ bar_same c h machine k by turn.by actor target);
+  stands = record {
+    dead = dead_still c m h machine.dead (λ p. none_if (m.targets p) None refl) k.dead;
+    rights = rights_still c m h machine.book refl refl refl refl k.rights;
+    disks = disks_still c m h machine.disks.items (λ p. none_if (m.targets p) None refl) refl (λ p. refl) k.disks;
+    up = up_still c m h machine.up (λ p. none_if (m.targets p) None refl) refl k.up;
+    net = net_still c m h machine.net refl (λ k. refl) refl refl refl k.net;
+    teams = teams_still m h machine.teams refl refl (λ r p. refl) k.teams;
+  };
+}
+  where
+    c : Setup
+    c = turn.setup
+
+    h : History
+    h = turn.before
+
+    m : Moment
+    m = moment_of turn (Unclog target) (Ruled (Some rule))
+
+lt_max : (t u v : ℕ) → (nat_lt t v || nat_lt t u) ≡ nat_lt t (max u v)
+lt_max t u v = grind (arith, nat_tests)
+
+lt_min : (t u n : ℕ) → n ≤ t → nat_lt t (min u n) ≡ false
+lt_min t u n l = grind (arith, nat_tests)
+
+-- the ends of clogs after some change at the targets, where the moment neither sends nor takes out and no time passes
+net_ends : (c : Setup) (m : Moment) (h : History) (net next : Traffic) → m.sends ≡ [] → ((n : ℕ) → takes_out n m ≡ false) → ticks m.entry.act m.entry.reply ≡ None
+    → next ≡ record net { until = next.until } → length next.until ≡ length net.until
+    → ((p t : ℕ) → p < length c.processes → now h ≤ t → clogged_at t (m ∷ h) p ≡ nat_lt t (slice_index next.until p))
+    → KeepsNet c h net → KeepsNet c (m ∷ h) next
+net_ends c m h net next none keeps no_tick same count ends k = record {
+  in_flight = ap (λ (n : Traffic). n.in_flight) same ∙ k.in_flight ∙ sym (flying_still m h none keeps);
+  sent_so_far = ap (λ (n : Traffic). n.sent) same ∙ k.sent_so_far ∙ sym all_sent;
+  clock = ap (λ (n : Traffic). n.clock) same ∙ k.clock ∙ sym time;
+  count = count ∙ k.count;
+  ends = λ p t l later. ends p t l (let e = time in omega arith);
+  early = λ n l. or_from _ _ (keeps n) (k.early n (let e = all_sent in omega arith));
+  few = let e = all_sent in let few = k.few in omega arith;
+}
+  where
+    all_sent : length (sent (m ∷ h)) ≡ length (sent h)
+    all_sent = ap (λ xs. length (sent h ++ xs)) none ∙ ap length (append-nil (sent h))
+
+    time : now (m ∷ h) ≡ now h
+    time = rw no_tick (omega arith)
+
+-- the machine after a clog of the targets
+pub clogs_now : (turn : Turn) (target : Target) (n : ℕ) (machine : Machine) (set : sets.FinSet nat_cmp) (net : Traffic) → Stands turn.setup turn.before machine
+    → (by : ℕ) → by ≡ turn.by
+    → None ≡ bar (situation_of machine.dead machine.book by) Clogging (targets machine.dead.processes (sets.contains machine.dead.left) target)
+    → ((p : ℕ) → sets.contains set p ≡ targets machine.dead.processes (sets.contains machine.dead.left) target p)
+    → net ≡ record machine.net { until = net.until } → length net.until ≡ length machine.net.until
+    → ((p : ℕ) → p < length machine.net.until → slice_index net.until p ≡ (if sets.contains set p then max (slice_index machine.net.until p) (min (machine.net.clock + n) last_tick) else slice_index machine.net.until p))
+    → Follows turn (Clog target n) (Ruled None) (record machine { net = net })
+clogs_now turn target n machine set net k by actor is who same count each = record {
+  right = clog_reply c h turn.by target n None (is ∙ bar_same c h machine k by turn.by actor target);
+  stands = record {
+    dead = dead_still c m h machine.dead (λ p. none_if (m.targets p) None refl) k.dead;
+    rights = rights_still c m h machine.book refl refl refl refl k.rights;
+    disks = disks_still c m h machine.disks.items (λ p. none_if (m.targets p) None refl) refl (λ p. refl) k.disks;
+    up = up_still c m h machine.up (λ p. none_if (m.targets p) None refl) refl k.up;
+    net = net_ends c m h machine.net net refl (λ k. refl) refl same count ends k.net;
+    teams = teams_still m h machine.teams refl refl (λ r p. refl) k.teams;
+  };
+}
+  where
+    c : Setup
+    c = turn.setup
+
+    h : History
+    h = turn.before
+
+    m : Moment
+    m = moment_of turn (Clog target n) (Ruled None)
+
+    ends : (p t : ℕ) → p < length c.processes → now h ≤ t → clogged_at t (m ∷ h) p ≡ nat_lt t (slice_index net.until p)
+    ends p t l later =
+        let u = slice_index machine.net.until p in
+        ap (λ b. m.targets p && nat_lt t (min (now h + n) (2 ^ 40)) || b) (k.net.ends p t l later)
+        ∙ at (m.targets p) u
+        ∙ ap (λ b. nat_lt t (if b then max u (min (now h + n) last_tick) else u)) (sym (who p ∙ ap (λ f. f p) (targets_same c h machine k target)))
+        ∙ ap (λ clock. nat_lt t (if sets.contains set p then max u (min (clock + n) last_tick) else u)) (sym k.net.clock)
+        ∙ ap (nat_lt t) (sym (each p (let w = k.net.count in omega arith)))
+      where
+        at : (b : Bool) (u : ℕ) → (b && nat_lt t (min (now h + n) (2 ^ 40)) || nat_lt t u) ≡ nat_lt t (if b then max u (min (now h + n) last_tick) else u)
+        at true u = lt_max t u (min (now h + n) last_tick)
+        at false u = refl
+
+pub unclogs_now : (turn : Turn) (target : Target) (machine : Machine) (set : sets.FinSet nat_cmp) (net : Traffic) → Stands turn.setup turn.before machine
+    → (by : ℕ) → by ≡ turn.by
+    → None ≡ bar (situation_of machine.dead machine.book by) Clogging (targets machine.dead.processes (sets.contains machine.dead.left) target)
+    → ((p : ℕ) → sets.contains set p ≡ targets machine.dead.processes (sets.contains machine.dead.left) target p)
+    → net ≡ record machine.net { until = net.until } → length net.until ≡ length machine.net.until
+    → ((p : ℕ) → p < length machine.net.until → slice_index net.until p ≡ (if sets.contains set p then min (slice_index machine.net.until p) machine.net.clock else slice_index machine.net.until p))
+    → Follows turn (Unclog target) (Ruled None) (record machine { net = net })
+unclogs_now turn target machine set net k by actor is who same count each = record {
+  right = unclog_reply c h turn.by target None (is ∙ bar_same c h machine k by turn.by actor target);
+  stands = record {
+    dead = dead_still c m h machine.dead (λ p. none_if (m.targets p) None refl) k.dead;
+    rights = rights_still c m h machine.book refl refl refl refl k.rights;
+    disks = disks_still c m h machine.disks.items (λ p. none_if (m.targets p) None refl) refl (λ p. refl) k.disks;
+    up = up_still c m h machine.up (λ p. none_if (m.targets p) None refl) refl k.up;
+    net = net_ends c m h machine.net net refl (λ k. refl) refl same count ends k.net;
+    teams = teams_still m h machine.teams refl refl (λ r p. refl) k.teams;
+  };
+}
+  where
+    c : Setup
+    c = turn.setup
+
+    h : History
+    h = turn.before
+
+    m : Moment
+    m = moment_of turn (Unclog target) (Ruled None)
+
+    ends : (p t : ℕ) → p < length c.processes → now h ≤ t → clogged_at t (m ∷ h) p ≡ nat_lt t (slice_index net.until p)
+    ends p t l later =
+        let u = slice_index machine.net.until p in
+        ap (λ b. not (m.targets p) && b) (k.net.ends p t l later)
+        ∙ at (m.targets p) u
+        ∙ ap (λ b. nat_lt t (if b then min u (now h) else u)) (sym (who p ∙ ap (λ f. f p) (targets_same c h machine k target)))
+        ∙ ap (λ clock. nat_lt t (if sets.contains set p then min u clock else u)) (sym k.net.clock)
+        ∙ ap (nat_lt t) (sym (each p (let w = k.net.count in omega arith)))
+      where
+        at : (b : Bool) (u : ℕ) → (not b && nat_lt t u) ≡ nat_lt t (if b then min u (now h) else u)
+        at true u = sym (lt_min t u (now h) later)
+        at false u = refl
+
+-- ---- kills
+
+kill_reply : (c : Setup) (h : History) (by : ℕ) (order : Order) (v : VerdictOf) → v ≡ verdict (situation c h by) order → Verdict v ≡ refused (refusals c h (Kill order)) (answer c h by (Kill order))
+unfolding refusals answer
+kill_reply c h by order v e = ap Verdict e
+
+verdict_same : (c : Setup) (h : History) (m : Machine) → Stands c h m → (by actor : ℕ) → by ≡ actor → (order : Order) → verdict (situation_of m.dead m.book by) order ≡ verdict (situation c h actor) order
+verdict_same c h m k by actor e order = ap (λ s. verdict s order) (situation_same c h m k by ∙ ap (situation c h) e)
+
+-- what a verdict struck, the verdict's word for it struck
+pub chosen : {v w : VerdictOf} {kind : Kind} → v ≡ w → v.struck ≡ Some kind → w.struck ≡ Some kind
+chosen e s = ap (λ (v : VerdictOf). v.struck) (sym e) ∙ s
+
+-- an order that struck nobody
+pub spares : (turn : Turn) (order : Order) (v : VerdictOf) (machine : Machine) → Stands turn.setup turn.before machine → (by : ℕ) → by ≡ turn.by
+    → v ≡ verdict (situation_of machine.dead machine.book by) order → v.struck ≡ None → Follows turn (Kill order) (Verdict v) machine
+spares turn order v machine k by actor is none = record {
+  right = kill_reply c h turn.by order v (is ∙ verdict_same c h machine k by turn.by actor order);
+  stands = record {
+    dead = dead_still c m h machine.dead (λ p. none_if (m.targets p) v.struck none) k.dead;
+    rights = rights_still c m h machine.book refl refl refl refl k.rights;
+    disks = disks_still c m h machine.disks.items (λ p. none_if (m.targets p) v.struck none) refl (λ p. refl) k.disks;
+    up = up_still c m h machine.up (λ p. none_if (m.targets p) v.struck none) refl k.up;
+    net = net_still c m h machine.net refl (λ k. refl) refl refl refl k.net;
+    teams = teams_still m h machine.teams refl refl (λ r p. refl) k.teams;
+  };
+}
+  where
+    c : Setup
+    c = turn.setup
+
+    h : History
+    h = turn.before
+
+    m : Moment
+    m = moment_of turn (Kill order) (Verdict v)
+
+-- the kind that struck a target
+abbrev at_target : Bool → Kind → Option Kind
+at_target b kind = if b then Some kind else None
+
+-- what is destroyed once a kind struck the targets
+destroyed_more : (b d : Bool) (kind : Kind) → is_destroying kind ≡ true → (d || b) ≡ (some_is is_destroying (at_target b kind) || d)
+destroyed_more true true kind e = rw e refl
+destroyed_more true false kind e = rw e refl
+destroyed_more false true kind e = refl
+destroyed_more false false kind e = refl
+
+spared : (test : Kind → Bool) (b d : Bool) (kind : Kind) → test kind ≡ false → d ≡ (some_is test (at_target b kind) || d)
+spared test true d kind e = rw e refl
+spared test false d kind e = refl
+
+left_less : (n b g : Bool) (kind : Kind) → is_killing kind ≡ true → (n && not g && not b) ≡ (n && not (some_is is_killing (at_target b kind) || g))
+left_less true true true kind e = rw e refl
+left_less true true false kind e = rw e refl
+left_less true false true kind e = refl
+left_less true false false kind e = refl
+left_less false b g kind e = refl
+
+dead_struck : (c : Setup) (m : Moment) (h : History) (book : Casualties) (set : sets.FinSet nat_cmp) (kind : Kind) → ((p : ℕ) → strikes m p ≡ at_target (sets.contains set p) kind)
+    → KeepsDead c h book → KeepsDead c (m ∷ h) (option_map_or (λ loss. struck book set loss) (loss_of kind) book)
+dead_struck c m h book set RebootProcess struck_is k = record {
+  processes = k.processes;
+  policies = k.policies;
+  few = k.few;
+  destroyed = λ p. k.destroyed p ∙ spared is_destroying (sets.contains set p) (destroyed h p) RebootProcess refl ∙ ap (λ o. some_is is_destroying o || destroyed h p) (sym (struck_is p));
+  left = λ p. k.left p ∙ ap (λ g. nat_lt p (length c.processes) && not g) (spared is_killing (sets.contains set p) (gone h p) RebootProcess refl ∙ ap (λ o. some_is is_killing o || gone h p) (sym (struck_is p)));
+}
+dead_struck c m h book set Reboot struck_is k = record {
+  processes = k.processes;
+  policies = k.policies;
+  few = k.few;
+  destroyed = λ p. k.destroyed p ∙ spared is_destroying (sets.contains set p) (destroyed h p) Reboot refl ∙ ap (λ o. some_is is_destroying o || destroyed h p) (sym (struck_is p));
+  left = λ p. k.left p ∙ ap (λ g. nat_lt p (length c.processes) && not g) (spared is_killing (sets.contains set p) (gone h p) Reboot refl ∙ ap (λ o. some_is is_killing o || gone h p) (sym (struck_is p)));
+}
+dead_struck c m h book set RebootAndDelete struck_is k = record {
+  processes = k.processes;
+  policies = k.policies;
+  few = k.few;
+  destroyed = λ p. sets.contains-union nat_cmp_total book.destroyed set p ∙ ap (λ d. d || sets.contains set p) (k.destroyed p) ∙ destroyed_more (sets.contains set p) (destroyed h p) RebootAndDelete refl ∙ ap (λ o. some_is is_destroying o || destroyed h p) (sym (struck_is p));
+  left = λ p. k.left p ∙ ap (λ g. nat_lt p (length c.processes) && not g) (spared is_killing (sets.contains set p) (gone h p) RebootAndDelete refl ∙ ap (λ o. some_is is_killing o || gone h p) (sym (struck_is p)));
+}
+dead_struck c m h book set KillInstantly struck_is k = record {
+  processes = k.processes;
+  policies = k.policies;
+  few = k.few;
+  destroyed = λ p. sets.contains-union nat_cmp_total book.destroyed set p ∙ ap (λ d. d || sets.contains set p) (k.destroyed p) ∙ destroyed_more (sets.contains set p) (destroyed h p) KillInstantly refl ∙ ap (λ o. some_is is_destroying o || destroyed h p) (sym (struck_is p));
+  left = λ p. sets.contains-difference nat_cmp_total book.left set p ∙ ap (λ l. l && not (sets.contains set p)) (k.left p)
+      ∙ left_less (nat_lt p (length c.processes)) (sets.contains set p) (gone h p) KillInstantly refl ∙ ap (λ o. nat_lt p (length c.processes) && not (some_is is_killing o || gone h p)) (sym (struck_is p));
+}
+
+up_less : (b u : Bool) (kind : Kind) → (u && not b) ≡ (is_none (at_target b kind) && u)
+up_less true true kind = refl
+up_less true false kind = refl
+up_less false true kind = refl
+up_less false false kind = refl
+
+up_struck : (c : Setup) (m : Moment) (h : History) (up_now set : sets.FinSet nat_cmp) (kind : Kind) → ((q : ℕ) → up (m ∷ h) q ≡ (is_none (strikes m q) && up h q)) → ((p : ℕ) → strikes m p ≡ at_target (sets.contains set p) kind)
+    → KeepsUp c h up_now → KeepsUp c (m ∷ h) (sets.difference up_now set)
+up_struck c m h up_now set kind is struck_is k = record {
+  each = λ p l. sets.contains-difference nat_cmp_total up_now set p ∙ ap (λ u. u && not (sets.contains set p)) (k.each p l) ∙ up_less (sets.contains set p) (up h p) kind ∙ ap (λ o. is_none o && up h p) (sym (struck_is p)) ∙ sym (is p);
+}
+
+-- ---- disks
+
+-- a disk after a strike at its process
+stored_struck : (m : Moment) (h : History) (p : ℕ) (kind : Kind) → syncs m.entry.act m.entry.reply ≡ None → writes m p ≡ None → strikes m p ≡ Some kind → stored (m ∷ h) p ≡ left_on kind (tear_of m.entry.act) (stored h p)
+stored_struck m h p RebootProcess idle w s = stored_still m h p (ap₂ (λ a b. disk_closes a b p) idle s) w
+stored_struck m h p Reboot idle w s =
+    let closing : closes p m ≡ true = ap₂ (λ a b. disk_closes a b p) idle s in
+    let spares_all : destroys m p ≡ false = ap (some_is is_destroying) s in
+    ap₂ (λ (xs ys : List Item). record { synced = xs; unsynced = ys })
+    (synced_at_close m h p closing spares_all
+    ∙ ap₂ (λ (a : Option ℕ) (b : Option Kind). synced h p ++ passing (λ i. some_is (λ q. q == p) a || not (some_is is_destroying b) && outlives (tear_of m.entry.act) i) 0 (unsynced h p)) idle s)
+    (unsynced_at_close m h p closing)
+stored_struck m h p RebootAndDelete idle w s =
+    ap₂ (λ (xs ys : List Item). record { synced = xs; unsynced = ys }) (synced_at_strike m h p (ap (some_is is_destroying) s)) (unsynced_at_close m h p (ap₂ (λ a b. disk_closes a b p) idle s))
+stored_struck m h p KillInstantly idle w s =
+    ap₂ (λ (xs ys : List Item). record { synced = xs; unsynced = ys }) (synced_at_strike m h p (ap (some_is is_destroying) s)) (unsynced_at_close m h p (ap₂ (λ a b. disk_closes a b p) idle s))
+
+-- the element that is there, whatever stands for one that isn't
+element : {X : Type 0} (xs : List X) (i : ℕ) (other x : X) → i < length xs → slice_get xs i ≡ Some x → get_or xs i other ≡ x
+element xs i other x l e = some_is_same (get_or xs i other) x (sym (slice_get-get_or xs i other l) ∙ e)
+
+disks_struck : (c : Setup) (m : Moment) (h : History) (old new : List Stored) (set : sets.FinSet nat_cmp) (kind : Kind) (tear : ℕ) → ((p : ℕ) → strikes m p ≡ at_target (sets.contains set p) kind)
+    → syncs m.entry.act m.entry.reply ≡ None → ((p : ℕ) → writes m p ≡ None) → tear_of m.entry.act ≡ tear → length new ≡ length old
+    → ((p : ℕ) → p < length old → get_or new p blank_disk ≡ (if sets.contains set p then left_on kind tear (get_or old p blank_disk) else get_or old p blank_disk))
+    → KeepsDisks c h old → KeepsDisks c (m ∷ h) new
+disks_struck c m h old new set kind tear struck_is idle w torn count each k = record {
+  count = count ∙ k.count;
+  each = λ p l. slice_get-get_or new p blank_disk (let a = count in let b = k.count in omega arith) ∙ ap Some (each p (let b = k.count in omega arith) ∙ ap (λ d. if sets.contains set p then left_on kind tear d else d) (element old p blank_disk (stored h p) (let b = k.count in omega arith) (k.each p l)) ∙ at p (sets.contains set p) (struck_is p));
+}
+  where
+    at : (p : ℕ) (b : Bool) → strikes m p ≡ at_target b kind → (if b then left_on kind tear (stored h p) else stored h p) ≡ stored (m ∷ h) p
+    at p true s = ap (λ t. left_on kind t (stored h p)) (sym torn) ∙ sym (stored_struck m h p kind idle (w p) s)
+    at p false s = sym (stored_still m h p (ap₂ (λ a b. disk_closes a b p) idle s) (w p))
+
+-- an order that struck its targets
+pub strikes_now : (turn : Turn) (order : Order) (v : VerdictOf) (kind : Kind) (machine : Machine) (set up_now : sets.FinSet nat_cmp) (dead : Casualties) (disks : List Stored) → Stands turn.setup turn.before machine
+    → (by : ℕ) → by ≡ turn.by → v ≡ verdict (situation_of machine.dead machine.book by) order → v.struck ≡ Some kind
+    → ((p : ℕ) → sets.contains set p ≡ targets machine.dead.processes (sets.contains machine.dead.left) order.target p)
+    → length disks ≡ length machine.disks.items
+    → ((p : ℕ) → p < length machine.disks.items → get_or disks p blank_disk ≡ (if sets.contains set p then left_on kind order.tear (get_or machine.disks.items p blank_disk) else get_or machine.disks.items p blank_disk))
+    → up_now ≡ sets.difference machine.up set
+    → dead ≡ option_map_or (λ loss. struck machine.dead set loss) (loss_of kind) machine.dead
+    → (after : Machine) → after.dead ≡ dead → after.book ≡ machine.book → after.disks.items ≡ disks → after.up ≡ up_now → after.net ≡ machine.net → after.teams ≡ machine.teams
+    → Follows turn (Kill order) (Verdict v) after
+strikes_now turn order v kind machine set up_now dead disks k by actor is hit who count each ups buried after e1 e2 e3 e4 e5 e6 = record {
+  right = kill_reply c h turn.by order v (is ∙ verdict_same c h machine k by turn.by actor order);
+  stands = record {
+    dead = rw (e1, buried) (dead_struck c m h machine.dead set kind struck_is k.dead);
+    rights = rw e2 (rights_still c m h machine.book refl refl refl refl k.rights);
+    disks = rw e3 (disks_struck c m h machine.disks.items disks set kind order.tear struck_is refl (λ p. refl) refl count each k.disks);
+    up = rw (e4, ups) (up_struck c m h machine.up set kind (λ q. refl) struck_is k.up);
+    net = rw e5 (net_still c m h machine.net refl (λ k. refl) refl refl refl k.net);
+    teams = rw e6 (teams_still m h machine.teams refl refl (λ r p. refl) k.teams);
+  };
+}
+  where
+    c : Setup
+    c = turn.setup
+
+    h : History
+    h = turn.before
+
+    m : Moment
+    m = moment_of turn (Kill order) (Verdict v)
+
+    struck_is : (p : ℕ) → strikes m p ≡ at_target (sets.contains set p) kind
+    struck_is p = ap₂ (λ (b : Bool) (o : Option Kind). if b then o else None) (sym (who p ∙ ap (λ f. f p) (targets_same c h machine k order.target))) hit

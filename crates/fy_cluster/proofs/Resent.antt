@@ -1,0 +1,257 @@
+-- a record is sent once more
+use Rattle.std.proofs.Common.{◌≡◌, ℕ, ◌+◌, ◌<◌, List, [], ◌∷◌, ◌++◌, Bool, true, false, ◌&&◌, not, Option, Some, None, option_map, refl, sym, ◌∙◌, ap, ap₂, nat_lt, nat_le, length, map, arith, slice_get, if◌then◌else◌, append-nil}
+use Rattle.std.proofs.lemmas.Bool.Decides.{nat_tests}
+use Rattle.std.proofs.lemmas.List.Elements.{All-contains}
+use Rattle.std.specs.List.{list_all}
+use Rattle.std.specs.Option.{option_map_or}
+use Rattle.fy_locality.specs.declared.ProcId.{ProcId}
+use Rattle.fy_net.specs.declared.message.Body.TheVariants.{Store}
+use Rattle.fy_net.specs.Net.{Traffic, reserve_refusal, sent_on}
+use Rattle.fy_team.specs.Teams.{Team, Record, Roster, is_among, is_acked, IsFormed, members_of as members_in}
+use Rattle.fy_audit.specs.declared.act.Act.TheVariants.{Resend}
+use Rattle.fy_audit.specs.declared.reply.Reply.TheVariants.{Sent, No}
+use Rattle.fy_audit.specs.declared.reply.Refusal.TheVariants.{NoRecord, NotMember, Acked, NetFull}
+use Rattle.fy_cluster.specs.declared.machine.Machine.{Machine}
+use Rattle.fy_cluster.specs.Setup.{Setup}
+use Rattle.fy_cluster.specs.History.{History, Moment, Begun, sent, teams, records, team_of, acked, marked}
+use Rattle.fy_cluster.specs.Replies.{refused, refusals, answer, is_full}
+use Rattle.fy_cluster.specs.Standing.{Stands, Turn, Follows, Comes, moment_of, KeepsTeams, begun_of, IsLived}
+use Rattle.fy_cluster.proofs.Still.{dead_still, up_still, disks_still, teams_still, rights_still}
+use Rattle.fy_cluster.proofs.Refusals.{refuse}
+use Rattle.fy_cluster.proofs.Results.{some_is_same, some_not_none}
+use Rattle.fy_cluster.proofs.Room.{net_sent, room_for}
+use Rattle.fy_cluster.proofs.Formed.{past_policies, within_policies}
+use Rattle.fy_cluster.proofs.Records.{Tested, slice_get-each, slice_get-some}
+use Rattle.fy_cluster.proofs.Delivered.{sound_of, record_is, acked_same}
+use Rattle.fy_cluster.proofs.Keepers.{among_is}
+use Rattle.fy_audit.specs.declared.act.Act.TheVariants.{Begin}
+use Rattle.fy_audit.specs.declared.reply.Reply.TheVariants.{Begun as BegunAs}
+use Rattle.fy_audit.specs.declared.reply.Refusal.TheVariants.{NoTeam, Payload, TooMany}
+use Rattle.fy_team.specs.declared.fault.TeamFault.{TeamFault}
+use Rattle.fy_team.specs.declared.fault.TeamFault.TheVariants.{NoTeam as NoTeamThere, Payload as LongPayload, TooMany as TooManyThere}
+use Rattle.fy_team.specs.Teams.{begin_refusal, begun_for, is_marked}
+use Rattle.fy_cluster.specs.History.{members_of}
+use Rattle.fy_cluster.specs.Standing.{replied_to_team, numbered}
+use Rattle.fy_cluster.proofs.Sending.{map-push}
+use Rattle.std.specs.List.{All}
+use Rattle.std.proofs.Common.{subst}
+use Rattle.std.proofs.lemmas.List.{length-map}
+
+resend_reply : (c : Setup) (h : History) (by rec : ℕ) (p : ProcId) (a b d e : Bool) → nat_le (length (records h)) rec ≡ a → is_among (team_of h rec) p.0 ≡ b → acked h rec ≡ d → is_full h 1 ≡ e
+    → refused (refusals c h (Resend rec p)) (answer c h by (Resend rec p)) ≡ refused ((a, NoRecord) ∷ (not b, NotMember) ∷ (d, Acked) ∷ (e, NetFull) ∷ []) (Sent (length (sent h)))
+unfolding refusals answer
+resend_reply c h by rec p a b d e ea eb ed ee = rw (ea, eb, ed, ee) refl
+
+-- the record is there, and the members are those of its team
+pub record IsOf (h : History) (rec : ℕ) (members : List ProcId) : Type 0 where
+  pub known : nat_le (length (records h)) rec ≡ false
+  pub team : team_of h rec ≡ members
+
+pub no_record : (turn : Turn) (rec : ℕ) (p : ProcId) (m : Machine) → Stands turn.setup turn.before m → None ≡ option_map (λ (it : Record). it.team) (slice_get m.teams.records rec) → Follows turn (Resend rec p) (No NoRecord) m
+no_record turn rec p m k none = at (slice_get m.teams.records rec) refl none
+  where
+    at : (o : Option Record) → slice_get m.teams.records rec ≡ o → None ≡ option_map (λ (it : Record). it.team) o → Follows turn (Resend rec p) (No NoRecord) m
+    at None s none = refuse turn (Resend rec p) NoRecord m k (resend_reply turn.setup turn.before turn.by rec p true _ _ _ (past_policies (records turn.before) rec (record_is turn.before m.teams k.teams rec ∙ ap (option_map begun_of) s)) refl refl refl)
+    at (Some it) s none = absurd (some_not_none it.team (sym none))
+
+-- what the teams say of a number is what the history says
+team_there : (h : History) (roster : Roster) → KeepsTeams h roster → (team : ℕ) (members : List ProcId) → Some members ≡ members_in roster team → (t : Team) × (slice_get (teams h) team ≡ Some t) × (t.members ≡ members)
+team_there h roster k team members e = at (slice_get roster.teams team) refl e
+  where
+    at : (o : Option Team) → slice_get roster.teams team ≡ o → Some members ≡ option_map (λ (it : Team). it.members) o → (t : Team) × (slice_get (teams h) team ≡ Some t) × (t.members ≡ members)
+    at None s e = absurd (some_not_none members e)
+    at (Some t) s e = (t, ap (λ ts. slice_get ts team) (sym k.teams) ∙ s, sym (some_is_same members t.members e))
+
+pub is_of : (h : History) (roster : Roster) → KeepsTeams h roster → (rec team : ℕ) (members : List ProcId) → Some team ≡ option_map (λ (it : Record). it.team) (slice_get roster.records rec) → Some members ≡ members_in roster team → IsOf h rec members
+is_of h roster k rec team members named e = at (slice_get roster.records rec) refl named
+  where
+    at : (o : Option Record) → slice_get roster.records rec ≡ o → Some team ≡ option_map (λ (it : Record). it.team) o → IsOf h rec members
+    at None s named = absurd (some_not_none team named)
+    at (Some it) s named =
+        let same : team ≡ it.team = some_is_same team it.team named in
+        let begun : slice_get (records h) rec ≡ Some (begun_of it) = record_is h roster k rec ∙ ap (option_map begun_of) s in
+        let t = team_there h roster k team members e in
+        record {
+          known = within_policies (records h) rec (begun_of it) begun;
+          team = ap (λ (o : Option Begun). option_map_or (λ b. members_of h b.team) o []) begun ∙ ap (members_of h) (sym same) ∙ ap (λ (o : Option Team). option_map_or (λ t. t.members) o []) t.1 ∙ t.2;
+        }
+
+-- members are processes
+pub members_known : Tested → (turn : Turn) (m : Machine) → Stands turn.setup turn.before m → IsLived turn.setup turn.before → (team : ℕ) (members : List ProcId) → Some members ≡ members_in m.teams team → All (λ p. p.0 < length turn.setup.processes) members
+members_known tested turn m k l team members e =
+    let t = team_there turn.before m.teams k.teams team members e in
+    let is = slice_get-each (IsFormed turn.setup.processes turn.setup.policies) (teams turn.before) team t.0 (sound_of tested turn.setup turn.before l).formed t.1 in
+    subst (All (λ p. p.0 < length turn.setup.processes)) t.2 is.known
+
+pub member_known : Tested → (turn : Turn) (m : Machine) → Stands turn.setup turn.before m → IsLived turn.setup turn.before → (team : ℕ) (members : List ProcId) (p : ℕ) → Some members ≡ members_in m.teams team → is_among members p ≡ true → p < length m.net.until
+member_known tested turn m k l team members p e i =
+    let a = among_is members p i in
+    let within : a.1.0 < length turn.setup.processes = All-contains (λ p. p.0 < length turn.setup.processes) members a.1 (members_known tested turn m k l team members e) (a.0, a.2, a.3) in
+    let same : a.1.0 ≡ p = a.4 in
+    let count = k.net.count in
+    omega arith
+
+pub team_missing : Tested → (turn : Turn) (m : Machine) → Stands turn.setup turn.before m → IsLived turn.setup turn.before → (rec team : ℕ) → Some team ≡ option_map (λ (it : Record). it.team) (slice_get m.teams.records rec) → None ≡ members_in m.teams team → ⊥
+team_missing tested turn m k l rec team named none = at (slice_get m.teams.records rec) refl named
+  where
+    at : (o : Option Record) → slice_get m.teams.records rec ≡ o → Some team ≡ option_map (λ (it : Record). it.team) o → ⊥
+    at None s named = some_not_none team named
+    at (Some it) s named =
+        let same : team ≡ it.team = some_is_same team it.team named in
+        let begun : slice_get (records turn.before) rec ≡ Some (begun_of it) = record_is turn.before m.teams k.teams rec ∙ ap (option_map begun_of) s in
+        let t = slice_get-each (λ b. (t : Team) × (slice_get (teams turn.before) b.team ≡ Some t)) (records turn.before) rec (begun_of it) (sound_of tested turn.setup turn.before l).joined begun in
+        some_not_none t.0.members (sym (none ∙ ap (option_map (λ (it : Team). it.members)) (ap (λ ts. slice_get ts team) k.teams.teams ∙ ap (slice_get (teams turn.before)) same ∙ t.1)))
+
+pub not_member : (turn : Turn) (rec : ℕ) (p : ProcId) (members : List ProcId) (m : Machine) → Stands turn.setup turn.before m → IsOf turn.before rec members → is_among members p.0 ≡ false → Follows turn (Resend rec p) (No NotMember) m
+not_member turn rec p members m k is e = refuse turn (Resend rec p) NotMember m k (resend_reply turn.setup turn.before turn.by rec p false false _ _ is.known (ap (λ ps. is_among ps p.0) is.team ∙ e) refl refl)
+
+pub acked_is : Tested → (turn : Turn) (rec : ℕ) (members : List ProcId) (m : Machine) → Stands turn.setup turn.before m → IsLived turn.setup turn.before → IsOf turn.before rec members → acked turn.before rec ≡ is_acked m.teams rec
+acked_is tested turn rec members m k l is =
+    let within : nat_lt rec (length (records turn.before)) ≡ true = let n = is.known in grind (arith, nat_tests) in
+    let low : rec < length (records turn.before) = grind (arith, nat_tests) in
+    let b = slice_get-some (records turn.before) rec low in
+    let sound = sound_of tested turn.setup turn.before l in
+    ap (λ a. a && list_all (λ q. marked turn.before rec q.0) (team_of turn.before rec)) within
+    ∙ sym (acked_same turn.before m.teams k.teams rec b (λ b w. slice_get-each (λ b. (t : Team) × (slice_get (teams turn.before) b.team ≡ Some t)) (records turn.before) rec b sound.joined w))
+
+pub is_acked_already : (turn : Turn) (rec : ℕ) (p : ProcId) (members : List ProcId) (m : Machine) → Stands turn.setup turn.before m → IsOf turn.before rec members → is_among members p.0 ≡ true → acked turn.before rec ≡ true → Follows turn (Resend rec p) (No Acked) m
+is_acked_already turn rec p members m k is e a = refuse turn (Resend rec p) Acked m k (resend_reply turn.setup turn.before turn.by rec p false true true _ is.known (ap (λ ps. is_among ps p.0) is.team ∙ e) a refl)
+
+pub resend_full : (turn : Turn) (rec : ℕ) (p : ProcId) (members : List ProcId) → IsOf turn.before rec members → is_among members p.0 ≡ true → acked turn.before rec ≡ false → is_full turn.before 1 ≡ true
+    → refused (refusals turn.setup turn.before (Resend rec p)) (answer turn.setup turn.before turn.by (Resend rec p)) ≡ No NetFull
+resend_full turn rec p members is e a full = resend_reply turn.setup turn.before turn.by rec p false true false true is.known (ap (λ ps. is_among ps p.0) is.team ∙ e) a full
+
+pub resends : (turn : Turn) (rec : ℕ) (p : ProcId) (members : List ProcId) (machine : Machine) (room : Traffic) (number : ℕ) (net : Traffic) → Stands turn.setup turn.before machine
+    → IsOf turn.before rec members → is_among members p.0 ≡ true → acked turn.before rec ≡ false → reserve_refusal machine.net 1 ≡ None → room ≡ record machine.net { room = room.room } → number ≡ room.sent → net ≡ sent_on (Store rec p) room
+    → Follows turn (Resend rec p) (Sent number) (record machine { net = net })
+resends turn rec p members machine room number net k is e a clear reserved n sent_is = rw number_is (record {
+  right = sym (resend_reply c h turn.by rec p false true false false is.known (ap (λ ps. is_among ps p.0) is.team ∙ e) a (room_for c h machine.net 1 k.net clear).0);
+  stands = record {
+    dead = dead_still c m h machine.dead (λ q. refl) k.dead;
+    rights = rights_still c m h machine.book refl refl refl refl k.rights;
+    disks = disks_still c m h machine.disks.items (λ q. refl) refl (λ q. refl) k.disks;
+    up = up_still c m h machine.up (λ q. refl) refl k.up;
+    net = net_sent c m h machine.net net (Store rec p ∷ []) refl (room_for c h machine.net 1 k.net clear).1 (λ n. refl) refl refl refl
+        (ap (λ (r : Traffic). r.in_flight) sent_is ∙ ap (λ (r : Traffic). r.in_flight ++ numbered r.sent (Store rec p ∷ [])) reserved)
+        (ap (λ (r : Traffic). r.sent) sent_is ∙ ap (λ (r : Traffic). r.sent + 1) reserved)
+        (ap (λ (r : Traffic). r.clock) sent_is ∙ ap (λ (r : Traffic). r.clock) reserved)
+        (ap (λ (r : Traffic). r.until) sent_is ∙ ap (λ (r : Traffic). r.until) reserved)
+        k.net;
+    teams = teams_still m h machine.teams refl refl (λ r q. refl) k.teams;
+  };
+})
+  where
+    c : Setup
+    c = turn.setup
+
+    h : History
+    h = turn.before
+
+    m : Moment
+    m = moment_of turn (Resend rec p) (Sent (length (sent turn.before)))
+
+    number_is : number ≡ length (sent turn.before)
+    number_is = n ∙ ap (λ (r : Traffic). r.sent) reserved ∙ k.net.sent_so_far
+
+-- ---- a record begins
+
+begin_reply : (c : Setup) (h : History) (by team : ℕ) (payload : List ℕ) (a b d e : Bool) → nat_le (length (teams h)) team ≡ a → nat_lt 256 (length payload) ≡ b → nat_le 65536 (length (records h)) ≡ d → is_full h (length (members_of h team)) ≡ e
+    → refused (refusals c h (Begin team payload)) (answer c h by (Begin team payload)) ≡ refused ((a, NoTeam) ∷ (b, Payload) ∷ (d, TooMany) ∷ (e, NetFull) ∷ []) (BegunAs (length (records h)) (length (sent h)))
+unfolding refusals answer
+begin_reply c h by team payload a b d e ea eb ed ee = rw (ea, eb, ed, ee) refl
+
+record_count : (h : History) (roster : Roster) → KeepsTeams h roster → length roster.records ≡ length (records h)
+record_count h roster k = sym (length-map roster.records begun_of) ∙ ap length k.records
+
+-- no reason of the teams' speaks against the record
+pub record Fits (h : History) (team : ℕ) (payload : List ℕ) : Type 0 where
+  pub there : nat_le (length (teams h)) team ≡ false
+  pub small : nat_lt 256 (length payload) ≡ false
+  pub few : nat_le 65536 (length (records h)) ≡ false
+
+pub fits : (h : History) (roster : Roster) (team : ℕ) (payload : List ℕ) → KeepsTeams h roster → begin_refusal roster team payload ≡ None → Fits h team payload
+fits h roster team payload k e = at (nat_le (length roster.teams) team) (nat_lt 256 (length payload)) (nat_le 65536 (length roster.records)) refl refl refl e
+  where
+    at : (a b d : Bool) → nat_le (length roster.teams) team ≡ a → nat_lt 256 (length payload) ≡ b → nat_le 65536 (length roster.records) ≡ d → (if a then Some NoTeamThere else (if b then Some LongPayload else (if d then Some TooManyThere else None))) ≡ None → Fits h team payload
+    at true b d ea eb ed e = absurd (some_not_none NoTeamThere e)
+    at false true d ea eb ed e = absurd (some_not_none LongPayload e)
+    at false false true ea eb ed e = absurd (some_not_none TooManyThere e)
+    at false false false ea eb ed e = record { there = ap (λ ts. nat_le (length ts) team) (sym k.teams) ∙ ea; small = eb; few = ap (nat_le 65536) (sym (record_count h roster k)) ∙ ed }
+
+pub unfit_begin : (turn : Turn) (team : ℕ) (payload : List ℕ) (m : Machine) (fault : TeamFault) → Stands turn.setup turn.before m → begin_refusal m.teams team payload ≡ Some fault → Comes turn (Begin team payload) (replied_to_team fault) m
+unfit_begin turn team payload m fault k e = at (nat_le (length m.teams.teams) team) (nat_lt 256 (length payload)) (nat_le 65536 (length m.teams.records)) refl refl refl e
+  where
+    c : Setup
+    c = turn.setup
+
+    h : History
+    h = turn.before
+
+    at : (a b d : Bool) → nat_le (length m.teams.teams) team ≡ a → nat_lt 256 (length payload) ≡ b → nat_le 65536 (length m.teams.records) ≡ d → (if a then Some NoTeamThere else (if b then Some LongPayload else (if d then Some TooManyThere else None))) ≡ Some fault
+        → Comes turn (Begin team payload) (replied_to_team fault) m
+    at true b d ea eb ed e = let same : fault ≡ NoTeamThere = cc in rw same (refuse turn (Begin team payload) NoTeam m k (begin_reply c h turn.by team payload true _ _ _ (ap (λ ts. nat_le (length ts) team) (sym k.teams.teams) ∙ ea) refl refl refl))
+    at false true d ea eb ed e = let same : fault ≡ LongPayload = cc in rw same (refuse turn (Begin team payload) Payload m k (begin_reply c h turn.by team payload false true _ _ (ap (λ ts. nat_le (length ts) team) (sym k.teams.teams) ∙ ea) eb refl refl))
+    at false false true ea eb ed e = let same : fault ≡ TooManyThere = cc in rw same (refuse turn (Begin team payload) TooMany m k (begin_reply c h turn.by team payload false false true _ (ap (λ ts. nat_le (length ts) team) (sym k.teams.teams) ∙ ea) eb (ap (nat_le 65536) (sym (record_count h m.teams k.teams)) ∙ ed) refl))
+    at false false false ea eb ed e = absurd (cc)
+
+pub no_members : (turn : Turn) (team : ℕ) (payload : List ℕ) (m : Machine) → Stands turn.setup turn.before m → Fits turn.before team payload → None ≡ members_in m.teams team → ⊥
+no_members turn team payload m k f none =
+    let low : team < length (teams turn.before) = let t = f.there in grind (arith, nat_tests) in
+    let t = slice_get-some (teams turn.before) team low in
+    some_not_none t.0.members (sym (none ∙ ap (option_map (λ (it : Team). it.members)) (ap (λ ts. slice_get ts team) k.teams.teams ∙ t.1)))
+
+pub members_are : (turn : Turn) (team : ℕ) (members : List ProcId) (m : Machine) → Stands turn.setup turn.before m → Some members ≡ members_in m.teams team → members_of turn.before team ≡ members
+members_are turn team members m k e = let t = team_there turn.before m.teams k.teams team members e in ap (λ (o : Option Team). option_map_or (λ t. t.members) o []) t.1 ∙ t.2
+
+pub begin_full : (turn : Turn) (team : ℕ) (payload : List ℕ) (members : List ProcId) (n : ℕ) → Fits turn.before team payload → members_of turn.before team ≡ members → n ≡ length members → is_full turn.before n ≡ true
+    → refused (refusals turn.setup turn.before (Begin team payload)) (answer turn.setup turn.before turn.by (Begin team payload)) ≡ No NetFull
+begin_full turn team payload members n f is count full = begin_reply turn.setup turn.before turn.by team payload false false false true f.there f.small f.few (ap (λ ps. is_full turn.before (length ps)) is ∙ ap (is_full turn.before) (sym count) ∙ full)
+
+pub begins_now : ((roster : Roster) (team : ℕ) (payload : List ℕ) (r q : ℕ) → is_marked (begun_for team payload roster) r q ≡ is_marked roster r q)
+    → (turn : Turn) (team : ℕ) (payload : List ℕ) (members : List ProcId) (machine : Machine) (room net : Traffic) (roster : Roster) (rec first n : ℕ) → Stands turn.setup turn.before machine
+    → Fits turn.before team payload → members_of turn.before team ≡ members → n ≡ length members → reserve_refusal machine.net n ≡ None → room ≡ record machine.net { room = room.room }
+    → rec ≡ length machine.teams.records → roster ≡ begun_for team payload machine.teams → first ≡ room.sent
+    → net.in_flight ≡ room.in_flight ++ numbered room.sent (map (λ p. Store rec p) members) → net.sent ≡ room.sent + length members → net.clock ≡ room.clock → net.until ≡ room.until
+    → Follows turn (Begin team payload) (BegunAs rec first) (record machine { net = net; teams = roster })
+begins_now unmarked turn team payload members machine room net roster rec first n k f is count clear reserved rec_is begun first_is flight sum clock until = rw (record_is_next, number_is) (record {
+  right = sym (begin_reply c h turn.by team payload false false false false f.there f.small f.few (ap (λ ps. is_full h (length ps)) is ∙ ap (is_full h) (sym count) ∙ (room_for c h machine.net n k.net clear).0));
+  stands = record {
+    dead = dead_still c m h machine.dead (λ q. refl) k.dead;
+    rights = rights_still c m h machine.book refl refl refl refl k.rights;
+    disks = disks_still c m h machine.disks.items (λ q. refl) refl (λ q. refl) k.disks;
+    up = up_still c m h machine.up (λ q. refl) refl k.up;
+    net = net_sent c m h machine.net net (map (λ p. Store rec p) members) (ap₂ (λ (r : ℕ) (ps : List ProcId). map (λ p. Store r p) ps) (sym record_is_next) is) (let few = (room_for c h machine.net n k.net clear).1 in let s = stores in omega arith) (λ j. refl) refl refl refl
+        (flight ∙ ap (λ (r : Traffic). r.in_flight ++ numbered r.sent (map (λ p. Store rec p) members)) reserved)
+        (sum ∙ ap₂ (λ a b. a + b) (ap (λ (r : Traffic). r.sent) reserved) (sym stores))
+        (clock ∙ ap (λ (r : Traffic). r.clock) reserved)
+        (until ∙ ap (λ (r : Traffic). r.until) reserved)
+        k.net;
+    teams = rw begun (record {
+      teams = k.teams.teams ∙ sym (append-nil (teams h));
+      records = map-push begun_of machine.teams.records _ ∙ ap (λ rs. rs ++ record { team = team; payload = payload } ∷ []) k.teams.records;
+      marks = λ r q. unmarked machine.teams team payload r q ∙ k.teams.marks r q;
+    });
+  };
+})
+  where
+    c : Setup
+    c = turn.setup
+
+    h : History
+    h = turn.before
+
+    m : Moment
+    m = moment_of turn (Begin team payload) (BegunAs (length (records turn.before)) (length (sent turn.before)))
+
+    record_is_next : rec ≡ length (records turn.before)
+    record_is_next = rec_is ∙ record_count turn.before machine.teams k.teams
+
+    number_is : first ≡ length (sent turn.before)
+    number_is = first_is ∙ ap (λ (r : Traffic). r.sent) reserved ∙ k.net.sent_so_far
+
+    stores : length (map (λ (p : ProcId). Store rec p) members) ≡ length members
+    stores = length-map members (λ (p : ProcId). Store rec p)
+
+-- the same members, by another count of the same processes
+pub there_all : (n k : ℕ) (ps qs : List ProcId) → n ≡ k → ps ≡ qs → All (λ p. p.0 < n) ps → All (λ p. p.0 < k) qs
+there_all n k ps qs e f a = subst (λ j. All (λ p. p.0 < j) qs) e (subst (All (λ p. p.0 < n)) f a)

@@ -1,0 +1,75 @@
+-- a process starts
+use Rattle.std.proofs.Common.{List, ◌==◌, ◌≡◌, ℕ, ◌<◌, ◌≤◌, ◌∷◌, [], Bool, true, false, ◌&&◌, ◌||◌, not, refl, sym, ◌∙◌, ap, ap₂, nat_lt, length, arith}
+use Rattle.std.proofs.lemmas.Bool.Decides.{nat_tests}
+use Rattle.std.specs.FinSet as sets
+use Rattle.std.specs.Ordering.{nat_cmp}
+use Rattle.std.specs.Cmp.{nat_cmp_total, unsigned_tied}
+use Rattle.fy_locality.specs.declared.ProcId.{ProcId}
+use Rattle.fy_locality.specs.declared.locality.Locality.{Locality}
+use Rattle.fy_audit.specs.declared.act.Act.TheVariants.{Up}
+use Rattle.fy_audit.specs.declared.reply.Reply.TheVariants.{Done, No}
+use Rattle.fy_audit.specs.declared.reply.Refusal.TheVariants.{NoProcess, Gone, IsUp}
+use Rattle.fy_cluster.specs.declared.machine.Machine.{Machine}
+use Rattle.fy_cluster.specs.Setup.{Setup}
+use Rattle.fy_cluster.specs.History.{History, Moment, gone, left, up}
+use Rattle.fy_cluster.specs.Replies.{refused, refusals, answer, no_process}
+use Rattle.fy_cluster.specs.Standing.{Stands, Turn, Follows, moment_of, KeepsUp}
+use Rattle.fy_cluster.proofs.Still.{dead_still, disks_still, net_still, teams_still, rights_still}
+use Rattle.fy_cluster.proofs.Refusals.{refuse}
+
+up_reply : (c : Setup) (h : History) (by : ℕ) (p : ProcId) (a b d : Bool) → no_process c p.0 ≡ a → gone h p.0 ≡ b → up h p.0 ≡ d
+    → refused (refusals c h (Up p)) (answer c h by (Up p)) ≡ refused ((a, NoProcess) ∷ (b, Gone) ∷ (d, IsUp) ∷ []) Done
+unfolding refusals answer
+up_reply c h by p a b d e f g = rw (e, f, g) refl
+
+pub past_processes : (c : Setup) (processes : List Locality) (p : ℕ) → processes ≡ c.processes → length processes ≤ p → no_process c p ≡ true
+past_processes c processes p e l = let same : length processes ≡ length c.processes = ap length e in grind (arith, nat_tests)
+
+pub within_processes : (c : Setup) (processes : List Locality) (p : ℕ) → processes ≡ c.processes → p < length processes → (no_process c p ≡ false) × (p < length c.processes)
+within_processes c processes p e l = let same : length processes ≡ length c.processes = ap length e in (grind (arith, nat_tests), omega arith)
+
+-- whether a process that is there is gone, by who is left
+pub gone_is : (c : Setup) (h : History) (p : ℕ) (b : Bool) → p < length c.processes → b ≡ left c h p → gone h p ≡ not b
+gone_is c h p b l e = let there : nat_lt p (length c.processes) ≡ true = grind (arith, nat_tests) in at (gone h p) (e ∙ ap (λ t. t && not (gone h p)) there)
+  where
+    at : (g : Bool) → b ≡ not g → g ≡ not b
+    at true e = ap not (sym e)
+    at false e = ap not (sym e)
+
+pub nobody : (turn : Turn) (p : ProcId) (m : Machine) → Stands turn.setup turn.before m → no_process turn.setup p.0 ≡ true → Follows turn (Up p) (No NoProcess) m
+nobody turn p m k e = refuse turn (Up p) NoProcess m k (up_reply turn.setup turn.before turn.by p true _ _ e refl refl)
+
+pub is_gone : (turn : Turn) (p : ProcId) (m : Machine) → Stands turn.setup turn.before m → no_process turn.setup p.0 ≡ false → gone turn.before p.0 ≡ true → Follows turn (Up p) (No Gone) m
+is_gone turn p m k e f = refuse turn (Up p) Gone m k (up_reply turn.setup turn.before turn.by p false true _ e f refl)
+
+pub is_up : (turn : Turn) (p : ProcId) (m : Machine) → Stands turn.setup turn.before m → no_process turn.setup p.0 ≡ false → gone turn.before p.0 ≡ false → up turn.before p.0 ≡ true → Follows turn (Up p) (No IsUp) m
+is_up turn p m k e f g = refuse turn (Up p) IsUp m k (up_reply turn.setup turn.before turn.by p false false true e f g)
+
+up_more : (c : Setup) (m : Moment) (h : History) (p : ℕ) (set : sets.FinSet nat_cmp) → ((q : ℕ) → up (m ∷ h) q ≡ ((p == q) || up h q)) → KeepsUp c h set → KeepsUp c (m ∷ h) (sets.insert set p)
+up_more c m h p set is k = record { each = λ q l. sets.contains-insert nat_cmp_total set p q ∙ ap₂ (λ a b. a || b) (unsigned_tied q p ∙ same p q) (k.each q l) ∙ sym (is q) }
+  where
+    same : (p q : ℕ) → (q == p) ≡ (p == q)
+    same p q = grind (arith, nat_tests)
+
+pub starts : (turn : Turn) (p : ProcId) (m : Machine) → Stands turn.setup turn.before m → no_process turn.setup p.0 ≡ false → gone turn.before p.0 ≡ false → up turn.before p.0 ≡ false
+    → Follows turn (Up p) Done (record m { up = sets.insert m.up p.0 })
+starts turn p machine k e f g = record {
+  right = sym (up_reply c h turn.by p false false false e f g);
+  stands = record {
+    dead = dead_still c m h machine.dead (λ p. refl) k.dead;
+    rights = rights_still c m h machine.book refl refl refl refl k.rights;
+    disks = disks_still c m h machine.disks.items (λ p. refl) refl (λ p. refl) k.disks;
+    up = up_more c m h p.0 machine.up (λ q. refl) k.up;
+    net = net_still c m h machine.net refl (λ k. refl) refl refl refl k.net;
+    teams = teams_still m h machine.teams refl refl (λ r p. refl) k.teams;
+  };
+}
+  where
+    c : Setup
+    c = turn.setup
+
+    h : History
+    h = turn.before
+
+    m : Moment
+    m = moment_of turn (Up p) Done

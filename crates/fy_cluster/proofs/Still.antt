@@ -1,0 +1,103 @@
+-- what an entry leaves as it was, part by part
+use Rattle.std.proofs.Common.{◌==◌, ◌≡◌, ℕ, Bool, false, ◌&&◌, ◌||◌, not, [], ◌∷◌, Option, Some, None, is_none, refl, sym, ◌∙◌, ap, ap₂, arith, nat_lt, length, append-nil, List, ◌++◌, option_to_list}
+use Rattle.std.proofs.lemmas.Bool.{or_from}
+use Rattle.fy_kinds.specs.declared.kind.Kind.{Kind}
+use Rattle.fy_kinds.specs.Kinds.{is_destroying}
+use Rattle.fy_grants.specs.Rights.{Rights}
+use Rattle.fy_decide.specs.DeadBook.{Casualties}
+use Rattle.fy_disk.specs.declared.item.Item.{Item}
+use Rattle.fy_disk.specs.Disk.{Stored}
+use Rattle.fy_net.specs.Net.{Traffic}
+use Rattle.fy_team.specs.Teams.{Roster}
+use Rattle.std.specs.Ordering.{nat_cmp}
+use Rattle.std.specs.FinSet as sets
+use Rattle.fy_cluster.specs.Setup.{Setup}
+use Rattle.fy_cluster.specs.History.{History, Moment, some_is, clogs, unclogs, forms, begins, syncs, ups, ticks, gives, takes, protects, unprotects, strikes, is_killing, is_closing, closes, writes, destroyed, gone, up, unsynced, sent, takes_out, now, marks, marked, teams, records}
+use Rattle.fy_cluster.specs.Rules.{grants, is_protected, with_given, without_taken, changes}
+use Rattle.fy_cluster.specs.Standing.{KeepsDead, KeepsRights, KeepsDisks, KeepsUp, KeepsNet, KeepsTeams, stored}
+use Rattle.fy_cluster.proofs.DiskSteps.{synced_else, unsynced_else, own}
+use Rattle.fy_cluster.proofs.Flights.{flying_still}
+
+-- ---- who is destroyed and who is up
+
+pub dead_still : (c : Setup) (m : Moment) (h : History) (book : Casualties) → ((p : ℕ) → strikes m p ≡ None) → KeepsDead c h book → KeepsDead c (m ∷ h) book
+dead_still c m h book none k = record {
+  processes = k.processes;
+  policies = k.policies;
+  few = k.few;
+  destroyed = λ p. k.destroyed p ∙ sym (ap (λ o. some_is is_destroying o || destroyed h p) (none p));
+  left = λ p. k.left p ∙ sym (ap (λ o. nat_lt p (length c.processes) && not (some_is is_killing o || gone h p)) (none p));
+}
+
+pub up_still : (c : Setup) (m : Moment) (h : History) (set : sets.FinSet nat_cmp) → ((p : ℕ) → strikes m p ≡ None) → ups m.entry.act m.entry.reply ≡ None → KeepsUp c h set → KeepsUp c (m ∷ h) set
+up_still c m h set none idle k = record { each = λ p l. k.each p l ∙ sym (ap₂ (λ (o : Option ℕ) (s : Option Kind). some_is (λ q. q == p) o || (is_none s && up h p)) idle (none p)) }
+
+-- ---- disks
+
+abbrev pub disk_closes : Option ℕ → Option Kind → ℕ → Bool
+disk_closes s k p = some_is (λ q. q == p) s || some_is is_closing k
+
+no_own : (m : Moment) (h : History) (p : ℕ) → writes m p ≡ None → own m h p ≡ []
+no_own m h p e = rw e refl
+
+-- an entry that neither closes nor writes leaves a disk
+pub stored_still : (m : Moment) (h : History) (p : ℕ) → closes p m ≡ false → writes m p ≡ None → stored (m ∷ h) p ≡ stored h p
+stored_still m h p c w =
+    ap₂ (λ (xs ys : List Item). record { synced = xs; unsynced = ys }) (synced_else m h p c) (unsynced_else m h p c ∙ ap (λ xs. unsynced h p ++ xs) (no_own m h p w) ∙ append-nil (unsynced h p))
+
+pub disks_still : (c : Setup) (m : Moment) (h : History) (disks : List Stored) → ((p : ℕ) → strikes m p ≡ None) → syncs m.entry.act m.entry.reply ≡ None → ((p : ℕ) → writes m p ≡ None) → KeepsDisks c h disks → KeepsDisks c (m ∷ h) disks
+disks_still c m h disks none idle w k = record {
+  count = k.count;
+  each = λ p l. k.each p l ∙ ap Some (sym (stored_still m h p (ap₂ (λ s k. disk_closes s k p) idle (none p)) (w p)));
+}
+
+-- ---- the network
+
+-- an entry that neither sends nor takes out, clogs or unclogs leaves the messages; some ticks may have passed
+pub net_ticked : (c : Setup) (m : Moment) (h : History) (net : Traffic) → m.sends ≡ [] → ((n : ℕ) → takes_out n m ≡ false) → clogs m.entry.act m.entry.reply ≡ None → unclogs m.entry.act m.entry.reply ≡ None
+    → KeepsNet c h net → KeepsNet c (m ∷ h) (record net { clock = now (m ∷ h) })
+net_ticked c m h net none keeps no_clog no_end k = record {
+  in_flight = k.in_flight ∙ sym (flying_still m h none keeps);
+  sent_so_far = k.sent_so_far ∙ sym same;
+  clock = refl;
+  count = k.count;
+  ends = λ p t l later. rw (no_clog, no_end) (k.ends p t l (omega arith));
+  early = λ n l. or_from _ _ (keeps n) (k.early n (let e = same in omega arith));
+  few = let e = same in let few = k.few in omega arith;
+}
+  where
+    same : length (sent (m ∷ h)) ≡ length (sent h)
+    same = ap (λ xs. length (sent h ++ xs)) none ∙ ap length (append-nil (sent h))
+
+pub net_still : (c : Setup) (m : Moment) (h : History) (net : Traffic) → m.sends ≡ [] → ((n : ℕ) → takes_out n m ≡ false) → clogs m.entry.act m.entry.reply ≡ None → unclogs m.entry.act m.entry.reply ≡ None → ticks m.entry.act m.entry.reply ≡ None
+    → KeepsNet c h net → KeepsNet c (m ∷ h) net
+net_still c m h net none keeps no_clog no_end no_tick k = record {
+  in_flight = same.in_flight;
+  sent_so_far = same.sent_so_far;
+  clock = k.clock ∙ sym (rw no_tick (omega arith));
+  count = same.count;
+  ends = same.ends;
+  early = same.early;
+  few = same.few;
+}
+  where
+    same : KeepsNet c (m ∷ h) (record net { clock = now (m ∷ h) })
+    same = net_ticked c m h net none keeps no_clog no_end k
+
+-- ---- teams, and rights
+
+pub teams_still : (m : Moment) (h : History) (roster : Roster) → forms m.entry.act m.entry.reply ≡ None → begins m.entry.act m.entry.reply ≡ None → ((r p : ℕ) → marks m r p ≡ false) → KeepsTeams h roster → KeepsTeams (m ∷ h) roster
+teams_still m h roster no_team no_record no_mark k = record {
+  teams = k.teams ∙ sym (ap (λ o. teams h ++ option_to_list o) no_team ∙ append-nil (teams h));
+  records = k.records ∙ sym (ap (λ o. records h ++ option_to_list o) no_record ∙ append-nil (records h));
+  marks = λ r p. k.marks r p ∙ sym (ap (λ b. b || marked h r p) (no_mark r p));
+}
+
+pub rights_still : (c : Setup) (m : Moment) (h : History) (rights : Rights) → gives m.entry.act m.entry.reply ≡ None → takes m.entry.act m.entry.reply ≡ None → protects m.entry.act m.entry.reply ≡ None → unprotects m.entry.act m.entry.reply ≡ None
+    → KeepsRights c h rights → KeepsRights c (m ∷ h) rights
+rights_still c m h rights no_give no_take no_more no_less k = record {
+  actors = k.actors;
+  processes = k.processes;
+  grants = λ a. k.grants a ∙ sym (ap₂ (λ t g. without_taken a t (with_given a g (grants c h a))) no_take no_give);
+  protections = λ p deed. k.protections p deed ∙ sym (ap₂ (λ m l. changes p deed m || not (changes p deed l) && is_protected c h p deed) no_more no_less);
+}

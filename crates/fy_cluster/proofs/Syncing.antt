@@ -1,0 +1,129 @@
+-- a process syncs
+use Rattle.std.proofs.Common.{◌==◌, ◌≡◌, ℕ, ◌+◌, ◌<◌, List, [], ◌∷◌, ◌++◌, Bool, true, false, not, Some, None, refl, sym, ◌∙◌, ap, ap₂, length, map, arith, slice_get, slice_set, get_or, eqb-true, eq-eqb, length-set, if◌then◌else◌}
+use Rattle.std.proofs.lemmas.Option.{slice_get-get_or}
+use Rattle.std.proofs.lemmas.List.{length-map}
+use Rattle.fy_locality.specs.declared.ProcId.{ProcId}
+use Rattle.fy_disk.specs.declared.item.Item.{Item}
+use Rattle.fy_disk.specs.Disk.{Stored as OnDisk, passing}
+use Rattle.fy_net.specs.declared.message.Body.TheVariants.{Synced as Word}
+use Rattle.fy_net.specs.Net.{Traffic, reserve_refusal}
+use Rattle.fy_audit.specs.declared.act.Act.TheVariants.{Sync}
+use Rattle.fy_audit.specs.declared.reply.Reply.TheVariants.{Synced, No}
+use Rattle.fy_audit.specs.declared.reply.Refusal.TheVariants.{NoProcess, NotUp, NetFull}
+use Rattle.fy_cluster.specs.declared.machine.Machine.{Machine}
+use Rattle.fy_cluster.specs.Setup.{Setup}
+use Rattle.fy_cluster.specs.History.{History, Moment, up, sent, synced, unsynced, closes, close_keeps}
+use Rattle.fy_cluster.specs.Replies.{refused, refusals, answer, no_process, is_full}
+use Rattle.fy_cluster.specs.Standing.{Stands, Turn, Follows, moment_of, stored, blank_disk, numbered}
+use Rattle.fy_cluster.proofs.Still.{dead_still, up_still, teams_still, rights_still, stored_still}
+use Rattle.fy_cluster.proofs.DiskSteps.{synced_at_close, unsynced_at_close}
+use Rattle.fy_cluster.proofs.Refusals.{refuse}
+use Rattle.fy_cluster.proofs.Results.{some_is_same}
+use Rattle.fy_cluster.proofs.Room.{net_sent, room_for}
+use Rattle.fy_cluster.proofs.Losing.{swap_eq}
+use Rattle.fy_cluster.proofs.Delivered.{after_set}
+
+sync_reply : (c : Setup) (h : History) (by : ℕ) (p : ProcId) (a b d : Bool) → no_process c p.0 ≡ a → up h p.0 ≡ b → is_full h (length (unsynced h p.0)) ≡ d
+    → refused (refusals c h (Sync p)) (answer c h by (Sync p)) ≡ refused ((a, NoProcess) ∷ (not b, NotUp) ∷ (d, NetFull) ∷ []) (Synced (length (sent h)) (length (unsynced h p.0)))
+unfolding refusals answer
+sync_reply c h by p a b d e f g = rw (e, f, g) refl
+
+pub nobody : (turn : Turn) (p : ProcId) (m : Machine) → Stands turn.setup turn.before m → no_process turn.setup p.0 ≡ true → Follows turn (Sync p) (No NoProcess) m
+nobody turn p m k e = refuse turn (Sync p) NoProcess m k (sync_reply turn.setup turn.before turn.by p true _ _ e refl refl)
+
+pub is_down : (turn : Turn) (p : ProcId) (m : Machine) → Stands turn.setup turn.before m → no_process turn.setup p.0 ≡ false → up turn.before p.0 ≡ false → Follows turn (Sync p) (No NotUp) m
+is_down turn p m k e f = refuse turn (Sync p) NotUp m k (sync_reply turn.setup turn.before turn.by p false false _ e f refl)
+
+pub full_reply : (turn : Turn) (p : ProcId) (n : ℕ) → no_process turn.setup p.0 ≡ false → up turn.before p.0 ≡ true → n ≡ length (unsynced turn.before p.0) → is_full turn.before n ≡ true
+    → refused (refusals turn.setup turn.before (Sync p)) (answer turn.setup turn.before turn.by (Sync p)) ≡ No NetFull
+full_reply turn p n e f count full = sync_reply turn.setup turn.before turn.by p false true true e f (ap (is_full turn.before) (sym count) ∙ full)
+
+-- all pass
+passing_all : (xs : List Item) (i : ℕ) → passing (λ j. true) i xs ≡ xs
+passing_all [] i = refl
+passing_all (x ∷ xs) i = ap (λ ys. x ∷ ys) (passing_all xs (i + 1))
+
+pub synced_now : (turn : Turn) (p : ProcId) (machine : Machine) (disk : OnDisk) (room net : Traffic) (first count : ℕ) (after : Machine) → Stands turn.setup turn.before machine
+    → no_process turn.setup p.0 ≡ false → p.0 < length turn.setup.processes → up turn.before p.0 ≡ true
+    → slice_get machine.disks.items p.0 ≡ Some disk → reserve_refusal machine.net (length disk.unsynced) ≡ None
+    → room ≡ record machine.net { room = room.room }
+    → net.in_flight ≡ room.in_flight ++ numbered room.sent (map (λ item. Word item.rec p) disk.unsynced) → net.sent ≡ room.sent + length disk.unsynced → net.clock ≡ room.clock → net.until ≡ room.until
+    → first ≡ room.sent → count ≡ length disk.unsynced
+    → after.dead ≡ machine.dead → after.book ≡ machine.book → after.up ≡ machine.up → after.net ≡ net → after.teams ≡ machine.teams
+    → after.disks.items ≡ slice_set machine.disks.items p.0 (record { synced = disk.synced ++ disk.unsynced; unsynced = [] })
+    → Follows turn (Sync p) (Synced first count) after
+synced_now turn p machine disk room net first count after k known there ups was clear reserved flight sum clock until number counted e1 e2 e3 e4 e5 e6 = rw (first_is, count_is) (record {
+  right = sym (sync_reply c h turn.by p false true false known ups (ap (is_full h) (sym size) ∙ (room_for c h machine.net (length disk.unsynced) k.net clear).0));
+  stands = record {
+    dead = rw e1 (dead_still c m h machine.dead (λ q. refl) k.dead);
+    rights = rw e2 (rights_still c m h machine.book refl refl refl refl k.rights);
+    disks = rw e6 (record {
+      count = length-set machine.disks.items p.0 _ ∙ k.disks.count;
+      each = λ q l. after_set machine.disks.items p.0 q _ blank_disk (let n = k.disks.count in omega arith) (let n = k.disks.count in omega arith) ∙ at q l (q == p.0) refl;
+    });
+    up = rw e3 (up_still c m h machine.up (λ q. refl) refl k.up);
+    net = rw e4 (net_sent c m h machine.net net (map (λ item. Word item.rec p) disk.unsynced) (ap (λ (d : OnDisk). map (λ item. Word item.rec p) d.unsynced) (sym disk_is))
+        (let few = (room_for c h machine.net (length disk.unsynced) k.net clear).1 in let l = words in omega arith)
+        (λ n. refl)
+        refl
+        refl
+        refl
+        (flight ∙ ap (λ (r : Traffic). r.in_flight ++ numbered r.sent (map (λ item. Word item.rec p) disk.unsynced)) reserved)
+        (sum ∙ ap₂ (λ a b. a + b) (ap (λ (r : Traffic). r.sent) reserved) (sym words))
+        (clock ∙ ap (λ (r : Traffic). r.clock) reserved)
+        (until ∙ ap (λ (r : Traffic). r.until) reserved)
+        k.net);
+    teams = rw e5 (teams_still m h machine.teams refl refl (λ r q. refl) k.teams);
+  };
+})
+  where
+    c : Setup
+    c = turn.setup
+
+    h : History
+    h = turn.before
+
+    m : Moment
+    m = moment_of turn (Sync p) (Synced (length (sent turn.before)) (length (unsynced turn.before p.0)))
+
+    disk_is : disk ≡ stored turn.before p.0
+    disk_is = some_is_same disk (stored turn.before p.0) (sym was ∙ k.disks.each p.0 there)
+
+    size : length disk.unsynced ≡ length (unsynced turn.before p.0)
+    size = ap (λ (d : OnDisk). length d.unsynced) disk_is
+
+    words : length (map (λ (item : Item). Word item.rec p) disk.unsynced) ≡ length disk.unsynced
+    words = length-map disk.unsynced (λ (item : Item). Word item.rec p)
+
+    first_is : first ≡ length (sent turn.before)
+    first_is = number ∙ ap (λ (r : Traffic). r.sent) reserved ∙ k.net.sent_so_far
+
+    count_is : count ≡ length (unsynced turn.before p.0)
+    count_is = counted ∙ size
+
+    self : (p.0 == p.0) ≡ true
+    self = eq-eqb p.0 p.0 refl
+
+    closing : closes p.0 m ≡ true
+    closing = rw self refl
+
+    at : (q : ℕ) → q < length turn.setup.processes → (b : Bool) → (q == p.0) ≡ b
+        → (if b then Some (record { synced = disk.synced ++ disk.unsynced; unsynced = [] }) else slice_get machine.disks.items q) ≡ Some (stored (m ∷ h) q)
+    at q l true s =
+        let same : q ≡ p.0 = eqb-true q p.0 s in
+        ap (λ (d : OnDisk). Some (record { synced = d.synced ++ d.unsynced; unsynced = [] })) disk_is
+        ∙ ap Some (ap₂ (λ (xs ys : List Item). record { synced = xs; unsynced = ys })
+        (sym (synced_at_close m h p.0 closing refl ∙ ap (λ xs. synced h p.0 ++ xs) kept))
+        (sym (unsynced_at_close m h p.0 closing)))
+        ∙ ap (λ i. Some (stored (m ∷ h) i)) (sym same)
+      where
+        kept : passing (λ i. close_keeps p.0 i m) 0 (unsynced h p.0) ≡ unsynced h p.0
+        kept = rw self (passing_all (unsynced h p.0) 0)
+    at q l false s = let miss : (p.0 == q) ≡ false = swap_eq q p.0 ∙ s in k.disks.each q l ∙ ap Some (sym (stored_still m h q (rw miss refl) refl))
+
+-- the disk that an index gives
+pub disk_given : (turn : Turn) (machine : Machine) (p : ℕ) (x : OnDisk) → Stands turn.setup turn.before machine → p < length turn.setup.processes → x ≡ get_or machine.disks.items p x → slice_get machine.disks.items p ≡ Some x
+disk_given turn machine p x k l e = slice_get-get_or machine.disks.items p x (let n = k.disks.count in omega arith) ∙ ap Some (sym e)
+
+pub disk_is_stored : (turn : Turn) (machine : Machine) (p : ℕ) (x : OnDisk) → Stands turn.setup turn.before machine → p < length turn.setup.processes → x ≡ get_or machine.disks.items p x → x ≡ stored turn.before p
+disk_is_stored turn machine p x k l e = some_is_same x (stored turn.before p) (sym (disk_given turn machine p x k l e) ∙ k.disks.each p l)

@@ -1,0 +1,60 @@
+-- time passes
+use Rattle.std.proofs.Common.{◌≡◌, ℕ, ◌+◌, ◌∷◌, Bool, true, false, Some, None, Result, Ok, Err, refl, sym, ap, subst, nat_lt}
+use Rattle.fy_net.specs.declared.fault.NetFault.{NetFault}
+use Rattle.fy_net.specs.declared.fault.NetFault.TheVariants.{ClockEnd as AtEnd}
+use Rattle.fy_net.specs.Net.{Traffic, advance_refusal, last_tick}
+use Rattle.fy_audit.specs.declared.act.Act.TheVariants.{Tick}
+use Rattle.fy_audit.specs.declared.reply.Reply.{Reply}
+use Rattle.fy_audit.specs.declared.reply.Reply.TheVariants.{Time, No}
+use Rattle.fy_audit.specs.declared.reply.Refusal.TheVariants.{ClockEnd}
+use Rattle.fy_cluster.specs.declared.machine.Machine.{Machine}
+use Rattle.fy_cluster.specs.Setup.{Setup}
+use Rattle.fy_cluster.specs.History.{History, Moment, now}
+use Rattle.fy_cluster.specs.Replies.{refused, refusals, answer}
+use Rattle.fy_cluster.specs.Standing.{Stands, Turn, Follows, moment_of, KeepsNet}
+use Rattle.fy_cluster.proofs.Still.{dead_still, up_still, disks_still, net_ticked, teams_still, rights_still}
+use Rattle.fy_cluster.proofs.Refusals.{refuse}
+
+abbrev reply_of : Result ℕ NetFault → Reply
+reply_of (Ok time) = Time time
+reply_of (Err fault) = No ClockEnd
+
+at_end : (c : Setup) (h : History) (by n clock : ℕ) → clock ≡ now h → nat_lt last_tick (clock + n) ≡ true → refused (refusals c h (Tick n)) (answer c h by (Tick n)) ≡ No ClockEnd
+unfolding refusals answer
+at_end c h by n clock e t = let past : nat_lt last_tick (now h + n) ≡ true = rw e at t in rw past refl
+
+in_time : (c : Setup) (h : History) (by n clock : ℕ) → clock ≡ now h → nat_lt last_tick (clock + n) ≡ false → Time (clock + n) ≡ refused (refusals c h (Tick n)) (answer c h by (Tick n))
+unfolding refusals answer
+in_time c h by n clock e t = let past : nat_lt last_tick (now h + n) ≡ false = rw e at t in rw (past, e) refl
+
+passed : (turn : Turn) (n : ℕ) (m : Machine) → Stands turn.setup turn.before m → nat_lt last_tick (m.net.clock + n) ≡ false → Follows turn (Tick n) (Time (m.net.clock + n)) (record m { net = record m.net { clock = m.net.clock + n } })
+passed turn n machine k t = record {
+  right = in_time c h turn.by n machine.net.clock k.net.clock t;
+  stands = record {
+    dead = dead_still c m h machine.dead (λ p. refl) k.dead;
+    rights = rights_still c m h machine.book refl refl refl refl k.rights;
+    disks = disks_still c m h machine.disks.items (λ p. refl) refl (λ p. refl) k.disks;
+    up = up_still c m h machine.up (λ p. refl) refl k.up;
+    net = subst (λ clock. KeepsNet c (m ∷ h) (record machine.net { clock = clock })) (ap (λ clock. clock + n) (sym k.net.clock)) (net_ticked c m h machine.net refl (λ k. refl) refl refl k.net);
+    teams = teams_still m h machine.teams refl refl (λ r p. refl) k.teams;
+  };
+}
+  where
+    c : Setup
+    c = turn.setup
+
+    h : History
+    h = turn.before
+
+    m : Moment
+    m = moment_of turn (Tick n) (Time (machine.net.clock + n))
+
+pub tick_step : (turn : Turn) (n : ℕ) (m : Machine) (net : Traffic) (result : Result ℕ NetFault) → Stands turn.setup turn.before m
+    → ((fault : NetFault) → advance_refusal m.net n ≡ Some fault → (result ≡ Err fault) × (net ≡ m.net))
+    → (advance_refusal m.net n ≡ None → (result ≡ Ok (m.net.clock + n)) × (net ≡ record m.net { clock = m.net.clock + n }))
+    → Follows turn (Tick n) (reply_of result) (record m { net = net })
+tick_step turn n m net result k past fits = at (nat_lt last_tick (m.net.clock + n)) refl
+  where
+    at : (b : Bool) → nat_lt last_tick (m.net.clock + n) ≡ b → Follows turn (Tick n) (reply_of result) (record m { net = net })
+    at true t = let said = past AtEnd (rw t refl) in rw (said.0, said.1) (refuse turn (Tick n) ClockEnd m k (at_end turn.setup turn.before turn.by n m.net.clock k.net.clock t))
+    at false t = let said = fits (rw t refl) in rw (said.0, said.1) (passed turn n m k t)

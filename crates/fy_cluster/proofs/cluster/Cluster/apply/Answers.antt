@@ -1,0 +1,18 @@
+use Rattle.std.proofs.Common.{arith}
+use Rattle.fy_cluster.specs.Standing.{IsKept}
+use Rattle.fy_cluster.proofs.Entering.{kept_after_act}
+use Rattle.fy_cluster.proofs.cluster.Cluster.apply.Goals as goal
+
+pub invariant_of-self : goal.invariant_of-self
+invariant_of-self c =
+    kept_after_act c.self.inside.config c.self.inside.journal.entries c.enter.new.journal.entries c.args.by c.args.act c.enter.result c.enter.new.self c.self.inside.machine c.self.invariant (omega arith) c.enter.ensures.answered
+    c.enter.ensures.entered
+    c.enter.ensures.err
+
+pub returns-clause-legal : goal.returns-clause-legal
+returns-clause-legal c =
+    let kept : IsKept c.self.inside.config c.enter.new.journal.entries c.enter.new.self =
+    kept_after_act c.self.inside.config c.self.inside.journal.entries c.enter.new.journal.entries c.args.by c.args.act c.enter.result c.enter.new.self c.self.inside.machine c.self.invariant (omega arith) c.enter.ensures.answered
+    c.enter.ensures.entered
+    c.enter.ensures.err in
+    kept.legal

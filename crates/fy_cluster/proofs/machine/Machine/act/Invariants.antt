@@ -1,0 +1,46 @@
+use Rattle.fy_cluster.proofs.machine.Machine.act.Given as goal
+
+abbrev pub ghost-kill : goal.ghost-kill
+ghost-kill g a = g.turn
+
+abbrev pub ghost-clog : goal.ghost-clog
+ghost-clog g a = g.turn
+
+abbrev pub ghost-unclog : goal.ghost-unclog
+ghost-unclog g a = g.turn
+
+abbrev pub ghost-form : goal.ghost-form
+ghost-form g a = g.turn
+
+abbrev pub ghost-begin : goal.ghost-begin
+ghost-begin g a = g.turn
+
+abbrev pub ghost-deliver : goal.ghost-deliver
+ghost-deliver g a = g.turn
+
+abbrev pub ghost-lose : goal.ghost-lose
+ghost-lose g a = g.turn
+
+abbrev pub ghost-resend : goal.ghost-resend
+ghost-resend g a = g.turn
+
+abbrev pub ghost-sync : goal.ghost-sync
+ghost-sync g a = g.turn
+
+abbrev pub ghost-start : goal.ghost-start
+ghost-start g a = g.turn
+
+abbrev pub ghost-tick : goal.ghost-tick
+ghost-tick g a = g.turn
+
+abbrev pub ghost-give : goal.ghost-give
+ghost-give g a = g.turn
+
+abbrev pub ghost-take : goal.ghost-take
+ghost-take g a = g.turn
+
+abbrev pub ghost-protect : goal.ghost-protect
+ghost-protect g a = g.turn
+
+abbrev pub ghost-unprotect : goal.ghost-unprotect
+ghost-unprotect g a = g.turn

@@ -1,0 +1,59 @@
+use Rattle.std.proofs.Common.{◌≡◌, Ok, Err, ◌+◌, ◌++◌, List, length, map, ◌∙◌, sym, ap}
+use Rattle.fy_locality.specs.declared.ProcId.{ProcId}
+use Rattle.fy_net.specs.declared.message.Body.TheVariants.{Store}
+use Rattle.fy_net.specs.declared.fault.NetFault.TheVariants.{NoMemory}
+use Rattle.fy_net.specs.Net.{Traffic}
+use Rattle.fy_team.specs.Teams.{Roster, members_of}
+use Rattle.fy_audit.specs.declared.act.Act.TheVariants.{Begin}
+use Rattle.fy_cluster.specs.Standing.{numbered}
+use Rattle.fy_cluster.proofs.Results.{told, told_all}
+use Rattle.fy_cluster.proofs.Room.{few_sent, no_room_left, reserved_is}
+use Rattle.fy_cluster.proofs.Resent.{Fits, fits, unfit_begin, no_members, members_are, members_known, begin_full, begins_now, there_all}
+use Rattle.fy_cluster.proofs.machine.Machine.begin.Goals as goal
+
+pub returns-in-Err : goal.returns-in-Err
+returns-in-Err g c = rw c.replied_to.ensures (unfit_begin g.turn c.args.team c.args.payload _ c.in-Err.fault c.requires.0 (told_all _ (Err c.in-Err.fault) c.in-Err.ensures.refused c.in-Err.ensures.accepted))
+
+pub unreachable-requires : goal.unreachable-requires
+unreachable-requires g c =
+    no_members g.turn c.args.team c.args.payload c.args.self.now c.requires.0
+    (fits g.turn.before c.args.self.now.teams c.args.team c.args.payload c.requires.0.teams (told_all _ (Ok c.in_default.field-0) c.in_default.ensures.refused c.in_default.ensures.accepted))
+    c.in-None.ensures
+
+pub reserve-requires : goal.reserve-requires
+reserve-requires g c = few_sent g.turn.setup g.turn.before c.args.self.now.net c.requires.1 c.requires.0.net
+
+pub returns-in-Err-reserve : goal.returns-in-Err-reserve
+returns-in-Err-reserve g c =
+    let fit : Fits g.turn.before c.args.team c.args.payload = fits g.turn.before c.args.self.now.teams c.args.team c.args.payload c.requires.0.teams (told_all _ (Ok c.in_default.field-0) c.in_default.ensures.refused c.in_default.ensures.accepted) in
+    rw c.no_room.ensures
+    (no_room_left g.turn (Begin c.args.team c.args.payload) (length c.as_slice.result.now) c.args.self.now c.reserve.new.self c.in-Err-reserve.fault c.requires.0
+    (begin_full g.turn c.args.team c.args.payload c.in-Some.members.now (length c.as_slice.result.now) fit (members_are g.turn c.args.team c.in-Some.members.now c.args.self.now c.requires.0 c.in-Some.ensures) (ap length c.as_slice.ensures.members))
+    (told _ NoMemory (Err c.in-Err-reserve.fault) c.in-Err-reserve.ensures.refused c.in-Err-reserve.ensures.memory)
+    c.in-Err-reserve.ensures.err)
+
+pub send_stores-requires-clause-there : goal.send_stores-requires-clause-there
+send_stores-requires-clause-there g c =
+    there_all (length g.turn.setup.processes) (length c.reserve.new.self.until) c.in-Some-members.members.now c.as_slice-in-Some-members.result.now
+    (sym (ap (λ (n : Traffic). length n.until) c.in_default-reserve.ensures.ok ∙ c.requires.0.net.count))
+    (sym c.as_slice-in-Some-members.ensures.members)
+    (members_known c.test_is_satisfaction.ensures g.turn c.args.self.now c.requires.0 c.requires.1 c.args.team c.in-Some-members.members.now (c.in-Some-members.ensures ∙ ap (λ (r : Roster). members_of r c.args.team) c.in-Ok.ensures.begun))
+
+pub returns : goal.returns
+returns g c =
+    let fit : Fits g.turn.before c.args.team c.args.payload = fits g.turn.before c.args.self.now.teams c.args.team c.args.payload c.requires.0.teams (told_all _ (Ok c.in_default.field-0) c.in_default.ensures.refused c.in_default.ensures.accepted) in
+    let one = members_are g.turn c.args.team c.in-Some.members.now c.args.self.now c.requires.0 c.in-Some.ensures in
+    let two = members_are g.turn c.args.team c.in-Some-members.members.now c.args.self.now c.requires.0 (c.in-Some-members.ensures ∙ ap (λ (r : Roster). members_of r c.args.team) c.in-Ok.ensures.begun) in
+    let same : c.as_slice-in-Some-members.result.now ≡ c.in-Some.members.now = c.as_slice-in-Some-members.ensures.members ∙ sym two ∙ one in
+    begins_now c.a_record_begins_unmarked.ensures g.turn c.args.team c.args.payload c.in-Some.members.now c.args.self.now c.reserve.new.self c.send_stores.new.net c.begin.new.self c.in-Ok.rec c.sent-first.result (length c.as_slice.result.now) c.requires.0 fit
+    one
+    (ap length c.as_slice.ensures.members)
+    (told _ NoMemory (Ok c.in_default-reserve.field-0) c.in_default-reserve.ensures.refused c.in_default-reserve.ensures.memory)
+    (reserved_is c.args.self.now.net c.reserve.new.self _ c.in_default-reserve.ensures.ok)
+    c.in-Ok.ensures.number
+    c.in-Ok.ensures.begun
+    c.sent-first.ensures
+    (c.send_stores.ensures.in_flight ∙ ap (λ (ps : List ProcId). c.reserve.new.self.in_flight ++ numbered c.reserve.new.self.sent (map (λ p. Store c.in-Ok.rec p) ps)) same)
+    (c.send_stores.ensures.sent ∙ ap (λ (ps : List ProcId). c.reserve.new.self.sent + length ps) same)
+    c.send_stores.ensures.clock
+    c.send_stores.ensures.until

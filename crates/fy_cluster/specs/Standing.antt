@@ -1,0 +1,217 @@
+-- what a machine keeps of a history: one equation for each of its parts
+use Rattle.std.specs.Prelude.{◌≡◌, ℕ, ◌+◌, ◌*◌, ◌<◌, ◌≤◌, false, not, nat_lt, List, [], ◌∷◌, ◌++◌, length, map, filter, slice_get, slice_index, Some, Result, Ok, Err}
+use Rattle.std.specs.List.{list_any}
+use Rattle.std.specs.Ordering.{nat_cmp}
+use Rattle.std.specs.FinSet as sets
+use Rattle.fy_kinds.specs.declared.kind.Kind.{Kind}
+use Rattle.fy_kinds.specs.declared.kind.Kind.TheVariants.{RebootProcess, Reboot, RebootAndDelete, KillInstantly}
+use Rattle.fy_kinds.specs.Kinds.{Deed, has}
+use Rattle.fy_grants.specs.Rights.{Rights, grants_of, protections_of}
+use Rattle.fy_decide.specs.DeadBook.{Casualties}
+use Rattle.fy_disk.specs.declared.item.Item.{Item}
+use Rattle.fy_disk.specs.Disk.{Stored, survivors}
+use Rattle.fy_net.specs.declared.message.Body.{Body}
+use Rattle.fy_net.specs.declared.message.Message.{Message}
+use Rattle.fy_net.specs.declared.fault.NetFault.{NetFault}
+use Rattle.fy_net.specs.declared.fault.NetFault.TheVariants.{NetFull as NetNetFull, NoMessage as NetNoMessage, Clogged as NetClogged, ClockEnd as NetClockEnd, NoMemory as NetNoMemory}
+use Rattle.fy_net.specs.Net.{Traffic}
+use Rattle.fy_team.specs.declared.fault.TeamFault.{TeamFault}
+use Rattle.fy_team.specs.declared.fault.TeamFault.TheVariants.{TooMany as TeamTooMany, NoPolicy as TeamNoPolicy, NoProcess as TeamNoProcess, Gone as TeamGone, TeamShort as IsShort, NoTeam as TeamNoTeam, Payload as TeamPayload, NoMemory as TeamNoMemory}
+use Rattle.fy_team.specs.Teams.{Roster, Record, is_marked}
+use Rattle.fy_audit.specs.declared.act.Act.{Act}
+use Rattle.fy_audit.specs.declared.reply.Reply.{Reply}
+use Rattle.fy_audit.specs.declared.reply.Reply.TheVariants.{No}
+use Rattle.fy_audit.specs.declared.reply.Refusal.TheVariants.{NoActor as Nobody, NoSuch as Nothing, Full as TooFull, TooMany, NoPolicy, NoProcess, Gone, TeamShort, NoTeam, Payload, NetFull, NoMessage, Clogged, ClockEnd}
+use Rattle.fy_audit.specs.declared.entry.Entry.{Entry}
+use Rattle.fy_grants.specs.declared.book.BookFault.{BookFault}
+use Rattle.fy_grants.specs.declared.book.BookFault.TheVariants.{NoActor, NoSuch, Full, NoMemory as BookNoMemory}
+use Rattle.fy_cluster.specs.declared.fault.Fault.{Fault}
+use Rattle.fy_cluster.specs.declared.fault.Fault.TheVariants.{NoMemory}
+use Rattle.fy_cluster.specs.declared.machine.Machine.{Machine}
+use Rattle.fy_cluster.specs.Setup.{Setup, IsSetup}
+use Rattle.fy_cluster.specs.History.{History, Moment, Begun, destroyed, left, up, synced, unsynced, sent, takes_out, now, clogged_at, teams, records, marked, moment, history}
+use Rattle.fy_cluster.specs.Rules.{grants, is_protected}
+use Rattle.fy_cluster.specs.Replies.{refusals, answer, reply, refused, Legal}
+
+-- ---- the parts
+
+-- who was destroyed, who is left, and who is gone: nobody but processes
+pub record KeepsDead (c : Setup) (h : History) (book : Casualties) : Type 0 where
+  pub processes : book.processes ≡ c.processes
+  pub policies : book.policies ≡ c.policies
+  pub few : length c.processes ≤ 1024
+  pub destroyed : (p : ℕ) → sets.contains book.destroyed p ≡ destroyed h p
+  pub left : (p : ℕ) → sets.contains book.left p ≡ left c h p
+
+-- the grants of each actor, and what each process is protected from
+pub record KeepsRights (c : Setup) (h : History) (rights : Rights) : Type 0 where
+  pub actors : length rights.grants ≡ length c.roles
+  pub processes : length rights.protections ≡ length c.processes
+  pub grants : (a : ℕ) → grants_of rights a ≡ grants c h a
+  pub protections : (p : ℕ) (deed : Deed) → has (protections_of rights p) deed ≡ is_protected c h p deed
+
+-- what a process has on its disk
+abbrev pub stored : History → ℕ → Stored
+stored h p = record { synced = synced h p; unsynced = unsynced h p }
+
+-- a disk with nothing on it
+abbrev pub blank_disk : Stored
+blank_disk = record { synced = []; unsynced = [] }
+
+-- a disk with one more item that isn't synced
+abbrev pub written : Item → Stored → Stored
+written item disk = record { synced = disk.synced; unsynced = disk.unsynced ++ item ∷ [] }
+
+-- what a strike leaves on a disk
+abbrev pub left_on : Kind → ℕ → Stored → Stored
+left_on RebootProcess tear disk = disk
+left_on Reboot tear disk = record { synced = disk.synced ++ survivors tear disk.unsynced; unsynced = [] }
+left_on RebootAndDelete tear disk = blank_disk
+left_on KillInstantly tear disk = blank_disk
+
+-- a disk for each process
+pub record KeepsDisks (c : Setup) (h : History) (disks : List Stored) : Type 0 where
+  pub count : length disks ≡ length c.processes
+  pub each : (p : ℕ) → p < length c.processes → slice_get disks p ≡ Some (stored h p)
+
+-- who is up
+pub record KeepsUp (c : Setup) (h : History) (set : sets.FinSet nat_cmp) : Type 0 where
+  pub each : (p : ℕ) → p < length c.processes → sets.contains set p ≡ up h p
+
+-- messages with their numbers, the first of which is given
+abbrev pub numbered : ℕ → List Body → List Message
+numbered k [] = []
+numbered k (b ∷ bodies) = record { number = k; body = b } ∷ numbered (k + 1) bodies
+
+-- the messages in flight, each with its number
+abbrev pub flying : History → List Message
+flying h = filter (λ x. not (list_any (takes_out x.number) h)) (numbered 0 (sent h))
+
+-- the messages in flight, how many were sent, the time, and until when each process is clogged
+pub record KeepsNet (c : Setup) (h : History) (net : Traffic) : Type 0 where
+  pub in_flight : net.in_flight ≡ flying h
+  pub sent_so_far : net.sent ≡ length (sent h)
+  pub clock : net.clock ≡ now h
+  pub count : length net.until ≡ length c.processes
+  pub ends : (p t : ℕ) → p < length c.processes → now h ≤ t → clogged_at t h p ≡ nat_lt t (slice_index net.until p)
+  -- nothing was taken out before it was sent, and no entry sent more than may be in flight
+  pub early : (n : ℕ) → length (sent h) ≤ n → list_any (takes_out n) h ≡ false
+  pub few : length (sent h) ≤ 65536 * length h
+
+-- a record without its marks
+abbrev pub begun_of : Record → Begun
+begun_of it = record { team = it.team; payload = it.payload }
+
+-- the teams, the records, and who marked each
+pub record KeepsTeams (h : History) (roster : Roster) : Type 0 where
+  pub teams : roster.teams ≡ teams h
+  pub records : map begun_of roster.records ≡ records h
+  pub marks : (r p : ℕ) → is_marked roster r p ≡ marked h r p
+
+-- ---- the whole
+
+-- the machine keeps the history: each of its parts does
+pub record Stands (c : Setup) (h : History) (m : Machine) : Type 0 where
+  pub dead : KeepsDead c h m.dead
+  pub rights : KeepsRights c h m.book
+  pub disks : KeepsDisks c h m.disks.items
+  pub up : KeepsUp c h m.up
+  pub net : KeepsNet c h m.net
+  pub teams : KeepsTeams h m.teams
+
+-- ---- one act
+
+-- where an act stands: the setup, what came before, and who acts
+pub record Turn : Type 0 where
+  pub setup : Setup
+  pub before : History
+  pub by : ℕ
+
+-- the entry that an act makes
+abbrev pub entry_of : Turn → Act → Reply → Entry
+entry_of turn act reply = record { at = length turn.before; by = turn.by; act = act; reply = reply }
+
+-- that entry with what it did
+abbrev pub moment_of : Turn → Act → Reply → Moment
+moment_of turn act reply = moment turn.setup turn.before (entry_of turn act reply)
+
+-- the history with it
+abbrev pub following : Turn → Act → Reply → History
+following turn act reply = moment_of turn act reply ∷ turn.before
+
+-- the act got its reply, and the machine keeps the history with its entry
+pub record Follows (turn : Turn) (act : Act) (reply : Reply) (m : Machine) : Type 0 where
+  pub right : reply ≡ refused (refusals turn.setup turn.before act) (answer turn.setup turn.before turn.by act)
+  pub stands : Stands turn.setup (following turn act reply) m
+
+-- it got its reply, or there was no memory and the machine keeps the history as it was
+abbrev pub Comes : Turn → Act → Result Reply Fault → Machine → Type 0
+Comes turn act (Ok reply) m = Follows turn act reply m
+Comes turn act (Err fault) m = (fault ≡ NoMemory) × Stands turn.setup turn.before m
+
+-- the act's reply to whoever asked, with the two reasons that come before all, or there was no memory
+abbrev pub Answers : Turn → Act → Result Reply Fault → Machine → Type 0
+Answers turn act (Ok answered) m = (answered ≡ reply turn.setup turn.before turn.by act) × Stands turn.setup (following turn act answered) m
+Answers turn act (Err fault) m = (fault ≡ NoMemory) × Stands turn.setup turn.before m
+
+-- what a fault of the book means to whoever acts
+abbrev pub replied_to : BookFault → Result Reply Fault
+replied_to NoActor = Ok (No Nobody)
+replied_to NoSuch = Ok (No Nothing)
+replied_to Full = Ok (No TooFull)
+replied_to BookNoMemory = Err NoMemory
+
+-- what a fault of the teams means to whoever acts
+abbrev pub replied_to_team : TeamFault → Result Reply Fault
+replied_to_team TeamTooMany = Ok (No TooMany)
+replied_to_team TeamNoPolicy = Ok (No NoPolicy)
+replied_to_team TeamNoProcess = Ok (No NoProcess)
+replied_to_team TeamGone = Ok (No Gone)
+replied_to_team (IsShort policy) = Ok (No (TeamShort policy))
+replied_to_team TeamNoTeam = Ok (No NoTeam)
+replied_to_team TeamPayload = Ok (No Payload)
+replied_to_team TeamNoMemory = Err NoMemory
+
+-- what a fault of the network means
+abbrev pub no_room : NetFault → Result Reply Fault
+no_room NetNetFull = Ok (No NetFull)
+no_room NetNoMessage = Ok (No NoMessage)
+no_room NetClogged = Ok (No Clogged)
+no_room NetClockEnd = Ok (No ClockEnd)
+no_room NetNoMemory = Err NoMemory
+
+-- the history is that of a legal journal of a setup
+pub record IsLived (c : Setup) (h : History) : Type 0 where
+  pub journal : List Entry
+  pub same : history c journal ≡ h
+  pub setup : IsSetup c
+  pub legal : Legal c journal
+  pub room : length journal < c.limit
+
+-- ---- the cluster
+
+-- what a cluster is seen as: what it began with, and its journal
+pub record Course : Type 0 where
+  pub setup : Setup
+  pub journal : List Entry
+
+-- the reply to an act
+abbrev pub replied : Course → ℕ → Act → Reply
+replied course by act = reply course.setup (history course.setup course.journal) by act
+
+-- the course once the act is entered with its reply
+abbrev pub entered : Course → ℕ → Act → Course
+entered course by act = record course {
+  journal = course.journal ++ record { at = length course.journal; by = by; act = act; reply = replied course by act } ∷ [];
+}
+
+-- the course once these acts are entered, one after another
+abbrev pub after_acts : Course → List (ℕ × Act) → Course
+after_acts course [] = course
+after_acts course (asked ∷ rest) = after_acts (entered course asked.0 asked.1) rest
+
+-- the journal is legal, and the machine keeps its history
+pub record IsKept (c : Setup) (journal : List Entry) (m : Machine) : Type 0 where
+  pub setup : IsSetup c
+  pub legal : Legal c journal
+  pub stands : Stands c (history c journal) m

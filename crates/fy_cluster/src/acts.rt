@@ -1,0 +1,101 @@
+//! One act of an actor that may make it.
+ghost use Rattle.std.specs.Prelude.{◌≡◌, ◌<◌, ◌++◌, ◌∷◌, [], length, IfOk, OnErr};
+ghost use Rattle.fy_audit.specs.Journal.{most_entries};
+ghost use Rattle.fy_cluster.specs.Standing.{Turn, Stands, Comes, Answers, IsLived};
+
+use crate::machine::Machine;
+use crate::{Config, Fault};
+use fy_audit::{Act, Journal, Refusal, Reply};
+use std::alloc::Global;
+
+impl Machine {
+    /// Replies to an act and enters both into the journal.
+    pub(crate) fn enter(
+        &mut self,
+        journal: &mut Journal,
+        alloc: Global,
+        config: &Config,
+        by: u32,
+        act: Act,
+    ) -> Result<Reply, Fault>
+        ghost turn: { Turn }
+        requires stands { Stands turn.setup turn.before self.old }
+        requires config { config.now ≡ turn.setup }
+        requires by { by ≡ turn.by }
+        requires lived { IsLived turn.setup turn.before }
+        requires room { length journal.old.entries < most_entries }
+        ensures answered { Answers turn act result self.new }
+        ensures entered { IfOk result (λ reply. journal.new.entries ≡ journal.old.entries ++ record { at = length journal.old.entries; by = by; act = act; reply = reply } ∷ []) }
+        ensures err { OnErr result (journal.new.entries ≡ journal.old.entries) }
+    {
+        journal.reserve(1)?;
+        let reply = self.reply(alloc, config, by, &act)?;
+        journal.push(by, act, reply);
+        Ok(reply)
+    }
+
+    /// Replies to whoever acts, and does what the act asks where nothing speaks against it.
+    pub(crate) fn reply(
+        &mut self,
+        alloc: Global,
+        config: &Config,
+        by: u32,
+        act: &Act,
+    ) -> Result<Reply, Fault>
+        ghost turn: { Turn }
+        requires stands { Stands turn.setup turn.before self.old }
+        requires config { config.now ≡ turn.setup }
+        requires by { by ≡ turn.by }
+        requires lived { IsLived turn.setup turn.before }
+        ensures { Answers turn act.now result self.new }
+    {
+        let Some(role) = config.role(by) else {
+            return Ok(Reply::No(Refusal::Stranger));
+        };
+        if !role.may(act) {
+            return Ok(Reply::No(Refusal::WrongRole));
+        }
+        self.act(alloc, config, by, act)
+    }
+
+    /// Does what an act asks, or says why not. What takes memory comes before any change.
+    pub(crate) fn act(
+        &mut self,
+        alloc: Global,
+        config: &Config,
+        by: u32,
+        act: &Act,
+    ) -> Result<Reply, Fault>
+        ghost turn: { Turn }
+        requires stands { Stands turn.setup turn.before self.old }
+        requires config { config.now ≡ turn.setup }
+        requires by { by ≡ turn.by }
+        requires lived { IsLived turn.setup turn.before }
+        ensures { Comes turn act.now result self.new }
+    {
+        let map = config.map();
+        match act {
+            Act::Kill { order } => Ok(self.kill(map, by, order)),
+            Act::Clog { target, ticks } => Ok(self.clog(map, by, target, *ticks)),
+            Act::Unclog { target } => Ok(self.unclog(map, by, target)),
+            Act::Form { members, policy } => {
+                let members = members.try_copy(alloc)?;
+                self.form(config, members, *policy)
+            }
+            Act::Begin { team, payload } => {
+                let payload = payload.try_copy(alloc)?;
+                self.begin(*team, payload)
+            }
+            Act::Deliver { message } => self.deliver(alloc, *message),
+            Act::Lose { message } => Ok(self.lose(*message)),
+            Act::Resend { rec, process } => self.resend(*rec, *process),
+            Act::Sync { process } => self.sync(map, *process),
+            Act::Up { process } => Ok(self.start(map, *process)),
+            Act::Tick { ticks } => Ok(self.tick(*ticks)),
+            Act::Give { grant } => self.give(*grant),
+            Act::Take { actor, index } => self.take(*actor, *index),
+            Act::Protect { process, kinds } => Ok(self.protect(*process, *kinds)),
+            Act::Unprotect { process, kinds } => Ok(self.unprotect(*process, *kinds)),
+        }
+    }
+}

@@ -1,0 +1,112 @@
+//! A cluster: it replies to acts, and keeps them all in its journal.
+ghost use Rattle.std.specs.Prelude.{◌≡◌, ◌↔◌, ◌<◌, ◌≤◌, ℕ, length, take, IfOk, IsTrue, OnOk, OnErr, Err};
+ghost use Rattle.std.specs.FinSet as sets;
+ghost use Rattle.fy_cluster.specs.History.{destroyed, history};
+ghost use Rattle.fy_cluster.specs.declared.fault.Fault.TheVariants.{JournalFull};
+ghost use Rattle.fy_cluster.specs.Replies.{Legal};
+ghost use Rattle.fy_cluster.specs.Standing.{replied, entered, after_acts};
+
+use crate::machine::Machine;
+use crate::{Config, Fault};
+use fy_audit::{Act, Journal, Reply};
+use fy_locality::ProcSet;
+use std::alloc::Global;
+use std::marker::Model;
+
+/// Processes that store records for teams, with all that strikes them, and the journal of what was asked and replied. Each
+/// reply is read off the running parts; the journal is only written.
+pub struct Cluster {
+    alloc: Global,
+    config: Config,
+    journal: Journal,
+    machine: Machine,
+}
+
+impl Model for Cluster {
+    ghost use Rattle.std.specs.Coded.{codes};
+    ghost use Rattle.fy_locality.specs.contracts.locality.Locality as e;
+    ghost use Rattle.fy_policy.specs.Tree.{tree_code};
+    ghost use Rattle.fy_cluster.specs.Standing.{Course, IsKept};
+
+    ghost Value = { Course };
+
+    ghost coded = { Prim.hlevel (codes, tree_code, e.the_row.coded) };
+
+    ghost view = { λ x. record { setup = x.config; journal = x.journal.entries } };
+
+    ghost invariant = { λ x. IsKept x.config x.journal.entries x.machine };
+}
+
+// Written out, so that whoever drops a cluster makes one call.
+impl Drop for Cluster {
+    fn drop(self) {
+        let Cluster {
+            alloc: _,
+            config: _,
+            journal: _,
+            machine: _,
+        } = self;
+    }
+}
+
+impl Cluster {
+    /// Replies to an act by the actor with this number, does it where nothing speaks against it, and enters both into the
+    /// journal.
+    ///
+    /// # Errors
+    /// In this order: `JournalFull` where the journal has as many entries as it may have; `NoMemory`. The cluster is then
+    /// as it was.
+    pub fn apply(&mut self, by: u32, act: Act) -> Result<Reply, Fault>
+        ensures full { (self.old.setup.limit ≤ length self.old.journal) ↔ (result ≡ Err JournalFull) }
+        ensures replied { IfOk result (λ reply. reply ≡ replied self.old by act) }
+        ensures entered { OnOk result (self.new ≡ entered self.old by act) }
+        ensures err { OnErr result (self.new ≡ self.old) }
+        ensures legal { Legal self.new.setup self.new.journal }
+    {
+        if self.journal.len() >= self.config.journal_limit() as usize {
+            return Err(Fault::JournalFull);
+        }
+        self.machine
+            .enter(&mut self.journal, self.alloc, &self.config, by, act)
+    }
+
+    /// Applies acts one after another, each by the actor beside it, and stops at the first fault. The entries before it
+    /// stand.
+    ///
+    /// # Errors
+    /// The first fault.
+    pub fn run(&mut self, acts: &[(u32, Act)]) -> Result<(), Fault>
+        ensures ran { OnOk result (self.new ≡ after_acts self.old acts.now) }
+        ensures err { OnErr result ((n : ℕ) × (n < length acts.now) × (self.new ≡ after_acts self.old (take n acts.now))) }
+        ensures legal { Legal self.new.setup self.new.journal }
+    {
+        let _machine = &self.machine;
+        for (by, act) in acts {
+            let act = act.try_copy(self.alloc)?;
+            self.apply(*by, act)?;
+        }
+        Ok(())
+    }
+
+    /// All that was asked and replied.
+    pub fn journal(&self) -> &Journal
+        ensures journal { result.now.entries ≡ self.now.journal }
+        ensures legal { Legal self.now.setup self.now.journal }
+    {
+        &self.journal
+    }
+
+    /// Who was destroyed at any time.
+    pub fn destroyed(&self) -> ProcSet
+        ensures { (p : ℕ) → sets.contains result p ≡ destroyed (history self.now.setup self.now.journal) p }
+    {
+        self.machine.dead.destroyed()
+    }
+
+    /// Whether the journal has as many entries as it may have.
+    pub fn is_full(&self) -> bool
+        ensures { IsTrue result ↔ (self.now.setup.limit ≤ length self.now.journal) }
+    {
+        self.journal.len() >= self.config.journal_limit() as usize
+    }
+}

@@ -1,0 +1,81 @@
+//! Kills strike.
+ghost use Rattle.std.specs.Prelude.{◌≡◌, ◌<◌, ℕ, [], length, slice_index_or, slice_set, Some, if◌then◌else◌};
+ghost use Rattle.std.specs.Option.{option_map_or};
+ghost use Rattle.std.specs.FinSet as sets;
+ghost use Rattle.fy_decide.specs.declared.dead_book.Loss.{Loss};
+ghost use Rattle.fy_decide.specs.DeadBook.{struck};
+ghost use Rattle.fy_decide.specs.Losses.{MayDestroy};
+ghost use Rattle.fy_decide.specs.Verdicts.{loss_of};
+ghost use Rattle.fy_audit.specs.declared.act.Act.TheVariants.{Kill};
+ghost use Rattle.fy_cluster.specs.Standing.{Turn, Stands, Follows, left_on, blank_disk};
+
+use crate::machine::Machine;
+use fy_audit::Reply;
+use fy_decide::{DeadBook, Loss, judge};
+use fy_disk::Disk;
+use fy_kinds::{KillOrder, Kind};
+use fy_locality::{Map, ProcId, ProcSet};
+
+/// Strikes a disk: a reboot tears off unsynced writes, and a destroying kind leaves nothing.
+fn strike_disk(disk: &mut Disk, kind: Kind, tear: u64)
+    ensures { disk.new ≡ left_on kind tear disk.old }
+{
+    match kind {
+        Kind::RebootProcess => {}
+        Kind::Reboot => disk.crash(tear),
+        Kind::RebootAndDelete | Kind::KillInstantly => disk.wipe(),
+    }
+}
+
+/// Strikes the disk of a process if it is among the targets.
+fn strike_target(disks: &mut Vec<Disk>, targets: &ProcSet, p: ProcId, kind: Kind, tear: u64)
+    requires { p.0 < length disks.old.items }
+    ensures { disks.new.items ≡ (if sets.contains targets.now p.0 then slice_set disks.old.items p.0 (left_on kind tear (slice_index_or disks.old.items p.0 blank_disk)) else disks.old.items) }
+{
+    if targets.contains(p) {
+        strike_disk(&mut disks[p.0 as usize], kind, tear);
+    }
+}
+
+/// Strikes the disk of each target.
+fn strike_disks(disks: &mut Vec<Disk>, targets: &ProcSet, processes: u32, kind: Kind, tear: u64)
+    requires { processes ≡ length disks.old.items }
+    ensures count { length disks.new.items ≡ length disks.old.items }
+    ensures each { (p : ℕ) → p < length disks.old.items → slice_index_or disks.new.items p blank_disk ≡ (if sets.contains targets.now p then left_on kind tear (slice_index_or disks.old.items p blank_disk) else slice_index_or disks.old.items p blank_disk) }
+{
+    for p in 0..processes {
+        strike_target(disks, targets, ProcId(p), kind, tear);
+    }
+}
+
+/// Writes the targets down as lost, where the kind destroys.
+fn bury(dead: &mut DeadBook, targets: &ProcSet, kind: Kind)
+    requires { (loss : Loss) → loss_of kind ≡ Some loss → MayDestroy dead.old.processes dead.old.policies (sets.contains dead.old.destroyed) (sets.contains dead.old.left) (sets.contains targets.now) loss }
+    ensures { dead.new ≡ option_map_or (λ loss. struck dead.old targets.now loss) (loss_of kind) dead.old }
+{
+    if let Some(loss) = Loss::of(kind) {
+        dead.strike(targets, loss);
+    }
+}
+
+impl Machine {
+    /// Strikes the targets of an order by the hardest kind that nothing bars.
+    pub(crate) fn kill(&mut self, map: &Map, by: u32, order: &KillOrder) -> Reply
+        ghost turn: { Turn }
+        requires stands { Stands turn.setup turn.before self.old }
+        requires map { map.now ≡ turn.setup.processes }
+        requires by { by ≡ turn.by }
+        ensures { Follows turn (Kill order.now) result self.new }
+    {
+        fy_decide::laws::struck_may_be_destroyed();
+        let verdict = judge(&self.dead, &self.book, map, by, order);
+        let Some(kind) = verdict.struck else {
+            return Reply::Verdict(verdict);
+        };
+        let targets = self.dead.targets(map, &order.target());
+        strike_disks(&mut self.disks, &targets, map.len(), kind, order.tear());
+        self.up = self.up.difference(&targets);
+        bury(&mut self.dead, &targets, kind);
+        Reply::Verdict(verdict)
+    }
+}

@@ -1,0 +1,19 @@
+//! The running parts of a cluster.
+use fy_decide::DeadBook;
+use fy_disk::Disk;
+use fy_grants::Book;
+use fy_locality::ProcSet;
+use fy_net::Net;
+use fy_team::Teams;
+
+/// Who was destroyed and who is left, the grants and protections, each process's disk, who is up, the network, and the
+/// teams with their records.
+#[derive(Drop)]
+pub(crate) struct Machine {
+    pub(crate) dead: DeadBook,
+    pub(crate) book: Book,
+    pub(crate) disks: Vec<Disk>,
+    pub(crate) up: ProcSet,
+    pub(crate) net: Net,
+    pub(crate) teams: Teams,
+}

@@ -1,0 +1,158 @@
+//! Messages are delivered and lost, and processes sync.
+ghost use Rattle.std.specs.Prelude.{◌≡◌, ◌≤◌, ◌<◌, ◌+◌, ◌++◌, Some, map, length, slice_set, slice_index_or, OnOk, OnErr, IfErr};
+ghost use Rattle.fy_net.specs.Net.{body_of};
+ghost use Rattle.fy_net.specs.declared.message.Body.TheVariants.{Store, Synced};
+ghost use Rattle.fy_audit.specs.declared.act.Act.TheVariants.{Deliver, Lose, Sync};
+ghost use Rattle.fy_cluster.specs.Standing.{Turn, Stands, Follows, Comes, IsLived, numbered, no_room, written, blank_disk};
+ghost use Rattle.fy_cluster.specs.declared.fault.Fault.TheVariants.{NoMemory};
+
+use crate::Fault;
+use crate::machine::Machine;
+use fy_audit::{Refusal, Reply};
+use fy_disk::{Disk, Item};
+use fy_locality::{Map, ProcId};
+use fy_net::{Body, Net, NetFault};
+use std::alloc::Global;
+
+/// What a refusal of room in the network means to whoever acts.
+pub(crate) fn no_room(fault: NetFault) -> Result<Reply, Fault>
+    ensures { result ≡ no_room fault }
+{
+    match fault {
+        NetFault::NetFull => Ok(Reply::No(Refusal::NetFull)),
+        NetFault::NoMessage => Ok(Reply::No(Refusal::NoMessage)),
+        NetFault::Clogged => Ok(Reply::No(Refusal::Clogged)),
+        NetFault::ClockEnd => Ok(Reply::No(Refusal::ClockEnd)),
+        NetFault::NoMemory => Err(Fault::NoMemory),
+    }
+}
+
+/// Sends a process's word of each write that it has not synced.
+fn send_words(net: &mut Net, disk: &Disk, process: ProcId)
+    requires room { length disk.now.unsynced ≤ net.old.room }
+    requires there { process.0 < length net.old.until }
+    ensures in_flight { net.new.in_flight ≡ net.old.in_flight ++ numbered net.old.sent (map (λ item. Synced item.rec process) disk.now.unsynced) }
+    ensures sent { net.new.sent ≡ net.old.sent + length disk.now.unsynced }
+    ensures clock { net.new.clock ≡ net.old.clock }
+    ensures until { net.new.until ≡ net.old.until }
+{
+    for place in 0..disk.unsynced_len() {
+        let Some(item) = disk.pending(place) else {
+            unreachable!();
+        };
+        let rec = item.rec;
+        let _number = net.send(Body::Synced { rec, from: process });
+    }
+}
+
+/// Writes an item to the disk of a process, or leaves all disks as they were where there is no memory.
+fn write_to(disks: &mut Vec<Disk>, p: ProcId, item: Item) -> Result<(), Fault>
+    requires { p.0 < length disks.old.items }
+    ensures written { OnOk result (disks.new.items ≡ slice_set disks.old.items p.0 (written item (slice_index_or disks.old.items p.0 blank_disk))) }
+    ensures memory { IfErr result (λ fault. fault ≡ NoMemory) }
+    ensures err { OnErr result (disks.new.items ≡ disks.old.items) }
+{
+    match disks[p.0 as usize].write(item) {
+        Ok(()) => Ok(()),
+        Err(_) => Err(Fault::NoMemory),
+    }
+}
+
+impl Machine {
+    /// Delivers a message.
+    pub(crate) fn deliver(&mut self, alloc: Global, message: u64) -> Result<Reply, Fault>
+        ghost turn: { Turn }
+        requires stands { Stands turn.setup turn.before self.old }
+        requires lived { IsLived turn.setup turn.before }
+        ensures { Comes turn (Deliver message) result self.new }
+    {
+        match self.net.body(message) {
+            Some(Body::Store { rec, to }) => self.store(alloc, message, rec, to),
+            Some(Body::Synced { rec, from }) => Ok(self.mark(message, rec, from)),
+            None => Ok(Reply::No(Refusal::NoMessage)),
+        }
+    }
+
+    /// Delivers a store, which is the message in flight with this number.
+    fn store(&mut self, alloc: Global, message: u64, rec: u32, to: ProcId) -> Result<Reply, Fault>
+        ghost turn: { Turn }
+        requires stands { Stands turn.setup turn.before self.old }
+        requires lived { IsLived turn.setup turn.before }
+        requires body { body_of self.old.net.in_flight message ≡ Some (Store rec to) }
+        requires there { to.0 < length self.old.net.until }
+        ensures { Comes turn (Deliver message) result self.new }
+    {
+        fy_policy::laws::test_is_satisfaction();
+        if self.net.clogged(to) {
+            return Ok(Reply::No(Refusal::Clogged));
+        }
+        if !self.up.contains(to) {
+            return Ok(Reply::No(Refusal::NotUp));
+        }
+        let Some(payload) = self.teams.payload(rec) else {
+            unreachable!();
+        };
+        let payload = payload.try_copy(alloc)?;
+        write_to(&mut self.disks, to, Item { rec, payload })?;
+        // It is in flight and not clogged, so this can't be refused.
+        let _ = self.net.take(message);
+        Ok(Reply::Stored)
+    }
+
+    /// Delivers a process's word, which is the message in flight with this number.
+    fn mark(&mut self, message: u64, rec: u32, from: ProcId) -> Reply
+        ghost turn: { Turn }
+        requires stands { Stands turn.setup turn.before self.old }
+        requires lived { IsLived turn.setup turn.before }
+        requires body { body_of self.old.net.in_flight message ≡ Some (Synced rec from) }
+        requires there { from.0 < length self.old.net.until }
+        ensures { Follows turn (Deliver message) result self.new }
+    {
+        fy_policy::laws::test_is_satisfaction();
+        fy_team::laws::a_mark_is_one_more();
+        if self.net.clogged(from) {
+            return Reply::No(Refusal::Clogged);
+        }
+        // It is in flight and not clogged, so this can't be refused.
+        let _ = self.net.take(message);
+        let acked = self.teams.mark(rec, from);
+        Reply::Marked { acked }
+    }
+
+    /// Loses a message, clogged or not.
+    pub(crate) fn lose(&mut self, message: u64) -> Reply
+        ghost turn: { Turn }
+        requires { Stands turn.setup turn.before self.old }
+        ensures { Follows turn (Lose message) result self.new }
+    {
+        match self.net.lose(message) {
+            Ok(()) => Reply::Done,
+            Err(_) => Reply::No(Refusal::NoMessage),
+        }
+    }
+
+    /// Syncs what a process has written, and sends its word of each write.
+    pub(crate) fn sync(&mut self, map: &Map, process: ProcId) -> Result<Reply, Fault>
+        ghost turn: { Turn }
+        requires stands { Stands turn.setup turn.before self.old }
+        requires map { map.now ≡ turn.setup.processes }
+        requires lived { IsLived turn.setup turn.before }
+        ensures { Comes turn (Sync process) result self.new }
+    {
+        if process.0 >= map.len() {
+            return Ok(Reply::No(Refusal::NoProcess));
+        }
+        if !self.up.contains(process) {
+            return Ok(Reply::No(Refusal::NotUp));
+        }
+        let count = self.disks[process.0 as usize].unsynced_len();
+        if let Err(fault) = self.net.reserve(count) {
+            return no_room(fault);
+        }
+        let first = self.net.sent();
+        send_words(&mut self.net, &self.disks[process.0 as usize], process);
+        self.disks[process.0 as usize].sync();
+        let count = count as u32;
+        Ok(Reply::Synced { first, count })
+    }
+}

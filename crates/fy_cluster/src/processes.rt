@@ -1,0 +1,30 @@
+//! Processes start.
+ghost use Rattle.std.specs.Prelude.{◌≡◌};
+ghost use Rattle.fy_audit.specs.declared.act.Act.TheVariants.{Up};
+ghost use Rattle.fy_cluster.specs.Standing.{Turn, Stands, Follows};
+
+use crate::machine::Machine;
+use fy_audit::{Refusal, Reply};
+use fy_locality::{Map, ProcId};
+
+impl Machine {
+    /// Starts a process that is down.
+    pub(crate) fn start(&mut self, map: &Map, process: ProcId) -> Reply
+        ghost turn: { Turn }
+        requires stands { Stands turn.setup turn.before self.old }
+        requires map { map.now ≡ turn.setup.processes }
+        ensures { Follows turn (Up process) result self.new }
+    {
+        if process.0 >= map.len() {
+            return Reply::No(Refusal::NoProcess);
+        }
+        if !self.dead.left().contains(process) {
+            return Reply::No(Refusal::Gone);
+        }
+        if self.up.contains(process) {
+            return Reply::No(Refusal::IsUp);
+        }
+        self.up.put(process);
+        Reply::Done
+    }
+}

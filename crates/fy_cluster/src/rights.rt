@@ -1,0 +1,81 @@
+//! Grants and protections are given and taken.
+ghost use Rattle.std.specs.Prelude.{◌≡◌};
+ghost use Rattle.fy_audit.specs.declared.act.Act.TheVariants.{Give, Take, Protect, Unprotect};
+ghost use Rattle.fy_cluster.specs.Standing.{Turn, Stands, Follows, Comes, replied_to};
+
+use crate::Fault;
+use crate::machine::Machine;
+use fy_audit::{Refusal, Reply};
+use fy_grants::{BookFault, Grant, laws};
+use fy_kinds::KindSet;
+use fy_locality::ProcId;
+
+/// What the book's fault means to whoever acts.
+fn replied_to(fault: BookFault) -> Result<Reply, Fault>
+    ensures { result ≡ replied_to fault }
+{
+    match fault {
+        BookFault::NoActor => Ok(Reply::No(Refusal::NoActor)),
+        BookFault::NoSuch => Ok(Reply::No(Refusal::NoSuch)),
+        BookFault::Full => Ok(Reply::No(Refusal::Full)),
+        BookFault::NoMemory => Err(Fault::NoMemory),
+    }
+}
+
+impl Machine {
+    /// Gives a grant, last in its actor's list.
+    pub(crate) fn give(&mut self, grant: Grant) -> Result<Reply, Fault>
+        ghost turn: { Turn }
+        requires { Stands turn.setup turn.before self.old }
+        ensures { Comes turn (Give grant) result self.new }
+    {
+        laws::grants_after_give();
+        match self.book.give(grant) {
+            Ok(()) => Ok(Reply::Done),
+            Err(fault) => replied_to(fault),
+        }
+    }
+
+    /// Takes a grant away, by its place in its actor's list.
+    pub(crate) fn take(&mut self, actor: u32, index: u32) -> Result<Reply, Fault>
+        ghost turn: { Turn }
+        requires { Stands turn.setup turn.before self.old }
+        ensures { Comes turn (Take actor index) result self.new }
+    {
+        laws::grants_after_take();
+        match self.book.take(actor, index) {
+            Ok(()) => Ok(Reply::Done),
+            Err(fault) => replied_to(fault),
+        }
+    }
+
+    /// Adds to the kinds from which a process is protected.
+    pub(crate) fn protect(&mut self, process: ProcId, kinds: KindSet) -> Reply
+        ghost turn: { Turn }
+        requires { Stands turn.setup turn.before self.old }
+        ensures { Follows turn (Protect process kinds) result self.new }
+    {
+        laws::protections_after_change();
+        fy_kinds::laws::members_together();
+        if process.0 as usize >= self.book.processes() {
+            return Reply::No(Refusal::NoProcess);
+        }
+        self.book.protect(process, kinds);
+        Reply::Done
+    }
+
+    /// Takes out of the kinds from which a process is protected.
+    pub(crate) fn unprotect(&mut self, process: ProcId, kinds: KindSet) -> Reply
+        ghost turn: { Turn }
+        requires { Stands turn.setup turn.before self.old }
+        ensures { Follows turn (Unprotect process kinds) result self.new }
+    {
+        laws::protections_after_change();
+        fy_kinds::laws::members_together();
+        if process.0 as usize >= self.book.processes() {
+            return Reply::No(Refusal::NoProcess);
+        }
+        self.book.unprotect(process, kinds);
+        Reply::Done
+    }
+}
