@@ -195,6 +195,10 @@ pub record Course : Type 0 where
   pub setup : Setup
   pub journal : List Entry
 
+-- the course before anything happened
+abbrev pub opened : Setup → Course
+opened c = record { setup = c; journal = [] }
+
 -- the reply to an act
 abbrev pub replied : Course → ℕ → Act → Reply
 replied course by act = reply course.setup (history course.setup course.journal) by act

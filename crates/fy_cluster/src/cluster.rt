@@ -4,13 +4,13 @@ ghost use Rattle.std.specs.FinSet as sets;
 ghost use Rattle.fy_cluster.specs.History.{destroyed, history};
 ghost use Rattle.fy_cluster.specs.declared.fault.Fault.TheVariants.{JournalFull};
 ghost use Rattle.fy_cluster.specs.Replies.{Legal};
-ghost use Rattle.fy_cluster.specs.Standing.{replied, entered, after_acts};
+ghost use Rattle.fy_cluster.specs.Standing.{opened, replied, entered, after_acts};
 
 use crate::machine::Machine;
 use crate::{Config, Fault};
 use fy_audit::{Act, Journal, Reply};
 use fy_locality::ProcSet;
-use std::alloc::Global;
+use std::alloc::{AllocError, Global};
 use std::marker::Model;
 
 /// Processes that store records for teams, with all that strikes them, and the journal of what was asked and replied. Each
@@ -50,6 +50,23 @@ impl Drop for Cluster {
 }
 
 impl Cluster {
+    /// A cluster in which nothing happened yet. A configuration that is refused is dropped.
+    ///
+    /// # Errors
+    /// `AllocError` where there is no memory for it.
+    pub fn make(alloc: Global, config: Config) -> Result<Cluster, AllocError>
+        ensures { IfOk result (λ cluster. cluster ≡ opened config) }
+    {
+        config.is_setup();
+        let machine = Machine::make(alloc, &config)?;
+        Ok(Cluster {
+            alloc,
+            config,
+            journal: Journal::make(alloc),
+            machine,
+        })
+    }
+
     /// Replies to an act by the actor with this number, does it where nothing speaks against it, and enters both into the
     /// journal.
     ///

@@ -11,6 +11,7 @@ mod kills;
 pub mod laws;
 mod machine;
 mod messages;
+mod opening;
 mod processes;
 mod rights;
 mod role;

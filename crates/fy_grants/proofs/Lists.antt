@@ -1,9 +1,11 @@
 -- lists of grants, one for each actor
-use Rattle.std.proofs.Common.{◌≡◌, ℕ, ◌+◌, ◌-◌, ◌<◌, ◌≤◌, List, [], ◌∷◌, ◌++◌, length, map, get_or, sym, ap, ◌∙◌, arith, length-append, Vec, Global}
+use Rattle.std.proofs.Common.{◌≡◌, ℕ, ◌+◌, ◌-◌, replicate, ◌<◌, ◌≤◌, List, [], ◌∷◌, ◌++◌, length, map, get_or, sym, ap, ◌∙◌, arith, length-append, Vec, Global}
 use Rattle.std.specs.Prelude.{slice_set, remove, Result, Ok, Err, OnErr}
 use Rattle.std.proofs.lemmas.List.{map-set, get_or-map, set-get_or, length-map}
 use Rattle.std.proofs.lemmas.List.Edits.{length-remove}
 use Rattle.std.proofs.lemmas.List.Sums.{sum_by-set, get_or-le-sum_by}
+use Rattle.std.proofs.lemmas.List.Folds.{sum_by-replicate}
+use Rattle.std.specs.List.{sum_by}
 use Rattle.fy_grants.specs.declared.grant.Grant.{Grant}
 use Rattle.fy_grants.specs.Rights.{IsCounted}
 
@@ -31,9 +33,17 @@ written vecs a own grants is = map-set (λ v. v.items) vecs a own ∙ ap (slice_
 pub unwritten : (vecs : List (Vec Grant Global)) (a : ℕ) (own : Vec Grant Global) → own.items ≡ get_or (lists_of vecs) a [] → lists_of (slice_set vecs a own) ≡ lists_of vecs
 unwritten vecs a own is = written vecs a own _ is ∙ set-get_or (lists_of vecs) a []
 
+-- no grants of nobody
+pub counted_none : (actors : ℕ) → sum_by length (replicate actors (let none : List Grant = [] in none)) ≡ 0
+counted_none actors = omega (arith, sum_by-replicate length actors (let none : List Grant = [] in none))
+
+-- a grant that is put last in one list is one more
+pub one_more : (lists : List (List Grant)) (a : ℕ) (grant : Grant) → a < length lists → sum_by length (slice_set lists a (get_or lists a [] ++ grant ∷ [])) ≡ sum_by length lists + 1
+one_more lists a grant within = omega (arith, sum_by-set length lists a (get_or lists a [] ++ grant ∷ []) [] within, length-append (get_or lists a []) (grant ∷ []))
+
 pub counted_more : (lists : List (List Grant)) (given a : ℕ) (grant : Grant) → IsCounted lists given → a < length lists → given < 4096 → IsCounted (slice_set lists a (get_or lists a [] ++ grant ∷ [])) (given + 1)
 counted_more lists given a grant counted within few = record {
-  all = omega (arith, counted.all, sum_by-set length lists a (get_or lists a [] ++ grant ∷ []) [] within, length-append (get_or lists a []) (grant ∷ []));
+  all = omega (arith, counted.all, one_more lists a grant within);
   few = omega arith;
 }
 

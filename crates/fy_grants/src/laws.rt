@@ -1,11 +1,11 @@
 //! Laws of what a book holds after a change and of the least process, for the crates above.
-ghost use Rattle.std.specs.Prelude.{◌≡◌, ◌↔◌, ◌<◌, ◌==◌, ◌++◌, ◌∷◌, ℕ, Bool, true, Option, [], length, remove, if◌then◌else◌};
+ghost use Rattle.std.specs.Prelude.{◌≡◌, ◌↔◌, ◌<◌, ◌==◌, ◌+◌, ◌++◌, ◌∷◌, ℕ, Bool, true, Option, [], length, remove, if◌then◌else◌};
 ghost use Rattle.std.specs.Option.{option_map};
 ghost use Rattle.fy_locality.specs.declared.ProcId.{ProcId};
 ghost use Rattle.fy_kinds.specs.declared.kind_set.KindSet.{KindSet};
 ghost use Rattle.fy_grants.specs.declared.grant.Grant.{Grant};
 ghost use Rattle.fy_grants.specs.Least.{LeastWith, least_with};
-ghost use Rattle.fy_grants.specs.Rights.{Rights, grants_of, protections_of, with_grant, without_grant, with_protection};
+ghost use Rattle.fy_grants.specs.Rights.{Rights, grants_of, protections_of, grant_count, no_rights, with_grant, without_grant, with_protection};
 
 /// A grant goes to its actor's list alone.
 pub fn grants_after_give()
@@ -17,6 +17,12 @@ pub fn grants_after_give()
 pub fn grants_after_take()
     ensures lists { (rights : Rights) (actor index a : ℕ) → actor < length rights.grants → grants_of (without_grant rights actor index) a ≡ (if actor == a then remove (grants_of rights a) index else grants_of rights a) }
     ensures actors { (rights : Rights) (actor index : ℕ) → length (without_grant rights actor index).grants ≡ length rights.grants }
+{}
+
+/// There is no grant at first, and a grant that is given is one more.
+pub fn grants_are_counted()
+    ensures none { (actors processes : ℕ) → grant_count (no_rights actors processes) ≡ 0 }
+    ensures given { (rights : Rights) (grant : Grant) → grant.actor < length rights.grants → grant_count (with_grant rights grant) ≡ grant_count rights + 1 }
 {}
 
 /// A change of one process leaves the protections of the others.

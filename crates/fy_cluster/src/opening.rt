@@ -1,0 +1,116 @@
+//! A machine before anything happened.
+ghost use Rattle.std.specs.Prelude.{◌≡◌, ◌≤◌, ◌<◌, ◌+◌, ◌++◌, ◌==◌, ◌&&◌, ◌||◌, ℕ, [], length, filter, replicate, IfOk, OnOk};
+ghost use Rattle.std.specs.List.{All, list_any};
+ghost use Rattle.fy_kinds.specs.Kinds.{Deed, has};
+ghost use Rattle.fy_grants.specs.Rights.{grants_of, protections_of, grant_count};
+ghost use Rattle.fy_decide.specs.DeadBook.{IsFresh};
+ghost use Rattle.fy_net.specs.Net.{quiet};
+ghost use Rattle.fy_cluster.specs.Standing.{Stands, KeepsRights, blank_disk};
+
+use crate::machine::Machine;
+use crate::{Config, Protection};
+use fy_decide::{DeadBook, MakeFault};
+use fy_disk::Disk;
+use fy_grants::{Book, BookFault, Grant};
+use fy_net::Net;
+use fy_team::Teams;
+use std::alloc::{AllocError, Global};
+
+/// Nobody is destroyed, and everyone is left.
+fn nobody_destroyed(alloc: Global, config: &Config) -> Result<DeadBook, AllocError>
+    ensures { IfOk result (IsFresh config.now.processes config.now.policies) }
+{
+    fy_policy::laws::test_is_satisfaction();
+    config.is_setup();
+    match DeadBook::make(alloc, config.map(), config.policies()) {
+        Ok(dead) => Ok(dead),
+        // All processes together satisfy each policy of a configuration.
+        Err(MakeFault::Unmet { .. }) => unreachable!(),
+        Err(MakeFault::NoMemory) => Err(AllocError),
+    }
+}
+
+/// Gives one grant after another.
+fn give_all(book: &mut Book, grants: &[Grant]) -> Result<(), AllocError>
+    requires actors { All (λ grant. grant.actor < length book.old.grants) grants.now }
+    requires few { grant_count book.old + length grants.now ≤ 4096 }
+    ensures given { OnOk result ((a : ℕ) → grants_of book.new a ≡ grants_of book.old a ++ filter (λ grant. grant.actor == a) grants.now) }
+    ensures actors { length book.new.grants ≡ length book.old.grants }
+    ensures protections { book.new.protections ≡ book.old.protections }
+{
+    fy_grants::laws::grants_after_give();
+    fy_grants::laws::grants_are_counted();
+    for grant in grants {
+        match book.give(*grant) {
+            Ok(()) => {}
+            Err(BookFault::NoMemory) => return Err(AllocError),
+            Err(_) => unreachable!(),
+        }
+    }
+    Ok(())
+}
+
+/// Adds one protection after another.
+fn protect_all(book: &mut Book, protections: &[Protection])
+    requires { All (λ it. it.process.0 < length book.old.protections) protections.now }
+    ensures kinds { (p : ℕ) (deed : Deed) → has (protections_of book.new p) deed ≡ (list_any (λ it. it.process.0 == p && has it.kinds deed) protections.now || has (protections_of book.old p) deed) }
+    ensures processes { length book.new.protections ≡ length book.old.protections }
+    ensures grants { book.new.grants ≡ book.old.grants }
+{
+    fy_grants::laws::protections_after_change();
+    fy_kinds::laws::members_together();
+    for protection in protections {
+        book.protect(protection.process, protection.kinds);
+    }
+}
+
+/// The first grants and protections.
+fn first_rights(alloc: Global, config: &Config) -> Result<Book, AllocError>
+    ensures { IfOk result (KeepsRights config.now []) }
+{
+    fy_grants::laws::grants_are_counted();
+    config.is_setup();
+    let mut book = Book::make(alloc, config.actors(), config.map().len())?;
+    give_all(&mut book, config.grants())?;
+    protect_all(&mut book, config.protections());
+    Ok(book)
+}
+
+/// An empty disk for each process.
+fn blank_disks(alloc: Global, processes: u32) -> Result<Vec<Disk>, AllocError>
+    ensures { IfOk result (λ disks. disks.items ≡ replicate processes blank_disk) }
+{
+    let mut disks = Vec::new(alloc);
+    for _process in 0..processes {
+        disks.push(Disk::make(alloc))?;
+    }
+    Ok(disks)
+}
+
+/// A network in which nothing was sent.
+fn quiet_net(alloc: Global, processes: u32) -> Result<Net, AllocError>
+    ensures { IfOk result (λ net. net ≡ quiet processes) }
+{
+    match Net::make(alloc, processes) {
+        Ok(net) => Ok(net),
+        Err(_) => Err(AllocError),
+    }
+}
+
+impl Machine {
+    /// The machine of a cluster before anything happened: nobody is destroyed, everyone is up, disks are empty, and nothing
+    /// was sent.
+    pub(crate) fn make(alloc: Global, config: &Config) -> Result<Machine, AllocError>
+        ensures { IfOk result (Stands config.now []) }
+    {
+        let processes = config.map().len();
+        Ok(Machine {
+            dead: nobody_destroyed(alloc, config)?,
+            book: first_rights(alloc, config)?,
+            disks: blank_disks(alloc, processes)?,
+            up: config.map().everyone(),
+            net: quiet_net(alloc, processes)?,
+            teams: Teams::make(alloc),
+        })
+    }
+}
