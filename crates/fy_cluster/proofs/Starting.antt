@@ -1,19 +1,17 @@
 -- a machine before anything happened keeps the empty history
-use Rattle.std.proofs.Common.{◌==◌, ◌≡◌, ℕ, ◌+◌, ◌<◌, ◌≤◌, Bool, true, false, ◌&&◌, ◌||◌, not, List, [], ◌∷◌, ◌++◌, length, take, replicate, slice_get, Option, Some, None, refl, sym, ◌∙◌, ap, ap₂, nat_lt, get_or, arith, append-nil, append_assoc, eqb-true, filter, if◌then◌else◌}
+use Rattle.std.proofs.Common.{◌==◌, ◌≡◌, ℕ, ◌+◌, ◌<◌, ◌≤◌, Bool, true, false, ◌&&◌, ◌||◌, not, List, [], ◌∷◌, ◌++◌, length, take, replicate, slice_get, Some, None, refl, sym, ◌∙◌, ap, nat_lt, get_or, arith, append-nil, append_assoc, filter, if◌then◌else◌}
 use Rattle.std.proofs.lemmas.Bool.Decides.{nat_tests}
-use Rattle.std.proofs.lemmas.List.{length-replicate, get_or-replicate, take_more}
+use Rattle.std.proofs.lemmas.List.{length-replicate, get_or-replicate}
 use Rattle.std.proofs.lemmas.List.Elements.{filter_more}
-use Rattle.std.proofs.lemmas.List.Folds.{list_any-append}
 use Rattle.std.proofs.lemmas.Option.{slice_get-get_or}
 use Rattle.std.proofs.lemmas.Iterator.Adapters.{position_from-zero}
 use Rattle.std.specs.List.{list_any, position_from, AllByRecursion}
 use Rattle.fy_locality.specs.declared.locality.Locality.{Locality}
 use Rattle.fy_policy.specs.Tree.{Tree, IsPolicy}
 use Rattle.fy_policy.specs.Sat.{Sat, satisfies}
-use Rattle.fy_kinds.specs.declared.kind_set.KindSet.{KindSet}
-use Rattle.fy_kinds.specs.Kinds.{Deed, has, with_all}
+use Rattle.fy_kinds.specs.Kinds.{Deed, has}
 use Rattle.fy_grants.specs.declared.grant.Grant.{Grant}
-use Rattle.fy_grants.specs.Rights.{Rights, grants_of, protections_of, grant_count, with_grant, with_protection}
+use Rattle.fy_grants.specs.Rights.{Rights, grants_of, protections_of, grant_count, with_grant}
 use Rattle.fy_decide.specs.Losses.{everyone, first_unmet}
 use Rattle.std.specs.FinSet as sets
 use Rattle.std.specs.Ordering.{nat_cmp}
@@ -24,7 +22,7 @@ use Rattle.fy_team.specs.Teams.{nobody}
 use Rattle.fy_cluster.specs.declared.machine.Machine.{Machine}
 use Rattle.fy_cluster.specs.declared.config.Protection.{Protection}
 use Rattle.fy_cluster.specs.Setup.{Setup, IsMet, IsSetup}
-use Rattle.fy_cluster.proofs.Grants.{GivesLists, ChangesOne, KeepsCount}
+use Rattle.fy_cluster.proofs.Grants.{GivesLists}
 use Rattle.fy_cluster.proofs.Records.{Tested}
 use Rattle.fy_audit.specs.declared.entry.Entry.{Entry}
 use Rattle.fy_cluster.specs.Standing.{Stands, KeepsRights, blank_disk, IsKept}

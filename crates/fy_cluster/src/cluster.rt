@@ -1,13 +1,13 @@
 //! A cluster: it replies to acts, and keeps them all in its journal.
-ghost use Rattle.std.specs.Prelude.{◌≡◌, ◌↔◌, ◌<◌, ◌≤◌, ℕ, length, take, IfOk, IsTrue, OnOk, OnErr, Err};
+ghost use Rattle.std.specs.Prelude.{◌≡◌, ◌↔◌, ◌<◌, ◌≤◌, ℕ, length, take, IfOk, IfErr, IsTrue, OnOk, OnErr, Err};
 ghost use Rattle.std.specs.FinSet as sets;
 ghost use Rattle.fy_cluster.specs.History.{destroyed, history};
 ghost use Rattle.fy_cluster.specs.declared.fault.Fault.TheVariants.{JournalFull};
-ghost use Rattle.fy_cluster.specs.Replies.{Legal};
-ghost use Rattle.fy_cluster.specs.Standing.{opened, replied, entered, after_acts};
+ghost use Rattle.fy_cluster.specs.Survival.{Survives};
+ghost use Rattle.fy_cluster.specs.Standing.{opened, replied, entered, after_acts, StopsAt};
 
 use crate::machine::Machine;
-use crate::{Config, Fault};
+use crate::{Config, Fault, laws};
 use fy_audit::{Act, Journal, Reply};
 use fy_locality::ProcSet;
 use std::alloc::{AllocError, Global};
@@ -78,8 +78,9 @@ impl Cluster {
         ensures replied { IfOk result (λ reply. reply ≡ replied self.old by act) }
         ensures entered { OnOk result (self.new ≡ entered self.old by act) }
         ensures err { OnErr result (self.new ≡ self.old) }
-        ensures legal { Legal self.new.setup self.new.journal }
+        ensures survives { Survives self.new.setup self.new.journal }
     {
+        laws::journals_survive();
         if self.journal.len() >= self.config.journal_limit() as usize {
             return Err(Fault::JournalFull);
         }
@@ -87,18 +88,21 @@ impl Cluster {
             .enter(&mut self.journal, self.alloc, &self.config, by, act)
     }
 
-    /// Applies acts one after another, each by the actor beside it, and stops at the first fault. The entries before it
-    /// stand.
+    /// Applies acts one after another, each by the actor beside it, and stops at the first fault. What was entered before
+    /// it stands.
     ///
     /// # Errors
-    /// The first fault.
+    /// At an act, in this order: `JournalFull` where the journal has as many entries as it may have; `NoMemory`.
     pub fn run(&mut self, acts: &[(u32, Act)]) -> Result<(), Fault>
         ensures ran { OnOk result (self.new ≡ after_acts self.old acts.now) }
-        ensures err { OnErr result ((n : ℕ) × (n < length acts.now) × (self.new ≡ after_acts self.old (take n acts.now))) }
-        ensures legal { Legal self.new.setup self.new.journal }
+        ensures stopped { IfErr result (λ fault. StopsAt self.old acts.now fault self.new) }
+        ensures survives { Survives self.new.setup self.new.journal }
     {
-        let _machine = &self.machine;
+        self.survives();
         for (by, act) in acts {
+            if self.is_full() {
+                return Err(Fault::JournalFull);
+            }
             let act = act.try_copy(self.alloc)?;
             self.apply(*by, act)?;
         }
@@ -108,8 +112,9 @@ impl Cluster {
     /// All that was asked and replied.
     pub fn journal(&self) -> &Journal
         ensures journal { result.now.entries ≡ self.now.journal }
-        ensures legal { Legal self.now.setup self.now.journal }
+        ensures survives { Survives self.now.setup self.now.journal }
     {
+        self.survives();
         &self.journal
     }
 
@@ -125,5 +130,14 @@ impl Cluster {
         ensures { IsTrue result ↔ (self.now.setup.limit ≤ length self.now.journal) }
     {
         self.journal.len() >= self.config.journal_limit() as usize
+    }
+
+    /// Whatever was asked so far, every acknowledged record keeps a synced copy on an undestroyed member, and all else that
+    /// legal journals keep.
+    pub fn survives(&self)
+        ensures { Survives self.now.setup self.now.journal }
+    {
+        laws::journals_survive();
+        let _machine = &self.machine;
     }
 }

@@ -1,5 +1,4 @@
-use Rattle.std.proofs.Common.{sym, ap, subst, arith}
-use Rattle.fy_cluster.specs.Standing.{IsKept}
+use Rattle.std.proofs.Common.{ap}
 use Rattle.fy_cluster.proofs.Starting.{kept_at_start}
 use Rattle.fy_cluster.proofs.cluster.Cluster.make.Goals as goal
 
