@@ -1,5 +1,5 @@
 -- what a machine keeps of a history: one equation for each of its parts
-use Rattle.std.specs.Prelude.{◌≡◌, ◌↔◌, ℕ, ◌+◌, ◌*◌, ◌<◌, ◌≤◌, false, not, nat_lt, List, [], ◌∷◌, ◌++◌, length, map, filter, take, slice_get, slice_index, Some, Result, Ok, Err}
+use Rattle.std.specs.Prelude.{◌≡◌, ℕ, ◌+◌, ◌*◌, ◌<◌, ◌≤◌, false, not, nat_lt, List, [], ◌∷◌, ◌++◌, length, map, filter, slice_get, slice_index, Some, Result, Ok, Err}
 use Rattle.std.specs.List.{list_any}
 use Rattle.std.specs.Ordering.{nat_cmp}
 use Rattle.std.specs.FinSet as sets
@@ -26,7 +26,7 @@ use Rattle.fy_audit.specs.declared.entry.Entry.{Entry}
 use Rattle.fy_grants.specs.declared.book.BookFault.{BookFault}
 use Rattle.fy_grants.specs.declared.book.BookFault.TheVariants.{NoActor, NoSuch, Full, NoMemory as BookNoMemory}
 use Rattle.fy_cluster.specs.declared.fault.Fault.{Fault}
-use Rattle.fy_cluster.specs.declared.fault.Fault.TheVariants.{JournalFull, NoMemory}
+use Rattle.fy_cluster.specs.declared.fault.Fault.TheVariants.{NoMemory}
 use Rattle.fy_cluster.specs.declared.machine.Machine.{Machine}
 use Rattle.fy_cluster.specs.Setup.{Setup, IsSetup}
 use Rattle.fy_cluster.specs.History.{History, Moment, Begun, destroyed, left, up, synced, unsynced, sent, takes_out, now, clogged_at, teams, records, marked, moment, history}
@@ -189,37 +189,6 @@ pub record IsLived (c : Setup) (h : History) : Type 0 where
   pub room : length journal < c.limit
 
 -- ---- the cluster
-
--- what a cluster is seen as: what it began with, and its journal
-pub record Course : Type 0 where
-  pub setup : Setup
-  pub journal : List Entry
-
--- the course before anything happened
-abbrev pub opened : Setup → Course
-opened c = record { setup = c; journal = [] }
-
--- the reply to an act
-abbrev pub replied : Course → ℕ → Act → Reply
-replied course by act = reply course.setup (history course.setup course.journal) by act
-
--- the course once the act is entered with its reply
-abbrev pub entered : Course → ℕ → Act → Course
-entered course by act = record course {
-  journal = course.journal ++ record { at = length course.journal; by = by; act = act; reply = replied course by act } ∷ [];
-}
-
--- the course once these acts are entered, one after another
-abbrev pub after_acts : Course → List (ℕ × Act) → Course
-after_acts course [] = course
-after_acts course (asked ∷ rest) = after_acts (entered course asked.0 asked.1) rest
-
--- acts that stopped at a fault: those before some place are entered, and the fault is a full journal exactly where it is full
-pub record StopsAt (before : Course) (acts : List (ℕ × Act)) (fault : Fault) (now : Course) : Type 0 where
-  pub place : ℕ
-  pub within : place < length acts
-  pub same : now ≡ after_acts before (take place acts)
-  pub full : (fault ≡ JournalFull) ↔ (now.setup.limit ≤ length now.journal)
 
 -- the journal is legal, and the machine keeps its history
 pub record IsKept (c : Setup) (journal : List Entry) (m : Machine) : Type 0 where

@@ -4,7 +4,7 @@ ghost use Rattle.std.specs.FinSet as sets;
 ghost use Rattle.fy_cluster.specs.History.{destroyed, history};
 ghost use Rattle.fy_cluster.specs.declared.fault.Fault.TheVariants.{JournalFull};
 ghost use Rattle.fy_cluster.specs.Survival.{Survives};
-ghost use Rattle.fy_cluster.specs.Standing.{opened, replied, entered, after_acts, StopsAt};
+ghost use Rattle.fy_cluster.specs.Course.{opened, replied, entered, after_acts, StopsAt};
 
 use crate::machine::Machine;
 use crate::{Config, Fault, laws};
@@ -26,7 +26,8 @@ impl Model for Cluster {
     ghost use Rattle.std.specs.Coded.{codes};
     ghost use Rattle.fy_locality.specs.contracts.locality.Locality as e;
     ghost use Rattle.fy_policy.specs.Tree.{tree_code};
-    ghost use Rattle.fy_cluster.specs.Standing.{Course, IsKept};
+    ghost use Rattle.fy_cluster.specs.Course.{Course};
+    ghost use Rattle.fy_cluster.specs.Standing.{IsKept};
 
     ghost Value = { Course };
 

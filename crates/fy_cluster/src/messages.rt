@@ -1,6 +1,6 @@
 //! Messages are delivered and lost, and processes sync.
-ghost use Rattle.std.specs.Prelude.{◌≡◌, ◌≤◌, ◌<◌, ◌+◌, ◌++◌, Some, map, length, slice_set, slice_index_or, OnOk, OnErr, IfErr};
-ghost use Rattle.fy_net.specs.Net.{body_of};
+ghost use Rattle.std.specs.Prelude.{◌≡◌, ◌≤◌, ◌<◌, ◌+◌, ◌++◌, Some, None, map, length, slice_set, slice_index_or, OnOk, OnErr, IfErr};
+ghost use Rattle.fy_net.specs.Net.{body_of, take_refusal, left_by};
 ghost use Rattle.fy_net.specs.declared.message.Body.TheVariants.{Store, Synced};
 ghost use Rattle.fy_audit.specs.declared.act.Act.TheVariants.{Deliver, Lose, Sync};
 ghost use Rattle.fy_cluster.specs.Standing.{Turn, Stands, Follows, Comes, IsLived, numbered, no_room, written, blank_disk};
@@ -43,6 +43,14 @@ fn send_words(net: &mut Net, disk: &Disk, process: ProcId)
         let rec = item.rec;
         let _number = net.send(Body::Synced { rec, from: process });
     }
+}
+
+/// Takes a message out of the network. It is in flight and its process isn't clogged, so this can't be refused.
+fn take_out(net: &mut Net, message: u64)
+    requires { take_refusal net.old message ≡ None }
+    ensures { net.new ≡ left_by message net.old }
+{
+    let _ = net.take(message);
 }
 
 /// Writes an item to the disk of a process, or leaves all disks as they were where there is no memory.
@@ -94,8 +102,7 @@ impl Machine {
         };
         let payload = payload.try_copy(alloc)?;
         write_to(&mut self.disks, to, Item { rec, payload })?;
-        // It is in flight and not clogged, so this can't be refused.
-        let _ = self.net.take(message);
+        take_out(&mut self.net, message);
         Ok(Reply::Stored)
     }
 
@@ -113,8 +120,7 @@ impl Machine {
         if self.net.clogged(from) {
             return Reply::No(Refusal::Clogged);
         }
-        // It is in flight and not clogged, so this can't be refused.
-        let _ = self.net.take(message);
+        take_out(&mut self.net, message);
         let acked = self.teams.mark(rec, from);
         Reply::Marked { acked }
     }
