@@ -1,5 +1,5 @@
 -- a record is sent once more
-use Rattle.std.proofs.Common.{◌≡◌, ℕ, ◌+◌, ◌<◌, List, [], ◌∷◌, ◌++◌, Bool, true, false, ◌&&◌, not, Option, Some, None, option_map, refl, sym, ◌∙◌, ap, ap₂, nat_lt, nat_le, length, map, arith, slice_get, if◌then◌else◌, append-nil}
+use Rattle.std.proofs.Common.{◌≡◌, ℕ, ◌+◌, ◌<◌, List, [], ◌∷◌, ◌++◌, Bool, true, false, ◌&&◌, not, Option, Some, None, option_map, refl, sym, ◌∙◌, ap, ap₂, nat_lt, nat_le, length, arith, slice_get, if◌then◌else◌, append-nil}
 use Rattle.std.proofs.lemmas.Bool.Decides.{nat_tests}
 use Rattle.std.proofs.lemmas.List.Elements.{All-contains}
 use Rattle.std.specs.List.{list_all}
@@ -30,8 +30,8 @@ use Rattle.fy_audit.specs.declared.reply.Refusal.TheVariants.{NoTeam, Payload, T
 use Rattle.fy_team.specs.declared.fault.TeamFault.{TeamFault}
 use Rattle.fy_team.specs.declared.fault.TeamFault.TheVariants.{NoTeam as NoTeamThere, Payload as LongPayload, TooMany as TooManyThere}
 use Rattle.fy_team.specs.Teams.{begin_refusal, begun_for, is_marked}
-use Rattle.fy_cluster.specs.History.{members_of}
-use Rattle.fy_cluster.specs.Standing.{replied_to_team, numbered}
+use Rattle.fy_cluster.specs.History.{members_of, stores_of}
+use Rattle.fy_cluster.specs.Standing.{replied_to_team, numbered, Sends}
 use Rattle.fy_cluster.proofs.Sending.{map-push}
 use Rattle.std.specs.List.{All}
 use Rattle.std.proofs.Common.{subst}
@@ -211,20 +211,20 @@ pub begins_now : ((roster : Roster) (team : ℕ) (payload : List ℕ) (r q : ℕ
     → (turn : Turn) (team : ℕ) (payload : List ℕ) (members : List ProcId) (machine : Machine) (room net : Traffic) (roster : Roster) (rec first n : ℕ) → Stands turn.setup turn.before machine
     → Fits turn.before team payload → members_of turn.before team ≡ members → n ≡ length members → reserve_refusal machine.net n ≡ None → room ≡ record machine.net { room = room.room }
     → rec ≡ length machine.teams.records → roster ≡ begun_for team payload machine.teams → first ≡ room.sent
-    → net.in_flight ≡ room.in_flight ++ numbered room.sent (map (λ p. Store rec p) members) → net.sent ≡ room.sent + length members → net.clock ≡ room.clock → net.until ≡ room.until
+    → Sends room (stores_of rec members) net
     → Follows turn (Begin team payload) (BegunAs rec first) (record machine { net = net; teams = roster })
-begins_now unmarked turn team payload members machine room net roster rec first n k f is count clear reserved rec_is begun first_is flight sum clock until = rw (record_is_next, number_is) (record {
+begins_now unmarked turn team payload members machine room net roster rec first n k f is count clear reserved rec_is begun first_is sends = rw (record_is_next, number_is) (record {
   right = sym (begin_reply c h turn.by team payload false false false false f.there f.small f.few (ap (λ ps. is_full h (length ps)) is ∙ ap (is_full h) (sym count) ∙ (room_for c h machine.net n k.net clear).0));
   stands = record {
     dead = dead_still c m h machine.dead (λ q. refl) k.dead;
     rights = rights_still c m h machine.book refl refl refl refl k.rights;
     disks = disks_still c m h machine.disks.items (λ q. refl) refl (λ q. refl) k.disks;
     up = up_still c m h machine.up (λ q. refl) refl k.up;
-    net = net_sent c m h machine.net net (map (λ p. Store rec p) members) (ap₂ (λ (r : ℕ) (ps : List ProcId). map (λ p. Store r p) ps) (sym record_is_next) is) (let few = (room_for c h machine.net n k.net clear).1 in let s = stores in omega arith) (λ j. refl) refl refl refl
-        (flight ∙ ap (λ (r : Traffic). r.in_flight ++ numbered r.sent (map (λ p. Store rec p) members)) reserved)
-        (sum ∙ ap₂ (λ a b. a + b) (ap (λ (r : Traffic). r.sent) reserved) (sym stores))
-        (clock ∙ ap (λ (r : Traffic). r.clock) reserved)
-        (until ∙ ap (λ (r : Traffic). r.until) reserved)
+    net = net_sent c m h machine.net net (stores_of rec members) (ap₂ stores_of (sym record_is_next) is) (let few = (room_for c h machine.net n k.net clear).1 in let s = stores in omega arith) (λ j. refl) refl refl refl
+        sent_now.in_flight
+        sent_now.count
+        sent_now.clock
+        sent_now.until
         k.net;
     teams = rw begun (record {
       teams = k.teams.teams ∙ sym (append-nil (teams h));
@@ -249,7 +249,10 @@ begins_now unmarked turn team payload members machine room net roster rec first 
     number_is : first ≡ length (sent turn.before)
     number_is = first_is ∙ ap (λ (r : Traffic). r.sent) reserved ∙ k.net.sent_so_far
 
-    stores : length (map (λ (p : ProcId). Store rec p) members) ≡ length members
+    sent_now : Sends (record machine.net { room = room.room }) (stores_of rec members) net
+    sent_now = subst (λ r. Sends r (stores_of rec members) net) reserved sends
+
+    stores : length (stores_of rec members) ≡ length members
     stores = length-map members (λ (p : ProcId). Store rec p)
 
 -- the same members, by another count of the same processes

@@ -5,7 +5,7 @@ use Rattle.std.proofs.lemmas.List.{length-replicate, get_or-replicate}
 use Rattle.std.proofs.lemmas.List.Elements.{filter_more}
 use Rattle.std.proofs.lemmas.Option.{slice_get-get_or}
 use Rattle.std.proofs.lemmas.Iterator.Adapters.{position_from-zero}
-use Rattle.std.specs.List.{list_any, position_from, AllByRecursion}
+use Rattle.std.specs.List.{position_from, AllByRecursion}
 use Rattle.fy_locality.specs.declared.locality.Locality.{Locality}
 use Rattle.fy_policy.specs.Tree.{Tree, IsPolicy}
 use Rattle.fy_policy.specs.Sat.{Sat, satisfies}
@@ -22,6 +22,7 @@ use Rattle.fy_team.specs.Teams.{nobody}
 use Rattle.fy_cluster.specs.declared.machine.Machine.{Machine}
 use Rattle.fy_cluster.specs.declared.config.Protection.{Protection}
 use Rattle.fy_cluster.specs.Setup.{Setup, IsMet, IsSetup}
+use Rattle.fy_cluster.specs.Rules.{grants_to, some_protects}
 use Rattle.fy_cluster.proofs.Grants.{GivesLists}
 use Rattle.fy_cluster.proofs.Records.{Tested}
 use Rattle.fy_audit.specs.declared.entry.Entry.{Entry}
@@ -81,7 +82,7 @@ pub record GivenUpTo (old new : Rights) (grants : List Grant) (i : ℕ) : Type 0
   pub actors : length new.grants ≡ length old.grants
   pub protections : new.protections ≡ old.protections
   pub count : grant_count new ≡ grant_count old + i
-  pub lists : (a : ℕ) → grants_of new a ≡ grants_of old a ++ filter (λ grant. grant.actor == a) (take i grants)
+  pub lists : (a : ℕ) → grants_of new a ≡ grants_of old a ++ grants_to a (take i grants)
 
 pub given_next : GivesLists → ((rights : Rights) (grant : Grant) → length (with_grant rights grant).grants ≡ length rights.grants)
     → ((rights : Rights) (grant : Grant) → grant.actor < length rights.grants → grant_count (with_grant rights grant) ≡ grant_count rights + 1)
@@ -115,7 +116,7 @@ given_next lists actors counted old new next grants i grant within is known give
 pub record ProtectedUpTo (old new : Rights) (protections : List Protection) (i : ℕ) : Type 0 where
   pub processes : length new.protections ≡ length old.protections
   pub grants : new.grants ≡ old.grants
-  pub kinds : (p : ℕ) (deed : Deed) → has (protections_of new p) deed ≡ (list_any (λ it. it.process.0 == p && has it.kinds deed) (take i protections) || has (protections_of old p) deed)
+  pub kinds : (p : ℕ) (deed : Deed) → has (protections_of new p) deed ≡ (some_protects (take i protections) p deed || has (protections_of old p) deed)
 
 -- ---- the cluster
 

@@ -83,6 +83,14 @@ abbrev pub numbered : ℕ → List Body → List Message
 numbered k [] = []
 numbered k (b ∷ bodies) = record { number = k; body = b } ∷ numbered (k + 1) bodies
 
+-- these bodies were sent one after another since the network was so, each by a place of its room
+pub record Sends (before : Traffic) (bodies : List Body) (net : Traffic) : Type 0 where
+  pub in_flight : net.in_flight ≡ before.in_flight ++ numbered before.sent bodies
+  pub count : net.sent ≡ before.sent + length bodies
+  pub clock : net.clock ≡ before.clock
+  pub until : net.until ≡ before.until
+  pub room : net.room + length bodies ≡ before.room
+
 -- the messages in flight, each with its number
 abbrev pub flying : History → List Message
 flying h = filter (λ x. not (list_any (takes_out x.number) h)) (numbered 0 (sent h))
