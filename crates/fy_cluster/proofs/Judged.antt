@@ -1,6 +1,6 @@
 -- orders and clogs are answered from the books, and what they do
 use Rattle.std.proofs.Common.{◌==◌, ◌≡◌, ℕ, ◌+◌, ◌^◌, ◌<◌, ◌≤◌, min, max, List, [], ◌∷◌, ◌++◌, Bool, true, false, ◌&&◌, ◌||◌, not, Option, Some, None, is_none, refl, sym, ◌∙◌, ap, ap₂, nat_lt, length, arith, get_or, slice_get, slice_index, append-nil, if◌then◌else◌}
-use Rattle.std.proofs.lemmas.Bool.{or_from}
+use Rattle.std.proofs.lemmas.Bool.{or_from, and_parts}
 use Rattle.std.proofs.lemmas.Bool.Decides.{nat_tests}
 use Rattle.std.proofs.lemmas.Option.{slice_get-get_or}
 use Rattle.std.specs.Option.{option_map_or}
@@ -46,6 +46,14 @@ situation_same c h m k by = λ i. record {
 
 targets_same : (c : Setup) (h : History) (m : Machine) → Stands c h m → (target : Target) → targets m.dead.processes (sets.contains m.dead.left) target ≡ targets c.processes (left c h) target
 targets_same c h m k target = λ i. targets (k.dead.processes i) (λ p. k.dead.left p i) target
+
+-- targets are processes
+pub targets_below : (c : Setup) (h : History) (m : Machine) → Stands c h m → (target : Target) (set : sets.FinSet nat_cmp) → ((p : ℕ) → sets.contains set p ≡ targets m.dead.processes (sets.contains m.dead.left) target p)
+    → (p : ℕ) → sets.contains set p ≡ true → p < length c.processes
+targets_below c h m k target set who p member =
+    let is_left : left c h p ≡ true = sym (k.dead.left p) ∙ (and_parts (sets.contains m.dead.left p) _ (sym (who p) ∙ member)).0 in
+    let below : nat_lt p (length c.processes) ≡ true = (and_parts _ (not (gone h p)) is_left).0 in
+    grind (arith, nat_tests)
 
 bar_same : (c : Setup) (h : History) (m : Machine) → Stands c h m → (by actor : ℕ) → by ≡ actor → (target : Target)
     → bar (situation_of m.dead m.book by) Clogging (targets m.dead.processes (sets.contains m.dead.left) target) ≡ bar (situation c h actor) Clogging (targets c.processes (left c h) target)

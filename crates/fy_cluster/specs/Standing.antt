@@ -1,5 +1,5 @@
 -- what a machine keeps of a history: one equation for each of its parts
-use Rattle.std.specs.Prelude.{◌≡◌, ℕ, ◌+◌, ◌*◌, ◌<◌, ◌≤◌, false, not, nat_lt, List, [], ◌∷◌, ◌++◌, length, map, filter, slice_get, slice_index, Some, Result, Ok, Err}
+use Rattle.std.specs.Prelude.{◌≡◌, ℕ, ◌+◌, ◌*◌, ◌<◌, ◌≤◌, min, max, Bool, false, not, nat_lt, List, [], ◌∷◌, ◌++◌, length, map, filter, slice_get, slice_index, slice_index_or, Some, Result, Ok, Err, if◌then◌else◌}
 use Rattle.std.specs.List.{list_any}
 use Rattle.std.specs.Ordering.{nat_cmp}
 use Rattle.std.specs.FinSet as sets
@@ -14,7 +14,7 @@ use Rattle.fy_net.specs.declared.message.Body.{Body}
 use Rattle.fy_net.specs.declared.message.Message.{Message}
 use Rattle.fy_net.specs.declared.fault.NetFault.{NetFault}
 use Rattle.fy_net.specs.declared.fault.NetFault.TheVariants.{NetFull as NetNetFull, NoMessage as NetNoMessage, Clogged as NetClogged, ClockEnd as NetClockEnd, NoMemory as NetNoMemory}
-use Rattle.fy_net.specs.Net.{Traffic}
+use Rattle.fy_net.specs.Net.{Traffic, last_tick}
 use Rattle.fy_team.specs.declared.fault.TeamFault.{TeamFault}
 use Rattle.fy_team.specs.declared.fault.TeamFault.TheVariants.{TooMany as TeamTooMany, NoPolicy as TeamNoPolicy, NoProcess as TeamNoProcess, Gone as TeamGone, TeamShort as IsShort, NoTeam as TeamNoTeam, Payload as TeamPayload, NoMemory as TeamNoMemory}
 use Rattle.fy_team.specs.Teams.{Roster, Record, is_marked}
@@ -69,6 +69,11 @@ left_on Reboot tear disk = record { synced = disk.synced ++ survivors tear disk.
 left_on RebootAndDelete tear disk = blank_disk
 left_on KillInstantly tear disk = blank_disk
 
+-- the elements at the numbers of a set are changed, and no others; `blank` stands for one that isn't there
+pub record ChangesAt {X : Type 0} (set : ℕ → Bool) (change : X → X) (blank : X) (old new : List X) : Type 0 where
+  pub count : length new ≡ length old
+  pub each : (p : ℕ) → p < length old → let was = slice_index_or old p blank in slice_index_or new p blank ≡ (if set p then change was else was)
+
 -- a disk for each process
 pub record KeepsDisks (c : Setup) (h : History) (disks : List Stored) : Type 0 where
   pub count : length disks ≡ length c.processes
@@ -97,6 +102,19 @@ pub record KeepsNet (c : Setup) (h : History) (net : Traffic) : Type 0 where
   -- nothing was taken out before it was sent, and no entry sent more than may be in flight
   pub early : (n : ℕ) → length (sent h) ≤ n → list_any (takes_out n) h ≡ false
   pub few : length (sent h) ≤ 65536 * length h
+
+-- until when a process is clogged that was clogged until some time, once it is clogged for some ticks
+abbrev pub clog_end : ℕ → ℕ → ℕ → ℕ
+clog_end ticks time until = max until (min (time + ticks) last_tick)
+
+-- and once its clogs are ended
+abbrev pub unclog_end : ℕ → ℕ → ℕ
+unclog_end time until = min until time
+
+-- at the numbers of a set it changes, by the time, until when a process is clogged, and nothing else
+pub record ClogsChange (set : ℕ → Bool) (change : ℕ → ℕ → ℕ) (old new : Traffic) : Type 0 where
+  pub rest : new ≡ record old { until = new.until }
+  pub ends : ChangesAt set (change old.clock) 0 old.until new.until
 
 -- a record without its marks
 abbrev pub begun_of : Record → Begun

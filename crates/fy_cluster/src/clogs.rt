@@ -1,58 +1,33 @@
 //! Processes are clogged and unclogged.
-ghost use Rattle.std.specs.Prelude.{◌≡◌, ◌+◌, ◌<◌, ◌≤◌, ℕ, min, max, length, slice_index, if◌then◌else◌};
+ghost use Rattle.std.specs.Prelude.{◌≡◌, ◌<◌, ℕ, true, length};
 ghost use Rattle.std.specs.FinSet as sets;
-ghost use Rattle.fy_net.specs.Net.{clogged_for, unclogged, last_tick};
 ghost use Rattle.fy_audit.specs.declared.act.Act.TheVariants.{Clog, Unclog};
-ghost use Rattle.fy_cluster.specs.Standing.{Turn, Stands, Follows};
+ghost use Rattle.fy_cluster.specs.Standing.{Turn, Stands, Follows, ClogsChange, clog_end, unclog_end};
 
 use crate::machine::Machine;
 use fy_audit::Reply;
 use fy_decide::judge_clog;
 use fy_kinds::Target;
-use fy_locality::{Map, ProcId, ProcSet};
+use fy_locality::{Map, ProcSet};
 use fy_net::Net;
 
-/// Clogs a process if it is among the targets.
-fn clog_target(net: &mut Net, targets: &ProcSet, p: ProcId, ticks: u64)
-    requires { p.0 < length net.old.until }
-    ensures { net.new ≡ (if sets.contains targets.now p.0 then clogged_for p.0 ticks net.old else net.old) }
+/// Clogs each target for some ticks.
+fn clog_targets(net: &mut Net, targets: &ProcSet, ticks: u64)
+    requires { (p : ℕ) → sets.contains targets.now p ≡ true → p < length net.old.until }
+    ensures { ClogsChange (sets.contains targets.now) (clog_end ticks) net.old net.new }
 {
-    if targets.contains(p) {
+    for p in targets.iter() {
         net.clog(p, ticks);
     }
 }
 
-/// Clogs each target for some ticks.
-fn clog_targets(net: &mut Net, targets: &ProcSet, processes: u32, ticks: u64)
-    requires { processes ≡ length net.old.until }
-    ensures rest { net.new ≡ record net.old { until = net.new.until } }
-    ensures count { length net.new.until ≡ length net.old.until }
-    ensures each { (p : ℕ) → p < length net.old.until → slice_index net.new.until p ≡ (if sets.contains targets.now p then max (slice_index net.old.until p) (min (net.old.clock + ticks) last_tick) else slice_index net.old.until p) }
-{
-    for p in 0..processes {
-        clog_target(net, targets, ProcId(p), ticks);
-    }
-}
-
-/// Unclogs a process if it is among the targets.
-fn unclog_target(net: &mut Net, targets: &ProcSet, p: ProcId)
-    requires { p.0 < length net.old.until }
-    ensures { net.new ≡ (if sets.contains targets.now p.0 then unclogged p.0 net.old else net.old) }
-{
-    if targets.contains(p) {
-        net.unclog(p);
-    }
-}
-
 /// Ends the clog of each target.
-fn unclog_targets(net: &mut Net, targets: &ProcSet, processes: u32)
-    requires { processes ≡ length net.old.until }
-    ensures rest { net.new ≡ record net.old { until = net.new.until } }
-    ensures count { length net.new.until ≡ length net.old.until }
-    ensures each { (p : ℕ) → p < length net.old.until → slice_index net.new.until p ≡ (if sets.contains targets.now p then min (slice_index net.old.until p) net.old.clock else slice_index net.old.until p) }
+fn unclog_targets(net: &mut Net, targets: &ProcSet)
+    requires { (p : ℕ) → sets.contains targets.now p ≡ true → p < length net.old.until }
+    ensures { ClogsChange (sets.contains targets.now) unclog_end net.old net.new }
 {
-    for p in 0..processes {
-        unclog_target(net, targets, ProcId(p));
+    for p in targets.iter() {
+        net.unclog(p);
     }
 }
 
@@ -69,7 +44,7 @@ impl Machine {
             return Reply::Ruled { rule: Some(rule) };
         }
         let targets = self.dead.targets(map, target);
-        clog_targets(&mut self.net, &targets, map.len(), ticks);
+        clog_targets(&mut self.net, &targets, ticks);
         Reply::Ruled { rule: None }
     }
 
@@ -85,7 +60,7 @@ impl Machine {
             return Reply::Ruled { rule: Some(rule) };
         }
         let targets = self.dead.targets(map, target);
-        unclog_targets(&mut self.net, &targets, map.len());
+        unclog_targets(&mut self.net, &targets);
         Reply::Ruled { rule: None }
     }
 }

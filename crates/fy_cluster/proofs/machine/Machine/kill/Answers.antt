@@ -1,16 +1,21 @@
-use Rattle.std.proofs.Common.{◌∙◌, ap, refl, sym, subst, length, get_or, if◌then◌else◌}
+use Rattle.std.proofs.Common.{◌∙◌, ◌<◌, ap, refl, sym, subst, get_or, if◌then◌else◌}
 use Rattle.std.specs.FinSet as sets
 use Rattle.fy_decide.specs.Losses.{MayDestroy}
 use Rattle.fy_decide.specs.Verdicts.{targets, situation_of}
 use Rattle.fy_cluster.specs.Standing.{left_on, blank_disk}
-use Rattle.fy_cluster.proofs.Judged.{spares, strikes_now, chosen}
+use Rattle.fy_cluster.proofs.Judged.{targets_below, spares, strikes_now, chosen}
 use Rattle.fy_cluster.proofs.machine.Machine.kill.Goals as goal
 
 pub returns-in_default : goal.returns-in_default
 returns-in_default g c = spares g.turn c.args.order.now c.judge-verdict.result c.args.self.now c.requires.0 c.args.by c.requires.1.1 c.judge-verdict.ensures c.in_default.is
 
 pub strike_disks-requires : goal.strike_disks-requires
-strike_disks-requires g c = c.len.ensures.count ∙ ap length c.requires.1.0 ∙ sym c.requires.0.disks.count
+strike_disks-requires g c p member =
+    subst (λ n. p < n) (sym c.requires.0.disks.count)
+    (targets_below g.turn.setup g.turn.before c.args.self.now c.requires.0 c.args.order.now.target c.targets-targets.result
+    (λ q. c.targets-targets.ensures q ∙ ap (λ t. targets c.args.self.now.dead.processes (sets.contains c.args.self.now.dead.left) t q) c.target.ensures)
+    p
+    member)
 
 pub bury-requires : goal.bury-requires
 bury-requires g c loss brings =
