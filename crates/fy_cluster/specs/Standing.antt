@@ -7,7 +7,9 @@ use Rattle.fy_kinds.specs.declared.kind.Kind.{Kind}
 use Rattle.fy_kinds.specs.declared.kind.Kind.TheVariants.{RebootProcess, Reboot, RebootAndDelete, KillInstantly}
 use Rattle.fy_kinds.specs.Kinds.{Deed, has}
 use Rattle.fy_grants.specs.Rights.{Rights, grants_of, protections_of}
+use Rattle.fy_decide.specs.declared.dead_book.Loss.{Loss}
 use Rattle.fy_decide.specs.DeadBook.{Casualties}
+use Rattle.fy_decide.specs.Losses.{MayDestroy}
 use Rattle.fy_disk.specs.declared.item.Item.{Item}
 use Rattle.fy_disk.specs.Disk.{Stored, survivors}
 use Rattle.fy_net.specs.declared.message.Body.{Body}
@@ -42,6 +44,10 @@ pub record KeepsDead (c : Setup) (h : History) (book : Casualties) : Type 0 wher
   pub few : length c.processes ≤ 1024
   pub destroyed : (p : ℕ) → sets.contains book.destroyed p ≡ destroyed h p
   pub left : (p : ℕ) → sets.contains book.left p ≡ left c h p
+
+-- the policies bear the loss of a set, by the book
+abbrev pub MayLose : Casualties → (ℕ → Bool) → Loss → Type 0
+MayLose book set loss = MayDestroy book.processes book.policies (sets.contains book.destroyed) (sets.contains book.left) set loss
 
 -- the grants of each actor, and what each process is protected from
 pub record KeepsRights (c : Setup) (h : History) (rights : Rights) : Type 0 where

@@ -1,8 +1,7 @@
-use Rattle.std.proofs.Common.{◌∙◌, ◌<◌, ap, refl, sym, subst, get_or, if◌then◌else◌}
+use Rattle.std.proofs.Common.{◌∙◌, ◌<◌, ap, refl, sym, subst}
 use Rattle.std.specs.FinSet as sets
-use Rattle.fy_decide.specs.Losses.{MayDestroy}
 use Rattle.fy_decide.specs.Verdicts.{targets, situation_of}
-use Rattle.fy_cluster.specs.Standing.{left_on, blank_disk}
+use Rattle.fy_cluster.specs.Standing.{ChangesAt, MayLose, left_on, blank_disk}
 use Rattle.fy_cluster.proofs.Judged.{targets_below, spares, strikes_now, chosen}
 use Rattle.fy_cluster.proofs.machine.Machine.kill.Goals as goal
 
@@ -20,7 +19,7 @@ strike_disks-requires g c p member =
 pub bury-requires : goal.bury-requires
 bury-requires g c loss brings =
     let dead = c.args.self.now.dead in
-    subst (λ s. MayDestroy dead.processes dead.policies (sets.contains dead.destroyed) (sets.contains dead.left) s loss)
+    subst (λ s. MayLose dead s loss)
     (λ i p. sym (c.targets-targets.ensures p ∙ ap (λ t. targets dead.processes (sets.contains dead.left) t p) c.target.ensures) i)
     (c.struck_may_be_destroyed.ensures (situation_of dead c.args.self.now.book c.args.by) c.args.order.now c.in-Some.kind loss (chosen c.judge-verdict.ensures c.in-Some.is) brings)
 
@@ -32,9 +31,7 @@ returns g c =
     c.judge-verdict.ensures
     c.in-Some.is
     (λ p. c.targets-targets.ensures p ∙ ap (λ t. targets c.args.self.now.dead.processes (sets.contains c.args.self.now.dead.left) t p) c.target.ensures)
-    c.strike_disks.ensures.count
-    (λ p l. c.strike_disks.ensures.each p l
-    ∙ ap (λ t. if sets.contains c.targets-targets.result p then left_on c.in-Some.kind t (get_or c.args.self.now.disks.items p blank_disk) else get_or c.args.self.now.disks.items p blank_disk) c.tear.ensures)
+    (subst (λ t. ChangesAt (sets.contains c.targets-targets.result) (left_on c.in-Some.kind t) blank_disk c.args.self.now.disks.items c.strike_disks.new.disks.items) c.tear.ensures c.strike_disks.ensures)
     c.difference-self.ensures
     c.bury.ensures
     _
