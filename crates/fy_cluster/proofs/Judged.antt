@@ -27,7 +27,7 @@ use Rattle.fy_cluster.specs.Setup.{Setup}
 use Rattle.fy_cluster.specs.History.{History, Moment, some_is, strikes, destroys, is_killing, closes, syncs, writes, tear_of, destroyed, gone, left, up, synced, unsynced, sent, now, takes_out, clogs, unclogs, sends_of, targets_of, clogged_at}
 use Rattle.fy_cluster.specs.Rules.{situation}
 use Rattle.fy_cluster.specs.Replies.{refused, refusals, answer}
-use Rattle.fy_cluster.specs.Standing.{Stands, Turn, Follows, moment_of, following, KeepsDead, KeepsDisks, KeepsUp, ChangesAt, ClogsChange, clog_end, unclog_end, stored, left_on, blank_disk}
+use Rattle.fy_cluster.specs.Standing.{Stands, Turn, Follows, moment_of, following, KeepsDead, KeepsDisks, KeepsUp, ChangesAt, ClogsChange, clog_end, unclog_end, targets_by, clog_bar, stored, left_on, blank_disk}
 use Rattle.fy_cluster.proofs.Still.{Doings, doings, nothing, clog_alone, unmoved, only_net, none_taken_out, net_still, teams_still, rights_still, stored_still, disk_closes}
 use Rattle.fy_cluster.proofs.DiskSteps.{synced_at_close, unsynced_at_close, synced_at_strike}
 use Rattle.fy_cluster.proofs.Flights.{flying_still}
@@ -44,11 +44,11 @@ situation_same c h m k by = λ i. record {
   left = λ p. k.dead.left p i;
 }
 
-targets_same : (c : Setup) (h : History) (m : Machine) → Stands c h m → (target : Target) → targets m.dead.processes (sets.contains m.dead.left) target ≡ targets c.processes (left c h) target
+targets_same : (c : Setup) (h : History) (m : Machine) → Stands c h m → (target : Target) → targets_by m target ≡ targets c.processes (left c h) target
 targets_same c h m k target = λ i. targets (k.dead.processes i) (λ p. k.dead.left p i) target
 
 -- targets are processes
-pub targets_below : (c : Setup) (h : History) (m : Machine) → Stands c h m → (target : Target) (set : sets.FinSet nat_cmp) → ((p : ℕ) → sets.contains set p ≡ targets m.dead.processes (sets.contains m.dead.left) target p)
+pub targets_below : (c : Setup) (h : History) (m : Machine) → Stands c h m → (target : Target) (set : sets.FinSet nat_cmp) → ((p : ℕ) → sets.contains set p ≡ targets_by m target p)
     → (p : ℕ) → sets.contains set p ≡ true → p < length c.processes
 targets_below c h m k target set who p member =
     let is_left : left c h p ≡ true = sym (k.dead.left p) ∙ (and_parts (sets.contains m.dead.left p) _ (sym (who p) ∙ member)).0 in
@@ -56,7 +56,7 @@ targets_below c h m k target set who p member =
     grind (arith, nat_tests)
 
 bar_same : (c : Setup) (h : History) (m : Machine) → Stands c h m → (by actor : ℕ) → by ≡ actor → (target : Target)
-    → bar (situation_of m.dead m.book by) Clogging (targets m.dead.processes (sets.contains m.dead.left) target) ≡ bar (situation c h actor) Clogging (targets c.processes (left c h) target)
+    → clog_bar m by target ≡ bar (situation c h actor) Clogging (targets c.processes (left c h) target)
 bar_same c h m k by actor e target = ap₂ (λ s t. bar s Clogging t) (situation_same c h m k by ∙ ap (situation c h) e) (targets_same c h m k target)
 
 -- ---- clogs
@@ -104,7 +104,7 @@ unclogging turn target = record {
 -- a rule bars it
 pub clogs_barred : (turn : Turn) (act : Act) (target : Target) (change : ℕ → ℕ → ℕ) (rule : Rule) (machine : Machine) → ActsOnClogs turn act target change → Stands turn.setup turn.before machine
     → (by : ℕ) → by ≡ turn.by
-    → Some rule ≡ bar (situation_of machine.dead machine.book by) Clogging (targets machine.dead.processes (sets.contains machine.dead.left) target) → Follows turn act (Ruled (Some rule)) machine
+    → Some rule ≡ clog_bar machine by target → Follows turn act (Ruled (Some rule)) machine
 clogs_barred turn act target change rule machine acts k by actor is = record {
   right = ap Ruled (is ∙ bar_same turn.setup turn.before machine k by turn.by actor target) ∙ acts.ruled;
   stands = unmoved turn act (Ruled (Some rule)) machine (acts.idle rule) refl k;
@@ -113,8 +113,8 @@ clogs_barred turn act target change rule machine acts k by actor is = record {
 -- none does
 pub clogs_changed : (turn : Turn) (act : Act) (target : Target) (change : ℕ → ℕ → ℕ) (machine : Machine) (set : sets.FinSet nat_cmp) (net : Traffic) → ActsOnClogs turn act target change → Stands turn.setup turn.before machine
     → (by : ℕ) → by ≡ turn.by
-    → None ≡ bar (situation_of machine.dead machine.book by) Clogging (targets machine.dead.processes (sets.contains machine.dead.left) target)
-    → ((p : ℕ) → sets.contains set p ≡ targets machine.dead.processes (sets.contains machine.dead.left) target p)
+    → None ≡ clog_bar machine by target
+    → ((p : ℕ) → sets.contains set p ≡ targets_by machine target p)
     → ClogsChange (sets.contains set) change machine.net net → Follows turn act (Ruled None) (record machine { net = net })
 clogs_changed turn act target change machine set net acts k by actor is who changed = record {
   right = ap Ruled (is ∙ bar_same c h machine k by turn.by actor target) ∙ acts.ruled;
@@ -278,7 +278,7 @@ disks_struck c m h old new set kind tear struck_is idle w torn changed k = recor
 -- an order that struck its targets
 pub strikes_now : (turn : Turn) (order : Order) (v : VerdictOf) (kind : Kind) (machine : Machine) (set up_now : sets.FinSet nat_cmp) (dead : Casualties) (disks : List Stored) → Stands turn.setup turn.before machine
     → (by : ℕ) → by ≡ turn.by → v ≡ verdict (situation_of machine.dead machine.book by) order → v.struck ≡ Some kind
-    → ((p : ℕ) → sets.contains set p ≡ targets machine.dead.processes (sets.contains machine.dead.left) order.target p)
+    → ((p : ℕ) → sets.contains set p ≡ targets_by machine order.target p)
     → ChangesAt (sets.contains set) (left_on kind order.tear) blank_disk machine.disks.items disks
     → up_now ≡ sets.difference machine.up set
     → dead ≡ option_map_or (λ loss. struck machine.dead set loss) (loss_of kind) machine.dead

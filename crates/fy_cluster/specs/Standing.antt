@@ -1,15 +1,18 @@
 -- what a machine keeps of a history: one equation for each of its parts
-use Rattle.std.specs.Prelude.{◌≡◌, ℕ, ◌+◌, ◌*◌, ◌<◌, ◌≤◌, min, max, Bool, false, not, nat_lt, List, [], ◌∷◌, ◌++◌, length, map, filter, slice_get, slice_index, slice_index_or, Some, Result, Ok, Err, if◌then◌else◌}
+use Rattle.std.specs.Prelude.{◌≡◌, ℕ, ◌+◌, ◌*◌, ◌<◌, ◌≤◌, min, max, Bool, false, not, nat_lt, List, [], ◌∷◌, ◌++◌, length, map, filter, slice_get, slice_index, slice_index_or, Option, Some, Result, Ok, Err, if◌then◌else◌}
 use Rattle.std.specs.List.{list_any}
 use Rattle.std.specs.Ordering.{nat_cmp}
 use Rattle.std.specs.FinSet as sets
 use Rattle.fy_kinds.specs.declared.kind.Kind.{Kind}
 use Rattle.fy_kinds.specs.declared.kind.Kind.TheVariants.{RebootProcess, Reboot, RebootAndDelete, KillInstantly}
-use Rattle.fy_kinds.specs.Kinds.{Deed, has}
+use Rattle.fy_kinds.specs.declared.order.Target.{Target}
+use Rattle.fy_kinds.specs.declared.verdict.Rule.{Rule}
+use Rattle.fy_kinds.specs.Kinds.{Deed, Clogging, has}
 use Rattle.fy_grants.specs.Rights.{Rights, grants_of, protections_of}
 use Rattle.fy_decide.specs.declared.dead_book.Loss.{Loss}
 use Rattle.fy_decide.specs.DeadBook.{Casualties}
 use Rattle.fy_decide.specs.Losses.{MayDestroy}
+use Rattle.fy_decide.specs.Verdicts.{situation_of, targets, bar}
 use Rattle.fy_disk.specs.declared.item.Item.{Item}
 use Rattle.fy_disk.specs.Disk.{Stored, survivors}
 use Rattle.fy_net.specs.declared.message.Body.{Body}
@@ -142,6 +145,14 @@ pub record Stands (c : Setup) (h : History) (m : Machine) : Type 0 where
   pub up : KeepsUp c h m.up
   pub net : KeepsNet c h m.net
   pub teams : KeepsTeams h m.teams
+
+-- the processes of a target that are left, by the machine
+abbrev pub targets_by : Machine → Target → ℕ → Bool
+targets_by m target = targets m.dead.processes (sets.contains m.dead.left) target
+
+-- why an actor may not clog a target, by the machine
+abbrev pub clog_bar : Machine → ℕ → Target → Option Rule
+clog_bar m by target = bar (situation_of m.dead m.book by) Clogging (targets_by m target)
 
 -- ---- one act
 

@@ -1,13 +1,14 @@
 //! Processes are clogged and unclogged.
-ghost use Rattle.std.specs.Prelude.{◌≡◌, ◌<◌, ℕ, true, length};
+ghost use Rattle.std.specs.Prelude.{◌≡◌, ◌<◌, ℕ, true, length, IfOk};
+ghost use Rattle.std.specs.Result.{result_err};
 ghost use Rattle.std.specs.FinSet as sets;
 ghost use Rattle.fy_audit.specs.declared.act.Act.TheVariants.{Clog, Unclog};
-ghost use Rattle.fy_cluster.specs.Standing.{Turn, Stands, Follows, ClogsChange, clog_end, unclog_end};
+ghost use Rattle.fy_cluster.specs.Standing.{Turn, Stands, Follows, ClogsChange, clog_end, unclog_end, targets_by, clog_bar};
 
 use crate::machine::Machine;
 use fy_audit::Reply;
 use fy_decide::judge_clog;
-use fy_kinds::Target;
+use fy_kinds::{Rule, Target};
 use fy_locality::{Map, ProcSet};
 use fy_net::Net;
 
@@ -32,6 +33,18 @@ fn unclog_targets(net: &mut Net, targets: &ProcSet)
 }
 
 impl Machine {
+    /// Whom a clog of a target meets, and the end of its clogs: those left of it, or the rule of leave that bars both.
+    fn leave_to_clog(&self, map: &Map, by: u32, target: &Target) -> Result<ProcSet, Rule>
+        requires { map.now ≡ self.now.dead.processes }
+        ensures targets { IfOk result (λ set. (p : ℕ) → sets.contains set p ≡ targets_by self.now target.now p) }
+        ensures rule { result_err result ≡ clog_bar self.now by target.now }
+    {
+        match judge_clog(&self.dead, &self.book, map, by, target) {
+            None => Ok(self.dead.targets(map, target)),
+            Some(rule) => Err(rule),
+        }
+    }
+
     /// Clogs the processes of a target for some ticks, if no rule of leave bars it.
     pub(crate) fn clog(&mut self, map: &Map, by: u32, target: &Target, ticks: u64) -> Reply
         ghost turn: { Turn }
@@ -40,12 +53,13 @@ impl Machine {
         requires by { by ≡ turn.by }
         ensures { Follows turn (Clog target.now ticks) result self.new }
     {
-        if let Some(rule) = judge_clog(&self.dead, &self.book, map, by, target) {
-            return Reply::Ruled { rule: Some(rule) };
+        match self.leave_to_clog(map, by, target) {
+            Ok(targets) => {
+                clog_targets(&mut self.net, &targets, ticks);
+                Reply::Ruled { rule: None }
+            }
+            Err(rule) => Reply::Ruled { rule: Some(rule) },
         }
-        let targets = self.dead.targets(map, target);
-        clog_targets(&mut self.net, &targets, ticks);
-        Reply::Ruled { rule: None }
     }
 
     /// Ends the clogs of a target's processes, if no rule of leave bars it.
@@ -56,11 +70,12 @@ impl Machine {
         requires by { by ≡ turn.by }
         ensures { Follows turn (Unclog target.now) result self.new }
     {
-        if let Some(rule) = judge_clog(&self.dead, &self.book, map, by, target) {
-            return Reply::Ruled { rule: Some(rule) };
+        match self.leave_to_clog(map, by, target) {
+            Ok(targets) => {
+                unclog_targets(&mut self.net, &targets);
+                Reply::Ruled { rule: None }
+            }
+            Err(rule) => Reply::Ruled { rule: Some(rule) },
         }
-        let targets = self.dead.targets(map, target);
-        unclog_targets(&mut self.net, &targets);
-        Reply::Ruled { rule: None }
     }
 }
