@@ -4,4 +4,5 @@ pub mod Rules
 pub mod Replies
 pub mod Survival
 pub mod Standing
+pub mod Sights
 pub use Rattle.fy_locality.specs.Locality

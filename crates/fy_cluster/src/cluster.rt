@@ -1,15 +1,16 @@
 //! A cluster: it replies to acts, and keeps them all in its journal.
-ghost use Rattle.std.specs.Prelude.{◌≡◌, ◌↔◌, ◌<◌, ◌≤◌, ℕ, length, take, IfOk, IsTrue, OnOk, OnErr, Err};
+ghost use Rattle.std.specs.Prelude.{◌≡◌, ◌↔◌, ◌<◌, ◌≤◌, ℕ, length, take, IfOk, IsTrue, OnOk, OnErr, Err, IsSome, IfSome};
 ghost use Rattle.std.specs.FinSet as sets;
-ghost use Rattle.fy_cluster.specs.History.{destroyed, history};
+ghost use Rattle.fy_cluster.specs.History.{destroyed, history, acked, keeper};
 ghost use Rattle.fy_cluster.specs.declared.fault.Fault.TheVariants.{JournalFull};
 ghost use Rattle.fy_cluster.specs.Replies.{Legal};
 ghost use Rattle.fy_cluster.specs.Standing.{replied, entered, after_acts};
+ghost use Rattle.fy_cluster.specs.Sights.{IsLeastKeeper, Sees};
 
 use crate::machine::Machine;
-use crate::{Config, Fault};
+use crate::{Config, Fault, Sight, laws};
 use fy_audit::{Act, Journal, Reply};
-use fy_locality::ProcSet;
+use fy_locality::{ProcId, ProcSet};
 use std::alloc::Global;
 use std::marker::Model;
 
@@ -108,5 +109,31 @@ impl Cluster {
         ensures { IsTrue result ↔ (self.now.setup.limit ≤ length self.now.journal) }
     {
         self.journal.len() >= self.config.journal_limit() as usize
+    }
+
+    /// What it began with.
+    pub fn config(&self) -> &Config
+        ensures { result.now ≡ self.now.setup }
+    {
+        &self.config
+    }
+
+    /// Of an acknowledged record, the least member of its team that isn't destroyed and has the record synced; none of
+    /// any other record. Takes no memory.
+    pub fn keeper(&self, rec: u32) -> Option<ProcId>
+        ensures keeper { result ≡ keeper self.now.setup (history self.now.setup self.now.journal) rec }
+        ensures acked { IsSome result ↔ IsTrue (acked (history self.now.setup self.now.journal) rec) }
+        ensures least { IfSome result (IsLeastKeeper (history self.now.setup self.now.journal) rec) }
+    {
+        laws::keepers_found();
+        self.machine.keeper(rec)
+    }
+
+    /// The time, and what there is to do next: the least message to deliver, the least process to sync and the least one
+    /// to start. Takes no memory.
+    pub fn sight(&self) -> Sight
+        ensures { Sees self.now.setup (history self.now.setup self.now.journal) result }
+    {
+        self.machine.sight()
     }
 }
