@@ -129,8 +129,8 @@ acked_by c h roster sound k rec = at (nat_lt rec (length (records h))) refl
 pub not_member : (turn : Turn) (rec : ℕ) (p : ProcId) (members : List ProcId) (m : Machine) → Stands turn.setup turn.before m → IsOf turn.before rec members → is_among members p.0 ≡ false → Follows turn (Resend rec p) (No NotMember) m
 not_member turn rec p members m k is e = refuse turn (Resend rec p) NotMember m k (resend_reply turn.setup turn.before turn.by rec p false false _ _ is.known (ap (λ ps. is_among ps p.0) is.team ∙ e) refl refl)
 
-pub acked_is : Tested → (turn : Turn) (rec : ℕ) (members : List ProcId) (m : Machine) → Stands turn.setup turn.before m → IsLived turn.setup turn.before → IsOf turn.before rec members → acked turn.before rec ≡ is_acked m.teams rec
-acked_is tested turn rec members m k l is = acked_by turn.setup turn.before m.teams (sound_of tested turn.setup turn.before l) k.teams rec
+pub acked_is : Tested → (turn : Turn) (rec : ℕ) (m : Machine) → Stands turn.setup turn.before m → IsLived turn.setup turn.before → acked turn.before rec ≡ is_acked m.teams rec
+acked_is tested turn rec m k l = acked_by turn.setup turn.before m.teams (sound_of tested turn.setup turn.before l) k.teams rec
 
 pub is_acked_already : (turn : Turn) (rec : ℕ) (p : ProcId) (members : List ProcId) (m : Machine) → Stands turn.setup turn.before m → IsOf turn.before rec members → is_among members p.0 ≡ true → acked turn.before rec ≡ true → Follows turn (Resend rec p) (No Acked) m
 is_acked_already turn rec p members m k is e a = refuse turn (Resend rec p) Acked m k (resend_reply turn.setup turn.before turn.by rec p false true true _ is.known (ap (λ ps. is_among ps p.0) is.team ∙ e) a refl)

@@ -55,7 +55,7 @@ LeastNumber test found = MatchOption found ((n : ℕ) → test n ≡ false) (IsL
 abbrev pub LeastProcess : (ℕ → Bool) → Option ProcId → Type 0
 LeastProcess test found = LeastNumber test (option_map (λ p. p.0) found)
 
--- the time, and of each kind of thing to do the least number
+-- the time, the least message to deliver, and the least process to sync and to start
 pub record Sees (c : Setup) (h : History) (sight : Sight) : Type 0 where
   pub time : sight.now ≡ now h
   pub deliverable : LeastNumber (is_deliverable c h) sight.deliverable
