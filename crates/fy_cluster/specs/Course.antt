@@ -6,7 +6,7 @@ use Rattle.fy_audit.specs.declared.entry.Entry.{Entry}
 use Rattle.fy_cluster.specs.declared.fault.Fault.{Fault}
 use Rattle.fy_cluster.specs.declared.fault.Fault.TheVariants.{JournalFull}
 use Rattle.fy_cluster.specs.Setup.{Setup}
-use Rattle.fy_cluster.specs.History.{history}
+use Rattle.fy_cluster.specs.History.{History, history}
 use Rattle.fy_cluster.specs.Replies.{reply}
 
 -- what a cluster is seen as: what it began with, and its journal
@@ -14,13 +14,17 @@ pub record Course : Type 0 where
   pub setup : Setup
   pub journal : List Entry
 
+-- what its entries have done
+abbrev pub history_of : Course → History
+history_of course = history course.setup course.journal
+
 -- the course before anything happened
 abbrev pub opened : Setup → Course
 opened c = record { setup = c; journal = [] }
 
 -- the reply to an act
 abbrev pub replied : Course → ℕ → Act → Reply
-replied course by act = reply course.setup (history course.setup course.journal) by act
+replied course by act = reply course.setup (history_of course) by act
 
 -- the course once the act is entered with its reply
 abbrev pub entered : Course → ℕ → Act → Course

@@ -5,4 +5,5 @@ pub mod Replies
 pub mod Survival
 pub mod Course
 pub mod Standing
+pub mod Sights
 pub use Rattle.fy_locality.specs.Locality

@@ -1,15 +1,16 @@
 //! A cluster: it replies to acts, and keeps them all in its journal.
-ghost use Rattle.std.specs.Prelude.{◌≡◌, ◌↔◌, ◌<◌, ◌≤◌, ℕ, length, take, IfOk, IfErr, IsTrue, OnOk, OnErr, Err};
+ghost use Rattle.std.specs.Prelude.{◌≡◌, ◌↔◌, ◌<◌, ◌≤◌, ℕ, length, IfOk, IfErr, IsTrue, OnOk, OnErr, Err, IsSome, IfSome};
 ghost use Rattle.std.specs.FinSet as sets;
-ghost use Rattle.fy_cluster.specs.History.{destroyed, history};
+ghost use Rattle.fy_cluster.specs.History.{destroyed, acked, keeper};
 ghost use Rattle.fy_cluster.specs.declared.fault.Fault.TheVariants.{JournalFull};
 ghost use Rattle.fy_cluster.specs.Survival.{Survives};
-ghost use Rattle.fy_cluster.specs.Course.{opened, replied, entered, after_acts, StopsAt};
+ghost use Rattle.fy_cluster.specs.Course.{history_of, opened, replied, entered, after_acts, StopsAt};
+ghost use Rattle.fy_cluster.specs.Sights.{IsLeastKeeper, Sees};
 
 use crate::machine::Machine;
-use crate::{Config, Fault, laws};
+use crate::{Config, Fault, Sight, laws};
 use fy_audit::{Act, Journal, Reply};
-use fy_locality::ProcSet;
+use fy_locality::{ProcId, ProcSet};
 use std::alloc::{AllocError, Global};
 use std::marker::Model;
 
@@ -121,7 +122,7 @@ impl Cluster {
 
     /// Who was destroyed at any time.
     pub fn destroyed(&self) -> ProcSet
-        ensures { (p : ℕ) → sets.contains result p ≡ destroyed (history self.now.setup self.now.journal) p }
+        ensures { (p : ℕ) → sets.contains result p ≡ destroyed (history_of self.now) p }
     {
         self.machine.dead.destroyed()
     }
@@ -131,6 +132,32 @@ impl Cluster {
         ensures { IsTrue result ↔ (self.now.setup.limit ≤ length self.now.journal) }
     {
         self.journal.len() >= self.config.journal_limit() as usize
+    }
+
+    /// What it began with.
+    pub fn config(&self) -> &Config
+        ensures { result.now ≡ self.now.setup }
+    {
+        &self.config
+    }
+
+    /// Of an acknowledged record, the least member of its team that isn't destroyed and has the record synced; none of
+    /// any other record. Takes no memory.
+    pub fn keeper(&self, rec: u32) -> Option<ProcId>
+        ensures keeper { result ≡ keeper self.now.setup (history_of self.now) rec }
+        ensures acked { IsSome result ↔ IsTrue (acked (history_of self.now) rec) }
+        ensures least { IfSome result (IsLeastKeeper (history_of self.now) rec) }
+    {
+        laws::keepers_found();
+        self.machine.keeper(rec)
+    }
+
+    /// The time, and what there is to do next: the least message to deliver, the least process to sync and the least one
+    /// to start. Takes no memory.
+    pub fn sight(&self) -> Sight
+        ensures { Sees self.now.setup (history_of self.now) result }
+    {
+        self.machine.sight()
     }
 
     /// Whatever was asked so far, every acknowledged record keeps a synced copy on an undestroyed member, and all else that
