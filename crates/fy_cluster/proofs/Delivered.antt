@@ -50,7 +50,7 @@ pub none_there : (turn : Turn) (n : ℕ) (m : Machine) → Stands turn.setup tur
 none_there turn n m k e = refuse turn (Deliver n) NoMessage m k (not_sent turn.setup turn.before turn.by n (flies_not turn.setup turn.before m.net k.net (was_sent turn.before) n e))
 
 -- whether a process is clogged is what the network says
-clog_is : (c : Setup) (h : History) (net : Traffic) (p : ℕ) → p < length net.until → KeepsNet c h net → is_clogged net p ≡ clogged h p
+pub clog_is : (c : Setup) (h : History) (net : Traffic) (p : ℕ) → p < length net.until → KeepsNet c h net → is_clogged net p ≡ clogged h p
 clog_is c h net p l k = ap (λ t. nat_lt t (slice_index net.until p)) k.clock ∙ sym (k.ends p (now h) (let n = k.count in omega arith) (le_refl (now h)))
 
 pub is_held : (turn : Turn) (n : ℕ) (b : Body) (m : Machine) → Stands turn.setup turn.before m → body_of m.net.in_flight n ≡ Some b → process_of b < length m.net.until → is_clogged m.net (process_of b) ≡ true → Follows turn (Deliver n) (No Clogged) m

@@ -14,7 +14,7 @@ use Rattle.fy_cluster.specs.Setup.{Setup}
 use Rattle.fy_cluster.specs.History.{History, moment, after, history}
 use Rattle.fy_cluster.specs.Replies.{refused, refusals, reasons, answer, reply, no_actor, may, IsNext, LegalAfter}
 use Rattle.fy_cluster.specs.Standing.{Stands, Turn, Comes, Answers, entry_of, IsKept, IsLived}
-use Rattle.fy_cluster.proofs.Refusals.{unmoved}
+use Rattle.fy_cluster.proofs.Refusals.{unmoved_by}
 
 -- ---- the two reasons that come before all
 
@@ -39,10 +39,10 @@ unfolding reply reasons
 may_reply c h by act role e m = let known : no_actor c by ≡ false = within_roles c.roles by role e in rw (known, e, m) refl
 
 pub by_stranger : (turn : Turn) (by : ℕ) (act : Act) (m : Machine) → Stands turn.setup turn.before m → by ≡ turn.by → slice_get turn.setup.roles by ≡ None → Answers turn act (Ok (No Stranger)) m
-by_stranger turn by act m k same e = (sym (stranger turn.setup turn.before turn.by act (sym (ap (slice_get turn.setup.roles) same) ∙ e)), unmoved turn act Stranger m k)
+by_stranger turn by act m k same e = (sym (stranger turn.setup turn.before turn.by act (sym (ap (slice_get turn.setup.roles) same) ∙ e)), unmoved_by turn act Stranger m k)
 
 pub by_wrong_role : (turn : Turn) (by : ℕ) (act : Act) (role : Role) (m : Machine) → Stands turn.setup turn.before m → by ≡ turn.by → slice_get turn.setup.roles by ≡ Some role → may role act ≡ false → Answers turn act (Ok (No WrongRole)) m
-by_wrong_role turn by act role m k same e f = (sym (wrong_role turn.setup turn.before turn.by act role (sym (ap (slice_get turn.setup.roles) same) ∙ e) f), unmoved turn act WrongRole m k)
+by_wrong_role turn by act role m k same e f = (sym (wrong_role turn.setup turn.before turn.by act role (sym (ap (slice_get turn.setup.roles) same) ∙ e) f), unmoved_by turn act WrongRole m k)
 
 pub by_actor : (turn : Turn) (by : ℕ) (act : Act) (role : Role) (result : Result Reply Fault) (m : Machine) → by ≡ turn.by → slice_get turn.setup.roles by ≡ Some role → may role act ≡ true → Comes turn act result m → Answers turn act result m
 by_actor turn by act role (Ok answered) m same e f k = (k.right ∙ sym (may_reply turn.setup turn.before turn.by act role (sym (ap (slice_get turn.setup.roles) same) ∙ e) f), k.stands)

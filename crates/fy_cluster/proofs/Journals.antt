@@ -16,7 +16,7 @@ use Rattle.fy_cluster.specs.Setup.{Setup}
 use Rattle.fy_cluster.specs.History.{History, moment, after, history}
 use Rattle.fy_cluster.specs.Rules.{situation}
 use Rattle.fy_cluster.specs.Replies.{refusals, reasons, answer, reply, IsNext, LegalAfter, Legal}
-use Rattle.fy_cluster.specs.Survival.{by_and_act, RulesNamed}
+use Rattle.fy_cluster.specs.Survival.{by_and_act, IsJudged, KillsJudged, RulesNamed}
 
 -- what each legal entry keeps, a legal journal keeps
 pub kept_after : (c : Setup) (Q : History → Type 0) → ((h : History) (e : Entry) → IsNext c h e → Q h → Q (moment c h e ∷ h)) → (h : History) (later : List Entry) → Q h → LegalAfter c h later → Q (after c h later)
@@ -63,12 +63,17 @@ kill_unknown : (c : Setup) (h : History) (by : ℕ) (order : Order) → length c
 unfolding reply reasons refusals answer
 kill_unknown c h by order unknown = let none : nat_le (length c.roles) by ≡ true = le-leb _ _ unknown in rw none refl
 
-pub kills_judged : (c : Setup) (before later : List Entry) (e : Entry) (order : Order) → Legal c (before ++ e ∷ later) → e.act ≡ Kill order →
-    (e.by < length c.roles → e.reply ≡ Verdict (verdict (situation c (history c before) e.by) order)) × (length c.roles ≤ e.by → e.reply ≡ No Stranger)
-kills_judged c before later e order l a =
+judged : (c : Setup) (before later : List Entry) (e : Entry) (order : Order) → Legal c (before ++ e ∷ later) → e.act ≡ Kill order → IsJudged c (history c before) e order
+judged c before later e order l a =
     let next : IsNext c (history c before) e = (legal_parts c [] before (e ∷ later) l.1).1.0 in
     let said : e.reply ≡ reply c (history c before) e.by (Kill order) = next.right ∙ ap (reply c (history c before) e.by) a in
-    (λ known. said ∙ kill_known c (history c before) e.by order known, λ unknown. said ∙ kill_unknown c (history c before) e.by order unknown)
+    record {
+      known = λ known. said ∙ kill_known c (history c before) e.by order known;
+      stranger = λ unknown. said ∙ kill_unknown c (history c before) e.by order unknown;
+    }
+
+pub kills_judged : KillsJudged
+kills_judged c journal l before later e order is a = judged c before later e order (subst (Legal c) is l) a
 
 abbrev Named : Type 0
 Named = (situation : Situation) (order : Order) → ((verdict situation order).rule ≡ None) ↔ ((verdict situation order).struck ≡ Some order.kind)
@@ -81,6 +86,6 @@ rules_named named c before later e order v l a r = at (cases_lt e.by (length c.r
   where
     at : (e.by < length c.roles) ⊎ (length c.roles ≤ e.by) → (v.rule ≡ None) ↔ (v.struck ≡ Some order.kind)
     at (inl known) =
-        let same : v ≡ verdict (situation c (history c before) e.by) order = inside v _ (sym r ∙ (kills_judged c before later e order l a).0 known) in
+        let same : v ≡ verdict (situation c (history c before) e.by) order = inside v _ (sym r ∙ (judged c before later e order l a).known known) in
         subst (λ w. (w.rule ≡ None) ↔ (w.struck ≡ Some order.kind)) (sym same) (named (situation c (history c before) e.by) order)
-    at (inr unknown) = absurd (let wrong : Verdict v ≡ No Stranger = sym r ∙ (kills_judged c before later e order l a).1 unknown in let none : ⊥ = cc in none)
+    at (inr unknown) = absurd (let wrong : Verdict v ≡ No Stranger = sym r ∙ (judged c before later e order l a).stranger unknown in let none : ⊥ = cc in none)

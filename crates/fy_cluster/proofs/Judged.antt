@@ -1,6 +1,6 @@
 -- orders and clogs are answered from the books, and what they do
-use Rattle.std.proofs.Common.{◌==◌, ◌≡◌, ℕ, ◌+◌, ◌^◌, ◌<◌, ◌≤◌, min, max, List, [], ◌∷◌, ◌++◌, Bool, true, false, ◌&&◌, ◌||◌, not, Option, Some, None, is_none, refl, sym, ◌∙◌, ap, ap₂, nat_lt, length, arith, get_or, slice_get, slice_index, append-nil, if◌then◌else◌}
-use Rattle.std.proofs.lemmas.Bool.{or_from}
+use Rattle.std.proofs.Common.{◌==◌, ◌≡◌, ℕ, ◌+◌, ◌^◌, ◌<◌, ◌≤◌, min, List, [], ◌∷◌, ◌++◌, Bool, true, false, ◌&&◌, ◌||◌, not, Option, Some, None, is_none, refl, sym, ◌∙◌, ap, ap₂, nat_lt, length, arith, get_or, slice_get, slice_index, append-nil, if◌then◌else◌}
+use Rattle.std.proofs.lemmas.Bool.{or_from, and_parts}
 use Rattle.std.proofs.lemmas.Bool.Decides.{nat_tests}
 use Rattle.std.proofs.lemmas.Option.{slice_get-get_or}
 use Rattle.std.specs.Option.{option_map_or}
@@ -18,19 +18,19 @@ use Rattle.fy_decide.specs.DeadBook.{Casualties, struck}
 use Rattle.fy_decide.specs.Verdicts.{situation_of, targets, bar, verdict, loss_of}
 use Rattle.fy_disk.specs.declared.item.Item.{Item}
 use Rattle.fy_disk.specs.Disk.{Stored, outlives, passing}
-use Rattle.fy_net.specs.Net.{Traffic, last_tick}
+use Rattle.fy_net.specs.Net.{Traffic}
+use Rattle.fy_audit.specs.declared.act.Act.{Act}
 use Rattle.fy_audit.specs.declared.act.Act.TheVariants.{Kill, Clog, Unclog}
 use Rattle.fy_audit.specs.declared.reply.Reply.TheVariants.{Ruled, Verdict}
 use Rattle.fy_cluster.specs.declared.machine.Machine.{Machine}
 use Rattle.fy_cluster.specs.Setup.{Setup}
-use Rattle.fy_cluster.specs.History.{History, Moment, some_is, strikes, destroys, is_killing, closes, syncs, writes, tear_of, destroyed, gone, left, up, synced, unsynced, sent, now, takes_out, ticks, clogged_at}
+use Rattle.fy_cluster.specs.History.{History, Moment, some_is, strikes, destroys, is_killing, closes, syncs, writes, tear_of, destroyed, gone, left, up, synced, unsynced, sent, now, takes_out, clogs, unclogs, sends_of, targets_of, clogged_at}
 use Rattle.fy_cluster.specs.Rules.{situation}
 use Rattle.fy_cluster.specs.Replies.{refused, refusals, answer}
-use Rattle.fy_cluster.specs.Standing.{Stands, Turn, Follows, moment_of, KeepsDead, KeepsDisks, KeepsUp, KeepsNet, stored, left_on, blank_disk}
-use Rattle.fy_cluster.proofs.Still.{dead_still, up_still, disks_still, net_still, teams_still, rights_still, stored_still, disk_closes}
+use Rattle.fy_cluster.specs.Standing.{Stands, Turn, Follows, moment_of, following, KeepsDead, KeepsDisks, KeepsUp, ChangesAt, ClogsChange, clog_end, unclog_end, targets_by, clog_bar, stored, left_on, blank_disk}
+use Rattle.fy_cluster.proofs.Still.{Doings, doings, nothing, clog_alone, unmoved, only_net, none_taken_out, net_still, teams_still, rights_still, stored_still, disk_closes}
 use Rattle.fy_cluster.proofs.DiskSteps.{synced_at_close, unsynced_at_close, synced_at_strike}
 use Rattle.fy_cluster.proofs.Flights.{flying_still}
-use Rattle.fy_cluster.proofs.Refusals.{none_if}
 use Rattle.fy_cluster.proofs.Results.{some_is_same}
 
 -- what an answer to an actor rests on is what the books say
@@ -44,38 +44,88 @@ situation_same c h m k by = λ i. record {
   left = λ p. k.dead.left p i;
 }
 
-targets_same : (c : Setup) (h : History) (m : Machine) → Stands c h m → (target : Target) → targets m.dead.processes (sets.contains m.dead.left) target ≡ targets c.processes (left c h) target
+targets_same : (c : Setup) (h : History) (m : Machine) → Stands c h m → (target : Target) → targets_by m target ≡ targets c.processes (left c h) target
 targets_same c h m k target = λ i. targets (k.dead.processes i) (λ p. k.dead.left p i) target
 
+-- targets are processes
+pub targets_below : (c : Setup) (h : History) (m : Machine) → Stands c h m → (target : Target) (set : sets.FinSet nat_cmp) → ((p : ℕ) → sets.contains set p ≡ targets_by m target p)
+    → (p : ℕ) → sets.contains set p ≡ true → p < length c.processes
+targets_below c h m k target set who p member =
+    let is_left : left c h p ≡ true = sym (k.dead.left p) ∙ (and_parts (sets.contains m.dead.left p) _ (sym (who p) ∙ member)).0 in
+    let below : nat_lt p (length c.processes) ≡ true = (and_parts _ (not (gone h p)) is_left).0 in
+    grind (arith, nat_tests)
+
 bar_same : (c : Setup) (h : History) (m : Machine) → Stands c h m → (by actor : ℕ) → by ≡ actor → (target : Target)
-    → bar (situation_of m.dead m.book by) Clogging (targets m.dead.processes (sets.contains m.dead.left) target) ≡ bar (situation c h actor) Clogging (targets c.processes (left c h) target)
+    → clog_bar m by target ≡ bar (situation c h actor) Clogging (targets c.processes (left c h) target)
 bar_same c h m k by actor e target = ap₂ (λ s t. bar s Clogging t) (situation_same c h m k by ∙ ap (situation c h) e) (targets_same c h m k target)
-
-clog_reply : (c : Setup) (h : History) (by : ℕ) (target : Target) (n : ℕ) (rule : Option Rule) → rule ≡ bar (situation c h by) Clogging (targets c.processes (left c h) target)
-    → Ruled rule ≡ refused (refusals c h (Clog target n)) (answer c h by (Clog target n))
-unfolding refusals answer
-clog_reply c h by target n rule e = ap Ruled e
-
-unclog_reply : (c : Setup) (h : History) (by : ℕ) (target : Target) (rule : Option Rule) → rule ≡ bar (situation c h by) Clogging (targets c.processes (left c h) target)
-    → Ruled rule ≡ refused (refusals c h (Unclog target)) (answer c h by (Unclog target))
-unfolding refusals answer
-unclog_reply c h by target rule e = ap Ruled e
 
 -- ---- clogs
 
--- a clog that a rule bars
-pub clog_barred : (turn : Turn) (target : Target) (n : ℕ) (rule : Rule) (machine : Machine) → Stands turn.setup turn.before machine
+-- an act on a target's clogs: a rule bars it, or it changes, by the time, until when the target's processes are clogged
+pub record ActsOnClogs (turn : Turn) (act : Act) (target : Target) (change : ℕ → ℕ → ℕ) : Type 0 where
+  pub ruled : Ruled (bar (situation turn.setup turn.before turn.by) Clogging (targets turn.setup.processes (left turn.setup turn.before) target)) ≡ refused (refusals turn.setup turn.before act) (answer turn.setup turn.before turn.by act)
+  pub idle : (rule : Rule) → doings act (Ruled (Some rule)) ≡ nothing
+  pub alone : doings act (Ruled None) ≡ clog_alone (clogs act (Ruled None)) (unclogs act (Ruled None))
+  pub silent : sends_of turn.before act ≡ []
+  pub named : (p : ℕ) → targets_of turn.setup turn.before act p ≡ targets turn.setup.processes (left turn.setup turn.before) target p
+  pub holds : (p t until : ℕ) → now turn.before ≤ t → clogged_at t turn.before p ≡ nat_lt t until
+      → clogged_at t (following turn act (Ruled None)) p ≡ nat_lt t (if targets_of turn.setup turn.before act p then change (now turn.before) until else until)
+
+pub clogging : (turn : Turn) (target : Target) (n : ℕ) → ActsOnClogs turn (Clog target n) target (clog_end n)
+unfolding refusals answer
+clogging turn target n = record {
+  ruled = refl;
+  idle = λ rule. refl;
+  alone = refl;
+  silent = refl;
+  named = λ p. refl;
+  holds = λ p t until later is. let named = targets turn.setup.processes (left turn.setup turn.before) target p in ap (λ b. named && nat_lt t (min (now turn.before + n) (2 ^ 40)) || b) is ∙ at t until named;
+}
+  where
+    at : (t until : ℕ) (b : Bool) → (b && nat_lt t (min (now turn.before + n) (2 ^ 40)) || nat_lt t until) ≡ nat_lt t (if b then clog_end n (now turn.before) until else until)
+    at t until true = grind (arith, nat_tests)
+    at t until false = refl
+
+pub unclogging : (turn : Turn) (target : Target) → ActsOnClogs turn (Unclog target) target unclog_end
+unfolding refusals answer
+unclogging turn target = record {
+  ruled = refl;
+  idle = λ rule. refl;
+  alone = refl;
+  silent = refl;
+  named = λ p. refl;
+  holds = λ p t until later is. let named = targets turn.setup.processes (left turn.setup turn.before) target p in ap (λ b. not named && b) is ∙ at t until later named;
+}
+  where
+    at : (t until : ℕ) → now turn.before ≤ t → (b : Bool) → (not b && nat_lt t until) ≡ nat_lt t (if b then unclog_end (now turn.before) until else until)
+    at t until later true = grind (arith, nat_tests)
+    at t until later false = refl
+
+-- a rule bars it
+pub clogs_barred : (turn : Turn) (act : Act) (target : Target) (change : ℕ → ℕ → ℕ) (rule : Rule) (machine : Machine) → ActsOnClogs turn act target change → Stands turn.setup turn.before machine
     → (by : ℕ) → by ≡ turn.by
-    → Some rule ≡ bar (situation_of machine.dead machine.book by) Clogging (targets machine.dead.processes (sets.contains machine.dead.left) target) → Follows turn (Clog target n) (Ruled (Some rule)) machine
-clog_barred turn target n rule machine k by actor is = record {
-  right = clog_reply c h turn.by target n (Some rule) (is ∙ bar_same c h machine k by turn.by actor target);
-  stands = record {
-    dead = dead_still c m h machine.dead (λ p. none_if (m.targets p) None refl) k.dead;
-    rights = rights_still c m h machine.book refl refl refl refl k.rights;
-    disks = disks_still c m h machine.disks.items (λ p. none_if (m.targets p) None refl) refl (λ p. refl) k.disks;
-    up = up_still c m h machine.up (λ p. none_if (m.targets p) None refl) refl k.up;
-    net = net_still c m h machine.net refl (λ k. refl) refl refl refl k.net;
-    teams = teams_still m h machine.teams refl refl (λ r p. refl) k.teams;
+    → Some rule ≡ clog_bar machine by target → Follows turn act (Ruled (Some rule)) machine
+clogs_barred turn act target change rule machine acts k by actor is = record {
+  right = ap Ruled (is ∙ bar_same turn.setup turn.before machine k by turn.by actor target) ∙ acts.ruled;
+  stands = unmoved turn act (Ruled (Some rule)) machine (acts.idle rule) refl k;
+}
+
+-- none does
+pub clogs_changed : (turn : Turn) (act : Act) (target : Target) (change : ℕ → ℕ → ℕ) (machine : Machine) (set : sets.FinSet nat_cmp) (net : Traffic) → ActsOnClogs turn act target change → Stands turn.setup turn.before machine
+    → (by : ℕ) → by ≡ turn.by
+    → None ≡ clog_bar machine by target
+    → ((p : ℕ) → sets.contains set p ≡ targets_by machine target p)
+    → ClogsChange (sets.contains set) change machine.net net → Follows turn act (Ruled None) (record machine { net = net })
+clogs_changed turn act target change machine set net acts k by actor is who changed = record {
+  right = ap Ruled (is ∙ bar_same c h machine k by turn.by actor target) ∙ acts.ruled;
+  stands = only_net turn act (Ruled None) machine net _ _ acts.alone k record {
+    in_flight = ap (λ (n : Traffic). n.in_flight) changed.rest ∙ k.net.in_flight ∙ sym (flying_still m h acts.silent keeps);
+    sent_so_far = ap (λ (n : Traffic). n.sent) changed.rest ∙ k.net.sent_so_far ∙ sym all_sent;
+    clock = ap (λ (n : Traffic). n.clock) changed.rest ∙ k.net.clock ∙ sym time;
+    count = changed.ends.count ∙ k.net.count;
+    ends = λ p t l later. ends p t l (let e = time in omega arith);
+    early = λ n l. or_from _ _ (keeps n) (k.net.early n (let e = all_sent in omega arith));
+    few = let e = all_sent in let few = k.net.few in omega arith;
   };
 }
   where
@@ -86,141 +136,24 @@ clog_barred turn target n rule machine k by actor is = record {
     h = turn.before
 
     m : Moment
-    m = moment_of turn (Clog target n) (Ruled (Some rule))
+    m = moment_of turn act (Ruled None)
 
-pub unclog_barred : (turn : Turn) (target : Target) (rule : Rule) (machine : Machine) → Stands turn.setup turn.before machine
-    → (by : ℕ) → by ≡ turn.by
-    → Some rule ≡ bar (situation_of machine.dead machine.book by) Clogging (targets machine.dead.processes (sets.contains machine.dead.left) target) → Follows turn (Unclog target) (Ruled (Some rule)) machine
-unclog_barred turn target rule machine k by actor is = record {
-  right = unclog_reply c h turn.by target (Some rule) (is ∙ bar_same c h machine k by turn.by actor target);
-  stands = record {
-    dead = dead_still c m h machine.dead (λ p. none_if (m.targets p) None refl) k.dead;
-    rights = rights_still c m h machine.book refl refl refl refl k.rights;
-    disks = disks_still c m h machine.disks.items (λ p. none_if (m.targets p) None refl) refl (λ p. refl) k.disks;
-    up = up_still c m h machine.up (λ p. none_if (m.targets p) None refl) refl k.up;
-    net = net_still c m h machine.net refl (λ k. refl) refl refl refl k.net;
-    teams = teams_still m h machine.teams refl refl (λ r p. refl) k.teams;
-  };
-}
-  where
-    c : Setup
-    c = turn.setup
+    keeps : (n : ℕ) → takes_out n m ≡ false
+    keeps = none_taken_out act (Ruled None) _ _ acts.alone
 
-    h : History
-    h = turn.before
-
-    m : Moment
-    m = moment_of turn (Unclog target) (Ruled (Some rule))
-
-lt_max : (t u v : ℕ) → (nat_lt t v || nat_lt t u) ≡ nat_lt t (max u v)
-lt_max t u v = grind (arith, nat_tests)
-
-lt_min : (t u n : ℕ) → n ≤ t → nat_lt t (min u n) ≡ false
-lt_min t u n l = grind (arith, nat_tests)
-
--- the ends of clogs after some change at the targets, where the moment neither sends nor takes out and no time passes
-net_ends : (c : Setup) (m : Moment) (h : History) (net next : Traffic) → m.sends ≡ [] → ((n : ℕ) → takes_out n m ≡ false) → ticks m.entry.act m.entry.reply ≡ None
-    → next ≡ record net { until = next.until } → length next.until ≡ length net.until
-    → ((p t : ℕ) → p < length c.processes → now h ≤ t → clogged_at t (m ∷ h) p ≡ nat_lt t (slice_index next.until p))
-    → KeepsNet c h net → KeepsNet c (m ∷ h) next
-net_ends c m h net next none keeps no_tick same count ends k = record {
-  in_flight = ap (λ (n : Traffic). n.in_flight) same ∙ k.in_flight ∙ sym (flying_still m h none keeps);
-  sent_so_far = ap (λ (n : Traffic). n.sent) same ∙ k.sent_so_far ∙ sym all_sent;
-  clock = ap (λ (n : Traffic). n.clock) same ∙ k.clock ∙ sym time;
-  count = count ∙ k.count;
-  ends = λ p t l later. ends p t l (let e = time in omega arith);
-  early = λ n l. or_from _ _ (keeps n) (k.early n (let e = all_sent in omega arith));
-  few = let e = all_sent in let few = k.few in omega arith;
-}
-  where
     all_sent : length (sent (m ∷ h)) ≡ length (sent h)
-    all_sent = ap (λ xs. length (sent h ++ xs)) none ∙ ap length (append-nil (sent h))
+    all_sent = ap (λ xs. length (sent h ++ xs)) acts.silent ∙ ap length (append-nil (sent h))
 
     time : now (m ∷ h) ≡ now h
-    time = rw no_tick (omega arith)
-
--- the machine after a clog of the targets
-pub clogs_now : (turn : Turn) (target : Target) (n : ℕ) (machine : Machine) (set : sets.FinSet nat_cmp) (net : Traffic) → Stands turn.setup turn.before machine
-    → (by : ℕ) → by ≡ turn.by
-    → None ≡ bar (situation_of machine.dead machine.book by) Clogging (targets machine.dead.processes (sets.contains machine.dead.left) target)
-    → ((p : ℕ) → sets.contains set p ≡ targets machine.dead.processes (sets.contains machine.dead.left) target p)
-    → net ≡ record machine.net { until = net.until } → length net.until ≡ length machine.net.until
-    → ((p : ℕ) → p < length machine.net.until → slice_index net.until p ≡ (if sets.contains set p then max (slice_index machine.net.until p) (min (machine.net.clock + n) last_tick) else slice_index machine.net.until p))
-    → Follows turn (Clog target n) (Ruled None) (record machine { net = net })
-clogs_now turn target n machine set net k by actor is who same count each = record {
-  right = clog_reply c h turn.by target n None (is ∙ bar_same c h machine k by turn.by actor target);
-  stands = record {
-    dead = dead_still c m h machine.dead (λ p. none_if (m.targets p) None refl) k.dead;
-    rights = rights_still c m h machine.book refl refl refl refl k.rights;
-    disks = disks_still c m h machine.disks.items (λ p. none_if (m.targets p) None refl) refl (λ p. refl) k.disks;
-    up = up_still c m h machine.up (λ p. none_if (m.targets p) None refl) refl k.up;
-    net = net_ends c m h machine.net net refl (λ k. refl) refl same count ends k.net;
-    teams = teams_still m h machine.teams refl refl (λ r p. refl) k.teams;
-  };
-}
-  where
-    c : Setup
-    c = turn.setup
-
-    h : History
-    h = turn.before
-
-    m : Moment
-    m = moment_of turn (Clog target n) (Ruled None)
+    time = rw (ap (λ (d : Doings). d.passed) acts.alone) (omega arith)
 
     ends : (p t : ℕ) → p < length c.processes → now h ≤ t → clogged_at t (m ∷ h) p ≡ nat_lt t (slice_index net.until p)
     ends p t l later =
-        let u = slice_index machine.net.until p in
-        ap (λ b. m.targets p && nat_lt t (min (now h + n) (2 ^ 40)) || b) (k.net.ends p t l later)
-        ∙ at (m.targets p) u
-        ∙ ap (λ b. nat_lt t (if b then max u (min (now h + n) last_tick) else u)) (sym (who p ∙ ap (λ f. f p) (targets_same c h machine k target)))
-        ∙ ap (λ clock. nat_lt t (if sets.contains set p then max u (min (clock + n) last_tick) else u)) (sym k.net.clock)
-        ∙ ap (nat_lt t) (sym (each p (let w = k.net.count in omega arith)))
-      where
-        at : (b : Bool) (u : ℕ) → (b && nat_lt t (min (now h + n) (2 ^ 40)) || nat_lt t u) ≡ nat_lt t (if b then max u (min (now h + n) last_tick) else u)
-        at true u = lt_max t u (min (now h + n) last_tick)
-        at false u = refl
-
-pub unclogs_now : (turn : Turn) (target : Target) (machine : Machine) (set : sets.FinSet nat_cmp) (net : Traffic) → Stands turn.setup turn.before machine
-    → (by : ℕ) → by ≡ turn.by
-    → None ≡ bar (situation_of machine.dead machine.book by) Clogging (targets machine.dead.processes (sets.contains machine.dead.left) target)
-    → ((p : ℕ) → sets.contains set p ≡ targets machine.dead.processes (sets.contains machine.dead.left) target p)
-    → net ≡ record machine.net { until = net.until } → length net.until ≡ length machine.net.until
-    → ((p : ℕ) → p < length machine.net.until → slice_index net.until p ≡ (if sets.contains set p then min (slice_index machine.net.until p) machine.net.clock else slice_index machine.net.until p))
-    → Follows turn (Unclog target) (Ruled None) (record machine { net = net })
-unclogs_now turn target machine set net k by actor is who same count each = record {
-  right = unclog_reply c h turn.by target None (is ∙ bar_same c h machine k by turn.by actor target);
-  stands = record {
-    dead = dead_still c m h machine.dead (λ p. none_if (m.targets p) None refl) k.dead;
-    rights = rights_still c m h machine.book refl refl refl refl k.rights;
-    disks = disks_still c m h machine.disks.items (λ p. none_if (m.targets p) None refl) refl (λ p. refl) k.disks;
-    up = up_still c m h machine.up (λ p. none_if (m.targets p) None refl) refl k.up;
-    net = net_ends c m h machine.net net refl (λ k. refl) refl same count ends k.net;
-    teams = teams_still m h machine.teams refl refl (λ r p. refl) k.teams;
-  };
-}
-  where
-    c : Setup
-    c = turn.setup
-
-    h : History
-    h = turn.before
-
-    m : Moment
-    m = moment_of turn (Unclog target) (Ruled None)
-
-    ends : (p t : ℕ) → p < length c.processes → now h ≤ t → clogged_at t (m ∷ h) p ≡ nat_lt t (slice_index net.until p)
-    ends p t l later =
-        let u = slice_index machine.net.until p in
-        ap (λ b. not (m.targets p) && b) (k.net.ends p t l later)
-        ∙ at (m.targets p) u
-        ∙ ap (λ b. nat_lt t (if b then min u (now h) else u)) (sym (who p ∙ ap (λ f. f p) (targets_same c h machine k target)))
-        ∙ ap (λ clock. nat_lt t (if sets.contains set p then min u clock else u)) (sym k.net.clock)
-        ∙ ap (nat_lt t) (sym (each p (let w = k.net.count in omega arith)))
-      where
-        at : (b : Bool) (u : ℕ) → (not b && nat_lt t u) ≡ nat_lt t (if b then min u (now h) else u)
-        at true u = sym (lt_min t u (now h) later)
-        at false u = refl
+        let was = slice_index machine.net.until p in
+        acts.holds p t was later (k.net.ends p t l later)
+        ∙ ap (λ b. nat_lt t (if b then change (now h) was else was)) (acts.named p ∙ sym (who p ∙ ap (λ f. f p) (targets_same c h machine k target)))
+        ∙ ap (λ clock. nat_lt t (if sets.contains set p then change clock was else was)) (sym k.net.clock)
+        ∙ ap (nat_lt t) (sym (changed.ends.each p (let w = k.net.count in omega arith)))
 
 -- ---- kills
 
@@ -239,25 +172,9 @@ chosen e s = ap (λ (v : VerdictOf). v.struck) (sym e) ∙ s
 pub spares : (turn : Turn) (order : Order) (v : VerdictOf) (machine : Machine) → Stands turn.setup turn.before machine → (by : ℕ) → by ≡ turn.by
     → v ≡ verdict (situation_of machine.dead machine.book by) order → v.struck ≡ None → Follows turn (Kill order) (Verdict v) machine
 spares turn order v machine k by actor is none = record {
-  right = kill_reply c h turn.by order v (is ∙ verdict_same c h machine k by turn.by actor order);
-  stands = record {
-    dead = dead_still c m h machine.dead (λ p. none_if (m.targets p) v.struck none) k.dead;
-    rights = rights_still c m h machine.book refl refl refl refl k.rights;
-    disks = disks_still c m h machine.disks.items (λ p. none_if (m.targets p) v.struck none) refl (λ p. refl) k.disks;
-    up = up_still c m h machine.up (λ p. none_if (m.targets p) v.struck none) refl k.up;
-    net = net_still c m h machine.net refl (λ k. refl) refl refl refl k.net;
-    teams = teams_still m h machine.teams refl refl (λ r p. refl) k.teams;
-  };
+  right = kill_reply turn.setup turn.before turn.by order v (is ∙ verdict_same turn.setup turn.before machine k by turn.by actor order);
+  stands = unmoved turn (Kill order) (Verdict v) machine (ap (λ kind. record nothing { struck = kind }) none) refl k;
 }
-  where
-    c : Setup
-    c = turn.setup
-
-    h : History
-    h = turn.before
-
-    m : Moment
-    m = moment_of turn (Kill order) (Verdict v)
 
 -- the kind that struck a target
 abbrev at_target : Bool → Kind → Option Kind
@@ -347,12 +264,11 @@ element : {X : Type 0} (xs : List X) (i : ℕ) (other x : X) → i < length xs �
 element xs i other x l e = some_is_same (get_or xs i other) x (sym (slice_get-get_or xs i other l) ∙ e)
 
 disks_struck : (c : Setup) (m : Moment) (h : History) (old new : List Stored) (set : sets.FinSet nat_cmp) (kind : Kind) (tear : ℕ) → ((p : ℕ) → strikes m p ≡ at_target (sets.contains set p) kind)
-    → syncs m.entry.act m.entry.reply ≡ None → ((p : ℕ) → writes m p ≡ None) → tear_of m.entry.act ≡ tear → length new ≡ length old
-    → ((p : ℕ) → p < length old → get_or new p blank_disk ≡ (if sets.contains set p then left_on kind tear (get_or old p blank_disk) else get_or old p blank_disk))
+    → syncs m.entry.act m.entry.reply ≡ None → ((p : ℕ) → writes m p ≡ None) → tear_of m.entry.act ≡ tear → ChangesAt (sets.contains set) (left_on kind tear) blank_disk old new
     → KeepsDisks c h old → KeepsDisks c (m ∷ h) new
-disks_struck c m h old new set kind tear struck_is idle w torn count each k = record {
-  count = count ∙ k.count;
-  each = λ p l. slice_get-get_or new p blank_disk (let a = count in let b = k.count in omega arith) ∙ ap Some (each p (let b = k.count in omega arith) ∙ ap (λ d. if sets.contains set p then left_on kind tear d else d) (element old p blank_disk (stored h p) (let b = k.count in omega arith) (k.each p l)) ∙ at p (sets.contains set p) (struck_is p));
+disks_struck c m h old new set kind tear struck_is idle w torn changed k = record {
+  count = changed.count ∙ k.count;
+  each = λ p l. slice_get-get_or new p blank_disk (let a = changed.count in let b = k.count in omega arith) ∙ ap Some (changed.each p (let b = k.count in omega arith) ∙ ap (λ d. if sets.contains set p then left_on kind tear d else d) (element old p blank_disk (stored h p) (let b = k.count in omega arith) (k.each p l)) ∙ at p (sets.contains set p) (struck_is p));
 }
   where
     at : (p : ℕ) (b : Bool) → strikes m p ≡ at_target b kind → (if b then left_on kind tear (stored h p) else stored h p) ≡ stored (m ∷ h) p
@@ -362,19 +278,18 @@ disks_struck c m h old new set kind tear struck_is idle w torn count each k = re
 -- an order that struck its targets
 pub strikes_now : (turn : Turn) (order : Order) (v : VerdictOf) (kind : Kind) (machine : Machine) (set up_now : sets.FinSet nat_cmp) (dead : Casualties) (disks : List Stored) → Stands turn.setup turn.before machine
     → (by : ℕ) → by ≡ turn.by → v ≡ verdict (situation_of machine.dead machine.book by) order → v.struck ≡ Some kind
-    → ((p : ℕ) → sets.contains set p ≡ targets machine.dead.processes (sets.contains machine.dead.left) order.target p)
-    → length disks ≡ length machine.disks.items
-    → ((p : ℕ) → p < length machine.disks.items → get_or disks p blank_disk ≡ (if sets.contains set p then left_on kind order.tear (get_or machine.disks.items p blank_disk) else get_or machine.disks.items p blank_disk))
+    → ((p : ℕ) → sets.contains set p ≡ targets_by machine order.target p)
+    → ChangesAt (sets.contains set) (left_on kind order.tear) blank_disk machine.disks.items disks
     → up_now ≡ sets.difference machine.up set
     → dead ≡ option_map_or (λ loss. struck machine.dead set loss) (loss_of kind) machine.dead
     → (after : Machine) → after.dead ≡ dead → after.book ≡ machine.book → after.disks.items ≡ disks → after.up ≡ up_now → after.net ≡ machine.net → after.teams ≡ machine.teams
     → Follows turn (Kill order) (Verdict v) after
-strikes_now turn order v kind machine set up_now dead disks k by actor is hit who count each ups buried after e1 e2 e3 e4 e5 e6 = record {
+strikes_now turn order v kind machine set up_now dead disks k by actor is hit who changed ups buried after e1 e2 e3 e4 e5 e6 = record {
   right = kill_reply c h turn.by order v (is ∙ verdict_same c h machine k by turn.by actor order);
   stands = record {
     dead = rw (e1, buried) (dead_struck c m h machine.dead set kind struck_is k.dead);
     rights = rw e2 (rights_still c m h machine.book refl refl refl refl k.rights);
-    disks = rw e3 (disks_struck c m h machine.disks.items disks set kind order.tear struck_is refl (λ p. refl) refl count each k.disks);
+    disks = rw e3 (disks_struck c m h machine.disks.items disks set kind order.tear struck_is refl (λ p. refl) refl changed k.disks);
     up = rw (e4, ups) (up_struck c m h machine.up set kind (λ q. refl) struck_is k.up);
     net = rw e5 (net_still c m h machine.net refl (λ k. refl) refl refl refl k.net);
     teams = rw e6 (teams_still m h machine.teams refl refl (λ r p. refl) k.teams);

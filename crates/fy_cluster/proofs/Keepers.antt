@@ -58,7 +58,7 @@ records_kept tested more short c journal i l r a = kept_from more c (history c j
 
 -- ---- keepers
 
-abbrev LeastFound : Type 0
+abbrev pub LeastFound : Type 0
 LeastFound = (count : ℕ) (set test : ℕ → Bool) (found : Option ProcId) → ((q : ℕ) → set q ≡ true → q < count) → LeastWith set test found ↔ (option_map (λ p. p.0) found ≡ least_with count set test)
 
 -- who is among processes is one of them
@@ -69,7 +69,7 @@ among_is ps q i = at (Any-from_list_any (λ p. p.0 == q) ps i)
     at a = (a.0, a.1, a.2, a.3, eqb-true a.1.0 q a.4)
 
 -- the members of a record's team are processes of the cluster
-members_there : (c : Setup) (h : History) → Sound c h → (r : ℕ) → acked h r ≡ true → (q : ℕ) → is_among (team_of h r) q ≡ true → q < length c.processes
+pub members_there : (c : Setup) (h : History) → Sound c h → (r : ℕ) → acked h r ≡ true → (q : ℕ) → is_among (team_of h r) q ≡ true → q < length c.processes
 members_there c h sound r a q i =
     let b = acked_known h r a in
     let t = slice_get-each (λ b. (t : Team) × (slice_get (teams h) b.team ≡ Some t)) (records h) r b.0 sound.joined b.1 in

@@ -2,9 +2,11 @@ pub mod Syncing
 pub mod Targets
 pub mod Times
 pub mod Delivered
+pub mod Deliverable
 pub mod DiskSteps
 pub mod Disks
 pub mod Entering
+pub mod Finding
 pub mod Flights
 pub mod Formed
 pub mod Grants
@@ -18,6 +20,7 @@ pub mod Resent
 pub mod Results
 pub mod Room
 pub mod Runs
+pub mod Seen
 pub mod Sending
 pub mod Starting
 pub mod Starts

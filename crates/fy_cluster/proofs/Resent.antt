@@ -1,5 +1,6 @@
 -- a record is sent once more
 use Rattle.std.proofs.Common.{◌≡◌, ℕ, ◌+◌, ◌<◌, List, [], ◌∷◌, ◌++◌, Bool, true, false, ◌&&◌, not, Option, Some, None, option_map, refl, sym, ◌∙◌, ap, ap₂, nat_lt, nat_le, length, map, arith, slice_get, if◌then◌else◌, append-nil}
+use Rattle.std.proofs.lemmas.Bool.{true≢false}
 use Rattle.std.proofs.lemmas.Bool.Decides.{nat_tests}
 use Rattle.std.proofs.lemmas.List.Elements.{All-contains}
 use Rattle.std.specs.List.{list_all}
@@ -21,7 +22,7 @@ use Rattle.fy_cluster.proofs.Refusals.{refuse}
 use Rattle.fy_cluster.proofs.Results.{some_is_same, some_not_none}
 use Rattle.fy_cluster.proofs.Room.{net_sent, room_for}
 use Rattle.fy_cluster.proofs.Formed.{past_policies, within_policies}
-use Rattle.fy_cluster.proofs.Records.{Tested, slice_get-each, slice_get-some}
+use Rattle.fy_cluster.proofs.Records.{Tested, Sound, slice_get-each, slice_get-some}
 use Rattle.fy_cluster.proofs.Delivered.{sound_of, record_is, acked_same}
 use Rattle.fy_cluster.proofs.Keepers.{among_is}
 use Rattle.fy_audit.specs.declared.act.Act.TheVariants.{Begin}
@@ -30,8 +31,8 @@ use Rattle.fy_audit.specs.declared.reply.Refusal.TheVariants.{NoTeam, Payload, T
 use Rattle.fy_team.specs.declared.fault.TeamFault.{TeamFault}
 use Rattle.fy_team.specs.declared.fault.TeamFault.TheVariants.{NoTeam as NoTeamThere, Payload as LongPayload, TooMany as TooManyThere}
 use Rattle.fy_team.specs.Teams.{begin_refusal, begun_for, is_marked}
-use Rattle.fy_cluster.specs.History.{members_of}
-use Rattle.fy_cluster.specs.Standing.{replied_to_team, numbered}
+use Rattle.fy_cluster.specs.History.{members_of, stores_of}
+use Rattle.fy_cluster.specs.Standing.{replied_to_team, numbered, Sends}
 use Rattle.fy_cluster.proofs.Sending.{map-push}
 use Rattle.std.specs.List.{All}
 use Rattle.std.proofs.Common.{subst}
@@ -102,17 +103,34 @@ team_missing tested turn m k l rec team named none = at (slice_get m.teams.recor
         let t = slice_get-each (λ b. (t : Team) × (slice_get (teams turn.before) b.team ≡ Some t)) (records turn.before) rec (begun_of it) (sound_of tested turn.setup turn.before l).joined begun in
         some_not_none t.0.members (sym (none ∙ ap (option_map (λ (it : Team). it.members)) (ap (λ ts. slice_get ts team) k.teams.teams ∙ ap (slice_get (teams turn.before)) same ∙ t.1)))
 
+none_acked : (roster : Roster) (rec : ℕ) → slice_get roster.records rec ≡ None → is_acked roster rec ≡ false
+none_acked roster rec e = rw e refl
+
+-- whether a record is acknowledged, by the teams and by the history; none is that was not begun
+pub acked_by : (c : Setup) (h : History) (roster : Roster) → Sound c h → KeepsTeams h roster → (rec : ℕ) → acked h rec ≡ is_acked roster rec
+acked_by c h roster sound k rec = at (nat_lt rec (length (records h))) refl
+  where
+    missing : nat_lt rec (length (records h)) ≡ false → slice_get roster.records rec ≡ None
+    missing e = into (slice_get roster.records rec) refl
+      where
+        into : (o : Option Record) → slice_get roster.records rec ≡ o → o ≡ None
+        into None s = refl
+        into (Some it) s =
+            let there : nat_le (length (records h)) rec ≡ false = within_policies (records h) rec (begun_of it) (record_is h roster k rec ∙ ap (option_map begun_of) s) in
+            absurd (let no : true ≡ false = grind (arith, nat_tests) in true≢false no)
+
+    at : (b : Bool) → nat_lt rec (length (records h)) ≡ b → acked h rec ≡ is_acked roster rec
+    at true e =
+        let low : rec < length (records h) = grind (arith, nat_tests) in
+        ap (λ a. a && list_all (λ q. marked h rec q.0) (team_of h rec)) e
+        ∙ sym (acked_same h roster k rec (slice_get-some (records h) rec low) (λ b w. slice_get-each (λ b. (t : Team) × (slice_get (teams h) b.team ≡ Some t)) (records h) rec b sound.joined w))
+    at false e = ap (λ a. a && list_all (λ q. marked h rec q.0) (team_of h rec)) e ∙ sym (none_acked roster rec (missing e))
+
 pub not_member : (turn : Turn) (rec : ℕ) (p : ProcId) (members : List ProcId) (m : Machine) → Stands turn.setup turn.before m → IsOf turn.before rec members → is_among members p.0 ≡ false → Follows turn (Resend rec p) (No NotMember) m
 not_member turn rec p members m k is e = refuse turn (Resend rec p) NotMember m k (resend_reply turn.setup turn.before turn.by rec p false false _ _ is.known (ap (λ ps. is_among ps p.0) is.team ∙ e) refl refl)
 
-pub acked_is : Tested → (turn : Turn) (rec : ℕ) (members : List ProcId) (m : Machine) → Stands turn.setup turn.before m → IsLived turn.setup turn.before → IsOf turn.before rec members → acked turn.before rec ≡ is_acked m.teams rec
-acked_is tested turn rec members m k l is =
-    let within : nat_lt rec (length (records turn.before)) ≡ true = let n = is.known in grind (arith, nat_tests) in
-    let low : rec < length (records turn.before) = grind (arith, nat_tests) in
-    let b = slice_get-some (records turn.before) rec low in
-    let sound = sound_of tested turn.setup turn.before l in
-    ap (λ a. a && list_all (λ q. marked turn.before rec q.0) (team_of turn.before rec)) within
-    ∙ sym (acked_same turn.before m.teams k.teams rec b (λ b w. slice_get-each (λ b. (t : Team) × (slice_get (teams turn.before) b.team ≡ Some t)) (records turn.before) rec b sound.joined w))
+pub acked_is : Tested → (turn : Turn) (rec : ℕ) (m : Machine) → Stands turn.setup turn.before m → IsLived turn.setup turn.before → acked turn.before rec ≡ is_acked m.teams rec
+acked_is tested turn rec m k l = acked_by turn.setup turn.before m.teams (sound_of tested turn.setup turn.before l) k.teams rec
 
 pub is_acked_already : (turn : Turn) (rec : ℕ) (p : ProcId) (members : List ProcId) (m : Machine) → Stands turn.setup turn.before m → IsOf turn.before rec members → is_among members p.0 ≡ true → acked turn.before rec ≡ true → Follows turn (Resend rec p) (No Acked) m
 is_acked_already turn rec p members m k is e a = refuse turn (Resend rec p) Acked m k (resend_reply turn.setup turn.before turn.by rec p false true true _ is.known (ap (λ ps. is_among ps p.0) is.team ∙ e) a refl)
@@ -211,20 +229,20 @@ pub begins_now : ((roster : Roster) (team : ℕ) (payload : List ℕ) (r q : ℕ
     → (turn : Turn) (team : ℕ) (payload : List ℕ) (members : List ProcId) (machine : Machine) (room net : Traffic) (roster : Roster) (rec first n : ℕ) → Stands turn.setup turn.before machine
     → Fits turn.before team payload → members_of turn.before team ≡ members → n ≡ length members → reserve_refusal machine.net n ≡ None → room ≡ record machine.net { room = room.room }
     → rec ≡ length machine.teams.records → roster ≡ begun_for team payload machine.teams → first ≡ room.sent
-    → net.in_flight ≡ room.in_flight ++ numbered room.sent (map (λ p. Store rec p) members) → net.sent ≡ room.sent + length members → net.clock ≡ room.clock → net.until ≡ room.until
+    → Sends room (stores_of rec members) net
     → Follows turn (Begin team payload) (BegunAs rec first) (record machine { net = net; teams = roster })
-begins_now unmarked turn team payload members machine room net roster rec first n k f is count clear reserved rec_is begun first_is flight sum clock until = rw (record_is_next, number_is) (record {
+begins_now unmarked turn team payload members machine room net roster rec first n k f is count clear reserved rec_is begun first_is sends = rw (record_is_next, number_is) (record {
   right = sym (begin_reply c h turn.by team payload false false false false f.there f.small f.few (ap (λ ps. is_full h (length ps)) is ∙ ap (is_full h) (sym count) ∙ (room_for c h machine.net n k.net clear).0));
   stands = record {
     dead = dead_still c m h machine.dead (λ q. refl) k.dead;
     rights = rights_still c m h machine.book refl refl refl refl k.rights;
     disks = disks_still c m h machine.disks.items (λ q. refl) refl (λ q. refl) k.disks;
     up = up_still c m h machine.up (λ q. refl) refl k.up;
-    net = net_sent c m h machine.net net (map (λ p. Store rec p) members) (ap₂ (λ (r : ℕ) (ps : List ProcId). map (λ p. Store r p) ps) (sym record_is_next) is) (let few = (room_for c h machine.net n k.net clear).1 in let s = stores in omega arith) (λ j. refl) refl refl refl
-        (flight ∙ ap (λ (r : Traffic). r.in_flight ++ numbered r.sent (map (λ p. Store rec p) members)) reserved)
-        (sum ∙ ap₂ (λ a b. a + b) (ap (λ (r : Traffic). r.sent) reserved) (sym stores))
-        (clock ∙ ap (λ (r : Traffic). r.clock) reserved)
-        (until ∙ ap (λ (r : Traffic). r.until) reserved)
+    net = net_sent c m h machine.net net (stores_of rec members) (ap₂ stores_of (sym record_is_next) is) (let few = (room_for c h machine.net n k.net clear).1 in let s = stores in omega arith) (λ j. refl) refl refl refl
+        sent_now.in_flight
+        sent_now.count
+        sent_now.clock
+        sent_now.until
         k.net;
     teams = rw begun (record {
       teams = k.teams.teams ∙ sym (append-nil (teams h));
@@ -249,7 +267,10 @@ begins_now unmarked turn team payload members machine room net roster rec first 
     number_is : first ≡ length (sent turn.before)
     number_is = first_is ∙ ap (λ (r : Traffic). r.sent) reserved ∙ k.net.sent_so_far
 
-    stores : length (map (λ (p : ProcId). Store rec p) members) ≡ length members
+    sent_now : Sends (record machine.net { room = room.room }) (stores_of rec members) net
+    sent_now = subst (λ r. Sends r (stores_of rec members) net) reserved sends
+
+    stores : length (stores_of rec members) ≡ length members
     stores = length-map members (λ (p : ProcId). Store rec p)
 
 -- the same members, by another count of the same processes

@@ -2,7 +2,7 @@
 use Rattle.std.proofs.Common.{◌≡◌, ℕ, ◌+◌, ◌<◌, List, [], ◌∷◌, ◌++◌, length, take, get_or, Some, refl, sym, ◌∙◌, ap, add-one}
 use Rattle.std.proofs.lemmas.Option.{slice_get-get_or}
 use Rattle.fy_audit.specs.declared.act.Act.{Act}
-use Rattle.fy_cluster.specs.Standing.{Course, entered, after_acts}
+use Rattle.fy_cluster.specs.Course.{Course, entered, after_acts}
 use Rattle.fy_cluster.proofs.Sending.{take-push}
 
 after_acts-push : (course : Course) (acts : List (ℕ × Act)) (x : ℕ × Act) → after_acts course (acts ++ x ∷ []) ≡ entered (after_acts course acts) x.0 x.1

@@ -1,16 +1,32 @@
 -- a machine before anything happened keeps the empty history
-use Rattle.std.proofs.Common.{◌≡◌, ℕ, ◌<◌, ◌≤◌, Bool, true, false, ◌&&◌, [], length, replicate, slice_get, Some, refl, sym, ◌∙◌, ap, nat_lt, get_or, arith}
+use Rattle.std.proofs.Common.{◌==◌, ◌≡◌, ℕ, ◌+◌, ◌<◌, ◌≤◌, Bool, true, false, ◌&&◌, ◌||◌, not, List, [], ◌∷◌, ◌++◌, length, take, replicate, slice_get, Some, None, refl, sym, ◌∙◌, ap, nat_lt, get_or, arith, append-nil, append_assoc, filter, if◌then◌else◌}
 use Rattle.std.proofs.lemmas.Bool.Decides.{nat_tests}
 use Rattle.std.proofs.lemmas.List.{length-replicate, get_or-replicate}
+use Rattle.std.proofs.lemmas.List.Elements.{filter_more}
 use Rattle.std.proofs.lemmas.Option.{slice_get-get_or}
+use Rattle.std.proofs.lemmas.Iterator.Adapters.{position_from-zero}
+use Rattle.std.specs.List.{position_from, AllByRecursion}
+use Rattle.fy_locality.specs.declared.locality.Locality.{Locality}
+use Rattle.fy_policy.specs.Tree.{Tree, IsPolicy}
+use Rattle.fy_policy.specs.Sat.{Sat, satisfies}
+use Rattle.fy_kinds.specs.Kinds.{Deed, has}
+use Rattle.fy_grants.specs.declared.grant.Grant.{Grant}
+use Rattle.fy_grants.specs.Rights.{Rights, grants_of, protections_of, grant_count, with_grant}
+use Rattle.fy_decide.specs.Losses.{everyone, first_unmet}
 use Rattle.std.specs.FinSet as sets
 use Rattle.std.specs.Ordering.{nat_cmp}
+use Rattle.fy_decide.specs.declared.dead_book.MakeFault.TheVariants.{Unmet, NoMemory}
 use Rattle.fy_decide.specs.DeadBook.{IsFresh}
 use Rattle.fy_net.specs.Net.{quiet}
 use Rattle.fy_team.specs.Teams.{nobody}
 use Rattle.fy_cluster.specs.declared.machine.Machine.{Machine}
-use Rattle.fy_cluster.specs.Setup.{Setup}
-use Rattle.fy_cluster.specs.Standing.{Stands, KeepsRights, blank_disk}
+use Rattle.fy_cluster.specs.declared.config.Protection.{Protection}
+use Rattle.fy_cluster.specs.Setup.{Setup, IsMet, IsSetup}
+use Rattle.fy_cluster.specs.Rules.{grants_to, some_protects}
+use Rattle.fy_cluster.proofs.Grants.{GivesLists}
+use Rattle.fy_cluster.proofs.Records.{Tested}
+use Rattle.fy_audit.specs.declared.entry.Entry.{Entry}
+use Rattle.fy_cluster.specs.Standing.{Stands, KeepsRights, blank_disk, IsKept}
 
 and_true : (b : Bool) → b ≡ (b && true)
 and_true true = refl
@@ -46,3 +62,63 @@ stands_at_start c m few fresh rights disks up net teams = record {
   });
   teams = rw teams (record { teams = refl; records = refl; marks = λ r p. refl });
 }
+
+-- ---- no policy is unmet
+
+none_unmet : Tested → (processes : List Locality) (policies : List Tree) (i : ℕ) → AllByRecursion (λ P. IsPolicy P × Sat processes P (everyone processes)) policies → position_from (λ P. not (satisfies processes P (everyone processes))) i policies ≡ None
+none_unmet tested processes [] i met = refl
+none_unmet tested processes (P ∷ policies) i met = rw ((tested processes P (everyone processes)).1 met.0.1) (none_unmet tested processes policies (i + 1) met.1)
+
+pub all_met : Tested → (c : Setup) → IsMet c → first_unmet c.processes c.policies ≡ None
+all_met tested c met = position_from-zero (λ P. not (satisfies c.processes P (everyone c.processes))) c.policies ∙ none_unmet tested c.processes c.policies 0 met
+
+pub not_unmet : (i : ℕ) → Unmet i ≡ NoMemory → ⊥
+not_unmet i e = cc
+
+-- ---- the first grants
+
+-- the first so many grants are given
+pub record GivenUpTo (old new : Rights) (grants : List Grant) (i : ℕ) : Type 0 where
+  pub actors : length new.grants ≡ length old.grants
+  pub protections : new.protections ≡ old.protections
+  pub count : grant_count new ≡ grant_count old + i
+  pub lists : (a : ℕ) → grants_of new a ≡ grants_of old a ++ grants_to a (take i grants)
+
+pub given_next : GivesLists → ((rights : Rights) (grant : Grant) → length (with_grant rights grant).grants ≡ length rights.grants)
+    → ((rights : Rights) (grant : Grant) → grant.actor < length rights.grants → grant_count (with_grant rights grant) ≡ grant_count rights + 1)
+    → (old new next : Rights) (grants : List Grant) (i : ℕ) (grant : Grant) → i < length grants → grant ≡ get_or grants i grant → grant.actor < length old.grants → next ≡ with_grant new grant
+    → GivenUpTo old new grants i → GivenUpTo old next grants (i + 1)
+given_next lists actors counted old new next grants i grant within is known given k = rw given (record {
+  actors = actors new grant ∙ k.actors;
+  protections = k.protections;
+  count = counted new grant there ∙ (let count = k.count in omega arith);
+  lists = λ a. lists new grant a there ∙ ap (λ own. if grant.actor == a then own ++ grant ∷ [] else own) (k.lists a) ∙ at a (grant.actor == a) refl;
+})
+  where
+    there : grant.actor < length new.grants
+    there = let same = k.actors in omega arith
+
+    of : ℕ → Grant → Bool
+    of a grant = grant.actor == a
+
+    more : (a : ℕ) (b : Bool) → (grant.actor == a) ≡ b → filter (of a) (take (i + 1) grants) ≡ filter (of a) (take i grants) ++ (if b then grant ∷ [] else [])
+    more a b e =
+        filter_more (of a) grants i grant within
+        ∙ ap (λ (g : Grant). filter (of a) (take i grants) ++ (if of a g then g ∷ [] else [])) (sym is)
+        ∙ ap (λ t. filter (of a) (take i grants) ++ (if t then grant ∷ [] else [])) e
+
+    at : (a : ℕ) (b : Bool) → (grant.actor == a) ≡ b
+        → (if b then (grants_of old a ++ filter (of a) (take i grants)) ++ grant ∷ [] else grants_of old a ++ filter (of a) (take i grants)) ≡ grants_of old a ++ filter (of a) (take (i + 1) grants)
+    at a true e = append_assoc (grants_of old a) (filter (of a) (take i grants)) (grant ∷ []) ∙ ap (λ xs. grants_of old a ++ xs) (sym (more a true e))
+    at a false e = ap (λ xs. grants_of old a ++ xs) (sym (more a false e ∙ append-nil (filter (of a) (take i grants))))
+
+-- the first so many protections are added
+pub record ProtectedUpTo (old new : Rights) (protections : List Protection) (i : ℕ) : Type 0 where
+  pub processes : length new.protections ≡ length old.protections
+  pub grants : new.grants ≡ old.grants
+  pub kinds : (p : ℕ) (deed : Deed) → has (protections_of new p) deed ≡ (some_protects (take i protections) p deed || has (protections_of old p) deed)
+
+-- ---- the cluster
+
+pub kept_at_start : (c : Setup) (journal : List Entry) (m : Machine) → journal ≡ [] → IsSetup c → Stands c [] m → IsKept c journal m
+kept_at_start c journal m none setup stands = rw none (record { setup = setup; legal = (omega arith, tt); stands = stands })

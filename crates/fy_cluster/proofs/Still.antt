@@ -1,20 +1,27 @@
 -- what an entry leaves as it was, part by part
-use Rattle.std.proofs.Common.{◌==◌, ◌≡◌, ℕ, Bool, false, ◌&&◌, ◌||◌, not, [], ◌∷◌, Option, Some, None, is_none, refl, sym, ◌∙◌, ap, ap₂, arith, nat_lt, length, append-nil, List, ◌++◌, option_to_list}
+use Rattle.std.proofs.Common.{◌==◌, ◌≡◌, ℕ, Bool, true, false, ◌&&◌, ◌||◌, not, [], ◌∷◌, Option, Some, None, is_none, refl, sym, ◌∙◌, ap, ap₂, arith, nat_lt, length, append-nil, List, ◌++◌, option_to_list, is_some, if◌then◌else◌}
+use Rattle.std.specs.Prelude.{option_and_then}
 use Rattle.std.proofs.lemmas.Bool.{or_from}
 use Rattle.fy_kinds.specs.declared.kind.Kind.{Kind}
 use Rattle.fy_kinds.specs.Kinds.{is_destroying}
+use Rattle.fy_kinds.specs.declared.kind_set.KindSet.{KindSet}
+use Rattle.fy_kinds.specs.declared.order.Target.{Target}
+use Rattle.fy_grants.specs.declared.grant.Grant.{Grant}
 use Rattle.fy_grants.specs.Rights.{Rights}
 use Rattle.fy_decide.specs.DeadBook.{Casualties}
 use Rattle.fy_disk.specs.declared.item.Item.{Item}
 use Rattle.fy_disk.specs.Disk.{Stored}
 use Rattle.fy_net.specs.Net.{Traffic}
-use Rattle.fy_team.specs.Teams.{Roster}
+use Rattle.fy_team.specs.Teams.{Roster, Team}
+use Rattle.fy_audit.specs.declared.act.Act.{Act}
+use Rattle.fy_audit.specs.declared.reply.Reply.{Reply}
+use Rattle.fy_cluster.specs.declared.machine.Machine.{Machine}
 use Rattle.std.specs.Ordering.{nat_cmp}
 use Rattle.std.specs.FinSet as sets
 use Rattle.fy_cluster.specs.Setup.{Setup}
-use Rattle.fy_cluster.specs.History.{History, Moment, some_is, clogs, unclogs, forms, begins, syncs, ups, ticks, gives, takes, protects, unprotects, strikes, is_killing, is_closing, closes, writes, destroyed, gone, up, unsynced, sent, takes_out, now, marks, marked, teams, records}
+use Rattle.fy_cluster.specs.History.{History, Moment, Begun, some_is, struck_by, delivers, loses, store_to, word_of, is_stored, clogs, unclogs, forms, begins, syncs, ups, ticks, gives, takes, protects, unprotects, strikes, is_killing, is_closing, closes, writes, destroyed, gone, up, unsynced, sent, takes_out, now, marks, marked, teams, records}
 use Rattle.fy_cluster.specs.Rules.{grants, is_protected, with_given, without_taken, changes}
-use Rattle.fy_cluster.specs.Standing.{KeepsDead, KeepsRights, KeepsDisks, KeepsUp, KeepsNet, KeepsTeams, stored}
+use Rattle.fy_cluster.specs.Standing.{Stands, Turn, moment_of, following, KeepsDead, KeepsRights, KeepsDisks, KeepsUp, KeepsNet, KeepsTeams, stored}
 use Rattle.fy_cluster.proofs.DiskSteps.{synced_else, unsynced_else, own}
 use Rattle.fy_cluster.proofs.Flights.{flying_still}
 
@@ -101,3 +108,93 @@ rights_still c m h rights no_give no_take no_more no_less k = record {
   grants = λ a. k.grants a ∙ sym (ap₂ (λ t g. without_taken a t (with_given a g (grants c h a))) no_take no_give);
   protections = λ p deed. k.protections p deed ∙ sym (ap₂ (λ m l. changes p deed m || not (changes p deed l) && is_protected c h p deed) no_more no_less);
 }
+
+-- ---- the whole
+
+-- all that an act does by its reply
+pub record Doings : Type 0 where
+  pub struck : Option Kind
+  pub clogged_for : Option ℕ
+  pub unclogged : Option Target
+  pub formed : Option Team
+  pub begun : Option Begun
+  pub delivered : Option ℕ
+  pub lost : Option ℕ
+  pub synced_at : Option ℕ
+  pub started : Option ℕ
+  pub passed : Option ℕ
+  pub given : Option Grant
+  pub taken : Option (ℕ × ℕ)
+  pub shielded : Option (ℕ × KindSet)
+  pub unshielded : Option (ℕ × KindSet)
+
+abbrev pub doings : Act → Reply → Doings
+doings act r = record {
+  struck = struck_by act r;
+  clogged_for = clogs act r;
+  unclogged = unclogs act r;
+  formed = forms act r;
+  begun = begins act r;
+  delivered = delivers act r;
+  lost = loses act r;
+  synced_at = syncs act r;
+  started = ups act r;
+  passed = ticks act r;
+  given = gives act r;
+  taken = takes act r;
+  shielded = protects act r;
+  unshielded = unprotects act r;
+}
+
+-- nothing but a clog, or its end
+abbrev pub clog_alone : Option ℕ → Option Target → Doings
+clog_alone n target = record {
+  struck = None;
+  clogged_for = n;
+  unclogged = target;
+  formed = None;
+  begun = None;
+  delivered = None;
+  lost = None;
+  synced_at = None;
+  started = None;
+  passed = None;
+  given = None;
+  taken = None;
+  shielded = None;
+  unshielded = None;
+}
+
+abbrev pub nothing : Doings
+nothing = clog_alone None None
+
+none_struck : (b : Bool) (o : Option Kind) → o ≡ None → (if b then o else None) ≡ None
+none_struck true o e = e
+none_struck false o e = refl
+
+pub none_taken_out : (act : Act) (r : Reply) (n : Option ℕ) (target : Option Target) → doings act r ≡ clog_alone n target → (m : ℕ) → (some_is (λ k. k == m) (delivers act r) || some_is (λ k. k == m) (loses act r)) ≡ false
+none_taken_out act r n target is m = ap₂ (λ d l. some_is (λ k. k == m) d || some_is (λ k. k == m) l) (ap (λ (d : Doings). d.delivered) is) (ap (λ (d : Doings). d.lost) is)
+
+-- what only clogs leaves all but the network
+pub only_net : (turn : Turn) (act : Act) (r : Reply) (machine : Machine) (net : Traffic) (n : Option ℕ) (target : Option Target) → doings act r ≡ clog_alone n target
+    → Stands turn.setup turn.before machine → KeepsNet turn.setup (following turn act r) net → Stands turn.setup (following turn act r) (record machine { net = net })
+only_net turn act r machine net n target is k kept = record {
+  dead = dead_still turn.setup m turn.before machine.dead struck k.dead;
+  rights = rights_still turn.setup m turn.before machine.book (ap (λ (d : Doings). d.given) is) (ap (λ (d : Doings). d.taken) is) (ap (λ (d : Doings). d.shielded) is) (ap (λ (d : Doings). d.unshielded) is) k.rights;
+  disks = disks_still turn.setup m turn.before machine.disks.items struck (ap (λ (d : Doings). d.synced_at) is) (λ p. ap (λ o. if is_some o && is_stored r then option_and_then (store_to p) m.message else None) (ap (λ (d : Doings). d.delivered) is)) k.disks;
+  up = up_still turn.setup m turn.before machine.up struck (ap (λ (d : Doings). d.started) is) k.up;
+  net = kept;
+  teams = teams_still m turn.before machine.teams (ap (λ (d : Doings). d.formed) is) (ap (λ (d : Doings). d.begun) is) (λ i p. ap (λ o. is_some o && some_is (λ w. w.0 == i && w.1 == p) (option_and_then word_of m.message)) (ap (λ (d : Doings). d.delivered) is)) k.teams;
+}
+  where
+    m : Moment
+    m = moment_of turn act r
+
+    struck : (p : ℕ) → strikes m p ≡ None
+    struck p = none_struck (m.targets p) _ (ap (λ (d : Doings). d.struck) is)
+
+-- what does nothing, and sends nothing, leaves all
+pub unmoved : (turn : Turn) (act : Act) (r : Reply) (machine : Machine) → doings act r ≡ nothing → (moment_of turn act r).sends ≡ [] → Stands turn.setup turn.before machine → Stands turn.setup (following turn act r) machine
+unmoved turn act r machine is silent k =
+    only_net turn act r machine machine.net None None is k
+    (net_still turn.setup (moment_of turn act r) turn.before machine.net silent (none_taken_out act r None None is) (ap (λ (d : Doings). d.clogged_for) is) (ap (λ (d : Doings). d.unclogged) is) (ap (λ (d : Doings). d.passed) is) k.net)

@@ -1,5 +1,5 @@
 -- a process syncs
-use Rattle.std.proofs.Common.{◌==◌, ◌≡◌, ℕ, ◌+◌, ◌<◌, List, [], ◌∷◌, ◌++◌, Bool, true, false, not, Some, None, refl, sym, ◌∙◌, ap, ap₂, length, map, arith, slice_get, slice_set, get_or, eqb-true, eq-eqb, length-set, if◌then◌else◌}
+use Rattle.std.proofs.Common.{subst, ◌==◌, ◌≡◌, ℕ, ◌+◌, ◌<◌, List, [], ◌∷◌, ◌++◌, Bool, true, false, not, Some, None, refl, sym, ◌∙◌, ap, ap₂, length, arith, slice_get, slice_set, get_or, eqb-true, eq-eqb, length-set, if◌then◌else◌}
 use Rattle.std.proofs.lemmas.Option.{slice_get-get_or}
 use Rattle.std.proofs.lemmas.List.{length-map}
 use Rattle.fy_locality.specs.declared.ProcId.{ProcId}
@@ -12,9 +12,9 @@ use Rattle.fy_audit.specs.declared.reply.Reply.TheVariants.{Synced, No}
 use Rattle.fy_audit.specs.declared.reply.Refusal.TheVariants.{NoProcess, NotUp, NetFull}
 use Rattle.fy_cluster.specs.declared.machine.Machine.{Machine}
 use Rattle.fy_cluster.specs.Setup.{Setup}
-use Rattle.fy_cluster.specs.History.{History, Moment, up, sent, synced, unsynced, closes, close_keeps}
+use Rattle.fy_cluster.specs.History.{History, Moment, up, sent, synced, unsynced, closes, close_keeps, words_of}
 use Rattle.fy_cluster.specs.Replies.{refused, refusals, answer, no_process, is_full}
-use Rattle.fy_cluster.specs.Standing.{Stands, Turn, Follows, moment_of, stored, blank_disk, numbered}
+use Rattle.fy_cluster.specs.Standing.{Stands, Turn, Follows, moment_of, stored, blank_disk, Sends}
 use Rattle.fy_cluster.proofs.Still.{dead_still, up_still, teams_still, rights_still, stored_still}
 use Rattle.fy_cluster.proofs.DiskSteps.{synced_at_close, unsynced_at_close}
 use Rattle.fy_cluster.proofs.Refusals.{refuse}
@@ -47,12 +47,12 @@ pub synced_now : (turn : Turn) (p : ProcId) (machine : Machine) (disk : OnDisk) 
     → no_process turn.setup p.0 ≡ false → p.0 < length turn.setup.processes → up turn.before p.0 ≡ true
     → slice_get machine.disks.items p.0 ≡ Some disk → reserve_refusal machine.net (length disk.unsynced) ≡ None
     → room ≡ record machine.net { room = room.room }
-    → net.in_flight ≡ room.in_flight ++ numbered room.sent (map (λ item. Word item.rec p) disk.unsynced) → net.sent ≡ room.sent + length disk.unsynced → net.clock ≡ room.clock → net.until ≡ room.until
+    → Sends room (words_of p disk.unsynced) net
     → first ≡ room.sent → count ≡ length disk.unsynced
     → after.dead ≡ machine.dead → after.book ≡ machine.book → after.up ≡ machine.up → after.net ≡ net → after.teams ≡ machine.teams
     → after.disks.items ≡ slice_set machine.disks.items p.0 (record { synced = disk.synced ++ disk.unsynced; unsynced = [] })
     → Follows turn (Sync p) (Synced first count) after
-synced_now turn p machine disk room net first count after k known there ups was clear reserved flight sum clock until number counted e1 e2 e3 e4 e5 e6 = rw (first_is, count_is) (record {
+synced_now turn p machine disk room net first count after k known there ups was clear reserved sends number counted e1 e2 e3 e4 e5 e6 = rw (first_is, count_is) (record {
   right = sym (sync_reply c h turn.by p false true false known ups (ap (is_full h) (sym size) ∙ (room_for c h machine.net (length disk.unsynced) k.net clear).0));
   stands = record {
     dead = rw e1 (dead_still c m h machine.dead (λ q. refl) k.dead);
@@ -62,16 +62,16 @@ synced_now turn p machine disk room net first count after k known there ups was 
       each = λ q l. after_set machine.disks.items p.0 q _ blank_disk (let n = k.disks.count in omega arith) (let n = k.disks.count in omega arith) ∙ at q l (q == p.0) refl;
     });
     up = rw e3 (up_still c m h machine.up (λ q. refl) refl k.up);
-    net = rw e4 (net_sent c m h machine.net net (map (λ item. Word item.rec p) disk.unsynced) (ap (λ (d : OnDisk). map (λ item. Word item.rec p) d.unsynced) (sym disk_is))
+    net = rw e4 (net_sent c m h machine.net net (words_of p disk.unsynced) (ap (λ (d : OnDisk). words_of p d.unsynced) (sym disk_is))
         (let few = (room_for c h machine.net (length disk.unsynced) k.net clear).1 in let l = words in omega arith)
         (λ n. refl)
         refl
         refl
         refl
-        (flight ∙ ap (λ (r : Traffic). r.in_flight ++ numbered r.sent (map (λ item. Word item.rec p) disk.unsynced)) reserved)
-        (sum ∙ ap₂ (λ a b. a + b) (ap (λ (r : Traffic). r.sent) reserved) (sym words))
-        (clock ∙ ap (λ (r : Traffic). r.clock) reserved)
-        (until ∙ ap (λ (r : Traffic). r.until) reserved)
+        sent_now.in_flight
+        sent_now.count
+        sent_now.clock
+        sent_now.until
         k.net);
     teams = rw e5 (teams_still m h machine.teams refl refl (λ r q. refl) k.teams);
   };
@@ -92,7 +92,10 @@ synced_now turn p machine disk room net first count after k known there ups was 
     size : length disk.unsynced ≡ length (unsynced turn.before p.0)
     size = ap (λ (d : OnDisk). length d.unsynced) disk_is
 
-    words : length (map (λ (item : Item). Word item.rec p) disk.unsynced) ≡ length disk.unsynced
+    sent_now : Sends (record machine.net { room = room.room }) (words_of p disk.unsynced) net
+    sent_now = subst (λ r. Sends r (words_of p disk.unsynced) net) reserved sends
+
+    words : length (words_of p disk.unsynced) ≡ length disk.unsynced
     words = length-map disk.unsynced (λ (item : Item). Word item.rec p)
 
     first_is : first ≡ length (sent turn.before)

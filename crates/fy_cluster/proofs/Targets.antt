@@ -1,89 +1,107 @@
--- a change of the elements of a list at the numbers of a set, one number after another
-use Rattle.std.proofs.Common.{◌==◌, ◌≡◌, ℕ, ◌+◌, ◌<◌, ◌≤◌, min, max, Bool, true, false, ◌&&◌, List, length, get_or, slice_set, slice_index, nat_lt, refl, sym, ◌∙◌, ap, arith, if◌then◌else◌, inl, inr, length-set, eqb-true}
+-- the members of a set are visited one after another, and what is at their numbers is changed
+use Rattle.std.proofs.Common.{◌==◌, ◌≡◌, ℕ, ◌<◌, Bool, true, false, ◌&&◌, not, List, length, get_or, slice_set, slice_index, refl, sym, ◌∙◌, ap, ap₂, arith, if◌then◌else◌, length-set, eqb-true}
 use Rattle.std.proofs.lemmas.List.{get_or-set_same, get_or-set_other}
-use Rattle.std.proofs.lemmas.Bool.{cases_lt, true≢false}
+use Rattle.std.proofs.lemmas.Bool.{true≢false}
 use Rattle.std.proofs.lemmas.Bool.Decides.{nat_tests}
-use Rattle.fy_net.specs.Net.{Traffic, clogged_for, unclogged, last_tick}
+use Rattle.std.specs.Ordering.{nat_cmp}
+use Rattle.std.specs.Cmp.{nat_cmp_total, unsigned_tied}
+use Rattle.std.specs.FinSet as sets
+use Rattle.fy_net.specs.Net.{Traffic}
+use Rattle.fy_cluster.specs.Standing.{ChangesAt, ClogsChange}
 
--- below i the elements at numbers of the set are changed, and the others are as they were
-pub record DoneUpTo {X : Type 0} (t : ℕ → Bool) (f : X → X) (other : X) (old : List X) (new : List X) (i : ℕ) : Type 0 where
-  pub count : length new ≡ length old
-  pub each : (q : ℕ) → q < length old → get_or new q other ≡ (if t q && nat_lt q i then f (get_or old q other) else get_or old q other)
+abbrev Set : Type 0
+Set = sets.FinSet nat_cmp
 
-and_false : {X : Type 0} (b : Bool) (x y : X) → y ≡ (if b && false then x else y)
-and_false true x y = refl
-and_false false x y = refl
+-- whether a number is of the set and no more in the rest
+abbrev pub visited : Set → Set → ℕ → Bool
+visited set rest p = sets.contains set p && not (sets.contains rest p)
 
-pub done_none : {X : Type 0} (t : ℕ → Bool) (f : X → X) (other : X) (xs : List X) → DoneUpTo t f other xs xs 0
-done_none t f other xs = record { count = refl; each = λ q l. let never : nat_lt q 0 ≡ false = grind (arith, nat_tests) in rw never (and_false (t q) (f (get_or xs q other)) (get_or xs q other)) }
+-- the rest is of the set, and the elements at the numbers that were visited are changed
+pub record Visits {X : Type 0} (set rest : Set) (change : X → X) (blank : X) (old new : List X) : Type 0 where
+  pub within : (p : ℕ) → sets.contains rest p ≡ true → sets.contains set p ≡ true
+  pub done : ChangesAt (visited set rest) change blank old new
 
-pub done_more : {X : Type 0} (t : ℕ → Bool) (f : X → X) (other : X) (old new next : List X) (i : ℕ) → i < length old → next ≡ (if t i then slice_set new i (f (get_or new i other)) else new) → DoneUpTo t f other old new i → DoneUpTo t f other old next (i + 1)
-done_more {X} t f other old new next i within is k = at (t i) refl is
+-- a number that is in the rest is one of the list's
+pub visits_below : {X : Type 0} (set rest : Set) (change : X → X) (blank : X) (old new : List X) (p : ℕ) → ((q : ℕ) → sets.contains set q ≡ true → q < length old)
+    → sets.contains rest p ≡ true → Visits set rest change blank old new → p < length new
+visits_below set rest change blank old new p small present k = let n = k.done.count in let s = small p (k.within p present) in omega arith
+
+no_both : {X : Type 0} (b : Bool) (x y : X) → y ≡ (if b && not b then x else y)
+no_both true x y = refl
+no_both false x y = refl
+
+-- before the first
+pub visits_none : {X : Type 0} (set : Set) (change : X → X) (blank : X) (xs : List X) → Visits set set change blank xs xs
+visits_none set change blank xs = record {
+  within = λ p present. present;
+  done = record { count = refl; each = λ p l. no_both (sets.contains set p) (change (get_or xs p blank)) (get_or xs p blank) };
+}
+
+-- one more
+pub visits_more : {X : Type 0} (set rest next : Set) (change : X → X) (blank : X) (old new later : List X) (p : ℕ) → ((q : ℕ) → sets.contains set q ≡ true → q < length old)
+    → sets.contains rest p ≡ true → next ≡ sets.remove rest p → later ≡ slice_set new p (change (get_or new p blank))
+    → Visits set rest change blank old new → Visits set next change blank old later
+visits_more {X} set rest next change blank old new later p small present without is k = record {
+  within = λ q there. at_rest q (q == p) (sym (left q) ∙ there);
+  done = record { count = ap length is ∙ length-set new p _ ∙ k.done.count; each = λ q l. ap (λ xs. get_or xs q blank) is ∙ at q l (q == p) refl };
+}
   where
-    later : (q : ℕ) → (q ≡ i → ⊥) → nat_lt q (i + 1) ≡ nat_lt q i
-    later q ne = elim (cases_lt q i) [
-      | inl l ↦ (let a : nat_lt q (i + 1) ≡ true = grind (arith, nat_tests) in let b : nat_lt q i ≡ true = grind (arith, nat_tests) in a ∙ sym b)
-      | inr l ↦ (let a : nat_lt q (i + 1) ≡ false = grind (arith, nat_tests) in let b : nat_lt q i ≡ false = grind (arith, nat_tests) in a ∙ sym b)
-    ]
+    left : (q : ℕ) → sets.contains next q ≡ (not (q == p) && sets.contains rest q)
+    left q = ap (λ s. sets.contains s q) without ∙ sets.contains-remove nat_cmp_total rest p q ∙ ap (λ b. not b && sets.contains rest q) (unsigned_tied q p)
 
-    untouched : (q : ℕ) → (q ≡ i → ⊥) → q < length old → get_or new q other ≡ (if t q && nat_lt q (i + 1) then f (get_or old q other) else get_or old q other)
-    untouched q ne l = k.each q l ∙ sym (ap (λ b. if t q && b then f (get_or old q other) else get_or old q other) (later q ne))
+    at_rest : (q : ℕ) (b : Bool) → (not b && sets.contains rest q) ≡ true → sets.contains set q ≡ true
+    at_rest q true there = absurd (true≢false (sym there))
+    at_rest q false there = k.within q there
 
-    here : get_or new i other ≡ get_or old i other
-    here = k.each i within ∙ (let none : nat_lt i i ≡ false = grind (arith, nat_tests) in rw none (sym (and_false (t i) (f (get_or old i other)) (get_or old i other))))
+    -- what is at a number, by whether it is in the set and in the rest
+    was : ℕ → X
+    was q = get_or old q blank
 
-    now : nat_lt i (i + 1) ≡ true
-    now = grind (arith, nat_tests)
+    becomes : ℕ → Bool → Bool → X
+    becomes q member remains = if member && not remains then change (was q) else was q
 
-    at : (b : Bool) → t i ≡ b → next ≡ (if b then slice_set new i (f (get_or new i other)) else new) → DoneUpTo t f other old next (i + 1)
-    at true e is = rw is (record { count = length-set new i _ ∙ k.count; each = λ q l. place q l (q == i) refl })
-      where
-        place : (q : ℕ) → q < length old → (s : Bool) → (q == i) ≡ s → get_or (slice_set new i (f (get_or new i other))) q other ≡ (if t q && nat_lt q (i + 1) then f (get_or old q other) else get_or old q other)
-        place q l true s =
-            let same : q ≡ i = eqb-true q i s in
-            rw (same, e, now) (get_or-set_same new i (f (get_or new i other)) other (let n = k.count in omega arith) ∙ ap f here)
-        place q l false s =
-            let ne : q ≡ i → ⊥ = λ w. (let s' : (q == i) ≡ true = grind (arith, nat_tests) in true≢false (sym s' ∙ s)) in
-            get_or-set_other new i q (f (get_or new i other)) other ne ∙ untouched q ne l
-    at false e is = rw is (record { count = k.count; each = λ q l. place q l (q == i) refl })
-      where
-        place : (q : ℕ) → q < length old → (s : Bool) → (q == i) ≡ s → get_or new q other ≡ (if t q && nat_lt q (i + 1) then f (get_or old q other) else get_or old q other)
-        place q l true s = let same : q ≡ i = eqb-true q i s in rw (same, e) here
-        place q l false s = untouched q (λ w. (let s' : (q == i) ≡ true = grind (arith, nat_tests) in true≢false (sym s' ∙ s))) l
+    at : (q : ℕ) → q < length old → (b : Bool) → (q == p) ≡ b → get_or (slice_set new p (change (get_or new p blank))) q blank ≡ becomes q (sets.contains set q) (sets.contains next q)
+    at q l true e =
+        let same : q ≡ p = eqb-true q p e in
+        let here : sets.contains rest q ≡ true = ap (sets.contains rest) same ∙ present in
+        let changed : get_or (slice_set new p (change (get_or new p blank))) p blank ≡ change (get_or new p blank) = get_or-set_same new p _ blank (visits_below set rest change blank old new p small present k) in
+        ap (λ i. get_or (slice_set new p (change (get_or new p blank))) i blank) same
+        ∙ changed
+        ∙ ap (λ i. change (get_or new i blank)) (sym same)
+        ∙ ap change (k.done.each q l ∙ ap₂ (becomes q) (k.within q here) here)
+        ∙ sym (ap₂ (becomes q) (k.within q here) (left q ∙ ap (λ b. not b && sets.contains rest q) e))
+    at q l false e =
+        get_or-set_other new p q (change (get_or new p blank)) blank (λ w. (let s : (q == p) ≡ true = grind (arith, nat_tests) in true≢false (sym s ∙ e)))
+        ∙ k.done.each q l
+        ∙ ap (becomes q (sets.contains set q)) (sym (left q ∙ ap (λ b. not b && sets.contains rest q) e))
 
-pub done_all : {X : Type 0} (t : ℕ → Bool) (f : X → X) (other : X) (old new : List X) (n : ℕ) → length old ≤ n → DoneUpTo t f other old new n → (q : ℕ) → q < length old → get_or new q other ≡ (if t q then f (get_or old q other) else get_or old q other)
-done_all t f other old new n past k q l = k.each q l ∙ (let all : nat_lt q n ≡ true = grind (arith, nat_tests) in rw all (at (t q)))
-  where
-    at : (b : Bool) → (if b && true then f (get_or old q other) else get_or old q other) ≡ (if b then f (get_or old q other) else get_or old q other)
-    at true = refl
-    at false = refl
+and_true : {X : Type 0} (b : Bool) (x y : X) → (if b && true then x else y) ≡ (if b then x else y)
+and_true true x y = refl
+and_true false x y = refl
+
+-- after the last
+pub visits_all : {X : Type 0} (set rest : Set) (change : X → X) (blank : X) (old new : List X) → rest ≡ sets.empty → Visits set rest change blank old new → ChangesAt (sets.contains set) change blank old new
+visits_all set rest change blank old new none k = record {
+  count = k.done.count;
+  each = λ p l.
+      k.done.each p l
+      ∙ ap (λ b. if sets.contains set p && not b then change (get_or old p blank) else get_or old p blank) (ap (λ s. sets.contains s p) none ∙ sets.contains-empty nat_cmp p)
+      ∙ and_true (sets.contains set p) (change (get_or old p blank)) (get_or old p blank);
+}
 
 -- ---- clogs
 
-pub clogged_more : (t : ℕ → Bool) (first net next : Traffic) (i ticks : ℕ) → i < length first.until → net ≡ record first { until = net.until } → DoneUpTo t (λ u. max u (min (first.clock + ticks) last_tick)) 0 first.until net.until i
-    → next ≡ (if t i then clogged_for i ticks net else net) → (next ≡ record first { until = next.until }) × DoneUpTo t (λ u. max u (min (first.clock + ticks) last_tick)) 0 first.until next.until (i + 1)
-clogged_more t first net next i ticks l same k is = at (t i) refl is
-  where
-    clock : net.clock ≡ first.clock
-    clock = ap (λ (n : Traffic). n.clock) same
+-- the same of the ends of clogs, while nothing else of the network is changed
+abbrev pub VisitsClogs : Set → Set → (ℕ → ℕ → ℕ) → Traffic → Traffic → Type 0
+VisitsClogs set rest change old new = (new ≡ record old { until = new.until }) × Visits set rest (change old.clock) 0 old.until new.until
 
-    at : (b : Bool) → t i ≡ b → next ≡ (if b then clogged_for i ticks net else net) → (next ≡ record first { until = next.until }) × DoneUpTo t (λ u. max u (min (first.clock + ticks) last_tick)) 0 first.until next.until (i + 1)
-    at true e is = (
-      is ∙ ap (λ (n : Traffic). record n { until = slice_set net.until i (max (slice_index net.until i) (min (net.clock + ticks) last_tick)) }) same ∙ sym (ap (λ (n : Traffic). record first { until = n.until }) is),
-      done_more t _ 0 first.until net.until next.until i l (ap (λ (n : Traffic). n.until) is ∙ rw (e, clock) refl) k,
-    )
-    at false e is = (is ∙ same ∙ sym (ap (λ (n : Traffic). record first { until = n.until }) is), done_more t _ 0 first.until net.until next.until i l (ap (λ (n : Traffic). n.until) is ∙ rw e refl) k)
+pub clogs_more : (set rest next : Set) (change : ℕ → ℕ → ℕ) (old new later : Traffic) (p : ℕ) → ((q : ℕ) → sets.contains set q ≡ true → q < length old.until)
+    → sets.contains rest p ≡ true → next ≡ sets.remove rest p → later ≡ record new { until = slice_set new.until p (change new.clock (slice_index new.until p)) }
+    → VisitsClogs set rest change old new → VisitsClogs set next change old later
+clogs_more set rest next change old new later p small present without is k = (
+  is ∙ ap (λ (net : Traffic). record net { until = slice_set new.until p (change new.clock (slice_index new.until p)) }) k.0 ∙ sym (ap (λ (net : Traffic). record old { until = net.until }) is),
+  visits_more set rest next (change old.clock) 0 old.until new.until later.until p small present without (ap (λ (net : Traffic). net.until) is ∙ ap (λ now. slice_set new.until p (change now (slice_index new.until p))) (ap (λ (net : Traffic). net.clock) k.0)) k.1,
+)
 
-pub unclogged_more : (t : ℕ → Bool) (first net next : Traffic) (i : ℕ) → i < length first.until → net ≡ record first { until = net.until } → DoneUpTo t (λ u. min u first.clock) 0 first.until net.until i
-    → next ≡ (if t i then unclogged i net else net) → (next ≡ record first { until = next.until }) × DoneUpTo t (λ u. min u first.clock) 0 first.until next.until (i + 1)
-unclogged_more t first net next i l same k is = at (t i) refl is
-  where
-    clock : net.clock ≡ first.clock
-    clock = ap (λ (n : Traffic). n.clock) same
-
-    at : (b : Bool) → t i ≡ b → next ≡ (if b then unclogged i net else net) → (next ≡ record first { until = next.until }) × DoneUpTo t (λ u. min u first.clock) 0 first.until next.until (i + 1)
-    at true e is = (
-      is ∙ ap (λ (n : Traffic). record n { until = slice_set net.until i (min (slice_index net.until i) net.clock) }) same ∙ sym (ap (λ (n : Traffic). record first { until = n.until }) is),
-      done_more t _ 0 first.until net.until next.until i l (ap (λ (n : Traffic). n.until) is ∙ rw (e, clock) refl) k,
-    )
-    at false e is = (is ∙ same ∙ sym (ap (λ (n : Traffic). record first { until = n.until }) is), done_more t _ 0 first.until net.until next.until i l (ap (λ (n : Traffic). n.until) is ∙ rw e refl) k)
+pub clogs_all : (set rest : Set) (change : ℕ → ℕ → ℕ) (old new : Traffic) → rest ≡ sets.empty → VisitsClogs set rest change old new → ClogsChange (sets.contains set) change old new
+clogs_all set rest change old new none k = record { rest = k.0; ends = visits_all set rest (change old.clock) 0 old.until new.until none k.1 }

@@ -338,11 +338,19 @@ message_of h (Deliver n) = slice_get (sent h) n
 message_of h (Lose n) = slice_get (sent h) n
 message_of h _ = None
 
+-- a store of the record to each of these processes
+abbrev pub stores_of : ℕ → List ProcId → List Body
+stores_of rec processes = map (λ p. Store rec p) processes
+
+-- the process's word of each of these writes
+abbrev pub words_of : ProcId → List Item → List Body
+words_of process items = map (λ item. Synced item.rec process) items
+
 -- what the act sends where it is accepted: Begin a Store to each member, Resend one, Sync a word of each unsynced write
 abbrev pub sends_of : History → Act → List Body
-sends_of h (Begin team payload) = map (λ p. Store (length (records h)) p) (members_of h team)
+sends_of h (Begin team payload) = stores_of (length (records h)) (members_of h team)
 sends_of h (Resend rec process) = Store rec process ∷ []
-sends_of h (Sync process) = map (λ item. Synced item.rec process) (unsynced h process.0)
+sends_of h (Sync process) = words_of process (unsynced h process.0)
 sends_of h _ = []
 
 -- the entry with what it did, after this history

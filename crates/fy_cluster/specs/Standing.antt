@@ -1,20 +1,25 @@
 -- what a machine keeps of a history: one equation for each of its parts
-use Rattle.std.specs.Prelude.{◌≡◌, ℕ, ◌+◌, ◌*◌, ◌<◌, ◌≤◌, false, not, nat_lt, List, [], ◌∷◌, ◌++◌, length, map, filter, slice_get, slice_index, Some, Result, Ok, Err}
+use Rattle.std.specs.Prelude.{◌≡◌, ℕ, ◌+◌, ◌*◌, ◌<◌, ◌≤◌, min, max, Bool, false, not, nat_lt, List, [], ◌∷◌, ◌++◌, length, map, filter, slice_get, slice_index, slice_index_or, Option, Some, Result, Ok, Err, if◌then◌else◌}
 use Rattle.std.specs.List.{list_any}
 use Rattle.std.specs.Ordering.{nat_cmp}
 use Rattle.std.specs.FinSet as sets
 use Rattle.fy_kinds.specs.declared.kind.Kind.{Kind}
 use Rattle.fy_kinds.specs.declared.kind.Kind.TheVariants.{RebootProcess, Reboot, RebootAndDelete, KillInstantly}
-use Rattle.fy_kinds.specs.Kinds.{Deed, has}
+use Rattle.fy_kinds.specs.declared.order.Target.{Target}
+use Rattle.fy_kinds.specs.declared.verdict.Rule.{Rule}
+use Rattle.fy_kinds.specs.Kinds.{Deed, Clogging, has}
 use Rattle.fy_grants.specs.Rights.{Rights, grants_of, protections_of}
+use Rattle.fy_decide.specs.declared.dead_book.Loss.{Loss}
 use Rattle.fy_decide.specs.DeadBook.{Casualties}
+use Rattle.fy_decide.specs.Losses.{MayDestroy}
+use Rattle.fy_decide.specs.Verdicts.{situation_of, targets, bar}
 use Rattle.fy_disk.specs.declared.item.Item.{Item}
 use Rattle.fy_disk.specs.Disk.{Stored, survivors}
 use Rattle.fy_net.specs.declared.message.Body.{Body}
 use Rattle.fy_net.specs.declared.message.Message.{Message}
 use Rattle.fy_net.specs.declared.fault.NetFault.{NetFault}
 use Rattle.fy_net.specs.declared.fault.NetFault.TheVariants.{NetFull as NetNetFull, NoMessage as NetNoMessage, Clogged as NetClogged, ClockEnd as NetClockEnd, NoMemory as NetNoMemory}
-use Rattle.fy_net.specs.Net.{Traffic}
+use Rattle.fy_net.specs.Net.{Traffic, last_tick}
 use Rattle.fy_team.specs.declared.fault.TeamFault.{TeamFault}
 use Rattle.fy_team.specs.declared.fault.TeamFault.TheVariants.{TooMany as TeamTooMany, NoPolicy as TeamNoPolicy, NoProcess as TeamNoProcess, Gone as TeamGone, TeamShort as IsShort, NoTeam as TeamNoTeam, Payload as TeamPayload, NoMemory as TeamNoMemory}
 use Rattle.fy_team.specs.Teams.{Roster, Record, is_marked}
@@ -43,6 +48,10 @@ pub record KeepsDead (c : Setup) (h : History) (book : Casualties) : Type 0 wher
   pub destroyed : (p : ℕ) → sets.contains book.destroyed p ≡ destroyed h p
   pub left : (p : ℕ) → sets.contains book.left p ≡ left c h p
 
+-- the policies bear the loss of a set, by the book
+abbrev pub MayLose : Casualties → (ℕ → Bool) → Loss → Type 0
+MayLose book set loss = MayDestroy book.processes book.policies (sets.contains book.destroyed) (sets.contains book.left) set loss
+
 -- the grants of each actor, and what each process is protected from
 pub record KeepsRights (c : Setup) (h : History) (rights : Rights) : Type 0 where
   pub actors : length rights.grants ≡ length c.roles
@@ -69,6 +78,11 @@ left_on Reboot tear disk = record { synced = disk.synced ++ survivors tear disk.
 left_on RebootAndDelete tear disk = blank_disk
 left_on KillInstantly tear disk = blank_disk
 
+-- the elements at the numbers of a set are changed, and no others; `blank` stands for one that isn't there
+pub record ChangesAt {X : Type 0} (set : ℕ → Bool) (change : X → X) (blank : X) (old new : List X) : Type 0 where
+  pub count : length new ≡ length old
+  pub each : (p : ℕ) → p < length old → let was = slice_index_or old p blank in slice_index_or new p blank ≡ (if set p then change was else was)
+
 -- a disk for each process
 pub record KeepsDisks (c : Setup) (h : History) (disks : List Stored) : Type 0 where
   pub count : length disks ≡ length c.processes
@@ -82,6 +96,14 @@ pub record KeepsUp (c : Setup) (h : History) (set : sets.FinSet nat_cmp) : Type 
 abbrev pub numbered : ℕ → List Body → List Message
 numbered k [] = []
 numbered k (b ∷ bodies) = record { number = k; body = b } ∷ numbered (k + 1) bodies
+
+-- these bodies were sent one after another since the network was so, each by a place of its room
+pub record Sends (before : Traffic) (bodies : List Body) (net : Traffic) : Type 0 where
+  pub in_flight : net.in_flight ≡ before.in_flight ++ numbered before.sent bodies
+  pub count : net.sent ≡ before.sent + length bodies
+  pub clock : net.clock ≡ before.clock
+  pub until : net.until ≡ before.until
+  pub room : net.room + length bodies ≡ before.room
 
 -- the messages in flight, each with its number
 abbrev pub flying : History → List Message
@@ -97,6 +119,19 @@ pub record KeepsNet (c : Setup) (h : History) (net : Traffic) : Type 0 where
   -- nothing was taken out before it was sent, and no entry sent more than may be in flight
   pub early : (n : ℕ) → length (sent h) ≤ n → list_any (takes_out n) h ≡ false
   pub few : length (sent h) ≤ 65536 * length h
+
+-- until when a process is clogged that was clogged until some time, once it is clogged for some ticks
+abbrev pub clog_end : ℕ → ℕ → ℕ → ℕ
+clog_end ticks time until = max until (min (time + ticks) last_tick)
+
+-- and once its clogs are ended
+abbrev pub unclog_end : ℕ → ℕ → ℕ
+unclog_end time until = min until time
+
+-- at the numbers of a set it changes, by the time, until when a process is clogged, and nothing else
+pub record ClogsChange (set : ℕ → Bool) (change : ℕ → ℕ → ℕ) (old new : Traffic) : Type 0 where
+  pub rest : new ≡ record old { until = new.until }
+  pub ends : ChangesAt set (change old.clock) 0 old.until new.until
 
 -- a record without its marks
 abbrev pub begun_of : Record → Begun
@@ -118,6 +153,14 @@ pub record Stands (c : Setup) (h : History) (m : Machine) : Type 0 where
   pub up : KeepsUp c h m.up
   pub net : KeepsNet c h m.net
   pub teams : KeepsTeams h m.teams
+
+-- the processes of a target that are left, by the machine
+abbrev pub targets_by : Machine → Target → ℕ → Bool
+targets_by m target = targets m.dead.processes (sets.contains m.dead.left) target
+
+-- why an actor may not clog a target, by the machine
+abbrev pub clog_bar : Machine → ℕ → Target → Option Rule
+clog_bar m by target = bar (situation_of m.dead m.book by) Clogging (targets_by m target)
 
 -- ---- one act
 
@@ -189,30 +232,6 @@ pub record IsLived (c : Setup) (h : History) : Type 0 where
   pub room : length journal < c.limit
 
 -- ---- the cluster
-
--- what a cluster is seen as: what it began with, and its journal
-pub record Course : Type 0 where
-  pub setup : Setup
-  pub journal : List Entry
-
--- the course before anything happened
-abbrev pub opened : Setup → Course
-opened c = record { setup = c; journal = [] }
-
--- the reply to an act
-abbrev pub replied : Course → ℕ → Act → Reply
-replied course by act = reply course.setup (history course.setup course.journal) by act
-
--- the course once the act is entered with its reply
-abbrev pub entered : Course → ℕ → Act → Course
-entered course by act = record course {
-  journal = course.journal ++ record { at = length course.journal; by = by; act = act; reply = replied course by act } ∷ [];
-}
-
--- the course once these acts are entered, one after another
-abbrev pub after_acts : Course → List (ℕ × Act) → Course
-after_acts course [] = course
-after_acts course (asked ∷ rest) = after_acts (entered course asked.0 asked.1) rest
 
 -- the journal is legal, and the machine keeps its history
 pub record IsKept (c : Setup) (journal : List Entry) (m : Machine) : Type 0 where

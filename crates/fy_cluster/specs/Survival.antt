@@ -35,10 +35,18 @@ DestroyedShort = (c : Setup) (journal : List Entry) → IsMet c → Legal c jour
 abbrev pub LeftSatisfy : Type 0
 LeftSatisfy = (c : Setup) (journal : List Entry) → IsMet c → Legal c journal → AreSatisfied c.processes c.policies (left c (history c journal))
 
--- each kill by an actor of the cluster has the verdict as its reply, and any other No(Stranger)
+-- a kill's reply is the verdict on its order, or No(Stranger) where no actor of the cluster made it
+pub record IsJudged (c : Setup) (h : History) (e : Entry) (order : Order) : Type 0 where
+  pub known : e.by < length c.roles → e.reply ≡ Verdicted (verdict (situation c h e.by) order)
+  pub stranger : length c.roles ≤ e.by → e.reply ≡ No Stranger
+
+-- each kill of a journal is judged by what came before it
+abbrev pub AreJudged : Setup → List Entry → Type 0
+AreJudged c journal = (before later : List Entry) (e : Entry) (order : Order) → journal ≡ before ++ e ∷ later → e.act ≡ Kill order → IsJudged c (history c before) e order
+
+-- every kill of a legal journal is judged
 abbrev pub KillsJudged : Type 0
-KillsJudged = (c : Setup) (before later : List Entry) (e : Entry) (order : Order) → Legal c (before ++ e ∷ later) → e.act ≡ Kill order →
-    (e.by < length c.roles → e.reply ≡ Verdicted (verdict (situation c (history c before) e.by) order)) × (length c.roles ≤ e.by → e.reply ≡ No Stranger)
+KillsJudged = (c : Setup) (journal : List Entry) → Legal c journal → AreJudged c journal
 
 -- no rule is named exactly where the ordered kind struck
 abbrev pub RulesNamed : Type 0
@@ -57,3 +65,15 @@ KeepersFound = (c : Setup) (journal : List Entry) → IsMet c → Legal c journa
 -- the same acts by the same actors make the same journal
 abbrev pub SameActsSameJournal : Type 0
 SameActsSameJournal = (c : Setup) (xs ys : List Entry) → Legal c xs → Legal c ys → map by_and_act xs ≡ map by_and_act ys → xs ≡ ys
+
+-- what a journal keeps, whatever was ordered: it is legal, the destroyed are short of every policy, those left satisfy each, every kill is judged, and every acknowledged record has a synced copy on an undestroyed member
+pub record Survives (c : Setup) (journal : List Entry) : Type 0 where
+  pub legal : Legal c journal
+  pub short : AreShort c.processes c.policies (destroyed (history c journal))
+  pub satisfied : AreSatisfied c.processes c.policies (left c (history c journal))
+  pub judged : AreJudged c journal
+  pub kept : (r : ℕ) → IsTrue (acked (history c journal) r) → Kept (history c journal) r
+
+-- every legal journal keeps all this
+abbrev pub JournalsSurvive : Type 0
+JournalsSurvive = (c : Setup) (journal : List Entry) → IsMet c → Legal c journal → Survives c journal

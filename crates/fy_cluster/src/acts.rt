@@ -1,6 +1,6 @@
 //! One act of an actor that may make it.
 ghost use Rattle.std.specs.Prelude.{◌≡◌, ◌<◌, ◌++◌, ◌∷◌, [], length, IfOk, OnErr};
-ghost use Rattle.fy_audit.specs.Journal.{most_entries};
+ghost use Rattle.fy_audit.specs.Journal.{entered, most_entries};
 ghost use Rattle.fy_cluster.specs.Standing.{Turn, Stands, Comes, Answers, IsLived};
 
 use crate::machine::Machine;
@@ -25,7 +25,7 @@ impl Machine {
         requires lived { IsLived turn.setup turn.before }
         requires room { length journal.old.entries < most_entries }
         ensures answered { Answers turn act result self.new }
-        ensures entered { IfOk result (λ reply. journal.new.entries ≡ journal.old.entries ++ record { at = length journal.old.entries; by = by; act = act; reply = reply } ∷ []) }
+        ensures entered { IfOk result (λ reply. journal.new.entries ≡ (entered by act reply journal.old).entries) }
         ensures err { OnErr result (journal.new.entries ≡ journal.old.entries) }
     {
         journal.reserve(1)?;

@@ -1,15 +1,16 @@
 //! A cluster: it replies to acts, and keeps them all in its journal.
-ghost use Rattle.std.specs.Prelude.{◌≡◌, ◌↔◌, ◌<◌, ◌≤◌, ℕ, length, take, IfOk, IsTrue, OnOk, OnErr, Err};
+ghost use Rattle.std.specs.Prelude.{◌≡◌, ◌↔◌, ◌<◌, ◌≤◌, ℕ, length, IfOk, IfErr, IsTrue, OnOk, OnErr, Err, IsSome, IfSome};
 ghost use Rattle.std.specs.FinSet as sets;
-ghost use Rattle.fy_cluster.specs.History.{destroyed, history};
+ghost use Rattle.fy_cluster.specs.History.{destroyed, acked, keeper};
 ghost use Rattle.fy_cluster.specs.declared.fault.Fault.TheVariants.{JournalFull};
-ghost use Rattle.fy_cluster.specs.Replies.{Legal};
-ghost use Rattle.fy_cluster.specs.Standing.{opened, replied, entered, after_acts};
+ghost use Rattle.fy_cluster.specs.Survival.{Survives};
+ghost use Rattle.fy_cluster.specs.Course.{history_of, opened, replied, entered, after_acts, StopsAt};
+ghost use Rattle.fy_cluster.specs.Sights.{IsLeastKeeper, Sees};
 
 use crate::machine::Machine;
-use crate::{Config, Fault};
+use crate::{Config, Fault, Sight, laws};
 use fy_audit::{Act, Journal, Reply};
-use fy_locality::ProcSet;
+use fy_locality::{ProcId, ProcSet};
 use std::alloc::{AllocError, Global};
 use std::marker::Model;
 
@@ -26,7 +27,8 @@ impl Model for Cluster {
     ghost use Rattle.std.specs.Coded.{codes};
     ghost use Rattle.fy_locality.specs.contracts.locality.Locality as e;
     ghost use Rattle.fy_policy.specs.Tree.{tree_code};
-    ghost use Rattle.fy_cluster.specs.Standing.{Course, IsKept};
+    ghost use Rattle.fy_cluster.specs.Course.{Course};
+    ghost use Rattle.fy_cluster.specs.Standing.{IsKept};
 
     ghost Value = { Course };
 
@@ -78,8 +80,9 @@ impl Cluster {
         ensures replied { IfOk result (λ reply. reply ≡ replied self.old by act) }
         ensures entered { OnOk result (self.new ≡ entered self.old by act) }
         ensures err { OnErr result (self.new ≡ self.old) }
-        ensures legal { Legal self.new.setup self.new.journal }
+        ensures survives { Survives self.new.setup self.new.journal }
     {
+        laws::journals_survive();
         if self.journal.len() >= self.config.journal_limit() as usize {
             return Err(Fault::JournalFull);
         }
@@ -87,18 +90,21 @@ impl Cluster {
             .enter(&mut self.journal, self.alloc, &self.config, by, act)
     }
 
-    /// Applies acts one after another, each by the actor beside it, and stops at the first fault. The entries before it
-    /// stand.
+    /// Applies acts one after another, each by the actor beside it, and stops at the first fault. What was entered before
+    /// it stands.
     ///
     /// # Errors
-    /// The first fault.
+    /// At an act, in this order: `JournalFull` where the journal has as many entries as it may have; `NoMemory`.
     pub fn run(&mut self, acts: &[(u32, Act)]) -> Result<(), Fault>
         ensures ran { OnOk result (self.new ≡ after_acts self.old acts.now) }
-        ensures err { OnErr result ((n : ℕ) × (n < length acts.now) × (self.new ≡ after_acts self.old (take n acts.now))) }
-        ensures legal { Legal self.new.setup self.new.journal }
+        ensures stopped { IfErr result (λ fault. StopsAt self.old acts.now fault self.new) }
+        ensures survives { Survives self.new.setup self.new.journal }
     {
-        let _machine = &self.machine;
+        self.survives();
         for (by, act) in acts {
+            if self.is_full() {
+                return Err(Fault::JournalFull);
+            }
             let act = act.try_copy(self.alloc)?;
             self.apply(*by, act)?;
         }
@@ -108,14 +114,15 @@ impl Cluster {
     /// All that was asked and replied.
     pub fn journal(&self) -> &Journal
         ensures journal { result.now.entries ≡ self.now.journal }
-        ensures legal { Legal self.now.setup self.now.journal }
+        ensures survives { Survives self.now.setup self.now.journal }
     {
+        self.survives();
         &self.journal
     }
 
     /// Who was destroyed at any time.
     pub fn destroyed(&self) -> ProcSet
-        ensures { (p : ℕ) → sets.contains result p ≡ destroyed (history self.now.setup self.now.journal) p }
+        ensures { (p : ℕ) → sets.contains result p ≡ destroyed (history_of self.now) p }
     {
         self.machine.dead.destroyed()
     }
@@ -125,5 +132,40 @@ impl Cluster {
         ensures { IsTrue result ↔ (self.now.setup.limit ≤ length self.now.journal) }
     {
         self.journal.len() >= self.config.journal_limit() as usize
+    }
+
+    /// What it began with.
+    pub fn config(&self) -> &Config
+        ensures { result.now ≡ self.now.setup }
+    {
+        &self.config
+    }
+
+    /// Of an acknowledged record, the least member of its team that isn't destroyed and has the record synced; none of
+    /// any other record. Takes no memory.
+    pub fn keeper(&self, rec: u32) -> Option<ProcId>
+        ensures keeper { result ≡ keeper self.now.setup (history_of self.now) rec }
+        ensures acked { IsSome result ↔ IsTrue (acked (history_of self.now) rec) }
+        ensures least { IfSome result (IsLeastKeeper (history_of self.now) rec) }
+    {
+        laws::keepers_found();
+        self.machine.keeper(rec)
+    }
+
+    /// The time, and what there is to do next: the least message to deliver, the least process to sync and the least one
+    /// to start. Takes no memory.
+    pub fn sight(&self) -> Sight
+        ensures { Sees self.now.setup (history_of self.now) result }
+    {
+        self.machine.sight()
+    }
+
+    /// Whatever was asked so far, every acknowledged record keeps a synced copy on an undestroyed member, and all else that
+    /// legal journals keep.
+    pub fn survives(&self)
+        ensures { Survives self.now.setup self.now.journal }
+    {
+        laws::journals_survive();
+        let _machine = &self.machine;
     }
 }

@@ -1,20 +1,19 @@
 //! Kills strike.
-ghost use Rattle.std.specs.Prelude.{◌≡◌, ◌<◌, ℕ, [], length, slice_index_or, slice_set, Some, if◌then◌else◌};
+ghost use Rattle.std.specs.Prelude.{◌≡◌, ◌<◌, ℕ, true, [], length, Some};
 ghost use Rattle.std.specs.Option.{option_map_or};
 ghost use Rattle.std.specs.FinSet as sets;
 ghost use Rattle.fy_decide.specs.declared.dead_book.Loss.{Loss};
 ghost use Rattle.fy_decide.specs.DeadBook.{struck};
-ghost use Rattle.fy_decide.specs.Losses.{MayDestroy};
 ghost use Rattle.fy_decide.specs.Verdicts.{loss_of};
 ghost use Rattle.fy_audit.specs.declared.act.Act.TheVariants.{Kill};
-ghost use Rattle.fy_cluster.specs.Standing.{Turn, Stands, Follows, left_on, blank_disk};
+ghost use Rattle.fy_cluster.specs.Standing.{Turn, Stands, Follows, MayLose, ChangesAt, left_on, blank_disk};
 
 use crate::machine::Machine;
 use fy_audit::Reply;
 use fy_decide::{DeadBook, Loss, judge};
 use fy_disk::Disk;
 use fy_kinds::{KillOrder, Kind};
-use fy_locality::{Map, ProcId, ProcSet};
+use fy_locality::{Map, ProcSet};
 
 /// Strikes a disk: a reboot tears off unsynced writes, and a destroying kind leaves nothing.
 fn strike_disk(disk: &mut Disk, kind: Kind, tear: u64)
@@ -27,30 +26,20 @@ fn strike_disk(disk: &mut Disk, kind: Kind, tear: u64)
     }
 }
 
-/// Strikes the disk of a process if it is among the targets.
-fn strike_target(disks: &mut Vec<Disk>, targets: &ProcSet, p: ProcId, kind: Kind, tear: u64)
-    requires { p.0 < length disks.old.items }
-    ensures { disks.new.items ≡ (if sets.contains targets.now p.0 then slice_set disks.old.items p.0 (left_on kind tear (slice_index_or disks.old.items p.0 blank_disk)) else disks.old.items) }
-{
-    if targets.contains(p) {
-        strike_disk(&mut disks[p.0 as usize], kind, tear);
-    }
-}
-
 /// Strikes the disk of each target.
-fn strike_disks(disks: &mut Vec<Disk>, targets: &ProcSet, processes: u32, kind: Kind, tear: u64)
-    requires { processes ≡ length disks.old.items }
-    ensures count { length disks.new.items ≡ length disks.old.items }
-    ensures each { (p : ℕ) → p < length disks.old.items → slice_index_or disks.new.items p blank_disk ≡ (if sets.contains targets.now p then left_on kind tear (slice_index_or disks.old.items p blank_disk) else slice_index_or disks.old.items p blank_disk) }
+fn strike_disks(disks: &mut Vec<Disk>, targets: &ProcSet, kind: Kind, tear: u64)
+    requires { (p : ℕ) → sets.contains targets.now p ≡ true → p < length disks.old.items }
+    ensures { ChangesAt (sets.contains targets.now) (left_on kind tear) blank_disk
+        disks.old.items disks.new.items }
 {
-    for p in 0..processes {
-        strike_target(disks, targets, ProcId(p), kind, tear);
+    for p in targets.iter() {
+        strike_disk(&mut disks[p.0 as usize], kind, tear);
     }
 }
 
 /// Writes the targets down as lost, where the kind destroys.
 fn bury(dead: &mut DeadBook, targets: &ProcSet, kind: Kind)
-    requires { (loss : Loss) → loss_of kind ≡ Some loss → MayDestroy dead.old.processes dead.old.policies (sets.contains dead.old.destroyed) (sets.contains dead.old.left) (sets.contains targets.now) loss }
+    requires { (loss : Loss) → loss_of kind ≡ Some loss → MayLose dead.old (sets.contains targets.now) loss }
     ensures { dead.new ≡ option_map_or (λ loss. struck dead.old targets.now loss) (loss_of kind) dead.old }
 {
     if let Some(loss) = Loss::of(kind) {
@@ -73,7 +62,7 @@ impl Machine {
             return Reply::Verdict(verdict);
         };
         let targets = self.dead.targets(map, &order.target());
-        strike_disks(&mut self.disks, &targets, map.len(), kind, order.tear());
+        strike_disks(&mut self.disks, &targets, kind, order.tear());
         self.up = self.up.difference(&targets);
         bury(&mut self.dead, &targets, kind);
         Reply::Verdict(verdict)

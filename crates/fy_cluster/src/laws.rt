@@ -1,5 +1,5 @@
 //! What every legal journal keeps, over the definitions alone.
-ghost use Rattle.fy_cluster.specs.Survival.{DestroyedShort, LeftSatisfy, KillsJudged, RulesNamed, RecordsKept, KeepersFound, SameActsSameJournal};
+ghost use Rattle.fy_cluster.specs.Survival.{DestroyedShort, LeftSatisfy, KillsJudged, RulesNamed, RecordsKept, KeepersFound, JournalsSurvive, SameActsSameJournal};
 
 /// The destroyed are short of every policy.
 #[tactic(auto, using(crate::proofs::Strikes::destroyed_short))]
@@ -20,7 +20,7 @@ pub fn left_satisfy()
     fy_decide::laws::struck_may_be_destroyed();
 }
 
-/// Each kill by an actor has the verdict as its reply, and any other is a stranger's.
+/// Each kill by an actor has the verdict as its reply, and any other No(Stranger).
 pub fn kills_judged()
     ensures { KillsJudged }
 {}
@@ -52,6 +52,17 @@ pub fn keepers_found()
     fy_policy::laws::more_satisfies();
     fy_grants::laws::least_is_first_found();
     destroyed_short();
+}
+
+/// Whatever was ordered: the destroyed are short of every policy, those left satisfy each, every kill is judged, and
+/// every acknowledged record keeps a synced copy on an undestroyed member.
+pub fn journals_survive()
+    ensures { JournalsSurvive }
+{
+    destroyed_short();
+    left_satisfy();
+    kills_judged();
+    records_kept();
 }
 
 /// The same acts by the same actors make the same journal.

@@ -1,9 +1,10 @@
 //! Messages are delivered and lost, and processes sync.
-ghost use Rattle.std.specs.Prelude.{◌≡◌, ◌≤◌, ◌<◌, ◌+◌, ◌++◌, Some, map, length, slice_set, slice_index_or, OnOk, OnErr, IfErr};
-ghost use Rattle.fy_net.specs.Net.{body_of};
+ghost use Rattle.std.specs.Prelude.{◌≡◌, ◌≤◌, ◌<◌, ◌+◌, ◌++◌, Some, None, map, length, slice_set, slice_index_or, OnOk, OnErr, IfErr};
+ghost use Rattle.fy_net.specs.Net.{body_of, take_refusal, left_by};
 ghost use Rattle.fy_net.specs.declared.message.Body.TheVariants.{Store, Synced};
 ghost use Rattle.fy_audit.specs.declared.act.Act.TheVariants.{Deliver, Lose, Sync};
-ghost use Rattle.fy_cluster.specs.Standing.{Turn, Stands, Follows, Comes, IsLived, numbered, no_room, written, blank_disk};
+ghost use Rattle.fy_cluster.specs.History.{words_of};
+ghost use Rattle.fy_cluster.specs.Standing.{Turn, Stands, Follows, Comes, IsLived, Sends, no_room, written, blank_disk};
 ghost use Rattle.fy_cluster.specs.declared.fault.Fault.TheVariants.{NoMemory};
 
 use crate::Fault;
@@ -31,10 +32,7 @@ pub(crate) fn no_room(fault: NetFault) -> Result<Reply, Fault>
 fn send_words(net: &mut Net, disk: &Disk, process: ProcId)
     requires room { length disk.now.unsynced ≤ net.old.room }
     requires there { process.0 < length net.old.until }
-    ensures in_flight { net.new.in_flight ≡ net.old.in_flight ++ numbered net.old.sent (map (λ item. Synced item.rec process) disk.now.unsynced) }
-    ensures sent { net.new.sent ≡ net.old.sent + length disk.now.unsynced }
-    ensures clock { net.new.clock ≡ net.old.clock }
-    ensures until { net.new.until ≡ net.old.until }
+    ensures { Sends net.old (words_of process disk.now.unsynced) net.new }
 {
     for place in 0..disk.unsynced_len() {
         let Some(item) = disk.pending(place) else {
@@ -45,10 +43,19 @@ fn send_words(net: &mut Net, disk: &Disk, process: ProcId)
     }
 }
 
+/// Takes a message out of the network. It is in flight and its process isn't clogged, so this can't be refused.
+fn take_out(net: &mut Net, message: u64)
+    requires { take_refusal net.old message ≡ None }
+    ensures { net.new ≡ left_by message net.old }
+{
+    let _ = net.take(message);
+}
+
 /// Writes an item to the disk of a process, or leaves all disks as they were where there is no memory.
 fn write_to(disks: &mut Vec<Disk>, p: ProcId, item: Item) -> Result<(), Fault>
     requires { p.0 < length disks.old.items }
-    ensures written { OnOk result (disks.new.items ≡ slice_set disks.old.items p.0 (written item (slice_index_or disks.old.items p.0 blank_disk))) }
+    ensures written { OnOk result (disks.new.items ≡ slice_set disks.old.items p.0
+        (written item (slice_index_or disks.old.items p.0 blank_disk))) }
     ensures memory { IfErr result (λ fault. fault ≡ NoMemory) }
     ensures err { OnErr result (disks.new.items ≡ disks.old.items) }
 {
@@ -94,8 +101,7 @@ impl Machine {
         };
         let payload = payload.try_copy(alloc)?;
         write_to(&mut self.disks, to, Item { rec, payload })?;
-        // It is in flight and not clogged, so this can't be refused.
-        let _ = self.net.take(message);
+        take_out(&mut self.net, message);
         Ok(Reply::Stored)
     }
 
@@ -113,8 +119,7 @@ impl Machine {
         if self.net.clogged(from) {
             return Reply::No(Refusal::Clogged);
         }
-        // It is in flight and not clogged, so this can't be refused.
-        let _ = self.net.take(message);
+        take_out(&mut self.net, message);
         let acked = self.teams.mark(rec, from);
         Reply::Marked { acked }
     }

@@ -5,6 +5,7 @@ ghost use Rattle.fy_kinds.specs.Kinds.{Deed, has};
 ghost use Rattle.fy_grants.specs.Rights.{grants_of, protections_of, grant_count};
 ghost use Rattle.fy_decide.specs.DeadBook.{IsFresh};
 ghost use Rattle.fy_net.specs.Net.{quiet};
+ghost use Rattle.fy_cluster.specs.Rules.{grants_to, some_protects};
 ghost use Rattle.fy_cluster.specs.Standing.{Stands, KeepsRights, blank_disk};
 
 use crate::machine::Machine;
@@ -34,7 +35,8 @@ fn nobody_destroyed(alloc: Global, config: &Config) -> Result<DeadBook, AllocErr
 fn give_all(book: &mut Book, grants: &[Grant]) -> Result<(), AllocError>
     requires actors { All (λ grant. grant.actor < length book.old.grants) grants.now }
     requires few { grant_count book.old + length grants.now ≤ 4096 }
-    ensures given { OnOk result ((a : ℕ) → grants_of book.new a ≡ grants_of book.old a ++ filter (λ grant. grant.actor == a) grants.now) }
+    ensures given { OnOk result ((a : ℕ) →
+        grants_of book.new a ≡ grants_of book.old a ++ grants_to a grants.now) }
     ensures actors { length book.new.grants ≡ length book.old.grants }
     ensures protections { book.new.protections ≡ book.old.protections }
 {
@@ -53,7 +55,8 @@ fn give_all(book: &mut Book, grants: &[Grant]) -> Result<(), AllocError>
 /// Adds one protection after another.
 fn protect_all(book: &mut Book, protections: &[Protection])
     requires { All (λ it. it.process.0 < length book.old.protections) protections.now }
-    ensures kinds { (p : ℕ) (deed : Deed) → has (protections_of book.new p) deed ≡ (list_any (λ it. it.process.0 == p && has it.kinds deed) protections.now || has (protections_of book.old p) deed) }
+    ensures kinds { (p : ℕ) (deed : Deed) → has (protections_of book.new p) deed
+        ≡ (some_protects protections.now p deed || has (protections_of book.old p) deed) }
     ensures processes { length book.new.protections ≡ length book.old.protections }
     ensures grants { book.new.grants ≡ book.old.grants }
 {
@@ -81,7 +84,7 @@ fn blank_disks(alloc: Global, processes: u32) -> Result<Vec<Disk>, AllocError>
     ensures { IfOk result (λ disks. disks.items ≡ replicate processes blank_disk) }
 {
     let mut disks = Vec::new(alloc);
-    for _process in 0..processes {
+    for process in 0..processes {
         disks.push(Disk::make(alloc))?;
     }
     Ok(disks)

@@ -3,7 +3,8 @@ ghost use Rattle.std.specs.Prelude.{◌≡◌, ◌≤◌, ◌<◌, ◌+◌, ◌+
 ghost use Rattle.std.specs.List.{All};
 ghost use Rattle.fy_net.specs.declared.message.Body.TheVariants.{Store};
 ghost use Rattle.fy_audit.specs.declared.act.Act.TheVariants.{Form, Begin, Resend};
-ghost use Rattle.fy_cluster.specs.Standing.{Turn, Stands, Comes, IsLived, numbered, replied_to_team};
+ghost use Rattle.fy_cluster.specs.History.{stores_of};
+ghost use Rattle.fy_cluster.specs.Standing.{Turn, Stands, Comes, IsLived, Sends, replied_to_team};
 
 use crate::machine::Machine;
 use crate::messages::no_room;
@@ -34,10 +35,7 @@ fn replied_to(fault: TeamFault) -> Result<Reply, Fault>
 fn send_stores(net: &mut Net, members: &[ProcId], rec: u32)
     requires room { length members.now ≤ net.old.room }
     requires there { All (λ p. p.0 < length net.old.until) members.now }
-    ensures in_flight { net.new.in_flight ≡ net.old.in_flight ++ numbered net.old.sent (map (λ p. Store rec p) members.now) }
-    ensures sent { net.new.sent ≡ net.old.sent + length members.now }
-    ensures clock { net.new.clock ≡ net.old.clock }
-    ensures until { net.new.until ≡ net.old.until }
+    ensures { Sends net.old (stores_of rec members.now) net.new }
 {
     for p in members {
         let _number = net.send(Body::Store { rec, to: *p });

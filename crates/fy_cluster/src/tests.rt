@@ -19,5 +19,6 @@ fn laws_can_be_called() {
     laws::rules_named();
     laws::records_kept();
     laws::keepers_found();
+    laws::journals_survive();
     laws::same_acts_same_journal();
 }

@@ -1,11 +1,11 @@
 -- the least process of a set that passes a test, from sets of processes
-use Rattle.std.proofs.Common.{◌≡◌, ℕ, zero, suc, ◌+◌, ◌<◌, ◌≤◌, Bool, true, false, ◌&&◌, ◌||◌, not, cond, Option, Some, None, List, get_or, take, length, refl, sym, ap, ◌∙◌, arith, inl, inr}
+use Rattle.std.proofs.Common.{◌==◌, eqb-true, ◌≡◌, ℕ, zero, suc, ◌+◌, ◌<◌, ◌≤◌, Bool, true, false, ◌&&◌, ◌||◌, not, cond, Option, Some, None, List, get_or, take, length, refl, sym, ap, ◌∙◌, arith, inl, inr}
 use Rattle.std.specs.Prelude.{◌↔◌, IfSome, IfNone, slice_index_or}
 use Rattle.std.specs.Option.{option_map}
 use Rattle.std.specs.List.{find, range_with_len}
 use Rattle.std.specs.Ordering.{nat_cmp}
 use Rattle.std.specs.FinSet as sets
-use Rattle.std.specs.Cmp.{nat_cmp_total}
+use Rattle.std.specs.Cmp.{nat_cmp_total, unsigned_tied}
 use Rattle.std.proofs.lemmas.Bool.{cases_lt}
 use Rattle.std.proofs.lemmas.List.Folds.{list_any_more}
 use Rattle.fy_locality.specs.declared.ProcId.{ProcId}
@@ -78,13 +78,24 @@ least_left s left test is (Some p) some none =
 abbrev pub shielded : List KindSet → KindSet → ℕ → Bool
 shielded protections kinds q = has_some (slice_index_or protections q no_deed) kinds
 
--- one more process that isn't barred
-pub not_barred : (s : sets.FinSet nat_cmp) (test : ℕ → Bool) (p : ℕ) → (sets.contains s p && test p) ≡ false → ((q : ℕ) → q < p → sets.contains s q ≡ true → test q ≡ false) → (q : ℕ) → q < p + 1 → sets.contains s q ≡ true → test q ≡ false
-not_barred s test p here before q below member =
-    elim (cases_lt q p) [
-      | inl lt ↦ before q lt member
-      | inr ge ↦ let same : p ≡ q = omega arith in second_false (sets.contains s q) (test q) (ap (λ j. sets.contains s j && test j) (sym same) ∙ here) member
-    ]
+-- the rest is of the set, and no member that isn't in the rest passes a test
+pub record PassedOver (s rest : sets.FinSet nat_cmp) (test : ℕ → Bool) : Type 0 where
+  pub within : (q : ℕ) → sets.contains rest q ≡ true → sets.contains s q ≡ true
+  pub none_passes : (q : ℕ) → sets.contains s q ≡ true → sets.contains rest q ≡ false → test q ≡ false
+
+-- one more member that doesn't pass
+pub passed_over : (s rest next : sets.FinSet nat_cmp) (test : ℕ → Bool) (p : ℕ) → next ≡ sets.remove rest p → test p ≡ false → PassedOver s rest test → PassedOver s next test
+passed_over s rest next test p is fails before = record {
+  within = λ q left. before.within q (both_true (not (q == p)) _ (sym (without q) ∙ left)).1;
+  none_passes = λ q member gone. at q member (q == p) refl (sym (without q) ∙ gone);
+}
+  where
+    without : (q : ℕ) → sets.contains next q ≡ (not (q == p) && sets.contains rest q)
+    without q = ap (λ t. sets.contains t q) is ∙ sets.contains-remove nat_cmp_total rest p q ∙ ap (λ b. not b && sets.contains rest q) (unsigned_tied q p)
+
+    at : (q : ℕ) → sets.contains s q ≡ true → (b : Bool) → (q == p) ≡ b → (not b && sets.contains rest q) ≡ false → test q ≡ false
+    at q member true same gone = ap test (eqb-true q p same) ∙ fails
+    at q member false other gone = before.none_passes q member gone
 
 -- ---- the least as the first that is found
 

@@ -41,6 +41,17 @@ pub(crate) fn left_uncovered(grants: &[Grant], kinds: KindSet, map: &Map, set: &
     left
 }
 
+/// Whether a process is protected from some of these kinds. A process that isn't there is protected
+/// from none.
+fn is_shielded(protections: &[KindSet], kinds: KindSet, p: ProcId) -> bool
+    ensures { result ≡ has_some (slice_index_or protections.now p.0 no_deed) kinds }
+{
+    match protections.get(p.0 as usize) {
+        Some(own) => own.intersects(kinds),
+        None => false,
+    }
+}
+
 /// The least process of a set that is protected from some of these kinds.
 pub(crate) fn least_protected(
     protections: &[KindSet],
@@ -49,12 +60,9 @@ pub(crate) fn least_protected(
 ) -> Option<ProcId>
     ensures { LeastWith (sets.contains set.now) (λ q. has_some (slice_index_or protections.now q no_deed) kinds) result }
 {
-    set.members_are_small();
-    for p in 0..protections.len().min(1024) {
-        let process = ProcId(p as u32);
-        let barred = set.has(process) & protections[p].intersects(kinds);
-        if barred {
-            return Some(process);
+    for p in set.iter() {
+        if is_shielded(protections, kinds, p) {
+            return Some(p);
         }
     }
     None

@@ -24,7 +24,7 @@ actor_1_is_there : 1 < 5
 actor_1_is_there = omega arith
 
 pub verdict_stands : KillsJudged → Legal six two_zones → verdict (situation six (history six one_zone) 1) second_kill ≡ record { struck = Some Reboot; rule = Some (TooManyDestroyed 0) }
-verdict_stands law legal = sym (same_verdict _ _ ((law six one_zone [] _ second_kill legal refl).0 actor_1_is_there))
+verdict_stands law legal = sym (same_verdict _ _ ((law six two_zones legal one_zone [] _ second_kill refl refl).known actor_1_is_there))
 
 pub short_after : DestroyedShort → IsMet six → Legal six written_and_synced → AreShort six.processes six.policies (destroyed (history six written_and_synced))
 short_after law met legal = law six written_and_synced met legal

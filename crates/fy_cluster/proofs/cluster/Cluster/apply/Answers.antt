@@ -9,10 +9,10 @@ invariant_of-self c =
     c.enter.ensures.entered
     c.enter.ensures.err
 
-pub returns-clause-legal : goal.returns-clause-legal
-returns-clause-legal c =
+pub returns-clause-survives : goal.returns-clause-survives
+returns-clause-survives c =
     let kept : IsKept c.self.inside.config c.enter.new.journal.entries c.enter.new.self =
     kept_after_act c.self.inside.config c.self.inside.journal.entries c.enter.new.journal.entries c.args.by c.args.act c.enter.result c.enter.new.self c.self.inside.machine c.self.invariant (omega arith) c.enter.ensures.answered
     c.enter.ensures.entered
     c.enter.ensures.err in
-    kept.legal
+    c.journals_survive.ensures c.self.inside.config c.enter.new.journal.entries kept.setup.met kept.legal

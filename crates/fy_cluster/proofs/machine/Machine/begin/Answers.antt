@@ -1,11 +1,10 @@
-use Rattle.std.proofs.Common.{◌≡◌, Ok, Err, ◌+◌, ◌++◌, List, length, map, ◌∙◌, sym, ap}
-use Rattle.fy_locality.specs.declared.ProcId.{ProcId}
-use Rattle.fy_net.specs.declared.message.Body.TheVariants.{Store}
+use Rattle.std.proofs.Common.{◌≡◌, Ok, Err, length, ◌∙◌, sym, ap, subst}
 use Rattle.fy_net.specs.declared.fault.NetFault.TheVariants.{NoMemory}
 use Rattle.fy_net.specs.Net.{Traffic}
 use Rattle.fy_team.specs.Teams.{Roster, members_of}
 use Rattle.fy_audit.specs.declared.act.Act.TheVariants.{Begin}
-use Rattle.fy_cluster.specs.Standing.{numbered}
+use Rattle.fy_cluster.specs.History.{stores_of}
+use Rattle.fy_cluster.specs.Standing.{Sends}
 use Rattle.fy_cluster.proofs.Results.{told, told_all}
 use Rattle.fy_cluster.proofs.Room.{few_sent, no_room_left, reserved_is}
 use Rattle.fy_cluster.proofs.Resent.{Fits, fits, unfit_begin, no_members, members_are, members_known, begin_full, begins_now, there_all}
@@ -53,7 +52,4 @@ returns g c =
     c.in-Ok.ensures.number
     c.in-Ok.ensures.begun
     c.sent-first.ensures
-    (c.send_stores.ensures.in_flight ∙ ap (λ (ps : List ProcId). c.reserve.new.self.in_flight ++ numbered c.reserve.new.self.sent (map (λ p. Store c.in-Ok.rec p) ps)) same)
-    (c.send_stores.ensures.sent ∙ ap (λ (ps : List ProcId). c.reserve.new.self.sent + length ps) same)
-    c.send_stores.ensures.clock
-    c.send_stores.ensures.until
+    (subst (λ ps. Sends c.reserve.new.self (stores_of c.in-Ok.rec ps) c.send_stores.new.net) same c.send_stores.ensures)

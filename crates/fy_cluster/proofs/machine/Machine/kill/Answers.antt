@@ -1,22 +1,26 @@
-use Rattle.std.proofs.Common.{◌∙◌, ap, refl, sym, subst, length, get_or, if◌then◌else◌}
+use Rattle.std.proofs.Common.{◌∙◌, ◌<◌, ap, refl, sym, subst}
 use Rattle.std.specs.FinSet as sets
-use Rattle.fy_decide.specs.Losses.{MayDestroy}
-use Rattle.fy_decide.specs.Verdicts.{targets, situation_of}
-use Rattle.fy_cluster.specs.Standing.{left_on, blank_disk}
-use Rattle.fy_cluster.proofs.Judged.{spares, strikes_now, chosen}
+use Rattle.fy_decide.specs.Verdicts.{situation_of}
+use Rattle.fy_cluster.specs.Standing.{ChangesAt, MayLose, targets_by, left_on, blank_disk}
+use Rattle.fy_cluster.proofs.Judged.{targets_below, spares, strikes_now, chosen}
 use Rattle.fy_cluster.proofs.machine.Machine.kill.Goals as goal
 
 pub returns-in_default : goal.returns-in_default
 returns-in_default g c = spares g.turn c.args.order.now c.judge-verdict.result c.args.self.now c.requires.0 c.args.by c.requires.1.1 c.judge-verdict.ensures c.in_default.is
 
 pub strike_disks-requires : goal.strike_disks-requires
-strike_disks-requires g c = c.len.ensures.count ∙ ap length c.requires.1.0 ∙ sym c.requires.0.disks.count
+strike_disks-requires g c p member =
+    subst (λ n. p < n) (sym c.requires.0.disks.count)
+    (targets_below g.turn.setup g.turn.before c.args.self.now c.requires.0 c.args.order.now.target c.targets-targets.result
+    (λ q. c.targets-targets.ensures q ∙ ap (λ t. targets_by c.args.self.now t q) c.target.ensures)
+    p
+    member)
 
 pub bury-requires : goal.bury-requires
 bury-requires g c loss brings =
     let dead = c.args.self.now.dead in
-    subst (λ s. MayDestroy dead.processes dead.policies (sets.contains dead.destroyed) (sets.contains dead.left) s loss)
-    (λ i p. sym (c.targets-targets.ensures p ∙ ap (λ t. targets dead.processes (sets.contains dead.left) t p) c.target.ensures) i)
+    subst (λ s. MayLose dead s loss)
+    (λ i p. sym (c.targets-targets.ensures p ∙ ap (λ t. targets_by c.args.self.now t p) c.target.ensures) i)
     (c.struck_may_be_destroyed.ensures (situation_of dead c.args.self.now.book c.args.by) c.args.order.now c.in-Some.kind loss (chosen c.judge-verdict.ensures c.in-Some.is) brings)
 
 pub returns : goal.returns
@@ -26,10 +30,8 @@ returns g c =
     c.requires.1.1
     c.judge-verdict.ensures
     c.in-Some.is
-    (λ p. c.targets-targets.ensures p ∙ ap (λ t. targets c.args.self.now.dead.processes (sets.contains c.args.self.now.dead.left) t p) c.target.ensures)
-    c.strike_disks.ensures.count
-    (λ p l. c.strike_disks.ensures.each p l
-    ∙ ap (λ t. if sets.contains c.targets-targets.result p then left_on c.in-Some.kind t (get_or c.args.self.now.disks.items p blank_disk) else get_or c.args.self.now.disks.items p blank_disk) c.tear.ensures)
+    (λ p. c.targets-targets.ensures p ∙ ap (λ t. targets_by c.args.self.now t p) c.target.ensures)
+    (subst (λ t. ChangesAt (sets.contains c.targets-targets.result) (left_on c.in-Some.kind t) blank_disk c.args.self.now.disks.items c.strike_disks.new.disks.items) c.tear.ensures c.strike_disks.ensures)
     c.difference-self.ensures
     c.bury.ensures
     _

@@ -16,6 +16,9 @@ unreachable-requires g c = payload_there c.test_is_satisfaction.ensures g.turn c
 pub write_to-requires : goal.write_to-requires
 write_to-requires g c = let a = c.requires.0.net.count in let b = c.requires.0.disks.count in let l = c.requires.1.1.1 in omega arith
 
+pub take_out-requires : goal.take_out-requires
+take_out-requires g c = may_be_taken c.args.self.now.net c.args.message _ c.requires.1.1.0 (sym c.if-clogged.ensures)
+
 pub returns : goal.returns
 returns g c =
     stores g.turn c.args.message c.args.rec c.args.to c.args.self.now (get_or c.args.self.now.disks.items c.args.to.0 blank_disk) c.in_ok-payload.payload _ c.requires.0 c.requires.1.1.0 c.requires.1.1.1
@@ -26,6 +29,6 @@ returns g c =
     refl
     refl
     refl
-    (c.take.ensures.taken (may_be_taken c.args.self.now.net c.args.message _ c.requires.1.1.0 (sym c.if-clogged.ensures))).1
+    c.take_out.ensures
     refl
     c.in_ok-write_to.ensures.written

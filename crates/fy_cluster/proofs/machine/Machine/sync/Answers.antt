@@ -1,10 +1,10 @@
-use Rattle.std.proofs.Common.{◌≡◌, ◌+◌, arith, Ok, Err, ◌∙◌, sym, ap, refl, length, ◌++◌, [], map, slice_set}
+use Rattle.std.proofs.Common.{◌≡◌, arith, Ok, Err, ◌∙◌, sym, ap, subst, refl, length, ◌++◌, [], slice_set}
 use Rattle.fy_disk.specs.Disk.{Stored}
 use Rattle.fy_net.specs.declared.fault.NetFault.TheVariants.{NoMemory}
-use Rattle.fy_net.specs.declared.message.Body.TheVariants.{Synced}
 use Rattle.fy_net.specs.Net.{reserve_refusal}
 use Rattle.fy_audit.specs.declared.act.Act.TheVariants.{Sync}
-use Rattle.fy_cluster.specs.Standing.{stored, numbered}
+use Rattle.fy_cluster.specs.History.{words_of}
+use Rattle.fy_cluster.specs.Standing.{stored, Sends}
 use Rattle.fy_cluster.proofs.Starts.{past_processes, within_processes}
 use Rattle.fy_cluster.proofs.Results.{told}
 use Rattle.fy_cluster.proofs.Room.{few_sent, no_room_left, reserved_is}
@@ -44,10 +44,7 @@ returns g c =
     (disk_given g.turn c.args.self.now c.args.process.0 c.index.result.now c.requires.0 there.1 c.index.ensures)
     (ap (reserve_refusal c.args.self.now.net) (sym c.unsynced_len-count.ensures) ∙ told _ NoMemory (Ok c.in_default.field-0) c.in_default.ensures.refused c.in_default.ensures.memory)
     (reserved_is c.args.self.now.net c.reserve.new.self _ c.in_default.ensures.ok)
-    (c.send_words.ensures.in_flight ∙ ap (λ (d : Stored). c.reserve.new.self.in_flight ++ numbered c.reserve.new.self.sent (map (λ item. Synced item.rec c.args.process) d.unsynced)) same)
-    (c.send_words.ensures.sent ∙ ap (λ (d : Stored). c.reserve.new.self.sent + length d.unsynced) same)
-    c.send_words.ensures.clock
-    c.send_words.ensures.until
+    (subst (λ (d : Stored). Sends c.reserve.new.self (words_of c.args.process d.unsynced) c.send_words.new.net) same c.send_words.ensures)
     c.sent-first.ensures
     c.unsynced_len-count.ensures
     refl

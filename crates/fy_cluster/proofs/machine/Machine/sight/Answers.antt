@@ -1,0 +1,13 @@
+use Rattle.std.proofs.Common.{◌∙◌, ap}
+use Rattle.std.specs.FinSet as sets
+use Rattle.fy_cluster.proofs.Seen.{sees}
+use Rattle.fy_cluster.proofs.machine.Machine.sight.Goals as goal
+
+pub returns : goal.returns
+returns c setup h stands =
+    sees setup h c.args.self.now c.deref.result.now c.difference.result _ stands c.messages_are_in_order.ensures c.now.ensures.time c.first_free.ensures.first
+    c.deref.ensures.value
+    c.first_unsynced.ensures
+    (c.difference.ensures ∙ ap (λ s. sets.difference s c.args.self.now.up) c.left.ensures.left)
+    c.least.ensures.some
+    c.least.ensures.none

@@ -1,0 +1,63 @@
+-- what a cluster shows without an act: who keeps a record, and what may come next
+use Rattle.std.specs.Prelude.{◌≡◌, ℕ, ◌<◌, Bool, true, false, ◌&&◌, not, List, length, nat_lt, ◌==◌, Option, option_map, MatchOption, slice_index_or}
+use Rattle.std.specs.List.{list_any}
+use Rattle.std.specs.FinSet as sets
+use Rattle.fy_locality.specs.declared.ProcId.{ProcId}
+use Rattle.fy_disk.specs.Disk.{Stored}
+use Rattle.fy_grants.specs.Least.{IsLeastWith}
+use Rattle.fy_team.specs.Teams.{is_among}
+use Rattle.fy_audit.specs.declared.act.Act.TheVariants.{Deliver}
+use Rattle.fy_cluster.specs.declared.machine.Machine.{Machine}
+use Rattle.fy_cluster.specs.declared.sight.Sight.{Sight}
+use Rattle.fy_cluster.specs.Setup.{Setup}
+use Rattle.fy_cluster.specs.History.{History, left, up, unsynced, now, team_of, keeps}
+use Rattle.fy_cluster.specs.Replies.{refusals}
+use Rattle.fy_cluster.specs.Standing.{blank_disk}
+
+-- ---- keepers
+
+-- of a record's team, the least member that keeps the record
+abbrev pub IsLeastKeeper : History → ℕ → ProcId → Type 0
+IsLeastKeeper h rec p = IsLeastWith (is_among (team_of h rec)) (keeps h rec) p.0
+
+-- the machine's parts say that the process isn't destroyed and has the record synced
+abbrev pub keeps_on : Machine → ℕ → ℕ → Bool
+keeps_on m rec p = not (sets.contains m.dead.destroyed p) && list_any (λ item. item.rec == rec) (slice_index_or m.disks.items p blank_disk).synced
+
+-- ---- what may come next
+
+-- nothing speaks against delivering the message now
+abbrev pub is_deliverable : Setup → History → ℕ → Bool
+is_deliverable c h n = not (list_any (λ reason. reason.0) (refusals c h (Deliver n)))
+
+-- the process is up, and has writes that it has not synced
+abbrev pub is_behind : Setup → History → ℕ → Bool
+is_behind c h p = nat_lt p (length c.processes) && up h p && nat_lt 0 (length (unsynced h p))
+
+-- the process is neither up nor gone
+abbrev pub is_asleep : Setup → History → ℕ → Bool
+is_asleep c h p = left c h p && not (up h p)
+
+-- the disk of the process has writes that aren't synced
+abbrev pub has_unsynced : List Stored → ℕ → Bool
+has_unsynced disks p = nat_lt 0 (length (slice_index_or disks p blank_disk).unsynced)
+
+-- n passes the test, and no number below it does
+pub record IsLeastNumber (test : ℕ → Bool) (n : ℕ) : Type 0 where
+  pub passes : test n ≡ true
+  pub none_below : (k : ℕ) → k < n → test k ≡ false
+
+-- found is the least number that passes, or none where none does
+abbrev pub LeastNumber : (ℕ → Bool) → Option ℕ → Type 0
+LeastNumber test found = MatchOption found ((n : ℕ) → test n ≡ false) (IsLeastNumber test)
+
+-- the same of the numbers of processes
+abbrev pub LeastProcess : (ℕ → Bool) → Option ProcId → Type 0
+LeastProcess test found = LeastNumber test (option_map (λ p. p.0) found)
+
+-- the time, the least message to deliver, and the least process to sync and to start
+pub record Sees (c : Setup) (h : History) (sight : Sight) : Type 0 where
+  pub time : sight.now ≡ now h
+  pub deliverable : LeastNumber (is_deliverable c h) sight.deliverable
+  pub unsynced : LeastProcess (is_behind c h) sight.unsynced
+  pub sleeping : LeastProcess (is_asleep c h) sight.sleeping
