@@ -2,12 +2,14 @@
 use crate::laws;
 
 pub(crate) mod clusters;
+mod growths;
 mod kills;
 mod limits;
 mod messages;
 mod records;
 mod refusals;
 mod rights;
+mod sights;
 mod stage;
 mod steps;
 

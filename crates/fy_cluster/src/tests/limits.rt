@@ -2,6 +2,7 @@
 use super::clusters::{Parts, cluster_of_six, made_over, or_no_memory, usual_grants};
 use super::stage::Stage;
 use super::steps::*;
+use crate::Sight;
 use fy_audit::{Act, Refusal, Reply};
 use fy_kinds::{Kind, Rule};
 use fy_locality::{Map, MapFault, ProcId};
@@ -25,6 +26,7 @@ fn full_journal_takes_no_entry(rt: HostRuntime) {
     stage.sees_entries(2, true);
     stage.play(&[full(Act::Tick { ticks: 1 })]);
     stage.sees_entries(2, true);
+    stage.sees(Sight { now: 1, ..IDLE });
 }
 
 #[test]

@@ -43,6 +43,8 @@ fn acknowledged_record_is_not_sent_again(rt: HostRuntime) {
         },
         no(Refusal::Acked),
     )]);
+    stage.sees_keeper(0, Some(P2));
+    stage.sees_keeper(1, None);
     stage.sees_destroyed(&[P0]);
 }
 
@@ -85,12 +87,10 @@ fn word_of_the_gone_is_delivered(rt: HostRuntime) {
         storage(Act::Deliver { message: 2 }, Reply::Marked { acked: false }),
         storage(Act::Deliver { message: 3 }, Reply::Marked { acked: true }),
     ]);
-    stage.sees_destroyed(&[P0]);
-    stage.play(&[kill(
-        process("p2"),
-        Kind::RebootAndDelete,
-        weakened(Kind::Reboot, TOO_MANY),
-    )]);
+    stage.sees_keeper(0, Some(P2));
+    let rebooted = weakened(Kind::Reboot, TOO_MANY);
+    stage.play(&[kill(process("p2"), Kind::RebootAndDelete, rebooted)]);
+    stage.sees_keeper(0, Some(P2));
     stage.sees_destroyed(&[P0]);
 }
 

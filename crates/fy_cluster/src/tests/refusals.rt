@@ -3,7 +3,6 @@ use super::clusters::cluster_of_six;
 use super::stage::Stage;
 use super::steps::*;
 use fy_audit::{Act, Refusal, Reply};
-use fy_grants::{Grant, Scope};
 use fy_kinds::{Kind, KindSet, Rule};
 use fy_locality::ProcId;
 
@@ -39,14 +38,9 @@ fn of_storage(by: u32, reply: Reply) -> [Step<'static>; 8] {
 /// One of each act of role operator.
 fn of_operator(by: u32, reply: Reply) -> [Step<'static>; 4] {
     let (process, kinds) = (P0, KindSet::of(Kind::Reboot));
-    let grant = Grant {
-        actor: UNGRANTED,
-        kinds,
-        scope: Scope::All,
-    };
     let plain = |act| asked(by, Ask::Plain(act), reply);
     [
-        plain(Act::Give { grant }),
+        plain(rebooting(UNGRANTED)),
         plain(Act::Take {
             actor: FAULT,
             index: 0,

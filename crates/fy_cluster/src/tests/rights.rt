@@ -3,7 +3,6 @@ use super::clusters::cluster_of_six;
 use super::stage::Stage;
 use super::steps::*;
 use fy_audit::{Act, Refusal, Reply};
-use fy_grants::{Grant, Scope};
 use fy_kinds::{Kind, KindSet, Rule};
 use fy_locality::Key;
 
@@ -15,16 +14,6 @@ fn reboot(place: Place<'_>) -> Ask<'_> {
         floor: Kind::RebootProcess,
         tear: 0,
     }
-}
-
-/// A grant to reboot every process.
-fn rebooting(actor: u32) -> Act {
-    let grant = Grant {
-        actor,
-        kinds: KindSet::of(Kind::Reboot),
-        scope: Scope::All,
-    };
-    Act::Give { grant }
 }
 
 #[test]

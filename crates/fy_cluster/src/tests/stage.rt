@@ -1,7 +1,7 @@
 //! A stage on which written-out runs are played.
 use super::clusters::{Parts, made, usual_grants};
 use super::steps::Step;
-use crate::{Cluster, Config, Fault, MakeFault};
+use crate::{Cluster, Config, Fault, MakeFault, Sight};
 use fy_audit::{Act, Entry, Journal, Reply};
 use fy_locality::{ProcId, ProcSet};
 use std::alloc::{AllocError, Global};
@@ -14,6 +14,9 @@ struct Shown {
     last: Option<(u32, u32, Reply)>,
     destroyed: ProcSet,
     is_full: bool,
+    sight: Sight,
+    /// Of the first three records.
+    keepers: [Option<ProcId>; 3],
 }
 
 /// Whose entry it is, which number it has, and the reply.
@@ -30,6 +33,8 @@ impl Shown {
             last: last.and_then(|last| seen(journal.entry(last))),
             destroyed: cluster.destroyed(),
             is_full: cluster.is_full(),
+            sight: cluster.sight(),
+            keepers: [cluster.keeper(0), cluster.keeper(1), cluster.keeper(2)],
         }
     }
 
@@ -39,6 +44,8 @@ impl Shown {
             && self.destroyed.difference(&other.destroyed).is_empty()
             && other.destroyed.difference(&self.destroyed).is_empty()
             && self.is_full == other.is_full
+            && self.sight == other.sight
+            && self.keepers == other.keepers
     }
 }
 
@@ -195,6 +202,22 @@ impl<'r, R: Abort> Stage<'r, R> {
                 assert_eq!(self.rt; (journal.len(), cluster.is_full()), (entries, is_full));
                 assert!(self.rt; journal.entry(entries).is_none());
             }
+        }
+    }
+
+    /// Sees what there is to do next.
+    pub(super) fn sees(&self, sight: Sight) {
+        if let Some(twins) = &self.twins {
+            assert_eq!(self.rt; twins.stepped.sight(), sight);
+            assert_eq!(self.rt; twins.ran.sight(), sight);
+        }
+    }
+
+    /// Sees who keeps a record, if it is acknowledged.
+    pub(super) fn sees_keeper(&self, rec: u32, keeper: Option<ProcId>) {
+        if let Some(twins) = &self.twins {
+            assert_eq!(self.rt; twins.stepped.keeper(rec), keeper);
+            assert_eq!(self.rt; twins.ran.keeper(rec), keeper);
         }
     }
 

@@ -1,9 +1,10 @@
 //! Steps of a written-out run: who asks for what, and what is answered.
 use super::clusters::or_no_memory;
-use crate::Fault;
+use crate::{Fault, Sight};
 use fy_audit::{Act, Refusal, Reply};
 use fy_disk::Payload;
-use fy_kinds::{KillOrder, Kind, Rule, Target, Verdict};
+use fy_grants::{Grant, Scope};
+use fy_kinds::{KillOrder, Kind, KindSet, Rule, Target, Verdict};
 use fy_locality::{Key, Name, ProcId};
 use fy_team::{Members, MembersFault};
 use std::alloc::{AllocError, Global};
@@ -208,6 +209,16 @@ pub(super) fn unclog(place: Place<'_>, reply: Reply) -> Step<'_> {
     asked(FAULT, Ask::Unclog { place }, reply)
 }
 
+/// A grant to reboot every process.
+pub(super) fn rebooting(actor: u32) -> Act {
+    let grant = Grant {
+        actor,
+        kinds: KindSet::of(Kind::Reboot),
+        scope: Scope::All,
+    };
+    Act::Give { grant }
+}
+
 /// The verdict that an order struck as it was given.
 pub(super) fn struck(kind: Kind) -> Reply {
     Reply::Verdict(Verdict {
@@ -234,6 +245,14 @@ pub(super) fn barred(rule: Rule) -> Reply {
 
 /// The reply to a clog, or to the end of one, that nothing bars.
 pub(super) const UNBARRED: Reply = Reply::Ruled { rule: None };
+
+/// What a cluster shows at the start, and where there is nothing to do.
+pub(super) const IDLE: Sight = Sight {
+    now: 0,
+    deliverable: None,
+    unsynced: None,
+    sleeping: None,
+};
 
 pub(super) fn no(refusal: Refusal) -> Reply {
     Reply::No(refusal)
