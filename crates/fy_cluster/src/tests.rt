@@ -1,5 +1,17 @@
-//! Each law can be called.
+//! Runs of a cluster that are written out, step by step; and each law can be called.
 use crate::laws;
+
+pub(crate) mod clusters;
+mod growths;
+mod kills;
+mod limits;
+mod messages;
+mod records;
+mod refusals;
+mod rights;
+mod sights;
+mod stage;
+mod steps;
 
 #[test]
 fn laws_can_be_called() {

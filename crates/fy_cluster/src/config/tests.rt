@@ -1,77 +1,17 @@
 //! Configurations of six processes, two in each of three zones.
 use super::*;
+use crate::tests::clusters::{
+    EVERY, HARD, Parts, TWO_ZONES, cluster_of_six, made, to_all, usual_grants,
+};
 use fy_grants::Scope;
 use fy_kinds::Target;
-use fy_locality::{BadName, Key, MapFault, Name};
-use fy_policy::{PolicyFault, policy_text, read_policy};
+use fy_locality::{BadName, Key, Name};
+use fy_policy::policy_text;
+use std::process::Abort;
 use std::test::Fail;
-
-const PROCESSES: [(&str, &str, &str); 6] = [
-    ("p0", "m0", "z0"),
-    ("p1", "m1", "z0"),
-    ("p2", "m2", "z1"),
-    ("p3", "m3", "z1"),
-    ("p4", "m4", "z2"),
-    ("p5", "m5", "z2"),
-];
-
-const TWO_ZONES: &str = "Across(2,zoneid,One())";
 
 /// There are only three.
 const FOUR_ZONES: &str = "Across(4,zoneid,One())";
-
-const ROLES: [Role; 5] = [
-    Role::Storage,
-    Role::Fault,
-    Role::Fault,
-    Role::Fault,
-    Role::Operator,
-];
-
-const EVERY: KindSet = KindSet {
-    reboot_process: true,
-    reboot: true,
-    reboot_and_delete: true,
-    kill_instantly: true,
-    clog: true,
-};
-
-const HARD: KindSet = KindSet {
-    reboot_process: false,
-    reboot: true,
-    reboot_and_delete: false,
-    kill_instantly: true,
-    clog: false,
-};
-
-/// What a configuration is made of beside its processes.
-#[derive(Clone, Copy)]
-struct Parts<'a> {
-    policies: &'a [&'a str],
-    roles: &'a [Role],
-    grants: &'a [Grant],
-    protections: &'a [Protection],
-    journal_limit: u32,
-}
-
-/// One policy and five actors, without grants and protections.
-fn plain() -> Parts<'static> {
-    Parts {
-        policies: &[TWO_ZONES],
-        roles: &ROLES,
-        grants: &[],
-        protections: &[],
-        journal_limit: 1000,
-    }
-}
-
-fn to_all(actor: u32, kinds: KindSet) -> Grant {
-    Grant {
-        actor,
-        kinds,
-        scope: Scope::All,
-    }
-}
 
 fn protection(process: u32, kinds: KindSet) -> Protection {
     Protection {
@@ -80,52 +20,23 @@ fn protection(process: u32, kinds: KindSet) -> Protection {
     }
 }
 
-fn cluster(alloc: Global) -> Result<Map, MapFault> {
-    let mut map = Map::make(alloc);
-    for (id, machine, zone) in PROCESSES {
-        let _ = map.add(id, machine, zone, None, Some("d0"))?;
-    }
-    Ok(map)
+fn fault_of(
+    rt: &impl Abort,
+    alloc: Global,
+    parts: &Parts<'_>,
+) -> Result<Option<MakeFault>, AllocError> {
+    Ok(made(rt, alloc, parts)?.err())
 }
 
-fn read_all(alloc: Global, texts: &[&str]) -> Result<Vec<Policy>, PolicyFault> {
-    let mut policies = Vec::new(alloc);
-    for text in texts {
-        policies.push(read_policy(alloc, text)?)?;
-    }
-    Ok(policies)
-}
-
-/// The configuration of these parts, or why there is none; no memory for the parts themselves is a fault of the test.
-fn made(alloc: Global, parts: &Parts) -> Result<Result<Config, MakeFault>, Fail> {
-    let map = cluster(alloc)?;
-    let policies = read_all(alloc, parts.policies)?;
-    let roles = Vec::from_slice(alloc, parts.roles)?;
-    let grants = Vec::from_slice(alloc, parts.grants)?;
-    let protections = Vec::from_slice(alloc, parts.protections)?;
-    Ok(Config::make(
-        map,
-        policies,
-        roles,
-        grants,
-        protections,
-        parts.journal_limit,
-    ))
-}
-
-fn fault_of(alloc: Global, parts: &Parts) -> Result<Option<MakeFault>, Fail> {
-    Ok(made(alloc, parts)?.err())
-}
-
-/// Whether the map has the six processes, in their order.
-fn is_cluster(map: &Map) -> Result<bool, BadName> {
-    for place in 0..PROCESSES.len() {
-        let (id, _, _) = PROCESSES[place];
-        if map.find(&Name::make(id)?) != Some(ProcId(place as u32)) {
+/// Whether the map has these processes, in their order.
+fn has_processes(map: &Map, processes: &[(&str, &str, &str)]) -> Result<bool, BadName> {
+    for place in 0..processes.len() {
+        let (id, _, _) = processes[place];
+        if map.find(&Name::make(id)?).map(|p| p.0 as usize) != Some(place) {
             return Ok(false);
         }
     }
-    Ok(map.len() as usize == PROCESSES.len())
+    Ok(map.len() as usize == processes.len())
 }
 
 fn has_roles(config: &Config, roles: &[Role]) -> bool {
@@ -153,7 +64,7 @@ fn has_policies(alloc: Global, config: &Config, texts: &[&str]) -> Result<bool, 
 /// Whether each reader answers what the configuration was made of.
 fn answers_as_made(alloc: Global, config: &Config, parts: &Parts) -> Result<bool, Fail> {
     Ok(
-        is_cluster(config.map())?
+        has_processes(config.map(), parts.processes)?
             && has_policies(alloc, config, parts.policies)?
             && has_roles(config, parts.roles)
             && config.grants() == parts.grants
@@ -165,12 +76,12 @@ fn answers_as_made(alloc: Global, config: &Config, parts: &Parts) -> Result<bool
 #[test]
 fn readers_answer_what_was_given(rt: HostRuntime) -> Result<(), Fail> {
     let alloc = rt.alloc();
-    let grants = [to_all(1, EVERY), to_all(2, HARD)];
+    let grants = usual_grants();
     let parts = Parts {
         grants: &grants,
-        ..plain()
+        ..cluster_of_six()
     };
-    let config = made(alloc, &parts)??;
+    let config = made(&rt, alloc, &parts)??;
     config.is_setup();
     assert!(rt; answers_as_made(alloc, &config, &parts)?);
     let copy = config.try_copy(alloc)?;
@@ -199,9 +110,9 @@ fn protections_may_repeat(rt: HostRuntime) -> Result<(), Fail> {
             protection(0, EVERY),
             protection(5, EVERY),
         ],
-        ..plain()
+        ..cluster_of_six()
     };
-    let config = made(alloc, &parts)??;
+    let config = made(&rt, alloc, &parts)??;
     assert!(rt; answers_as_made(alloc, &config, &parts)?);
     let copy = config.try_copy(alloc)?;
     assert!(rt; answers_as_made(alloc, &copy, &parts)?);
@@ -214,44 +125,44 @@ fn what_is_out_of_range_is_refused(rt: HostRuntime) -> Result<(), Fail> {
     let limit = Some(MakeFault::Limit);
     let parts = Parts {
         journal_limit: 0,
-        ..plain()
+        ..cluster_of_six()
     };
-    assert_eq!(rt; fault_of(alloc, &parts)?, limit);
+    assert_eq!(rt; fault_of(&rt, alloc, &parts)?, limit);
     let parts = Parts {
         journal_limit: 1_048_577,
-        ..plain()
+        ..cluster_of_six()
     };
-    assert_eq!(rt; fault_of(alloc, &parts)?, limit);
+    assert_eq!(rt; fault_of(&rt, alloc, &parts)?, limit);
     let parts = Parts {
         policies: &[],
-        ..plain()
+        ..cluster_of_six()
     };
-    assert_eq!(rt; fault_of(alloc, &parts)?, limit);
+    assert_eq!(rt; fault_of(&rt, alloc, &parts)?, limit);
     let parts = Parts {
         policies: &[TWO_ZONES; 9],
-        ..plain()
+        ..cluster_of_six()
     };
-    assert_eq!(rt; fault_of(alloc, &parts)?, limit);
+    assert_eq!(rt; fault_of(&rt, alloc, &parts)?, limit);
     let parts = Parts {
         roles: &[],
-        ..plain()
+        ..cluster_of_six()
     };
-    assert_eq!(rt; fault_of(alloc, &parts)?, limit);
+    assert_eq!(rt; fault_of(&rt, alloc, &parts)?, limit);
     let parts = Parts {
         roles: &[Role::Fault; 65],
-        ..plain()
+        ..cluster_of_six()
     };
-    assert_eq!(rt; fault_of(alloc, &parts)?, limit);
+    assert_eq!(rt; fault_of(&rt, alloc, &parts)?, limit);
     let parts = Parts {
         grants: &[to_all(1, EVERY), to_all(5, HARD)],
-        ..plain()
+        ..cluster_of_six()
     };
-    assert_eq!(rt; fault_of(alloc, &parts)?, limit);
+    assert_eq!(rt; fault_of(&rt, alloc, &parts)?, limit);
     let parts = Parts {
         protections: &[protection(0, HARD), protection(6, HARD)],
-        ..plain()
+        ..cluster_of_six()
     };
-    assert_eq!(rt; fault_of(alloc, &parts)?, limit);
+    assert_eq!(rt; fault_of(&rt, alloc, &parts)?, limit);
     Ok(())
 }
 
@@ -261,9 +172,9 @@ fn the_ends_of_each_range_are_in_it(rt: HostRuntime) -> Result<(), Fail> {
     let least = Parts {
         roles: &[Role::Fault],
         journal_limit: 1,
-        ..plain()
+        ..cluster_of_six()
     };
-    assert_eq!(rt; fault_of(alloc, &least)?, None);
+    assert_eq!(rt; fault_of(&rt, alloc, &least)?, None);
     let mut grants = Vec::new(alloc);
     for _ in 0..4096 {
         grants.push(to_all(63, HARD))?;
@@ -274,14 +185,15 @@ fn the_ends_of_each_range_are_in_it(rt: HostRuntime) -> Result<(), Fail> {
         grants: &grants,
         protections: &[protection(5, EVERY)],
         journal_limit: 1_048_576,
+        ..cluster_of_six()
     };
-    assert_eq!(rt; fault_of(alloc, &most)?, None);
+    assert_eq!(rt; fault_of(&rt, alloc, &most)?, None);
     grants.push(to_all(0, HARD))?;
     let too_many = Parts {
         grants: &grants,
-        ..plain()
+        ..cluster_of_six()
     };
-    assert_eq!(rt; fault_of(alloc, &too_many)?, Some(MakeFault::Limit));
+    assert_eq!(rt; fault_of(&rt, alloc, &too_many)?, Some(MakeFault::Limit));
     Ok(())
 }
 
@@ -291,19 +203,19 @@ fn the_first_unmet_policy_is_named(rt: HostRuntime) -> Result<(), Fail> {
     let unmet = |index| Some(MakeFault::PolicyUnmet { index });
     let first = Parts {
         policies: &[FOUR_ZONES],
-        ..plain()
+        ..cluster_of_six()
     };
-    assert_eq!(rt; fault_of(alloc, &first)?, unmet(0));
+    assert_eq!(rt; fault_of(&rt, alloc, &first)?, unmet(0));
     let second = Parts {
         policies: &["One()", FOUR_ZONES, FOUR_ZONES],
-        ..plain()
+        ..cluster_of_six()
     };
-    assert_eq!(rt; fault_of(alloc, &second)?, unmet(1));
+    assert_eq!(rt; fault_of(&rt, alloc, &second)?, unmet(1));
     let both = Parts {
         policies: &[FOUR_ZONES],
         journal_limit: 0,
-        ..plain()
+        ..cluster_of_six()
     };
-    assert_eq!(rt; fault_of(alloc, &both)?, Some(MakeFault::Limit));
+    assert_eq!(rt; fault_of(&rt, alloc, &both)?, Some(MakeFault::Limit));
     Ok(())
 }
