@@ -3,3 +3,5 @@ pub mod CommandLemmas
 pub mod InputLemmas
 pub mod LineLemmas
 pub mod WordLemmas
+pub mod StepOnce
+pub mod JudgeOnce

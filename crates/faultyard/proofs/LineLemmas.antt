@@ -1,21 +1,19 @@
 -- lines that say something, and the first that doesn't
-use Rattle.std.proofs.Common.{◌≡◌, ◌∙◌, ◌<◌, ◌≤◌, ◌+◌, Bool, true, false, cond, ltb, ℕ, List, [], ◌∷◌, ◌++◌, length, Option, Some, None, refl, sym, ap, subst, arith}
+use Rattle.std.proofs.Common.{◌≡◌, ◌≢◌, ◌∙◌, ◌<◌, ◌≤◌, ◌+◌, ℕ, List, [], ◌∷◌, ◌++◌, length, Option, Some, None, refl, sym, ap, subst}
 use Rattle.std.specs.Prelude.{Result, Ok, Err, IfErr, IfSome}
-use Rattle.std.specs.List.{position, position_or_len}
-use Rattle.std.proofs.lemmas.Bool.Decides.{nat_tests}
 use Rattle.std.proofs.lemmas.List.{append-nil, append_assoc}
 use Rattle.fy_decide.specs.DeadBook.{Casualties}
 use Rattle.fy_decide.specs.declared.dead_book.MakeFault.{MakeFault}
 use Rattle.fy_decide.specs.declared.dead_book.MakeFault.TheVariants.{Unmet, NoMemory}
 use Rattle.fy_lines.specs.Lines.{lines_of}
 use Rattle.faultyard.specs.declared.stop.JudgeFault.{JudgeFault}
-use Rattle.faultyard.specs.declared.stop.Stop.TheVariants.{JudgeTooLong, JudgeLine, Write as StopWrite}
+use Rattle.faultyard.specs.declared.stop.Stop.TheVariants.{JudgeTooLong, JudgeLine, Read as StopRead, Write as StopWrite}
 use Rattle.faultyard.specs.declared.judge.input.LineFault.{LineFault}
 use Rattle.faultyard.specs.declared.judge.input.LineFault.TheVariants.{Fault, NoMemory as LineNoMemory}
 use Rattle.faultyard.specs.JudgeViews.{IfFault, line_stop_of}
 use Rattle.fy_decide.specs.Losses.{first_unmet}
 use Rattle.faultyard.specs.JudgeLines.{Input, nothing, said_of, Step, Says}
-use Rattle.faultyard.specs.JudgeTexts.{most_bytes, IsFaultless, Judges, too_long, line_fault, policy_unmet, IfRefusal, IfUnmet, unmet_stop}
+use Rattle.faultyard.specs.JudgeTexts.{most_bytes, IsFaultless, Judges, too_long, line_fault, policy_unmet, IfRefusal, unmet_stop}
 
 -- one line more
 pub Says-push : (i : Input) (lines : List (List ℕ)) (j : Input) (line : List ℕ) (k : Input) → Says i lines j → Step j (said_of line) (Ok k) → Says i (lines ++ line ∷ []) k
@@ -62,22 +60,16 @@ module _ (o : Option ℕ) (r : Result Casualties MakeFault) (refused : (k : ℕ)
       go None is = let f : Unmet k ≡ NoMemory = subst (λ x. IfErr x (λ f. f ≡ NoMemory)) err (memory is) in absurd (let y : ⊥ = cc in y)
       go (Some j) is = let e : r ≡ Err (Unmet j) = refused j is in is ∙ ap Some (let same : j ≡ k = cc in same)
 
-pub position-within : {X : Type 0} (p : X → Bool) (xs : List X) (k : ℕ) → position p xs ≡ Some k → k < length xs
-position-within p xs k e = go (ltb (position_or_len p xs) (length xs)) refl e
-  where
-    go : (b : Bool) → ltb (position_or_len p xs) (length xs) ≡ b → cond b (Some (position_or_len p xs)) None ≡ Some k → k < length xs
-    go true t is = let same : position_or_len p xs ≡ k = cc in let below : position_or_len p xs < length xs = grind (arith, nat_tests) in omega arith
-    go false t is = absurd (let y : ⊥ = cc in y)
-
 -- the stop for a line that is not taken is the refusal of the bytes
 pub line_refused : (bytes : List ℕ) (good : List (List ℕ)) (input : Input) (rest line next : List ℕ) (n : ℕ) (f : LineFault) → length bytes ≤ most_bytes → lines_of bytes ≡ good ++ lines_of rest → lines_of rest ≡ line ∷ lines_of next → Says nothing good input
     → n ≡ length good → IfFault f (λ fault. Step input (said_of line) (Err fault)) → IfRefusal (line_stop_of (n + 1) f) (Judges bytes (Err (line_stop_of (n + 1) f)))
 line_refused bytes good input rest line next n (Fault fault) short split first said count step = first_fault bytes good input rest line next n fault short split first said count step
 line_refused bytes good input rest line next n LineNoMemory short split first said count step = tt
 
-pub no_write : (n : ℕ) (f : LineFault) → line_stop_of n f ≡ StopWrite → ⊥
-no_write n (Fault fault) e = let x : ⊥ = cc in x
-no_write n LineNoMemory e = let x : ⊥ = cc in x
+-- it is no fault of a reader or a writer
+pub line_stop-other : (n : ℕ) (f : LineFault) → (line_stop_of n f ≢ StopRead) × (line_stop_of n f ≢ StopWrite)
+line_stop-other n (Fault fault) = (λ e. let x : ⊥ = cc in x, λ e. let x : ⊥ = cc in x)
+line_stop-other n LineNoMemory = (λ e. let x : ⊥ = cc in x, λ e. let x : ⊥ = cc in x)
 
 -- the refusal for a policy that isn't met
 pub unmet_refused : (f : MakeFault) (i : Input) (r : Result Casualties MakeFault) → ((k : ℕ) → first_unmet i.processes i.policies ≡ Some k → r ≡ Err (Unmet k)) → (first_unmet i.processes i.policies ≡ None → IfErr r (λ f. f ≡ NoMemory)) → r ≡ Err f
@@ -85,19 +77,7 @@ pub unmet_refused : (f : MakeFault) (i : Input) (r : Result Casualties MakeFault
 unmet_refused (Unmet k) i r refused memory is bytes faultless = policy_unmet i k faultless (unmet_at (first_unmet i.processes i.policies) r refused memory k is)
 unmet_refused NoMemory i r refused memory is bytes faultless = tt
 
-pub unmet_no_write : (f : MakeFault) → unmet_stop f ≡ StopWrite → ⊥
-unmet_no_write (Unmet k) e = let x : ⊥ = cc in x
-unmet_no_write NoMemory e = let x : ⊥ = cc in x
-
-pub unmet_few : (f : MakeFault) (i : Input) (r : Result Casualties MakeFault) → ((k : ℕ) → first_unmet i.processes i.policies ≡ Some k → r ≡ Err (Unmet k)) → (first_unmet i.processes i.policies ≡ None → IfErr r (λ f. f ≡ NoMemory)) → r ≡ Err f → length i.policies ≤ 8 → IfUnmet f (λ k. k < 8)
-unmet_few (Unmet k) i r refused memory is few = let below : k < length i.policies = position-within _ i.policies k (unmet_at (first_unmet i.processes i.policies) r refused memory k is) in omega arith
-unmet_few NoMemory i r refused memory is few = tt
-
--- ---- of known bytes
-pub known_answered : (o : Option (List ℕ)) (bytes text : List ℕ) (P : List ℕ → Type 0) → IfSome o (λ xs. bytes ≡ xs) → Judges bytes (Ok text) → P text → IfSome o (λ xs. (t : List ℕ) × Judges xs (Ok t) × P t)
-known_answered None bytes text P same j p = tt
-known_answered (Some xs) bytes text P same j p = (text, subst (λ ys. Judges ys (Ok text)) same j, p)
-
+-- too many known bytes are refused
 pub known_long : (o : Option (List ℕ)) → IfSome o (λ xs. most_bytes < length xs) → IfSome o (λ xs. Judges xs (Err JudgeTooLong))
 known_long None h = tt
 known_long (Some xs) h = too_long h

@@ -84,6 +84,10 @@ pub data Judges (bytes : List ℕ) : Result (List ℕ) Stop → Type 0 where
   policy_unmet : (i : Input) (k : ℕ) → IsFaultless bytes i → first_unmet i.processes i.policies ≡ Some k → Judges bytes (Err (JudgeLine (k + 1) PolicyUnmet))
   answered : (i : Input) → IsFaultless bytes i → first_unmet i.processes i.policies ≡ None → Judges bytes (Ok (answers_text i))
 
+-- bytes have one answer
+abbrev pub TextIsOne : Type 0
+TextIsOne = (bytes : List ℕ) (x y : Result (List ℕ) Stop) → Judges bytes x → Judges bytes y → x ≡ y
+
 -- a judge stop is a refusal of the bytes
 abbrev pub IfRefusal : Stop → Type 0 → Type 0
 IfRefusal JudgeTooLong P = P

@@ -1,12 +1,14 @@
 //! The engine behind `faultyard judge`: bytes in, answers out.
-ghost use Rattle.std.specs.Prelude.{◌≡◌, ◌≤◌, ◌≢◌, ℕ, List, length, IfOk, IfErr, OnErr, IfSome, true, ◌<◌};
+ghost use Rattle.std.specs.Prelude.{◌≡◌, ◌≤◌, ◌≢◌, ◌+◌, ℕ, List, length, IfOk, IfErr, OnErr, IfSome, true, ◌<◌};
 ghost use Rattle.std.specs.Io.KnownBytes.{Appends};
-ghost use Rattle.fy_lines.specs.Fronts.{AppendsFront};
+ghost use Rattle.fy_lines.specs.Fronts.{StopsShort};
+ghost use Rattle.fy_lines.specs.Readings.{TakesUpTo};
 ghost use Rattle.faultyard.specs.JudgeTexts.{most_bytes, IsFaultless, Judges, IfRefusal, IfUnmet, unmet_stop};
 ghost use Rattle.faultyard.specs.JudgeViews.{line_stop_of};
 
 mod answer;
 mod input;
+mod laws;
 mod line;
 #[cfg(test)]
 mod tests;
@@ -37,7 +39,7 @@ fn read_lines(alloc: Global, bytes: &[u8]) -> Result<Input, Stop>
     requires { length bytes.now ≤ most_bytes }
     ensures read { IfOk result (IsFaultless bytes.now) }
     ensures refused { IfErr result (λ stop. IfRefusal stop (Judges bytes.now (Err stop))) }
-    ensures no_other { IfErr result (λ stop. stop ≢ Stop.Write) }
+    ensures no_other { IfErr result (λ stop. (stop ≢ Stop.Read) × (stop ≢ Stop.Write)) }
 {
     let mut input = Input::new(alloc);
     let mut rest = bytes;
@@ -71,7 +73,7 @@ fn unmet(fault: MakeFault) -> Stop
 fn answers(alloc: Global, input: &Input) -> Result<Vec<u8>, Stop>
     ensures answered { IfOk result (λ text. (bytes : List ℕ) → IsFaultless bytes input.now → Judges bytes (Ok text.items)) }
     ensures refused { IfErr result (λ stop. (bytes : List ℕ) → IsFaultless bytes input.now → IfRefusal stop (Judges bytes (Err stop))) }
-    ensures no_other { IfErr result (λ stop. stop ≢ Stop.Write) }
+    ensures no_other { IfErr result (λ stop. (stop ≢ Stop.Read) × (stop ≢ Stop.Write)) }
 {
     match DeadBook::make(alloc, input.map(), input.policies()) {
         Ok(mut book) => match answer_asks(alloc, input, &mut book) {
@@ -87,7 +89,7 @@ fn judged(alloc: Global, bytes: &[u8]) -> Result<Vec<u8>, Stop>
     requires { length bytes.now ≤ most_bytes }
     ensures answered { IfOk result (λ text. Judges bytes.now (Ok text.items)) }
     ensures refused { IfErr result (λ stop. IfRefusal stop (Judges bytes.now (Err stop))) }
-    ensures no_other { IfErr result (λ stop. stop ≢ Stop.Write) }
+    ensures no_other { IfErr result (λ stop. (stop ≢ Stop.Read) × (stop ≢ Stop.Write)) }
 {
     match read_lines(alloc, bytes) {
         Ok(input) => match answers(alloc, &input) {
@@ -106,7 +108,7 @@ fn judged(alloc: Global, bytes: &[u8]) -> Result<Vec<u8>, Stop>
 ///
 /// `JudgeTooLong` over 1,048,576 bytes, and `JudgeLine` for the first faulty line: nothing is written then. `Read` where
 /// the reader fails, `NoMemory` where memory was refused: nothing is written then either. `Write` where the writer fails
-/// or takes no byte: a front of the answers is out.
+/// or takes no byte: a front of the answers is out, and never all of them.
 pub fn run_judge<R: Read, W: Write>(
     alloc: Global,
     reader: &mut R,
@@ -115,7 +117,9 @@ pub fn run_judge<R: Read, W: Write>(
     ensures done { IfOk result (λ done. (done ≡ true) × IfSome (R.remaining reader.old) (λ bytes. (text : List ℕ) × Judges bytes (Ok text) × Appends (W.contents writer.old) (W.contents writer.new) text)) }
     ensures refused { IfErr result (λ stop. IfRefusal stop (IfSome (R.remaining reader.old) (λ bytes. Judges bytes (Err stop)))) }
     ensures nothing_out { IfErr result (λ stop. stop ≢ Stop.Write → W.contents writer.new ≡ W.contents writer.old) }
-    ensures front_out { result ≡ Err Stop.Write → IfSome (R.remaining reader.old) (λ bytes. (text : List ℕ) × Judges bytes (Ok text) × AppendsFront (W.contents writer.old) (W.contents writer.new) text) }
+    ensures front_out { result ≡ Err Stop.Write → IfSome (R.remaining reader.old) (λ bytes. (text : List ℕ) × Judges bytes (Ok text) × StopsShort (W.contents writer.old) (W.contents writer.new) text) }
+    ensures read_fault { result ≡ Err Stop.Read → TakesUpTo (R.remaining reader.old) (R.remaining reader.new) most_bytes }
+    ensures no_further { TakesUpTo (R.remaining reader.old) (R.remaining reader.new) (most_bytes + 1) }
 {
     let bytes = match read_limited(alloc, reader, MOST_BYTES) {
         Ok(bytes) => bytes,

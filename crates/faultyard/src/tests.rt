@@ -73,6 +73,7 @@ fn writes_each_fault_line(rt: HostRuntime) -> Result<(), Fail> {
 
 #[test]
 fn reads_the_task(rt: HostRuntime) -> Result<(), Fail> {
+    // Of five words too: with memory there is no want of it, however many words there are.
     let cases = [
         ("faultyard judge", Ok(Task::Judge)),
         ("faultyard", Err(ErrorKind::MissingSubcommand)),
@@ -83,6 +84,9 @@ fn reads_the_task(rt: HostRuntime) -> Result<(), Fail> {
         ("faultyard judge --help", Err(ErrorKind::DisplayHelp)),
         ("faultyard --version", Err(ErrorKind::UnknownArgument)),
         ("faultyard --", Err(ErrorKind::MissingSubcommand)),
+        ("faultyard judge --", Ok(Task::Judge)),
+        ("faultyard judge a b c", Err(ErrorKind::UnknownArgument)),
+        ("faultyard judge --help b c", Err(ErrorKind::DisplayHelp)),
     ];
     for (line, want) in cases {
         let words = words_of(rt.alloc(), line)?;

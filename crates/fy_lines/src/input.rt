@@ -39,7 +39,8 @@ const CHUNK: usize = 16384;
 ///
 /// `TooLong` exactly where the bytes are more than the limit, `Reader` where a call of `read`
 /// fails (also where it was interrupted), and `NoMemory` where there is no room for the bytes;
-/// whichever comes first.
+/// whichever comes first. At `TooLong` the reader has given one byte past the limit, and at
+/// `Reader` none past it.
 pub fn read_limited<R: Read>(
     alloc: Global,
     reader: &mut R,
@@ -50,6 +51,7 @@ pub fn read_limited<R: Read>(
     ensures within { IfOk result (λ bytes. vec_len bytes ≤ limit) }
     ensures too_long { IsErrOf result InputFault.TooLong → IfSome (R.remaining reader.old) (λ xs. limit < length xs) }
     ensures one_past { IsErrOf result InputFault.TooLong → Takes (R.remaining reader.old) (R.remaining reader.new) (limit + 1) }
+    ensures reader_fault { IsErrOf result InputFault.Reader → TakesUpTo (R.remaining reader.old) (R.remaining reader.new) limit }
     ensures no_further { TakesUpTo (R.remaining reader.old) (R.remaining reader.new) (limit + 1) }
 {
     let mut bytes = Vec::new(alloc);

@@ -1,12 +1,13 @@
 //! Lines of a slice.
 
 ghost use Rattle.std.specs.Prelude.{◌≡◌, ◌<◌, ◌∷◌, ◌++◌, length, IfSome, IfNone};
-ghost use Rattle.fy_lines.specs.Lines.{lines_of, IsLine};
+ghost use Rattle.fy_lines.specs.Lines.{lines_of, IsLine, BeginsWithLine};
 
 /// The first line without its line feed, and all that follows it. The last line may lack the feed.
 #[tactic(auto, using(crate::proofs::SplitLemmas::lines_of_split, crate::proofs::SplitLemmas::lines_of_lone))]
 pub fn first_line(bytes: &[u8]) -> (&[u8], &[u8])
     requires { 0 < length bytes.now }
+    ensures split { BeginsWithLine bytes.now result.0.now result.1.now }
     ensures first { lines_of bytes.now ≡ result.0.now ∷ lines_of result.1.now }
     ensures shorter { length result.1.now < length bytes.now }
 {

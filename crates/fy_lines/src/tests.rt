@@ -7,7 +7,7 @@ use std::io::{ErrorKind, Read, Write};
 use std::test::Fail;
 
 /// Gives `per_call` bytes a call while `left` lasts, and fails with `kind` at call `fails_at`
-/// (counted from 0).
+/// (counted from 0) alone: a call after that would give bytes again.
 #[derive(Drop)]
 struct Counting {
     left: usize,
@@ -69,6 +69,9 @@ fn reads_to_the_limit_and_one_byte_further(rt: HostRuntime) -> Result<(), Fail> 
             );
         }
     }
+    let mut at_limit = reader_of(1_048_576, 16384);
+    let whole = read_limited(rt.alloc(), &mut at_limit, 1_048_576).map(|bytes| bytes.len());
+    assert_eq!(rt; whole, Ok(1_048_576));
     let mut text: &[u8] = b"policy One()\n";
     let bytes = read_limited(rt.alloc(), &mut text, 100)?;
     assert_eq!(rt; bytes.as_slice(), &b"policy One()\n"[..]);
@@ -78,7 +81,11 @@ fn reads_to_the_limit_and_one_byte_further(rt: HostRuntime) -> Result<(), Fail> 
 
 #[test]
 fn ends_at_the_first_failing_read(rt: HostRuntime) {
-    for kind in [ErrorKind::Other, ErrorKind::Interrupted] {
+    for kind in [
+        ErrorKind::Other,
+        ErrorKind::Interrupted,
+        ErrorKind::WouldBlock,
+    ] {
         for call in 0usize..5 {
             let mut reader = reader_of(4, 1);
             reader.fails_at = Some(call);
@@ -86,6 +93,7 @@ fn ends_at_the_first_failing_read(rt: HostRuntime) {
             let got = read_limited(rt.alloc(), &mut reader, 10).map(|bytes| bytes.len());
             assert_eq!(rt; got, Err(InputFault::Reader), "call {call}");
             assert_eq!(rt; reader.calls, call + 1, "call {call}");
+            assert_eq!(rt; reader.left, 4usize.saturating_sub(call), "call {call}");
         }
     }
 }
@@ -174,6 +182,69 @@ fn writes_all_or_a_front(rt: HostRuntime) {
     }
     let mut shut = writer_of(0, 0, None);
     assert_eq!(rt; write_bytes(&mut shut, &[]), Ok(()));
+}
+
+/// Takes a byte a call, but at call `fails_at` (counted from 0) fails with `kind`, or takes none
+/// where there is no kind: a call after that would take bytes again.
+#[derive(Drop)]
+struct Stumbling {
+    taken: usize,
+    calls: usize,
+    fails_at: usize,
+    kind: Option<ErrorKind>,
+}
+
+impl Write for Stumbling {
+    fn write(&mut self, buf: &[u8]) -> io::Result<usize> {
+        let call = self.calls;
+        self.calls = call.saturating_add(1);
+        if call == self.fails_at {
+            return match self.kind {
+                Some(kind) => Err(io::Error::from(kind)),
+                None => Ok(0),
+            };
+        }
+        let count = buf.len().min(1);
+        self.taken = self.taken.saturating_add(count);
+        Ok(count)
+    }
+
+    fn flush(&mut self) -> io::Result<()> {
+        Ok(())
+    }
+}
+
+#[test]
+fn ends_at_the_first_failing_write(rt: HostRuntime) {
+    for kind in [
+        None,
+        Some(ErrorKind::Other),
+        Some(ErrorKind::Interrupted),
+        Some(ErrorKind::WouldBlock),
+    ] {
+        for call in 0usize..4 {
+            let mut writer = Stumbling {
+                taken: 0,
+                calls: 0,
+                fails_at: call,
+                kind,
+            };
+            let got = write_bytes(&mut writer, b"yes\n");
+            assert_eq!(rt; got, Err(OutputFault), "call {call}");
+            assert_eq!(rt; writer.taken, call, "call {call}");
+            assert_eq!(rt; writer.calls, call + 1, "call {call}");
+            let mut writer = Stumbling {
+                taken: 0,
+                calls: 0,
+                fails_at: call,
+                kind,
+            };
+            let got = write_parts(&mut writer, &[b"y", b"", b"es", b"\n"]);
+            assert_eq!(rt; got, Err(OutputFault), "call {call}");
+            assert_eq!(rt; writer.taken, call, "call {call}");
+            assert_eq!(rt; writer.calls, call + 1, "call {call}");
+        }
+    }
 }
 
 #[test]

@@ -1,5 +1,5 @@
 //! The engine on the worked examples, and with readers and writers that fail.
-use super::run_judge;
+use super::{laws, run_judge};
 use crate::stop::{JudgeFault, Stop};
 use std::io;
 use std::io::{ErrorKind, Read, Write};
@@ -8,19 +8,22 @@ use std::test::Fail;
 const CLUSTER: &str =
     "policy Across(2,zoneid,One())\nproc p0 m0 z0 - d0\nproc p1 m1 z0 - d0\nproc p2 m2 z1 - d0\nproc p3 m3 z1 - d0\nproc p4 m4 z2 - d0\nproc p5 m5 z2 - d0\n";
 
-/// Gives a byte a call, and fails at one of its calls.
+/// Gives a byte a call, and fails at call `fails_at` (counted from 0) alone: a call after that would
+/// give bytes again.
 #[derive(Drop)]
 struct Failing<'a> {
     bytes: &'a [u8],
-    calls_left: usize,
+    calls: usize,
+    fails_at: usize,
 }
 
 impl Read for Failing<'_> {
     fn read(&mut self, buf: &mut [u8]) -> io::Result<usize> {
-        if self.calls_left == 0 {
+        let call = self.calls;
+        self.calls = call.saturating_add(1);
+        if call == self.fails_at {
             return Err(io::Error::from(ErrorKind::Interrupted));
         }
-        self.calls_left -= 1;
         match (self.bytes, buf) {
             ([first, rest @ ..], [place, ..]) => {
                 *place = *first;
@@ -32,16 +35,20 @@ impl Read for Failing<'_> {
     }
 }
 
-/// Takes some bytes, one a call, and then fails.
+/// Takes a byte a call, and fails at call `fails_at` (counted from 0) alone: a call after that would
+/// take bytes again.
 #[derive(Drop)]
-struct Narrow {
-    room: usize,
+struct Stumbling {
     taken: usize,
+    calls: usize,
+    fails_at: usize,
 }
 
-impl Write for Narrow {
+impl Write for Stumbling {
     fn write(&mut self, buf: &[u8]) -> io::Result<usize> {
-        if self.taken >= self.room {
+        let call = self.calls;
+        self.calls = call.saturating_add(1);
+        if call == self.fails_at {
             return Err(io::Error::from(ErrorKind::Other));
         }
         let count = buf.len().min(1);
@@ -104,21 +111,57 @@ fn writes_nothing_for_a_refused_input(rt: HostRuntime) -> Result<(), Fail> {
 fn stops_where_the_reader_or_the_writer_fails(rt: HostRuntime) -> Result<(), Fail> {
     let mut input = String::from_str(rt.alloc(), CLUSTER)?;
     input.push_str("destroy p0\ndestroy p1\n")?;
-    for calls_left in [0usize, 1, 30, 150, 166] {
+    for fails_at in [0usize, 1, 30, 150, 166] {
         let mut reader = Failing {
             bytes: input.as_bytes(),
-            calls_left,
+            calls: 0,
+            fails_at,
         };
         let mut written: Vec<u8> = Vec::new(rt.alloc());
         let done = run_judge(rt.alloc(), &mut reader, &mut written);
-        assert_eq!(rt; done, Err(Stop::Read), "{calls_left}");
-        assert_eq!(rt; written.len(), 0, "{calls_left}");
+        assert_eq!(rt; done, Err(Stop::Read), "{fails_at}");
+        assert_eq!(rt; reader.calls, fails_at + 1, "{fails_at}");
+        assert_eq!(rt; written.len(), 0, "{fails_at}");
     }
-    for room in 0usize..8 {
-        let mut writer = Narrow { room, taken: 0 };
+    for fails_at in 0usize..8 {
+        let mut writer = Stumbling {
+            taken: 0,
+            calls: 0,
+            fails_at,
+        };
         let done = run_judge(rt.alloc(), &mut input.as_bytes(), &mut writer);
-        assert_eq!(rt; done, Err(Stop::Write), "{room}");
-        assert_eq!(rt; writer.taken, room);
+        assert_eq!(rt; done, Err(Stop::Write), "{fails_at}");
+        assert_eq!(rt; writer.taken, fails_at);
+        assert_eq!(rt; writer.calls, fails_at + 1);
     }
+    Ok(())
+}
+
+#[test]
+fn reads_no_further_once_it_is_at_the_end(rt: HostRuntime) -> Result<(), Fail> {
+    for (asks, want) in [
+        ("destroy p0\n", Ok(true)),
+        (
+            "destroy p9\n",
+            Err(Stop::JudgeLine {
+                line: 8,
+                fault: JudgeFault::Unknown,
+            }),
+        ),
+    ] {
+        let mut input = String::from_str(rt.alloc(), CLUSTER)?;
+        input.push_str(asks)?;
+        let mut reader = Failing {
+            bytes: input.as_bytes(),
+            calls: 0,
+            fails_at: usize::MAX,
+        };
+        let mut written: Vec<u8> = Vec::new(rt.alloc());
+        let done = run_judge(rt.alloc(), &mut reader, &mut written);
+        assert_eq!(rt; done, want, "{asks}");
+        // A call for each byte, and one that finds the end.
+        assert_eq!(rt; reader.calls, input.len() + 1, "{asks}");
+    }
+    laws::text_is_one();
     Ok(())
 }

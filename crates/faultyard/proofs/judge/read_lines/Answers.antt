@@ -3,7 +3,7 @@ use Rattle.std.proofs.lemmas.List.{length_push}
 use Rattle.faultyard.specs.JudgeLines.{nothing}
 use Rattle.faultyard.specs.JudgeTexts.{Judges, IfRefusal}
 use Rattle.faultyard.proofs.InputLemmas.{empty_list}
-use Rattle.faultyard.proofs.LineLemmas.{Says-push, split-push, line_refused, no_write, faultless}
+use Rattle.faultyard.proofs.LineLemmas.{Says-push, split-push, line_refused, line_stop-other, faultless}
 use Rattle.faultyard.proofs.judge.read_lines.Goals as goal
 
 pub returns-in-Err-clause-refused : goal.returns-in-Err-clause-refused
@@ -12,7 +12,7 @@ returns-in-Err-clause-refused c =
     (line_refused c.args.bytes.now c.loop-rest.invariant.good c.loop-rest.input c.loop-rest.rest.now c.first_line.result.0.now c.first_line.result.1.now c.loop-rest.number c.in-Err.fault c.requires c.loop-rest.invariant.split c.first_line.ensures.first c.loop-rest.invariant.said c.loop-rest.invariant.count c.in-Err.ensures.refused)
 
 pub returns-in-Err-clause-no_other : goal.returns-in-Err-clause-no_other
-returns-in-Err-clause-no_other c = λ e. no_write (c.loop-rest.number + 1) c.in-Err.fault (sym c.line_stop.ensures ∙ e)
+returns-in-Err-clause-no_other c = rw c.line_stop.ensures (line_stop-other (c.loop-rest.number + 1) c.in-Err.fault)
 
 pub loop-rest-preserved : goal.loop-rest-preserved
 loop-rest-preserved c = record {

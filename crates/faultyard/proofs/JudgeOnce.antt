@@ -1,0 +1,114 @@
+-- bytes have one answer
+use Rattle.std.proofs.Common.{◌≡◌, ◌∙◌, ◌+◌, ◌<◌, ◌≤◌, zero, suc, ℕ, List, [], ◌∷◌, ◌++◌, length, Option, Some, None, refl, sym, ap, subst, arith}
+use Rattle.std.specs.Prelude.{Result, Ok, Err}
+use Rattle.fy_decide.specs.Losses.{first_unmet}
+use Rattle.fy_lines.specs.Lines.{lines_of}
+use Rattle.faultyard.specs.declared.stop.JudgeFault.{JudgeFault}
+use Rattle.faultyard.specs.declared.stop.JudgeFault.TheVariants.{PolicyUnmet}
+use Rattle.faultyard.specs.declared.stop.Stop.{Stop}
+use Rattle.faultyard.specs.declared.stop.Stop.TheVariants.{JudgeTooLong, JudgeLine}
+use Rattle.faultyard.specs.JudgeLines.{Input, nothing, said_of, Step, Says}
+use Rattle.faultyard.specs.JudgeTexts.{FirstFault, IsFaultless, Judges, too_long, line_fault, policy_unmet, answered, answers_text, most_bytes, TextIsOne}
+use Rattle.faultyard.proofs.StepOnce.{NamesOccur, ReadingSettled, Differ, Step-once, Differ-Step}
+
+-- of these lines, so many are faultless, and the next has the fault
+FaultsAt : Input → List (List ℕ) → ℕ → JudgeFault → Type 0
+FaultsAt i [] n fault = ⊥
+FaultsAt i (line ∷ lines) zero fault = Step i (said_of line) (Err fault)
+FaultsAt i (line ∷ lines) (suc n) fault = (j : Input) × Step i (said_of line) (Ok j) × FaultsAt j lines n fault
+
+faults_at : (i : Input) (good : List (List ℕ)) (bad : List ℕ) (more : List (List ℕ)) (j : Input) (fault : JudgeFault) → Says i good j → Step j (said_of bad) (Err fault) → FaultsAt i (good ++ bad ∷ more) (length good) fault
+unfolding FaultsAt
+faults_at i [] bad more j fault said step = subst (λ k. Step k (said_of bad) (Err fault)) (sym said) step
+faults_at i (line ∷ good) bad more j fault said step = (said.0, said.1, faults_at said.0 good bad more j fault said.2 step)
+
+first_faults_at : (bytes : List ℕ) (line : ℕ) (fault : JudgeFault) (first : FirstFault bytes line fault) → FaultsAt nothing (lines_of bytes) (length first.good) fault
+first_faults_at bytes line fault first =
+    subst (λ lines. FaultsAt nothing lines (length first.good) fault) (sym first.lines) (faults_at nothing first.good first.bad first.more first.input fault first.said first.at_fault)
+
+module _ (occur : NamesOccur) (settled : ReadingSettled) where
+  next_once : (i : Input) → Differ i.processes → (line : List ℕ) (j k : Input) → Step i (said_of line) (Ok j) → Step i (said_of line) (Ok k) → j ≡ k
+  next_once i differ line j k a b = let one : Ok j ≡ Ok k = Step-once settled i differ (said_of line) (Ok j) (Ok k) a b in cc
+
+  fault_once : (i : Input) → Differ i.processes → (line : List ℕ) (fault another : JudgeFault) → Step i (said_of line) (Err fault) → Step i (said_of line) (Err another) → fault ≡ another
+  fault_once i differ line fault another a b = let one : Err fault ≡ Err another = Step-once settled i differ (said_of line) (Err fault) (Err another) a b in cc
+
+  next_or_fault : (i : Input) → Differ i.processes → (line : List ℕ) (j : Input) (fault : JudgeFault) → Step i (said_of line) (Ok j) → Step i (said_of line) (Err fault) → ⊥
+  next_or_fault i differ line j fault a b = let one : Ok j ≡ Err fault = Step-once settled i differ (said_of line) (Ok j) (Err fault) a b in cc
+
+  -- faultless lines say one thing
+  Says-once : (i : Input) → Differ i.processes → (lines : List (List ℕ)) (j k : Input) → Says i lines j → Says i lines k → j ≡ k
+  Says-once i differ [] j k a b = sym a ∙ b
+  Says-once i differ (line ∷ lines) j k a b =
+      Says-once a.0 (Differ-Step occur i differ (said_of line) a.0 a.1) lines j k a.2
+      (subst (λ m. Says m lines k) (next_once i differ line b.0 a.0 b.1 a.1) b.2)
+
+  -- lines have one first fault, at one place
+  FaultsAt-once : (i : Input) → Differ i.processes → (lines : List (List ℕ)) (n m : ℕ) (fault another : JudgeFault) → FaultsAt i lines n fault → FaultsAt i lines m another → (n ≡ m) × (fault ≡ another)
+  unfolding FaultsAt
+  FaultsAt-once i differ [] n m fault another a b = absurd a
+  FaultsAt-once i differ (line ∷ lines) zero zero fault another a b = (refl, fault_once i differ line fault another a b)
+  FaultsAt-once i differ (line ∷ lines) zero (suc m) fault another a b = absurd (next_or_fault i differ line b.0 fault b.1 a)
+  FaultsAt-once i differ (line ∷ lines) (suc n) zero fault another a b = absurd (next_or_fault i differ line a.0 another a.1 b)
+  FaultsAt-once i differ (line ∷ lines) (suc n) (suc m) fault another a b =
+      let one = FaultsAt-once a.0 (Differ-Step occur i differ (said_of line) a.0 a.1) lines n m fault another a.2
+      (subst (λ j. FaultsAt j lines m another) (next_once i differ line b.0 a.0 b.1 a.1) b.2) in
+      (ap suc one.0, one.1)
+
+  -- lines with a fault aren't faultless
+  faults_or_says : (i : Input) → Differ i.processes → (lines : List (List ℕ)) (n : ℕ) (fault : JudgeFault) (j : Input) → FaultsAt i lines n fault → Says i lines j → ⊥
+  unfolding FaultsAt
+  faults_or_says i differ [] n fault j a b = a
+  faults_or_says i differ (line ∷ lines) zero fault j a b = next_or_fault i differ line b.0 fault b.1 a
+  faults_or_says i differ (line ∷ lines) (suc n) fault j a b =
+      faults_or_says a.0 (Differ-Step occur i differ (said_of line) a.0 a.1) lines n fault j a.2
+      (subst (λ k. Says k lines j) (next_once i differ line b.0 a.0 b.1 a.1) b.2)
+
+  no_names : Differ nothing.processes
+  no_names p q id e f = absurd (let x : ⊥ = cc in x)
+
+  one_input : (bytes : List ℕ) (i j : Input) → IsFaultless bytes i → IsFaultless bytes j → i ≡ j
+  one_input bytes i j a b = Says-once nothing no_names (lines_of bytes) i j a.said b.said
+
+  one_fault : (bytes : List ℕ) (line other : ℕ) (fault another : JudgeFault) → FirstFault bytes line fault → FirstFault bytes other another → (line ≡ other) × (fault ≡ another)
+  one_fault bytes line other fault another a b =
+      let one = FaultsAt-once nothing no_names (lines_of bytes) (length a.good) (length b.good) fault another (first_faults_at bytes line fault a) (first_faults_at bytes other another b) in
+      (a.number ∙ ap (λ n. n + 1) one.0 ∙ sym b.number, one.1)
+
+  faulty_or_not : (bytes : List ℕ) (line : ℕ) (fault : JudgeFault) (i : Input) → FirstFault bytes line fault → IsFaultless bytes i → ⊥
+  faulty_or_not bytes line fault i a b = faults_or_says nothing no_names (lines_of bytes) (length a.good) fault i (first_faults_at bytes line fault a) b.said
+
+  -- the answer to faultless lines, by the first policy that isn't met
+  answer_by : Option ℕ → List ℕ → Result (List ℕ) Stop
+  answer_by None text = Ok text
+  answer_by (Some k) text = Err (JudgeLine (k + 1) PolicyUnmet)
+
+  -- bytes are too long, or have a first fault, or are faultless
+  data JudgedBy (bytes : List ℕ) (x : Result (List ℕ) Stop) : Type 0 where
+    long : most_bytes < length bytes → x ≡ Err JudgeTooLong → JudgedBy bytes x
+    faulty : (line : ℕ) (fault : JudgeFault) → length bytes ≤ most_bytes → FirstFault bytes line fault → x ≡ Err (JudgeLine line fault) → JudgedBy bytes x
+    faultless : (i : Input) → IsFaultless bytes i → x ≡ answer_by (first_unmet i.processes i.policies) (answers_text i) → JudgedBy bytes x
+
+  judged_by : (bytes : List ℕ) (x : Result (List ℕ) Stop) → Judges bytes x → JudgedBy bytes x
+  unfolding answer_by
+  judged_by bytes x (too_long long_input) = long long_input refl
+  judged_by bytes x (line_fault line fault short first) = faulty line fault short first refl
+  judged_by bytes x (policy_unmet i k good unmet) = faultless i good (ap (λ o. answer_by o (answers_text i)) (sym unmet))
+  judged_by bytes x (answered i good met) = faultless i good (ap (λ o. answer_by o (answers_text i)) (sym met))
+
+  once : (bytes : List ℕ) (x y : Result (List ℕ) Stop) → JudgedBy bytes x → JudgedBy bytes y → x ≡ y
+  once bytes x y (long much e) (long also f) = e ∙ sym f
+  once bytes x y (long much e) (faulty line fault short first f) = absurd (omega arith)
+  once bytes x y (long much e) (faultless i good f) = absurd (let short : length bytes ≤ most_bytes = good.short in omega arith)
+  once bytes x y (faulty line fault short first e) (long much f) = absurd (omega arith)
+  once bytes x y (faulty line fault short first e) (faulty other another also second f) =
+      let one = one_fault bytes line other fault another first second in
+      e ∙ (λ k. Err (JudgeLine (one.0 k) (one.1 k))) ∙ sym f
+  once bytes x y (faulty line fault short first e) (faultless i good f) = absurd (faulty_or_not bytes line fault i first good)
+  once bytes x y (faultless i good e) (long much f) = absurd (let short : length bytes ≤ most_bytes = good.short in omega arith)
+  once bytes x y (faultless i good e) (faulty line fault short first f) = absurd (faulty_or_not bytes line fault i first good)
+  once bytes x y (faultless i good e) (faultless j also f) =
+      e ∙ ap (λ (k : Input). answer_by (first_unmet k.processes k.policies) (answers_text k)) (one_input bytes i j good also) ∙ sym f
+
+  pub judged_once : TextIsOne
+  judged_once bytes x y a b = once bytes x y (judged_by bytes x a) (judged_by bytes y b)
