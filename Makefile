@@ -1,7 +1,7 @@
 # faultyard: proved, built and tested by the command `rt` of the Rattle toolchain.
 #
 #   make                  proves and builds the program, and leaves it at bin/faultyard
-#   make run              asks the program about the cluster of examples/c6.judge: yes, yes, no, gone
+#   make run              builds the program without its proofs, and asks it about examples/c6.judge: yes, yes, no, gone
 #   make test             all that CI runs: every proof, test and must-fail edit, then the command-line cases
 #   make install          puts the program into $(PREFIX)/bin; by default PREFIX is /usr/local
 #   make bench            times the program on generated inputs, and the parts that it doesn't have yet by programs of their own
@@ -18,8 +18,10 @@ build:
 	mkdir -p bin
 	cp $(BUILT) bin/faultyard
 
-run: build
-	bin/faultyard judge < examples/c6.judge
+# `rt try` builds the program before any proof, in under a minute from nothing.
+run:
+	@echo "make run: this build is not proved yet; 'make' proves it and leaves bin/faultyard"
+	@cd crates/faultyard && rt try -- judge < ../../examples/c6.judge 2> /dev/null
 
 # `rt ci` leaves the program that it proved beside its crate, so that nothing is proved again.
 test:

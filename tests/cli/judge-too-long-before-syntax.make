@@ -1,1 +1,0 @@
-awk 'BEGIN { for (i = 0; i < 1048577; i++) printf "x" }'

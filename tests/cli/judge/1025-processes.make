@@ -1,0 +1,1 @@
+echo "policy One()"; processes 1025
