@@ -11,10 +11,7 @@ returns-in_default g c = spares g.turn c.args.order.now c.judge-verdict.result c
 pub strike_disks-requires : goal.strike_disks-requires
 strike_disks-requires g c p member =
     subst (λ n. p < n) (sym c.requires.0.disks.count)
-    (targets_below g.turn.setup g.turn.before c.args.self.now c.requires.0 c.args.order.now.target c.targets-targets.result
-    (λ q. c.targets-targets.ensures q ∙ ap (λ t. targets_by c.args.self.now t q) c.target.ensures)
-    p
-    member)
+    (targets_below c.requires.0 c.args.order.now.target c.targets-targets.result (λ q. c.targets-targets.ensures q ∙ ap (λ t. targets_by c.args.self.now t q) c.target.ensures) p member)
 
 pub bury-requires : goal.bury-requires
 bury-requires g c loss brings =
