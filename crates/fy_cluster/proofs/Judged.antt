@@ -161,9 +161,9 @@ pub chosen : {v w : VerdictOf} {kind : Kind} → v ≡ w → v.struck ≡ Some k
 chosen e s = ap (λ (v : VerdictOf). v.struck) (sym e) ∙ s
 
 -- an order that struck nobody
-pub spares : (turn : Turn) (order : Order) (v : VerdictOf) (machine : Machine) → Stands turn.setup turn.before machine → (by : ℕ) → by ≡ turn.by
+pub spares : {turn : Turn} (order : Order) {v : VerdictOf} {machine : Machine} {by : ℕ} → Stands turn.setup turn.before machine → by ≡ turn.by
     → v ≡ verdict (situation_of machine.dead machine.book by) order → v.struck ≡ None → Follows turn (Kill order) (Verdict v) machine
-spares turn order v machine k by actor is none = record {
+spares {turn} order {v} {machine} {by} k actor is none = record {
   right = kill_reply turn.setup turn.before turn.by order v (is ∙ verdict_same turn.setup turn.before machine k by turn.by actor order);
   stands = unmoved turn (Kill order) (Verdict v) machine (ap (λ kind. record nothing { struck = kind }) none) refl k;
 }
@@ -268,23 +268,21 @@ disks_struck c m h old new set kind tear struck_is idle w torn changed k = recor
     at p false s = sym (stored_still m h p (ap₂ (λ a b. disk_closes a b p) idle s) (w p))
 
 -- an order that struck its targets
-pub strikes_now : (turn : Turn) (order : Order) (v : VerdictOf) (kind : Kind) (machine : Machine) (set up_now : sets.FinSet nat_cmp) (dead : Casualties) (disks : List Stored) → Stands turn.setup turn.before machine
-    → (by : ℕ) → by ≡ turn.by → v ≡ verdict (situation_of machine.dead machine.book by) order → v.struck ≡ Some kind
+pub strikes_now : {turn : Turn} (order : Order) {v : VerdictOf} {kind : Kind} {machine : Machine} (set : sets.FinSet nat_cmp) {by : ℕ} (after : Machine) → Stands turn.setup turn.before machine
+    → by ≡ turn.by → v ≡ verdict (situation_of machine.dead machine.book by) order → v.struck ≡ Some kind
     → ((p : ℕ) → sets.contains set p ≡ targets_by machine order.target p)
-    → ChangesAt (sets.contains set) (left_on kind order.tear) blank_disk machine.disks.items disks
-    → up_now ≡ sets.difference machine.up set
-    → dead ≡ buried machine.dead set kind
-    → (after : Machine) → after.dead ≡ dead → after.book ≡ machine.book → after.disks.items ≡ disks → after.up ≡ up_now → after.net ≡ machine.net → after.teams ≡ machine.teams
-    → Follows turn (Kill order) (Verdict v) after
-strikes_now turn order v kind machine set up_now dead disks k by actor is hit who changed ups buried after e1 e2 e3 e4 e5 e6 = record {
+    → ChangesAt (sets.contains set) (left_on kind order.tear) blank_disk machine.disks.items after.disks.items
+    → after.up ≡ sets.difference machine.up set → after.dead ≡ buried machine.dead set kind
+    → after.book ≡ machine.book → after.net ≡ machine.net → after.teams ≡ machine.teams → Follows turn (Kill order) (Verdict v) after
+strikes_now {turn} order {v} {kind} {machine} set {by} after k actor is hit who changed ups dead book net teams = record {
   right = kill_reply c h turn.by order v (is ∙ verdict_same c h machine k by turn.by actor order);
   stands = record {
-    dead = rw (e1, buried) (dead_struck c m h machine.dead set kind struck_is k.dead);
-    rights = rw e2 (rights_still c m h machine.book refl refl refl refl k.rights);
-    disks = rw e3 (disks_struck c m h machine.disks.items disks set kind order.tear struck_is refl (λ p. refl) refl changed k.disks);
-    up = rw (e4, ups) (up_struck c m h machine.up set kind (λ q. refl) struck_is k.up);
-    net = rw e5 (net_still c m h machine.net refl (λ k. refl) refl refl refl k.net);
-    teams = rw e6 (teams_still m h machine.teams refl refl (λ r p. refl) k.teams);
+    dead = rw dead (dead_struck c m h machine.dead set kind struck_is k.dead);
+    rights = rw book (rights_still c m h machine.book refl refl refl refl k.rights);
+    disks = disks_struck c m h machine.disks.items after.disks.items set kind order.tear struck_is refl (λ p. refl) refl changed k.disks;
+    up = rw ups (up_struck c m h machine.up set kind (λ q. refl) struck_is k.up);
+    net = rw net (net_still c m h machine.net refl (λ k. refl) refl refl refl k.net);
+    teams = rw teams (teams_still m h machine.teams refl refl (λ r p. refl) k.teams);
   };
 }
   where
