@@ -3,7 +3,6 @@ use Rattle.std.proofs.Common.{◌==◌, ◌≡◌, ℕ, ◌+◌, ◌^◌, ◌<�
 use Rattle.std.proofs.lemmas.Bool.{or_from, and_parts}
 use Rattle.std.proofs.lemmas.Bool.Decides.{nat_tests}
 use Rattle.std.proofs.lemmas.Option.{slice_get-get_or}
-use Rattle.std.specs.Option.{option_map_or}
 use Rattle.std.specs.FinSet as sets
 use Rattle.std.specs.Ordering.{nat_cmp}
 use Rattle.std.specs.Cmp.{nat_cmp_total}
@@ -14,8 +13,8 @@ use Rattle.fy_kinds.specs.declared.verdict.Rule.{Rule}
 use Rattle.fy_kinds.specs.declared.verdict.Verdict.{Verdict as VerdictOf}
 use Rattle.fy_kinds.specs.Kinds.{Clogging, is_destroying}
 use Rattle.fy_kinds.specs.Orders.{Order}
-use Rattle.fy_decide.specs.DeadBook.{Casualties, struck}
-use Rattle.fy_decide.specs.Verdicts.{situation_of, targets, bar, verdict, loss_of}
+use Rattle.fy_decide.specs.DeadBook.{Casualties}
+use Rattle.fy_decide.specs.Verdicts.{situation_of, targets, bar, verdict}
 use Rattle.fy_disk.specs.declared.item.Item.{Item}
 use Rattle.fy_disk.specs.Disk.{Stored, outlives, passing}
 use Rattle.fy_net.specs.Net.{Traffic}
@@ -24,10 +23,10 @@ use Rattle.fy_audit.specs.declared.act.Act.TheVariants.{Kill, Clog, Unclog}
 use Rattle.fy_audit.specs.declared.reply.Reply.TheVariants.{Ruled, Verdict}
 use Rattle.fy_cluster.specs.declared.machine.Machine.{Machine}
 use Rattle.fy_cluster.specs.Setup.{Setup}
-use Rattle.fy_cluster.specs.History.{History, Moment, some_is, strikes, destroys, is_killing, closes, syncs, writes, tear_of, destroyed, gone, left, up, synced, unsynced, sent, now, takes_out, clogs, unclogs, sends_of, targets_of, clogged_at}
+use Rattle.fy_cluster.specs.History.{History, Moment, some_is, strikes, destroys, is_killing, closes, syncs, writes, tear_of, destroyed, gone, left, up, synced, unsynced, sent, now, takes_out, clogs, unclogs, sends_of, clogged_at}
 use Rattle.fy_cluster.specs.Rules.{situation}
 use Rattle.fy_cluster.specs.Replies.{refused, refusals, answer}
-use Rattle.fy_cluster.specs.Standing.{Stands, Turn, Follows, moment_of, following, KeepsDead, KeepsDisks, KeepsUp, ChangesAt, ClogsChange, clog_end, unclog_end, targets_by, clog_bar, stored, left_on, blank_disk}
+use Rattle.fy_cluster.specs.Standing.{Stands, Turn, Follows, moment_of, following, KeepsDead, KeepsDisks, KeepsUp, ChangesAt, ClogsChange, clog_end, unclog_end, targets_by, clog_bar, buried, stored, left_on, blank_disk}
 use Rattle.fy_cluster.proofs.Still.{Doings, doings, nothing, clog_alone, unmoved, only_net, none_taken_out, net_still, teams_still, rights_still, stored_still, disk_closes}
 use Rattle.fy_cluster.proofs.DiskSteps.{synced_at_close, unsynced_at_close, synced_at_strike}
 use Rattle.fy_cluster.proofs.Flights.{flying_still}
@@ -48,9 +47,9 @@ targets_same : (c : Setup) (h : History) (m : Machine) → Stands c h m → (tar
 targets_same c h m k target = λ i. targets (k.dead.processes i) (λ p. k.dead.left p i) target
 
 -- targets are processes
-pub targets_below : (c : Setup) (h : History) (m : Machine) → Stands c h m → (target : Target) (set : sets.FinSet nat_cmp) → ((p : ℕ) → sets.contains set p ≡ targets_by m target p)
+pub targets_below : {c : Setup} {h : History} {m : Machine} → Stands c h m → (target : Target) (set : sets.FinSet nat_cmp) → ((p : ℕ) → sets.contains set p ≡ targets_by m target p)
     → (p : ℕ) → sets.contains set p ≡ true → p < length c.processes
-targets_below c h m k target set who p member =
+targets_below {c} {h} {m} k target set who p member =
     let is_left : left c h p ≡ true = sym (k.dead.left p) ∙ (and_parts (sets.contains m.dead.left p) _ (sym (who p) ∙ member)).0 in
     let below : nat_lt p (length c.processes) ≡ true = (and_parts _ (not (gone h p)) is_left).0 in
     grind (arith, nat_tests)
@@ -67,9 +66,8 @@ pub record ActsOnClogs (turn : Turn) (act : Act) (target : Target) (change : ℕ
   pub idle : (rule : Rule) → doings act (Ruled (Some rule)) ≡ nothing
   pub alone : doings act (Ruled None) ≡ clog_alone (clogs act (Ruled None)) (unclogs act (Ruled None))
   pub silent : sends_of turn.before act ≡ []
-  pub named : (p : ℕ) → targets_of turn.setup turn.before act p ≡ targets turn.setup.processes (left turn.setup turn.before) target p
   pub holds : (p t until : ℕ) → now turn.before ≤ t → clogged_at t turn.before p ≡ nat_lt t until
-      → clogged_at t (following turn act (Ruled None)) p ≡ nat_lt t (if targets_of turn.setup turn.before act p then change (now turn.before) until else until)
+      → clogged_at t (following turn act (Ruled None)) p ≡ nat_lt t (if targets turn.setup.processes (left turn.setup turn.before) target p then change (now turn.before) until else until)
 
 pub clogging : (turn : Turn) (target : Target) (n : ℕ) → ActsOnClogs turn (Clog target n) target (clog_end n)
 unfolding refusals answer
@@ -78,7 +76,6 @@ clogging turn target n = record {
   idle = λ rule. refl;
   alone = refl;
   silent = refl;
-  named = λ p. refl;
   holds = λ p t until later is. let named = targets turn.setup.processes (left turn.setup turn.before) target p in ap (λ b. named && nat_lt t (min (now turn.before + n) (2 ^ 40)) || b) is ∙ at t until named;
 }
   where
@@ -93,7 +90,6 @@ unclogging turn target = record {
   idle = λ rule. refl;
   alone = refl;
   silent = refl;
-  named = λ p. refl;
   holds = λ p t until later is. let named = targets turn.setup.processes (left turn.setup turn.before) target p in ap (λ b. not named && b) is ∙ at t until later named;
 }
   where
@@ -102,21 +98,17 @@ unclogging turn target = record {
     at t until later false = refl
 
 -- a rule bars it
-pub clogs_barred : (turn : Turn) (act : Act) (target : Target) (change : ℕ → ℕ → ℕ) (rule : Rule) (machine : Machine) → ActsOnClogs turn act target change → Stands turn.setup turn.before machine
-    → (by : ℕ) → by ≡ turn.by
+pub clogs_barred : {turn : Turn} {act : Act} {target : Target} {change : ℕ → ℕ → ℕ} {rule : Rule} {machine : Machine} {by : ℕ} → ActsOnClogs turn act target change → Stands turn.setup turn.before machine → by ≡ turn.by
     → Some rule ≡ clog_bar machine by target → Follows turn act (Ruled (Some rule)) machine
-clogs_barred turn act target change rule machine acts k by actor is = record {
+clogs_barred {turn} {act} {target} {rule} {machine} {by} acts k actor is = record {
   right = ap Ruled (is ∙ bar_same turn.setup turn.before machine k by turn.by actor target) ∙ acts.ruled;
   stands = unmoved turn act (Ruled (Some rule)) machine (acts.idle rule) refl k;
 }
 
 -- none does
-pub clogs_changed : (turn : Turn) (act : Act) (target : Target) (change : ℕ → ℕ → ℕ) (machine : Machine) (set : sets.FinSet nat_cmp) (net : Traffic) → ActsOnClogs turn act target change → Stands turn.setup turn.before machine
-    → (by : ℕ) → by ≡ turn.by
-    → None ≡ clog_bar machine by target
-    → ((p : ℕ) → sets.contains set p ≡ targets_by machine target p)
-    → ClogsChange (sets.contains set) change machine.net net → Follows turn act (Ruled None) (record machine { net = net })
-clogs_changed turn act target change machine set net acts k by actor is who changed = record {
+pub clogs_changed : {turn : Turn} {act : Act} {target : Target} {change : ℕ → ℕ → ℕ} {machine : Machine} {by : ℕ} (set : sets.FinSet nat_cmp) {net : Traffic} → ActsOnClogs turn act target change → Stands turn.setup turn.before machine → by ≡ turn.by
+    → None ≡ clog_bar machine by target → ((p : ℕ) → sets.contains set p ≡ targets_by machine target p) → ClogsChange (sets.contains set) change machine.net net → Follows turn act (Ruled None) (record machine { net = net })
+clogs_changed {turn} {act} {target} {change} {machine} {by} set {net} acts k actor is who changed = record {
   right = ap Ruled (is ∙ bar_same c h machine k by turn.by actor target) ∙ acts.ruled;
   stands = only_net turn act (Ruled None) machine net _ _ acts.alone k record {
     in_flight = ap (λ (n : Traffic). n.in_flight) changed.rest ∙ k.net.in_flight ∙ sym (flying_still m h acts.silent keeps);
@@ -151,7 +143,7 @@ clogs_changed turn act target change machine set net acts k by actor is who chan
     ends p t l later =
         let was = slice_index machine.net.until p in
         acts.holds p t was later (k.net.ends p t l later)
-        ∙ ap (λ b. nat_lt t (if b then change (now h) was else was)) (acts.named p ∙ sym (who p ∙ ap (λ f. f p) (targets_same c h machine k target)))
+        ∙ ap (λ b. nat_lt t (if b then change (now h) was else was)) (sym (who p ∙ ap (λ f. f p) (targets_same c h machine k target)))
         ∙ ap (λ clock. nat_lt t (if sets.contains set p then change clock was else was)) (sym k.net.clock)
         ∙ ap (nat_lt t) (sym (changed.ends.each p (let w = k.net.count in omega arith)))
 
@@ -169,9 +161,9 @@ pub chosen : {v w : VerdictOf} {kind : Kind} → v ≡ w → v.struck ≡ Some k
 chosen e s = ap (λ (v : VerdictOf). v.struck) (sym e) ∙ s
 
 -- an order that struck nobody
-pub spares : (turn : Turn) (order : Order) (v : VerdictOf) (machine : Machine) → Stands turn.setup turn.before machine → (by : ℕ) → by ≡ turn.by
+pub spares : {turn : Turn} (order : Order) {v : VerdictOf} {machine : Machine} {by : ℕ} → Stands turn.setup turn.before machine → by ≡ turn.by
     → v ≡ verdict (situation_of machine.dead machine.book by) order → v.struck ≡ None → Follows turn (Kill order) (Verdict v) machine
-spares turn order v machine k by actor is none = record {
+spares {turn} order {v} {machine} {by} k actor is none = record {
   right = kill_reply turn.setup turn.before turn.by order v (is ∙ verdict_same turn.setup turn.before machine k by turn.by actor order);
   stands = unmoved turn (Kill order) (Verdict v) machine (ap (λ kind. record nothing { struck = kind }) none) refl k;
 }
@@ -199,7 +191,7 @@ left_less true false false kind e = refl
 left_less false b g kind e = refl
 
 dead_struck : (c : Setup) (m : Moment) (h : History) (book : Casualties) (set : sets.FinSet nat_cmp) (kind : Kind) → ((p : ℕ) → strikes m p ≡ at_target (sets.contains set p) kind)
-    → KeepsDead c h book → KeepsDead c (m ∷ h) (option_map_or (λ loss. struck book set loss) (loss_of kind) book)
+    → KeepsDead c h book → KeepsDead c (m ∷ h) (buried book set kind)
 dead_struck c m h book set RebootProcess struck_is k = record {
   processes = k.processes;
   policies = k.policies;
@@ -276,23 +268,21 @@ disks_struck c m h old new set kind tear struck_is idle w torn changed k = recor
     at p false s = sym (stored_still m h p (ap₂ (λ a b. disk_closes a b p) idle s) (w p))
 
 -- an order that struck its targets
-pub strikes_now : (turn : Turn) (order : Order) (v : VerdictOf) (kind : Kind) (machine : Machine) (set up_now : sets.FinSet nat_cmp) (dead : Casualties) (disks : List Stored) → Stands turn.setup turn.before machine
-    → (by : ℕ) → by ≡ turn.by → v ≡ verdict (situation_of machine.dead machine.book by) order → v.struck ≡ Some kind
+pub strikes_now : {turn : Turn} (order : Order) {v : VerdictOf} {kind : Kind} {machine : Machine} (set : sets.FinSet nat_cmp) {by : ℕ} (after : Machine) → Stands turn.setup turn.before machine
+    → by ≡ turn.by → v ≡ verdict (situation_of machine.dead machine.book by) order → v.struck ≡ Some kind
     → ((p : ℕ) → sets.contains set p ≡ targets_by machine order.target p)
-    → ChangesAt (sets.contains set) (left_on kind order.tear) blank_disk machine.disks.items disks
-    → up_now ≡ sets.difference machine.up set
-    → dead ≡ option_map_or (λ loss. struck machine.dead set loss) (loss_of kind) machine.dead
-    → (after : Machine) → after.dead ≡ dead → after.book ≡ machine.book → after.disks.items ≡ disks → after.up ≡ up_now → after.net ≡ machine.net → after.teams ≡ machine.teams
-    → Follows turn (Kill order) (Verdict v) after
-strikes_now turn order v kind machine set up_now dead disks k by actor is hit who changed ups buried after e1 e2 e3 e4 e5 e6 = record {
+    → ChangesAt (sets.contains set) (left_on kind order.tear) blank_disk machine.disks.items after.disks.items
+    → after.up ≡ sets.difference machine.up set → after.dead ≡ buried machine.dead set kind
+    → after.book ≡ machine.book → after.net ≡ machine.net → after.teams ≡ machine.teams → Follows turn (Kill order) (Verdict v) after
+strikes_now {turn} order {v} {kind} {machine} set {by} after k actor is hit who changed ups dead book net teams = record {
   right = kill_reply c h turn.by order v (is ∙ verdict_same c h machine k by turn.by actor order);
   stands = record {
-    dead = rw (e1, buried) (dead_struck c m h machine.dead set kind struck_is k.dead);
-    rights = rw e2 (rights_still c m h machine.book refl refl refl refl k.rights);
-    disks = rw e3 (disks_struck c m h machine.disks.items disks set kind order.tear struck_is refl (λ p. refl) refl changed k.disks);
-    up = rw (e4, ups) (up_struck c m h machine.up set kind (λ q. refl) struck_is k.up);
-    net = rw e5 (net_still c m h machine.net refl (λ k. refl) refl refl refl k.net);
-    teams = rw e6 (teams_still m h machine.teams refl refl (λ r p. refl) k.teams);
+    dead = rw dead (dead_struck c m h machine.dead set kind struck_is k.dead);
+    rights = rw book (rights_still c m h machine.book refl refl refl refl k.rights);
+    disks = disks_struck c m h machine.disks.items after.disks.items set kind order.tear struck_is refl (λ p. refl) refl changed k.disks;
+    up = rw ups (up_struck c m h machine.up set kind (λ q. refl) struck_is k.up);
+    net = rw net (net_still c m h machine.net refl (λ k. refl) refl refl refl k.net);
+    teams = rw teams (teams_still m h machine.teams refl refl (λ r p. refl) k.teams);
   };
 }
   where

@@ -165,6 +165,7 @@ clog_alone n target = record {
   unshielded = None;
 }
 
+-- nothing at all
 abbrev pub nothing : Doings
 nothing = clog_alone None None
 
@@ -172,10 +173,11 @@ none_struck : (b : Bool) (o : Option Kind) → o ≡ None → (if b then o else 
 none_struck true o e = e
 none_struck false o e = refl
 
+-- it takes no message out
 pub none_taken_out : (act : Act) (r : Reply) (n : Option ℕ) (target : Option Target) → doings act r ≡ clog_alone n target → (m : ℕ) → (some_is (λ k. k == m) (delivers act r) || some_is (λ k. k == m) (loses act r)) ≡ false
 none_taken_out act r n target is m = ap₂ (λ d l. some_is (λ k. k == m) d || some_is (λ k. k == m) l) (ap (λ (d : Doings). d.delivered) is) (ap (λ (d : Doings). d.lost) is)
 
--- what only clogs leaves all but the network
+-- what does no more than clog or unclog leaves all but the network
 pub only_net : (turn : Turn) (act : Act) (r : Reply) (machine : Machine) (net : Traffic) (n : Option ℕ) (target : Option Target) → doings act r ≡ clog_alone n target
     → Stands turn.setup turn.before machine → KeepsNet turn.setup (following turn act r) net → Stands turn.setup (following turn act r) (record machine { net = net })
 only_net turn act r machine net n target is k kept = record {

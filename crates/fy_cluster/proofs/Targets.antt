@@ -6,6 +6,7 @@ use Rattle.std.proofs.lemmas.Bool.Decides.{nat_tests}
 use Rattle.std.specs.Ordering.{nat_cmp}
 use Rattle.std.specs.Cmp.{nat_cmp_total, unsigned_tied}
 use Rattle.std.specs.FinSet as sets
+use Rattle.fy_locality.specs.Members.{IsLeast}
 use Rattle.fy_net.specs.Net.{Traffic}
 use Rattle.fy_cluster.specs.Standing.{ChangesAt, ClogsChange}
 
@@ -22,9 +23,9 @@ pub record Visits {X : Type 0} (set rest : Set) (change : X → X) (blank : X) (
   pub done : ChangesAt (visited set rest) change blank old new
 
 -- a number that is in the rest is one of the list's
-pub visits_below : {X : Type 0} (set rest : Set) (change : X → X) (blank : X) (old new : List X) (p : ℕ) → ((q : ℕ) → sets.contains set q ≡ true → q < length old)
-    → sets.contains rest p ≡ true → Visits set rest change blank old new → p < length new
-visits_below set rest change blank old new p small present k = let n = k.done.count in let s = small p (k.within p present) in omega arith
+pub visits_below : {X : Type 0} {set rest : Set} {change : X → X} {blank : X} {old new : List X} {p : ℕ} → ((q : ℕ) → sets.contains set q ≡ true → q < length old)
+    → IsLeast rest p → Visits set rest change blank old new → p < length new
+visits_below {p} small least k = let n = k.done.count in let s = small p (k.within p least.present) in omega arith
 
 no_both : {X : Type 0} (b : Bool) (x y : X) → y ≡ (if b && not b then x else y)
 no_both true x y = refl
@@ -38,10 +39,9 @@ visits_none set change blank xs = record {
 }
 
 -- one more
-pub visits_more : {X : Type 0} (set rest next : Set) (change : X → X) (blank : X) (old new later : List X) (p : ℕ) → ((q : ℕ) → sets.contains set q ≡ true → q < length old)
-    → sets.contains rest p ≡ true → next ≡ sets.remove rest p → later ≡ slice_set new p (change (get_or new p blank))
-    → Visits set rest change blank old new → Visits set next change blank old later
-visits_more {X} set rest next change blank old new later p small present without is k = record {
+pub visits_more : {X : Type 0} {set rest next : Set} {change : X → X} {blank : X} {old new later : List X} {p : ℕ} → ((q : ℕ) → sets.contains set q ≡ true → q < length old)
+    → IsLeast rest p → next ≡ sets.remove rest p → later ≡ slice_set new p (change (get_or new p blank)) → Visits set rest change blank old new → Visits set next change blank old later
+visits_more {X} {set} {rest} {next} {change} {blank} {old} {new} {later} {p} small least without is k = record {
   within = λ q there. at_rest q (q == p) (sym (left q) ∙ there);
   done = record { count = ap length is ∙ length-set new p _ ∙ k.done.count; each = λ q l. ap (λ xs. get_or xs q blank) is ∙ at q l (q == p) refl };
 }
@@ -63,8 +63,8 @@ visits_more {X} set rest next change blank old new later p small present without
     at : (q : ℕ) → q < length old → (b : Bool) → (q == p) ≡ b → get_or (slice_set new p (change (get_or new p blank))) q blank ≡ becomes q (sets.contains set q) (sets.contains next q)
     at q l true e =
         let same : q ≡ p = eqb-true q p e in
-        let here : sets.contains rest q ≡ true = ap (sets.contains rest) same ∙ present in
-        let changed : get_or (slice_set new p (change (get_or new p blank))) p blank ≡ change (get_or new p blank) = get_or-set_same new p _ blank (visits_below set rest change blank old new p small present k) in
+        let here : sets.contains rest q ≡ true = ap (sets.contains rest) same ∙ least.present in
+        let changed : get_or (slice_set new p (change (get_or new p blank))) p blank ≡ change (get_or new p blank) = get_or-set_same new p _ blank (visits_below small least k) in
         ap (λ i. get_or (slice_set new p (change (get_or new p blank))) i blank) same
         ∙ changed
         ∙ ap (λ i. change (get_or new i blank)) (sym same)
@@ -80,8 +80,8 @@ and_true true x y = refl
 and_true false x y = refl
 
 -- after the last
-pub visits_all : {X : Type 0} (set rest : Set) (change : X → X) (blank : X) (old new : List X) → rest ≡ sets.empty → Visits set rest change blank old new → ChangesAt (sets.contains set) change blank old new
-visits_all set rest change blank old new none k = record {
+pub visits_all : {X : Type 0} {set rest : Set} {change : X → X} {blank : X} {old new : List X} → rest ≡ sets.empty → Visits set rest change blank old new → ChangesAt (sets.contains set) change blank old new
+visits_all {set} {change} {blank} {old} none k = record {
   count = k.done.count;
   each = λ p l.
       k.done.each p l
@@ -92,16 +92,16 @@ visits_all set rest change blank old new none k = record {
 -- ---- clogs
 
 -- the same of the ends of clogs, while nothing else of the network is changed
-abbrev pub VisitsClogs : Set → Set → (ℕ → ℕ → ℕ) → Traffic → Traffic → Type 0
-VisitsClogs set rest change old new = (new ≡ record old { until = new.until }) × Visits set rest (change old.clock) 0 old.until new.until
+pub record VisitsClogs (set rest : Set) (change : ℕ → ℕ → ℕ) (old new : Traffic) : Type 0 where
+  pub others : new ≡ record old { until = new.until }
+  pub ends : Visits set rest (change old.clock) 0 old.until new.until
 
-pub clogs_more : (set rest next : Set) (change : ℕ → ℕ → ℕ) (old new later : Traffic) (p : ℕ) → ((q : ℕ) → sets.contains set q ≡ true → q < length old.until)
-    → sets.contains rest p ≡ true → next ≡ sets.remove rest p → later ≡ record new { until = slice_set new.until p (change new.clock (slice_index new.until p)) }
-    → VisitsClogs set rest change old new → VisitsClogs set next change old later
-clogs_more set rest next change old new later p small present without is k = (
-  is ∙ ap (λ (net : Traffic). record net { until = slice_set new.until p (change new.clock (slice_index new.until p)) }) k.0 ∙ sym (ap (λ (net : Traffic). record old { until = net.until }) is),
-  visits_more set rest next (change old.clock) 0 old.until new.until later.until p small present without (ap (λ (net : Traffic). net.until) is ∙ ap (λ now. slice_set new.until p (change now (slice_index new.until p))) (ap (λ (net : Traffic). net.clock) k.0)) k.1,
-)
+pub clogs_more : {set rest next : Set} {change : ℕ → ℕ → ℕ} {old new later : Traffic} {p : ℕ} → ((q : ℕ) → sets.contains set q ≡ true → q < length old.until) → IsLeast rest p → next ≡ sets.remove rest p
+    → later ≡ record new { until = slice_set new.until p (change new.clock (slice_index new.until p)) } → VisitsClogs set rest change old new → VisitsClogs set next change old later
+clogs_more {change} {old} {new} {p} small least without is k = record {
+  others = is ∙ ap (λ (net : Traffic). record net { until = slice_set new.until p (change new.clock (slice_index new.until p)) }) k.others ∙ sym (ap (λ (net : Traffic). record old { until = net.until }) is);
+  ends = visits_more small least without (ap (λ (net : Traffic). net.until) is ∙ ap (λ (net : Traffic). slice_set new.until p (change net.clock (slice_index new.until p))) k.others) k.ends;
+}
 
-pub clogs_all : (set rest : Set) (change : ℕ → ℕ → ℕ) (old new : Traffic) → rest ≡ sets.empty → VisitsClogs set rest change old new → ClogsChange (sets.contains set) change old new
-clogs_all set rest change old new none k = record { rest = k.0; ends = visits_all set rest (change old.clock) 0 old.until new.until none k.1 }
+pub clogs_all : {set rest : Set} {change : ℕ → ℕ → ℕ} {old new : Traffic} → rest ≡ sets.empty → VisitsClogs set rest change old new → ClogsChange (sets.contains set) change old new
+clogs_all none k = record { rest = k.others; ends = visits_all none k.ends }

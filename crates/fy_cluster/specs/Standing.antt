@@ -1,6 +1,7 @@
 -- what a machine keeps of a history: one equation for each of its parts
 use Rattle.std.specs.Prelude.{◌≡◌, ℕ, ◌+◌, ◌*◌, ◌<◌, ◌≤◌, min, max, Bool, false, not, nat_lt, List, [], ◌∷◌, ◌++◌, length, map, filter, slice_get, slice_index, slice_index_or, Option, Some, Result, Ok, Err, if◌then◌else◌}
 use Rattle.std.specs.List.{list_any}
+use Rattle.std.specs.Option.{option_map_or}
 use Rattle.std.specs.Ordering.{nat_cmp}
 use Rattle.std.specs.FinSet as sets
 use Rattle.fy_kinds.specs.declared.kind.Kind.{Kind}
@@ -10,9 +11,9 @@ use Rattle.fy_kinds.specs.declared.verdict.Rule.{Rule}
 use Rattle.fy_kinds.specs.Kinds.{Deed, Clogging, has}
 use Rattle.fy_grants.specs.Rights.{Rights, grants_of, protections_of}
 use Rattle.fy_decide.specs.declared.dead_book.Loss.{Loss}
-use Rattle.fy_decide.specs.DeadBook.{Casualties}
+use Rattle.fy_decide.specs.DeadBook.{Casualties, struck}
 use Rattle.fy_decide.specs.Losses.{MayDestroy}
-use Rattle.fy_decide.specs.Verdicts.{situation_of, targets, bar}
+use Rattle.fy_decide.specs.Verdicts.{situation_of, targets, bar, loss_of}
 use Rattle.fy_disk.specs.declared.item.Item.{Item}
 use Rattle.fy_disk.specs.Disk.{Stored, survivors}
 use Rattle.fy_net.specs.declared.message.Body.{Body}
@@ -52,6 +53,10 @@ pub record KeepsDead (c : Setup) (h : History) (book : Casualties) : Type 0 wher
 abbrev pub MayLose : Casualties → (ℕ → Bool) → Loss → Type 0
 MayLose book set loss = MayDestroy book.processes book.policies (sets.contains book.destroyed) (sets.contains book.left) set loss
 
+-- the book with a set taken down as lost, where the kind destroys
+abbrev pub buried : Casualties → sets.FinSet nat_cmp → Kind → Casualties
+buried book set kind = option_map_or (λ loss. struck book set loss) (loss_of kind) book
+
 -- the grants of each actor, and what each process is protected from
 pub record KeepsRights (c : Setup) (h : History) (rights : Rights) : Type 0 where
   pub actors : length rights.grants ≡ length c.roles
@@ -81,7 +86,8 @@ left_on KillInstantly tear disk = blank_disk
 -- the elements at the numbers of a set are changed, and no others; `blank` stands for one that isn't there
 pub record ChangesAt {X : Type 0} (set : ℕ → Bool) (change : X → X) (blank : X) (old new : List X) : Type 0 where
   pub count : length new ≡ length old
-  pub each : (p : ℕ) → p < length old → let was = slice_index_or old p blank in slice_index_or new p blank ≡ (if set p then change was else was)
+  pub each : (p : ℕ) → p < length old
+      → let was = slice_index_or old p blank in slice_index_or new p blank ≡ (if set p then change was else was)
 
 -- a disk for each process
 pub record KeepsDisks (c : Setup) (h : History) (disks : List Stored) : Type 0 where
@@ -120,15 +126,15 @@ pub record KeepsNet (c : Setup) (h : History) (net : Traffic) : Type 0 where
   pub early : (n : ℕ) → length (sent h) ≤ n → list_any (takes_out n) h ≡ false
   pub few : length (sent h) ≤ 65536 * length h
 
--- until when a process is clogged that was clogged until some time, once it is clogged for some ticks
+-- until when a process is clogged after a clog of some ticks, which shortens no other
 abbrev pub clog_end : ℕ → ℕ → ℕ → ℕ
 clog_end ticks time until = max until (min (time + ticks) last_tick)
 
--- and once its clogs are ended
+-- and after its clogs have ended
 abbrev pub unclog_end : ℕ → ℕ → ℕ
 unclog_end time until = min until time
 
--- at the numbers of a set it changes, by the time, until when a process is clogged, and nothing else
+-- it changes, by the time, until when the processes of a set are clogged, and nothing else
 pub record ClogsChange (set : ℕ → Bool) (change : ℕ → ℕ → ℕ) (old new : Traffic) : Type 0 where
   pub rest : new ≡ record old { until = new.until }
   pub ends : ChangesAt set (change old.clock) 0 old.until new.until

@@ -33,10 +33,11 @@ fn unclog_targets(net: &mut Net, targets: &ProcSet)
 }
 
 impl Machine {
-    /// Whom a clog of a target meets, and the end of its clogs: those left of it, or the rule of leave that bars both.
+    /// The processes of a target that are left, or the rule of leave that bars a clog of them and its end.
     fn leave_to_clog(&self, map: &Map, by: u32, target: &Target) -> Result<ProcSet, Rule>
         requires { map.now ≡ self.now.dead.processes }
-        ensures targets { IfOk result (λ set. (p : ℕ) → sets.contains set p ≡ targets_by self.now target.now p) }
+        ensures targets { IfOk result (λ set. (p : ℕ) →
+            sets.contains set p ≡ targets_by self.now target.now p) }
         ensures rule { result_err result ≡ clog_bar self.now by target.now }
     {
         match judge_clog(&self.dead, &self.book, map, by, target) {

@@ -1,12 +1,10 @@
 //! Kills strike.
 ghost use Rattle.std.specs.Prelude.{◌≡◌, ◌<◌, ℕ, true, [], length, Some};
-ghost use Rattle.std.specs.Option.{option_map_or};
 ghost use Rattle.std.specs.FinSet as sets;
 ghost use Rattle.fy_decide.specs.declared.dead_book.Loss.{Loss};
-ghost use Rattle.fy_decide.specs.DeadBook.{struck};
 ghost use Rattle.fy_decide.specs.Verdicts.{loss_of};
 ghost use Rattle.fy_audit.specs.declared.act.Act.TheVariants.{Kill};
-ghost use Rattle.fy_cluster.specs.Standing.{Turn, Stands, Follows, MayLose, ChangesAt, left_on, blank_disk};
+ghost use Rattle.fy_cluster.specs.Standing.{Turn, Stands, Follows, MayLose, buried, ChangesAt, left_on, blank_disk};
 
 use crate::machine::Machine;
 use fy_audit::Reply;
@@ -39,8 +37,9 @@ fn strike_disks(disks: &mut Vec<Disk>, targets: &ProcSet, kind: Kind, tear: u64)
 
 /// Writes the targets down as lost, where the kind destroys.
 fn bury(dead: &mut DeadBook, targets: &ProcSet, kind: Kind)
-    requires { (loss : Loss) → loss_of kind ≡ Some loss → MayLose dead.old (sets.contains targets.now) loss }
-    ensures { dead.new ≡ option_map_or (λ loss. struck dead.old targets.now loss) (loss_of kind) dead.old }
+    requires { (loss : Loss) → loss_of kind ≡ Some loss
+        → MayLose dead.old (sets.contains targets.now) loss }
+    ensures { dead.new ≡ buried dead.old targets.now kind }
 {
     if let Some(loss) = Loss::of(kind) {
         dead.strike(targets, loss);

@@ -84,8 +84,8 @@ pub record PassedOver (s rest : sets.FinSet nat_cmp) (test : ℕ → Bool) : Typ
   pub none_passes : (q : ℕ) → sets.contains s q ≡ true → sets.contains rest q ≡ false → test q ≡ false
 
 -- one more member that doesn't pass
-pub passed_over : (s rest next : sets.FinSet nat_cmp) (test : ℕ → Bool) (p : ℕ) → next ≡ sets.remove rest p → test p ≡ false → PassedOver s rest test → PassedOver s next test
-passed_over s rest next test p is fails before = record {
+pub passed_over : {s rest next : sets.FinSet nat_cmp} {test : ℕ → Bool} {p : ℕ} → PassedOver s rest test → next ≡ sets.remove rest p → test p ≡ false → PassedOver s next test
+passed_over {s} {rest} {next} {test} {p} before is fails = record {
   within = λ q left. before.within q (both_true (not (q == p)) _ (sym (without q) ∙ left)).1;
   none_passes = λ q member gone. at q member (q == p) refl (sym (without q) ∙ gone);
 }

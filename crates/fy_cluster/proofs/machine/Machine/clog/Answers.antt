@@ -1,15 +1,12 @@
 use Rattle.std.proofs.Common.{◌<◌, sym, subst}
-use Rattle.fy_audit.specs.declared.act.Act.TheVariants.{Clog}
-use Rattle.fy_cluster.specs.Standing.{clog_end}
 use Rattle.fy_cluster.proofs.Judged.{targets_below, clogging, clogs_barred, clogs_changed}
 use Rattle.fy_cluster.proofs.machine.Machine.clog.Goals as goal
 
 pub clog_targets-requires : goal.clog_targets-requires
-clog_targets-requires g c p member = subst (λ n. p < n) (sym c.requires.0.net.count) (targets_below g.turn.setup g.turn.before c.args.self.now c.requires.0 c.args.target.now c.in-Ok.targets c.in-Ok.ensures.targets p member)
+clog_targets-requires g c p member = subst (λ n. p < n) (sym c.requires.0.net.count) (targets_below c.requires.0 c.args.target.now c.in-Ok.targets c.in-Ok.ensures.targets p member)
 
 pub returns-in-Ok : goal.returns-in-Ok
-returns-in-Ok g c =
-    clogs_changed g.turn (Clog c.args.target.now c.args.ticks) c.args.target.now (clog_end c.args.ticks) c.args.self.now c.in-Ok.targets c.clog_targets.new.net (clogging g.turn c.args.target.now c.args.ticks) c.requires.0 c.args.by c.requires.1.1 c.in-Ok.ensures.rule c.in-Ok.ensures.targets c.clog_targets.ensures
+returns-in-Ok g c = clogs_changed c.in-Ok.targets (clogging g.turn c.args.target.now c.args.ticks) c.requires.0 c.requires.1.1 c.in-Ok.ensures.rule c.in-Ok.ensures.targets c.clog_targets.ensures
 
 pub returns-in-Err : goal.returns-in-Err
-returns-in-Err g c = clogs_barred g.turn (Clog c.args.target.now c.args.ticks) c.args.target.now (clog_end c.args.ticks) c.in-Err.rule c.args.self.now (clogging g.turn c.args.target.now c.args.ticks) c.requires.0 c.args.by c.requires.1.1 c.in-Err.ensures.rule
+returns-in-Err g c = clogs_barred (clogging g.turn c.args.target.now c.args.ticks) c.requires.0 c.requires.1.1 c.in-Err.ensures.rule

@@ -6,15 +6,12 @@ use Rattle.fy_cluster.proofs.Judged.{targets_below, spares, strikes_now, chosen}
 use Rattle.fy_cluster.proofs.machine.Machine.kill.Goals as goal
 
 pub returns-in_default : goal.returns-in_default
-returns-in_default g c = spares g.turn c.args.order.now c.judge-verdict.result c.args.self.now c.requires.0 c.args.by c.requires.1.1 c.judge-verdict.ensures c.in_default.is
+returns-in_default g c = spares c.args.order.now c.requires.0 c.requires.1.1 c.judge-verdict.ensures c.in_default.is
 
 pub strike_disks-requires : goal.strike_disks-requires
 strike_disks-requires g c p member =
     subst (λ n. p < n) (sym c.requires.0.disks.count)
-    (targets_below g.turn.setup g.turn.before c.args.self.now c.requires.0 c.args.order.now.target c.targets-targets.result
-    (λ q. c.targets-targets.ensures q ∙ ap (λ t. targets_by c.args.self.now t q) c.target.ensures)
-    p
-    member)
+    (targets_below c.requires.0 c.args.order.now.target c.targets-targets.result (λ q. c.targets-targets.ensures q ∙ ap (λ t. targets_by c.args.self.now t q) c.target.ensures) p member)
 
 pub bury-requires : goal.bury-requires
 bury-requires g c loss brings =
@@ -25,19 +22,11 @@ bury-requires g c loss brings =
 
 pub returns : goal.returns
 returns g c =
-    strikes_now g.turn c.args.order.now c.judge-verdict.result c.in-Some.kind c.args.self.now c.targets-targets.result c.difference-self.result c.bury.new.dead c.strike_disks.new.disks.items c.requires.0
-    c.args.by
-    c.requires.1.1
-    c.judge-verdict.ensures
-    c.in-Some.is
+    strikes_now c.args.order.now c.targets-targets.result _ c.requires.0 c.requires.1.1 c.judge-verdict.ensures c.in-Some.is
     (λ p. c.targets-targets.ensures p ∙ ap (λ t. targets_by c.args.self.now t p) c.target.ensures)
     (subst (λ t. ChangesAt (sets.contains c.targets-targets.result) (left_on c.in-Some.kind t) blank_disk c.args.self.now.disks.items c.strike_disks.new.disks.items) c.tear.ensures c.strike_disks.ensures)
     c.difference-self.ensures
     c.bury.ensures
-    _
-    refl
-    refl
-    refl
     refl
     refl
     refl
