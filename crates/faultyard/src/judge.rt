@@ -109,6 +109,7 @@ fn judged(alloc: Global, bytes: &[u8]) -> Result<Vec<u8>, Stop>
 /// `JudgeTooLong` over 1,048,576 bytes, and `JudgeLine` for the first faulty line: nothing is written then. `Read` where
 /// the reader fails, `NoMemory` where memory was refused: nothing is written then either. `Write` where the writer fails
 /// or takes no byte: a front of the answers is out, and never all of them.
+#[tactic(auto, using(crate::proofs::LineLemmas::known_long))]
 pub fn run_judge<R: Read, W: Write>(
     alloc: Global,
     reader: &mut R,
