@@ -4,7 +4,7 @@
 #   make run              builds the program without its proofs, and asks it about examples/c6.judge: yes, yes, no, gone
 #   make test             all that CI runs: every proof, test and must-fail edit, then the command-line cases
 #   make install          puts the program into $(PREFIX)/bin; by default PREFIX is /usr/local
-#   make bench            times the program on generated inputs, and the parts that it doesn't have yet by programs of their own
+#   make bench            times the program on generated inputs, and verdicts and acts by programs of their own
 #   make clean            removes what was built, and what earlier checks kept
 
 PREFIX ?= /usr/local
