@@ -4,7 +4,7 @@
 #   make run              asks the program about the cluster of examples/c6.judge: yes, yes, no, gone
 #   make test             all that CI runs: every proof, test and must-fail edit, then the command-line cases
 #   make install          puts the program into $(PREFIX)/bin; by default PREFIX is /usr/local
-#   make bench            times the program on generated inputs
+#   make bench            times the program on generated inputs, and the parts that it doesn't have yet by programs of their own
 #   make clean            removes what was built, and what earlier checks kept
 
 PREFIX ?= /usr/local
@@ -37,6 +37,7 @@ bench: build
 	if command -v rustc > /dev/null; then rustc --edition 2024 -C opt-level=3 -o bin/judge_by_hand bench/judge_by_hand.rs; fi
 	bench/judge.py bin/faultyard $$(ls bin/judge_by_hand 2> /dev/null)
 	bench/verdicts.sh
+	bench/acts.sh
 
 clean:
 	rm -rf bin crates/*/out

@@ -1,5 +1,6 @@
 -- one entry more in a legal journal
-use Rattle.std.proofs.Common.{◌≡◌, ℕ, zero, suc, ◌+◌, ◌<◌, true, false, List, [], ◌∷◌, ◌++◌, length, Some, None, Result, Ok, Err, IfOk, OnErr, refl, sym, ◌∙◌, ap, subst, arith, nat_le, slice_get, length-append}
+use Rattle.std.proofs.Common.{IsTrue, ◌↔◌, ◌≤◌, inl, inr, ◌≡◌, ℕ, zero, suc, ◌+◌, ◌<◌, true, false, List, [], ◌∷◌, ◌++◌, length, Some, None, Result, Ok, Err, IfOk, OnErr, refl, sym, ◌∙◌, ap, subst, arith, nat_le, slice_get, length-append}
+use Rattle.std.proofs.lemmas.Bool.{cases_lt, false≢true}
 use Rattle.std.proofs.lemmas.Bool.Decides.{nat_tests}
 use Rattle.std.proofs.lemmas.Option.{slice_get_within}
 use Rattle.fy_audit.specs.declared.act.Act.{Act}
@@ -13,6 +14,7 @@ use Rattle.fy_cluster.specs.declared.machine.Machine.{Machine}
 use Rattle.fy_cluster.specs.Setup.{Setup}
 use Rattle.fy_cluster.specs.History.{History, moment, after, history}
 use Rattle.fy_cluster.specs.Replies.{refused, refusals, reasons, answer, reply, no_actor, may, IsNext, LegalAfter}
+use Rattle.fy_cluster.specs.Course.{Course}
 use Rattle.fy_cluster.specs.Standing.{Stands, Turn, Comes, Answers, entry_of, IsKept, IsLived}
 use Rattle.fy_cluster.proofs.Refusals.{unmoved_by}
 
@@ -64,6 +66,10 @@ length-history c journal = length-after c [] journal ∙ (omega arith)
 legal-push : (c : Setup) (h : History) (xs : List Entry) (e : Entry) → LegalAfter c h xs → IsNext c (after c h xs) e → LegalAfter c h (xs ++ e ∷ [])
 legal-push c h [] e l next = (next, tt)
 legal-push c h (x ∷ xs) e l next = (l.0, legal-push c (moment c h x ∷ h) xs e l.1 next)
+
+-- a journal that isn't full has room for an entry
+pub not_full : (course : Course) → (IsTrue false ↔ (course.setup.limit ≤ length course.journal)) → length course.journal < course.setup.limit
+not_full course full = elim (cases_lt (length course.journal) course.setup.limit) [ inl room ↦ room | inr none ↦ absurd (false≢true (full.1 none)) ]
 
 -- a turn after a journal
 abbrev pub turn_after : Setup → List Entry → ℕ → Turn

@@ -1,5 +1,5 @@
 -- a record is sent once more
-use Rattle.std.proofs.Common.{◌≡◌, ℕ, ◌+◌, ◌<◌, List, [], ◌∷◌, ◌++◌, Bool, true, false, ◌&&◌, not, Option, Some, None, option_map, refl, sym, ◌∙◌, ap, ap₂, nat_lt, nat_le, length, map, arith, slice_get, if◌then◌else◌, append-nil}
+use Rattle.std.proofs.Common.{◌≡◌, ℕ, ◌+◌, ◌<◌, List, [], ◌∷◌, ◌++◌, Bool, true, false, ◌&&◌, not, Option, Some, None, option_map, refl, sym, ◌∙◌, ap, ap₂, nat_lt, nat_le, length, arith, slice_get, if◌then◌else◌, append-nil}
 use Rattle.std.proofs.lemmas.Bool.{true≢false}
 use Rattle.std.proofs.lemmas.Bool.Decides.{nat_tests}
 use Rattle.std.proofs.lemmas.List.Elements.{All-contains}

@@ -83,7 +83,7 @@ impl Cluster {
         ensures survives { Survives self.new.setup self.new.journal }
     {
         laws::journals_survive();
-        if self.journal.len() >= self.config.journal_limit() as usize {
+        if self.is_full() {
             return Err(Fault::JournalFull);
         }
         self.machine

@@ -2,6 +2,7 @@
 use crate::laws;
 
 pub(crate) mod clusters;
+mod example;
 mod growths;
 mod kills;
 mod limits;
