@@ -9,20 +9,13 @@ use std::fmt::Debug;
 use std::process::Abort;
 
 /// Each process's name with those of its machine and its zone.
-const PROCESSES: [(&str, &str, &str); 6] = [
+static PROCESSES: [(&str, &str, &str); 6] = [
     ("p0", "m0", "z0"),
     ("p1", "m1", "z0"),
     ("p2", "m2", "z1"),
     ("p3", "m3", "z1"),
     ("p4", "m4", "z2"),
     ("p5", "m5", "z2"),
-];
-
-const FIRST_TWO_ZONES: [(&str, &str, &str); 4] = [
-    ("p0", "m0", "z0"),
-    ("p1", "m1", "z0"),
-    ("p2", "m2", "z1"),
-    ("p3", "m3", "z1"),
 ];
 
 pub(crate) const TWO_ZONES: &str = "Across(2,zoneid,One())";
@@ -90,7 +83,7 @@ pub(crate) fn cluster_of_six() -> Parts<'static> {
 /// The same without the third zone.
 pub(crate) fn cluster_of_four() -> Parts<'static> {
     Parts {
-        processes: &FIRST_TWO_ZONES,
+        processes: &PROCESSES[..4],
         ..cluster_of_six()
     }
 }

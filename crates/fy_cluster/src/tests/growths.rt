@@ -14,17 +14,17 @@ fn one_of_each() -> [Step<'static>; 15] {
         index: 0,
     };
     [
-        kill(zone("z0"), Kind::KillInstantly, struck(Kind::KillInstantly)),
+        killed(zone("z0"), Kind::KillInstantly),
         clog(zone("z0"), 1, UNBARRED),
         unclog(zone("z0"), UNBARRED),
-        form(&[P0, P2], Reply::Formed { team: 0 }),
+        formed(&[P0, P2]),
         begin(b"hi", no(Refusal::NoTeam)),
         storage(Act::Deliver { message: 0 }, no(Refusal::NoMessage)),
         storage(Act::Lose { message: 0 }, no(Refusal::NoMessage)),
         storage(resend, no(Refusal::NoRecord)),
-        storage(Act::Sync { process }, Reply::Synced { first: 0, count: 0 }),
-        storage(Act::Up { process }, no(Refusal::IsUp)),
-        storage(Act::Tick { ticks: 1 }, Reply::Time { now: 1 }),
+        synced(P0, 0, 0),
+        up(P0, no(Refusal::IsUp)),
+        tick(1, 1),
         operator(rebooting(UNGRANTED), Reply::Done),
         operator(take, Reply::Done),
         operator(Act::Protect { process, kinds }, Reply::Done),
@@ -46,21 +46,18 @@ fn network_grows_for_each_that_sends(rt: HostRuntime) {
     let mut stage = Stage::open(&rt, rt.alloc(), &cluster_of_six());
     let resend = |rec, process| Act::Resend { rec, process };
     stage.play(&[
-        form(&[P0, P2], Reply::Formed { team: 0 }),
-        begin(b"a", Reply::Begun { rec: 0, first: 0 }),
-        begin(b"b", Reply::Begun { rec: 1, first: 2 }),
-        storage(Act::Deliver { message: 0 }, Reply::Stored),
+        formed(&[P0, P2]),
+        begun(0, 0),
+        begun(1, 2),
+        stored(0),
         storage(resend(0, P0), Reply::Sent { message: 4 }),
         // Four are in flight, for which there is room.
-        storage(
-            Act::Sync { process: P0 },
-            Reply::Synced { first: 5, count: 1 },
-        ),
+        synced(P0, 5, 1),
         storage(resend(0, P2), Reply::Sent { message: 6 }),
         storage(resend(1, P0), Reply::Sent { message: 7 }),
         storage(resend(1, P2), Reply::Sent { message: 8 }),
         // Now eight.
         storage(resend(0, P0), Reply::Sent { message: 9 }),
-        storage(Act::Deliver { message: 5 }, Reply::Marked { acked: false }),
+        marked(5, false),
     ]);
 }

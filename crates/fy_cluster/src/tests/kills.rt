@@ -5,20 +5,15 @@ use super::steps::*;
 use fy_audit::{Act, Refusal, Reply};
 use fy_kinds::{Kind, KindSet, Rule};
 
-const TOO_MANY: Rule = Rule::TooManyDestroyed { policy: 0 };
-
 const TOO_FEW: Rule = Rule::TooFewLeft { policy: 0 };
 
 #[test]
 fn second_zone_is_only_rebooted(rt: HostRuntime) {
     let mut stage = Stage::open(&rt, rt.alloc(), &cluster_of_six());
+    let rebooted = weakened(Kind::Reboot, TOO_MANY);
     stage.play(&[
-        kill(zone("z0"), Kind::KillInstantly, struck(Kind::KillInstantly)),
-        kill(
-            zone("z1"),
-            Kind::KillInstantly,
-            weakened(Kind::Reboot, TOO_MANY),
-        ),
+        killed(zone("z0"), Kind::KillInstantly),
+        kill(zone("z1"), Kind::KillInstantly, rebooted),
     ]);
     stage.sees_destroyed(&[P0, P1]);
 }
@@ -42,7 +37,7 @@ fn kill_without_milder_kinds_does_nothing(rt: HostRuntime) {
     };
     stage.play(&[
         asked(FAULT, alone, barred(TOO_FEW)),
-        storage(Act::Up { process: P0 }, no(Refusal::IsUp)),
+        up(P0, no(Refusal::IsUp)),
     ]);
     stage.sees_destroyed(&[]);
 }
@@ -57,7 +52,7 @@ fn where_one_process_satisfies_none_is_emptied(rt: HostRuntime) {
     let rebooted = weakened(Kind::Reboot, TOO_MANY);
     stage.play(&[
         kill(process("p0"), Kind::RebootAndDelete, rebooted),
-        storage(Act::Up { process: P0 }, Reply::Done),
+        up(P0, Reply::Done),
     ]);
     stage.sees_destroyed(&[]);
 }
@@ -78,17 +73,13 @@ fn grants_come_before_protections(rt: HostRuntime) {
         process: P1,
         kinds: destroying,
     };
-    let shielded = Rule::Protected { process: P1 };
-    let uncovered = Rule::NoGrant { process: P0 };
+    let shielded = weakened(Kind::Reboot, Rule::Protected { process: P1 });
+    let uncovered = barred(Rule::NoGrant { process: P0 });
     let killing = order(zone("z0"), Kind::KillInstantly);
     stage.play(&[
         operator(protect, Reply::Done),
-        kill(
-            zone("z0"),
-            Kind::KillInstantly,
-            weakened(Kind::Reboot, shielded),
-        ),
-        asked(UNGRANTED, killing, barred(uncovered)),
+        kill(zone("z0"), Kind::KillInstantly, shielded),
+        asked(UNGRANTED, killing, uncovered),
     ]);
     stage.sees_destroyed(&[]);
 }
@@ -104,8 +95,8 @@ fn restarted_process_comes_up_again(rt: HostRuntime) {
     };
     stage.play(&[
         asked(FAULT, restart, struck(Kind::RebootProcess)),
-        storage(Act::Up { process: P0 }, Reply::Done),
-        storage(Act::Up { process: P0 }, no(Refusal::IsUp)),
+        up(P0, Reply::Done),
+        up(P0, no(Refusal::IsUp)),
     ]);
     stage.sees_destroyed(&[]);
 }
@@ -114,17 +105,13 @@ fn restarted_process_comes_up_again(rt: HostRuntime) {
 fn gone_process_never_comes_back(rt: HostRuntime) {
     let mut stage = Stage::open(&rt, rt.alloc(), &cluster_of_six());
     stage.play(&[
-        storage(Act::Up { process: P0 }, no(Refusal::IsUp)),
-        kill(
-            process("p0"),
-            Kind::KillInstantly,
-            struck(Kind::KillInstantly),
-        ),
-        storage(Act::Up { process: P0 }, no(Refusal::Gone)),
+        up(P0, no(Refusal::IsUp)),
+        killed(process("p0"), Kind::KillInstantly),
+        up(P0, no(Refusal::Gone)),
         storage(Act::Sync { process: P0 }, no(Refusal::NotUp)),
         storage(Act::Sync { process: P99 }, no(Refusal::NoProcess)),
         form(&[P0, P2], no(Refusal::Gone)),
-        form(&[P1, P2], Reply::Formed { team: 0 }),
+        formed(&[P1, P2]),
     ]);
     stage.sees_destroyed(&[P0]);
 }

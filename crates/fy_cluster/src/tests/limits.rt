@@ -22,7 +22,7 @@ fn full_journal_takes_no_entry(rt: HostRuntime) {
     let mut stage = Stage::open(&rt, rt.alloc(), &journal_of_two());
     stage.play(&[kill(zone("z9"), Kind::KillInstantly, barred(Rule::NoTarget))]);
     stage.sees_entries(1, false);
-    stage.play(&[storage(Act::Tick { ticks: 1 }, Reply::Time { now: 1 })]);
+    stage.play(&[tick(1, 1)]);
     stage.sees_entries(2, true);
     stage.play(&[full(Act::Tick { ticks: 1 })]);
     stage.sees_entries(2, true);
@@ -33,8 +33,8 @@ fn full_journal_takes_no_entry(rt: HostRuntime) {
 fn run_stops_where_the_journal_is_full(rt: HostRuntime) {
     let mut stage = Stage::open(&rt, rt.alloc(), &journal_of_two());
     stage.play(&[
-        storage(Act::Tick { ticks: 1 }, Reply::Time { now: 1 }),
-        storage(Act::Tick { ticks: 2 }, Reply::Time { now: 3 }),
+        tick(1, 1),
+        tick(2, 3),
         full(Act::Tick { ticks: 3 }),
         full(Act::Tick { ticks: 4 }),
     ]);
@@ -46,7 +46,7 @@ fn nothing_to_run_enters_nothing(rt: HostRuntime) {
     let mut stage = Stage::open(&rt, rt.alloc(), &journal_of_two());
     stage.play(&[]);
     stage.sees_entries(0, false);
-    stage.play(&[storage(Act::Tick { ticks: 1 }, Reply::Time { now: 1 })]);
+    stage.play(&[tick(1, 1)]);
     stage.play(&[]);
     stage.sees_entries(1, false);
 }
@@ -79,7 +79,7 @@ fn open_large<R: Abort>(rt: &R, alloc: Global) -> Stage<'_, R> {
     Stage::of(rt, alloc, made)
 }
 
-/// As many processes from the first on.
+/// So many processes from the first on.
 fn first<const COUNT: usize>() -> [ProcId; COUNT] {
     let mut processes = [P0; COUNT];
     for (process, number) in processes.iter_mut().zip(0..1024) {
@@ -91,17 +91,14 @@ fn first<const COUNT: usize>() -> [ProcId; COUNT] {
 #[test]
 fn half_of_a_large_cluster_is_killed(rt: HostRuntime) {
     let mut stage = open_large(&rt, rt.alloc());
-    let too_many = weakened(Kind::Reboot, Rule::TooManyDestroyed { policy: 0 });
-    let up = |number| Act::Up {
-        process: ProcId(number),
-    };
+    let rebooted = weakened(Kind::Reboot, TOO_MANY);
     stage.play(&[
-        kill(zone("z0"), Kind::KillInstantly, struck(Kind::KillInstantly)),
-        kill(zone("z1"), Kind::KillInstantly, too_many),
-        storage(up(511), no(Refusal::Gone)),
-        storage(up(512), Reply::Done),
-        storage(up(1023), no(Refusal::IsUp)),
-        storage(up(1024), no(Refusal::NoProcess)),
+        killed(zone("z0"), Kind::KillInstantly),
+        kill(zone("z1"), Kind::KillInstantly, rebooted),
+        up(ProcId(511), no(Refusal::Gone)),
+        up(ProcId(512), Reply::Done),
+        up(ProcId(1023), no(Refusal::IsUp)),
+        up(ProcId(1024), no(Refusal::NoProcess)),
     ]);
     stage.sees_destroyed(&first::<512>());
 }
@@ -113,21 +110,14 @@ fn full_network_takes_no_message(rt: HostRuntime) {
         rec: 0,
         process: P0,
     };
-    stage.play(&[form(&first::<1024>(), Reply::Formed { team: 0 })]);
+    stage.play(&[formed(&first::<1024>())]);
     for rec in 0..64 {
-        let first = 1024 * u64::from(rec);
-        stage.play(&[begin(b"hi", Reply::Begun { rec, first })]);
+        stage.play(&[begun(rec, 1024 * u64::from(rec))]);
     }
     stage.play(&[
         begin(b"hi", no(Refusal::NetFull)),
         storage(resend, no(Refusal::NetFull)),
-        storage(Act::Deliver { message: 0 }, Reply::Stored),
-        storage(
-            Act::Sync { process: P0 },
-            Reply::Synced {
-                first: 65_536,
-                count: 1,
-            },
-        ),
+        stored(0),
+        synced(P0, 65_536, 1),
     ]);
 }

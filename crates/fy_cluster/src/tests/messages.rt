@@ -8,8 +8,8 @@ use fy_kinds::{Kind, KindSet, Rule};
 /// A record of p0 and p2, of which both stores are in flight, and a clog of p0.
 fn clogged_for_ten_ticks() -> [Step<'static>; 3] {
     [
-        form(&[P0, P2], Reply::Formed { team: 0 }),
-        begin(b"hi", Reply::Begun { rec: 0, first: 0 }),
+        formed(&[P0, P2]),
+        begun(0, 0),
         clog(process("p0"), 10, UNBARRED),
     ]
 }
@@ -19,10 +19,10 @@ fn clog_ends_by_itself(rt: HostRuntime) {
     let mut stage = Stage::open(&rt, rt.alloc(), &cluster_of_six());
     stage.play(&clogged_for_ten_ticks());
     stage.play(&[
-        storage(Act::Tick { ticks: 9 }, Reply::Time { now: 9 }),
+        tick(9, 9),
         storage(Act::Deliver { message: 0 }, no(Refusal::Clogged)),
-        storage(Act::Tick { ticks: 1 }, Reply::Time { now: 10 }),
-        storage(Act::Deliver { message: 0 }, Reply::Stored),
+        tick(1, 10),
+        stored(0),
     ]);
 }
 
@@ -31,10 +31,10 @@ fn clog_is_ended_early(rt: HostRuntime) {
     let mut stage = Stage::open(&rt, rt.alloc(), &cluster_of_six());
     stage.play(&clogged_for_ten_ticks());
     stage.play(&[
-        storage(Act::Tick { ticks: 3 }, Reply::Time { now: 3 }),
+        tick(3, 3),
         storage(Act::Deliver { message: 0 }, no(Refusal::Clogged)),
         unclog(process("p0"), UNBARRED),
-        storage(Act::Deliver { message: 0 }, Reply::Stored),
+        stored(0),
     ]);
 }
 
@@ -65,8 +65,8 @@ fn lost_message_is_sent_again(rt: HostRuntime) {
     let mut stage = Stage::open(&rt, rt.alloc(), &cluster_of_six());
     let resend = |rec, process| Act::Resend { rec, process };
     stage.play(&[
-        form(&[P0, P2], Reply::Formed { team: 0 }),
-        begin(b"hi", Reply::Begun { rec: 0, first: 0 }),
+        formed(&[P0, P2]),
+        begun(0, 0),
         storage(Act::Lose { message: 0 }, Reply::Done),
         storage(Act::Lose { message: 0 }, no(Refusal::NoMessage)),
         storage(Act::Deliver { message: 0 }, no(Refusal::NoMessage)),
@@ -74,7 +74,7 @@ fn lost_message_is_sent_again(rt: HostRuntime) {
         storage(resend(0, P1), no(Refusal::NotMember)),
         storage(resend(5, P0), no(Refusal::NoRecord)),
         begin(&[7; 257], no(Refusal::Payload)),
-        storage(Act::Deliver { message: 2 }, Reply::Stored),
+        stored(2),
     ]);
 }
 
@@ -82,11 +82,11 @@ fn lost_message_is_sent_again(rt: HostRuntime) {
 fn store_waits_for_its_process(rt: HostRuntime) {
     let mut stage = Stage::open(&rt, rt.alloc(), &cluster_of_six());
     stage.play(&[
-        form(&[P0, P2], Reply::Formed { team: 0 }),
-        begin(b"hi", Reply::Begun { rec: 0, first: 0 }),
-        kill(process("p0"), Kind::Reboot, struck(Kind::Reboot)),
+        formed(&[P0, P2]),
+        begun(0, 0),
+        killed(process("p0"), Kind::Reboot),
         storage(Act::Deliver { message: 0 }, no(Refusal::NotUp)),
-        storage(Act::Up { process: P0 }, Reply::Done),
-        storage(Act::Deliver { message: 0 }, Reply::Stored),
+        up(P0, Reply::Done),
+        stored(0),
     ]);
 }

@@ -100,7 +100,7 @@ fn first_refusal_is_named(rt: HostRuntime) {
         asked(STORAGE, under_no_policy, no(Refusal::NoPolicy)),
         form(&[P0, ProcId(9)], no(Refusal::NoProcess)),
         asked(STORAGE, for_no_team, no(Refusal::NoTeam)),
-        storage(Act::Up { process: P99 }, no(Refusal::NoProcess)),
+        up(P99, no(Refusal::NoProcess)),
     ]);
 }
 
@@ -115,8 +115,8 @@ fn clock_ends_at_its_last_tick(rt: HostRuntime) {
             },
             no(Refusal::ClockEnd),
         ),
-        storage(Act::Tick { ticks: end }, Reply::Time { now: end }),
+        tick(end, end),
         storage(Act::Tick { ticks: 1 }, no(Refusal::ClockEnd)),
-        storage(Act::Tick { ticks: 0 }, Reply::Time { now: end }),
+        tick(0, end),
     ]);
 }

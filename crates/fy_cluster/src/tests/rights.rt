@@ -39,8 +39,7 @@ fn protection_holds_until_it_is_taken_out(rt: HostRuntime) {
     let kinds = KindSet::of(Kind::Reboot);
     let protect = |process| Act::Protect { process, kinds };
     let unprotect = |process| Act::Unprotect { process, kinds };
-    let shielded = Rule::Protected { process: P1 };
-    let restarted = weakened(Kind::RebootProcess, shielded);
+    let restarted = weakened(Kind::RebootProcess, Rule::Protected { process: P1 });
     stage.play(&[
         operator(protect(P1), Reply::Done),
         asked(FAULT, reboot(zone("z0")), restarted),

@@ -49,7 +49,7 @@ impl Shown {
     }
 }
 
-/// Asks a cluster for a step. Where it has no memory for that, it is as it was, and answers when it is asked again.
+/// Asks a cluster for a step. Where it has no memory for that, it is as it was, and answers when asked again.
 fn play_step(
     rt: &impl Abort,
     alloc: Global,
@@ -79,7 +79,7 @@ fn play_step(
     Ok(())
 }
 
-/// Runs acts. Where there is no memory for one, the entries before it stand, and the rest is run again.
+/// Runs acts. Where there is no memory for one, the entries before it stand, and the rest is run.
 fn run(rt: &impl Abort, cluster: &mut Cluster, acts: &[(u32, Act)], answer: Result<(), Fault>) {
     let before = cluster.journal().len();
     let mut ended = cluster.run(acts);
@@ -136,6 +136,10 @@ impl Twins {
         })
     }
 
+    fn both(&self) -> [&Cluster; 2] {
+        [&self.stepped, &self.ran]
+    }
+
     fn play(
         &mut self,
         rt: &impl Abort,
@@ -152,8 +156,8 @@ impl Twins {
     }
 }
 
-/// Two clusters of the same parts, on which steps are played by `apply` and by `run`. Where there is no memory for what
-/// the test itself needs, they are dropped, and nothing more is shown.
+/// Two clusters of the same parts, on which steps are played by `apply` and by `run`. Where there is no
+/// memory for what the test itself needs, they are dropped, and nothing more is shown.
 #[derive(Drop)]
 pub(super) struct Stage<'r, R: Abort> {
     rt: &'r R,
@@ -172,7 +176,7 @@ impl<'r, R: Abort> Stage<'r, R> {
         Stage::of(rt, alloc, made(rt, alloc, &parts))
     }
 
-    /// A stage with clusters of this configuration, which is there unless there was no memory for it.
+    /// A stage with clusters of this configuration, if there was memory for it.
     pub(super) fn of(
         rt: &'r R,
         alloc: Global,
@@ -187,20 +191,21 @@ impl<'r, R: Abort> Stage<'r, R> {
 
     /// Asks for steps one after another, each being answered as it says.
     pub(super) fn play(&mut self, steps: &[Step<'_>]) {
-        if let Some(twins) = &mut self.twins {
-            if twins.play(self.rt, self.alloc, steps).is_err() {
-                self.twins = None;
-            }
+        if let Some(twins) = &mut self.twins
+            && twins.play(self.rt, self.alloc, steps).is_err()
+        {
+            self.twins = None;
         }
     }
 
     /// Sees how many entries there are, and whether there may be no more.
     pub(super) fn sees_entries(&self, entries: usize, is_full: bool) {
         if let Some(twins) = &self.twins {
-            for cluster in [&twins.stepped, &twins.ran] {
-                let journal = cluster.journal();
-                assert_eq!(self.rt; (journal.len(), cluster.is_full()), (entries, is_full));
-                assert!(self.rt; journal.entry(entries).is_none());
+            for cluster in twins.both() {
+                cluster.survives();
+                let limit = cluster.config().journal_limit() as usize;
+                assert_eq!(self.rt; cluster.journal().len(), entries);
+                assert_eq!(self.rt; (cluster.is_full(), limit == entries), (is_full, is_full));
             }
         }
     }
@@ -208,23 +213,25 @@ impl<'r, R: Abort> Stage<'r, R> {
     /// Sees what there is to do next.
     pub(super) fn sees(&self, sight: Sight) {
         if let Some(twins) = &self.twins {
-            assert_eq!(self.rt; twins.stepped.sight(), sight);
-            assert_eq!(self.rt; twins.ran.sight(), sight);
+            for cluster in twins.both() {
+                assert_eq!(self.rt; cluster.sight(), sight);
+            }
         }
     }
 
     /// Sees who keeps a record, if it is acknowledged.
     pub(super) fn sees_keeper(&self, rec: u32, keeper: Option<ProcId>) {
         if let Some(twins) = &self.twins {
-            assert_eq!(self.rt; twins.stepped.keeper(rec), keeper);
-            assert_eq!(self.rt; twins.ran.keeper(rec), keeper);
+            for cluster in twins.both() {
+                assert_eq!(self.rt; cluster.keeper(rec), keeper);
+            }
         }
     }
 
     /// Sees that these processes were destroyed, and no other.
     pub(super) fn sees_destroyed(&self, processes: &[ProcId]) {
         if let Some(twins) = &self.twins {
-            for cluster in [&twins.stepped, &twins.ran] {
+            for cluster in twins.both() {
                 let destroyed = cluster.destroyed();
                 assert_eq!(self.rt; destroyed.len() as usize, processes.len());
                 assert!(self.rt; processes.iter().all(|p| destroyed.contains(*p)));

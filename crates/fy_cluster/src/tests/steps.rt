@@ -147,6 +147,7 @@ pub(super) struct Step<'a> {
     pub(super) answer: Result<Reply, Fault>,
 }
 
+/// A step that is entered into the journal with this reply.
 pub(super) fn asked(by: u32, ask: Ask<'_>, reply: Reply) -> Step<'_> {
     Step {
         by,
@@ -179,9 +180,44 @@ pub(super) fn form(members: &[ProcId], reply: Reply) -> Step<'_> {
     asked(STORAGE, Ask::Form { members, policy: 0 }, reply)
 }
 
+/// The form of the first team.
+pub(super) fn formed(members: &[ProcId]) -> Step<'_> {
+    form(members, Reply::Formed { team: 0 })
+}
+
 /// The begin of a record for the first team.
 pub(super) fn begin(payload: &[u8], reply: Reply) -> Step<'_> {
     asked(STORAGE, Ask::Begin { team: 0, payload }, reply)
+}
+
+/// Such a begin, and the numbers of the record and of its first store.
+pub(super) fn begun(rec: u32, first: u64) -> Step<'static> {
+    begin(b"hi", Reply::Begun { rec, first })
+}
+
+/// The delivery of a store.
+pub(super) fn stored(message: u64) -> Step<'static> {
+    storage(Act::Deliver { message }, Reply::Stored)
+}
+
+/// The delivery of a process's word that it has synced a record.
+pub(super) fn marked(message: u64, acked: bool) -> Step<'static> {
+    storage(Act::Deliver { message }, Reply::Marked { acked })
+}
+
+/// The sync of so many writes, whose words are numbered from `first` on.
+pub(super) fn synced(process: ProcId, first: u64, count: u32) -> Step<'static> {
+    storage(Act::Sync { process }, Reply::Synced { first, count })
+}
+
+/// The start of a process.
+pub(super) fn up(process: ProcId, reply: Reply) -> Step<'static> {
+    storage(Act::Up { process }, reply)
+}
+
+/// Some ticks, and the time after them.
+pub(super) fn tick(ticks: u64, now: u64) -> Step<'static> {
+    storage(Act::Tick { ticks }, Reply::Time { now })
 }
 
 /// An order down to `Reboot` that leaves no unsynced write.
@@ -197,6 +233,11 @@ pub(super) fn order(place: Place<'_>, kind: Kind) -> Ask<'_> {
 /// Such an order by the actor that has every kind.
 pub(super) fn kill(place: Place<'_>, kind: Kind, reply: Reply) -> Step<'_> {
     asked(FAULT, order(place, kind), reply)
+}
+
+/// Such an order that strikes as it is given.
+pub(super) fn killed(place: Place<'_>, kind: Kind) -> Step<'_> {
+    kill(place, kind, struck(kind))
 }
 
 /// A clog by the actor that has every kind.
@@ -242,6 +283,9 @@ pub(super) fn barred(rule: Rule) -> Reply {
         rule: Some(rule),
     })
 }
+
+/// A policy is satisfied by who would be destroyed.
+pub(super) const TOO_MANY: Rule = Rule::TooManyDestroyed { policy: 0 };
 
 /// The reply to a clog, or to the end of one, that nothing bars.
 pub(super) const UNBARRED: Reply = Reply::Ruled { rule: None };
