@@ -13,9 +13,10 @@ use Rattle.fy_cluster.specs.declared.role.Role.{Role}
 use Rattle.fy_cluster.specs.declared.machine.Machine.{Machine}
 use Rattle.fy_cluster.specs.Setup.{Setup}
 use Rattle.fy_cluster.specs.History.{History, moment, after, history}
-use Rattle.fy_cluster.specs.Replies.{refused, refusals, reasons, answer, reply, no_actor, may, IsNext, LegalAfter}
+use Rattle.fy_cluster.specs.Replies.{refused, refusals, reasons, answer, reply, no_actor, may}
 use Rattle.fy_cluster.specs.Course.{Course}
 use Rattle.fy_cluster.specs.Standing.{Stands, Turn, Comes, Answers, entry_of, IsKept, IsLived}
+use Rattle.fy_cluster.proofs.Journals.{after-append, legal-push}
 use Rattle.fy_cluster.proofs.Refusals.{unmoved_by}
 
 -- ---- the two reasons that come before all
@@ -52,20 +53,12 @@ by_actor turn by act role (Err fault) m same e f k = k
 
 -- ---- the journal
 
-after-append : (c : Setup) (h : History) (xs ys : List Entry) → after c h (xs ++ ys) ≡ after c (after c h xs) ys
-after-append c h [] ys = refl
-after-append c h (x ∷ xs) ys = after-append c (moment c h x ∷ h) xs ys
-
 length-after : (c : Setup) (h : History) (xs : List Entry) → length (after c h xs) ≡ length h + length xs
 length-after c h [] = omega arith
 length-after c h (x ∷ xs) = length-after c (moment c h x ∷ h) xs ∙ (omega arith)
 
 pub length-history : (c : Setup) (journal : List Entry) → length (history c journal) ≡ length journal
 length-history c journal = length-after c [] journal ∙ (omega arith)
-
-legal-push : (c : Setup) (h : History) (xs : List Entry) (e : Entry) → LegalAfter c h xs → IsNext c (after c h xs) e → LegalAfter c h (xs ++ e ∷ [])
-legal-push c h [] e l next = (next, tt)
-legal-push c h (x ∷ xs) e l next = (l.0, legal-push c (moment c h x ∷ h) xs e l.1 next)
 
 -- a journal that isn't full has room for an entry
 pub not_full : (course : Course) → (IsTrue false ↔ (course.setup.limit ≤ length course.journal)) → length course.journal < course.setup.limit

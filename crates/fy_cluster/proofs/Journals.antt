@@ -1,5 +1,5 @@
 -- from one entry to a whole journal
-use Rattle.std.proofs.Common.{◌≡◌, ◌↔◌, ℕ, Some, None, inl, inr, ◌⊎◌, ◌≤◌, ◌<◌, true, false, List, [], ◌∷◌, ◌++◌, length, map, refl, sym, ◌∙◌, ap, ap₂, subst, nat_le, le-leb}
+use Rattle.std.proofs.Common.{arith, length-append, ◌≡◌, ◌↔◌, ℕ, Some, None, inl, inr, ◌⊎◌, ◌≤◌, ◌<◌, true, false, List, [], ◌∷◌, ◌++◌, length, map, refl, sym, ◌∙◌, ap, ap₂, subst, nat_le, le-leb}
 use Rattle.std.proofs.lemmas.Option.{slice_get-get_or}
 use Rattle.std.proofs.lemmas.Bool.{lt-leb, cases_lt}
 use Rattle.fy_kinds.specs.Orders.{Order}
@@ -16,7 +16,7 @@ use Rattle.fy_cluster.specs.Setup.{Setup}
 use Rattle.fy_cluster.specs.History.{History, moment, after, history}
 use Rattle.fy_cluster.specs.Rules.{situation}
 use Rattle.fy_cluster.specs.Replies.{refusals, reasons, answer, reply, IsNext, LegalAfter, Legal}
-use Rattle.fy_cluster.specs.Survival.{by_and_act, IsJudged, KillsJudged, RulesNamed}
+use Rattle.fy_cluster.specs.Survival.{by_and_act, IsJudged, KillsJudged, RulesNamed, FrontsLegal, MomentsEntered, NextLegal}
 
 -- what each legal entry keeps, a legal journal keeps
 pub kept_after : (c : Setup) (Q : History → Type 0) → ((h : History) (e : Entry) → IsNext c h e → Q h → Q (moment c h e ∷ h)) → (h : History) (later : List Entry) → Q h → LegalAfter c h later → Q (after c h later)
@@ -26,6 +26,28 @@ kept_after c Q step h (e ∷ later) q l = kept_after c Q step (moment c h e ∷ 
 pub legal_parts : (c : Setup) (h : History) (xs ys : List Entry) → LegalAfter c h (xs ++ ys) → LegalAfter c h xs × LegalAfter c (after c h xs) ys
 legal_parts c h [] ys l = (tt, l)
 legal_parts c h (e ∷ xs) ys l = let rest = legal_parts c (moment c h e ∷ h) xs ys l.1 in ((l.0, rest.0), rest.1)
+
+-- ---- one entry more
+
+pub after-append : (c : Setup) (h : History) (xs ys : List Entry) → after c h (xs ++ ys) ≡ after c (after c h xs) ys
+after-append c h [] ys = refl
+after-append c h (x ∷ xs) ys = after-append c (moment c h x ∷ h) xs ys
+
+pub legal-push : (c : Setup) (h : History) (xs : List Entry) (e : Entry) → LegalAfter c h xs → IsNext c (after c h xs) e → LegalAfter c h (xs ++ e ∷ [])
+legal-push c h [] e l next = (next, tt)
+legal-push c h (x ∷ xs) e l next = (l.0, legal-push c (moment c h x ∷ h) xs e l.1 next)
+
+pub fronts_legal : FrontsLegal
+fronts_legal c before later l = (let n = length-append before later in let few = l.0 in omega arith, (legal_parts c [] before later l.1).0)
+
+pub moments_entered : MomentsEntered
+moments_entered c journal e = after-append c [] journal (e ∷ [])
+
+pub next_legal : NextLegal
+next_legal c journal e l = (
+  λ more. (let n = length-append journal (e ∷ []) in let few = more.0 in omega arith, (legal_parts c [] journal (e ∷ []) more.1).1.0),
+  λ next. (let n = length-append journal (e ∷ []) in let room = next.0 in omega arith, legal-push c [] journal e l.1 next.1),
+)
 
 cons_parts : {X : Type 0} (x y : X) (xs ys : List X) → x ∷ xs ≡ y ∷ ys → (x ≡ y) × (xs ≡ ys)
 cons_parts x y xs ys e = (cc, cc)

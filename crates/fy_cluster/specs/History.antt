@@ -330,13 +330,36 @@ abbrev pub targets_of : Setup → History → Act → Processes
 targets_of c h (Kill order) = targets c.processes (left c h) order.target
 targets_of c h (Clog target n) = targets c.processes (left c h) target
 targets_of c h (Unclog target) = targets c.processes (left c h) target
-targets_of c h _ = λ p. false
+targets_of c h (Form members policy) = λ p. false
+targets_of c h (Begin team payload) = λ p. false
+targets_of c h (Deliver n) = λ p. false
+targets_of c h (Lose n) = λ p. false
+targets_of c h (Resend rec process) = λ p. false
+targets_of c h (Sync process) = λ p. false
+targets_of c h (Up process) = λ p. false
+targets_of c h (Tick n) = λ p. false
+targets_of c h (Give grant) = λ p. false
+targets_of c h (Take actor index) = λ p. false
+targets_of c h (Protect process kinds) = λ p. false
+targets_of c h (Unprotect process kinds) = λ p. false
 
 -- the message that the act names
 abbrev pub message_of : History → Act → Option Body
 message_of h (Deliver n) = slice_get (sent h) n
 message_of h (Lose n) = slice_get (sent h) n
-message_of h _ = None
+message_of h (Kill order) = None
+message_of h (Clog target n) = None
+message_of h (Unclog target) = None
+message_of h (Form members policy) = None
+message_of h (Begin team payload) = None
+message_of h (Resend rec process) = None
+message_of h (Sync process) = None
+message_of h (Up process) = None
+message_of h (Tick n) = None
+message_of h (Give grant) = None
+message_of h (Take actor index) = None
+message_of h (Protect process kinds) = None
+message_of h (Unprotect process kinds) = None
 
 -- a store of the record to each of these processes
 abbrev pub stores_of : ℕ → List ProcId → List Body
@@ -351,7 +374,18 @@ abbrev pub sends_of : History → Act → List Body
 sends_of h (Begin team payload) = stores_of (length (records h)) (members_of h team)
 sends_of h (Resend rec process) = Store rec process ∷ []
 sends_of h (Sync process) = words_of process (unsynced h process.0)
-sends_of h _ = []
+sends_of h (Kill order) = []
+sends_of h (Clog target n) = []
+sends_of h (Unclog target) = []
+sends_of h (Form members policy) = []
+sends_of h (Deliver n) = []
+sends_of h (Lose n) = []
+sends_of h (Up process) = []
+sends_of h (Tick n) = []
+sends_of h (Give grant) = []
+sends_of h (Take actor index) = []
+sends_of h (Protect process kinds) = []
+sends_of h (Unprotect process kinds) = []
 
 -- the entry with what it did, after this history
 abbrev pub moment : Setup → History → Entry → Moment

@@ -44,11 +44,18 @@ abbrev pub may : Role → Act → Bool
 may role (Kill order) = true
 may role (Clog target n) = true
 may role (Unclog target) = true
+may role (Form members policy) = is_storage role
+may role (Begin team payload) = is_storage role
+may role (Deliver n) = is_storage role
+may role (Lose n) = is_storage role
+may role (Resend rec process) = is_storage role
+may role (Sync process) = is_storage role
+may role (Up process) = is_storage role
+may role (Tick n) = is_storage role
 may role (Give grant) = is_operator role
 may role (Take actor index) = is_operator role
 may role (Protect process kinds) = is_operator role
 may role (Unprotect process kinds) = is_operator role
-may role _ = is_storage role
 
 -- whether the message asks a process to store that isn't up
 abbrev pub is_down_store : History → Body → Bool

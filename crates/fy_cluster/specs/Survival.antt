@@ -1,12 +1,12 @@
 -- what every legal journal keeps
-use Rattle.std.specs.Prelude.{◌≡◌, ◌↔◌, ℕ, not, List, ◌∷◌, ◌++◌, Contains, IsTrue, IsFalse, Some, None, is_some, ◌≤◌, ◌<◌, length, map}
+use Rattle.std.specs.Prelude.{◌≡◌, ◌↔◌, ℕ, not, List, [], ◌∷◌, ◌++◌, Contains, IsTrue, IsFalse, Some, None, is_some, ◌≤◌, ◌<◌, length, map}
 use Rattle.std.specs.List.{list_any}
 use Rattle.fy_locality.specs.declared.ProcId.{ProcId}
 use Rattle.fy_kinds.specs.Orders.{Order}
 use Rattle.fy_kinds.specs.declared.verdict.Verdict.{Verdict}
 use Rattle.fy_grants.specs.Least.{LeastWith}
 use Rattle.fy_team.specs.Teams.{is_among}
-use Rattle.fy_decide.specs.Losses.{AreShort, AreSatisfied}
+use Rattle.fy_decide.specs.Losses.{AreShort, AreSatisfied, first_unmet}
 use Rattle.fy_decide.specs.Verdicts.{verdict}
 use Rattle.fy_audit.specs.declared.act.Act.{Act}
 use Rattle.fy_audit.specs.declared.act.Act.TheVariants.{Kill}
@@ -14,9 +14,9 @@ use Rattle.fy_audit.specs.declared.reply.Reply.TheVariants.{Verdict as Verdicted
 use Rattle.fy_audit.specs.declared.reply.Refusal.TheVariants.{Stranger}
 use Rattle.fy_audit.specs.declared.entry.Entry.{Entry}
 use Rattle.fy_cluster.specs.Setup.{Setup, IsMet}
-use Rattle.fy_cluster.specs.History.{History, history, destroyed, left, synced, acked, keeps, keeper, team_of, payload_of}
+use Rattle.fy_cluster.specs.History.{History, moment, history, destroyed, left, synced, acked, keeps, keeper, team_of, payload_of}
 use Rattle.fy_cluster.specs.Rules.{situation}
-use Rattle.fy_cluster.specs.Replies.{Legal}
+use Rattle.fy_cluster.specs.Replies.{IsNext, Legal}
 
 -- who asked for what
 abbrev pub by_and_act : Entry → ℕ × Act
@@ -61,6 +61,22 @@ abbrev pub KeepersFound : Type 0
 KeepersFound = (c : Setup) (journal : List Entry) → IsMet c → Legal c journal → (r : ℕ) →
     (is_some (keeper c (history c journal) r) ≡ acked (history c journal) r)
     × (IsTrue (acked (history c journal) r) → LeastWith (is_among (team_of (history c journal) r)) (keeps (history c journal) r) (keeper c (history c journal) r))
+
+-- a front of a legal journal is legal
+abbrev pub FrontsLegal : Type 0
+FrontsLegal = (c : Setup) (before later : List Entry) → Legal c (before ++ later) → Legal c before
+
+-- one entry more is one moment more
+abbrev pub MomentsEntered : Type 0
+MomentsEntered = (c : Setup) (journal : List Entry) (e : Entry) → history c (journal ++ e ∷ []) ≡ moment c (history c journal) e ∷ history c journal
+
+-- when a legal journal with one entry more is legal: there is a place for it, and it may come next
+abbrev pub NextLegal : Type 0
+NextLegal = (c : Setup) (journal : List Entry) (e : Entry) → Legal c journal → Legal c (journal ++ e ∷ []) ↔ ((length journal < c.limit) × IsNext c (history c journal) e)
+
+-- no policy of a setup is unmet
+abbrev pub NoneUnmet : Type 0
+NoneUnmet = (c : Setup) → IsMet c → first_unmet c.processes c.policies ≡ None
 
 -- the same acts by the same actors make the same journal
 abbrev pub SameActsSameJournal : Type 0

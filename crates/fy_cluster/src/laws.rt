@@ -1,5 +1,5 @@
 //! What every legal journal keeps, over the definitions alone.
-ghost use Rattle.fy_cluster.specs.Survival.{DestroyedShort, LeftSatisfy, KillsJudged, RulesNamed, RecordsKept, KeepersFound, JournalsSurvive, SameActsSameJournal};
+ghost use Rattle.fy_cluster.specs.Survival.{DestroyedShort, LeftSatisfy, KillsJudged, RulesNamed, RecordsKept, KeepersFound, JournalsSurvive, FrontsLegal, MomentsEntered, NextLegal, NoneUnmet, SameActsSameJournal};
 
 /// The destroyed are short of every policy.
 #[tactic(auto, using(crate::proofs::Strikes::destroyed_short))]
@@ -63,6 +63,21 @@ pub fn journals_survive()
     left_satisfy();
     kills_judged();
     records_kept();
+}
+
+/// A front of a legal journal is legal; an entry more is a moment more; and an entry more is legal exactly where there is a
+/// place for it and it may come next.
+pub fn one_entry_more()
+    ensures fronts { FrontsLegal }
+    ensures moments { MomentsEntered }
+    ensures next { NextLegal }
+{}
+
+/// No policy of a setup is unmet.
+pub fn none_unmet()
+    ensures { NoneUnmet }
+{
+    fy_policy::laws::test_is_satisfaction();
 }
 
 /// The same acts by the same actors make the same journal.

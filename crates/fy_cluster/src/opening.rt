@@ -9,7 +9,7 @@ ghost use Rattle.fy_cluster.specs.Rules.{grants_to, some_protects};
 ghost use Rattle.fy_cluster.specs.Standing.{Stands, KeepsRights, blank_disk};
 
 use crate::machine::Machine;
-use crate::{Config, Protection};
+use crate::{Config, Protection, laws};
 use fy_decide::{DeadBook, MakeFault};
 use fy_disk::Disk;
 use fy_grants::{Book, BookFault, Grant};
@@ -21,7 +21,7 @@ use std::alloc::{AllocError, Global};
 fn nobody_destroyed(alloc: Global, config: &Config) -> Result<DeadBook, AllocError>
     ensures { IfOk result (IsFresh config.now.processes config.now.policies) }
 {
-    fy_policy::laws::test_is_satisfaction();
+    laws::none_unmet();
     config.is_setup();
     match DeadBook::make(alloc, config.map(), config.policies()) {
         Ok(dead) => Ok(dead),

@@ -24,7 +24,14 @@ impl Role {
             Act::Kill { .. } | Act::Clog { .. } | Act::Unclog { .. } => true,
             Act::Give { .. } | Act::Take { .. } | Act::Protect { .. } | Act::Unprotect { .. } =>
                 self == Role::Operator,
-            _ => self == Role::Storage,
+            Act::Form { .. }
+            | Act::Begin { .. }
+            | Act::Deliver { .. }
+            | Act::Lose { .. }
+            | Act::Resend { .. }
+            | Act::Sync { .. }
+            | Act::Up { .. }
+            | Act::Tick { .. } => self == Role::Storage,
         }
     }
 }

@@ -23,5 +23,7 @@ fn laws_can_be_called() {
     laws::records_kept();
     laws::keepers_found();
     laws::journals_survive();
+    laws::one_entry_more();
+    laws::none_unmet();
     laws::same_acts_same_journal();
 }

@@ -1,8 +1,8 @@
 use Rattle.std.proofs.Common.{ap₂, sym, ◌∙◌}
 use Rattle.fy_decide.specs.Losses.{first_unmet}
-use Rattle.fy_cluster.proofs.Starting.{all_met, not_unmet}
+use Rattle.fy_cluster.proofs.Starting.{not_unmet}
 use Rattle.fy_cluster.proofs.opening.nobody_destroyed.Goals as goal
 
 pub unreachable-requires : goal.unreachable-requires
 unreachable-requires c =
-    not_unmet c.in-Err-Unmet.field-0-0 (sym c.in-Err-Unmet.field-0-is ∙ c.in-Err-Unmet.ensures.memory (ap₂ first_unmet c.map.ensures c.policies.ensures ∙ all_met c.test_is_satisfaction.ensures c.args.config.now c.is_setup.ensures.met))
+    not_unmet c.in-Err-Unmet.field-0-0 (sym c.in-Err-Unmet.field-0-is ∙ c.in-Err-Unmet.ensures.memory (ap₂ first_unmet c.map.ensures c.policies.ensures ∙ c.none_unmet.ensures c.args.config.now c.is_setup.ensures.met))
