@@ -24,6 +24,19 @@ refused_before_anything =
     ∷ entry 7 0 (Tick 1099511627776) (Time 1099511627776)
     ∷ []
 
+-- nobody makes no team: a policy is met by somebody
+abbrev pub nobody_formed : List Entry
+nobody_formed = entry 0 0 (Form [] 0) (No (TeamShort 0)) ∷ []
+
+-- a process that is gone may be protected, and unprotected again
+abbrev pub gone_protected : List Entry
+gone_protected =
+    entry 0 1 (kill (process_named (codes "p0"))) (struck KillInstantly)
+    ∷ entry 1 4 (Protect (process 0) every_kind) Done
+    ∷ entry 2 4 (Protect (process 1) every_kind) Done
+    ∷ entry 3 4 (Unprotect (process 1) every_kind) Done
+    ∷ []
+
 -- what is refused of a process that is up, and of one that is gone
 abbrev pub refused_of_the_gone : List Entry
 refused_of_the_gone =

@@ -3,102 +3,104 @@ use crate::laws;
 
 #[test]
 fn kills_can_be_called() {
-    laws::two_zones();
-    laws::few_left();
-    laws::few_left_and_nothing_milder();
-    laws::one_is_enough();
-    laws::few_left_and_no_grant_to_empty();
-    laws::back_and_destroyed();
-    laws::emptied_is_left();
-    laws::killed_is_not_left();
-    laws::two_policies();
-    laws::no_hall();
+    laws::strikes::two_zones();
+    laws::strikes::few_left();
+    laws::strikes::few_left_and_nothing_milder();
+    laws::strikes::one_is_enough();
+    laws::strikes::few_left_and_no_grant_to_empty();
+    laws::strikes::back_and_destroyed();
+    laws::strikes::emptied_is_left();
+    laws::strikes::killed_is_not_left();
+    laws::strikes::two_policies();
+    laws::strikes::no_hall();
 }
 
 #[test]
 fn leave_can_be_called() {
-    laws::protected();
-    laws::given_and_taken();
-    laws::closed_up();
-    laws::one_zone_granted();
-    laws::half_unprotected();
-    laws::protected_from_the_start();
-    laws::full_of_grants();
+    laws::leave::protected();
+    laws::leave::given_and_taken();
+    laws::leave::closed_up();
+    laws::leave::one_zone_granted();
+    laws::leave::half_unprotected();
+    laws::leave::protected_from_the_start();
+    laws::leave::full_of_grants();
 }
 
 #[test]
 fn records_can_be_called() {
-    laws::written_and_synced();
-    laws::forgotten();
-    laws::and_back();
-    laws::acknowledged();
-    laws::spared();
-    laws::three_written();
-    laws::torn();
-    laws::torn_and_back();
-    laws::torn_once();
-    laws::counted_anew();
-    laws::counted_anew_after_sync();
-    laws::emptied_unsynced();
-    laws::weakened_and_torn();
-    laws::restarted();
-    laws::not_synced_while_down();
-    laws::restarted_and_torn();
-    laws::one_word_each();
-    laws::first_acknowledged();
-    laws::written_again();
-    laws::second_team();
+    laws::records::written_and_synced();
+    laws::records::forgotten();
+    laws::records::and_back();
+    laws::records::acknowledged();
+    laws::records::spared();
+    laws::records::three_written();
+    laws::records::torn();
+    laws::records::torn_and_back();
+    laws::records::torn_once();
+    laws::records::counted_anew();
+    laws::records::counted_anew_after_sync();
+    laws::records::emptied_unsynced();
+    laws::records::weakened_and_torn();
+    laws::records::restarted();
+    laws::records::not_synced_while_down();
+    laws::records::restarted_and_torn();
+    laws::records::one_word_each();
+    laws::records::first_acknowledged();
+    laws::records::written_again();
+    laws::records::second_team();
 }
 
 #[test]
 fn messages_can_be_called() {
-    laws::clogged_until();
-    laws::unclogged();
-    laws::longest_clog_holds();
-    laws::clogged_again();
-    laws::clogged_by_zone();
-    laws::word_held_back();
-    laws::word_lost();
-    laws::clogged_to_the_end();
-    laws::lost_and_resent();
-    laws::lost_though_clogged();
-    laws::waited_for();
-    laws::delivered_once();
-    laws::clogged_and_down();
-    laws::word_of_the_gone();
+    laws::messages::clogged_until();
+    laws::messages::unclogged();
+    laws::messages::longest_clog_holds();
+    laws::messages::clogged_again();
+    laws::messages::clogged_by_zone();
+    laws::messages::word_held_back();
+    laws::messages::word_lost();
+    laws::messages::clogged_to_the_end();
+    laws::messages::lost_and_resent();
+    laws::messages::lost_though_clogged();
+    laws::messages::waited_for();
+    laws::messages::delivered_once();
+    laws::messages::clogged_and_down();
+    laws::messages::word_of_the_gone();
 }
 
 #[test]
 fn refusals_can_be_called() {
-    laws::refused_before_anything();
-    laws::refused_of_the_gone();
-    laws::refused_in_order();
-    laws::roles_apart();
-    laws::team_by_policy();
-    laws::no_member_of_acknowledged();
+    laws::refused::refused_before_anything();
+    laws::refused::refused_of_the_gone();
+    laws::refused::nobody_formed();
+    laws::refused::gone_protected();
+    laws::refused::refused_in_order();
+    laws::refused::roles_apart();
+    laws::refused::team_by_policy();
+    laws::refused::no_member_of_acknowledged();
 }
 
 #[test]
 fn wrong_journals_can_be_called() {
-    laws::second_zone_killed();
-    laws::place_left_out();
-    laws::grant_overlooked();
-    laws::protection_named_first();
-    laws::number_left_out();
-    laws::marked_unsynced();
-    laws::word_never_sent();
-    laws::sent_though_acknowledged();
-    laws::too_few_left();
-    laws::two_ticks();
+    laws::wrong::second_zone_killed();
+    laws::wrong::place_left_out();
+    laws::wrong::grant_overlooked();
+    laws::wrong::protection_named_first();
+    laws::wrong::number_left_out();
+    laws::wrong::marked_unsynced();
+    laws::wrong::word_never_sent();
+    laws::wrong::sent_though_acknowledged();
+    laws::wrong::too_few_left();
+    laws::wrong::two_ticks();
 }
 
 #[test]
 fn laws_of_every_journal_can_be_called() {
-    laws::six_is_met();
-    laws::replication_stands();
-    laws::record_stands();
-    laws::least_keeps();
-    laws::six_keep_records();
-    laws::two_zones_alone();
-    laws::verdict_stands();
+    laws::every::six_is_met();
+    laws::every::replication_stands();
+    laws::every::record_stands();
+    laws::every::least_keeps();
+    laws::every::six_keep_records();
+    laws::every::two_zones_alone();
+    laws::every::verdict_stands();
 }
