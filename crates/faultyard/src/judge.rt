@@ -71,8 +71,11 @@ fn unmet(fault: MakeFault) -> Stop
 
 /// The answers to what all lines say.
 fn answers(alloc: Global, input: &Input) -> Result<Vec<u8>, Stop>
-    ensures answered { IfOk result (λ text. (bytes : List ℕ) → IsFaultless bytes input.now → Judges bytes (Ok text.items)) }
-    ensures refused { IfErr result (λ stop. (bytes : List ℕ) → IsFaultless bytes input.now → IfRefusal stop (Judges bytes (Err stop))) }
+    ensures answered { IfOk result
+        (λ text. (bytes : List ℕ) → IsFaultless bytes input.now → Judges bytes (Ok text.items)) }
+    ensures refused { IfErr result
+        (λ stop. (bytes : List ℕ) → IsFaultless bytes input.now →
+        IfRefusal stop (Judges bytes (Err stop))) }
     ensures no_other { IfErr result (λ stop. (stop ≢ Stop.Read) × (stop ≢ Stop.Write)) }
 {
     match DeadBook::make(alloc, input.map(), input.policies()) {
@@ -115,12 +118,23 @@ pub fn run_judge<R: Read, W: Write>(
     reader: &mut R,
     writer: &mut W,
 ) -> Result<bool, Stop>
-    ensures done { IfOk result (λ done. (done ≡ true) × IfSome (R.remaining reader.old) (λ bytes. (text : List ℕ) × Judges bytes (Ok text) × Appends (W.contents writer.old) (W.contents writer.new) text)) }
-    ensures refused { IfErr result (λ stop. IfRefusal stop (IfSome (R.remaining reader.old) (λ bytes. Judges bytes (Err stop)))) }
-    ensures nothing_out { IfErr result (λ stop. stop ≢ Stop.Write → W.contents writer.new ≡ W.contents writer.old) }
-    ensures front_out { result ≡ Err Stop.Write → IfSome (R.remaining reader.old) (λ bytes. (text : List ℕ) × Judges bytes (Ok text) × StopsShort (W.contents writer.old) (W.contents writer.new) text) }
-    ensures read_fault { result ≡ Err Stop.Read → TakesUpTo (R.remaining reader.old) (R.remaining reader.new) most_bytes }
-    ensures no_further { TakesUpTo (R.remaining reader.old) (R.remaining reader.new) (most_bytes + 1) }
+    ensures done { IfOk result
+        (λ done. (done ≡ true) × IfSome (R.remaining reader.old)
+        (λ bytes. (text : List ℕ) × Judges bytes (Ok text)
+        × Appends (W.contents writer.old) (W.contents writer.new) text)) }
+    ensures refused { IfErr result
+        (λ stop. IfRefusal stop (IfSome (R.remaining reader.old)
+        (λ bytes. Judges bytes (Err stop)))) }
+    ensures nothing_out { IfErr result
+        (λ stop. stop ≢ Stop.Write → W.contents writer.new ≡ W.contents writer.old) }
+    ensures front_out { result ≡ Err Stop.Write →
+        IfSome (R.remaining reader.old)
+        (λ bytes. (text : List ℕ) × Judges bytes (Ok text)
+        × StopsShort (W.contents writer.old) (W.contents writer.new) text) }
+    ensures read_fault { result ≡ Err Stop.Read →
+        TakesUpTo (R.remaining reader.old) (R.remaining reader.new) most_bytes }
+    ensures no_further { TakesUpTo (R.remaining reader.old) (R.remaining reader.new)
+        (most_bytes + 1) }
 {
     let bytes = match read_limited(alloc, reader, MOST_BYTES) {
         Ok(bytes) => bytes,

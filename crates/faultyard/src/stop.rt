@@ -87,8 +87,12 @@ fn write_numbered<W: Write>(
     number: u32,
     ending: &str,
 ) -> Result<(), OutputFault>
-    ensures ok { OnOk result (Appends (W.contents writer.old) (W.contents writer.new) (head.now ++ decimal number ++ ending.now)) }
-    ensures err { OnErr result (StopsShort (W.contents writer.old) (W.contents writer.new) (head.now ++ decimal number ++ ending.now)) }
+    ensures ok { OnOk result
+        (Appends (W.contents writer.old) (W.contents writer.new)
+        (head.now ++ decimal number ++ ending.now)) }
+    ensures err { OnErr result
+        (StopsShort (W.contents writer.old) (W.contents writer.new)
+        (head.now ++ decimal number ++ ending.now)) }
 {
     let mut digits = itoa::Buffer::new();
     write_three(writer, head, digits.format(number), ending)
@@ -100,8 +104,12 @@ fn write_three<'a, W: Write>(
     second: &'a str,
     third: &'a str,
 ) -> Result<(), OutputFault>
-    ensures ok { OnOk result (Appends (W.contents writer.old) (W.contents writer.new) (first.now ++ second.now ++ third.now)) }
-    ensures err { OnErr result (StopsShort (W.contents writer.old) (W.contents writer.new) (first.now ++ second.now ++ third.now)) }
+    ensures ok { OnOk result
+        (Appends (W.contents writer.old) (W.contents writer.new)
+        (first.now ++ second.now ++ third.now)) }
+    ensures err { OnErr result
+        (StopsShort (W.contents writer.old) (W.contents writer.new)
+        (first.now ++ second.now ++ third.now)) }
 {
     write_parts(
         writer,
@@ -116,8 +124,10 @@ fn write_three<'a, W: Write>(
 /// `Write` at the first call of `write` that fails or takes no byte; a front of the line is out
 /// then, and never all of it.
 pub fn write_stop<W: Write>(stop: &Stop, writer: &mut W) -> Result<(), Stop>
-    ensures ok { OnOk result (Appends (W.contents writer.old) (W.contents writer.new) (stop_text stop.now)) }
-    ensures err { OnErr result (StopsShort (W.contents writer.old) (W.contents writer.new) (stop_text stop.now)) }
+    ensures ok { OnOk result
+        (Appends (W.contents writer.old) (W.contents writer.new) (stop_text stop.now)) }
+    ensures err { OnErr result
+        (StopsShort (W.contents writer.old) (W.contents writer.new) (stop_text stop.now)) }
     ensures fault { IfErr result (λ fault. fault ≡ Stop.Write) }
 {
     match *stop {

@@ -36,7 +36,8 @@ fn faultyard<'a>(alloc: Global) -> Result<Command<'a>, AllocError>
 /// Those of `clap`, for help too, whose kind is `DisplayHelp`. Want of memory has the kind
 /// `OutOfMemory`.
 pub fn read_task(alloc: Global, words: &[String]) -> Result<Task, clap::Error>
-    ensures task { IfOk result (IsTaskOf (subcommand_of faultyard_command (map string_bytes words.now))) }
+    ensures task { IfOk result
+        (IsTaskOf (subcommand_of faultyard_command (map string_bytes words.now))) }
     ensures refused { FailsBy (fault_of faultyard_command (map string_bytes words.now)) result }
 {
     let matches = faultyard(alloc)?.try_get_matches_from(words)?;

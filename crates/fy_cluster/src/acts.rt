@@ -25,7 +25,8 @@ impl Machine {
         requires lived { IsLived turn.setup turn.before }
         requires room { length journal.old.entries < most_entries }
         ensures answered { Answers turn act result self.new }
-        ensures entered { IfOk result (λ reply. journal.new.entries ≡ (entered by act reply journal.old).entries) }
+        ensures entered { IfOk result
+            (λ reply. journal.new.entries ≡ (entered by act reply journal.old).entries) }
         ensures err { OnErr result (journal.new.entries ≡ journal.old.entries) }
     {
         journal.reserve(1)?;

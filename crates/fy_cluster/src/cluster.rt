@@ -76,7 +76,8 @@ impl Cluster {
     /// In this order: `JournalFull` where the journal has as many entries as it may have; `NoMemory`. The cluster is then
     /// as it was.
     pub fn apply(&mut self, by: u32, act: Act) -> Result<Reply, Fault>
-        ensures full { (self.old.setup.limit ≤ length self.old.journal) ↔ (result ≡ Err JournalFull) }
+        ensures full { (self.old.setup.limit ≤ length self.old.journal)
+            ↔ (result ≡ Err JournalFull) }
         ensures replied { IfOk result (λ reply. reply ≡ replied self.old by act) }
         ensures entered { OnOk result (self.new ≡ entered self.old by act) }
         ensures err { OnErr result (self.new ≡ self.old) }

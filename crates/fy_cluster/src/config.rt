@@ -62,9 +62,11 @@ impl Model for Config {
 
     ghost coded = { Prim.hlevel (codes, tree_code, e.the_row.coded) };
 
-    ghost view = { λ c. setup_of c.map c.policies.items c.roles.items c.grants.items c.protections.items c.journal_limit };
+    ghost view = { λ c. setup_of
+        c.map c.policies.items c.roles.items c.grants.items c.protections.items c.journal_limit };
 
-    ghost invariant = { λ c. IsSetup (setup_of c.map c.policies.items c.roles.items c.grants.items c.protections.items c.journal_limit) };
+    ghost invariant = { λ c. IsSetup (setup_of
+        c.map c.policies.items c.roles.items c.grants.items c.protections.items c.journal_limit) };
 }
 
 // Written out, so that whoever drops a configuration makes one call.
@@ -90,7 +92,8 @@ fn are_of_actors(grants: &[Grant], actors: usize) -> bool
 
 /// Whether each protection is of a process that is there.
 fn are_of_processes(protections: &[Protection], processes: u32) -> bool
-    ensures { result ≡ list_all (λ protection. nat_lt protection.process.0 processes) protections.now }
+    ensures { result ≡ list_all
+        (λ protection. nat_lt protection.process.0 processes) protections.now }
 {
     protections
         .iter()
@@ -106,7 +109,8 @@ fn is_in_range(
     protections: &[Protection],
     journal_limit: u32,
 ) -> bool
-    ensures { result ≡ is_in_range (setup_of map.now policies.now roles.now grants.now protections.now journal_limit) }
+    ensures { result ≡ is_in_range
+        (setup_of map.now policies.now roles.now grants.now protections.now journal_limit) }
 {
     (1..=MOST_POLICIES).contains(&policies.len())
         && (1..=MOST_ACTORS).contains(&roles.len())
@@ -131,9 +135,14 @@ impl Config {
         protections: Vec<Protection>,
         journal_limit: u32,
     ) -> Result<Config, MakeFault>
-        ensures refused { (fault : MakeFault) → config_refusal (setup_of map policies.items roles.items grants.items protections.items journal_limit) ≡ Some fault → result ≡ Err fault }
-        ensures made { config_refusal (setup_of map policies.items roles.items grants.items protections.items journal_limit) ≡ None → IsOk result }
-        ensures value { IfOk result (λ config. config ≡ setup_of map policies.items roles.items grants.items protections.items journal_limit) }
+        ensures refused { (fault : MakeFault) → config_refusal
+            (setup_of map policies.items roles.items grants.items protections.items journal_limit)
+            ≡ Some fault → result ≡ Err fault }
+        ensures made { config_refusal
+            (setup_of map policies.items roles.items grants.items protections.items journal_limit)
+            ≡ None → IsOk result }
+        ensures value { IfOk result (λ config. config ≡ setup_of
+            map policies.items roles.items grants.items protections.items journal_limit) }
     {
         if !is_in_range(
             &map,

@@ -46,7 +46,8 @@ impl Machine {
 
     /// The least member of an acknowledged record's team that isn't destroyed and has the record synced.
     pub(crate) fn keeper(&self, rec: u32) -> Option<ProcId>
-        ensures { (c : Setup) (journal : List Entry) → IsKept c journal self.now → result ≡ keeper c (history c journal) rec }
+        ensures { (c : Setup) (journal : List Entry) → IsKept c journal self.now →
+            result ≡ keeper c (history c journal) rec }
     {
         fy_policy::laws::test_is_satisfaction();
         fy_grants::laws::least_is_first_found();

@@ -49,9 +49,12 @@ pub fn read_limited<R: Read>(
     ensures all { IfOk result (λ bytes. IfSome (R.remaining reader.old) (λ xs. bytes.items ≡ xs)) }
     ensures at_end { OnOk result (IsAtEnd (R.remaining reader.new)) }
     ensures within { IfOk result (λ bytes. vec_len bytes ≤ limit) }
-    ensures too_long { IsErrOf result InputFault.TooLong → IfSome (R.remaining reader.old) (λ xs. limit < length xs) }
-    ensures one_past { IsErrOf result InputFault.TooLong → Takes (R.remaining reader.old) (R.remaining reader.new) (limit + 1) }
-    ensures reader_fault { IsErrOf result InputFault.Reader → TakesUpTo (R.remaining reader.old) (R.remaining reader.new) limit }
+    ensures too_long { IsErrOf result InputFault.TooLong →
+        IfSome (R.remaining reader.old) (λ xs. limit < length xs) }
+    ensures one_past { IsErrOf result InputFault.TooLong →
+        Takes (R.remaining reader.old) (R.remaining reader.new) (limit + 1) }
+    ensures reader_fault { IsErrOf result InputFault.Reader →
+        TakesUpTo (R.remaining reader.old) (R.remaining reader.new) limit }
     ensures no_further { TakesUpTo (R.remaining reader.old) (R.remaining reader.new) (limit + 1) }
 {
     let mut bytes = Vec::new(alloc);

@@ -20,8 +20,10 @@ pub struct OutputFault;
 /// takes no byte. What went out then is a front of the bytes, and never all of them.
 pub fn write_bytes<W: Write>(writer: &mut W, bytes: &[u8]) -> Result<(), OutputFault>
     ensures ok { OnOk result (Appends (W.contents writer.old) (W.contents writer.new) bytes.now) }
-    ensures err { OnErr result (AppendsFront (W.contents writer.old) (W.contents writer.new) bytes.now) }
-    ensures short { OnErr result (StopsShort (W.contents writer.old) (W.contents writer.new) bytes.now) }
+    ensures err { OnErr result
+        (AppendsFront (W.contents writer.old) (W.contents writer.new) bytes.now) }
+    ensures short { OnErr result
+        (StopsShort (W.contents writer.old) (W.contents writer.new) bytes.now) }
 {
     let mut rest = bytes;
     while !rest.is_empty() {
@@ -42,8 +44,12 @@ pub fn write_bytes<W: Write>(writer: &mut W, bytes: &[u8]) -> Result<(), OutputF
 ///
 /// Those of `write_bytes`; what went out is a front of all the parts, and never all of it.
 pub fn write_parts<W: Write>(writer: &mut W, parts: &[&[u8]]) -> Result<(), OutputFault>
-    ensures ok { OnOk result (Appends (W.contents writer.old) (W.contents writer.new) (flat_map (λ part. part.now) parts.now)) }
-    ensures short { OnErr result (StopsShort (W.contents writer.old) (W.contents writer.new) (flat_map (λ part. part.now) parts.now)) }
+    ensures ok { OnOk result
+        (Appends (W.contents writer.old) (W.contents writer.new)
+        (flat_map (λ part. part.now) parts.now)) }
+    ensures short { OnErr result
+        (StopsShort (W.contents writer.old) (W.contents writer.new)
+        (flat_map (λ part. part.now) parts.now)) }
 {
     for part in parts {
         write_bytes(writer, part)?;

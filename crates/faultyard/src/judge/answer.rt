@@ -36,7 +36,9 @@ impl Answer {
 /// The answer to one ask, whose loss is taken down where it is yes.
 fn answer_ask(book: &mut DeadBook, ask: JudgeAsk) -> Answer
     requires { ask.process.0 < 1024 }
-    ensures { (i : Input) (granted : List Ask) → Stands i granted book.old → ask.process.0 < length i.processes → (result ≡ answer_of i granted ask) × Stands i (granted_after granted ask result) book.new }
+    ensures { (i : Input) (granted : List Ask) → Stands i granted book.old →
+        ask.process.0 < length i.processes → (result ≡ answer_of i granted ask)
+        × Stands i (granted_after granted ask result) book.new }
 {
     if !book.left().has(ask.process) {
         return Answer::WasGone;

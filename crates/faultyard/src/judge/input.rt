@@ -50,9 +50,11 @@ impl Model for Input {
 
     ghost coded = { Prim.hlevel (codes, tree_code, l.the_row.coded, a.the_row.coded) };
 
-    ghost view = { λ i. record { policies = i.policies.items; processes = i.map; asks = i.asks.items } };
+    ghost view = { λ i.
+        record { policies = i.policies.items; processes = i.map; asks = i.asks.items } };
 
-    ghost invariant = { λ i. IsInput (record { policies = i.policies.items; processes = i.map; asks = i.asks.items }) };
+    ghost invariant = { λ i. IsInput
+        (record { policies = i.policies.items; processes = i.map; asks = i.asks.items }) };
 }
 
 // Written out, so that whoever drops an input makes one call.
@@ -104,7 +106,8 @@ impl Input {
     /// Takes the next line.
     pub fn take_line(&mut self, alloc: Global, line: &[u8]) -> Result<(), LineFault>
         ensures taken { OnOk result (Step self.old (said_of line.now) (Ok self.new)) }
-        ensures refused { IfErr result (λ e. IfFault e (λ fault. Step self.old (said_of line.now) (Err fault))) }
+        ensures refused { IfErr result
+            (λ e. IfFault e (λ fault. Step self.old (said_of line.now) (Err fault))) }
     {
         let (word, rest) = first_word(line);
         let Some(rest) = rest else {
@@ -129,7 +132,8 @@ impl Input {
 
     fn take_policy(&mut self, alloc: Global, text: &str) -> Result<(), LineFault>
         ensures taken { OnOk result (Step self.old (Some (policy text.now)) (Ok self.new)) }
-        ensures refused { IfErr result (λ e. IfFault e (λ fault. Step self.old (Some (policy text.now)) (Err fault))) }
+        ensures refused { IfErr result
+            (λ e. IfFault e (λ fault. Step self.old (Some (policy text.now)) (Err fault))) }
     {
         if !self.map.is_empty() {
             return Err(LineFault::Fault(JudgeFault::Syntax));
@@ -147,7 +151,8 @@ impl Input {
 
     fn take_process(&mut self, locality: Locality) -> Result<(), LineFault>
         ensures taken { OnOk result (Step self.old (Some (process locality)) (Ok self.new)) }
-        ensures refused { IfErr result (λ e. IfFault e (λ fault. Step self.old (Some (process locality)) (Err fault))) }
+        ensures refused { IfErr result
+            (λ e. IfFault e (λ fault. Step self.old (Some (process locality)) (Err fault))) }
     {
         if self.policies.is_empty() {
             return Err(LineFault::Fault(JudgeFault::Syntax));
@@ -163,7 +168,8 @@ impl Input {
 
     fn take_ask(&mut self, loss: Loss, id: Name) -> Result<(), LineFault>
         ensures taken { OnOk result (Step self.old (Some (ask loss id)) (Ok self.new)) }
-        ensures refused { IfErr result (λ e. IfFault e (λ fault. Step self.old (Some (ask loss id)) (Err fault))) }
+        ensures refused { IfErr result
+            (λ e. IfFault e (λ fault. Step self.old (Some (ask loss id)) (Err fault))) }
     {
         if self.map.is_empty() {
             return Err(LineFault::Fault(JudgeFault::Syntax));

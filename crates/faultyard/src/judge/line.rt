@@ -43,7 +43,8 @@ fn until_blank(line: &[u8]) -> Option<(&[u8], &[u8])>
 /// The first word and those behind it, where there are some.
 #[tactic(auto, using(crate::proofs::WordLemmas::words_of_split, crate::proofs::WordLemmas::words_of_lone))]
 pub fn first_word(line: &[u8]) -> (&[u8], Option<&[u8]>)
-    ensures { MatchOption result.1 (words_of line.now ≡ result.0.now ∷ []) (λ rest. words_of line.now ≡ result.0.now ∷ words_of rest.now) }
+    ensures { MatchOption result.1 (words_of line.now ≡ result.0.now ∷ [])
+        (λ rest. words_of line.now ≡ result.0.now ∷ words_of rest.now) }
 {
     match until_blank(line) {
         Some((word, rest)) => (word, Some(rest)),
@@ -64,7 +65,8 @@ fn only_word(line: &[u8]) -> Option<&[u8]>
 
 /// The only five words.
 fn five_words(line: &[u8]) -> Option<(&[u8], &[u8], &[u8], &[u8], &[u8])>
-    ensures some { IfSome result (λ w. words_of line.now ≡ w.0.now ∷ w.1.now ∷ w.2.now ∷ w.3.now ∷ w.4.now ∷ []) }
+    ensures some { IfSome result
+        (λ w. words_of line.now ≡ w.0.now ∷ w.1.now ∷ w.2.now ∷ w.3.now ∷ w.4.now ∷ []) }
     ensures none { IfNone result (length (words_of line.now) ≡ 5 → ⊥) }
 {
     let (first, Some(rest)) = first_word(line) else {
@@ -138,8 +140,11 @@ fn located(
     hall: &[u8],
     center: &[u8],
 ) -> Result<Locality, BadName>
-    ensures accepted { IsOk result ↔ IsTrue (are_names (locality_of id.now machine.now zone.now (known hall.now) (known center.now))) }
-    ensures value { IfOk result (λ l. l ≡ locality_of id.now machine.now zone.now (known hall.now) (known center.now)) }
+    ensures accepted { IsOk result
+        ↔ IsTrue
+        (are_names (locality_of id.now machine.now zone.now (known hall.now) (known center.now))) }
+    ensures value { IfOk result
+        (λ l. l ≡ locality_of id.now machine.now zone.now (known hall.now) (known center.now)) }
 {
     Ok(Locality {
         process: Name::from_bytes(id)?,
@@ -152,7 +157,8 @@ fn located(
 
 /// The text of a policy, where the words are one that may be a text.
 pub fn policy_text(rest: &[u8]) -> Option<&str>
-    ensures { option_map (λ text. policy text.now) result ≡ said_by (Some Keyword.Policy) (words_of rest.now) }
+    ensures { option_map (λ text. policy text.now) result
+        ≡ said_by (Some Keyword.Policy) (words_of rest.now) }
 {
     let Some(word) = only_word(rest) else {
         return None;
@@ -182,7 +188,8 @@ pub fn process_of(rest: &[u8]) -> Option<Locality>
 
 /// The ID of an ask, where the words are one name.
 pub fn asked_id(rest: &[u8]) -> Option<Name>
-    ensures { (loss : Loss) → option_map (ask loss) result ≡ said_by (Some (Keyword.Ask loss)) (words_of rest.now) }
+    ensures { (loss : Loss) → option_map (ask loss) result
+        ≡ said_by (Some (Keyword.Ask loss)) (words_of rest.now) }
 {
     let Some(id) = only_word(rest) else {
         return None;

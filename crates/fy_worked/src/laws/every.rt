@@ -26,7 +26,8 @@ pub fn six_is_met()
 /// After a legal journal the destroyed are short of the policy, and those left satisfy it.
 #[tactic(auto, using(crate::proofs::FromLaws::short_after, crate::proofs::FromLaws::satisfied_after))]
 pub fn replication_stands()
-    ensures short { AreShort six.processes six.policies (destroyed (history six written_and_synced)) }
+    ensures short { AreShort six.processes six.policies
+        (destroyed (history six written_and_synced)) }
     ensures satisfied { AreSatisfied six.processes six.policies (left six (history six two_zones)) }
 {
     six_is_met();
@@ -43,14 +44,17 @@ pub fn record_stands()
 
 /// The keeper of an acknowledged record is the least member that keeps it.
 pub fn least_keeps()
-    ensures { LeastWith (is_among (team_of (history six first_acknowledged) 0)) (keeps (history six first_acknowledged) 0) (Some (process 0)) }
+    ensures { LeastWith (is_among (team_of (history six first_acknowledged) 0))
+        (keeps (history six first_acknowledged) 0) (Some (process 0)) }
 {}
 
 /// Whatever legal journal the six have, every acknowledged record is kept, and has a keeper.
 #[tactic(auto, using(crate::proofs::FromLaws::six_keep, crate::proofs::FromLaws::six_have_keepers))]
 pub fn six_keep_records()
-    ensures kept { (journal : List Entry) → Legal six journal → (r : ℕ) → IsTrue (acked (history six journal) r) → Kept (history six journal) r }
-    ensures keepers { (journal : List Entry) → Legal six journal → (r : ℕ) → is_some (keeper six (history six journal) r) ≡ acked (history six journal) r }
+    ensures kept { (journal : List Entry) → Legal six journal → (r : ℕ) →
+        IsTrue (acked (history six journal) r) → Kept (history six journal) r }
+    ensures keepers { (journal : List Entry) → Legal six journal → (r : ℕ) →
+        is_some (keeper six (history six journal) r) ≡ acked (history six journal) r }
 {
     six_is_met();
     fy_cluster::laws::records_kept();
@@ -60,7 +64,8 @@ pub fn six_keep_records()
 /// No other legal journal has the acts of the two kills.
 #[tactic(auto, using(crate::proofs::FromLaws::two_zones_alone))]
 pub fn two_zones_alone()
-    ensures { (journal : List Entry) → Legal six journal → map by_and_act journal ≡ map by_and_act two_zones → journal ≡ two_zones }
+    ensures { (journal : List Entry) → Legal six journal →
+        map by_and_act journal ≡ map by_and_act two_zones → journal ≡ two_zones }
 {
     strikes::two_zones();
     fy_cluster::laws::same_acts_same_journal();
@@ -69,7 +74,8 @@ pub fn two_zones_alone()
 /// What stands in a legal journal beside a kill is the verdict on it.
 #[tactic(auto, using(crate::proofs::FromLaws::verdict_stands))]
 pub fn verdict_stands()
-    ensures { verdict (situation six (history six one_zone) 1) second_kill ≡ record { struck = Some Reboot; rule = Some (TooManyDestroyed 0) } }
+    ensures { verdict (situation six (history six one_zone) 1) second_kill
+        ≡ record { struck = Some Reboot; rule = Some (TooManyDestroyed 0) } }
 {
     strikes::two_zones();
     fy_cluster::laws::kills_judged();

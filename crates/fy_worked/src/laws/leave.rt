@@ -20,14 +20,16 @@ pub fn protected()
 pub fn given_and_taken()
     ensures legal { Legal six given_and_taken }
     ensures grants { grants six (history six given_and_taken) 3 ≡ [] }
-    ensures protected { members (λ p. is_protected six (history six given_and_taken) p (Striking Reboot)) ≡ [] }
+    ensures protected { members (λ p. is_protected six (history six given_and_taken) p
+        (Striking Reboot)) ≡ [] }
 {}
 
 /// A Take takes the grant at its place, and the later ones move up.
 pub fn closed_up()
     ensures legal { Legal six closed_up }
     ensures grants { grants six (history six closed_up) 3 ≡ leave rebooting All ∷ [] }
-    ensures others { grants six (history six closed_up) 2 ≡ record { actor = 2; kinds = kill_and_reboot; scope = All } ∷ [] }
+    ensures others { grants six (history six closed_up) 2
+        ≡ record { actor = 2; kinds = kill_and_reboot; scope = All } ∷ [] }
     ensures clogged { members (clogged (history six closed_up)) ≡ [] }
 {}
 
@@ -40,18 +42,22 @@ pub fn one_zone_granted()
 /// An Unprotect ends the protection from its own kinds alone.
 pub fn half_unprotected()
     ensures legal { Legal six half_unprotected }
-    ensures ended { members (λ p. is_protected six (history six half_unprotected) p (Striking KillInstantly)) ≡ [] }
-    ensures stays { members (λ p. is_protected six (history six half_unprotected) p (Striking RebootAndDelete)) ≡ 1 ∷ [] }
+    ensures ended { members (λ p. is_protected six (history six half_unprotected) p
+        (Striking KillInstantly)) ≡ [] }
+    ensures stays { members (λ p. is_protected six (history six half_unprotected) p
+        (Striking RebootAndDelete)) ≡ 1 ∷ [] }
 {}
 
 /// Of several first protections of a process each counts, and an Unprotect takes its kinds out of all of them.
 pub fn protected_from_the_start()
     ensures legal { Legal guarded protected_from_the_start }
-    ensures stays { members (λ p. is_protected guarded (history guarded protected_from_the_start) p (Striking RebootAndDelete)) ≡ 1 ∷ [] }
+    ensures stays { members (λ p. is_protected guarded (history guarded protected_from_the_start) p
+        (Striking RebootAndDelete)) ≡ 1 ∷ [] }
 {}
 
 /// There are at most 4096 grants.
 pub fn full_of_grants()
     ensures legal { Legal (granted 4095) full_of_grants }
-    ensures number { length (grants (granted 4095) (history (granted 4095) full_of_grants) 3) ≡ 4096 }
+    ensures number { length (grants (granted 4095) (history (granted 4095) full_of_grants) 3)
+        ≡ 4096 }
 {}

@@ -52,7 +52,8 @@ pub fn spared()
 /// What was delivered is unsynced, in order of writing.
 pub fn three_written()
     ensures legal { Legal six three_written }
-    ensures unsynced { unsynced (history six three_written) 0 ≡ item 0 (10 ∷ []) ∷ item 1 (11 ∷ []) ∷ item 2 (12 ∷ []) ∷ [] }
+    ensures unsynced { unsynced (history six three_written) 0
+        ≡ item 0 (10 ∷ []) ∷ item 1 (11 ∷ []) ∷ item 2 (12 ∷ []) ∷ [] }
     ensures synced { synced (history six three_written) 0 ≡ [] }
 {}
 
@@ -66,7 +67,8 @@ pub fn torn()
 /// What a reboot kept needs no sync: no word is sent of it.
 pub fn torn_and_back()
     ensures legal { Legal six torn_and_back }
-    ensures synced { synced (history six torn_and_back) 0 ≡ item 0 (10 ∷ []) ∷ item 2 (12 ∷ []) ∷ [] }
+    ensures synced { synced (history six torn_and_back) 0
+        ≡ item 0 (10 ∷ []) ∷ item 2 (12 ∷ []) ∷ [] }
     ensures in_flight { members (in_flight (history six torn_and_back)) ≡ 1 ∷ 3 ∷ 5 ∷ [] }
 {}
 
@@ -79,13 +81,15 @@ pub fn torn_once()
 /// The places of unsynced writes count from the last reboot.
 pub fn counted_anew()
     ensures legal { Legal six counted_anew }
-    ensures synced { synced (history six counted_anew) 0 ≡ item 0 (10 ∷ []) ∷ item 2 (12 ∷ []) ∷ item 1 (11 ∷ []) ∷ [] }
+    ensures synced { synced (history six counted_anew) 0
+        ≡ item 0 (10 ∷ []) ∷ item 2 (12 ∷ []) ∷ item 1 (11 ∷ []) ∷ [] }
 {}
 
 /// They count from the last sync, too.
 pub fn counted_anew_after_sync()
     ensures legal { Legal six counted_anew_after_sync }
-    ensures synced { synced (history six counted_anew_after_sync) 0 ≡ item 0 (10 ∷ []) ∷ item 1 (11 ∷ []) ∷ item 2 (12 ∷ []) ∷ item 1 (11 ∷ []) ∷ [] }
+    ensures synced { synced (history six counted_anew_after_sync) 0
+        ≡ item 0 (10 ∷ []) ∷ item 1 (11 ∷ []) ∷ item 2 (12 ∷ []) ∷ item 1 (11 ∷ []) ∷ [] }
 {}
 
 /// An emptied disk keeps nothing, whatever the bits say.
@@ -104,7 +108,8 @@ pub fn weakened_and_torn()
 /// A restart of the process leaves its unsynced writes unsynced.
 pub fn restarted()
     ensures legal { Legal six restarted }
-    ensures unsynced { unsynced (history six restarted) 0 ≡ item 0 (10 ∷ []) ∷ item 1 (11 ∷ []) ∷ [] }
+    ensures unsynced { unsynced (history six restarted) 0
+        ≡ item 0 (10 ∷ []) ∷ item 1 (11 ∷ []) ∷ [] }
     ensures synced { synced (history six restarted) 0 ≡ [] }
     ensures up { members (up (history six restarted)) ≡ 1 ∷ 2 ∷ 3 ∷ 4 ∷ 5 ∷ [] }
 {}
@@ -112,13 +117,15 @@ pub fn restarted()
 /// A process that is down syncs nothing.
 pub fn not_synced_while_down()
     ensures legal { Legal six not_synced_while_down }
-    ensures unsynced { unsynced (history six not_synced_while_down) 0 ≡ item 0 (10 ∷ []) ∷ item 1 (11 ∷ []) ∷ [] }
+    ensures unsynced { unsynced (history six not_synced_while_down) 0
+        ≡ item 0 (10 ∷ []) ∷ item 1 (11 ∷ []) ∷ [] }
 {}
 
 /// A restart of the process leaves the places of its unsynced writes.
 pub fn restarted_and_torn()
     ensures legal { Legal six restarted_and_torn }
-    ensures synced { synced (history six restarted_and_torn) 0 ≡ item 1 (11 ∷ []) ∷ item 2 (12 ∷ []) ∷ [] }
+    ensures synced { synced (history six restarted_and_torn) 0
+        ≡ item 1 (11 ∷ []) ∷ item 2 (12 ∷ []) ∷ [] }
 {}
 
 /// A word counts for its own record and its own sender: with one word of each of two records, neither is acknowledged.
@@ -151,6 +158,8 @@ pub fn written_again()
 /// A record is sent to the members of its own team, in their order.
 pub fn second_team()
     ensures legal { Legal six second_team }
-    ensures sent { sent (history six second_team) ≡ Store 0 (process 1) ∷ Store 0 (process 3) ∷ Store 0 (process 4) ∷ Store 1 (process 0) ∷ Store 1 (process 2) ∷ [] }
+    ensures sent { sent (history six second_team)
+        ≡ Store 0 (process 1) ∷ Store 0 (process 3) ∷ Store 0 (process 4) ∷ Store 1 (process 0)
+        ∷ Store 1 (process 2) ∷ [] }
     ensures team { team_of (history six second_team) 0 ≡ process 1 ∷ process 3 ∷ process 4 ∷ [] }
 {}

@@ -23,7 +23,8 @@ pub fn refused_of_the_gone()
     ensures legal { Legal six refused_of_the_gone }
     ensures gone { members (gone (history six refused_of_the_gone)) ≡ 0 ∷ [] }
     ensures up { members (up (history six refused_of_the_gone)) ≡ 1 ∷ 2 ∷ 3 ∷ 4 ∷ 5 ∷ [] }
-    ensures teams { teams (history six refused_of_the_gone) ≡ record { members = process 1 ∷ process 2 ∷ []; policy = 0 } ∷ [] }
+    ensures teams { teams (history six refused_of_the_gone)
+        ≡ record { members = process 1 ∷ process 2 ∷ []; policy = 0 } ∷ [] }
 {}
 
 /// Nobody makes no team.
@@ -36,9 +37,8 @@ pub fn nobody_formed()
 pub fn gone_protected()
     ensures legal { Legal six gone_protected }
     ensures gone { members (gone (history six gone_protected)) ≡ 0 ∷ [] }
-    ensures protected {
-        members (λ p. is_protected six (history six gone_protected) p (Striking Reboot)) ≡ 0 ∷ []
-    }
+    ensures protected { members (λ p. is_protected six (history six gone_protected) p
+        (Striking Reboot)) ≡ 0 ∷ [] }
 {}
 
 /// Of several reasons to refuse the first is named. A payload has at most 256 bytes.
@@ -51,7 +51,8 @@ pub fn refused_in_order()
 pub fn roles_apart()
     ensures legal { Legal six roles_apart }
     ensures now { now (history six roles_apart) ≡ 0 }
-    ensures protected { members (λ p. is_protected six (history six roles_apart) p (Striking Reboot)) ≡ 1 ∷ [] }
+    ensures protected { members (λ p. is_protected six (history six roles_apart) p
+        (Striking Reboot)) ≡ 1 ∷ [] }
     ensures not_given { grants six (history six roles_apart) 0 ≡ [] }
     ensures not_taken { length (grants six (history six roles_apart) 1) ≡ 1 }
 {}
@@ -59,7 +60,8 @@ pub fn roles_apart()
 /// A team has to meet the policy that it names, and no other.
 pub fn team_by_policy()
     ensures legal { Legal three_and_two team_by_policy }
-    ensures teams { map (λ team. team.policy) (teams (history three_and_two team_by_policy)) ≡ 1 ∷ 0 ∷ [] }
+    ensures teams { map (λ team. team.policy) (teams (history three_and_two team_by_policy))
+        ≡ 1 ∷ 0 ∷ [] }
 {}
 
 /// That a process is no member is said before that the record is acknowledged.
