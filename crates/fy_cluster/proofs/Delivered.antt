@@ -21,7 +21,7 @@ use Rattle.fy_audit.specs.declared.reply.Reply.TheVariants.{Stored, Marked, No}
 use Rattle.fy_audit.specs.declared.reply.Refusal.TheVariants.{NoMessage, Clogged, NotUp}
 use Rattle.fy_cluster.specs.declared.machine.Machine.{Machine}
 use Rattle.fy_cluster.specs.Setup.{Setup}
-use Rattle.fy_cluster.specs.History.{History, Moment, Begun, some_is, sent, in_flight, now, clogged, up, writes, store_to, word_of, marks, marked, teams, records, team_of, payload_of, synced, unsynced}
+use Rattle.fy_cluster.specs.History.{History, Moment, BegunRecord, some_is, sent, in_flight, now, clogged, up, writes, store_to, word_of, marks, marked, teams, records, team_of, payload_of, synced, unsynced}
 use Rattle.fy_cluster.specs.Replies.{refused, refusals, answer, on_delivery, is_down_store, is_acked_with}
 use Rattle.fy_cluster.specs.Standing.{Stands, Turn, Follows, moment_of, KeepsNet, KeepsTeams, stored, blank_disk, begun_of, IsLived}
 use Rattle.fy_cluster.proofs.Still.{dead_still, up_still, disks_still, teams_still, rights_still, stored_still}
@@ -79,7 +79,7 @@ payload_is h roster k rec x e = at (slice_get roster.records rec) refl e
   where
     at : (o : Option Record) → slice_get roster.records rec ≡ o → Some x ≡ option_map (λ (it : Record). it.payload) o → x ≡ payload_of h rec
     at None s e = absurd (some_not_none x e)
-    at (Some it) s e = some_is_same x it.payload e ∙ sym (ap (λ (o : Option Begun). option_map_or (λ b. b.payload) o []) (record_is h roster k rec ∙ ap (option_map begun_of) s))
+    at (Some it) s e = some_is_same x it.payload e ∙ sym (ap (λ (o : Option BegunRecord). option_map_or (λ b. b.payload) o []) (record_is h roster k rec ∙ ap (option_map begun_of) s))
 
 pub payload_there : Tested → (turn : Turn) (n rec : ℕ) (to : ProcId) (m : Machine) → Stands turn.setup turn.before m → IsLived turn.setup turn.before → body_of m.net.in_flight n ≡ Some (Store rec to) → None ≡ option_map (λ (it : Record). it.payload) (slice_get m.teams.records rec) → ⊥
 payload_there tested turn n rec to m k l e none = at (slice_get m.teams.records rec) refl none
@@ -167,7 +167,7 @@ stores turn n rec to machine disk payload after k e there x u held was e1 e2 e3 
 
 -- ---- a word
 
-pub acked_same : (h : History) (roster : Roster) → KeepsTeams h roster → (rec : ℕ) → Known h rec → ((b : Begun) → slice_get (records h) rec ≡ Some b → (t : Team) × (slice_get (teams h) b.team ≡ Some t))
+pub acked_same : (h : History) (roster : Roster) → KeepsTeams h roster → (rec : ℕ) → Known h rec → ((b : BegunRecord) → slice_get (records h) rec ≡ Some b → (t : Team) × (slice_get (teams h) b.team ≡ Some t))
     → is_acked roster rec ≡ list_all (λ q. marked h rec q.0) (team_of h rec)
 acked_same h roster k rec b joined = at (slice_get roster.records rec) refl
   where
@@ -185,7 +185,7 @@ acked_same h roster k rec b joined = at (slice_get roster.records rec) refl
     at None s = absurd (some_not_none b.0 (sym b.1 ∙ record_is h roster k rec ∙ ap (option_map begun_of) s))
     at (Some it) s =
         let same : b.0 ≡ begun_of it = some_is_same b.0 (begun_of it) (sym b.1 ∙ record_is h roster k rec ∙ ap (option_map begun_of) s) in
-        let there : slice_get roster.teams it.team ≡ Some t.0 = ap (λ ts. slice_get ts it.team) k.teams ∙ ap (λ (b : Begun). slice_get (teams h) b.team) (sym same) ∙ t.1 in
+        let there : slice_get roster.teams it.team ≡ Some t.0 = ap (λ ts. slice_get ts it.team) k.teams ∙ ap (λ (b : BegunRecord). slice_get (teams h) b.team) (sym same) ∙ t.1 in
         rw (s, there, team) (each_same it s t.0.members)
 
 pub rec_there : Tested → (turn : Turn) (n rec : ℕ) (from : ProcId) (m : Machine) → Stands turn.setup turn.before m → IsLived turn.setup turn.before → body_of m.net.in_flight n ≡ Some (Synced rec from) → rec < length m.teams.records
@@ -271,7 +271,7 @@ marks_now tested same_teams more turn n rec from machine done net roster k l e t
     begun = slice_get-each (λ b. Known h (record_of b)) (sent h) n (Synced rec from) sound.sent_known f.1
 
     team_same : team_of (m ∷ h) rec ≡ team_of h rec
-    team_same = ap₂ (λ rs ts. option_map_or (λ (b : Begun). option_map_or (λ (t : Team). t.members) (slice_get ts b.team) []) (slice_get rs rec) []) (append-nil (records h)) (append-nil (teams h))
+    team_same = ap₂ (λ rs ts. option_map_or (λ (b : BegunRecord). option_map_or (λ (t : Team). t.members) (slice_get ts b.team) []) (slice_get rs rec) []) (append-nil (records h)) (append-nil (teams h))
 
     acked_is : done ≡ is_acked_with h rec from.0
     acked_is =

@@ -19,7 +19,7 @@ use Rattle.fy_audit.specs.declared.act.Act.TheVariants.{Form, Begin, Deliver, Lo
 use Rattle.fy_audit.specs.declared.reply.Reply.{Reply}
 use Rattle.fy_audit.specs.declared.entry.Entry.{Entry}
 use Rattle.fy_cluster.specs.Setup.{Setup}
-use Rattle.fy_cluster.specs.History.{History, Moment, Begun, moment, message_of, sends_of, is_accepted, if_accepted, some_is, forms, begins, delivers, destroys, destroyed, is_stored, store_to, writes, written, is_open, place, teams, records, members_of, team_of, payload_of, synced, unsynced, sent, in_flight, takes_out, word_of, marks, marked, acked}
+use Rattle.fy_cluster.specs.History.{History, Moment, BegunRecord, moment, message_of, sends_of, is_accepted, if_accepted, some_is, forms, begins, delivers, destroys, destroyed, is_stored, store_to, writes, written, is_open, place, teams, records, members_of, team_of, payload_of, synced, unsynced, sent, in_flight, takes_out, word_of, marks, marked, acked}
 use Rattle.fy_cluster.specs.Replies.{meets, no_process, refusals, reasons, IsNext}
 use Rattle.fy_cluster.proofs.Strikes.{accepted}
 use Rattle.fy_cluster.proofs.Disks.{synced_still, synced_by}
@@ -76,7 +76,7 @@ each_option P (Some x) w = (w x refl, tt)
 
 -- the record was begun
 abbrev pub Known : History → ℕ → Type 0
-Known h r = (b : Begun) × (slice_get (records h) r ≡ Some b)
+Known h r = (b : BegunRecord) × (slice_get (records h) r ≡ Some b)
 
 abbrev pub record_of : Body → ℕ
 record_of (Store r p) = r
@@ -84,7 +84,7 @@ record_of (Synced r p) = r
 
 -- an item is of a record that was begun, with its payload
 abbrev ItemGood : History → Item → Type 0
-ItemGood h x = (b : Begun) × (slice_get (records h) x.rec ≡ Some b) × (x.payload ≡ b.payload)
+ItemGood h x = (b : BegunRecord) × (slice_get (records h) x.rec ≡ Some b) × (x.payload ≡ b.payload)
 
 abbrev WritesKnown : History → Type 0
 WritesKnown [] = Unit {0}
@@ -92,7 +92,7 @@ WritesKnown (m ∷ h) = ((p r : ℕ) → writes m p ≡ Some r → Known h r) ×
 
 -- the process has the record synced, with the payload with which it was begun
 abbrev pub Held : History → ℕ → ℕ → Type 0
-Held h r p = (b : Begun) × (slice_get (records h) r ≡ Some b) × Contains (synced h p) (record { rec = r; payload = b.payload })
+Held h r p = (b : BegunRecord) × (slice_get (records h) r ≡ Some b) × Contains (synced h p) (record { rec = r; payload = b.payload })
 
 -- it does, or it is destroyed
 abbrev pub HasCopy : History → ℕ → ℕ → Type 0
@@ -112,7 +112,7 @@ pub record Sound (c : Setup) (h : History) : Type 0 where
 
 -- ---- one entry more
 
-records_still : (m : Moment) (h : History) (r : ℕ) (b : Begun) → slice_get (records h) r ≡ Some b → slice_get (records (m ∷ h)) r ≡ Some b
+records_still : (m : Moment) (h : History) (r : ℕ) (b : BegunRecord) → slice_get (records h) r ≡ Some b → slice_get (records (m ∷ h)) r ≡ Some b
 records_still m h r b e = slice_get-append (records h) (option_to_list (begins m.entry.act m.entry.reply)) r b e
 
 teams_still : (m : Moment) (h : History) (n : ℕ) (t : Team) → slice_get (teams h) n ≡ Some t → slice_get (teams (m ∷ h)) n ≡ Some t
@@ -149,8 +149,8 @@ forms_is : (act : Act) (r : Reply) (t : Team) → forms act r ≡ Some t → (ac
 forms_is (Form members policy) r t e = let v = accepted_value r (record { members = members; policy = policy }) t e in (ap (λ (x : Team). Form x.members x.policy) v.1, v.0)
 forms_is _ r t e = absurd (cc)
 
-begins_is : (act : Act) (r : Reply) (b : Begun) → begins act r ≡ Some b → (act ≡ Begin b.team b.payload) × (is_accepted r ≡ true)
-begins_is (Begin team payload) r b e = let v = accepted_value r (record { team = team; payload = payload }) b e in (ap (λ (x : Begun). Begin x.team x.payload) v.1, v.0)
+begins_is : (act : Act) (r : Reply) (b : BegunRecord) → begins act r ≡ Some b → (act ≡ Begin b.team b.payload) × (is_accepted r ≡ true)
+begins_is (Begin team payload) r b e = let v = accepted_value r (record { team = team; payload = payload }) b e in (ap (λ (x : BegunRecord). Begin x.team x.payload) v.1, v.0)
 begins_is _ r b e = absurd (cc)
 
 delivers_is : (act : Act) (r : Reply) → is_some (delivers act r) ≡ true → (n : ℕ) × (act ≡ Deliver n) × (is_accepted r ≡ true)
@@ -189,7 +189,7 @@ form_met tested c h e next t f =
     formed_by tested c t (all_there c t.members at_form.1.1.0) (not-false _ at_form.1.1.1.1.0)
 
 -- a record is begun only of a team that is there
-begin_joined : (c : Setup) (h : History) (e : Entry) → IsNext c h e → (b : Begun) → begins e.act e.reply ≡ Some b → (t : Team) × (slice_get (teams h) b.team ≡ Some t)
+begin_joined : (c : Setup) (h : History) (e : Entry) → IsNext c h e → (b : BegunRecord) → begins e.act e.reply ≡ Some b → (t : Team) × (slice_get (teams h) b.team ≡ Some t)
 unfolding refusals
 begin_joined c h e next b f =
     let is = begins_is e.act e.reply b f in
@@ -237,7 +237,7 @@ write_known c h e a p r w = at (is_some (delivers e.act e.reply) && is_stored e.
     at true s = let found = and_then_some (store_to p) (message_of h e.act) r s in store_known h p r found.0 (message_good (λ b. Known h (record_of b)) h e.act found.0 a found.1) found.2
     at false s = absurd (cc)
 
-pub payload_known : (h : History) (r : ℕ) (b : Begun) → slice_get (records h) r ≡ Some b → payload_of h r ≡ b.payload
+pub payload_known : (h : History) (r : ℕ) (b : BegunRecord) → slice_get (records h) r ≡ Some b → payload_of h r ≡ b.payload
 payload_known h r b e = rw e refl
 
 own_good : (h : History) (b : Bool) (o : Option ℕ) (x : Item) → ((r : ℕ) → o ≡ Some r → Known h r) → Contains (option_to_list (if b then option_map (λ rec. record { rec = rec; payload = payload_of h rec }) o else None)) x → ItemGood h x
@@ -353,7 +353,7 @@ marked_copy c h e next sound r p was s = copy_still (moment c h e) h r p (elim (
 pub acked_known : (h : History) (r : ℕ) → acked h r ≡ true → Known h r
 acked_known h r a = slice_get-some (records h) r (ltb-true r (length (records h)) (and_parts (nat_lt r (length (records h))) _ a).0)
 
-pub team_known : (h : History) (r : ℕ) (b : Begun) (t : Team) → slice_get (records h) r ≡ Some b → slice_get (teams h) b.team ≡ Some t → team_of h r ≡ t.members
+pub team_known : (h : History) (r : ℕ) (b : BegunRecord) (t : Team) → slice_get (records h) r ≡ Some b → slice_get (teams h) b.team ≡ Some t → team_of h r ≡ t.members
 team_known h r b t e f = rw (e, f) refl
 
 -- the team of a record stays as it is
@@ -396,7 +396,7 @@ by_ack_next c h e next sound r p a i = at (acked h r) refl
 pub sound_next : Tested → (c : Setup) (h : History) (e : Entry) → IsNext c h e → Sound c h → Sound c (moment c h e ∷ h)
 sound_next tested c h e next sound =
     let m : Moment = moment c h e in
-    let joined_still : (b : Begun) → (t : Team) × (slice_get (teams h) b.team ≡ Some t) → (t : Team) × (slice_get (teams (m ∷ h)) b.team ≡ Some t) =
+    let joined_still : (b : BegunRecord) → (t : Team) × (slice_get (teams h) b.team ≡ Some t) → (t : Team) × (slice_get (teams (m ∷ h)) b.team ≡ Some t) =
     λ b k. (k.0, teams_still m h b.team k.0 k.1) in
     record {
       sent_known = each-append (λ b. Known (m ∷ h) (record_of b)) (sent h) m.sends (each-weaker (λ b. Known h (record_of b)) (λ b. Known (m ∷ h) (record_of b)) (λ b k. known_still m h (record_of b) k) (sent h) sound.sent_known)

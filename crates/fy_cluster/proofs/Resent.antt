@@ -14,7 +14,7 @@ use Rattle.fy_audit.specs.declared.reply.Reply.TheVariants.{Sent, No}
 use Rattle.fy_audit.specs.declared.reply.Refusal.TheVariants.{NoRecord, NotMember, Acked, NetFull}
 use Rattle.fy_cluster.specs.declared.machine.Machine.{Machine}
 use Rattle.fy_cluster.specs.Setup.{Setup}
-use Rattle.fy_cluster.specs.History.{History, Moment, Begun, sent, teams, records, team_of, acked, marked}
+use Rattle.fy_cluster.specs.History.{History, Moment, BegunRecord, sent, teams, records, team_of, acked, marked}
 use Rattle.fy_cluster.specs.Replies.{refused, refusals, answer, is_full}
 use Rattle.fy_cluster.specs.Standing.{Stands, Turn, Follows, Comes, moment_of, KeepsTeams, begun_of, IsLived}
 use Rattle.fy_cluster.proofs.Still.{dead_still, up_still, disks_still, teams_still, rights_still}
@@ -26,7 +26,7 @@ use Rattle.fy_cluster.proofs.Records.{Tested, Sound, slice_get-each, slice_get-s
 use Rattle.fy_cluster.proofs.Delivered.{sound_of, record_is, acked_same}
 use Rattle.fy_cluster.proofs.Keepers.{among_is}
 use Rattle.fy_audit.specs.declared.act.Act.TheVariants.{Begin}
-use Rattle.fy_audit.specs.declared.reply.Reply.TheVariants.{Begun as BegunAs}
+use Rattle.fy_audit.specs.declared.reply.Reply.TheVariants.{Begun}
 use Rattle.fy_audit.specs.declared.reply.Refusal.TheVariants.{NoTeam, Payload, TooMany}
 use Rattle.fy_team.specs.declared.fault.TeamFault.{TeamFault}
 use Rattle.fy_team.specs.declared.fault.TeamFault.TheVariants.{NoTeam as NoTeamThere, Payload as LongPayload, TooMany as TooManyThere}
@@ -74,7 +74,7 @@ is_of h roster k rec team members named e = at (slice_get roster.records rec) re
         let t = team_there h roster k team members e in
         record {
           known = within_policies (records h) rec (begun_of it) begun;
-          team = ap (λ (o : Option Begun). option_map_or (λ b. members_of h b.team) o []) begun ∙ ap (members_of h) (sym same) ∙ ap (λ (o : Option Team). option_map_or (λ t. t.members) o []) t.1 ∙ t.2;
+          team = ap (λ (o : Option BegunRecord). option_map_or (λ b. members_of h b.team) o []) begun ∙ ap (members_of h) (sym same) ∙ ap (λ (o : Option Team). option_map_or (λ t. t.members) o []) t.1 ∙ t.2;
         }
 
 -- members are processes
@@ -174,7 +174,7 @@ resends turn rec p members machine room number net k is e a clear reserved n sen
 -- ---- a record begins
 
 begin_reply : (c : Setup) (h : History) (by team : ℕ) (payload : List ℕ) (a b d e : Bool) → nat_le (length (teams h)) team ≡ a → nat_lt 256 (length payload) ≡ b → nat_le 65536 (length (records h)) ≡ d → is_full h (length (members_of h team)) ≡ e
-    → refused (refusals c h (Begin team payload)) (answer c h by (Begin team payload)) ≡ refused ((a, NoTeam) ∷ (b, Payload) ∷ (d, TooMany) ∷ (e, NetFull) ∷ []) (BegunAs (length (records h)) (length (sent h)))
+    → refused (refusals c h (Begin team payload)) (answer c h by (Begin team payload)) ≡ refused ((a, NoTeam) ∷ (b, Payload) ∷ (d, TooMany) ∷ (e, NetFull) ∷ []) (Begun (length (records h)) (length (sent h)))
 unfolding refusals answer
 begin_reply c h by team payload a b d e ea eb ed ee = rw (ea, eb, ed, ee) refl
 
@@ -230,7 +230,7 @@ pub begins_now : ((roster : Roster) (team : ℕ) (payload : List ℕ) (r q : ℕ
     → Fits turn.before team payload → members_of turn.before team ≡ members → n ≡ length members → reserve_refusal machine.net n ≡ None → room ≡ record machine.net { room = room.room }
     → rec ≡ length machine.teams.records → roster ≡ begun_for team payload machine.teams → first ≡ room.sent
     → Sends room (stores_of rec members) net
-    → Follows turn (Begin team payload) (BegunAs rec first) (record machine { net = net; teams = roster })
+    → Follows turn (Begin team payload) (Begun rec first) (record machine { net = net; teams = roster })
 begins_now unmarked turn team payload members machine room net roster rec first n k f is count clear reserved rec_is begun first_is sends = rw (record_is_next, number_is) (record {
   right = sym (begin_reply c h turn.by team payload false false false false f.there f.small f.few (ap (λ ps. is_full h (length ps)) is ∙ ap (is_full h) (sym count) ∙ (room_for c h machine.net n k.net clear).0));
   stands = record {
@@ -259,7 +259,7 @@ begins_now unmarked turn team payload members machine room net roster rec first 
     h = turn.before
 
     m : Moment
-    m = moment_of turn (Begin team payload) (BegunAs (length (records turn.before)) (length (sent turn.before)))
+    m = moment_of turn (Begin team payload) (Begun (length (records turn.before)) (length (sent turn.before)))
 
     record_is_next : rec ≡ length (records turn.before)
     record_is_next = rec_is ∙ record_count turn.before machine.teams k.teams

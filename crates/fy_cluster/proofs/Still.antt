@@ -19,7 +19,7 @@ use Rattle.fy_cluster.specs.declared.machine.Machine.{Machine}
 use Rattle.std.specs.Ordering.{nat_cmp}
 use Rattle.std.specs.FinSet as sets
 use Rattle.fy_cluster.specs.Setup.{Setup}
-use Rattle.fy_cluster.specs.History.{History, Moment, Begun, some_is, struck_by, delivers, loses, store_to, word_of, is_stored, clogs, unclogs, forms, begins, syncs, ups, ticks, gives, takes, protects, unprotects, strikes, is_killing, is_closing, closes, writes, destroyed, gone, up, unsynced, sent, takes_out, now, marks, marked, teams, records}
+use Rattle.fy_cluster.specs.History.{History, Moment, BegunRecord, some_is, struck_by, delivers, loses, store_to, word_of, is_stored, clogs, unclogs, forms, begins, syncs, ups, ticks, gives, takes, protects, unprotects, strikes, is_killing, is_closing, closes, writes, destroyed, gone, up, unsynced, sent, takes_out, now, marks, marked, teams, records}
 use Rattle.fy_cluster.specs.Rules.{grants, is_protected, with_given, without_taken, changes}
 use Rattle.fy_cluster.specs.Standing.{Stands, Turn, moment_of, following, KeepsDead, KeepsRights, KeepsDisks, KeepsUp, KeepsNet, KeepsTeams, stored}
 use Rattle.fy_cluster.proofs.DiskSteps.{synced_else, unsynced_else, own}
@@ -117,7 +117,7 @@ pub record Doings : Type 0 where
   pub clogged_for : Option ℕ
   pub unclogged : Option Target
   pub formed : Option Team
-  pub begun : Option Begun
+  pub begun : Option BegunRecord
   pub delivered : Option ℕ
   pub lost : Option ℕ
   pub synced_at : Option ℕ

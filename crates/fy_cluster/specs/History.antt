@@ -25,18 +25,18 @@ use Rattle.fy_audit.specs.declared.entry.Entry.{Entry}
 use Rattle.fy_cluster.specs.Setup.{Setup}
 
 -- a set of processes, as a test on their numbers
-abbrev pub Processes : Type 0
-Processes = ℕ → Bool
+abbrev pub ProcessSet : Type 0
+ProcessSet = ℕ → Bool
 
 -- a record that was begun: its team and its payload
-pub record Begun : Type 0 where
+pub record BegunRecord : Type 0 where
   pub team : ℕ
   pub payload : List ℕ
 
 -- an entry with what it did: whom its target named, the message that it names, and the messages that it sent
 pub record Moment : Type 0 where
   pub entry : Entry
-  pub targets : Processes
+  pub targets : ProcessSet
   pub message : Option Body
   pub sends : List Body
 
@@ -82,7 +82,7 @@ forms (Form members policy) r = if_accepted r (record { members = members; polic
 forms _ r = None
 
 -- the record that is begun
-abbrev pub begins : Act → Reply → Option Begun
+abbrev pub begins : Act → Reply → Option BegunRecord
 begins (Begin team payload) r = if_accepted r (record { team = team; payload = payload })
 begins _ r = None
 
@@ -156,19 +156,19 @@ abbrev pub destroys : Moment → ℕ → Bool
 destroys m p = some_is is_destroying (strikes m p)
 
 -- some entry did
-abbrev pub destroyed : History → Processes
+abbrev pub destroyed : History → ProcessSet
 destroyed h p = list_any (λ m. destroys m p) h
 
 -- some entry struck it by the kind that leaves nobody to come back
-abbrev pub gone : History → Processes
+abbrev pub gone : History → ProcessSet
 gone h p = list_any (λ m. some_is is_killing (strikes m p)) h
 
 -- the processes that are not gone, emptied ones too
-abbrev pub left : Setup → History → Processes
+abbrev pub left : Setup → History → ProcessSet
 left c h p = nat_lt p (length c.processes) && not (gone h p)
 
 -- no strike after the last accepted Up
-abbrev pub up : History → Processes
+abbrev pub up : History → ProcessSet
 up [] p = true
 up (m ∷ h) p = some_is (λ q. q == p) (ups m.entry.act m.entry.reply) || (is_none (strikes m p) && up h p)
 
@@ -221,7 +221,7 @@ teams [] = []
 teams (m ∷ h) = teams h ++ option_to_list (forms m.entry.act m.entry.reply)
 
 -- the records, by number
-abbrev pub records : History → List Begun
+abbrev pub records : History → List BegunRecord
 records [] = []
 records (m ∷ h) = records h ++ option_to_list (begins m.entry.act m.entry.reply)
 
@@ -279,12 +279,12 @@ abbrev pub holds : Moment → ℕ → ℕ → ℕ → Bool
 holds m n t p = some_is (λ k. m.targets p && nat_lt t (min (n + k) (2 ^ 40))) (clogs m.entry.act m.entry.reply)
 
 -- some clog holds it, after which it was not unclogged
-abbrev pub clogged_at : ℕ → History → Processes
+abbrev pub clogged_at : ℕ → History → ProcessSet
 clogged_at t [] p = false
 clogged_at t (m ∷ h) p = holds m (now h) t p || not (is_some (unclogs m.entry.act m.entry.reply) && m.targets p) && clogged_at t h p
 
 -- some clog holds the process now
-abbrev pub clogged : History → Processes
+abbrev pub clogged : History → ProcessSet
 clogged h p = clogged_at (now h) h p
 
 -- ---- marks
@@ -304,7 +304,7 @@ abbrev pub marks : Moment → ℕ → ℕ → Bool
 marks m r p = is_some (delivers m.entry.act m.entry.reply) && some_is (λ w. w.0 == r && w.1 == p) (option_and_then word_of m.message)
 
 -- some entry delivered a Synced of the record from the process
-abbrev pub marked : History → ℕ → Processes
+abbrev pub marked : History → ℕ → ProcessSet
 marked h r p = list_any (λ m. marks m r p) h
 
 -- the record was begun, and every member of its team has a mark
@@ -316,7 +316,7 @@ abbrev pub has_synced : History → ℕ → ℕ → Bool
 has_synced h r p = list_any (λ x. x.rec == r) (synced h p)
 
 -- the process isn't destroyed and has the record synced
-abbrev pub keeps : History → ℕ → Processes
+abbrev pub keeps : History → ℕ → ProcessSet
 keeps h r p = not (destroyed h p) && has_synced h r p
 
 -- of an acknowledged record, the least member of its team that keeps it
@@ -326,7 +326,7 @@ keeper c h r = if acked h r then option_map (λ p. record { 0 = p }) (least_with
 -- ---- a moment from its entry
 
 -- whom the act's target names
-abbrev pub targets_of : Setup → History → Act → Processes
+abbrev pub targets_of : Setup → History → Act → ProcessSet
 targets_of c h (Kill order) = targets c.processes (left c h) order.target
 targets_of c h (Clog target n) = targets c.processes (left c h) target
 targets_of c h (Unclog target) = targets c.processes (left c h) target

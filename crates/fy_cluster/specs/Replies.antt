@@ -18,7 +18,7 @@ use Rattle.fy_audit.specs.declared.entry.Entry.{Entry}
 use Rattle.fy_cluster.specs.declared.role.Role.{Role}
 use Rattle.fy_cluster.specs.declared.role.Role.TheVariants.{Fault, Storage, Operator}
 use Rattle.fy_cluster.specs.Setup.{Setup}
-use Rattle.fy_cluster.specs.History.{History, Processes, some_is, gone, left, up, teams, records, members_of, team_of, unsynced, sent, in_flight, in_flight_count, now, clogged, marked, acked, word_of, stores_at, moment}
+use Rattle.fy_cluster.specs.History.{History, ProcessSet, some_is, gone, left, up, teams, records, members_of, team_of, unsynced, sent, in_flight, in_flight_count, now, clogged, marked, acked, word_of, stores_at, moment}
 use Rattle.fy_cluster.specs.Rules.{grants, situation}
 
 -- the first refusal that holds, or else the answer
@@ -70,7 +70,7 @@ abbrev pub on_delivery : History → Body → Reply
 on_delivery h body = option_map_or (λ w. Marked (is_acked_with h w.0 w.1)) (word_of body) Stored
 
 -- the number is that of a policy, which the set satisfies
-abbrev pub meets : Setup → ℕ → Processes → Bool
+abbrev pub meets : Setup → ℕ → ProcessSet → Bool
 meets c policy s = option_map_or (λ P. satisfies c.processes P s) (slice_get c.policies policy) false
 
 -- how many grants all actors have

@@ -35,7 +35,7 @@ use Rattle.fy_cluster.specs.declared.fault.Fault.{Fault}
 use Rattle.fy_cluster.specs.declared.fault.Fault.TheVariants.{NoMemory}
 use Rattle.fy_cluster.specs.declared.machine.Machine.{Machine}
 use Rattle.fy_cluster.specs.Setup.{Setup, IsSetup}
-use Rattle.fy_cluster.specs.History.{History, Moment, Begun, destroyed, left, up, synced, unsynced, sent, takes_out, now, clogged_at, teams, records, marked, moment, history}
+use Rattle.fy_cluster.specs.History.{History, Moment, BegunRecord, destroyed, left, up, synced, unsynced, sent, takes_out, now, clogged_at, teams, records, marked, moment, history}
 use Rattle.fy_cluster.specs.Rules.{grants, is_protected}
 use Rattle.fy_cluster.specs.Replies.{refusals, answer, reply, refused, Legal}
 
@@ -140,7 +140,7 @@ pub record ClogsChange (set : ℕ → Bool) (change : ℕ → ℕ → ℕ) (old 
   pub ends : ChangesAt set (change old.clock) 0 old.until new.until
 
 -- a record without its marks
-abbrev pub begun_of : Record → Begun
+abbrev pub begun_of : Record → BegunRecord
 begun_of it = record { team = it.team; payload = it.payload }
 
 -- the teams, the records, and who marked each
