@@ -21,7 +21,7 @@ use Rattle.fy_audit.specs.declared.reply.Reply.TheVariants.{Stored, Marked, No}
 use Rattle.fy_audit.specs.declared.reply.Refusal.TheVariants.{NoMessage, Clogged, NotUp}
 use Rattle.fy_cluster.specs.declared.machine.Machine.{Machine}
 use Rattle.fy_cluster.specs.Setup.{Setup}
-use Rattle.fy_cluster.specs.History.{History, Moment, BegunRecord, some_is, sent, in_flight, now, clogged, up, writes, store_to, word_of, marks, marked, teams, records, team_of, payload_of, synced, unsynced}
+use Rattle.fy_cluster.specs.History.{History, Moment, BegunRecord, some_is, sent, in_flight, now, clogged, up, writes, store_to, word_of, marks, marked, teams, records, members_for, payload_of, synced, unsynced}
 use Rattle.fy_cluster.specs.Replies.{refused, refusals, answer, on_delivery, is_down_store, is_acked_with}
 use Rattle.fy_cluster.specs.Standing.{Stands, Turn, Follows, moment_of, KeepsNet, KeepsTeams, stored, blank_disk, begun_of, IsLived}
 use Rattle.fy_cluster.proofs.Still.{dead_still, up_still, disks_still, teams_still, rights_still, stored_still}
@@ -168,20 +168,20 @@ stores turn n rec to machine disk payload after k e there x u held was e1 e2 e3 
 -- ---- a word
 
 pub acked_same : (h : History) (roster : Roster) → KeepsTeams h roster → (rec : ℕ) → Known h rec → ((b : BegunRecord) → slice_get (records h) rec ≡ Some b → (t : Team) × (slice_get (teams h) b.team ≡ Some t))
-    → is_acked roster rec ≡ list_all (λ q. marked h rec q.0) (team_of h rec)
+    → is_acked roster rec ≡ list_all (λ q. marked h rec q.0) (members_for h rec)
 acked_same h roster k rec b joined = at (slice_get roster.records rec) refl
   where
     t : (t : Team) × (slice_get (teams h) b.0.team ≡ Some t)
     t = joined b.0 b.1
 
-    team : team_of h rec ≡ t.0.members
+    team : members_for h rec ≡ t.0.members
     team = rw (b.1, t.1) refl
 
     each_same : (it : Record) → slice_get roster.records rec ≡ Some it → (ps : List ProcId) → all_marked it.marks ps ≡ list_all (λ q. marked h rec q.0) ps
     each_same it s [] = refl
     each_same it s (p ∷ ps) = ap₂ (λ a b. a && b) (sym (ap (λ (o : Option Record). option_map_or (λ it. sets.contains it.marks p.0) o false) s) ∙ k.marks rec p.0) (each_same it s ps)
 
-    at : (o : Option Record) → slice_get roster.records rec ≡ o → is_acked roster rec ≡ list_all (λ q. marked h rec q.0) (team_of h rec)
+    at : (o : Option Record) → slice_get roster.records rec ≡ o → is_acked roster rec ≡ list_all (λ q. marked h rec q.0) (members_for h rec)
     at None s = absurd (some_not_none b.0 (sym b.1 ∙ record_is h roster k rec ∙ ap (option_map begun_of) s))
     at (Some it) s =
         let same : b.0 ≡ begun_of it = some_is_same b.0 (begun_of it) (sym b.1 ∙ record_is h roster k rec ∙ ap (option_map begun_of) s) in
@@ -270,7 +270,7 @@ marks_now tested same_teams more turn n rec from machine done net roster k l e t
     begun : Known h rec
     begun = slice_get-each (λ b. Known h (record_of b)) (sent h) n (Synced rec from) sound.sent_known f.1
 
-    team_same : team_of (m ∷ h) rec ≡ team_of h rec
+    team_same : members_for (m ∷ h) rec ≡ members_for h rec
     team_same = ap₂ (λ rs ts. option_map_or (λ (b : BegunRecord). option_map_or (λ (t : Team). t.members) (slice_get ts b.team) []) (slice_get rs rec) []) (append-nil (records h)) (append-nil (teams h))
 
     acked_is : done ≡ is_acked_with h rec from.0
@@ -281,7 +281,7 @@ marks_now tested same_teams more turn n rec from machine done net roster k l e t
         let t = slice_get-each (λ b. (t : Team) × (slice_get (teams h) b.team ≡ Some t)) (records h) rec b sound.joined (sym (ap (λ rs. slice_get rs rec) (append-nil (records h))) ∙ w) in
         (t.0, ap (λ ts. slice_get ts b.team) (append-nil (teams h)) ∙ t.1))
         ∙ ap (list_all (λ q. marked (m ∷ h) rec q.0)) team_same
-        ∙ all_same _ _ (λ q. ap (λ b. b || marked h rec q.0) (marks_is rec q.0 ∙ self rec (q.0 == from.0)) ∙ or_swap (q.0 == from.0) (marked h rec q.0)) (team_of h rec)
+        ∙ all_same _ _ (λ q. ap (λ b. b || marked h rec q.0) (marks_is rec q.0 ∙ self rec (q.0 == from.0)) ∙ or_swap (q.0 == from.0) (marked h rec q.0)) (members_for h rec)
       where
         self : (r : ℕ) (b : Bool) → (r == r && b) ≡ b
         self r b = let same : (r == r) ≡ true = grind (arith, nat_tests) in rw same refl

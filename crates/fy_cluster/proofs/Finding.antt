@@ -12,7 +12,7 @@ use Rattle.fy_team.specs.Teams.{Record, is_among, is_acked, members_of as member
 use Rattle.fy_audit.specs.declared.entry.Entry.{Entry}
 use Rattle.fy_cluster.specs.declared.machine.Machine.{Machine}
 use Rattle.fy_cluster.specs.Setup.{Setup}
-use Rattle.fy_cluster.specs.History.{History, history, team_of, acked, keeps, keeper}
+use Rattle.fy_cluster.specs.History.{History, history, members_for, acked, keeps, keeper}
 use Rattle.fy_cluster.specs.Standing.{Stands, IsKept, stored, blank_disk}
 use Rattle.fy_cluster.specs.Sights.{keeps_on}
 use Rattle.fy_cluster.proofs.Keepers.{LeastFound, among_is, members_there, sound_after}
@@ -101,7 +101,7 @@ keeps_is c h m k rec p l = ap₂ (λ a b. not a && b) (k.dead.destroyed p) (ap (
 pub no_keeper : Tested → (c : Setup) (journal : List Entry) (m : Machine) (rec : ℕ) → IsKept c journal m → is_acked m.teams rec ≡ false → None ≡ keeper c (history c journal) rec
 no_keeper tested c journal m rec kept e =
     let not_acked : acked (history c journal) rec ≡ false = acked_by c (history c journal) m.teams (sound_after tested c journal kept.legal) kept.stands.teams rec ∙ e in
-    sym (ap (λ b. if b then option_map {U = ProcId} (λ p. record { 0 = p }) (least_with (length c.processes) (is_among (team_of (history c journal) rec)) (keeps (history c journal) rec)) else None) not_acked)
+    sym (ap (λ b. if b then option_map {U = ProcId} (λ p. record { 0 = p }) (least_with (length c.processes) (is_among (members_for (history c journal) rec)) (keeps (history c journal) rec)) else None) not_acked)
 
 by_number : (o : Option ProcId) → option_map {U = ProcId} (λ p. record { 0 = p }) (option_map (λ p. p.0) o) ≡ o
 by_number None = refl
@@ -112,8 +112,8 @@ pub keeper_is : Tested → LeastFound → (c : Setup) (journal : List Entry) (m 
     → found ≡ keeper c (history c journal) rec
 keeper_is tested least c journal m rec team members found kept e named there rising first =
     sym (by_number found)
-    ∙ ap (option_map (λ p. record { 0 = p })) ((least (length c.processes) (is_among (team_of h rec)) (keeps h rec) found (members_there c h sound rec is_acknowledged)).0 is_least)
-    ∙ sym (ap (λ b. if b then option_map {U = ProcId} (λ p. record { 0 = p }) (least_with (length c.processes) (is_among (team_of h rec)) (keeps h rec)) else None) is_acknowledged)
+    ∙ ap (option_map (λ p. record { 0 = p })) ((least (length c.processes) (is_among (members_for h rec)) (keeps h rec) found (members_there c h sound rec is_acknowledged)).0 is_least)
+    ∙ sym (ap (λ b. if b then option_map {U = ProcId} (λ p. record { 0 = p }) (least_with (length c.processes) (is_among (members_for h rec)) (keeps h rec)) else None) is_acknowledged)
   where
     h : History
     h = history c journal
@@ -127,7 +127,7 @@ keeper_is tested least c journal m rec team members found kept e named there ris
     of_team : IsOf (history c journal) rec members
     of_team = is_of (history c journal) m.teams kept.stands.teams rec team members named there
 
-    is_least : LeastWith (is_among (team_of (history c journal) rec)) (keeps (history c journal) rec) found
+    is_least : LeastWith (is_among (members_for (history c journal) rec)) (keeps (history c journal) rec) found
     is_least =
-        least_same (is_among (team_of h rec)) (keeps_on m rec) (keeps h rec) (λ q i. keeps_is c h m kept.stands rec q (members_there c h sound rec is_acknowledged q i)) found
+        least_same (is_among (members_for h rec)) (keeps_on m rec) (keeps h rec) (λ q i. keeps_is c h m kept.stands rec q (members_there c h sound rec is_acknowledged q i)) found
         (rw (of_team.team, first) (first_is_least (keeps_on m rec) members rising))

@@ -11,7 +11,7 @@ use Rattle.fy_grants.specs.Least.{LeastWith, least_with}
 use Rattle.fy_team.specs.Teams.{Team, is_among, IsFormed}
 use Rattle.fy_audit.specs.declared.entry.Entry.{Entry}
 use Rattle.fy_cluster.specs.Setup.{Setup, IsMet}
-use Rattle.fy_cluster.specs.History.{History, history, destroyed, teams, records, team_of, payload_of, synced, acked, keeps, keeper}
+use Rattle.fy_cluster.specs.History.{History, history, destroyed, teams, records, members_for, payload_of, synced, acked, keeps, keeper}
 use Rattle.fy_cluster.specs.Replies.{Legal}
 use Rattle.fy_cluster.specs.Survival.{Kept, DestroyedShort, KeepersFound}
 use Rattle.fy_cluster.proofs.Journals.{kept_after}
@@ -36,11 +36,11 @@ copy_of h r p g d = elim g [
 ]
 
 -- some member isn't destroyed: the team satisfies its policy, and the destroyed are short of it
-someone_left : More → (c : Setup) (h : History) → Sound c h → AreShort c.processes c.policies (destroyed h) → (r : ℕ) → Known h r → list_any (λ p. not (destroyed h p.0)) (team_of h r) ≡ true
+someone_left : More → (c : Setup) (h : History) → Sound c h → AreShort c.processes c.policies (destroyed h) → (r : ℕ) → Known h r → list_any (λ p. not (destroyed h p.0)) (members_for h r) ≡ true
 someone_left more c h sound short r b =
     let t = slice_get-each (λ b. (t : Team) × (slice_get (teams h) b.team ≡ Some t)) (records h) r b.0 sound.joined b.1 in
     let is = slice_get-each (IsFormed c.processes c.policies) (teams h) b.0.team t.0 sound.formed t.1 in
-    let team : team_of h r ≡ t.0.members = team_known h r b.0 t.0 b.1 t.1 in
+    let team : members_for h r ≡ t.0.members = team_known h r b.0 t.0 b.1 t.1 in
     let not_short = slice_get-each (λ P. Sat c.processes P (destroyed h) → ⊥) c.policies t.0.policy is.need short is.named in
     rw team (true_from_ne_false _ (λ none. not_short (more c.processes is.need (is_among t.0.members) (destroyed h) (all_destroyed (destroyed h) t.0.members none) is.satisfied)))
 
@@ -69,7 +69,7 @@ among_is ps q i = at (Any-from_list_any (λ p. p.0 == q) ps i)
     at a = (a.0, a.1, a.2, a.3, eqb-true a.1.0 q a.4)
 
 -- the members of a record's team are processes of the cluster
-pub members_there : (c : Setup) (h : History) → Sound c h → (r : ℕ) → acked h r ≡ true → (q : ℕ) → is_among (team_of h r) q ≡ true → q < length c.processes
+pub members_there : (c : Setup) (h : History) → Sound c h → (r : ℕ) → acked h r ≡ true → (q : ℕ) → is_among (members_for h r) q ≡ true → q < length c.processes
 members_there c h sound r a q i =
     let b = acked_known h r a in
     let t = slice_get-each (λ b. (t : Team) × (slice_get (teams h) b.team ≡ Some t)) (records h) r b.0 sound.joined b.1 in
@@ -85,14 +85,14 @@ any_at : {X : Type 0} (f : X → Bool) (xs : List X) (x : X) → Contains xs x �
 any_at f xs x i t = true_from_ne_false _ (λ none. both_ways (f x) (All-contains (λ y. f y ≡ false) xs x (All-from_recursion (λ y. f y ≡ false) xs (all_false f xs none)) i) t)
 
 -- some member keeps the record
-someone_keeps : (h : History) (r : ℕ) → Kept h r → (q : ℕ) × (is_among (team_of h r) q ≡ true) × (keeps h r q ≡ true)
-someone_keeps h r k = at (Any-from_list_any (λ p. not (destroyed h p.0)) (team_of h r) k.someone)
+someone_keeps : (h : History) (r : ℕ) → Kept h r → (q : ℕ) × (is_among (members_for h r) q ≡ true) × (keeps h r q ≡ true)
+someone_keeps h r k = at (Any-from_list_any (λ p. not (destroyed h p.0)) (members_for h r) k.someone)
   where
-    at : Any (λ p. not (destroyed h p.0) ≡ true) (team_of h r) → (q : ℕ) × (is_among (team_of h r) q ≡ true) × (keeps h r q ≡ true)
+    at : Any (λ p. not (destroyed h p.0) ≡ true) (members_for h r) → (q : ℕ) × (is_among (members_for h r) q ≡ true) × (keeps h r q ≡ true)
     at a =
-        let member : Contains (team_of h r) a.1 = (a.0, a.2, a.3) in (
+        let member : Contains (members_for h r) a.1 = (a.0, a.2, a.3) in (
           a.1.0,
-          any_at (λ p. p.0 == a.1.0) (team_of h r) a.1 member (eq-eqb a.1.0 a.1.0 refl),
+          any_at (λ p. p.0 == a.1.0) (members_for h r) a.1 member (eq-eqb a.1.0 a.1.0 refl),
           and_from _ _ a.4 (any_at (λ x. x.rec == r) (synced h a.1.0) (record { rec = r; payload = payload_of h r }) (k.everyone a.1 member (not-true _ a.4)) (eq-eqb r r refl)),
         )
 
@@ -105,24 +105,24 @@ least_some : (set test : ℕ → Bool) (found : Option ProcId) → LeastWith set
 least_some set test None none q member passes = absurd (both_ways _ (none q member) passes)
 least_some set test (Some p) least q member passes = refl
 
-keeper_least : LeastFound → (c : Setup) (h : History) → Sound c h → (r : ℕ) → acked h r ≡ true → LeastWith (is_among (team_of h r)) (keeps h r) (keeper c h r)
-keeper_least found c h sound r a = subst (LeastWith (is_among (team_of h r)) (keeps h r)) (sym is) least
+keeper_least : LeastFound → (c : Setup) (h : History) → Sound c h → (r : ℕ) → acked h r ≡ true → LeastWith (is_among (members_for h r)) (keeps h r) (keeper c h r)
+keeper_least found c h sound r a = subst (LeastWith (is_among (members_for h r)) (keeps h r)) (sym is) least
   where
     o : Option ℕ
-    o = least_with (length c.processes) (is_among (team_of h r)) (keeps h r)
+    o = least_with (length c.processes) (is_among (members_for h r)) (keeps h r)
 
     is : keeper c h r ≡ option_map (λ p. record { 0 = p }) o
     is = ap (λ b. if b then option_map {U = ProcId} (λ p. record { 0 = p }) o else None) a
 
-    least : LeastWith (is_among (team_of h r)) (keeps h r) (option_map (λ p. record { 0 = p }) o)
-    least = (found (length c.processes) (is_among (team_of h r)) (keeps h r) (option_map (λ p. record { 0 = p }) o) (members_there c h sound r a)).1 (back o)
+    least : LeastWith (is_among (members_for h r)) (keeps h r) (option_map (λ p. record { 0 = p }) o)
+    least = (found (length c.processes) (is_among (members_for h r)) (keeps h r) (option_map (λ p. record { 0 = p }) o) (members_there c h sound r a)).1 (back o)
 
 keeper_some : (c : Setup) (h : History) (r : ℕ) → (acked h r ≡ true → is_some (keeper c h r) ≡ true) → is_some (keeper c h r) ≡ acked h r
 keeper_some c h r some = at (acked h r) refl
   where
     at : (b : Bool) → acked h r ≡ b → is_some (keeper c h r) ≡ acked h r
     at true a = some a ∙ sym a
-    at false a = ap (λ b. is_some (if b then option_map {U = ProcId} (λ p. record { 0 = p }) (least_with (length c.processes) (is_among (team_of h r)) (keeps h r)) else None)) a ∙ sym a
+    at false a = ap (λ b. is_some (if b then option_map {U = ProcId} (λ p. record { 0 = p }) (least_with (length c.processes) (is_among (members_for h r)) (keeps h r)) else None)) a ∙ sym a
 
 keeper_found : Tested → More → LeastFound → DestroyedShort → (c : Setup) (journal : List Entry) → IsMet c → Legal c journal → (r : ℕ) → acked (history c journal) r ≡ true → is_some (keeper c (history c journal) r) ≡ true
 keeper_found tested more found short c journal i l r a =

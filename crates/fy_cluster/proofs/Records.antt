@@ -19,7 +19,7 @@ use Rattle.fy_audit.specs.declared.act.Act.TheVariants.{Form, Begin, Deliver, Lo
 use Rattle.fy_audit.specs.declared.reply.Reply.{Reply}
 use Rattle.fy_audit.specs.declared.entry.Entry.{Entry}
 use Rattle.fy_cluster.specs.Setup.{Setup}
-use Rattle.fy_cluster.specs.History.{History, Moment, BegunRecord, moment, message_of, sends_of, is_accepted, if_accepted, some_is, forms, begins, delivers, destroys, destroyed, is_stored, store_to, writes, written, is_open, place, teams, records, members_of, team_of, payload_of, synced, unsynced, sent, in_flight, takes_out, word_of, marks, marked, acked}
+use Rattle.fy_cluster.specs.History.{History, Moment, BegunRecord, moment, message_of, sends_of, is_accepted, if_accepted, some_is, forms, begins, delivers, destroys, destroyed, is_stored, store_to, writes, written, is_open, place, teams, records, members_of, members_for, payload_of, synced, unsynced, sent, in_flight, takes_out, word_of, marks, marked, acked}
 use Rattle.fy_cluster.specs.Replies.{meets, no_process, refusals, reasons, IsNext}
 use Rattle.fy_cluster.proofs.Strikes.{accepted}
 use Rattle.fy_cluster.proofs.Disks.{synced_still, synced_by}
@@ -106,7 +106,7 @@ pub record Sound (c : Setup) (h : History) : Type 0 where
   pub known : WritesKnown h
   pub flying : (n r : ℕ) (p : ProcId) → in_flight h n ≡ true → slice_get (sent h) n ≡ Some (Synced r p) → HasCopy h r p.0
   pub by_mark : (r p : ℕ) → acked h r ≡ false → marked h r p ≡ true → HasCopy h r p
-  pub by_ack : (r : ℕ) (p : ProcId) → acked h r ≡ true → Contains (team_of h r) p → HasCopy h r p.0
+  pub by_ack : (r : ℕ) (p : ProcId) → acked h r ≡ true → Contains (members_for h r) p → HasCopy h r p.0
   pub formed : AreFormed c.processes c.policies (teams h)
   pub joined : AllByRecursion (λ b. (t : Team) × (slice_get (teams h) b.team ≡ Some t)) (records h)
 
@@ -353,17 +353,17 @@ marked_copy c h e next sound r p was s = copy_still (moment c h e) h r p (elim (
 pub acked_known : (h : History) (r : ℕ) → acked h r ≡ true → Known h r
 acked_known h r a = slice_get-some (records h) r (ltb-true r (length (records h)) (and_parts (nat_lt r (length (records h))) _ a).0)
 
-pub team_known : (h : History) (r : ℕ) (b : BegunRecord) (t : Team) → slice_get (records h) r ≡ Some b → slice_get (teams h) b.team ≡ Some t → team_of h r ≡ t.members
+pub team_known : (h : History) (r : ℕ) (b : BegunRecord) (t : Team) → slice_get (records h) r ≡ Some b → slice_get (teams h) b.team ≡ Some t → members_for h r ≡ t.members
 team_known h r b t e f = rw (e, f) refl
 
 -- the team of a record stays as it is
-team_still : (c : Setup) (m : Moment) (h : History) → Sound c h → (r : ℕ) → Known h r → team_of (m ∷ h) r ≡ team_of h r
+team_still : (c : Setup) (m : Moment) (h : History) → Sound c h → (r : ℕ) → Known h r → members_for (m ∷ h) r ≡ members_for h r
 team_still c m h sound r b =
     let t = slice_get-each (λ b. (t : Team) × (slice_get (teams h) b.team ≡ Some t)) (records h) r b.0 sound.joined b.1 in
     team_known (m ∷ h) r b.0 t.0 (records_still m h r b.0 b.1) (teams_still m h b.0.team t.0 t.1) ∙ sym (team_known h r b.0 t.0 b.1 t.1)
 
-members_marked : (h : History) (r : ℕ) → acked h r ≡ true → (p : ProcId) → Contains (team_of h r) p → marked h r p.0 ≡ true
-members_marked h r a p i = All-contains (λ p. marked h r p.0 ≡ true) (team_of h r) p (AllPass-from_list_all (λ p. marked h r p.0) (team_of h r) (and_parts (nat_lt r (length (records h))) _ a).1) i
+members_marked : (h : History) (r : ℕ) → acked h r ≡ true → (p : ProcId) → Contains (members_for h r) p → marked h r p.0 ≡ true
+members_marked h r a p i = All-contains (λ p. marked h r p.0 ≡ true) (members_for h r) p (AllPass-from_list_all (λ p. marked h r p.0) (members_for h r) (and_parts (nat_lt r (length (records h))) _ a).1) i
 
 list_all-more : {X : Type 0} (f g : X → Bool) → ((x : X) → f x ≡ true → g x ≡ true) → (xs : List X) → list_all f xs ≡ true → list_all g xs ≡ true
 list_all-more f g w [] a = refl
@@ -374,7 +374,7 @@ acked_still : (c : Setup) (m : Moment) (h : History) → Sound c h → (r : ℕ)
 acked_still c m h sound r a =
     let b = acked_known h r a in
     let there : nat_lt r (length (records (m ∷ h))) ≡ true = lt-ltb r _ (slice_get_within (records (m ∷ h)) r b.0 (records_still m h r b.0 b.1)) in
-    let all : list_all (λ p. marked (m ∷ h) r p.0) (team_of h r) ≡ true = list_all-more (λ p. marked h r p.0) (λ p. marked (m ∷ h) r p.0) (λ p k. or_right (marks m r p.0) (marked h r p.0) k) (team_of h r) (and_parts (nat_lt r (length (records h))) _ a).1 in
+    let all : list_all (λ p. marked (m ∷ h) r p.0) (members_for h r) ≡ true = list_all-more (λ p. marked h r p.0) (λ p. marked (m ∷ h) r p.0) (λ p k. or_right (marks m r p.0) (marked h r p.0) k) (members_for h r) (and_parts (nat_lt r (length (records h))) _ a).1 in
     and_from _ _ there (subst (λ ps. list_all (λ p. marked (m ∷ h) r p.0) ps ≡ true) (sym (team_still c m h sound r b)) all)
 
 by_mark_next : (c : Setup) (h : History) (e : Entry) → IsNext c h e → Sound c h → (r p : ℕ) → acked (moment c h e ∷ h) r ≡ false → marked (moment c h e ∷ h) r p ≡ true → HasCopy (moment c h e ∷ h) r p
@@ -384,7 +384,7 @@ by_mark_next c h e next sound r p a s = at (acked h r) refl
     at true was = absurd (both_ways _ a (acked_still c (moment c h e) h sound r was))
     at false was = marked_copy c h e next sound r p was s
 
-by_ack_next : (c : Setup) (h : History) (e : Entry) → IsNext c h e → Sound c h → (r : ℕ) (p : ProcId) → acked (moment c h e ∷ h) r ≡ true → Contains (team_of (moment c h e ∷ h) r) p → HasCopy (moment c h e ∷ h) r p.0
+by_ack_next : (c : Setup) (h : History) (e : Entry) → IsNext c h e → Sound c h → (r : ℕ) (p : ProcId) → acked (moment c h e ∷ h) r ≡ true → Contains (members_for (moment c h e ∷ h) r) p → HasCopy (moment c h e ∷ h) r p.0
 by_ack_next c h e next sound r p a i = at (acked h r) refl
   where
     at : (x : Bool) → acked h r ≡ x → HasCopy (moment c h e ∷ h) r p.0

@@ -14,7 +14,7 @@ use Rattle.fy_audit.specs.declared.reply.Reply.TheVariants.{Sent, No}
 use Rattle.fy_audit.specs.declared.reply.Refusal.TheVariants.{NoRecord, NotMember, Acked, NetFull}
 use Rattle.fy_cluster.specs.declared.machine.Machine.{Machine}
 use Rattle.fy_cluster.specs.Setup.{Setup}
-use Rattle.fy_cluster.specs.History.{History, Moment, BegunRecord, sent, teams, records, team_of, acked, marked}
+use Rattle.fy_cluster.specs.History.{History, Moment, BegunRecord, sent, teams, records, members_for, acked, marked}
 use Rattle.fy_cluster.specs.Replies.{refused, refusals, answer, is_full}
 use Rattle.fy_cluster.specs.Standing.{Stands, Turn, Follows, Comes, moment_of, KeepsTeams, begun_of, IsLived}
 use Rattle.fy_cluster.proofs.Still.{dead_still, up_still, disks_still, teams_still, rights_still}
@@ -38,7 +38,7 @@ use Rattle.std.specs.List.{All}
 use Rattle.std.proofs.Common.{subst}
 use Rattle.std.proofs.lemmas.List.{length-map}
 
-resend_reply : (c : Setup) (h : History) (by rec : ℕ) (p : ProcId) (a b d e : Bool) → nat_le (length (records h)) rec ≡ a → is_among (team_of h rec) p.0 ≡ b → acked h rec ≡ d → is_full h 1 ≡ e
+resend_reply : (c : Setup) (h : History) (by rec : ℕ) (p : ProcId) (a b d e : Bool) → nat_le (length (records h)) rec ≡ a → is_among (members_for h rec) p.0 ≡ b → acked h rec ≡ d → is_full h 1 ≡ e
     → refused (refusals c h (Resend rec p)) (answer c h by (Resend rec p)) ≡ refused ((a, NoRecord) ∷ (not b, NotMember) ∷ (d, Acked) ∷ (e, NetFull) ∷ []) (Sent (length (sent h)))
 unfolding refusals answer
 resend_reply c h by rec p a b d e ea eb ed ee = rw (ea, eb, ed, ee) refl
@@ -46,7 +46,7 @@ resend_reply c h by rec p a b d e ea eb ed ee = rw (ea, eb, ed, ee) refl
 -- the record is there, and the members are those of its team
 pub record IsOf (h : History) (rec : ℕ) (members : List ProcId) : Type 0 where
   pub known : nat_le (length (records h)) rec ≡ false
-  pub team : team_of h rec ≡ members
+  pub team : members_for h rec ≡ members
 
 pub no_record : (turn : Turn) (rec : ℕ) (p : ProcId) (m : Machine) → Stands turn.setup turn.before m → None ≡ option_map (λ (it : Record). it.team) (slice_get m.teams.records rec) → Follows turn (Resend rec p) (No NoRecord) m
 no_record turn rec p m k none = at (slice_get m.teams.records rec) refl none
@@ -122,9 +122,9 @@ acked_by c h roster sound k rec = at (nat_lt rec (length (records h))) refl
     at : (b : Bool) → nat_lt rec (length (records h)) ≡ b → acked h rec ≡ is_acked roster rec
     at true e =
         let low : rec < length (records h) = grind (arith, nat_tests) in
-        ap (λ a. a && list_all (λ q. marked h rec q.0) (team_of h rec)) e
+        ap (λ a. a && list_all (λ q. marked h rec q.0) (members_for h rec)) e
         ∙ sym (acked_same h roster k rec (slice_get-some (records h) rec low) (λ b w. slice_get-each (λ b. (t : Team) × (slice_get (teams h) b.team ≡ Some t)) (records h) rec b sound.joined w))
-    at false e = ap (λ a. a && list_all (λ q. marked h rec q.0) (team_of h rec)) e ∙ sym (none_acked roster rec (missing e))
+    at false e = ap (λ a. a && list_all (λ q. marked h rec q.0) (members_for h rec)) e ∙ sym (none_acked roster rec (missing e))
 
 pub not_member : (turn : Turn) (rec : ℕ) (p : ProcId) (members : List ProcId) (m : Machine) → Stands turn.setup turn.before m → IsOf turn.before rec members → is_among members p.0 ≡ false → Follows turn (Resend rec p) (No NotMember) m
 not_member turn rec p members m k is e = refuse turn (Resend rec p) NotMember m k (resend_reply turn.setup turn.before turn.by rec p false false _ _ is.known (ap (λ ps. is_among ps p.0) is.team ∙ e) refl refl)

@@ -234,8 +234,8 @@ abbrev pub members_of : History → ℕ → List ProcId
 members_of h team = option_map_or (λ t. t.members) (slice_get (teams h) team) []
 
 -- the members of the record's team
-abbrev pub team_of : History → ℕ → List ProcId
-team_of h rec = option_map_or (λ b. members_of h b.team) (slice_get (records h) rec) []
+abbrev pub members_for : History → ℕ → List ProcId
+members_for h rec = option_map_or (λ b. members_of h b.team) (slice_get (records h) rec) []
 
 -- the writes to the process that pass, by what came later and by their place
 abbrev pub written : ℕ → (List Moment → ℕ → Bool) → List Moment → History → List Item
@@ -309,7 +309,7 @@ marked h r p = list_any (λ m. marks m r p) h
 
 -- the record was begun, and every member of its team has a mark
 abbrev pub acked : History → ℕ → Bool
-acked h r = nat_lt r (length (records h)) && list_all (λ p. marked h r p.0) (team_of h r)
+acked h r = nat_lt r (length (records h)) && list_all (λ p. marked h r p.0) (members_for h r)
 
 -- the process has the record synced
 abbrev pub has_synced : History → ℕ → ℕ → Bool
@@ -321,7 +321,7 @@ keeps h r p = not (destroyed h p) && has_synced h r p
 
 -- of an acknowledged record, the least member of its team that keeps it
 abbrev pub keeper : Setup → History → ℕ → Option ProcId
-keeper c h r = if acked h r then option_map (λ p. record { 0 = p }) (least_with (length c.processes) (is_among (team_of h r)) (keeps h r)) else None
+keeper c h r = if acked h r then option_map (λ p. record { 0 = p }) (least_with (length c.processes) (is_among (members_for h r)) (keeps h r)) else None
 
 -- ---- a moment from its entry
 

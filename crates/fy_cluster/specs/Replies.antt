@@ -18,7 +18,7 @@ use Rattle.fy_audit.specs.declared.entry.Entry.{Entry}
 use Rattle.fy_cluster.specs.declared.role.Role.{Role}
 use Rattle.fy_cluster.specs.declared.role.Role.TheVariants.{Fault, Storage, Operator}
 use Rattle.fy_cluster.specs.Setup.{Setup}
-use Rattle.fy_cluster.specs.History.{History, ProcessSet, some_is, gone, left, up, teams, records, members_of, team_of, unsynced, sent, in_flight, in_flight_count, now, clogged, marked, acked, word_of, stores_at, moment}
+use Rattle.fy_cluster.specs.History.{History, ProcessSet, some_is, gone, left, up, teams, records, members_of, members_for, unsynced, sent, in_flight, in_flight_count, now, clogged, marked, acked, word_of, stores_at, moment}
 use Rattle.fy_cluster.specs.Rules.{grants, situation}
 
 -- the first refusal that holds, or else the answer
@@ -63,7 +63,7 @@ is_down_store h body = some_is (λ p. not (up h p)) (stores_at body)
 
 -- every member has a mark, or gets it now
 abbrev pub is_acked_with : History → ℕ → ℕ → Bool
-is_acked_with h r p = list_all (λ q. marked h r q.0 || q.0 == p) (team_of h r)
+is_acked_with h r p = list_all (λ q. marked h r q.0 || q.0 == p) (members_for h r)
 
 -- a Store is stored, a Synced is a mark
 abbrev pub on_delivery : History → Body → Reply
@@ -119,7 +119,7 @@ refusals c h (Deliver n) =
 refusals c h (Lose n) = (not (in_flight h n), NoMessage) ∷ []
 refusals c h (Resend rec process) =
     (nat_le (length (records h)) rec, NoRecord)
-    ∷ (not (is_among (team_of h rec) process.0), NotMember)
+    ∷ (not (is_among (members_for h rec) process.0), NotMember)
     ∷ (acked h rec, Acked)
     ∷ (is_full h 1, NetFull)
     ∷ []

@@ -10,7 +10,7 @@ use Rattle.fy_audit.specs.declared.act.Act.TheVariants.{Deliver}
 use Rattle.fy_cluster.specs.declared.machine.Machine.{Machine}
 use Rattle.fy_cluster.specs.declared.sight.Sight.{Sight}
 use Rattle.fy_cluster.specs.Setup.{Setup}
-use Rattle.fy_cluster.specs.History.{History, left, up, unsynced, now, team_of, keeps}
+use Rattle.fy_cluster.specs.History.{History, left, up, unsynced, now, members_for, keeps}
 use Rattle.fy_cluster.specs.Replies.{refusals}
 use Rattle.fy_cluster.specs.Standing.{blank_disk}
 
@@ -18,7 +18,7 @@ use Rattle.fy_cluster.specs.Standing.{blank_disk}
 
 -- of a record's team, the least member that keeps the record
 abbrev pub IsLeastKeeper : History → ℕ → ProcId → Type 0
-IsLeastKeeper h rec p = IsLeastWith (is_among (team_of h rec)) (keeps h rec) p.0
+IsLeastKeeper h rec p = IsLeastWith (is_among (members_for h rec)) (keeps h rec) p.0
 
 -- the machine's parts say that the process isn't destroyed and has the record synced
 abbrev pub keeps_on : Machine → ℕ → ℕ → Bool

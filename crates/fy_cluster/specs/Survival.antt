@@ -14,7 +14,7 @@ use Rattle.fy_audit.specs.declared.reply.Reply.TheVariants.{Verdict as Verdicted
 use Rattle.fy_audit.specs.declared.reply.Refusal.TheVariants.{Stranger}
 use Rattle.fy_audit.specs.declared.entry.Entry.{Entry}
 use Rattle.fy_cluster.specs.Setup.{Setup, IsMet}
-use Rattle.fy_cluster.specs.History.{History, moment, history, destroyed, left, synced, acked, keeps, keeper, team_of, payload_of}
+use Rattle.fy_cluster.specs.History.{History, moment, history, destroyed, left, synced, acked, keeps, keeper, members_for, payload_of}
 use Rattle.fy_cluster.specs.Rules.{situation}
 use Rattle.fy_cluster.specs.Replies.{IsNext, Legal}
 
@@ -24,8 +24,8 @@ by_and_act e = (e.by, e.act)
 
 -- some member of the record's team isn't destroyed, and every such member has the record synced
 pub record Kept (h : History) (r : ℕ) : Type 0 where
-  pub someone : IsTrue (list_any (λ p. not (destroyed h p.0)) (team_of h r))
-  pub everyone : (p : ProcId) → Contains (team_of h r) p → IsFalse (destroyed h p.0) → Contains (synced h p.0) (record { rec = r; payload = payload_of h r })
+  pub someone : IsTrue (list_any (λ p. not (destroyed h p.0)) (members_for h r))
+  pub everyone : (p : ProcId) → Contains (members_for h r) p → IsFalse (destroyed h p.0) → Contains (synced h p.0) (record { rec = r; payload = payload_of h r })
 
 -- the destroyed are short of every policy
 abbrev pub DestroyedShort : Type 0
@@ -60,7 +60,7 @@ RecordsKept = (c : Setup) (journal : List Entry) → IsMet c → Legal c journal
 abbrev pub KeepersFound : Type 0
 KeepersFound = (c : Setup) (journal : List Entry) → IsMet c → Legal c journal → (r : ℕ) →
     (is_some (keeper c (history c journal) r) ≡ acked (history c journal) r)
-    × (IsTrue (acked (history c journal) r) → LeastWith (is_among (team_of (history c journal) r)) (keeps (history c journal) r) (keeper c (history c journal) r))
+    × (IsTrue (acked (history c journal) r) → LeastWith (is_among (members_for (history c journal) r)) (keeps (history c journal) r) (keeper c (history c journal) r))
 
 -- a front of a legal journal is legal
 abbrev pub FrontsLegal : Type 0

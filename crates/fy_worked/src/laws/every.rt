@@ -8,7 +8,7 @@ ghost use Rattle.fy_decide.specs.Losses.{AreShort, AreSatisfied};
 ghost use Rattle.fy_decide.specs.Verdicts.{verdict};
 ghost use Rattle.fy_audit.specs.declared.entry.Entry.{Entry};
 ghost use Rattle.fy_cluster.specs.Setup.{IsMet};
-ghost use Rattle.fy_cluster.specs.History.{history, destroyed, left, team_of, acked, keeps, keeper};
+ghost use Rattle.fy_cluster.specs.History.{history, destroyed, left, members_for, acked, keeps, keeper};
 ghost use Rattle.fy_cluster.specs.Rules.{situation};
 ghost use Rattle.fy_cluster.specs.Replies.{Legal};
 ghost use Rattle.fy_cluster.specs.Survival.{by_and_act, Kept};
@@ -44,7 +44,7 @@ pub fn record_stands()
 
 /// The keeper of an acknowledged record is the least member that keeps it.
 pub fn least_keeps()
-    ensures { LeastWith (is_among (team_of (history six first_acknowledged) 0))
+    ensures { LeastWith (is_among (members_for (history six first_acknowledged) 0))
         (keeps (history six first_acknowledged) 0) (Some (process 0)) }
 {}
 

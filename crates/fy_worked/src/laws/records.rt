@@ -1,7 +1,7 @@
 //! Records: written, synced, torn, acknowledged and kept.
 ghost use Rattle.std.specs.Prelude.{◌≡◌, true, false, [], ◌∷◌, Some, None};
 ghost use Rattle.fy_net.specs.declared.message.Body.TheVariants.{Store};
-ghost use Rattle.fy_cluster.specs.History.{history, destroyed, gone, up, team_of, sent, synced, unsynced, in_flight, marked, acked, keeper};
+ghost use Rattle.fy_cluster.specs.History.{history, destroyed, gone, up, members_for, sent, synced, unsynced, in_flight, marked, acked, keeper};
 ghost use Rattle.fy_cluster.specs.Replies.{Legal};
 ghost use Rattle.fy_worked.specs.Clusters.{six, four_of_one, members, process};
 ghost use Rattle.fy_worked.specs.Records.{written_and_synced, forgotten, and_back, acknowledged, spared, three_written, torn, torn_and_back, torn_once, counted_anew, counted_anew_after_sync, emptied_unsynced, weakened_and_torn, restarted, not_synced_while_down, restarted_and_torn, one_word_each, first_acknowledged, written_again, second_team, item, hi};
@@ -161,5 +161,5 @@ pub fn second_team()
     ensures sent { sent (history six second_team)
         ≡ Store 0 (process 1) ∷ Store 0 (process 3) ∷ Store 0 (process 4) ∷ Store 1 (process 0)
         ∷ Store 1 (process 2) ∷ [] }
-    ensures team { team_of (history six second_team) 0 ≡ process 1 ∷ process 3 ∷ process 4 ∷ [] }
+    ensures team { members_for (history six second_team) 0 ≡ process 1 ∷ process 3 ∷ process 4 ∷ [] }
 {}
