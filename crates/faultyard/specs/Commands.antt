@@ -6,7 +6,9 @@ use Rattle.faultyard.specs.declared.task.Task.TheVariants.{Judge}
 
 -- `faultyard` without its subcommands, of which it wants one
 abbrev pub bare_command : App
-bare_command = record (new_app (codes "faultyard")) { top = record ((new_app (codes "faultyard")).top) { subcommand_required = true } }
+bare_command =
+    let app = new_app (codes "faultyard") in
+    record app { top = record app.top { subcommand_required = true } }
 
 -- the command line of `faultyard`
 abbrev pub faultyard_command : App

@@ -52,7 +52,8 @@ abbrev pub said_by : Option Keyword → List (List ℕ) → Option Said
 said_by (Some KeywordPolicy) (word ∷ []) = if is_text word then Some (policy word) else None
 said_by (Some (KeywordAsk loss)) (word ∷ []) = if is_name word then Some (ask loss word) else None
 said_by (Some KeywordProcess) (id ∷ machine ∷ zone ∷ hall ∷ center ∷ []) =
-    if are_names (locality_of id machine zone (known hall) (known center)) then Some (process (locality_of id machine zone (known hall) (known center))) else None
+    if are_names (locality_of id machine zone (known hall) (known center))
+    then Some (process (locality_of id machine zone (known hall) (known center))) else None
 said_by _ _ = None
 
 abbrev pub said_in : List (List ℕ) → Option Said
@@ -76,17 +77,32 @@ nothing = record { policies = []; processes = []; asks = [] }
 pub data Step (i : Input) : Option Said → Result Input JudgeFault → Type 0 where
   unread : Step i None (Err Syntax)
   policy_late : (text : List ℕ) → (i.processes ≡ [] → ⊥) → Step i (Some (policy text)) (Err Syntax)
-  policy_refused : (text : List ℕ) (fault : PolicyFault) → i.processes ≡ [] → Reads text (Err fault) → fault ≢ no_memory → Step i (Some (policy text)) (Err Policy)
-  policy_ninth : (text : List ℕ) (tree : Tree) → i.processes ≡ [] → Reads text (Ok tree) → 8 ≤ length i.policies → Step i (Some (policy text)) (Err TooMany)
-  policy_next : (text : List ℕ) (tree : Tree) → i.processes ≡ [] → Reads text (Ok tree) → length i.policies < 8 → Step i (Some (policy text)) (Ok (record i { policies = i.policies ++ tree ∷ [] }))
+  policy_refused : (text : List ℕ) (fault : PolicyFault) → i.processes ≡ [] →
+      Reads text (Err fault) → fault ≢ no_memory → Step i (Some (policy text)) (Err Policy)
+  policy_ninth : (text : List ℕ) (tree : Tree) → i.processes ≡ [] → Reads text (Ok tree) →
+      8 ≤ length i.policies → Step i (Some (policy text)) (Err TooMany)
+  policy_next : (text : List ℕ) (tree : Tree) → i.processes ≡ [] → Reads text (Ok tree) →
+      length i.policies < 8 →
+      Step i (Some (policy text)) (Ok (record i { policies = i.policies ++ tree ∷ [] }))
   process_early : (new : Locality) → i.policies ≡ [] → Step i (Some (process new)) (Err Syntax)
   process_late : (new : Locality) → (i.asks ≡ [] → ⊥) → Step i (Some (process new)) (Err Syntax)
-  process_twice : (new : Locality) → (i.policies ≡ [] → ⊥) → i.asks ≡ [] → taken_or_full i.processes new.process ≡ Some twice → Step i (Some (process new)) (Err Twice)
-  process_too_many : (new : Locality) → (i.policies ≡ [] → ⊥) → i.asks ≡ [] → taken_or_full i.processes new.process ≡ Some too_many → Step i (Some (process new)) (Err TooMany)
-  process_next : (new : Locality) → (i.policies ≡ [] → ⊥) → i.asks ≡ [] → taken_or_full i.processes new.process ≡ None → Step i (Some (process new)) (Ok (record i { processes = i.processes ++ new ∷ [] }))
-  ask_early : (loss : Loss) (id : List ℕ) → i.processes ≡ [] → Step i (Some (ask loss id)) (Err Syntax)
-  ask_unknown : (loss : Loss) (id : List ℕ) → (i.processes ≡ [] → ⊥) → ((p : ℕ) → value_of i.processes Process p ≢ Some id) → Step i (Some (ask loss id)) (Err Unknown)
-  ask_next : (loss : Loss) (id : List ℕ) (p : ℕ) → (i.processes ≡ [] → ⊥) → value_of i.processes Process p ≡ Some id → Step i (Some (ask loss id)) (Ok (record i { asks = i.asks ++ record { loss = loss; process = record { 0 = p } } ∷ [] }))
+  process_twice : (new : Locality) → (i.policies ≡ [] → ⊥) → i.asks ≡ [] →
+      taken_or_full i.processes new.process ≡ Some twice → Step i (Some (process new)) (Err Twice)
+  process_too_many : (new : Locality) → (i.policies ≡ [] → ⊥) → i.asks ≡ [] →
+      taken_or_full i.processes new.process ≡ Some too_many →
+      Step i (Some (process new)) (Err TooMany)
+  process_next : (new : Locality) → (i.policies ≡ [] → ⊥) → i.asks ≡ [] →
+      taken_or_full i.processes new.process ≡ None →
+      Step i (Some (process new)) (Ok (record i { processes = i.processes ++ new ∷ [] }))
+  ask_early : (loss : Loss) (id : List ℕ) → i.processes ≡ [] →
+      Step i (Some (ask loss id)) (Err Syntax)
+  ask_unknown : (loss : Loss) (id : List ℕ) → (i.processes ≡ [] → ⊥) →
+      ((p : ℕ) → value_of i.processes Process p ≢ Some id) →
+      Step i (Some (ask loss id)) (Err Unknown)
+  ask_next : (loss : Loss) (id : List ℕ) (p : ℕ) → (i.processes ≡ [] → ⊥) →
+      value_of i.processes Process p ≡ Some id →
+      Step i (Some (ask loss id))
+      (Ok (record i { asks = i.asks ++ record { loss = loss; process = record { 0 = p } } ∷ [] }))
 
 -- lines without a fault, from what was said before them to what is said after them
 abbrev pub Says : Input → List (List ℕ) → Input → Type 0

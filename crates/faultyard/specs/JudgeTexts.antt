@@ -36,7 +36,8 @@ left_by i granted p = everyone i.processes p && not (gone_by granted p)
 abbrev pub answer_of : Input → List Ask → Ask → Answer
 answer_of i granted a =
     if gone_by granted a.process.0 then WasGone
-    else (if may_destroy i.processes i.policies (destroyed_by granted) (left_by i granted) (λ p. p == a.process.0) a.loss then Yes else No)
+    else (if may_destroy i.processes i.policies (destroyed_by granted) (left_by i granted)
+    (λ p. p == a.process.0) a.loss then Yes else No)
 
 -- the asks answered yes, after one more answer
 abbrev pub granted_after : List Ask → Ask → Answer → List Ask
@@ -46,7 +47,8 @@ granted_after granted a _ = granted
 -- the answers to asks, after those that were answered yes
 abbrev pub answers_of : Input → List Ask → List Ask → List Answer
 answers_of i granted [] = []
-answers_of i granted (a ∷ later) = answer_of i granted a ∷ answers_of i (granted_after granted a (answer_of i granted a)) later
+answers_of i granted (a ∷ later) =
+    answer_of i granted a ∷ answers_of i (granted_after granted a (answer_of i granted a)) later
 
 abbrev pub answer_line : Answer → List ℕ
 answer_line Yes = codes "yes\n"
@@ -80,9 +82,13 @@ pub record IsFaultless (bytes : List ℕ) (input : Input) : Type 0 where
 -- JUDGE: the text that answers the bytes, or why they are refused; nothing is said of other stops
 pub data Judges (bytes : List ℕ) : Result (List ℕ) Stop → Type 0 where
   too_long : most_bytes < length bytes → Judges bytes (Err JudgeTooLong)
-  line_fault : (line : ℕ) (fault : JudgeFault) → length bytes ≤ most_bytes → FirstFault bytes line fault → Judges bytes (Err (JudgeLine line fault))
-  policy_unmet : (i : Input) (k : ℕ) → IsFaultless bytes i → first_unmet i.processes i.policies ≡ Some k → Judges bytes (Err (JudgeLine (k + 1) PolicyUnmet))
-  answered : (i : Input) → IsFaultless bytes i → first_unmet i.processes i.policies ≡ None → Judges bytes (Ok (answers_text i))
+  line_fault : (line : ℕ) (fault : JudgeFault) → length bytes ≤ most_bytes →
+      FirstFault bytes line fault → Judges bytes (Err (JudgeLine line fault))
+  policy_unmet : (i : Input) (k : ℕ) → IsFaultless bytes i →
+      first_unmet i.processes i.policies ≡ Some k →
+      Judges bytes (Err (JudgeLine (k + 1) PolicyUnmet))
+  answered : (i : Input) → IsFaultless bytes i → first_unmet i.processes i.policies ≡ None →
+      Judges bytes (Ok (answers_text i))
 
 -- bytes have one answer
 abbrev pub TextIsOne : Type 0

@@ -17,7 +17,8 @@ fault_word PolicyUnmet = codes "PolicyUnmet"
 -- the line that says why a command stops
 abbrev pub stop_text : Stop → List ℕ
 stop_text JudgeTooLong = codes "judge: TooLong\n"
-stop_text (JudgeLine line fault) = codes "judge: line " ++ decimal line ++ (codes ": " ++ fault_word fault ++ codes "\n")
+stop_text (JudgeLine line fault) =
+    codes "judge: line " ++ decimal line ++ (codes ": " ++ fault_word fault ++ codes "\n")
 stop_text Read = codes "read fault\n"
 stop_text Write = codes "write fault\n"
 stop_text NoMemory = codes "no memory\n"

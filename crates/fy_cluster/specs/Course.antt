@@ -29,7 +29,10 @@ replied course by act = reply course.setup (history_of course) by act
 -- the course once the act is entered with its reply
 abbrev pub entered : Course → ℕ → Act → Course
 entered course by act = record course {
-  journal = course.journal ++ record { at = length course.journal; by = by; act = act; reply = replied course by act } ∷ [];
+  journal =
+      course.journal
+      ++ record { at = length course.journal; by = by; act = act; reply = replied course by act }
+      ∷ [];
 }
 
 -- the course once these acts are entered, one after another
@@ -37,8 +40,10 @@ abbrev pub after_acts : Course → List (ℕ × Act) → Course
 after_acts course [] = course
 after_acts course (asked ∷ rest) = after_acts (entered course asked.0 asked.1) rest
 
--- acts that stopped at a fault: those before some place are entered, and the fault is a full journal exactly where it is full
-pub record StopsAt (before : Course) (acts : List (ℕ × Act)) (fault : Fault) (now : Course) : Type 0 where
+-- acts that stopped at a fault: those before some place are entered, and the fault is a full
+-- journal exactly where it is full
+pub record StopsAt (before : Course) (acts : List (ℕ × Act)) (fault : Fault)
+    (now : Course) : Type 0 where
   pub place : ℕ
   pub within : place < length acts
   pub same : now ≡ after_acts before (take place acts)

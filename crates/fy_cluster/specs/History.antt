@@ -1,5 +1,6 @@
--- What the entries before a moment have done. A journal has the oldest entry first. A history has the newest first, so
--- that what was before a moment is the rest of the list, and beside each entry it has what that entry did.
+-- What the entries before a moment have done. A journal has the oldest entry first. A history has
+-- the newest first, so that what was before a moment is the rest of the list, and beside each entry
+-- it has what that entry did.
 use Rattle.std.specs.Prelude.{ℕ, ◌+◌, ◌^◌, min, Bool, true, false, ◌&&◌, ◌||◌, not, List, [], ◌∷◌, ◌++◌, length, map, find, filter, Option, Some, None, is_some, is_none, option_map, unwrap_or, option_to_list, option_and_then, nat_lt, ◌==◌, slice_get, if◌then◌else◌}
 use Rattle.std.specs.List.{list_any, list_all, range_with_len}
 use Rattle.std.specs.Option.{option_map_or}
@@ -33,7 +34,8 @@ pub record BegunRecord : Type 0 where
   pub team : ℕ
   pub payload : List ℕ
 
--- an entry with what it did: whom its target named, the message that it names, and the messages that it sent
+-- an entry with what it did: whom its target named, the message that it names, and the messages
+-- that it sent
 pub record Moment : Type 0 where
   pub entry : Entry
   pub targets : ProcessSet
@@ -66,7 +68,8 @@ abbrev pub tear_of : Act → ℕ
 tear_of (Kill order) = order.tear
 tear_of _ = 0
 
--- each of these is some just where the entry is an accepted one of its act: here for how many ticks it clogs
+-- each of these is some just where the entry is an accepted one of its act: here for how many ticks
+-- it clogs
 abbrev pub clogs : Act → Reply → Option ℕ
 clogs (Clog target ticks) r = if_accepted r ticks
 clogs _ r = None
@@ -170,7 +173,8 @@ left c h p = nat_lt p (length c.processes) && not (gone h p)
 -- no strike after the last accepted Up
 abbrev pub up : History → ProcessSet
 up [] p = true
-up (m ∷ h) p = some_is (λ q. q == p) (ups m.entry.act m.entry.reply) || (is_none (strikes m p) && up h p)
+up (m ∷ h) p =
+    some_is (λ q. q == p) (ups m.entry.act m.entry.reply) || (is_none (strikes m p) && up h p)
 
 -- ---- disks
 
@@ -190,7 +194,9 @@ store_to p (Synced rec from) = None
 
 -- the record that the entry, a Deliver answered Stored, wrote to the process
 abbrev pub writes : Moment → ℕ → Option ℕ
-writes m p = if is_some (delivers m.entry.act m.entry.reply) && is_stored m.entry.reply then option_and_then (store_to p) m.message else None
+writes m p =
+    if is_some (delivers m.entry.act m.entry.reply) && is_stored m.entry.reply
+    then option_and_then (store_to p) m.message else None
 
 -- whether the entry decides what becomes of the unsynced writes to the process
 abbrev pub closes : ℕ → Moment → Bool
@@ -199,7 +205,8 @@ closes p m = syncs_at m p || some_is is_closing (strikes m p)
 -- how many writes to the process there were since the last entry that closes
 abbrev pub place : History → ℕ → ℕ
 place [] p = 0
-place (m ∷ h) p = if closes p m then 0 else (if is_some (writes m p) then place h p + 1 else place h p)
+place (m ∷ h) p =
+    if closes p m then 0 else (if is_some (writes m p) then place h p + 1 else place h p)
 
 -- of a write with these later entries, the oldest first: none of them closes it
 abbrev pub is_open : ℕ → List Moment → ℕ → Bool
@@ -211,7 +218,8 @@ close_keeps p i m = syncs_at m p || not (destroys m p) && outlives (tear_of m.en
 
 -- it was kept at its close, and no destroying strike came after it
 abbrev pub is_kept : ℕ → List Moment → ℕ → Bool
-is_kept p later i = some_is (close_keeps p i) (find (closes p) later) && not (list_any (λ m. destroys m p) later)
+is_kept p later i =
+    some_is (close_keeps p i) (find (closes p) later) && not (list_any (λ m. destroys m p) later)
 
 -- ---- teams and records
 
@@ -237,10 +245,16 @@ members_of h team = option_map_or (λ t. t.members) (slice_get (teams h) team) [
 abbrev pub members_for : History → ℕ → List ProcId
 members_for h rec = option_map_or (λ b. members_of h b.team) (slice_get (records h) rec) []
 
+-- what is written of a record: its payload beside it
+abbrev pub written_item : History → Option ℕ → Option Item
+written_item h write = option_map (λ rec. record { rec = rec; payload = payload_of h rec }) write
+
 -- the writes to the process that pass, by what came later and by their place
 abbrev pub written : ℕ → (List Moment → ℕ → Bool) → List Moment → History → List Item
 written p passes later [] = []
-written p passes later (m ∷ h) = written p passes (m ∷ later) h ++ option_to_list (if passes later (place h p) then option_map (λ rec. record { rec = rec; payload = payload_of h rec }) (writes m p) else None)
+written p passes later (m ∷ h) =
+    written p passes (m ∷ later) h
+    ++ option_to_list (if passes later (place h p) then written_item h (writes m p) else None)
 
 -- what the process has synced, in the order in which it was written
 abbrev pub synced : History → ℕ → List Item
@@ -259,7 +273,9 @@ sent (m ∷ h) = sent h ++ m.sends
 
 -- the entry took the message out of the network
 abbrev pub takes_out : ℕ → Moment → Bool
-takes_out n m = some_is (λ k. k == n) (delivers m.entry.act m.entry.reply) || some_is (λ k. k == n) (loses m.entry.act m.entry.reply)
+takes_out n m =
+    some_is (λ k. k == n) (delivers m.entry.act m.entry.reply)
+    || some_is (λ k. k == n) (loses m.entry.act m.entry.reply)
 
 -- the message was sent, and nothing took it out
 abbrev pub in_flight : History → ℕ → Bool
@@ -276,12 +292,15 @@ now (m ∷ h) = now h + unwrap_or (ticks m.entry.act m.entry.reply) 0
 
 -- the clog of the entry, made at the time n, holds the process at the time t
 abbrev pub holds : Moment → ℕ → ℕ → ℕ → Bool
-holds m n t p = some_is (λ k. m.targets p && nat_lt t (min (n + k) (2 ^ 40))) (clogs m.entry.act m.entry.reply)
+holds m n t p =
+    some_is (λ k. m.targets p && nat_lt t (min (n + k) (2 ^ 40))) (clogs m.entry.act m.entry.reply)
 
 -- some clog holds it, after which it was not unclogged
 abbrev pub clogged_at : ℕ → History → ProcessSet
 clogged_at t [] p = false
-clogged_at t (m ∷ h) p = holds m (now h) t p || not (is_some (unclogs m.entry.act m.entry.reply) && m.targets p) && clogged_at t h p
+clogged_at t (m ∷ h) p =
+    holds m (now h) t p
+    || not (is_some (unclogs m.entry.act m.entry.reply) && m.targets p) && clogged_at t h p
 
 -- some clog holds the process now
 abbrev pub clogged : History → ProcessSet
@@ -301,7 +320,9 @@ stores_at (Synced rec from) = None
 
 -- the entry delivered a Synced of the record from the process
 abbrev pub marks : Moment → ℕ → ℕ → Bool
-marks m r p = is_some (delivers m.entry.act m.entry.reply) && some_is (λ w. w.0 == r && w.1 == p) (option_and_then word_of m.message)
+marks m r p =
+    is_some (delivers m.entry.act m.entry.reply)
+    && some_is (λ w. w.0 == r && w.1 == p) (option_and_then word_of m.message)
 
 -- some entry delivered a Synced of the record from the process
 abbrev pub marked : History → ℕ → ProcessSet
@@ -321,7 +342,9 @@ keeps h r p = not (destroyed h p) && has_synced h r p
 
 -- of an acknowledged record, the least member of its team that keeps it
 abbrev pub keeper : Setup → History → ℕ → Option ProcId
-keeper c h r = if acked h r then option_map (λ p. record { 0 = p }) (least_with (length c.processes) (is_among (members_for h r)) (keeps h r)) else None
+keeper c h r =
+    let least = least_with (length c.processes) (is_among (members_for h r)) (keeps h r) in
+    if acked h r then option_map (λ p. record { 0 = p }) least else None
 
 -- ---- a moment from its entry
 
@@ -369,7 +392,8 @@ stores_of rec processes = map (λ p. Store rec p) processes
 abbrev pub words_of : ProcId → List Item → List Body
 words_of process items = map (λ item. Synced item.rec process) items
 
--- what the act sends where it is accepted: Begin a Store to each member, Resend one, Sync a word of each unsynced write
+-- what the act sends where it is accepted: Begin a Store to each member, Resend one, Sync a word of
+-- each unsynced write
 abbrev pub sends_of : History → Act → List Body
 sends_of h (Begin team payload) = stores_of (length (records h)) (members_of h team)
 sends_of h (Resend rec process) = Store rec process ∷ []

@@ -71,7 +71,8 @@ on_delivery h body = option_map_or (λ w. Marked (is_acked_with h w.0 w.1)) (wor
 
 -- the number is that of a policy, which the set satisfies
 abbrev pub meets : Setup → ℕ → ProcessSet → Bool
-meets c policy s = option_map_or (λ P. satisfies c.processes P s) (slice_get c.policies policy) false
+meets c policy s =
+    option_map_or (λ P. satisfies c.processes P s) (slice_get c.policies policy) false
 
 -- how many grants all actors have
 abbrev pub grant_count : Setup → History → ℕ
@@ -148,8 +149,10 @@ refusals c h (Unprotect process kinds) = (no_process c process.0, NoProcess) ∷
 -- the reply to an act that isn't refused
 unfoldable pub answer : Setup → History → ℕ → Act → Reply
 answer c h by (Kill order) = Verdict (verdict (situation c h by) order)
-answer c h by (Clog target n) = Ruled (bar (situation c h by) Clogging (targets c.processes (left c h) target))
-answer c h by (Unclog target) = Ruled (bar (situation c h by) Clogging (targets c.processes (left c h) target))
+answer c h by (Clog target n) =
+    Ruled (bar (situation c h by) Clogging (targets c.processes (left c h) target))
+answer c h by (Unclog target) =
+    Ruled (bar (situation c h by) Clogging (targets c.processes (left c h) target))
 answer c h by (Form members policy) = Formed (length (teams h))
 answer c h by (Begin team payload) = Begun (length (records h)) (length (sent h))
 answer c h by (Deliver n) = option_map_or (on_delivery h) (slice_get (sent h) n) Done
@@ -165,7 +168,8 @@ answer c h by (Unprotect process kinds) = Done
 
 -- every reason to refuse the act, in order
 unfoldable pub reasons : Setup → History → ℕ → Act → List (Bool × Refusal)
-reasons c h by act = (no_actor c by, Stranger) ∷ (not (may_make c by act), WrongRole) ∷ refusals c h act
+reasons c h by act =
+    (no_actor c by, Stranger) ∷ (not (may_make c by act), WrongRole) ∷ refusals c h act
 
 -- the first refusal that holds, or else the answer
 unfoldable pub reply : Setup → History → ℕ → Act → Reply

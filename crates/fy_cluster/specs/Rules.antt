@@ -26,7 +26,9 @@ grants_to a grants = filter (λ grant. grant.actor == a) grants
 -- the actor's grants
 abbrev pub grants : Setup → History → ℕ → List Grant
 grants c [] a = grants_to a c.grants
-grants c (m ∷ h) a = without_taken a (takes m.entry.act m.entry.reply) (with_given a (gives m.entry.act m.entry.reply) (grants c h a))
+grants c (m ∷ h) a =
+    without_taken a (takes m.entry.act m.entry.reply)
+    (with_given a (gives m.entry.act m.entry.reply) (grants c h a))
 
 -- whether the change names the process and the deed
 abbrev pub changes : ℕ → Deed → Option (ℕ × KindSet) → Bool
@@ -35,12 +37,15 @@ changes p deed (Some change) = change.0 == p && has change.1 deed
 
 -- one of the protections is of the process and from the deed
 abbrev pub some_protects : List Protection → ℕ → Deed → Bool
-some_protects protections p deed = list_any (λ it. it.process.0 == p && has it.kinds deed) protections
+some_protects protections p deed =
+    list_any (λ it. it.process.0 == p && has it.kinds deed) protections
 
 -- the process is protected from the deed: the last change of the two says so, or else the setup
 abbrev pub is_protected : Setup → History → ℕ → Deed → Bool
 is_protected c [] p deed = some_protects c.protections p deed
-is_protected c (m ∷ h) p deed = changes p deed (protects m.entry.act m.entry.reply) || not (changes p deed (unprotects m.entry.act m.entry.reply)) && is_protected c h p deed
+is_protected c (m ∷ h) p deed =
+    changes p deed (protects m.entry.act m.entry.reply)
+    || not (changes p deed (unprotects m.entry.act m.entry.reply)) && is_protected c h p deed
 
 -- what an answer to the actor rests on
 abbrev pub situation : Setup → History → ℕ → Situation

@@ -12,7 +12,8 @@ use Rattle.fy_cluster.specs.declared.config.Protection.{Protection}
 use Rattle.fy_cluster.specs.declared.config.MakeFault.{MakeFault}
 use Rattle.fy_cluster.specs.declared.config.MakeFault.TheVariants.{Limit, PolicyUnmet}
 
--- processes and policies, the role of each actor, the first grants in order and the first protections, and how long the journal may get
+-- processes and policies, the role of each actor, the first grants in order and the first
+-- protections, and how long the journal may get
 pub record Setup : Type 0 where
   pub processes : List Locality
   pub policies : List Tree
@@ -22,9 +23,17 @@ pub record Setup : Type 0 where
   pub limit : ℕ
 
 -- the setup of these parts
-abbrev pub setup_of : List Locality → List Tree → List Role → List Grant → List Protection → ℕ → Setup
+abbrev pub setup_of : List Locality → List Tree → List Role → List Grant → List Protection
+    → ℕ → Setup
 setup_of processes policies roles grants protections limit =
-    record { processes = processes; policies = policies; roles = roles; grants = grants; protections = protections; limit = limit }
+    record {
+      processes = processes;
+      policies = policies;
+      roles = roles;
+      grants = grants;
+      protections = protections;
+      limit = limit;
+    }
 
 -- every policy is within its limits, and all processes together satisfy it
 abbrev pub IsMet : Setup → Type 0
@@ -34,7 +43,8 @@ IsMet c = AllByRecursion (λ P. IsPolicy P × Sat c.processes P (everyone c.proc
 abbrev pub is_between : ℕ → ℕ → ℕ → Bool
 is_between least most n = nat_le least n && nat_le n most
 
--- 1 to 8 policies, 1 to 64 actors, at most 4096 grants, each of an actor that is there, each protection of a process that is there, and a journal of 1 to 2^20 entries
+-- 1 to 8 policies, 1 to 64 actors, at most 4096 grants, each of an actor that is there, each
+-- protection of a process that is there, and a journal of 1 to 2^20 entries
 abbrev pub is_in_range : Setup → Bool
 is_in_range c =
     is_between 1 8 (length c.policies)
@@ -51,4 +61,6 @@ pub record IsSetup (c : Setup) : Type 0 where
 
 -- why parts make no setup: the range comes first, and then the first policy that isn't met
 abbrev pub config_refusal : Setup → Option MakeFault
-config_refusal c = if is_in_range c then option_map PolicyUnmet (first_unmet c.processes c.policies) else Some Limit
+config_refusal c =
+    if is_in_range c then option_map PolicyUnmet (first_unmet c.processes c.policies)
+    else Some Limit

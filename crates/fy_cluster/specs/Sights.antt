@@ -22,7 +22,9 @@ IsLeastKeeper h rec p = IsLeastWith (is_among (members_for h rec)) (keeps h rec)
 
 -- the machine's parts say that the process isn't destroyed and has the record synced
 abbrev pub keeps_on : Machine → ℕ → ℕ → Bool
-keeps_on m rec p = not (sets.contains m.dead.destroyed p) && list_any (λ item. item.rec == rec) (slice_index_or m.disks.items p blank_disk).synced
+keeps_on m rec p =
+    not (sets.contains m.dead.destroyed p)
+    && list_any (λ item. item.rec == rec) (slice_index_or m.disks.items p blank_disk).synced
 
 -- ---- what may come next
 

@@ -51,7 +51,9 @@ pub record KeepsDead (c : Setup) (h : History) (book : Casualties) : Type 0 wher
 
 -- the policies bear the loss of a set, by the book
 abbrev pub MayLose : Casualties → (ℕ → Bool) → Loss → Type 0
-MayLose book set loss = MayDestroy book.processes book.policies (sets.contains book.destroyed) (sets.contains book.left) set loss
+MayLose book set loss =
+    MayDestroy book.processes book.policies (sets.contains book.destroyed)
+    (sets.contains book.left) set loss
 
 -- the book with a set taken down as lost, where the kind destroys
 abbrev pub buried : Casualties → sets.FinSet nat_cmp → Kind → Casualties
@@ -62,7 +64,8 @@ pub record KeepsRights (c : Setup) (h : History) (rights : Rights) : Type 0 wher
   pub actors : length rights.grants ≡ length c.roles
   pub processes : length rights.protections ≡ length c.processes
   pub grants : (a : ℕ) → grants_of rights a ≡ grants c h a
-  pub protections : (p : ℕ) (deed : Deed) → has (protections_of rights p) deed ≡ is_protected c h p deed
+  pub protections : (p : ℕ) (deed : Deed) →
+      has (protections_of rights p) deed ≡ is_protected c h p deed
 
 -- what a process has on its disk
 abbrev pub stored : History → ℕ → Stored
@@ -79,15 +82,19 @@ written item disk = record { synced = disk.synced; unsynced = disk.unsynced ++ i
 -- what a strike leaves on a disk
 abbrev pub left_on : Kind → ℕ → Stored → Stored
 left_on RebootProcess tear disk = disk
-left_on Reboot tear disk = record { synced = disk.synced ++ survivors tear disk.unsynced; unsynced = [] }
+left_on Reboot tear disk =
+    record { synced = disk.synced ++ survivors tear disk.unsynced; unsynced = [] }
 left_on RebootAndDelete tear disk = blank_disk
 left_on KillInstantly tear disk = blank_disk
 
--- the elements at the numbers of a set are changed, and no others; `blank` stands for one that isn't there
-pub record ChangesAt {X : Type 0} (set : ℕ → Bool) (change : X → X) (blank : X) (old new : List X) : Type 0 where
+-- the elements at the numbers of a set are changed, and no others; `blank` stands for one that
+-- isn't there
+pub record ChangesAt {X : Type 0} (set : ℕ → Bool) (change : X → X) (blank : X)
+    (old new : List X) : Type 0 where
   pub count : length new ≡ length old
   pub each : (p : ℕ) → p < length old
-      → let was = slice_index_or old p blank in slice_index_or new p blank ≡ (if set p then change was else was)
+      → let was = slice_index_or old p blank in
+      slice_index_or new p blank ≡ (if set p then change was else was)
 
 -- a disk for each process
 pub record KeepsDisks (c : Setup) (h : History) (disks : List Stored) : Type 0 where
@@ -121,7 +128,8 @@ pub record KeepsNet (c : Setup) (h : History) (net : Traffic) : Type 0 where
   pub sent_so_far : net.sent ≡ length (sent h)
   pub clock : net.clock ≡ now h
   pub count : length net.until ≡ length c.processes
-  pub ends : (p t : ℕ) → p < length c.processes → now h ≤ t → clogged_at t h p ≡ nat_lt t (slice_index net.until p)
+  pub ends : (p t : ℕ) → p < length c.processes → now h ≤ t →
+      clogged_at t h p ≡ nat_lt t (slice_index net.until p)
   -- nothing was taken out before it was sent, and no entry sent more than may be in flight
   pub early : (n : ℕ) → length (sent h) ≤ n → list_any (takes_out n) h ≡ false
   pub few : length (sent h) ≤ 65536 * length h
@@ -190,7 +198,8 @@ following turn act reply = moment_of turn act reply ∷ turn.before
 
 -- the act got its reply, and the machine keeps the history with its entry
 pub record Follows (turn : Turn) (act : Act) (reply : Reply) (m : Machine) : Type 0 where
-  pub right : reply ≡ refused (refusals turn.setup turn.before act) (answer turn.setup turn.before turn.by act)
+  pub right : reply
+      ≡ refused (refusals turn.setup turn.before act) (answer turn.setup turn.before turn.by act)
   pub stands : Stands turn.setup (following turn act reply) m
 
 -- it got its reply, or there was no memory and the machine keeps the history as it was
@@ -198,9 +207,12 @@ abbrev pub Comes : Turn → Act → Result Reply Fault → Machine → Type 0
 Comes turn act (Ok reply) m = Follows turn act reply m
 Comes turn act (Err fault) m = (fault ≡ NoMemory) × Stands turn.setup turn.before m
 
--- the act's reply to whoever asked, with the two reasons that come before all, or there was no memory
+-- the act's reply to whoever asked, with the two reasons that come before all, or there was no
+-- memory
 abbrev pub Answers : Turn → Act → Result Reply Fault → Machine → Type 0
-Answers turn act (Ok answered) m = (answered ≡ reply turn.setup turn.before turn.by act) × Stands turn.setup (following turn act answered) m
+Answers turn act (Ok answered) m =
+    (answered ≡ reply turn.setup turn.before turn.by act)
+    × Stands turn.setup (following turn act answered) m
 Answers turn act (Err fault) m = (fault ≡ NoMemory) × Stands turn.setup turn.before m
 
 -- what a fault of the book means to whoever acts

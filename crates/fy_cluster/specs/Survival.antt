@@ -25,15 +25,20 @@ by_and_act e = (e.by, e.act)
 -- some member of the record's team isn't destroyed, and every such member has the record synced
 pub record Kept (h : History) (r : ℕ) : Type 0 where
   pub someone : IsTrue (list_any (λ p. not (destroyed h p.0)) (members_for h r))
-  pub everyone : (p : ProcId) → Contains (members_for h r) p → IsFalse (destroyed h p.0) → Contains (synced h p.0) (record { rec = r; payload = payload_of h r })
+  pub everyone : (p : ProcId) → Contains (members_for h r) p → IsFalse (destroyed h p.0) →
+      Contains (synced h p.0) (record { rec = r; payload = payload_of h r })
 
 -- the destroyed are short of every policy
 abbrev pub DestroyedShort : Type 0
-DestroyedShort = (c : Setup) (journal : List Entry) → IsMet c → Legal c journal → AreShort c.processes c.policies (destroyed (history c journal))
+DestroyedShort =
+    (c : Setup) (journal : List Entry) → IsMet c → Legal c journal →
+    AreShort c.processes c.policies (destroyed (history c journal))
 
 -- those left satisfy every policy
 abbrev pub LeftSatisfy : Type 0
-LeftSatisfy = (c : Setup) (journal : List Entry) → IsMet c → Legal c journal → AreSatisfied c.processes c.policies (left c (history c journal))
+LeftSatisfy =
+    (c : Setup) (journal : List Entry) → IsMet c → Legal c journal →
+    AreSatisfied c.processes c.policies (left c (history c journal))
 
 -- a kill's reply is the verdict on its order, or No(Stranger) where no actor of the cluster made it
 pub record IsJudged (c : Setup) (h : History) (e : Entry) (order : Order) : Type 0 where
@@ -42,7 +47,9 @@ pub record IsJudged (c : Setup) (h : History) (e : Entry) (order : Order) : Type
 
 -- each kill of a journal is judged by what came before it
 abbrev pub AreJudged : Setup → List Entry → Type 0
-AreJudged c journal = (before later : List Entry) (e : Entry) (order : Order) → journal ≡ before ++ e ∷ later → e.act ≡ Kill order → IsJudged c (history c before) e order
+AreJudged c journal =
+    (before later : List Entry) (e : Entry) (order : Order) → journal ≡ before ++ e ∷ later →
+    e.act ≡ Kill order → IsJudged c (history c before) e order
 
 -- every kill of a legal journal is judged
 abbrev pub KillsJudged : Type 0
@@ -50,17 +57,25 @@ KillsJudged = (c : Setup) (journal : List Entry) → Legal c journal → AreJudg
 
 -- no rule is named exactly where the ordered kind struck
 abbrev pub RulesNamed : Type 0
-RulesNamed = (c : Setup) (before later : List Entry) (e : Entry) (order : Order) (verdict : Verdict) → Legal c (before ++ e ∷ later) → e.act ≡ Kill order → e.reply ≡ Verdicted verdict → (verdict.rule ≡ None) ↔ (verdict.struck ≡ Some order.kind)
+RulesNamed =
+    (c : Setup) (before later : List Entry) (e : Entry) (order : Order) (verdict : Verdict) →
+    Legal c (before ++ e ∷ later) → e.act ≡ Kill order → e.reply ≡ Verdicted verdict →
+    (verdict.rule ≡ None) ↔ (verdict.struck ≡ Some order.kind)
 
 -- every acknowledged record is kept
 abbrev pub RecordsKept : Type 0
-RecordsKept = (c : Setup) (journal : List Entry) → IsMet c → Legal c journal → (r : ℕ) → IsTrue (acked (history c journal) r) → Kept (history c journal) r
+RecordsKept =
+    (c : Setup) (journal : List Entry) → IsMet c → Legal c journal → (r : ℕ) →
+    IsTrue (acked (history c journal) r) → Kept (history c journal) r
 
--- there is a keeper of exactly the acknowledged records, and it is the least member of the record's team that keeps it
+-- there is a keeper of exactly the acknowledged records, and it is the least member of the record's
+-- team that keeps it
 abbrev pub KeepersFound : Type 0
 KeepersFound = (c : Setup) (journal : List Entry) → IsMet c → Legal c journal → (r : ℕ) →
     (is_some (keeper c (history c journal) r) ≡ acked (history c journal) r)
-    × (IsTrue (acked (history c journal) r) → LeastWith (is_among (members_for (history c journal) r)) (keeps (history c journal) r) (keeper c (history c journal) r))
+    × (IsTrue (acked (history c journal) r) →
+    LeastWith (is_among (members_for (history c journal) r)) (keeps (history c journal) r)
+    (keeper c (history c journal) r))
 
 -- a front of a legal journal is legal
 abbrev pub FrontsLegal : Type 0
@@ -68,11 +83,15 @@ FrontsLegal = (c : Setup) (before later : List Entry) → Legal c (before ++ lat
 
 -- one entry more is one moment more
 abbrev pub MomentsEntered : Type 0
-MomentsEntered = (c : Setup) (journal : List Entry) (e : Entry) → history c (journal ++ e ∷ []) ≡ moment c (history c journal) e ∷ history c journal
+MomentsEntered =
+    (c : Setup) (journal : List Entry) (e : Entry) →
+    history c (journal ++ e ∷ []) ≡ moment c (history c journal) e ∷ history c journal
 
 -- when a legal journal with one entry more is legal: there is a place for it, and it may come next
 abbrev pub NextLegal : Type 0
-NextLegal = (c : Setup) (journal : List Entry) (e : Entry) → Legal c journal → Legal c (journal ++ e ∷ []) ↔ ((length journal < c.limit) × IsNext c (history c journal) e)
+NextLegal =
+    (c : Setup) (journal : List Entry) (e : Entry) → Legal c journal →
+    Legal c (journal ++ e ∷ []) ↔ ((length journal < c.limit) × IsNext c (history c journal) e)
 
 -- no policy of a setup is unmet
 abbrev pub NoneUnmet : Type 0
@@ -80,9 +99,13 @@ NoneUnmet = (c : Setup) → IsMet c → first_unmet c.processes c.policies ≡ N
 
 -- the same acts by the same actors make the same journal
 abbrev pub SameActsSameJournal : Type 0
-SameActsSameJournal = (c : Setup) (xs ys : List Entry) → Legal c xs → Legal c ys → map by_and_act xs ≡ map by_and_act ys → xs ≡ ys
+SameActsSameJournal =
+    (c : Setup) (xs ys : List Entry) → Legal c xs → Legal c ys →
+    map by_and_act xs ≡ map by_and_act ys → xs ≡ ys
 
--- what a journal keeps, whatever was ordered: it is legal, the destroyed are short of every policy, those left satisfy each, every kill is judged, and every acknowledged record has a synced copy on an undestroyed member
+-- what a journal keeps, whatever was ordered: it is legal, the destroyed are short of every policy,
+-- those left satisfy each, every kill is judged, and every acknowledged record has a synced copy on
+-- an undestroyed member
 pub record Survives (c : Setup) (journal : List Entry) : Type 0 where
   pub legal : Legal c journal
   pub short : AreShort c.processes c.policies (destroyed (history c journal))
@@ -92,4 +115,5 @@ pub record Survives (c : Setup) (journal : List Entry) : Type 0 where
 
 -- every legal journal keeps all this
 abbrev pub JournalsSurvive : Type 0
-JournalsSurvive = (c : Setup) (journal : List Entry) → IsMet c → Legal c journal → Survives c journal
+JournalsSurvive =
+    (c : Setup) (journal : List Entry) → IsMet c → Legal c journal → Survives c journal

@@ -27,7 +27,14 @@ use Rattle.fy_cluster.specs.Setup.{Setup}
 
 -- a process on a machine of its own, in a zone and without a hall
 abbrev pub located : (process machine zone : List ℕ) → Locality
-located process machine zone = record { process = process; machine = machine; zone = zone; data_hall = None; data_center = Some (codes "d0") }
+located process machine zone =
+    record {
+      process = process;
+      machine = machine;
+      zone = zone;
+      data_hall = None;
+      data_center = Some (codes "d0");
+    }
 
 abbrev pub four_processes : List Locality
 four_processes =
@@ -48,18 +55,35 @@ six_processes =
     ∷ []
 
 abbrev pub every_kind : KindSet
-every_kind = record { reboot_process = true; reboot = true; reboot_and_delete = true; kill_instantly = true; clog = true }
+every_kind =
+    record {
+      reboot_process = true;
+      reboot = true;
+      reboot_and_delete = true;
+      kill_instantly = true;
+      clog = true;
+    }
 
 abbrev pub kill_and_reboot : KindSet
-kill_and_reboot = record { reboot_process = false; reboot = true; reboot_and_delete = false; kill_instantly = true; clog = false }
+kill_and_reboot =
+    record {
+      reboot_process = false;
+      reboot = true;
+      reboot_and_delete = false;
+      kill_instantly = true;
+      clog = false;
+    }
 
--- actor 0 stores, actor 1 may do everything everywhere, actor 2 may kill and reboot everywhere, actor 3 has no grant, actor 4 operates
+-- actor 0 stores, actor 1 may do everything everywhere, actor 2 may kill and reboot everywhere,
+-- actor 3 has no grant, actor 4 operates
 abbrev pub cluster : List Locality → Tree → ℕ → Setup
 cluster processes policy limit = record {
   processes = processes;
   policies = policy ∷ [];
   roles = Storage ∷ Fault ∷ Fault ∷ Fault ∷ Operator ∷ [];
-  grants = record { actor = 1; kinds = every_kind; scope = All } ∷ record { actor = 2; kinds = kill_and_reboot; scope = All } ∷ [];
+  grants =
+      record { actor = 1; kinds = every_kind; scope = All }
+      ∷ record { actor = 2; kinds = kill_and_reboot; scope = All } ∷ [];
   protections = [];
   limit = limit;
 }
@@ -100,7 +124,8 @@ process_named name = record { key = Process; value = name }
 
 -- an order to kill; the floor isn't above the kind
 abbrev pub order : Target → (kind floor : Kind) → rank floor ≤ rank kind → ℕ → Order
-order target kind floor ordered tear = record { target = target; kind = kind; floor = floor; tear = tear; ordered = ordered }
+order target kind floor ordered tear =
+    record { target = target; kind = kind; floor = floor; tear = tear; ordered = ordered }
 
 -- kill for good, or else down to a reboot
 abbrev pub kill_order : Target → Order

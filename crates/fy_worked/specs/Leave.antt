@@ -49,12 +49,14 @@ given_and_taken =
     ∷ entry 3 4 (Take 3 0) (No NoSuch)
     ∷ entry 4 3 (reboot_or_restart (process_named (codes "p0"))) (barred (NoGrant (process 0)))
     ∷ entry 5 4 (Protect (process 1) rebooting) Done
-    ∷ entry 6 1 (reboot_or_restart (zone_named (codes "z0"))) (weakened RebootProcess (Protected (process 1)))
+    ∷ entry 6 1 (reboot_or_restart (zone_named (codes "z0")))
+    (weakened RebootProcess (Protected (process 1)))
     ∷ entry 7 4 (Unprotect (process 1) rebooting) Done
     ∷ entry 8 1 (kill (record { key = DataHall; value = codes "h0" })) (barred NoTarget)
     ∷ []
 
--- of three grants the second is taken twice, and the list closes up each time; then there is no second one
+-- of three grants the second is taken twice, and the list closes up each time; then there is no
+-- second one
 abbrev pub closed_up : List Entry
 closed_up =
     entry 0 4 (Give (leave rebooting All)) Done
@@ -85,7 +87,9 @@ half_unprotected =
 
 -- the second process is protected from the start, by two lines of the setup
 abbrev pub guarded : Setup
-guarded = guarded_six (record { process = process 1; kinds = destroying } ∷ record { process = process 1; kinds = rebooting } ∷ [])
+guarded =
+    guarded_six (record { process = process 1; kinds = destroying }
+    ∷ record { process = process 1; kinds = rebooting } ∷ [])
 
 -- both lines count, and one kind is taken out
 abbrev pub protected_from_the_start : List Entry

@@ -166,7 +166,8 @@ clogged_and_down =
     ∷ entry 6 0 (Deliver 0) (No NotUp)
     ∷ []
 
--- a clog of a zone isn't for the one that is gone, whose word comes; nor is there a target without the other
+-- a clog of a zone isn't for the one that is gone, whose word comes; nor is there a target without
+-- the other
 abbrev pub word_of_the_gone : List Entry
 word_of_the_gone =
     begun

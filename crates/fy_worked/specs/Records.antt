@@ -22,7 +22,8 @@ hi = codes "hi"
 abbrev pub item : ℕ → List ℕ → Item
 item rec payload = record { rec = rec; payload = payload }
 
--- a record is written to both members and acknowledged, though the first was emptied before the second synced it
+-- a record is written to both members and acknowledged, though the first was emptied before the
+-- second synced it
 abbrev pub written_and_synced : List Entry
 written_and_synced =
     entry 0 0 (Form pair 0) (Formed 0)
@@ -64,7 +65,9 @@ acknowledged =
 
 -- and the second isn't emptied
 abbrev pub spared : List Entry
-spared = acknowledged ++ entry 9 1 (empty (process_named (codes "p2"))) (weakened Reboot (TooManyDestroyed 0)) ∷ []
+spared =
+    acknowledged
+    ++ entry 9 1 (empty (process_named (codes "p2"))) (weakened Reboot (TooManyDestroyed 0)) ∷ []
 
 -- three records are begun, and their stores to the first member delivered
 abbrev pub three_written : List Entry
@@ -84,13 +87,15 @@ torn = three_written ++ entry 7 1 (reboot (process_named (codes "p0")) 5) (struc
 
 -- what it kept is synced, so that nothing is left to sync
 abbrev pub torn_and_back : List Entry
-torn_and_back = torn ++ entry 8 0 (Up (process 0)) Done ∷ entry 9 0 (Sync (process 0)) (Synced 6 0) ∷ []
+torn_and_back =
+    torn ++ entry 8 0 (Up (process 0)) Done ∷ entry 9 0 (Sync (process 0)) (Synced 6 0) ∷ []
 
 -- the next reboot tears nothing off of what the first one kept
 abbrev pub torn_once : List Entry
 torn_once = torn ++ entry 8 1 (reboot (process_named (codes "p0")) 0) (struck Reboot) ∷ []
 
--- a write after the reboot has the first place again, whatever was written elsewhere, and the next reboot keeps it
+-- a write after the reboot has the first place again, whatever was written elsewhere, and the next
+-- reboot keeps it
 abbrev pub counted_anew : List Entry
 counted_anew =
     torn
@@ -174,7 +179,8 @@ weakened_and_torn =
     ∷ entry 2 0 (Begin 0 (11 ∷ [])) (Begun 1 2)
     ∷ entry 3 0 (Deliver 0) Stored
     ∷ entry 4 0 (Deliver 2) Stored
-    ∷ entry 5 1 (empty_or_tear (process_named (codes "p0")) 2) (weakened Reboot (TooManyDestroyed 0))
+    ∷ entry 5 1 (empty_or_tear (process_named (codes "p0")) 2)
+    (weakened Reboot (TooManyDestroyed 0))
     ∷ []
 
 -- an emptied member is back and has the record synced again, before it is acknowledged

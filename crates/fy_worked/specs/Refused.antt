@@ -108,7 +108,8 @@ team_by_policy =
     ∷ entry 2 0 (Form (process 0 ∷ process 2 ∷ process 4 ∷ []) 0) (Formed 1)
     ∷ []
 
--- that a process is no member comes before that the record is acknowledged; there is no second record
+-- that a process is no member comes before that the record is acknowledged; there is no second
+-- record
 abbrev pub no_member_of_acknowledged : List Entry
 no_member_of_acknowledged =
     written_and_synced

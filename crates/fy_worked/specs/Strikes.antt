@@ -18,7 +18,9 @@ one_zone = entry 0 1 (kill (zone_named (codes "z0"))) (struck KillInstantly) ∷
 
 -- two of three zones are to be killed: the second is only rebooted
 abbrev pub two_zones : List Entry
-two_zones = one_zone ++ entry 1 1 (kill (zone_named (codes "z1"))) (weakened Reboot (TooManyDestroyed 0)) ∷ []
+two_zones =
+    one_zone ++ entry 1 1 (kill (zone_named (codes "z1"))) (weakened Reboot (TooManyDestroyed 0))
+    ∷ []
 
 -- the second order of these
 abbrev pub second_kill : Order
@@ -30,15 +32,19 @@ few_left = entry 0 1 (kill (zone_named (codes "z0"))) (weakened RebootAndDelete 
 
 -- the same with a floor that allows nothing milder
 abbrev pub few_left_and_nothing_milder : List Entry
-few_left_and_nothing_milder = entry 0 1 (kill_or_nothing (zone_named (codes "z0"))) (barred (TooFewLeft 0)) ∷ []
+few_left_and_nothing_milder =
+    entry 0 1 (kill_or_nothing (zone_named (codes "z0"))) (barred (TooFewLeft 0)) ∷ []
 
 -- where one process satisfies the policy, none is emptied
 abbrev pub one_is_enough : List Entry
-one_is_enough = entry 0 1 (empty (process_named (codes "p0"))) (weakened Reboot (TooManyDestroyed 0)) ∷ []
+one_is_enough =
+    entry 0 1 (empty (process_named (codes "p0"))) (weakened Reboot (TooManyDestroyed 0)) ∷ []
 
--- an actor without a grant to empty: the kill is weakened by two steps, and the rule is that of the ordered kind
+-- an actor without a grant to empty: the kill is weakened by two steps, and the rule is that of the
+-- ordered kind
 abbrev pub few_left_and_no_grant_to_empty : List Entry
-few_left_and_no_grant_to_empty = entry 0 2 (kill (zone_named (codes "z0"))) (weakened Reboot (TooFewLeft 0)) ∷ []
+few_left_and_no_grant_to_empty =
+    entry 0 2 (kill (zone_named (codes "z0"))) (weakened Reboot (TooFewLeft 0)) ∷ []
 
 -- an emptied process comes back, and is destroyed still: no other zone is emptied
 abbrev pub back_and_destroyed : List Entry
@@ -48,7 +54,8 @@ back_and_destroyed =
     ∷ entry 2 1 (empty (zone_named (codes "z1"))) (weakened Reboot (TooManyDestroyed 0))
     ∷ []
 
--- one of a zone is emptied and the other killed, since the emptied one is left; nothing but the emptied one is a target then
+-- one of a zone is emptied and the other killed, since the emptied one is left; nothing but the
+-- emptied one is a target then
 abbrev pub emptied_is_left : List Entry
 emptied_is_left =
     entry 0 1 (empty (process_named (codes "p0"))) (struck RebootAndDelete)
@@ -66,7 +73,8 @@ killed_is_not_left =
 
 -- a process in each of three zones, and beside it both two zones and someone
 abbrev pub three_and_two : Setup
-three_and_two = six_under (across 3 Zone one ∷ every (part (across 2 Zone one) (part one none)) ∷ [])
+three_and_two =
+    six_under (across 3 Zone one ∷ every (part (across 2 Zone one) (part one none)) ∷ [])
 
 -- each rule names the first policy by which it bars
 abbrev pub two_policies : List Entry
@@ -77,7 +85,8 @@ two_policies =
 
 -- a process on a machine of its own, in a zone of its own
 abbrev pub in_hall : List ℕ → Option (List ℕ) → Locality
-in_hall name hall = record { process = name; machine = name; zone = name; data_hall = hall; data_center = None }
+in_hall name hall =
+    record { process = name; machine = name; zone = name; data_hall = hall; data_center = None }
 
 -- three processes are in a hall of their own each, and three in none; there have to be two halls
 abbrev pub halls : Setup
