@@ -105,7 +105,7 @@ fn judged(alloc: Global, bytes: &[u8]) -> Result<Vec<u8>, Stop>
 
 /// Reads policies, processes and asks from the reader to its end, and writes a line for each ask.
 ///
-/// The whole input is read and judged before the first byte is written.
+/// The whole input is read and judged before the first byte is written, and at most one byte past its limit is read.
 ///
 /// # Errors
 ///
