@@ -1,3 +1,4 @@
+pub mod Indexed
 pub mod Key
 pub mod Locality
 pub mod Members

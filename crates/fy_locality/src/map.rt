@@ -7,10 +7,11 @@ ghost use Rattle.std.specs.Map.{keys_of};
 ghost use Rattle.std.specs.Str.{bytes_eq};
 ghost use Rattle.indexmap.specs.IndexMap.{spare};
 ghost use Rattle.fy_locality.specs.declared.key.Key.TheVariants.{Process};
-ghost use Rattle.fy_locality.specs.Locality.{value_of, has_value, values_of, IsIndex, group_of, ArePeers, locality_of, taken_or_full, refusal_of};
+ghost use Rattle.fy_locality.specs.Locality.{value_of, has_value, values_of, NamesDiffer, ArePeers, locality_of, taken_or_full, refusal_of};
+ghost use Rattle.fy_locality.specs.Indexed.{IsIndex, StandsAt, group_of};
 ghost use Rattle.fy_locality.specs.Noted.{Notes};
 
-use crate::{BadName, Key, Locality, Name, ProcId, ProcSet};
+use crate::{BadName, Key, Locality, MOST_PROCESSES, Name, ProcId, ProcSet};
 use indexmap::IndexMap;
 use std::alloc::{AllocError, AllocFailed, Global};
 use std::marker::Model;
@@ -28,12 +29,13 @@ pub struct Map {
 }
 
 /// Where the values of one process stand among the values of their keys, so that no name has to be looked up for them.
+/// None for a key of which it has no value.
 #[derive(Clone, Copy)]
 struct Places {
-    machine: usize,
-    zone: usize,
-    data_hall: usize,
-    data_center: usize,
+    machine: Option<usize>,
+    zone: Option<usize>,
+    data_hall: Option<usize>,
+    data_center: Option<usize>,
 }
 
 impl Model for Map {
@@ -42,11 +44,14 @@ impl Model for Map {
 
     ghost Value = { List Locality };
 
-    ghost use Rattle.fy_locality.specs.Locality.{IsIndexed};
+    ghost use Rattle.fy_locality.specs.Indexed.{IsIndexed};
 
     ghost view = { λ m. m.processes.items };
 
-    ghost invariant = { λ m. IsIndexed m.processes.items m.ids.entries m.machines.entries m.zones.entries m.halls.entries m.centers.entries };
+    ghost invariant = { λ m.
+        IsIndexed m.processes.items
+        m.ids.entries m.machines.entries m.zones.entries m.halls.entries m.centers.entries
+        m.places.items };
 }
 
 impl Map {
@@ -71,7 +76,7 @@ impl Map {
     /// How many processes there are: at most 1024.
     pub fn len(&self) -> u32
         ensures count { result ≡ length self.now }
-        ensures few { length self.now ≤ 1024 }
+        ensures few { length self.now ≤ MOST_PROCESSES }
     {
         self.processes.len() as u32
     }
@@ -85,7 +90,7 @@ impl Map {
 
     fn index(&self, key: Key) -> &IndexMap<Name, ProcSet>
         ensures index { IsIndex self.now key result.now.entries }
-        ensures few { length self.now ≤ 1024 }
+        ensures few { length self.now ≤ MOST_PROCESSES }
     {
         match key {
             Key::Process => &self.ids,
@@ -129,28 +134,37 @@ impl Map {
     }
 
     /// The processes with the value that a process has of a key, itself among them; none where there is no such process,
-    /// or where it has no value of the key. Takes no memory.
+    /// or where it has no value of the key. Takes no memory and compares no names.
     pub fn peers(&self, p: ProcId, key: Key) -> Option<ProcSet>
         ensures some { IfSome result (ArePeers self.now key p.0) }
         ensures none { IfNone result (value_of self.now key p.0 ≡ None) }
     {
-        let name = self.processes.get(p.0 as usize)?.name(key)?;
-        Some(group_near(self.index(key), self.place(p, key), name))
+        let place = self.place(p, key)?;
+        match self.index(key).get_index(place) {
+            Some((_, members)) => Some(*members),
+            None => unreachable!(),
+        }
     }
 
-    /// Where the value of a process likely stands among the values of a key. Nothing rests on it: who looks there checks
-    /// what is found.
-    fn place(&self, p: ProcId, key: Key) -> usize {
-        match self.places.get(p.0 as usize) {
-            Some(places) => match key {
-                Key::Process => p.0 as usize,
-                Key::Machine => places.machine,
-                Key::Zone => places.zone,
-                Key::DataHall => places.data_hall,
-                Key::DataCenter => places.data_center,
-            },
-            None => 0,
+    /// Where the value of a process stands among the values of a key.
+    fn place(&self, p: ProcId, key: Key) -> Option<usize>
+        ensures { StandsAt (values_of self.now key) (value_of self.now key p.0) result }
+    {
+        let places = self.places.get(p.0 as usize)?;
+        match key {
+            Key::Process => Some(p.0 as usize),
+            Key::Machine => places.machine,
+            Key::Zone => places.zone,
+            Key::DataHall => places.data_hall,
+            Key::DataCenter => places.data_center,
         }
+    }
+
+    /// Two processes with one name are one.
+    pub fn names_differ(&self)
+        ensures { NamesDiffer self.now }
+    {
+        let _processes = &self.processes;
     }
 
     /// Every process.
@@ -219,7 +233,7 @@ impl Map {
         if self.ids.contains_key(id) {
             return Some(MapFault::Twice);
         }
-        if self.processes.len() >= 1024 {
+        if self.processes.len() >= MOST_PROCESSES as usize {
             return Some(MapFault::TooMany);
         }
         None
@@ -244,19 +258,15 @@ impl Map {
         self.halls.reserve(1)?;
         self.centers.reserve(1)?;
         self.places.reserve(1)?;
-        note(&mut self.ids, Some(locality.process), number);
-        note(&mut self.machines, Some(locality.machine), number);
-        note(&mut self.zones, Some(locality.zone), number);
-        note(&mut self.halls, locality.data_hall, number);
-        note(&mut self.centers, locality.data_center, number);
-        self.processes.push(locality)?;
-        // The room was made before, so this isn't refused.
-        let _ = self.places.push(Places {
-            machine: place_of(&self.machines, Some(locality.machine)),
-            zone: place_of(&self.zones, Some(locality.zone)),
-            data_hall: place_of(&self.halls, locality.data_hall),
-            data_center: place_of(&self.centers, locality.data_center),
-        });
+        let _number = note(&mut self.ids, Some(locality.process), number);
+        let places = Places {
+            machine: note(&mut self.machines, Some(locality.machine), number),
+            zone: note(&mut self.zones, Some(locality.zone), number),
+            data_hall: note(&mut self.halls, locality.data_hall, number),
+            data_center: note(&mut self.centers, locality.data_center, number),
+        };
+        self.processes.push_reserved(locality);
+        self.places.push_reserved(places);
         Ok(number)
     }
 }
@@ -328,36 +338,18 @@ fn group(index: &IndexMap<Name, ProcSet>, value: &Name) -> ProcSet
     }
 }
 
-/// The processes kept for a value: looked for at a place first, and else by its name.
-fn group_near(index: &IndexMap<Name, ProcSet>, place: usize, value: &Name) -> ProcSet
-    requires { IsDistinct bytes_eq (keys_of index.now.entries) }
-    ensures { result ≡ group_of index.now.entries value.now }
-{
-    if let Some((name, members)) = index.get_index(place) {
-        if name == value {
-            return *members;
-        }
-    }
-    group(index, value)
-}
-
-/// The place of a value, where there is one.
-fn place_of(index: &IndexMap<Name, ProcSet>, value: Option<Name>) -> usize {
-    match value {
-        Some(name) => index.get_index_of(&name).unwrap_or(0),
-        None => 0,
-    }
-}
-
-/// Puts a process into the set of its value, where it has one.
-fn note(index: &mut IndexMap<Name, ProcSet>, value: Option<Name>, p: ProcId)
+/// Puts a process into the set of its value, and says where that value stands; nothing where it has none.
+fn note(index: &mut IndexMap<Name, ProcSet>, value: Option<Name>, p: ProcId) -> Option<usize>
     requires room { 0 < spare index.old }
-    requires small { p.0 < 1024 }
-    ensures { Notes index.old.entries value p.0 index.new.entries }
+    requires small { p.0 < MOST_PROCESSES }
+    ensures notes { Notes index.old.entries value p.0 index.new.entries }
+    ensures place { StandsAt (keys_of index.new.entries) value result }
 {
-    if let Some(name) = value {
-        let mut members = group(index, &name);
-        members.put(p);
-        let _ = index.insert(name, members);
+    let name = value?;
+    let mut members = group(index, &name);
+    members.put(p);
+    match index.insert_full(name, members) {
+        Ok((place, _)) => Some(place),
+        Err(_) => unreachable!(),
     }
 }
