@@ -190,7 +190,10 @@ impl Map {
         }
     }
 
-    /// An equal map, or no memory.
+    /// An equal map.
+    ///
+    /// # Errors
+    /// Want of memory.
     pub fn try_copy(&self, alloc: Global) -> Result<Map, AllocError>
         ensures { IfOk result (λ copy. copy ≡ self.now) }
     {
@@ -205,8 +208,11 @@ impl Map {
         })
     }
 
-    /// One more process, which gets the next number. In order: a text that is no name, an `id` that is there already,
-    /// 1024 processes are there already, no memory. A refused process leaves the map as it was.
+    /// One more process, which gets the next number. A refused process leaves the map as it was.
+    ///
+    /// # Errors
+    /// In this order: `Name` for a text that is no name; `Twice` for an `id` that is there already; `TooMany` where 1024
+    /// processes are there already; `NoMemory`.
     pub fn add(
         &mut self,
         id: &str,
@@ -215,10 +221,16 @@ impl Map {
         hall: Option<&str>,
         dc: Option<&str>,
     ) -> Result<ProcId, MapFault>
-        ensures refused { (fault : MapFault) → refusal_of self.old (locality_of id.now machine.now zone.now (option_copied hall.entry) (option_copied dc.entry)) ≡ Some fault → result ≡ Err fault }
-        ensures memory { refusal_of self.old (locality_of id.now machine.now zone.now (option_copied hall.entry) (option_copied dc.entry)) ≡ None → IfErr result (λ fault. fault ≡ NoMemory) }
+        ensures refused { let given = locality_of id.now machine.now zone.now
+            (option_copied hall.entry) (option_copied dc.entry) in
+            (fault : MapFault) → refusal_of self.old given ≡ Some fault → result ≡ Err fault }
+        ensures memory { let given = locality_of id.now machine.now zone.now
+            (option_copied hall.entry) (option_copied dc.entry) in
+            refusal_of self.old given ≡ None → IfErr result (λ fault. fault ≡ NoMemory) }
         ensures number { IfOk result (λ p. p.0 ≡ length self.old) }
-        ensures added { IfOk result (λ p. self.new ≡ self.old ++ locality_of id.now machine.now zone.now (option_copied hall.entry) (option_copied dc.entry) ∷ []) }
+        ensures added { let given = locality_of id.now machine.now zone.now
+            (option_copied hall.entry) (option_copied dc.entry) in
+            IfOk result (λ p. self.new ≡ self.old ++ given ∷ []) }
         ensures err { OnErr result (self.new ≡ self.old) }
     {
         match Locality::make(id, machine, zone, hall, dc) {
@@ -239,12 +251,18 @@ impl Map {
         None
     }
 
-    /// One more process whose names are known, as `add` does: refused where its name is there already, where 1024
-    /// processes are there already, and for want of memory, in this order.
+    /// One more process whose names are known, as `add` does.
+    ///
+    /// # Errors
+    /// In this order: `Twice` where its name is there already; `TooMany` where 1024 processes are there already;
+    /// `NoMemory`.
     pub fn push(&mut self, locality: Locality) -> Result<ProcId, MapFault>
-        ensures refused { (fault : MapFault) → taken_or_full self.old locality.process ≡ Some fault → result ≡ Err fault }
-        ensures memory { taken_or_full self.old locality.process ≡ None → IfErr result (λ fault. fault ≡ NoMemory) }
-        ensures ok { IfOk result (λ p. (p.0 ≡ length self.old) × (self.new ≡ self.old ++ locality ∷ [])) }
+        ensures refused { (fault : MapFault)
+            → taken_or_full self.old locality.process ≡ Some fault → result ≡ Err fault }
+        ensures memory { taken_or_full self.old locality.process ≡ None
+            → IfErr result (λ fault. fault ≡ NoMemory) }
+        ensures ok { IfOk result (λ p.
+            (p.0 ≡ length self.old) × (self.new ≡ self.old ++ locality ∷ [])) }
         ensures err { OnErr result (self.new ≡ self.old) }
     {
         let number = ProcId(self.len());
@@ -321,6 +339,9 @@ impl<T: Drop> From<AllocFailed<T>> for MapFault {
 }
 
 /// The same values again with their processes, in memory of their own.
+///
+/// # Errors
+/// Want of memory.
 fn copied(index: &IndexMap<Name, ProcSet>) -> Result<IndexMap<Name, ProcSet>, AllocError>
     ensures { IfOk result (λ copy. copy.entries ≡ index.now.entries) }
 {
