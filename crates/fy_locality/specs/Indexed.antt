@@ -1,4 +1,4 @@
--- what a Map keeps beside its processes: an index of the values of each key, and where each value stands in it
+-- what a Map keeps beside its processes: an index of the values of each key, and their places in it
 use Rattle.std.specs.Prelude.{◌≡◌, ◌≤◌, ℕ, List, length, Option, Some, None, MatchOption, slice_get, option_and_then, unwrap_or}
 use Rattle.std.specs.Ordering.{nat_cmp}
 use Rattle.std.specs.FinSet as sets
@@ -23,11 +23,14 @@ group_of entries v = unwrap_or (lookup (bytes_eq v) entries) sets.empty
 -- the values of a key in first-seen order, each with the processes that have it
 pub record IsIndex (processes : List Locality) (key : Key) (entries : Entries) : Type 0 where
   pub seen : keys_of entries ≡ values_of processes key
-  pub grouped : (v : List ℕ) (q : ℕ) → sets.contains (group_of entries v) q ≡ has_value processes key v q
+  pub grouped :
+      (v : List ℕ) (q : ℕ)
+      → sets.contains (group_of entries v) q ≡ has_value processes key v q
 
 -- a value stands at its place among the names, and what is no value has no place
 abbrev pub StandsAt : List (List ℕ) → Option (List ℕ) → Option ℕ → Type 0
-StandsAt names value place = MatchOption value (place ≡ None) (λ v. option_and_then (slice_get names) place ≡ Some v)
+StandsAt names value place =
+    MatchOption value (place ≡ None) (λ v. option_and_then (slice_get names) place ≡ Some v)
 
 -- the place that is kept for a key of process p: its own name stands at its number
 abbrev pub place_in : Key → ℕ → Places → Option ℕ
@@ -46,7 +49,9 @@ pub record ArePlaces (processes : List Locality) (places : List Places) : Type 0
       → StandsAt (values_of processes key) (value_of processes key p) (place_in key p kept)
 
 -- names that differ, an index for each key, and places in them
-pub record IsIndexed (processes : List Locality) (ids machines zones halls centers : Entries) (places : List Places) : Type 0 where
+pub record IsIndexed
+    (processes : List Locality) (ids machines zones halls centers : Entries) (places : List Places)
+    : Type 0 where
   pub few : length processes ≤ MOST_PROCESSES
   pub own : filter_map (value_in Process) processes ≡ values_of processes Process
   pub ids_are : IsIndex processes Process ids

@@ -37,7 +37,9 @@ NamesDiffer processes =
     → value_of processes Process p ≡ Some name → value_of processes Process q ≡ Some name → p ≡ q
 
 -- the set has exactly the processes with the value that process p has of a key
-pub record ArePeers (processes : List Locality) (key : Key) (p : ℕ) (set : sets.FinSet nat_cmp) : Type 0 where
+pub record ArePeers
+    (processes : List Locality) (key : Key) (p : ℕ) (set : sets.FinSet nat_cmp)
+    : Type 0 where
   pub value : List ℕ
   pub had : value_of processes key p ≡ Some value
   pub those : (q : ℕ) → sets.contains set q ≡ has_value processes key value q
@@ -54,13 +56,20 @@ values_of processes key = first_seen (filter_map (value_in key) processes)
 -- five texts as a locality
 abbrev pub locality_of : List ℕ → List ℕ → List ℕ → Option (List ℕ) → Option (List ℕ) → Locality
 locality_of process machine zone data_hall data_center =
-    record { process = process; machine = machine; zone = zone; data_hall = data_hall; data_center = data_center }
+    record {
+      process = process;
+      machine = machine;
+      zone = zone;
+      data_hall = data_hall;
+      data_center = data_center;
+    }
 
 -- whether each of its texts is a name
 abbrev pub are_names : Locality → Bool
 are_names locality =
     is_name locality.process && is_name locality.machine && is_name locality.zone
-    && option_map_or is_name locality.data_hall true && option_map_or is_name locality.data_center true
+    && option_map_or is_name locality.data_hall true
+    && option_map_or is_name locality.data_center true
 
 -- why a process with a name is not taken, in order
 abbrev pub taken_or_full : List Locality → List ℕ → Option MapFault

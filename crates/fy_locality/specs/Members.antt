@@ -15,7 +15,8 @@ has_bit ws k = eqb (bit_at (get_or ws (k / WORD_BITS) 0) (k % WORD_BITS)) 1
 -- the numbers below n whose bit is set
 unfoldable pub members_below : List ℕ → ℕ → set.FinSet nat_cmp
 members_below ws zero = set.empty
-members_below ws (suc n) = cond (has_bit ws n) (set.insert (members_below ws n) n) (members_below ws n)
+members_below ws (suc n) =
+    cond (has_bit ws n) (set.insert (members_below ws n) n) (members_below ws n)
 
 -- the numbers of processes whose bit is set
 unfoldable pub members : List ℕ → set.FinSet nat_cmp
@@ -29,7 +30,9 @@ pub record IsLeast (s : set.FinSet nat_cmp) (p : ℕ) : Type 0 where
 -- the item is the least of s, and t is s without it; there is no item where s is empty
 abbrev pub TakesLeast : set.FinSet nat_cmp → Option ProcId → set.FinSet nat_cmp → Type 0
 TakesLeast s item t =
-    MatchOption item ((s ≡ set.empty) × (t ≡ set.empty)) (λ p. IsLeast s p.0 × (t ≡ set.remove s p.0))
+    MatchOption item
+    ((s ≡ set.empty) × (t ≡ set.empty))
+    (λ p. IsLeast s p.0 × (t ≡ set.remove s p.0))
 
 -- each member is the number of a process
 abbrev pub AreSmall : set.FinSet nat_cmp → Type 0

@@ -1,4 +1,5 @@
--- why the words of a set are those of its members: lemmas that stand here since the model of `ProcSet` cites the last
+-- why the words of a set are those of its members: these lemmas stand here since the model of
+-- `ProcSet` cites one of them
 use Rattle.std.specs.Prelude.{◌≡◌, ℕ, ◌+◌, ◌-◌, ◌*◌, ◌/◌, ◌%◌, ◌^◌, ◌<◌, ◌≤◌, Bool, true, false, ◌&&◌, ◌||◌, List, length}
 use Rattle.std.specs.Ordering.{nat_cmp}
 use Rattle.std.specs.Int.{bit_at}

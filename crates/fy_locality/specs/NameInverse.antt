@@ -1,4 +1,5 @@
--- why the bytes of a name are its characters and zeros: a lemma that stands here since the model of `Name` cites it
+-- why the bytes of a name are its characters and zeros: these lemmas stand here since the model of
+-- `Name` cites them
 use Rattle.std.specs.Prelude.{◌≡◌, ℕ, ◌-◌, ◌<◌, List, ◌++◌, length, take, replicate}
 use Rattle.std.proofs.Common.{inl, inr, sym, ◌∙◌, arith}
 use Rattle.std.proofs.lemmas.List.{same_lists, length-take-le, length-append, length-replicate, get_or_append_left, get_or-append_right, get_or-replicate, get_or-take, get_or_default}

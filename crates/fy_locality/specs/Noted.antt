@@ -17,4 +17,5 @@ pub record Notes (old : Entries) (value : Option (List ℕ)) (p : ℕ) (new : En
   pub seen : keys_of new ≡ noted (keys_of old) value
   pub grouped :
       (v : List ℕ) (q : ℕ)
-      → sets.contains (group_of new v) q ≡ (sets.contains (group_of old v) q || (q == p && option_eq bytes_eq value (Some v)))
+      → sets.contains (group_of new v) q
+      ≡ (sets.contains (group_of old v) q || (q == p && option_eq bytes_eq value (Some v)))

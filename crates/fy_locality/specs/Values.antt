@@ -9,13 +9,15 @@ use Rattle.fy_locality.specs.Locality.{value_of, has_value, values_of}
 
 -- the values of a key differ
 abbrev pub ValuesDiffer : Type 0
-ValuesDiffer = (processes : List Locality) (key : Key) → IsDistinct bytes_eq (values_of processes key)
+ValuesDiffer =
+    (processes : List Locality) (key : Key) → IsDistinct bytes_eq (values_of processes key)
 
 -- a value of a key is one that some process has
 abbrev pub ValuesOccur : Type 0
 ValuesOccur =
     (processes : List Locality) (key : Key) (v : List ℕ)
-    → (is_member bytes_eq (values_of processes key) v ≡ true) ↔ ((p : ℕ) × (value_of processes key p ≡ Some v))
+    → (is_member bytes_eq (values_of processes key) v ≡ true)
+    ↔ ((p : ℕ) × (value_of processes key p ≡ Some v))
 
 -- a process passes the test of a value exactly where that is its value
 abbrev pub ValueIsHad : Type 0

@@ -15,7 +15,8 @@ pub enum Key {
 impl Key {
     ghost use Rattle.fy_locality.specs.declared.key.Key.{Key};
 
-    /// The key as every text of the product writes it: `processid`, `machineid`, `zoneid`, `data_hall`, `dcid`.
+    /// The key as every text of the product writes it: `processid`, `machineid`, `zoneid`,
+    /// `data_hall`, `dcid`.
     pub fn text(self) -> &'static str
         ensures { result.now ≡ key_text self }
     {

@@ -2,7 +2,8 @@
 use crate::name::known;
 use crate::{BadName, Key, Name};
 
-/// One process: its name, its machine and zone, and its data hall and data centre where they are known.
+/// One process: its name, its machine and zone, and its data hall and data centre where they are
+/// known.
 #[derive(Clone, Copy)]
 pub struct Locality {
     pub process: Name,

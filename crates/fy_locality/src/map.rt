@@ -16,8 +16,8 @@ use indexmap::IndexMap;
 use std::alloc::{AllocError, AllocFailed, Global};
 use std::marker::Model;
 
-/// The processes in order of their numbers, and for each key its values in the order in which they were first seen,
-/// each with the processes that have it.
+/// The processes in order of their numbers, and for each key its values in the order in which they
+/// were first seen, each with the processes that have it.
 pub struct Map {
     processes: Vec<Locality>,
     ids: IndexMap<Name, ProcSet>,
@@ -28,8 +28,8 @@ pub struct Map {
     places: Vec<Places>,
 }
 
-/// Where the values of one process stand among the values of their keys, so that no name has to be looked up for them.
-/// None for a key of which it has no value.
+/// Where the values of one process stand among the values of their keys, so that no name has to be
+/// looked up for them. None for a key of which it has no value.
 #[derive(Clone, Copy)]
 struct Places {
     machine: Option<usize>,
@@ -133,8 +133,9 @@ impl Map {
         group(self.index(key), value)
     }
 
-    /// The processes with the value that a process has of a key, itself among them; none where there is no such process,
-    /// or where it has no value of the key. Takes no memory and compares no names.
+    /// The processes with the value that a process has of a key, itself among them; none where
+    /// there is no such process, or where it has no value of the key. Takes no memory and compares
+    /// no names.
     pub fn peers(&self, p: ProcId, key: Key) -> Option<ProcSet>
         ensures some { IfSome result (ArePeers self.now key p.0) }
         ensures none { IfNone result (value_of self.now key p.0 ≡ None) }
@@ -211,8 +212,8 @@ impl Map {
     /// One more process, which gets the next number. A refused process leaves the map as it was.
     ///
     /// # Errors
-    /// In this order: `Name` for a text that is no name; `Twice` for an `id` that is there already; `TooMany` where 1024
-    /// processes are there already; `NoMemory`.
+    /// In this order: `Name` for a text that is no name; `Twice` for an `id` that is there already;
+    /// `TooMany` where 1024 processes are there already; `NoMemory`.
     pub fn add(
         &mut self,
         id: &str,
@@ -254,8 +255,8 @@ impl Map {
     /// One more process whose names are known, as `add` does.
     ///
     /// # Errors
-    /// In this order: `Twice` where its name is there already; `TooMany` where 1024 processes are there already;
-    /// `NoMemory`.
+    /// In this order: `Twice` where its name is there already; `TooMany` where 1024 processes are
+    /// there already; `NoMemory`.
     pub fn push(&mut self, locality: Locality) -> Result<ProcId, MapFault>
         ensures refused { (fault : MapFault)
             → taken_or_full self.old locality.process ≡ Some fault → result ≡ Err fault }
@@ -359,7 +360,8 @@ fn group(index: &IndexMap<Name, ProcSet>, value: &Name) -> ProcSet
     }
 }
 
-/// Puts a process into the set of its value, and says where that value stands; nothing where it has none.
+/// Puts a process into the set of its value, and says where that value stands; nothing where it has
+/// none.
 fn note(index: &mut IndexMap<Name, ProcSet>, value: Option<Name>, p: ProcId) -> Option<usize>
     requires room { 0 < spare index.old }
     requires small { p.0 < MOST_PROCESSES }

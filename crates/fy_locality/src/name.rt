@@ -116,7 +116,8 @@ impl Name {
 /// # Errors
 /// `BadName` for a text that is no name.
 pub(crate) fn known(text: Option<&str>) -> Result<Option<Name>, BadName>
-    ensures accepted { IsOk result ↔ IsTrue (option_map_or is_name (option_copied text.entry) true) }
+    ensures accepted { IsOk result
+        ↔ IsTrue (option_map_or is_name (option_copied text.entry) true) }
     ensures value { IfOk result (λ n. n ≡ option_copied text.entry) }
 {
     match text {

@@ -369,7 +369,8 @@ fn a_full_map_is_copied(rt: HostRuntime) -> Result<(), Fail> {
     Ok(())
 }
 
-/// Adds one process, and says whether the map is right after it: one longer, or as it was where memory was refused.
+/// Adds one process, and says whether the map is right after it: one longer, or as it was where
+/// memory was refused.
 fn adds_or_stays(map: &mut Map, number: u32) -> bool {
     let digits = digits_of(number);
     let Ok(id) = str::from_utf8(&digits) else {
