@@ -6,11 +6,11 @@ use Rattle.std.specs.FinSet as set
 use Rattle.std.proofs.Common.{zero, suc, cond, eqb, get_or}
 use Rattle.fy_locality.specs.declared.ProcId.{ProcId}
 use Rattle.fy_locality.specs.declared.TheConstants.{MOST_PROCESSES}
-use Rattle.fy_locality.specs.declared.process_set.TheConstants.{WORD_BITS, WORDS}
+use Rattle.fy_locality.specs.declared.process_set.TheConstants.{WORDS}
 
 -- bit k of the words
 abbrev pub has_bit : List ℕ → ℕ → Bool
-has_bit ws k = eqb (bit_at (get_or ws (k / WORD_BITS) 0) (k % WORD_BITS)) 1
+has_bit ws k = eqb (bit_at (get_or ws (k / 64) 0) (k % 64)) 1
 
 -- the numbers below n whose bit is set
 unfoldable pub members_below : List ℕ → ℕ → set.FinSet nat_cmp
@@ -38,10 +38,10 @@ TakesLeast s item t =
 abbrev pub AreSmall : set.FinSet nat_cmp → Type 0
 AreSmall s = (q : ℕ) → set.contains s q ≡ true → q < MOST_PROCESSES
 
--- words with a bit for each process
+-- words of 64 bits with a bit for each process
 pub record AreWords (ws : List ℕ) : Type 0 where
   pub count : length ws ≡ WORDS
-  pub fit : (k : ℕ) → get_or ws k 0 < 2 ^ WORD_BITS
+  pub fit : (k : ℕ) → get_or ws k 0 < 2 ^ 64
 
 -- the n bits from base on, the first one lowest
 unfoldable pub word : (ℕ → Bool) → ℕ → ℕ → ℕ
@@ -51,7 +51,7 @@ word f base (suc n) = cond (f (base + n)) 1 0 * 2 ^ n + word f base n
 -- n words of these bits from word k on
 unfoldable pub words_from : (ℕ → Bool) → ℕ → ℕ → List ℕ
 words_from f k zero = []
-words_from f k (suc n) = word f (k * WORD_BITS) WORD_BITS ∷ words_from f (suc k) n
+words_from f k (suc n) = word f (k * 64) 64 ∷ words_from f (suc k) n
 
 -- the words of a set
 unfoldable pub words_of : set.FinSet nat_cmp → List ℕ

@@ -7,10 +7,8 @@ ghost use Rattle.fy_locality.specs.Members.{IsLeast, AreSmall};
 use crate::{MOST_PROCESSES, ProcId, Processes};
 use std::marker::Model;
 
-/// How many bits a word has.
-const WORD_BITS: u32 = 64;
-/// How many words have a bit for each process.
-const WORDS: usize = (MOST_PROCESSES / WORD_BITS) as usize;
+/// How many words of 64 bits have a bit for each process.
+const WORDS: usize = MOST_PROCESSES as usize / 64;
 
 /// A set of processes, each below 1024. It takes no memory and is `Copy`.
 #[derive(Clone, Copy)]

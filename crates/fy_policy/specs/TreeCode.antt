@@ -73,4 +73,5 @@ mutual
 -- the code of a tree
 abbrev pub tree_code : Coded Tree
 tree_code =
-    coded_via (coded_list coded_ℕ) stored (λ t u e. (stored_once t u [] [] (ap (λ xs. xs ++ []) e)).0)
+    coded_via (coded_list coded_ℕ) stored (λ t u e.
+    (stored_once t u [] [] (ap (λ xs. xs ++ []) e)).0)
