@@ -26,7 +26,7 @@ pub struct Cluster {
 impl Model for Cluster {
     ghost use Rattle.std.specs.Coded.{codes};
     ghost use Rattle.fy_locality.specs.contracts.locality.Locality as e;
-    ghost use Rattle.fy_policy.specs.Tree.{tree_code};
+    ghost use Rattle.fy_policy.specs.TreeCode.{tree_code};
     ghost use Rattle.fy_cluster.specs.Course.{Course};
     ghost use Rattle.fy_cluster.specs.Standing.{IsKept};
 

@@ -55,7 +55,7 @@ pub struct Config {
 impl Model for Config {
     ghost use Rattle.std.specs.Coded.{codes};
     ghost use Rattle.fy_locality.specs.contracts.locality.Locality as e;
-    ghost use Rattle.fy_policy.specs.Tree.{tree_code};
+    ghost use Rattle.fy_policy.specs.TreeCode.{tree_code};
     ghost use Rattle.fy_cluster.specs.Setup.{Setup, setup_of, IsSetup};
 
     ghost Value = { Setup };

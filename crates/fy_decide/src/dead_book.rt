@@ -77,7 +77,7 @@ impl Model for DeadBook {
     ghost use Rattle.std.specs.FinSet as sets;
     ghost use Rattle.std.specs.Ordering.{nat_cmp};
     ghost use Rattle.fy_locality.specs.contracts.locality.Locality as e;
-    ghost use Rattle.fy_policy.specs.Tree.{tree_code};
+    ghost use Rattle.fy_policy.specs.TreeCode.{tree_code};
     ghost use Rattle.fy_decide.specs.DeadBook.{Casualties, IsSafe};
 
     ghost Value = { Casualties };

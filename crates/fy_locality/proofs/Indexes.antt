@@ -1,10 +1,10 @@
 -- an index of the values of a key, after one more process
 use Rattle.std.proofs.Common.{◌≡◌, ℕ, ◌+◌, ◌<◌, ◌≤◌, zero, suc, Bool, true, false, cond, ◌&&◌, ◌||◌, List, [], ◌∷◌, ◌++◌, length, Option, Some, None, refl, sym, ap, subst, ◌∙◌, arith, eqb, leb}
-use Rattle.std.specs.Prelude.{unwrap_or, is_some, IsOk, OnOk, Result, Ok, Err}
+use Rattle.std.specs.Prelude.{slice_get, unwrap_or, is_some, IsOk, OnOk, Result, Ok, Err}
 use Rattle.std.specs.Ordering.{nat_cmp}
 use Rattle.std.specs.FinSet as sets
 use Rattle.std.specs.Cmp.{nat_cmp_total, unsigned_tied}
-use Rattle.std.specs.List.{filter_map, list_any}
+use Rattle.std.specs.List.{filter_map, list_any, position_or_len}
 use Rattle.std.specs.Map.{keys_of, lookup}
 use Rattle.std.specs.Option.{option_eq}
 use Rattle.std.specs.Str.{bytes_eq}
@@ -20,12 +20,13 @@ use Rattle.fy_locality.specs.declared.key.Key.{Key}
 use Rattle.fy_locality.specs.declared.key.Key.TheVariants.{Process, Machine, Zone, DataHall, DataCenter}
 use Rattle.fy_locality.specs.declared.map.MapFault.{MapFault}
 use Rattle.fy_locality.specs.declared.map.MapFault.TheVariants.{Name, Twice, TooMany}
-use Rattle.fy_locality.specs.Locality.{value_in, has_value, values_of, group_of, are_names, taken_or_full, refusal_of, IsIndex, IsIndexed}
+use Rattle.fy_locality.specs.Locality.{value_in, has_value, values_of, are_names, taken_or_full, refusal_of}
+use Rattle.fy_locality.specs.declared.map.Places.{Places}
+use Rattle.fy_locality.specs.Indexed.{Entries, group_of, IsIndex, StandsAt, place_in, ArePlaces, IsIndexed}
 use Rattle.fy_locality.specs.Noted.{noted, Notes}
+use Rattle.fy_locality.specs.declared.TheConstants.{MOST_PROCESSES}
+use Rattle.fy_locality.proofs.Places.{place-insert_key, ArePlaces-nil, ArePlaces-push, own_stands}
 use Rattle.fy_locality.proofs.Values.{values_of-push, values_of-nil, no_value}
-
-abbrev Entries : Type 0
-Entries = List (List ℕ × sets.FinSet nat_cmp)
 
 keys-insert_entry : (es : Entries) (k : List ℕ) (s : sets.FinSet nat_cmp) → keys_of (insert_entry bytes_eq es k s) ≡ insert_key bytes_eq (keys_of es) k
 keys-insert_entry [] k s = refl
@@ -38,6 +39,13 @@ keys-insert_entry (e ∷ es) k s = go (keys-insert_entry es k s) (bytes_eq k e.0
     go : keys_of (insert_entry bytes_eq es k s) ≡ insert_key bytes_eq (keys_of es) k → (b : Bool) → keys_of (cond b ((e.0, s) ∷ es) (e ∷ insert_entry bytes_eq es k s)) ≡ cond (b || is_member bytes_eq (keys_of es) k) (e.0 ∷ keys_of es) ((e.0 ∷ keys_of es) ++ k ∷ [])
     go later true = refl
     go later false = ap (λ ks. e.0 ∷ ks) later ∙ push (is_member bytes_eq (keys_of es) k)
+
+-- a name that is put in stands at its old place, or last
+pub placed : (old new : Entries) (v : List ℕ) (s : sets.FinSet nat_cmp) (place : ℕ) → new ≡ insert_entry bytes_eq old v s → place ≡ position_or_len (bytes_eq v) (keys_of old) → slice_get (keys_of new) place ≡ Some v
+placed old new v s place entries first =
+    ap (slice_get (keys_of new)) first
+    ∙ ap (λ names. slice_get names (position_or_len (bytes_eq v) (keys_of old))) (ap keys_of entries ∙ keys-insert_entry old v s)
+    ∙ place-insert_key (keys_of old) v
 
 -- a name has a set exactly where it is among the names
 pub is_some-lookup : (test : List ℕ → Bool) (es : Entries) → is_some (lookup test es) ≡ list_any test (keys_of es)
@@ -102,7 +110,7 @@ IsIndex-nil : (key : Key) → IsIndex [] key []
 IsIndex-nil key = record { seen = sym (values_of-nil [] key refl); grouped = λ v q. sets.contains-empty nat_cmp q ∙ sym (no_value [] key v q (omega arith)) }
 
 -- no process and no value
-pub IsIndexed-nil : IsIndexed [] [] [] [] [] []
+pub IsIndexed-nil : IsIndexed [] [] [] [] [] [] []
 IsIndexed-nil = record {
   few = omega arith;
   own = sym (values_of-nil [] Process refl);
@@ -111,6 +119,7 @@ IsIndexed-nil = record {
   zones_are = IsIndex-nil Zone;
   halls_are = IsIndex-nil DataHall;
   centers_are = IsIndex-nil DataCenter;
+  places_are = ArePlaces-nil;
 }
 
 -- the own names stay different where the new one is new
@@ -123,46 +132,60 @@ own_names-push processes new own absent =
     ∙ sym (values_of-push processes new Process)
 
 -- what holds where a process isn't refused
-pub not_refused : (processes : List Locality) (id : List ℕ) → taken_or_full processes id ≡ None → (is_member bytes_eq (values_of processes Process) id ≡ false) × (length processes < 1024)
-not_refused processes id e = go (is_member bytes_eq (values_of processes Process) id) refl (leb 1024 (length processes)) refl e
+pub not_refused : (processes : List Locality) (id : List ℕ) → taken_or_full processes id ≡ None → (is_member bytes_eq (values_of processes Process) id ≡ false) × (length processes < MOST_PROCESSES)
+not_refused processes id e = go (is_member bytes_eq (values_of processes Process) id) refl (leb MOST_PROCESSES (length processes)) refl e
   where
-    go : (a : Bool) → is_member bytes_eq (values_of processes Process) id ≡ a → (b : Bool) → leb 1024 (length processes) ≡ b → cond a (Some Twice) (cond b (Some TooMany) None) ≡ None → (is_member bytes_eq (values_of processes Process) id ≡ false) × (length processes < 1024)
+    go : (a : Bool) → is_member bytes_eq (values_of processes Process) id ≡ a → (b : Bool) → leb MOST_PROCESSES (length processes) ≡ b → cond a (Some Twice) (cond b (Some TooMany) None) ≡ None → (is_member bytes_eq (values_of processes Process) id ≡ false) × (length processes < MOST_PROCESSES)
     go true is b many e = absurd (let x : ⊥ = cc in x)
     go false is true many e = absurd (let x : ⊥ = cc in x)
-    go false is false many e = (is, let h : length processes < 1024 = grind (arith, nat_tests) in h)
+    go false is false many e = (is, let h : length processes < MOST_PROCESSES = grind (arith, nat_tests) in h)
 
 -- what a Map keeps, after one process more with a new name
-pub IsIndexed-push : (processes : List Locality) (new : Locality) (ids machines zones halls centers ids' machines' zones' halls' centers' : Entries)
-    → IsIndexed processes ids machines zones halls centers → taken_or_full processes new.process ≡ None
+pub IsIndexed-push : (processes : List Locality) (new : Locality) (ids machines zones halls centers ids' machines' zones' halls' centers' : Entries) (places : List Places) (kept : Places)
+    → IsIndexed processes ids machines zones halls centers places → taken_or_full processes new.process ≡ None
     → Notes ids (Some new.process) (length processes) ids' → Notes machines (Some new.machine) (length processes) machines' → Notes zones (Some new.zone) (length processes) zones'
     → Notes halls new.data_hall (length processes) halls' → Notes centers new.data_center (length processes) centers'
-    → IsIndexed (processes ++ new ∷ []) ids' machines' zones' halls' centers'
-IsIndexed-push processes new ids machines zones halls centers ids' machines' zones' halls' centers' was taken i m z h c =
+    → StandsAt (keys_of machines') (Some new.machine) kept.machine → StandsAt (keys_of zones') (Some new.zone) kept.zone
+    → StandsAt (keys_of halls') new.data_hall kept.data_hall → StandsAt (keys_of centers') new.data_center kept.data_center
+    → IsIndexed (processes ++ new ∷ []) ids' machines' zones' halls' centers' (places ++ kept ∷ [])
+IsIndexed-push processes new ids machines zones halls centers ids' machines' zones' halls' centers' places kept was taken i m z h c on_machine on_zone in_hall in_center =
     let fresh = not_refused processes new.process taken in
+    let own_later = own_names-push processes new was.own fresh.0 in
+    let machines_later = IsIndex-push processes new Machine machines machines' was.machines_are m in
+    let zones_later = IsIndex-push processes new Zone zones zones' was.zones_are z in
+    let halls_later = IsIndex-push processes new DataHall halls halls' was.halls_are h in
+    let centers_later = IsIndex-push processes new DataCenter centers centers' was.centers_are c in
     record {
-      few = let n : length (processes ++ new ∷ []) ≡ length processes + 1 = length_push processes new in let room : length processes < 1024 = fresh.1 in omega arith;
-      own = own_names-push processes new was.own fresh.0;
+      few = let n : length (processes ++ new ∷ []) ≡ length processes + 1 = length_push processes new in let room : length processes < MOST_PROCESSES = fresh.1 in omega arith;
+      own = own_later;
       ids_are = IsIndex-push processes new Process ids ids' was.ids_are i;
-      machines_are = IsIndex-push processes new Machine machines machines' was.machines_are m;
-      zones_are = IsIndex-push processes new Zone zones zones' was.zones_are z;
-      halls_are = IsIndex-push processes new DataHall halls halls' was.halls_are h;
-      centers_are = IsIndex-push processes new DataCenter centers centers' was.centers_are c;
+      machines_are = machines_later;
+      zones_are = zones_later;
+      halls_are = halls_later;
+      centers_are = centers_later;
+      places_are = ArePlaces-push processes new places kept was.places_are (λ key. elim key as (λ k. StandsAt (values_of (processes ++ new ∷ []) k) (value_in k new) (place_in k (length processes) kept)) [
+        | Process ↦ own_stands processes new own_later
+        | Machine ↦ subst (λ names. StandsAt names (Some new.machine) kept.machine) machines_later.seen on_machine
+        | Zone ↦ subst (λ names. StandsAt names (Some new.zone) kept.zone) zones_later.seen on_zone
+        | DataHall ↦ subst (λ names. StandsAt names new.data_hall kept.data_hall) halls_later.seen in_hall
+        | DataCenter ↦ subst (λ names. StandsAt names new.data_center kept.data_center) centers_later.seen in_center
+      ]);
     }
 
 -- ---- why a name is not taken
 module _ (processes : List Locality) (id : List ℕ) where
   pub taken : is_member bytes_eq (values_of processes Process) id ≡ true → taken_or_full processes id ≡ Some Twice
-  taken there = ap (λ b. cond b (Some Twice) (cond (leb 1024 (length processes)) (Some TooMany) None)) there
+  taken there = ap (λ b. cond b (Some Twice) (cond (leb MOST_PROCESSES (length processes)) (Some TooMany) None)) there
 
-  pub full : is_member bytes_eq (values_of processes Process) id ≡ false → 1024 ≤ length processes → taken_or_full processes id ≡ Some TooMany
+  pub full : is_member bytes_eq (values_of processes Process) id ≡ false → MOST_PROCESSES ≤ length processes → taken_or_full processes id ≡ Some TooMany
   full absent many =
-      let test : leb 1024 (length processes) ≡ true = grind (arith, nat_tests) in
-      ap (λ b. cond b (Some Twice) (cond (leb 1024 (length processes)) (Some TooMany) None)) absent ∙ ap (λ b. cond b (Some TooMany) None) test
+      let test : leb MOST_PROCESSES (length processes) ≡ true = grind (arith, nat_tests) in
+      ap (λ b. cond b (Some Twice) (cond (leb MOST_PROCESSES (length processes)) (Some TooMany) None)) absent ∙ ap (λ b. cond b (Some TooMany) None) test
 
-  pub free : is_member bytes_eq (values_of processes Process) id ≡ false → length processes < 1024 → taken_or_full processes id ≡ None
+  pub free : is_member bytes_eq (values_of processes Process) id ≡ false → length processes < MOST_PROCESSES → taken_or_full processes id ≡ None
   free absent few =
-      let test : leb 1024 (length processes) ≡ false = grind (arith, nat_tests) in
-      ap (λ b. cond b (Some Twice) (cond (leb 1024 (length processes)) (Some TooMany) None)) absent ∙ ap (λ b. cond b (Some TooMany) None) test
+      let test : leb MOST_PROCESSES (length processes) ≡ false = grind (arith, nat_tests) in
+      ap (λ b. cond b (Some Twice) (cond (leb MOST_PROCESSES (length processes)) (Some TooMany) None)) absent ∙ ap (λ b. cond b (Some TooMany) None) test
 
 pub length-keys : (es : Entries) → length es ≡ length (keys_of es)
 length-keys [] = refl
@@ -172,16 +195,18 @@ pub Notes-from : (old was : Entries) (value : Option (List ℕ)) (p n : ℕ) (ne
 Notes-from old was value p n new notes from number = subst (λ es. Notes es value n new) from (subst (λ k. Notes old value k new) number notes)
 
 -- equal parts
-pub IsIndexed-same : (processes : List Locality) (ids machines zones halls centers : Entries) (processes' : List Locality) (ids' machines' zones' halls' centers' : Entries)
-    → IsIndexed processes ids machines zones halls centers → processes' ≡ processes → ids' ≡ ids → machines' ≡ machines → zones' ≡ zones → halls' ≡ halls → centers' ≡ centers → IsIndexed processes' ids' machines' zones' halls' centers'
-IsIndexed-same processes ids machines zones halls centers processes' ids' machines' zones' halls' centers' was p i m z h c = record {
-  few = subst (λ ps. length ps ≤ 1024) (sym p) was.few;
+pub IsIndexed-same : (processes : List Locality) (ids machines zones halls centers : Entries) (places : List Places) (processes' : List Locality) (ids' machines' zones' halls' centers' : Entries) (places' : List Places)
+    → IsIndexed processes ids machines zones halls centers places → processes' ≡ processes → ids' ≡ ids → machines' ≡ machines → zones' ≡ zones → halls' ≡ halls → centers' ≡ centers → places' ≡ places
+    → IsIndexed processes' ids' machines' zones' halls' centers' places'
+IsIndexed-same processes ids machines zones halls centers places processes' ids' machines' zones' halls' centers' places' was p i m z h c at = record {
+  few = subst (λ ps. length ps ≤ MOST_PROCESSES) (sym p) was.few;
   own = subst (λ ps. filter_map (value_in Process) ps ≡ values_of ps Process) (sym p) was.own;
   ids_are = same Process ids ids' was.ids_are i;
   machines_are = same Machine machines machines' was.machines_are m;
   zones_are = same Zone zones zones' was.zones_are z;
   halls_are = same DataHall halls halls' was.halls_are h;
   centers_are = same DataCenter centers centers' was.centers_are c;
+  places_are = subst (λ ps. ArePlaces ps places') (sym p) (subst (ArePlaces processes) (sym at) was.places_are);
 }
   where
     same : (key : Key) (es es' : Entries) → IsIndex processes key es → es' ≡ es → IsIndex processes' key es'

@@ -2,5 +2,6 @@ pub mod Counting
 pub mod Indexes
 pub mod Merging
 pub mod NameLemmas
+pub mod Places
 pub mod Values
 pub mod Words

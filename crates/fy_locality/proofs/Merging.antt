@@ -10,7 +10,8 @@ use Rattle.std.proofs.lemmas.List.{length-set, get_or-set_same, get_or-set_other
 use Rattle.std.proofs.lemmas.Bool.{cases_lt, cases_eq}
 use Rattle.std.proofs.lemmas.Bool.Decides.{nat_tests}
 use Rattle.std.proofs.lemmas.Nat.{or_lt, and_le_l}
-use Rattle.fy_locality.specs.Members.{has_bit, members, AreWords, contains-members}
+use Rattle.fy_locality.specs.Members.{has_bit, members, AreWords}
+use Rattle.fy_locality.specs.MembersInverse.{contains-members}
 
 -- the first n words are merged, and the others are still those of ws
 pub record IsMerged (op : ℕ → ℕ → ℕ) (ws vs : List ℕ) (n : ℕ) (us : List ℕ) : Type 0 where

@@ -164,7 +164,7 @@ values_of-push processes locality key =
     go vs (Some v) = first_seen-push vs v
 
 -- the own names, by number
-own_name : (processes : List Locality) (p : ℕ) → option_and_then (value_in Process) (slice_get processes p) ≡ slice_get (filter_map (value_in Process) processes) p
+pub own_name : (processes : List Locality) (p : ℕ) → option_and_then (value_in Process) (slice_get processes p) ≡ slice_get (filter_map (value_in Process) processes) p
 own_name [] p = refl
 own_name (x ∷ xs) zero = refl
 own_name (x ∷ xs) (suc p) = own_name xs p

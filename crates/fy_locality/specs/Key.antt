@@ -1,11 +1,16 @@
 -- how the keys of a locality are written
-use Rattle.std.specs.Prelude.{ℕ, List, codes}
+use Rattle.std.specs.Prelude.{◌≡◌, ℕ, List, codes}
 use Rattle.fy_locality.specs.declared.key.Key.{Key}
 use Rattle.fy_locality.specs.declared.key.Key.TheVariants.{Process, Machine, Zone, DataHall, DataCenter}
 
+-- the text of each key
 abbrev pub key_text : Key → List ℕ
 key_text Process = codes "processid"
 key_text Machine = codes "machineid"
 key_text Zone = codes "zoneid"
 key_text DataHall = codes "data_hall"
 key_text DataCenter = codes "dcid"
+
+-- keys with one text are one
+abbrev pub KeyTextsDiffer : Type 0
+KeyTextsDiffer = (k l : Key) → key_text k ≡ key_text l → k ≡ l

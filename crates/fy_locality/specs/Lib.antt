@@ -1,5 +1,9 @@
+pub mod Indexed
 pub mod Key
 pub mod Locality
 pub mod Members
+pub mod MembersInverse
 pub mod Name
+pub mod NameInverse
 pub mod Noted
+pub mod Values

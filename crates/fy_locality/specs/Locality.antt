@@ -1,13 +1,13 @@
 -- the values of the keys at the processes
-use Rattle.std.specs.Prelude.{◌≡◌, ◌≤◌, ℕ, Bool, true, not, ◌&&◌, List, [], ◌∷◌, length, filter, Option, Some, None, slice_get, option_and_then, nat_le, if◌then◌else◌, unwrap_or}
+use Rattle.std.specs.Prelude.{◌≡◌, ℕ, Bool, true, not, ◌&&◌, List, [], ◌∷◌, length, filter, Option, Some, None, slice_get, option_and_then, nat_le, if◌then◌else◌}
 use Rattle.std.specs.Ordering.{nat_cmp}
 use Rattle.std.specs.FinSet as sets
 use Rattle.std.specs.List.{filter_map}
-use Rattle.std.specs.Map.{keys_of, lookup}
 use Rattle.std.specs.Option.{option_eq, option_map_or}
 use Rattle.std.specs.Str.{bytes_eq}
 use Rattle.std.specs.Set.{is_member}
 use Rattle.fy_locality.specs.Name.{is_name}
+use Rattle.fy_locality.specs.declared.TheConstants.{MOST_PROCESSES}
 use Rattle.fy_locality.specs.declared.map.MapFault.{MapFault}
 use Rattle.fy_locality.specs.declared.map.MapFault.TheVariants.{Name, Twice, TooMany}
 use Rattle.fy_locality.specs.declared.locality.Locality.{Locality}
@@ -30,8 +30,16 @@ value_of processes key p = option_and_then (value_in key) (slice_get processes p
 abbrev pub has_value : List Locality → Key → List ℕ → ℕ → Bool
 has_value processes key v p = option_eq bytes_eq (value_of processes key p) (Some v)
 
+-- two processes with one name are one
+abbrev pub NamesDiffer : List Locality → Type 0
+NamesDiffer processes =
+    (p q : ℕ) (name : List ℕ)
+    → value_of processes Process p ≡ Some name → value_of processes Process q ≡ Some name → p ≡ q
+
 -- the set has exactly the processes with the value that process p has of a key
-pub record ArePeers (processes : List Locality) (key : Key) (p : ℕ) (set : sets.FinSet nat_cmp) : Type 0 where
+pub record ArePeers
+    (processes : List Locality) (key : Key) (p : ℕ) (set : sets.FinSet nat_cmp)
+    : Type 0 where
   pub value : List ℕ
   pub had : value_of processes key p ≡ Some value
   pub those : (q : ℕ) → sets.contains set q ≡ has_value processes key value q
@@ -48,42 +56,28 @@ values_of processes key = first_seen (filter_map (value_in key) processes)
 -- five texts as a locality
 abbrev pub locality_of : List ℕ → List ℕ → List ℕ → Option (List ℕ) → Option (List ℕ) → Locality
 locality_of process machine zone data_hall data_center =
-    record { process = process; machine = machine; zone = zone; data_hall = data_hall; data_center = data_center }
+    record {
+      process = process;
+      machine = machine;
+      zone = zone;
+      data_hall = data_hall;
+      data_center = data_center;
+    }
 
 -- whether each of its texts is a name
 abbrev pub are_names : Locality → Bool
 are_names locality =
     is_name locality.process && is_name locality.machine && is_name locality.zone
-    && option_map_or is_name locality.data_hall true && option_map_or is_name locality.data_center true
+    && option_map_or is_name locality.data_hall true
+    && option_map_or is_name locality.data_center true
 
 -- why a process with a name is not taken, in order
 abbrev pub taken_or_full : List Locality → List ℕ → Option MapFault
 taken_or_full processes id =
     if is_member bytes_eq (values_of processes Process) id
     then Some Twice
-    else (if nat_le 1024 (length processes) then Some TooMany else None)
+    else (if nat_le MOST_PROCESSES (length processes) then Some TooMany else None)
 
 -- why a process is not added, in order
 abbrev pub refusal_of : List Locality → Locality → Option MapFault
 refusal_of processes new = if are_names new then taken_or_full processes new.process else Some Name
-
--- ---- what a Map keeps
-
--- the set kept for a name, or the empty set
-abbrev pub group_of : List (List ℕ × sets.FinSet nat_cmp) → List ℕ → sets.FinSet nat_cmp
-group_of entries v = unwrap_or (lookup (bytes_eq v) entries) sets.empty
-
--- the values of a key in first-seen order, each with the processes that have it
-pub record IsIndex (processes : List Locality) (key : Key) (entries : List (List ℕ × sets.FinSet nat_cmp)) : Type 0 where
-  pub seen : keys_of entries ≡ values_of processes key
-  pub grouped : (v : List ℕ) (q : ℕ) → sets.contains (group_of entries v) q ≡ has_value processes key v q
-
--- names that differ, and an index for each key
-pub record IsIndexed (processes : List Locality) (ids machines zones halls centers : List (List ℕ × sets.FinSet nat_cmp)) : Type 0 where
-  pub few : length processes ≤ 1024
-  pub own : filter_map (value_in Process) processes ≡ values_of processes Process
-  pub ids_are : IsIndex processes Process ids
-  pub machines_are : IsIndex processes Machine machines
-  pub zones_are : IsIndex processes Zone zones
-  pub halls_are : IsIndex processes DataHall halls
-  pub centers_are : IsIndex processes DataCenter centers

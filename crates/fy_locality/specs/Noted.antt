@@ -1,12 +1,11 @@
 -- an index of values after one more process
 use Rattle.std.specs.Prelude.{◌≡◌, ℕ, ◌&&◌, ◌||◌, ◌==◌, List, Option, Some, None}
-use Rattle.std.specs.Ordering.{nat_cmp}
 use Rattle.std.specs.FinSet as sets
 use Rattle.std.specs.Map.{keys_of}
 use Rattle.std.specs.Option.{option_eq}
 use Rattle.std.specs.Str.{bytes_eq}
 use Rattle.indexmap.specs.IndexSet.{insert_key}
-use Rattle.fy_locality.specs.Locality.{group_of}
+use Rattle.fy_locality.specs.Indexed.{Entries, group_of}
 
 -- the names after one more is seen, where there is one
 abbrev pub noted : List (List ℕ) → Option (List ℕ) → List (List ℕ)
@@ -14,6 +13,9 @@ noted names None = names
 noted names (Some v) = insert_key bytes_eq names v
 
 -- p is put into the set of its value, where it has one
-pub record Notes (old : List (List ℕ × sets.FinSet nat_cmp)) (value : Option (List ℕ)) (p : ℕ) (new : List (List ℕ × sets.FinSet nat_cmp)) : Type 0 where
+pub record Notes (old : Entries) (value : Option (List ℕ)) (p : ℕ) (new : Entries) : Type 0 where
   pub seen : keys_of new ≡ noted (keys_of old) value
-  pub grouped : (v : List ℕ) (q : ℕ) → sets.contains (group_of new v) q ≡ (sets.contains (group_of old v) q || (q == p && option_eq bytes_eq value (Some v)))
+  pub grouped :
+      (v : List ℕ) (q : ℕ)
+      → sets.contains (group_of new v) q
+      ≡ (sets.contains (group_of old v) q || (q == p && option_eq bytes_eq value (Some v)))

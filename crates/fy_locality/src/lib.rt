@@ -18,6 +18,10 @@ pub use name::{BadName, Name};
 pub use process_set::ProcSet;
 pub use processes::Processes;
 
+/// The most processes that a map has. Their numbers are below it, and so is each member of a set of
+/// processes.
+pub const MOST_PROCESSES: u32 = 1024;
+
 /// The number of a process: its place in the list of processes.
 #[derive(Clone, Copy, PartialEq, Eq, Debug)]
 pub struct ProcId(pub u32);

@@ -2,7 +2,8 @@
 use crate::name::known;
 use crate::{BadName, Key, Name};
 
-/// One process: its name, its machine and zone, and its data hall and data centre where they are known.
+/// One process: its name, its machine and zone, and its data hall and data centre where they are
+/// known.
 #[derive(Clone, Copy)]
 pub struct Locality {
     pub process: Name,
@@ -17,7 +18,10 @@ impl Locality {
     ghost use Rattle.std.specs.Option.{option_copied};
     ghost use Rattle.fy_locality.specs.Locality.{value_in, locality_of, are_names};
 
-    /// The locality that five texts spell, where each of them is a name.
+    /// The locality that five texts spell.
+    ///
+    /// # Errors
+    /// `BadName` where one of them is no name.
     pub fn make(
         process: &str,
         machine: &str,
@@ -25,8 +29,12 @@ impl Locality {
         data_hall: Option<&str>,
         data_center: Option<&str>,
     ) -> Result<Locality, BadName>
-        ensures accepted { IsOk result ↔ IsTrue (are_names (locality_of process.now machine.now zone.now (option_copied data_hall.entry) (option_copied data_center.entry))) }
-        ensures value { IfOk result (λ l. l ≡ locality_of process.now machine.now zone.now (option_copied data_hall.entry) (option_copied data_center.entry)) }
+        ensures accepted { let given = locality_of process.now machine.now zone.now
+            (option_copied data_hall.entry) (option_copied data_center.entry) in
+            IsOk result ↔ IsTrue (are_names given) }
+        ensures value { let given = locality_of process.now machine.now zone.now
+            (option_copied data_hall.entry) (option_copied data_center.entry) in
+            IfOk result (λ locality. locality ≡ given) }
     {
         Ok(Locality {
             process: Name::make(process)?,

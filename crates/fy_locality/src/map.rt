@@ -7,16 +7,17 @@ ghost use Rattle.std.specs.Map.{keys_of};
 ghost use Rattle.std.specs.Str.{bytes_eq};
 ghost use Rattle.indexmap.specs.IndexMap.{spare};
 ghost use Rattle.fy_locality.specs.declared.key.Key.TheVariants.{Process};
-ghost use Rattle.fy_locality.specs.Locality.{value_of, has_value, values_of, IsIndex, group_of, ArePeers, locality_of, taken_or_full, refusal_of};
+ghost use Rattle.fy_locality.specs.Locality.{value_of, has_value, values_of, NamesDiffer, ArePeers, locality_of, taken_or_full, refusal_of};
+ghost use Rattle.fy_locality.specs.Indexed.{IsIndex, StandsAt, group_of};
 ghost use Rattle.fy_locality.specs.Noted.{Notes};
 
-use crate::{BadName, Key, Locality, Name, ProcId, ProcSet};
+use crate::{BadName, Key, Locality, MOST_PROCESSES, Name, ProcId, ProcSet};
 use indexmap::IndexMap;
 use std::alloc::{AllocError, AllocFailed, Global};
 use std::marker::Model;
 
-/// The processes in order of their numbers, and for each key its values in the order in which they were first seen,
-/// each with the processes that have it.
+/// The processes in order of their numbers, and for each key its values in the order in which they
+/// were first seen, each with the processes that have it.
 pub struct Map {
     processes: Vec<Locality>,
     ids: IndexMap<Name, ProcSet>,
@@ -27,13 +28,14 @@ pub struct Map {
     places: Vec<Places>,
 }
 
-/// Where the values of one process stand among the values of their keys, so that no name has to be looked up for them.
+/// Where the values of one process stand among the values of their keys, so that no name has to be
+/// looked up for them. None for a key of which it has no value.
 #[derive(Clone, Copy)]
 struct Places {
-    machine: usize,
-    zone: usize,
-    data_hall: usize,
-    data_center: usize,
+    machine: Option<usize>,
+    zone: Option<usize>,
+    data_hall: Option<usize>,
+    data_center: Option<usize>,
 }
 
 impl Model for Map {
@@ -42,11 +44,14 @@ impl Model for Map {
 
     ghost Value = { List Locality };
 
-    ghost use Rattle.fy_locality.specs.Locality.{IsIndexed};
+    ghost use Rattle.fy_locality.specs.Indexed.{IsIndexed};
 
     ghost view = { λ m. m.processes.items };
 
-    ghost invariant = { λ m. IsIndexed m.processes.items m.ids.entries m.machines.entries m.zones.entries m.halls.entries m.centers.entries };
+    ghost invariant = { λ m.
+        IsIndexed m.processes.items
+        m.ids.entries m.machines.entries m.zones.entries m.halls.entries m.centers.entries
+        m.places.items };
 }
 
 impl Map {
@@ -71,7 +76,7 @@ impl Map {
     /// How many processes there are: at most 1024.
     pub fn len(&self) -> u32
         ensures count { result ≡ length self.now }
-        ensures few { length self.now ≤ 1024 }
+        ensures few { length self.now ≤ MOST_PROCESSES }
     {
         self.processes.len() as u32
     }
@@ -85,7 +90,7 @@ impl Map {
 
     fn index(&self, key: Key) -> &IndexMap<Name, ProcSet>
         ensures index { IsIndex self.now key result.now.entries }
-        ensures few { length self.now ≤ 1024 }
+        ensures few { length self.now ≤ MOST_PROCESSES }
     {
         match key {
             Key::Process => &self.ids,
@@ -128,29 +133,39 @@ impl Map {
         group(self.index(key), value)
     }
 
-    /// The processes with the value that a process has of a key, itself among them; none where there is no such process,
-    /// or where it has no value of the key. Takes no memory.
+    /// The processes with the value that a process has of a key, itself among them; none where
+    /// there is no such process, or where it has no value of the key. Takes no memory and compares
+    /// no names.
     pub fn peers(&self, p: ProcId, key: Key) -> Option<ProcSet>
         ensures some { IfSome result (ArePeers self.now key p.0) }
         ensures none { IfNone result (value_of self.now key p.0 ≡ None) }
     {
-        let name = self.processes.get(p.0 as usize)?.name(key)?;
-        Some(group_near(self.index(key), self.place(p, key), name))
+        let place = self.place(p, key)?;
+        match self.index(key).get_index(place) {
+            Some((_, members)) => Some(*members),
+            None => unreachable!(),
+        }
     }
 
-    /// Where the value of a process likely stands among the values of a key. Nothing rests on it: who looks there checks
-    /// what is found.
-    fn place(&self, p: ProcId, key: Key) -> usize {
-        match self.places.get(p.0 as usize) {
-            Some(places) => match key {
-                Key::Process => p.0 as usize,
-                Key::Machine => places.machine,
-                Key::Zone => places.zone,
-                Key::DataHall => places.data_hall,
-                Key::DataCenter => places.data_center,
-            },
-            None => 0,
+    /// Where the value of a process stands among the values of a key.
+    fn place(&self, p: ProcId, key: Key) -> Option<usize>
+        ensures { StandsAt (values_of self.now key) (value_of self.now key p.0) result }
+    {
+        let places = self.places.get(p.0 as usize)?;
+        match key {
+            Key::Process => Some(p.0 as usize),
+            Key::Machine => places.machine,
+            Key::Zone => places.zone,
+            Key::DataHall => places.data_hall,
+            Key::DataCenter => places.data_center,
         }
+    }
+
+    /// Two processes with one name are one.
+    pub fn names_differ(&self)
+        ensures { NamesDiffer self.now }
+    {
+        let _processes = &self.processes;
     }
 
     /// Every process.
@@ -176,7 +191,10 @@ impl Map {
         }
     }
 
-    /// An equal map, or no memory.
+    /// An equal map.
+    ///
+    /// # Errors
+    /// Want of memory.
     pub fn try_copy(&self, alloc: Global) -> Result<Map, AllocError>
         ensures { IfOk result (λ copy. copy ≡ self.now) }
     {
@@ -191,8 +209,11 @@ impl Map {
         })
     }
 
-    /// One more process, which gets the next number. In order: a text that is no name, an `id` that is there already,
-    /// 1024 processes are there already, no memory. A refused process leaves the map as it was.
+    /// One more process, which gets the next number. A refused process leaves the map as it was.
+    ///
+    /// # Errors
+    /// In this order: `Name` for a text that is no name; `Twice` for an `id` that is there already;
+    /// `TooMany` where 1024 processes are there already; `NoMemory`.
     pub fn add(
         &mut self,
         id: &str,
@@ -201,10 +222,16 @@ impl Map {
         hall: Option<&str>,
         dc: Option<&str>,
     ) -> Result<ProcId, MapFault>
-        ensures refused { (fault : MapFault) → refusal_of self.old (locality_of id.now machine.now zone.now (option_copied hall.entry) (option_copied dc.entry)) ≡ Some fault → result ≡ Err fault }
-        ensures memory { refusal_of self.old (locality_of id.now machine.now zone.now (option_copied hall.entry) (option_copied dc.entry)) ≡ None → IfErr result (λ fault. fault ≡ NoMemory) }
+        ensures refused { let given = locality_of id.now machine.now zone.now
+            (option_copied hall.entry) (option_copied dc.entry) in
+            (fault : MapFault) → refusal_of self.old given ≡ Some fault → result ≡ Err fault }
+        ensures memory { let given = locality_of id.now machine.now zone.now
+            (option_copied hall.entry) (option_copied dc.entry) in
+            refusal_of self.old given ≡ None → IfErr result (λ fault. fault ≡ NoMemory) }
         ensures number { IfOk result (λ p. p.0 ≡ length self.old) }
-        ensures added { IfOk result (λ p. self.new ≡ self.old ++ locality_of id.now machine.now zone.now (option_copied hall.entry) (option_copied dc.entry) ∷ []) }
+        ensures added { let given = locality_of id.now machine.now zone.now
+            (option_copied hall.entry) (option_copied dc.entry) in
+            IfOk result (λ p. self.new ≡ self.old ++ given ∷ []) }
         ensures err { OnErr result (self.new ≡ self.old) }
     {
         match Locality::make(id, machine, zone, hall, dc) {
@@ -219,18 +246,24 @@ impl Map {
         if self.ids.contains_key(id) {
             return Some(MapFault::Twice);
         }
-        if self.processes.len() >= 1024 {
+        if self.processes.len() >= MOST_PROCESSES as usize {
             return Some(MapFault::TooMany);
         }
         None
     }
 
-    /// One more process whose names are known, as `add` does: refused where its name is there already, where 1024
-    /// processes are there already, and for want of memory, in this order.
+    /// One more process whose names are known, as `add` does.
+    ///
+    /// # Errors
+    /// In this order: `Twice` where its name is there already; `TooMany` where 1024 processes are
+    /// there already; `NoMemory`.
     pub fn push(&mut self, locality: Locality) -> Result<ProcId, MapFault>
-        ensures refused { (fault : MapFault) → taken_or_full self.old locality.process ≡ Some fault → result ≡ Err fault }
-        ensures memory { taken_or_full self.old locality.process ≡ None → IfErr result (λ fault. fault ≡ NoMemory) }
-        ensures ok { IfOk result (λ p. (p.0 ≡ length self.old) × (self.new ≡ self.old ++ locality ∷ [])) }
+        ensures refused { (fault : MapFault)
+            → taken_or_full self.old locality.process ≡ Some fault → result ≡ Err fault }
+        ensures memory { taken_or_full self.old locality.process ≡ None
+            → IfErr result (λ fault. fault ≡ NoMemory) }
+        ensures ok { IfOk result (λ p.
+            (p.0 ≡ length self.old) × (self.new ≡ self.old ++ locality ∷ [])) }
         ensures err { OnErr result (self.new ≡ self.old) }
     {
         let number = ProcId(self.len());
@@ -244,19 +277,15 @@ impl Map {
         self.halls.reserve(1)?;
         self.centers.reserve(1)?;
         self.places.reserve(1)?;
-        note(&mut self.ids, Some(locality.process), number);
-        note(&mut self.machines, Some(locality.machine), number);
-        note(&mut self.zones, Some(locality.zone), number);
-        note(&mut self.halls, locality.data_hall, number);
-        note(&mut self.centers, locality.data_center, number);
-        self.processes.push(locality)?;
-        // The room was made before, so this isn't refused.
-        let _ = self.places.push(Places {
-            machine: place_of(&self.machines, Some(locality.machine)),
-            zone: place_of(&self.zones, Some(locality.zone)),
-            data_hall: place_of(&self.halls, locality.data_hall),
-            data_center: place_of(&self.centers, locality.data_center),
-        });
+        let _number = note(&mut self.ids, Some(locality.process), number);
+        let places = Places {
+            machine: note(&mut self.machines, Some(locality.machine), number),
+            zone: note(&mut self.zones, Some(locality.zone), number),
+            data_hall: note(&mut self.halls, locality.data_hall, number),
+            data_center: note(&mut self.centers, locality.data_center, number),
+        };
+        self.processes.push_reserved(locality);
+        self.places.push_reserved(places);
         Ok(number)
     }
 }
@@ -311,6 +340,9 @@ impl<T: Drop> From<AllocFailed<T>> for MapFault {
 }
 
 /// The same values again with their processes, in memory of their own.
+///
+/// # Errors
+/// Want of memory.
 fn copied(index: &IndexMap<Name, ProcSet>) -> Result<IndexMap<Name, ProcSet>, AllocError>
     ensures { IfOk result (λ copy. copy.entries ≡ index.now.entries) }
 {
@@ -328,36 +360,19 @@ fn group(index: &IndexMap<Name, ProcSet>, value: &Name) -> ProcSet
     }
 }
 
-/// The processes kept for a value: looked for at a place first, and else by its name.
-fn group_near(index: &IndexMap<Name, ProcSet>, place: usize, value: &Name) -> ProcSet
-    requires { IsDistinct bytes_eq (keys_of index.now.entries) }
-    ensures { result ≡ group_of index.now.entries value.now }
-{
-    if let Some((name, members)) = index.get_index(place) {
-        if name == value {
-            return *members;
-        }
-    }
-    group(index, value)
-}
-
-/// The place of a value, where there is one.
-fn place_of(index: &IndexMap<Name, ProcSet>, value: Option<Name>) -> usize {
-    match value {
-        Some(name) => index.get_index_of(&name).unwrap_or(0),
-        None => 0,
-    }
-}
-
-/// Puts a process into the set of its value, where it has one.
-fn note(index: &mut IndexMap<Name, ProcSet>, value: Option<Name>, p: ProcId)
+/// Puts a process into the set of its value, and says where that value stands; nothing where it has
+/// none.
+fn note(index: &mut IndexMap<Name, ProcSet>, value: Option<Name>, p: ProcId) -> Option<usize>
     requires room { 0 < spare index.old }
-    requires small { p.0 < 1024 }
-    ensures { Notes index.old.entries value p.0 index.new.entries }
+    requires small { p.0 < MOST_PROCESSES }
+    ensures notes { Notes index.old.entries value p.0 index.new.entries }
+    ensures place { StandsAt (keys_of index.new.entries) value result }
 {
-    if let Some(name) = value {
-        let mut members = group(index, &name);
-        members.put(p);
-        let _ = index.insert(name, members);
+    let name = value?;
+    let mut members = group(index, &name);
+    members.put(p);
+    match index.insert_full(name, members) {
+        Ok((place, _)) => Some(place),
+        Err(_) => unreachable!(),
     }
 }

@@ -11,10 +11,13 @@ use std::marker::Model;
 #[derive(Clone, Copy, PartialEq, Eq, Debug)]
 pub struct BadName;
 
+/// The most characters that a name has.
+pub const MOST_NAME_CHARACTERS: usize = 32;
+
 /// 1 to 32 of the characters `A-Z a-z 0-9 _ -`, the first not `-`.
 #[derive(Clone, Copy)]
 pub struct Name {
-    bytes: [u8; 32],
+    bytes: [u8; MOST_NAME_CHARACTERS],
     len: u8,
 }
 
@@ -23,7 +26,8 @@ impl Model for Name {
 
     ghost Value = { List ℕ };
 
-    ghost use Rattle.fy_locality.specs.Name.{IsStored, padded, padded-take, length-stored};
+    ghost use Rattle.fy_locality.specs.Name.{IsStored, padded};
+    ghost use Rattle.fy_locality.specs.NameInverse.{padded-take, length-stored};
 
     ghost view = { λ n. take n.len n.bytes };
 
@@ -31,7 +35,8 @@ impl Model for Name {
 
     ghost inverse = { λ v. record { bytes = padded v; len = length v } };
 
-    ghost inverse_ok = { λ a h. λ i. record { bytes = padded-take a.bytes a.len h i; len = length-stored a.bytes a.len h i } };
+    ghost inverse_ok = { λ a h. λ i.
+        record { bytes = padded-take a.bytes a.len h i; len = length-stored a.bytes a.len h i } };
 }
 
 fn may_stand_in_name(byte: u8) -> bool
@@ -49,11 +54,17 @@ fn has_name_bytes(text: &[u8]) -> bool
 fn spells_name(text: &[u8]) -> bool
     ensures { result ≡ is_name text.now }
 {
-    !text.is_empty() && text.len() <= 32 && text[0] != b'-' && has_name_bytes(text)
+    !text.is_empty()
+        && text.len() <= MOST_NAME_CHARACTERS
+        && text[0] != b'-'
+        && has_name_bytes(text)
 }
 
 impl Name {
-    /// The name that a text spells; any other text is refused.
+    /// The name that a text spells.
+    ///
+    /// # Errors
+    /// `BadName` for any other text.
     pub fn make(text: &str) -> Result<Name, BadName>
         ensures accepted { IsOk result ↔ IsTrue (is_name text.now) }
         ensures value { IfOk result (λ n. n ≡ text.now) }
@@ -61,7 +72,10 @@ impl Name {
         Name::from_bytes(text.as_bytes())
     }
 
-    /// The name that bytes spell; any others are refused.
+    /// The name that bytes spell.
+    ///
+    /// # Errors
+    /// `BadName` for any other bytes.
     pub fn from_bytes(given: &[u8]) -> Result<Name, BadName>
         ensures accepted { IsOk result ↔ IsTrue (is_name given.now) }
         ensures value { IfOk result (λ n. n ≡ given.now) }
@@ -69,7 +83,7 @@ impl Name {
         if !spells_name(given) {
             return Err(BadName);
         }
-        let mut bytes = [0; 32];
+        let mut bytes = [0; MOST_NAME_CHARACTERS];
         bytes[..given.len()].copy_from_slice(given);
         Ok(Name {
             bytes,
@@ -77,18 +91,33 @@ impl Name {
         })
     }
 
-    /// The name's characters.
+    /// The name's characters, each of which is one byte.
     pub fn as_bytes(&self) -> &[u8]
         ensures bytes { result.now ≡ self.now }
         ensures name { IsTrue (is_name self.now) }
     {
         &self.bytes[..self.len as usize]
     }
+
+    /// The name as a text.
+    pub fn as_str(&self) -> &str
+        ensures text { result.now ≡ self.now }
+        ensures name { IsTrue (is_name self.now) }
+    {
+        match str::from_utf8(self.as_bytes()) {
+            Ok(text) => text,
+            Err(_) => unreachable!(),
+        }
+    }
 }
 
 /// The name that a text spells, where there is a text.
+///
+/// # Errors
+/// `BadName` for a text that is no name.
 pub(crate) fn known(text: Option<&str>) -> Result<Option<Name>, BadName>
-    ensures accepted { IsOk result ↔ IsTrue (option_map_or is_name (option_copied text.entry) true) }
+    ensures accepted { IsOk result
+        ↔ IsTrue (option_map_or is_name (option_copied text.entry) true) }
     ensures value { IfOk result (λ n. n ≡ option_copied text.entry) }
 {
     match text {

@@ -1,16 +1,19 @@
-//! A set of processes in 16 words.
+//! A set of processes, a bit for each.
 ghost use Rattle.std.specs.Prelude.{◌≡◌, ◌↔◌, ◌<◌, ◌≤◌, ℕ, true, false, IsTrue, IfSome, IfNone};
 ghost use Rattle.std.specs.Ordering.{nat_cmp};
 ghost use Rattle.std.specs.FinSet as sets;
-ghost use Rattle.fy_locality.specs.Members.{IsLeast};
+ghost use Rattle.fy_locality.specs.Members.{IsLeast, AreSmall};
 
-use crate::{ProcId, Processes};
+use crate::{MOST_PROCESSES, ProcId, Processes};
 use std::marker::Model;
+
+/// How many words of 64 bits have a bit for each process.
+const WORDS: usize = MOST_PROCESSES as usize / 64;
 
 /// A set of processes, each below 1024. It takes no memory and is `Copy`.
 #[derive(Clone, Copy)]
 pub struct ProcSet {
-    words: [u64; 16],
+    words: [u64; WORDS],
 }
 
 impl Model for ProcSet {
@@ -22,7 +25,8 @@ impl Model for ProcSet {
 
     ghost coded = { sets.code coded_ℕ };
 
-    ghost use Rattle.fy_locality.specs.Members.{members, words_of, AreWords, words_of-members};
+    ghost use Rattle.fy_locality.specs.Members.{members, words_of, AreWords};
+    ghost use Rattle.fy_locality.specs.MembersInverse.{words_of-members};
 
     ghost view = { λ s. members s.words };
 
@@ -38,12 +42,12 @@ impl ProcSet {
     pub fn empty() -> Self
         ensures { result ≡ sets.empty }
     {
-        ProcSet { words: [0; 16] }
+        ProcSet { words: [0; WORDS] }
     }
 
     /// Puts a process in.
     pub fn put(&mut self, p: ProcId)
-        requires { p.0 < 1024 }
+        requires { p.0 < MOST_PROCESSES }
         ensures { self.new ≡ sets.insert self.old p.0 }
     {
         self.words[p.0 as usize / 64] |= 1u64 << (p.0 % 64);
@@ -51,7 +55,7 @@ impl ProcSet {
 
     /// Takes a process out.
     pub fn drop_one(&mut self, p: ProcId)
-        requires { p.0 < 1024 }
+        requires { p.0 < MOST_PROCESSES }
         ensures { self.new ≡ sets.remove self.old p.0 }
     {
         self.words[p.0 as usize / 64] &= !(1u64 << (p.0 % 64));
@@ -59,7 +63,7 @@ impl ProcSet {
 
     /// Whether a process is in the set.
     pub fn has(&self, p: ProcId) -> bool
-        requires { p.0 < 1024 }
+        requires { p.0 < MOST_PROCESSES }
         ensures { result ≡ sets.contains self.now p.0 }
     {
         self.words[p.0 as usize / 64] & (1u64 << (p.0 % 64)) != 0
@@ -69,14 +73,14 @@ impl ProcSet {
     pub fn contains(&self, p: ProcId) -> bool
         ensures { result ≡ sets.contains self.now p.0 }
     {
-        self.members_are_small();
-        p.0 < 1024 && self.has(p)
+        self.invariant();
+        p.0 < MOST_PROCESSES && self.has(p)
     }
 
     /// How many processes are in the set.
     pub fn len(&self) -> u32
         ensures count { result ≡ sets.len self.now }
-        ensures bounded { result ≤ 1024 }
+        ensures bounded { result ≤ MOST_PROCESSES }
     {
         let mut count = 0;
         for word in &self.words {
@@ -98,10 +102,10 @@ impl ProcSet {
     /// The least process in the set.
     pub fn least(&self) -> Option<ProcId>
         ensures some { IfSome result (λ p. IsLeast self.now p.0) }
-        ensures small { IfSome result (λ p. p.0 < 1024) }
+        ensures small { IfSome result (λ p. p.0 < MOST_PROCESSES) }
         ensures none { IfNone result (self.now ≡ sets.empty) }
     {
-        for k in 0..16 {
+        for k in 0..WORDS {
             let word = self.words[k];
             if word != 0 {
                 return Some(ProcId(k as u32 * 64 + word.trailing_zeros()));
@@ -122,7 +126,7 @@ impl ProcSet {
         ensures { result ≡ sets.union self.now other.now }
     {
         let mut words = self.words;
-        for k in 0..16 {
+        for k in 0..WORDS {
             words[k] |= other.words[k];
         }
         ProcSet { words }
@@ -133,7 +137,7 @@ impl ProcSet {
         ensures { result ≡ sets.intersection self.now other.now }
     {
         let mut words = self.words;
-        for k in 0..16 {
+        for k in 0..WORDS {
             words[k] &= other.words[k];
         }
         ProcSet { words }
@@ -144,15 +148,15 @@ impl ProcSet {
         ensures { result ≡ sets.difference self.now other.now }
     {
         let mut words = self.words;
-        for k in 0..16 {
+        for k in 0..WORDS {
             words[k] &= !other.words[k];
         }
         ProcSet { words }
     }
 
     /// Every member is below 1024.
-    pub fn members_are_small(&self)
-        ensures { (q : ℕ) → sets.contains self.now q ≡ true → q < 1024 }
+    pub fn invariant(&self)
+        ensures { AreSmall self.now }
     {
         let _words = &self.words;
     }

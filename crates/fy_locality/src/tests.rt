@@ -85,7 +85,10 @@ fn names_are_taken_or_refused(rt: HostRuntime) {
     ];
     for text in taken {
         match Name::make(text) {
-            Ok(name) => assert_eq!(rt; name.as_bytes(), text.as_bytes()),
+            Ok(name) => {
+                assert_eq!(rt; name.as_bytes(), text.as_bytes());
+                assert_eq!(rt; name.as_str(), text);
+            }
             Err(BadName) => assert!(rt; false, "{text} is a name"),
         }
     }
@@ -121,6 +124,10 @@ fn keys_are_written(rt: HostRuntime) {
     let texts = ["processid", "machineid", "zoneid", "data_hall", "dcid"];
     for (key, text) in KEYS.into_iter().zip(texts) {
         assert_eq!(rt; key.text(), text);
+        assert!(rt; Key::named(text) == Some(key), "{text}");
+    }
+    for text in ["", "zone", "zoneids", "Zoneid", " dcid", "dcid\n"] {
+        assert!(rt; Key::named(text) == None, "{text}");
     }
 }
 
@@ -169,6 +176,7 @@ fn a_locality_has_five_values(rt: HostRuntime) -> Result<(), Fail> {
 #[test]
 fn a_map_has_the_values_of_its_processes(rt: HostRuntime) -> Result<(), Fail> {
     let map = cluster(rt.alloc())?;
+    map.names_differ();
     let values = [
         (0, Key::Process, Some("p0")),
         (5, Key::Process, Some("p5")),
@@ -223,7 +231,6 @@ fn a_map_finds_processes(rt: HostRuntime) -> Result<(), Fail> {
     Ok(())
 }
 
-/// A copy of a map with one more process.
 /// Whether a process has exactly these peers of a key; `None` stands for no value.
 fn has_peers(map: &Map, p: u32, key: Key, numbers: Option<&[u32]>) -> bool {
     match (map.peers(ProcId(p), key), numbers) {
@@ -248,6 +255,7 @@ fn processes_have_peers(rt: HostRuntime) -> Result<(), Fail> {
     Ok(())
 }
 
+/// A copy of a map with one more process.
 fn copy_with_hall(alloc: Global, map: &Map) -> Result<Map, MapFault> {
     let mut copy = map.try_copy(alloc)?;
     let _ = added(&mut copy, "p6", "z0", Some("h0"))?;
@@ -328,7 +336,7 @@ fn value_at_is(map: &Map, place: u32, text: Option<&str>) -> bool {
 #[test]
 fn a_full_map_refuses_in_order(rt: HostRuntime) -> Result<(), Fail> {
     let mut map = Map::make(rt.alloc());
-    for number in 0..1024 {
+    for number in 0..MOST_PROCESSES {
         assert!(rt; adds(&mut map, number));
     }
     let refused = [
@@ -340,11 +348,29 @@ fn a_full_map_refuses_in_order(rt: HostRuntime) -> Result<(), Fail> {
     for (id, zone, fault) in refused {
         assert_eq!(rt; added(&mut map, id, zone, None), Err(fault));
     }
-    assert_eq!(rt; map.len(), 1024);
+    assert_eq!(rt; map.len(), MOST_PROCESSES);
     Ok(())
 }
 
-/// Adds one process, and says whether the map is right after it: one longer, or as it was where memory was refused.
+#[test]
+fn a_full_map_is_copied(rt: HostRuntime) -> Result<(), Fail> {
+    let mut map = Map::make(rt.alloc());
+    for number in 0..MOST_PROCESSES {
+        assert!(rt; adds(&mut map, number));
+    }
+    let copy = map.try_copy(rt.alloc())?;
+    assert_eq!(rt; copy.len(), MOST_PROCESSES);
+    assert!(rt; copy.everyone().len() == MOST_PROCESSES);
+    for (id, number) in [("0000", 0), ("0512", 512), ("1023", 1023)] {
+        assert_eq!(rt; found(&copy, id), Some(number));
+        assert!(rt; has_peers(&copy, number, Key::Process, Some(&[number])));
+    }
+    assert!(rt; copy.peers(ProcId(1023), Key::Zone).map(|peers| peers.len()) == Some(1024));
+    Ok(())
+}
+
+/// Adds one process, and says whether the map is right after it: one longer, or as it was where
+/// memory was refused.
 fn adds_or_stays(map: &mut Map, number: u32) -> bool {
     let digits = digits_of(number);
     let Ok(id) = str::from_utf8(&digits) else {
@@ -417,11 +443,12 @@ fn sets_are_put_together(rt: HostRuntime) {
     assert!(rt; holds_exactly(&left.union(&right), &[0, 63, 64, 65, 700, 1023]));
     assert!(rt; holds_exactly(&left.intersection(&right), &[0, 64]));
     assert!(rt; holds_exactly(&left.difference(&right), &[63, 700]));
-    left.members_are_small();
+    left.invariant();
 }
 
 #[test]
 fn laws_can_be_called() {
+    laws::key_texts_differ();
     laws::values_differ();
     laws::values_occur();
     laws::value_is_had();

@@ -5,7 +5,7 @@ use Rattle.std.proofs.lemmas.List.{take_more, take_all}
 use Rattle.std.proofs.lemmas.List.Elements.{All-nil, All-cons, All-head, All-tail}
 use Rattle.fy_policy.specs.declared.shape.Shape.{Shape, And}
 use Rattle.fy_policy.specs.Shape.{tree_of}
-use Rattle.fy_policy.specs.Tree.{Tree, one, across, every, Parts, none, part, HasParts, HaveParts, HasFitCounts, HaveFitCounts, IsCounted, AreCounted, depth, greatest_depth, nodes, all_nodes}
+use Rattle.fy_policy.specs.Tree.{Tree, one, across, every, Parts, none, part, HasParts, HaveParts, HasFitCounts, HaveFitCounts, IsWellFormed, AreWellFormed, depth, greatest_depth, nodes, all_nodes}
 use Rattle.fy_policy.proofs.Shapes.{parts_from, tree_of-And}
 
 -- ---- what holds of a list of shapes where it holds of each
@@ -107,23 +107,23 @@ nodes-And parts = ap nodes (tree_of-And parts)
 mutual
   unfolding HasParts HasFitCounts
 
-  pub counted_splits : (t : Tree) → IsCounted t → HasParts t × HasFitCounts t
+  pub counted_splits : (t : Tree) → IsWellFormed t → HasParts t × HasFitCounts t
   counted_splits one h = (tt, tt)
   counted_splits (across n k q) h = let below = counted_splits q h.2 in (below.0, (h.0, h.1, below.1))
   counted_splits (every qs) h = let below = all_counted_split qs h.1 in ((h.0, below.0), below.1)
 
-  all_counted_split : (qs : Parts) → AreCounted qs → HaveParts qs × HaveFitCounts qs
+  all_counted_split : (qs : Parts) → AreWellFormed qs → HaveParts qs × HaveFitCounts qs
   all_counted_split none h = (tt, tt)
   all_counted_split (part q qs) h = let first = counted_splits q h.0 in let rest = all_counted_split qs h.1 in ((first.0, rest.0), (first.1, rest.1))
 
 mutual
   unfolding HasParts HasFitCounts
 
-  pub counted_from : (t : Tree) → HasParts t → HasFitCounts t → IsCounted t
+  pub counted_from : (t : Tree) → HasParts t → HasFitCounts t → IsWellFormed t
   counted_from one p f = tt
   counted_from (across n k q) p f = (f.0, f.1, counted_from q p f.2)
   counted_from (every qs) p f = (p.0, all_counted_from qs p.1 f)
 
-  all_counted_from : (qs : Parts) → HaveParts qs → HaveFitCounts qs → AreCounted qs
+  all_counted_from : (qs : Parts) → HaveParts qs → HaveFitCounts qs → AreWellFormed qs
   all_counted_from none p f = tt
   all_counted_from (part q qs) p f = (counted_from q p.0 f.0, all_counted_from qs p.1 f.1)

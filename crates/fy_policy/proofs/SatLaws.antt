@@ -5,7 +5,7 @@ use Rattle.fy_locality.specs.declared.locality.Locality.{Locality}
 use Rattle.fy_locality.specs.declared.key.Key.{Key}
 use Rattle.fy_locality.specs.Locality.{has_value}
 use Rattle.fy_policy.specs.Sat.{Sat, SatAll, AtLeast, group}
-use Rattle.fy_policy.specs.Tree.{Tree, one, across, every, Parts, none, part, IsCounted, AreCounted, HasPart}
+use Rattle.fy_policy.specs.Tree.{Tree, one, across, every, Parts, none, part, IsWellFormed, AreWellFormed, HasPart}
 
 -- what each name passes, each name passes
 weaker : (P Q : List ℕ → Type 0) → ((v : List ℕ) → P v → Q v) → (names : List (List ℕ)) → AllByRecursion P names → AllByRecursion Q names
@@ -45,12 +45,12 @@ first_fails n P least fails h = go h.names h.many h.each
 mutual
   unfolding Sat
 
-  pub Sat-none : (processes : List Locality) (q : Tree) (s : ℕ → Bool) → IsCounted q → ((p : ℕ) → s p ≡ false) → Sat processes q s → ⊥
+  pub Sat-none : (processes : List Locality) (q : Tree) (s : ℕ → Bool) → IsWellFormed q → ((p : ℕ) → s p ≡ false) → Sat processes q s → ⊥
   Sat-none processes one s counted empty h = true≢false (sym h.2 ∙ empty h.0)
   Sat-none processes (across n key q) s counted empty h =
       first_fails n _ counted.0 (λ v e. Sat-none processes q (group processes key v s) counted.2 (λ p. ap (λ b. b && has_value processes key v p) (empty p)) e.1) h
   Sat-none processes (every qs) s counted empty h = SatAll-none processes qs s counted.0 counted.1 empty h
 
-  SatAll-none : (processes : List Locality) (qs : Parts) (s : ℕ → Bool) → HasPart qs → AreCounted qs → ((p : ℕ) → s p ≡ false) → SatAll processes qs s → ⊥
+  SatAll-none : (processes : List Locality) (qs : Parts) (s : ℕ → Bool) → HasPart qs → AreWellFormed qs → ((p : ℕ) → s p ≡ false) → SatAll processes qs s → ⊥
   SatAll-none processes none s has counted empty h = has
   SatAll-none processes (part q qs) s has counted empty h = Sat-none processes q s counted.0 empty h.0

@@ -8,7 +8,7 @@ use Rattle.fy_locality.specs.declared.key.Key.{Key}
 use Rattle.fy_policy.specs.declared.shape.Shape.{Shape, Across, And, And', Row_of-Shape, end_of-Shape, more_of-Shape, items-the_row-Shape, items_hidden-the_row-Shape-0}
 use Rattle.fy_policy.specs.Sat.{satisfies, all_satisfy}
 use Rattle.fy_policy.specs.Shape.{tree_of, parts_of}
-use Rattle.fy_policy.specs.Tree.{Tree, every, Parts, none, part, AreCounted, IsCounted}
+use Rattle.fy_policy.specs.Tree.{Tree, every, Parts, none, part, AreWellFormed, IsWellFormed}
 
 abbrev row_of : Shape → (n : Count) × Row_of-Shape n
 row_of (And' _ row) = (_, row)
@@ -48,13 +48,13 @@ unfolding satisfies
 satisfies-And processes s parts = ap (λ t. satisfies processes t s) (tree_of-And parts) ∙ all_satisfy-parts processes s parts.items
 
 -- each part of a counted policy is counted
-counted_at : (qs : List Shape) → AreCounted (parts_from qs) → (k : ℕ) (d : Shape) → k < length qs → IsCounted (tree_of (get_or qs k d))
+counted_at : (qs : List Shape) → AreWellFormed (parts_from qs) → (k : ℕ) (d : Shape) → k < length qs → IsWellFormed (tree_of (get_or qs k d))
 counted_at [] h k d within = absurd (omega arith)
 counted_at (q ∷ qs) h zero d within = h.0
 counted_at (q ∷ qs) h (suc k) d within = counted_at qs h.1 k d (omega arith)
 
-pub part_is_counted : (parts : Vec Shape Global) (k : ℕ) (d : Shape) → IsCounted (tree_of (And parts)) → k < length parts.items → IsCounted (tree_of (get_or parts.items k d))
-part_is_counted parts k d h within = let c : IsCounted (every (parts_from parts.items)) = subst IsCounted (tree_of-And parts) h in counted_at parts.items c.1 k d within
+pub part_is_counted : (parts : Vec Shape Global) (k : ℕ) (d : Shape) → IsWellFormed (tree_of (And parts)) → k < length parts.items → IsWellFormed (tree_of (get_or parts.items k d))
+part_is_counted parts k d h within = let c : IsWellFormed (every (parts_from parts.items)) = subst IsWellFormed (tree_of-And parts) h in counted_at parts.items c.1 k d within
 
 pub all_pass : (test : Shape → Bool) (qs : List Shape) → ((k : ℕ) (d : Shape) → k < length qs → test (get_or qs k d) ≡ true) → list_all test qs ≡ true
 all_pass test [] each = refl
@@ -63,12 +63,12 @@ all_pass test (q ∷ qs) each = ap (λ b. b && list_all test qs) (each zero q (o
 pub one_fails : (test : Shape → Bool) (qs : List Shape) (k : ℕ) (q : Shape) → k < length qs → q ≡ get_or qs k q → test q ≡ false → list_all test qs ≡ false
 one_fails test qs k q within is fails = list_all_at test qs k q within (ap test (sym is) ∙ fails)
 
-pub inner_counted : (shape : Shape) (wanted : ℕ) (key : Key) (inner : Box Shape Global) → shape ≡ Across wanted key inner → IsCounted (tree_of shape) → (1 ≤ wanted) × IsCounted (tree_of inner.value)
-inner_counted shape wanted key inner is h = let c : IsCounted (tree_of (Across wanted key inner)) = subst (λ q. IsCounted (tree_of q)) is h in (c.0, c.2)
+pub inner_counted : (shape : Shape) (wanted : ℕ) (key : Key) (inner : Box Shape Global) → shape ≡ Across wanted key inner → IsWellFormed (tree_of shape) → (1 ≤ wanted) × IsWellFormed (tree_of inner.value)
+inner_counted shape wanted key inner is h = let c : IsWellFormed (tree_of (Across wanted key inner)) = subst (λ q. IsWellFormed (tree_of q)) is h in (c.0, c.2)
 
 -- the part at a place of the loop's list
-pub part_is_counted' : (shape : Shape) (parts : Vec Shape Global) (items : List Shape) (k : ℕ) (q : Shape) → shape ≡ And parts → items ≡ parts.items → IsCounted (tree_of shape) → k < length items → q ≡ get_or items k q → IsCounted (tree_of q)
+pub part_is_counted' : (shape : Shape) (parts : Vec Shape Global) (items : List Shape) (k : ℕ) (q : Shape) → shape ≡ And parts → items ≡ parts.items → IsWellFormed (tree_of shape) → k < length items → q ≡ get_or items k q → IsWellFormed (tree_of q)
 part_is_counted' shape parts items k q is same h within at =
     let place : q ≡ get_or parts.items k q = at ∙ ap (λ qs. get_or qs k q) same in
     let inside : k < length parts.items = subst (λ qs. k < length qs) same within in
-    subst (λ r. IsCounted (tree_of r)) (sym place) (part_is_counted parts k q (subst (λ r. IsCounted (tree_of r)) is h) inside)
+    subst (λ r. IsWellFormed (tree_of r)) (sym place) (part_is_counted parts k q (subst (λ r. IsWellFormed (tree_of r)) is h) inside)

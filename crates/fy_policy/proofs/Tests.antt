@@ -8,7 +8,7 @@ use Rattle.fy_locality.specs.declared.locality.Locality.{Locality}
 use Rattle.fy_locality.specs.declared.key.Key.{Key}
 use Rattle.fy_locality.specs.Locality.{has_value, value_of, values_of}
 use Rattle.fy_policy.specs.Sat.{Sat, SatAll, IsValueOf, group, satisfies, all_satisfy}
-use Rattle.fy_policy.specs.Tree.{Tree, one, across, every, Parts, none, part, IsCounted, AreCounted, HasPart}
+use Rattle.fy_policy.specs.Tree.{Tree, one, across, every, Parts, none, part, IsWellFormed, AreWellFormed, HasPart}
 use Rattle.fy_policy.proofs.Counts.{any_found, found_any, count-none, IsDistinct-filter, each_passes, few_pass, weaker}
 
 -- what the crate below says of the values of a key
@@ -83,7 +83,7 @@ empty_group processes key v s empty p h = ap (λ b. b && has_value processes key
 mutual
   unfolding satisfies
 
-  pub satisfies-none : (processes : List Locality) (q : Tree) (s : ℕ → Bool) → IsCounted q → IsEmptyIn processes s → satisfies processes q s ≡ false
+  pub satisfies-none : (processes : List Locality) (q : Tree) (s : ℕ → Bool) → IsWellFormed q → IsEmptyIn processes s → satisfies processes q s ≡ false
   satisfies-none processes one s counted empty = fails_of _ (λ e.
       let found = any_found s 0 (length processes) e in
       let absent : s found.0 ≡ false = empty found.0 (let h : found.0 < 0 + length processes = found.2 in omega arith) in
@@ -93,7 +93,7 @@ mutual
       none_left _ _ counted.0 (count-none _ (values_of processes key) (λ v. satisfies-none processes q (group processes key v s) counted.2 (empty_group processes key v s empty)))
   satisfies-none processes (every qs) s counted empty = all_satisfy-none processes qs s counted.0 counted.1 empty
 
-  all_satisfy-none : (processes : List Locality) (qs : Parts) (s : ℕ → Bool) → HasPart qs → AreCounted qs → IsEmptyIn processes s → all_satisfy processes qs s ≡ false
+  all_satisfy-none : (processes : List Locality) (qs : Parts) (s : ℕ → Bool) → HasPart qs → AreWellFormed qs → IsEmptyIn processes s → all_satisfy processes qs s ≡ false
   all_satisfy-none processes none s has counted empty = absurd has
   all_satisfy-none processes (part q qs) s has counted empty = ap (λ b. b && all_satisfy processes qs s) (satisfies-none processes q s counted.0 empty)
 

@@ -8,7 +8,7 @@ use Rattle.fy_policy.specs.declared.fault.PolicyFault.{PolicyFault}
 use Rattle.fy_policy.specs.declared.fault.PolicyFault.TheVariants.{TooLong, Syntax, Count, Depth, Nodes, NoMemory}
 use Rattle.fy_policy.specs.Reading.{IsTextOf, Reads}
 use Rattle.fy_policy.specs.Text.{numeral, text, parts_text, more_text}
-use Rattle.fy_policy.specs.Tree.{Tree, one, across, every, Parts, none, part, HasFitCounts, IsCounted, AreCounted, IsPolicy, nodes, all_nodes, depth}
+use Rattle.fy_policy.specs.Tree.{Tree, one, across, every, Parts, none, part, HasFitCounts, IsWellFormed, AreWellFormed, IsPolicy, nodes, all_nodes, depth}
 use Rattle.fy_policy.proofs.Bounds.{counted_splits}
 use Rattle.fy_policy.proofs.Numerals.{length-numeral-le}
 use Rattle.fy_policy.proofs.TextOnce.{text_once}
@@ -22,7 +22,7 @@ length-key-le DataCenter = omega arith
 
 -- an Across takes at most 23 bytes, an And 5, and a comma or the end one more
 mutual
-  length-text-le : (t : Tree) → IsCounted t → length (text t) + 1 ≤ 24 * nodes t
+  length-text-le : (t : Tree) → IsWellFormed t → length (text t) + 1 ≤ 24 * nodes t
   length-text-le one h = omega arith
   length-text-le (across n k q) h =
       let below : length (text q) + 1 ≤ 24 * nodes q = length-text-le q h.2 in
@@ -35,7 +35,7 @@ mutual
       let whole : length (text (every qs)) ≡ 4 + length (parts_text qs) + 1 = simp length-append (omega arith) in
       omega arith
 
-  length-parts-le : (qs : Parts) → AreCounted qs → length (parts_text qs) ≤ 24 * all_nodes qs
+  length-parts-le : (qs : Parts) → AreWellFormed qs → length (parts_text qs) ≤ 24 * all_nodes qs
   length-parts-le none h = omega arith
   length-parts-le (part q qs) h =
       let first : length (text q) + 1 ≤ 24 * nodes q = length-text-le q h.0 in
@@ -43,7 +43,7 @@ mutual
       let whole : length (parts_text (part q qs)) ≡ length (text q) + length (more_text qs) = simp length-append (omega arith) in
       omega arith
 
-  length-more-le : (qs : Parts) → AreCounted qs → length (more_text qs) ≤ 24 * all_nodes qs
+  length-more-le : (qs : Parts) → AreWellFormed qs → length (more_text qs) ≤ 24 * all_nodes qs
   length-more-le none h = omega arith
   length-more-le (part q qs) h =
       let first : length (text q) + 1 ≤ 24 * nodes q = length-text-le q h.0 in

@@ -17,7 +17,7 @@ use Rattle.std.specs.Prelude.{IfNone}
 use Rattle.fy_locality.specs.declared.ProcId.{ProcId}
 use Rattle.fy_locality.specs.Members.{IsLeast}
 use Rattle.fy_policy.specs.Sat.{group, satisfies}
-use Rattle.fy_policy.specs.Tree.{Tree, one, across, IsCounted}
+use Rattle.fy_policy.specs.Tree.{Tree, one, across, IsWellFormed}
 use Rattle.fy_policy.proofs.Counts.{any_found, found_any, count-none, count-without, number_of, fewer}
 use Rattle.fy_policy.proofs.Tests.{ValuesDiffer, ValuesOccur, satisfies-none}
 
@@ -69,7 +69,7 @@ module _ (processes : List Locality) (key : Key) (q : Tree) where
     contains-rest x = ap (λ s. sets.contains s x) left ∙ sets.contains-difference nat_cmp_total rest group' x ∙ ap (λ b. sets.contains rest x && not b) (contains-group x)
 
     -- a value's group is looked at and taken out
-    pub passing-group : ValuesDiffer → ValuesOccur → IsCounted q → passing processes key q (sets.contains rest) ≡ cond (satisfies processes q (sets.contains group')) 1 0 + passing processes key q (sets.contains rest')
+    pub passing-group : ValuesDiffer → ValuesOccur → IsWellFormed q → passing processes key q (sets.contains rest) ≡ cond (satisfies processes q (sets.contains group')) 1 0 + passing processes key q (sets.contains rest')
     passing-group differ occur counted =
         count-without (λ w. satisfies processes q (group processes key w (sets.contains rest))) (λ w. satisfies processes q (group processes key w (sets.contains rest'))) v
         (λ w apart. λ i. satisfies processes q (λ x. others w apart x i))
@@ -106,7 +106,7 @@ module _ (processes : List Locality) (key : Key) (q : Tree) where
         gone a b e = grind arith
 
   -- at the end
-  pub passing-empty : (rest : sets.FinSet nat_cmp) → IsCounted q → rest ≡ sets.empty → passing processes key q (sets.contains rest) ≡ 0
+  pub passing-empty : (rest : sets.FinSet nat_cmp) → IsWellFormed q → rest ≡ sets.empty → passing processes key q (sets.contains rest) ≡ 0
   passing-empty rest counted none = count-none _ (values_of processes key) (λ v. satisfies-none processes q _ counted (λ x h. ap (λ b. b && has_value processes key v x) (ap (λ s. sets.contains s x) none ∙ sets.contains-empty nat_cmp x)))
 
 -- one dropped

@@ -1,8 +1,10 @@
 pub mod Fronts
+pub mod Laws
 pub mod Reading
 pub mod Sat
 pub mod Shape
 pub mod Text
 pub mod Tree
+pub mod TreeCode
 pub use Rattle.fy_locality.specs.Key
 pub use Rattle.fy_locality.specs.Locality

@@ -22,11 +22,13 @@ IsValueOf processes key v = (p : ℕ) × (value_of processes key p ≡ Some v)
 abbrev pub group : List Locality → Key → List ℕ → (ℕ → Bool) → ℕ → Bool
 group processes key v s p = s p && has_value processes key v p
 
--- one: some process; across n key q: n different values of the key have each a group that satisfies q; every: each part
+-- one: some process; across n key q: n different values of the key have each a group that satisfies
+-- q; every: each part
 unfoldable mutual
   pub Sat : List Locality → Tree → (ℕ → Bool) → Type 0
   Sat processes one s = (p : ℕ) × (p < length processes) × (s p ≡ true)
-  Sat processes (across n key q) s = AtLeast n (λ v. IsValueOf processes key v × Sat processes q (group processes key v s))
+  Sat processes (across n key q) s =
+      AtLeast n (λ v. IsValueOf processes key v × Sat processes q (group processes key v s))
   Sat processes (every qs) s = SatAll processes qs s
 
   pub SatAll : List Locality → Parts → (ℕ → Bool) → Type 0
@@ -37,7 +39,9 @@ unfoldable mutual
 unfoldable mutual
   pub satisfies : List Locality → Tree → (ℕ → Bool) → Bool
   satisfies processes one s = list_any s (range_with_len 0 (length processes))
-  satisfies processes (across n key q) s = nat_le n (length (filter (λ v. satisfies processes q (group processes key v s)) (values_of processes key)))
+  satisfies processes (across n key q) s =
+      nat_le n (length
+      (filter (λ v. satisfies processes q (group processes key v s)) (values_of processes key)))
   satisfies processes (every qs) s = all_satisfy processes qs s
 
   pub all_satisfy : List Locality → Parts → (ℕ → Bool) → Bool

@@ -11,7 +11,8 @@ numeral n = if n == 0 then codes "0" else map (λ d. 48 + d) (digits_of 10 n)
 abbrev mutual
   pub text : Tree → List ℕ
   text one = codes "One()"
-  text (across n key q) = codes "Across(" ++ numeral n ++ codes "," ++ key_text key ++ codes "," ++ text q ++ codes ")"
+  text (across n key q) =
+      codes "Across(" ++ numeral n ++ codes "," ++ key_text key ++ codes "," ++ text q ++ codes ")"
   text (every qs) = codes "And(" ++ parts_text qs ++ codes ")"
 
   -- the parts with commas between

@@ -7,7 +7,11 @@ use crate::Policy;
 use crate::shape::Shape;
 use std::alloc::{AllocError, Global};
 
-pub fn copied(alloc: Global, shape: &Shape) -> Result<Shape, AllocError>
+/// An equal shape, in memory of its own.
+///
+/// # Errors
+/// Want of memory.
+fn copied(alloc: Global, shape: &Shape) -> Result<Shape, AllocError>
     ensures { IfOk result (λ copy. tree_of copy ≡ tree_of shape.now) }
 {
     match shape {
@@ -28,7 +32,10 @@ pub fn copied(alloc: Global, shape: &Shape) -> Result<Shape, AllocError>
 }
 
 impl Policy {
-    /// An equal policy, or no memory.
+    /// An equal policy.
+    ///
+    /// # Errors
+    /// Want of memory.
     pub fn try_copy(&self, alloc: Global) -> Result<Policy, AllocError>
         ensures equal { IfOk result (λ copy. copy ≡ self.now) }
         ensures limits { IsPolicy self.now }
@@ -38,7 +45,10 @@ impl Policy {
     }
 }
 
-/// The same policies, in memory of their own, or no memory.
+/// The same policies, in memory of their own.
+///
+/// # Errors
+/// Want of memory.
 pub fn try_copy_all(alloc: Global, policies: &[Policy]) -> Result<Vec<Policy>, AllocError>
     ensures { IfOk result (λ copies. copies.items ≡ policies.now) }
 {
@@ -76,6 +86,27 @@ mod tests {
         assert_eq!(rt; copies.len(), 2);
         assert_eq!(rt; policy_text(alloc, &copies[0])?.as_str(), texts[0]);
         assert_eq!(rt; policy_text(alloc, &copies[1])?.as_str(), texts[1]);
+        Ok(())
+    }
+
+    #[test]
+    fn eight_policies_at_the_limits_are_copied(rt: HostRuntime) -> Result<(), Fail> {
+        let alloc = rt.alloc();
+        let mut text = String::from_str(alloc, "And(One()")?;
+        for _ in 1..63 {
+            text.push_str(",One()")?;
+        }
+        text.push_str(")")?;
+        let mut policies = Vec::new(alloc);
+        for _ in 0..8 {
+            policies.push(read_policy(alloc, text.as_str())?)?;
+        }
+        let copies = try_copy_all(alloc, &policies)?;
+        assert_eq!(rt; copies.len(), 8);
+        for copy in &copies {
+            copy.invariant();
+            assert_eq!(rt; policy_text(alloc, copy)?.as_str(), text.as_str());
+        }
         Ok(())
     }
 }

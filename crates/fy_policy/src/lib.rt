@@ -3,17 +3,20 @@
 
 mod copied;
 mod fault;
-mod judged;
 pub mod laws;
 mod limits;
 mod policy;
 mod reading;
+mod satisfaction;
 mod shape;
 mod text;
 pub mod text_laws;
 
 pub use copied::try_copy_all;
 pub use fault::PolicyFault;
+pub use limits::{
+    LEAST_COUNT, MOST_COUNT, MOST_DEPTH, MOST_NODES, MOST_READ_BYTES, MOST_TEXT_BYTES,
+};
 pub use policy::{Policy, satisfied};
 pub use reading::read_policy;
 pub use text::policy_text;

@@ -6,13 +6,17 @@ ghost use Rattle.fy_policy.specs.Tree.{HasFitCounts, depth, nodes};
 use crate::shape::Shape;
 
 /// The least count of a policy.
-const LEAST_COUNT: u32 = 1;
+pub const LEAST_COUNT: u32 = 1;
 /// The greatest count of a policy.
 pub const MOST_COUNT: u32 = 1024;
 /// How deep a policy may be.
 pub const MOST_DEPTH: u32 = 8;
 /// How many nodes a policy may have.
 pub const MOST_NODES: u32 = 64;
+/// How many bytes the text of a policy may have: no node takes more than 24.
+pub const MOST_TEXT_BYTES: usize = 24 * MOST_NODES as usize;
+/// How many bytes of text are read.
+pub const MOST_READ_BYTES: usize = 4096;
 
 /// Whether each count is within those limits.
 pub fn has_fit_counts(shape: &Shape) -> bool
@@ -60,7 +64,9 @@ pub fn is_within_depth(shape: &Shape, most: u32) -> bool
 
 /// How much of the room is left behind the nodes, or none where they are too many.
 pub fn room_behind(shape: &Shape, room: u32) -> Option<u32>
-    ensures { MatchOption result (room < nodes (tree_of shape.now)) (λ left. left + nodes (tree_of shape.now) ≡ room) }
+    ensures { MatchOption result
+        (room < nodes (tree_of shape.now))
+        (λ left. left + nodes (tree_of shape.now) ≡ room) }
 {
     if room == 0 {
         return None;

@@ -5,20 +5,22 @@ ghost use Rattle.fy_policy.specs.Sat.{Sat, satisfies};
 ghost use Rattle.fy_policy.specs.Shape.{tree_of};
 ghost use Rattle.fy_policy.specs.Tree.{IsPolicy};
 
-use crate::judged::shape_satisfied;
 use crate::laws;
+use crate::satisfaction::shape_satisfied;
 use crate::shape::Shape;
 use fy_locality::{Map, ProcSet};
 use std::marker::Model;
 
-/// A policy: counts from 1 to 1024, each `And` of a part or more, at most 8 deep and of at most 64 nodes.
+/// A policy: counts from 1 to 1024, each `And` of a part or more, at most 8 deep and of at most 64
+/// nodes.
 #[derive(Drop)]
 pub struct Policy {
     shape: Shape,
 }
 
 impl Model for Policy {
-    ghost use Rattle.fy_policy.specs.Tree.{Tree, tree_code, IsPolicy};
+    ghost use Rattle.fy_policy.specs.Tree.{Tree, IsPolicy};
+    ghost use Rattle.fy_policy.specs.TreeCode.{tree_code};
 
     ghost Value = { Tree };
 
@@ -38,6 +40,13 @@ impl Policy {
         ensures { result ≡ tree_of shape }
     {
         Policy { shape }
+    }
+
+    /// A policy is within the limits.
+    pub fn invariant(&self)
+        ensures { IsPolicy self.now }
+    {
+        let _shape = &self.shape;
     }
 
     /// Its shape.

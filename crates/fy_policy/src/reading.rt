@@ -1,5 +1,5 @@
 //! Policies read from their texts.
-ghost use Rattle.std.specs.Prelude.{◌≡◌, ◌<◌, ◌⊎◌, ◌↔◌, ◌++◌, ◌∷◌, ℕ, List, IsTrue, min, MatchOption, MatchResult, codes};
+ghost use Rattle.std.specs.Prelude.{◌≡◌, ◌+◌, ◌<◌, ◌⊎◌, ◌↔◌, ◌++◌, ◌∷◌, ℕ, List, IsTrue, min, MatchOption, MatchResult, codes};
 ghost use Rattle.fy_locality.specs.Key.{key_text};
 ghost use Rattle.fy_locality.specs.declared.key.Key.{Key};
 ghost use Rattle.fy_policy.specs.Fronts.{BeginsWith, IsFaultAt};
@@ -8,26 +8,26 @@ ghost use Rattle.fy_policy.specs.Shape.{tree_of};
 ghost use Rattle.fy_policy.specs.Text.{numeral};
 
 use crate::limits::{
-    MOST_COUNT, MOST_DEPTH, MOST_NODES, has_fit_counts, is_within_depth, room_behind,
+    MOST_COUNT, MOST_DEPTH, MOST_NODES, MOST_READ_BYTES, has_fit_counts, is_within_depth,
+    room_behind,
 };
 use crate::shape::Shape;
 use crate::{Policy, PolicyFault};
 use fy_locality::Key;
 use std::alloc::Global;
 
-/// How many bytes of text are read.
-const MOST_BYTES: usize = 4096;
-
 /// The policy of a text such as `Across(3,zoneid,One())`: its text is this one.
 ///
 /// # Errors
-/// In this order: `TooLong` over 4096 bytes; `Syntax` where no policy, whatever its counts, has this text; `Count`
-/// where one is outside 1 to 1024; `Depth` over 8; `Nodes` over 64. `NoMemory` can take the place of any answer.
+/// In this order: `TooLong` over 4096 bytes; `Syntax` where no policy, whatever its counts, has
+/// this text; `Count` where one is outside 1 to 1024; `Depth` over 8; `Nodes` over 64. `NoMemory`
+/// can take the place of any answer.
 pub fn read_policy(alloc: Global, text: &str) -> Result<Policy, PolicyFault>
     ensures { Reads text.now result }
 {
-    // A shape nests at most once in four bytes, so this bounds the depth of the calls below to about a thousand.
-    if text.len() > MOST_BYTES {
+    // A shape nests at most once in four bytes, so this bounds the depth of the calls below to
+    // about a thousand.
+    if text.len() > MOST_READ_BYTES {
         return Err(PolicyFault::TooLong);
     }
     let (shape, rest) = read_shape(alloc, text.as_bytes())?;
@@ -49,7 +49,9 @@ pub fn read_policy(alloc: Global, text: &str) -> Result<Policy, PolicyFault>
 /// The shape at the front of the text, and what follows it.
 #[cycle(shapes)]
 fn read_shape(alloc: Global, text: &[u8]) -> Result<(Shape, &[u8]), PolicyFault>
-    ensures { MatchResult result (λ found. BeginsWith text.now (tree_of found.0) found.1.now) (λ fault. IsFaultAt fault text.now) }
+    ensures { MatchResult result
+        (λ found. BeginsWith text.now (tree_of found.0) found.1.now)
+        (λ fault. IsFaultAt fault text.now) }
 {
     if let Some(rest) = behind(text, b"One()") {
         return Ok((Shape::One, rest));
@@ -66,7 +68,9 @@ fn read_shape(alloc: Global, text: &[u8]) -> Result<(Shape, &[u8]), PolicyFault>
 /// The shape across a key whose text goes on here behind `Across(`, and what follows it.
 #[cycle(shapes)]
 fn read_across(alloc: Global, text: &[u8]) -> Result<(Shape, &[u8]), PolicyFault>
-    ensures { MatchResult result (λ found. BeginsWith (codes "Across(" ++ text.now) (tree_of found.0) found.1.now) (λ fault. IsFaultAt fault (codes "Across(" ++ text.now)) }
+    ensures { MatchResult result
+        (λ found. BeginsWith (codes "Across(" ++ text.now) (tree_of found.0) found.1.now)
+        (λ fault. IsFaultAt fault (codes "Across(" ++ text.now)) }
 {
     let Some((count, key, rest)) = read_count_and_key(text) else {
         return Err(PolicyFault::Syntax);
@@ -82,7 +86,9 @@ fn read_across(alloc: Global, text: &[u8]) -> Result<(Shape, &[u8]), PolicyFault
 /// The shape of several parts whose text goes on here behind `And(`, and what follows it.
 #[cycle(shapes)]
 fn read_and(alloc: Global, text: &[u8]) -> Result<(Shape, &[u8]), PolicyFault>
-    ensures { MatchResult result (λ found. BeginsWith (codes "And(" ++ text.now) (tree_of found.0) found.1.now) (λ fault. IsFaultAt fault (codes "And(" ++ text.now)) }
+    ensures { MatchResult result
+        (λ found. BeginsWith (codes "And(" ++ text.now) (tree_of found.0) found.1.now)
+        (λ fault. IsFaultAt fault (codes "And(" ++ text.now)) }
 {
     let (first, mut rest) = read_shape(alloc, text)?;
     let mut parts = Vec::new(alloc);
@@ -98,11 +104,15 @@ fn read_and(alloc: Global, text: &[u8]) -> Result<(Shape, &[u8]), PolicyFault>
     Ok((Shape::And(parts), rest))
 }
 
-/// A count, 1025 standing for all above 1024, and a key, each with its comma, and what follows them.
+/// A count and a key, each with its comma, and what follows them. The count is one above the
+/// greatest for every number above that.
 fn read_count_and_key(text: &[u8]) -> Option<(u32, Key, &[u8])>
     ensures { MatchOption result
-        ((n : ℕ) (key : Key) (rest : List ℕ) → text.now ≡ numeral n ++ codes "," ++ key_text key ++ codes "," ++ rest → ⊥)
-        (λ found. (n : ℕ) × (found.0 ≡ min n 1025) × (text.now ≡ numeral n ++ codes "," ++ key_text found.1 ++ codes "," ++ found.2.now)) }
+        ((n : ℕ) (key : Key) (rest : List ℕ)
+        → text.now ≡ numeral n ++ codes "," ++ key_text key ++ codes "," ++ rest → ⊥)
+        (λ found. (n : ℕ)
+        × (found.0 ≡ min n (MOST_COUNT + 1))
+        × (text.now ≡ numeral n ++ codes "," ++ key_text found.1 ++ codes "," ++ found.2.now)) }
 {
     let Some((count, rest)) = read_count(text) else {
         return None;
@@ -116,11 +126,13 @@ fn read_count_and_key(text: &[u8]) -> Option<(u32, Key, &[u8])>
     Some((count, key, rest))
 }
 
-/// A count, 1025 standing for all above 1024, with its comma, and what follows it.
+/// A count with its comma, and what follows it: one above the greatest for every number above that.
 fn read_count(text: &[u8]) -> Option<(u32, &[u8])>
     ensures { MatchOption result
         ((n : ℕ) (rest : List ℕ) → text.now ≡ numeral n ++ 44 ∷ rest → ⊥)
-        (λ found. (n : ℕ) × (found.0 ≡ min n 1025) × (text.now ≡ numeral n ++ 44 ∷ found.1.now)) }
+        (λ found. (n : ℕ)
+        × (found.0 ≡ min n (MOST_COUNT + 1))
+        × (text.now ≡ numeral n ++ 44 ∷ found.1.now)) }
 {
     let mut count = 0;
     for (i, byte) in text.iter().enumerate() {
@@ -170,7 +182,9 @@ fn read_key(text: &[u8]) -> Option<(Key, &[u8])>
 
 /// What follows the word, where the text begins with it.
 fn behind<'a>(text: &'a [u8], word: &[u8]) -> Option<&'a [u8]>
-    ensures { MatchOption result ((rest : List ℕ) → text.now ≡ word.now ++ rest → ⊥) (λ rest. text.now ≡ word.now ++ rest.now) }
+    ensures { MatchOption result
+        ((rest : List ℕ) → text.now ≡ word.now ++ rest → ⊥)
+        (λ rest. text.now ≡ word.now ++ rest.now) }
 {
     text.strip_prefix(word)
 }
@@ -204,6 +218,19 @@ mod tests {
         Ok(text)
     }
 
+    /// The text of a policy of 64 nodes, 8 deep, with the greatest counts.
+    fn greatest(alloc: Global) -> Result<String, Fail> {
+        let mut text = String::new(alloc);
+        for _ in 0..6 {
+            text.push_str("Across(1024,data_hall,")?;
+        }
+        text.push_str(wide(alloc, 57)?.as_str())?;
+        for _ in 0..6 {
+            text.push_str(")")?;
+        }
+        Ok(text)
+    }
+
     /// The text's fault, if it has one. Want of memory ends the test.
     fn fault_of(alloc: Global, text: &str) -> Result<Option<PolicyFault>, Fail> {
         match read_policy(alloc, text) {
@@ -226,7 +253,11 @@ mod tests {
             let policy = read_policy(alloc, text)?;
             assert_eq!(rt; policy_text(alloc, &policy)?.as_str(), text);
         }
-        for text in [nested(alloc, 7, "One()")?, wide(alloc, 63)?] {
+        for text in [
+            nested(alloc, 7, "One()")?,
+            wide(alloc, 63)?,
+            greatest(alloc)?,
+        ] {
             let policy = read_policy(alloc, text.as_str())?;
             assert_eq!(rt; policy_text(alloc, &policy)?.as_str(), text.as_str());
         }

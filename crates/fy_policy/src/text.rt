@@ -7,8 +7,11 @@ use crate::Policy;
 use crate::shape::Shape;
 use std::alloc::{AllocError, Global};
 
-/// The policy's text: ASCII, without blanks, each count without leading zeros. It is at most 1536 bytes long.
-/// The error is want of memory.
+/// The policy's text: ASCII, without blanks, each count without leading zeros. It is at most
+/// `MOST_TEXT_BYTES` long.
+///
+/// # Errors
+/// Want of memory.
 pub fn policy_text(alloc: Global, policy: &Policy) -> Result<String, AllocError>
     ensures { IfOk result (λ written. string_bytes written ≡ text policy.now) }
 {
@@ -18,7 +21,8 @@ pub fn policy_text(alloc: Global, policy: &Policy) -> Result<String, AllocError>
 }
 
 fn push_text(out: &mut String, shape: &Shape) -> Result<(), AllocError>
-    ensures { OnOk result (string_bytes out.new ≡ string_bytes out.old ++ text (tree_of shape.now)) }
+    ensures { OnOk result
+        (string_bytes out.new ≡ string_bytes out.old ++ text (tree_of shape.now)) }
 {
     match shape {
         Shape::One => {

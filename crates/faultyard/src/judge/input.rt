@@ -42,7 +42,7 @@ pub struct Input {
 impl Model for Input {
     ghost use Rattle.std.specs.Coded.{codes, coded_ℕ};
     ghost use Rattle.fy_locality.specs.contracts.locality.Locality as l;
-    ghost use Rattle.fy_policy.specs.Tree.{tree_code};
+    ghost use Rattle.fy_policy.specs.TreeCode.{tree_code};
     ghost use Rattle.faultyard.specs.contracts.judge.line.Ask as a;
     ghost use Rattle.faultyard.specs.JudgeLines.{Input, IsInput};
 

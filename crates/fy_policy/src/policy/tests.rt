@@ -4,7 +4,8 @@ use fy_locality::{Map, MapFault, ProcId, ProcSet};
 use std::alloc::Global;
 use std::test::Fail;
 
-/// Each process has a machine of its own, two are in each of three zones, and one in each zone has a data hall.
+/// Each process has a machine of its own, two are in each of three zones, and one in each zone has
+/// a data hall.
 const PROCESSES: [(&str, &str, &str, Option<&str>); 6] = [
     ("p0", "m0", "z0", Some("h0")),
     ("p1", "m1", "z0", None),

@@ -9,8 +9,8 @@ use Rattle.fy_policy.specs.Tree.{depth, nodes}
 use Rattle.fy_policy.proofs.Answered.{too_long, no_front, bytes_left, count_answer, depth_answer, nodes_answer, policy_found, policy_answer, too_many, few_enough}
 use Rattle.fy_policy.proofs.reading.read_policy.Goals as goal
 
-pub returns-then-text-gt-MOST_BYTES : goal.returns-then-text-gt-MOST_BYTES
-returns-then-text-gt-MOST_BYTES c = too_long c.args.text.now (omega arith)
+pub returns-then-text-gt-MOST_READ_BYTES : goal.returns-then-text-gt-MOST_READ_BYTES
+returns-then-text-gt-MOST_READ_BYTES c = too_long c.args.text.now (omega arith)
 
 pub returns-in_err-shape : goal.returns-in_err-shape
 returns-in_err-shape c =

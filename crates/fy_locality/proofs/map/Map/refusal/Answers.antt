@@ -9,8 +9,8 @@ pub returns-then-contains_key : goal.returns-then-contains_key
 returns-then-contains_key c =
     sym (ap (λ ps. taken_or_full ps c.args.id.now) (sym c.self.view_is) ∙ taken _ _ (ap (λ names. is_member bytes_eq names c.args.id.now) (sym c.self.invariant.ids_are.seen) ∙ sym (is_some-lookup (bytes_eq c.args.id.now) _) ∙ sym c.if-contains_key.ensures))
 
-pub returns-then-len-ge1024 : goal.returns-then-len-ge1024
-returns-then-len-ge1024 c =
+pub returns-then-len : goal.returns-then-len
+returns-then-len c =
     sym (ap (λ ps. taken_or_full ps c.args.id.now) (sym c.self.view_is) ∙ full _ _ (ap (λ names. is_member bytes_eq names c.args.id.now) (sym c.self.invariant.ids_are.seen) ∙ sym (is_some-lookup (bytes_eq c.args.id.now) _) ∙ sym c.if-contains_key.ensures) (omega arith))
 
 pub returns : goal.returns

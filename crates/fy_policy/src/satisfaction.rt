@@ -3,15 +3,16 @@ ghost use Rattle.std.specs.Prelude.{◌≡◌};
 ghost use Rattle.std.specs.FinSet as sets;
 ghost use Rattle.fy_policy.specs.Sat.{satisfies};
 ghost use Rattle.fy_policy.specs.Shape.{tree_of};
-ghost use Rattle.fy_policy.specs.Tree.{IsCounted, one};
+ghost use Rattle.fy_policy.specs.Tree.{IsWellFormed, one};
 
 use crate::shape::Shape;
 use fy_locality::{Map, ProcSet, laws};
 
-/// Whether the set satisfies the policy. Only values that occur in the set are looked at, each once, and no memory is
-/// taken.
+/// Whether the set satisfies the policy. Only values that occur in the set are looked at, each
+/// once, and no memory is taken.
 pub(crate) fn shape_satisfied(shape: &Shape, map: &Map, set: &ProcSet) -> bool
-    ensures { IsCounted (tree_of shape.now) → result ≡ satisfies map.now (tree_of shape.now) (sets.contains set.now) }
+    ensures { IsWellFormed (tree_of shape.now)
+        → result ≡ satisfies map.now (tree_of shape.now) (sets.contains set.now) }
 {
     match shape {
         Shape::One => has_process(map, set),

@@ -4,11 +4,11 @@ use Rattle.std.proofs.lemmas.Bool.{cases_eq}
 use Rattle.std.proofs.lemmas.List.{get_or_default}
 use Rattle.fy_policy.specs.Sat.{satisfies}
 use Rattle.fy_policy.specs.Shape.{tree_of}
-use Rattle.fy_policy.specs.Tree.{IsCounted}
+use Rattle.fy_policy.specs.Tree.{IsWellFormed}
 use Rattle.fy_policy.proofs.Counts.{number_of}
 use Rattle.fy_policy.proofs.Shapes.{satisfies-And, part_is_counted', all_pass, one_fails, inner_counted}
 use Rattle.fy_policy.proofs.Walk.{passing, passing-keyless, passing-group, passing-empty, fewer-group, fewer-dropped, satisfies-across, one_more, none_more, enough, too_few, no_least}
-use Rattle.fy_policy.proofs.judged.+shape_satisfied.Goals as goal
+use Rattle.fy_policy.proofs.satisfaction.+shape_satisfied.Goals as goal
 
 pub loop-p-smaller-in-None : goal.loop-p-smaller-in-None
 loop-p-smaller-in-None t c =
@@ -34,7 +34,7 @@ returns-then-found-wanted t c = λ counted.
     (one_more _ _ _ _ c.in-Across.wanted _ (c.loop-p.invariant.counts counted).all
     (passing-group c.args.map.now c.in-Across.key (tree_of c.in-Across.inner.value) c.loop-p.rest c.in-Some-peers.peers c.intersection-group.result c.difference-rest.result c.in-Some.p.0 c.in-Some-peers.ensures.some.value
     c.in-Some-peers.ensures.some.had c.in-Some-peers.ensures.some.those c.intersection-group.ensures c.difference-rest.ensures c.values_differ.ensures c.values_occur.ensures (inner_counted _ _ _ _ c.in-Across.is counted).1)
-    (sym (c.shape_satisfied.ensures (subst (λ q. IsCounted (tree_of q)) (sym c.deref.ensures) (inner_counted _ _ _ _ c.in-Across.is counted).1) ∙ ap (λ q. satisfies c.args.map.now (tree_of q) (sets.contains c.intersection-group.result)) c.deref.ensures) ∙ c.if-shape_satisfied.true))
+    (sym (c.shape_satisfied.ensures (subst (λ q. IsWellFormed (tree_of q)) (sym c.deref.ensures) (inner_counted _ _ _ _ c.in-Across.is counted).1) ∙ ap (λ q. satisfies c.args.map.now (tree_of q) (sets.contains c.intersection-group.result)) c.deref.ensures) ∙ c.if-shape_satisfied.true))
     ∙ sym (satisfies-across c.args.map.now c.in-Across.wanted c.in-Across.key (tree_of c.in-Across.inner.value) (sets.contains c.args.set.now))
     ∙ ap (λ q. satisfies c.args.map.now (tree_of q) (sets.contains c.args.set.now)) (sym c.in-Across.is)
 
@@ -51,7 +51,7 @@ loop-p-preserved-else-found-wanted t c = record {
         one_more _ _ _ _ c.in-Across.wanted _ (c.loop-p.invariant.counts counted).all
         (passing-group c.args.map.now c.in-Across.key (tree_of c.in-Across.inner.value) c.loop-p.rest c.in-Some-peers.peers c.intersection-group.result c.difference-rest.result c.in-Some.p.0 c.in-Some-peers.ensures.some.value
         c.in-Some-peers.ensures.some.had c.in-Some-peers.ensures.some.those c.intersection-group.ensures c.difference-rest.ensures c.values_differ.ensures c.values_occur.ensures (inner_counted _ _ _ _ c.in-Across.is counted).1)
-        (sym (c.shape_satisfied.ensures (subst (λ q. IsCounted (tree_of q)) (sym c.deref.ensures) (inner_counted _ _ _ _ c.in-Across.is counted).1) ∙ ap (λ q. satisfies c.args.map.now (tree_of q) (sets.contains c.intersection-group.result)) c.deref.ensures) ∙ c.if-shape_satisfied.true);
+        (sym (c.shape_satisfied.ensures (subst (λ q. IsWellFormed (tree_of q)) (sym c.deref.ensures) (inner_counted _ _ _ _ c.in-Across.is counted).1) ∙ ap (λ q. satisfies c.args.map.now (tree_of q) (sets.contains c.intersection-group.result)) c.deref.ensures) ∙ c.if-shape_satisfied.true);
     few = c.if-found-wanted.false;
   };
 }
@@ -69,7 +69,7 @@ loop-p-preserved t c = record {
         none_more _ _ _ _ _ (c.loop-p.invariant.counts counted).all
         (passing-group c.args.map.now c.in-Across.key (tree_of c.in-Across.inner.value) c.loop-p.rest c.in-Some-peers.peers c.intersection-group.result c.difference-rest.result c.in-Some.p.0 c.in-Some-peers.ensures.some.value
         c.in-Some-peers.ensures.some.had c.in-Some-peers.ensures.some.those c.intersection-group.ensures c.difference-rest.ensures c.values_differ.ensures c.values_occur.ensures (inner_counted _ _ _ _ c.in-Across.is counted).1)
-        (sym (c.shape_satisfied.ensures (subst (λ q. IsCounted (tree_of q)) (sym c.deref.ensures) (inner_counted _ _ _ _ c.in-Across.is counted).1) ∙ ap (λ q. satisfies c.args.map.now (tree_of q) (sets.contains c.intersection-group.result)) c.deref.ensures) ∙ c.if-shape_satisfied.false);
+        (sym (c.shape_satisfied.ensures (subst (λ q. IsWellFormed (tree_of q)) (sym c.deref.ensures) (inner_counted _ _ _ _ c.in-Across.is counted).1) ∙ ap (λ q. satisfies c.args.map.now (tree_of q) (sets.contains c.intersection-group.result)) c.deref.ensures) ∙ c.if-shape_satisfied.false);
     few = (c.loop-p.invariant.counts counted).few;
   };
 }

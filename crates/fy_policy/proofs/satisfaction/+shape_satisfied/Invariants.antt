@@ -2,11 +2,11 @@ use Rattle.std.proofs.Common.{◌≡◌, ℕ, ◌+◌, ◌-◌, ◌<◌, ◌≤�
 use Rattle.std.specs.FinSet as sets
 use Rattle.fy_policy.specs.Sat.{satisfies}
 use Rattle.fy_policy.specs.Shape.{tree_of}
-use Rattle.fy_policy.specs.Tree.{IsCounted}
+use Rattle.fy_policy.specs.Tree.{IsWellFormed}
 use Rattle.fy_policy.specs.declared.shape.Shape.{Shape}
 use Rattle.fy_policy.proofs.Counts.{number_of}
 use Rattle.fy_policy.proofs.Walk.{passing}
-use Rattle.fy_policy.proofs.judged.+shape_satisfied.Given as goal
+use Rattle.fy_policy.proofs.satisfaction.+shape_satisfied.Given as goal
 
 abbrev pub decreases-shape_satisfied : goal.decreases-shape_satisfied
 decreases-shape_satisfied l = goal.size-shape_satisfied l
@@ -15,7 +15,7 @@ decreases-shape_satisfied l = goal.size-shape_satisfied l
 abbrev pub invariant-loop-p : goal.invariant-loop-p
 invariant-loop-p l = record {
   fits : l.found ≤ l.wanted - 1;
-  counts : IsCounted (tree_of l.shape) → record {
+  counts : IsWellFormed (tree_of l.shape) → record {
     all : l.found + passing l.map l.key (tree_of l.inner.value) (sets.contains l.rest) ≡ passing l.map l.key (tree_of l.inner.value) (sets.contains l.set);
     few : l.found < l.wanted;
   };
@@ -26,4 +26,4 @@ decreases-loop-p l = number_of (sets.contains l.rest) 1024
 
 -- the parts so far are satisfied
 abbrev pub invariant-loop-part : goal.invariant-loop-part
-invariant-loop-part l = IsCounted (tree_of l.shape) → (k : ℕ) (d : Shape) → k < l.part-index → satisfies l.map (tree_of (slice_index_or l.part-items k d)) (sets.contains l.set) ≡ true
+invariant-loop-part l = IsWellFormed (tree_of l.shape) → (k : ℕ) (d : Shape) → k < l.part-index → satisfies l.map (tree_of (slice_index_or l.part-items k d)) (sets.contains l.set) ≡ true

@@ -1,0 +1,62 @@
+-- what a Map keeps beside its processes: an index of the values of each key, and their places in it
+use Rattle.std.specs.Prelude.{◌≡◌, ◌≤◌, ℕ, List, length, Option, Some, None, MatchOption, slice_get, option_and_then, unwrap_or}
+use Rattle.std.specs.Ordering.{nat_cmp}
+use Rattle.std.specs.FinSet as sets
+use Rattle.std.specs.List.{filter_map}
+use Rattle.std.specs.Map.{keys_of, lookup}
+use Rattle.std.specs.Str.{bytes_eq}
+use Rattle.fy_locality.specs.declared.TheConstants.{MOST_PROCESSES}
+use Rattle.fy_locality.specs.declared.map.Places.{Places}
+use Rattle.fy_locality.specs.declared.locality.Locality.{Locality}
+use Rattle.fy_locality.specs.declared.key.Key.{Key}
+use Rattle.fy_locality.specs.declared.key.Key.TheVariants.{Process, Machine, Zone, DataHall, DataCenter}
+use Rattle.fy_locality.specs.Locality.{value_in, value_of, has_value, values_of}
+
+-- names in an order, each with a set of processes
+abbrev pub Entries : Type 0
+Entries = List (List ℕ × sets.FinSet nat_cmp)
+
+-- the set kept for a name, or the empty set
+abbrev pub group_of : Entries → List ℕ → sets.FinSet nat_cmp
+group_of entries v = unwrap_or (lookup (bytes_eq v) entries) sets.empty
+
+-- the values of a key in first-seen order, each with the processes that have it
+pub record IsIndex (processes : List Locality) (key : Key) (entries : Entries) : Type 0 where
+  pub seen : keys_of entries ≡ values_of processes key
+  pub grouped :
+      (v : List ℕ) (q : ℕ)
+      → sets.contains (group_of entries v) q ≡ has_value processes key v q
+
+-- a value stands at its place among the names, and what is no value has no place
+abbrev pub StandsAt : List (List ℕ) → Option (List ℕ) → Option ℕ → Type 0
+StandsAt names value place =
+    MatchOption value (place ≡ None) (λ v. option_and_then (slice_get names) place ≡ Some v)
+
+-- the place that is kept for a key of process p: its own name stands at its number
+abbrev pub place_in : Key → ℕ → Places → Option ℕ
+place_in Process p places = Some p
+place_in Machine p places = places.machine
+place_in Zone p places = places.zone
+place_in DataHall p places = places.data_hall
+place_in DataCenter p places = places.data_center
+
+-- each value of each process stands at the place that is kept for it
+pub record ArePlaces (processes : List Locality) (places : List Places) : Type 0 where
+  pub count : length places ≡ length processes
+  pub stand :
+      (key : Key) (p : ℕ) (kept : Places)
+      → slice_get places p ≡ Some kept
+      → StandsAt (values_of processes key) (value_of processes key p) (place_in key p kept)
+
+-- names that differ, an index for each key, and places in them
+pub record IsIndexed
+    (processes : List Locality) (ids machines zones halls centers : Entries) (places : List Places)
+    : Type 0 where
+  pub few : length processes ≤ MOST_PROCESSES
+  pub own : filter_map (value_in Process) processes ≡ values_of processes Process
+  pub ids_are : IsIndex processes Process ids
+  pub machines_are : IsIndex processes Machine machines
+  pub zones_are : IsIndex processes Zone zones
+  pub halls_are : IsIndex processes DataHall halls
+  pub centers_are : IsIndex processes DataCenter centers
+  pub places_are : ArePlaces processes places
