@@ -4,6 +4,7 @@
 mod act;
 mod entry;
 mod journal;
+pub mod laws;
 mod limits;
 mod reply;
 #[cfg(test)]
