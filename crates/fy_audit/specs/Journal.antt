@@ -1,17 +1,14 @@
 -- a journal as the list of its entries
-use Rattle.std.specs.Prelude.{◌≡◌, ℕ, ◌+◌, ◌-◌, ◌^◌, ◌≤◌, List, [], ◌∷◌, ◌++◌, length, slice_get, Some}
+use Rattle.std.specs.Prelude.{◌≡◌, ℕ, ◌+◌, ◌-◌, ◌≤◌, List, [], ◌∷◌, ◌++◌, length, slice_get, Some}
 use Rattle.fy_audit.specs.declared.act.Act.{Act}
 use Rattle.fy_audit.specs.declared.reply.Reply.{Reply}
 use Rattle.fy_audit.specs.declared.entry.Entry.{Entry}
+use Rattle.fy_audit.specs.declared.limits.TheConstants.{MOST_ENTRIES}
 
 -- a journal: its entries, the oldest first, and how many pushes are sure to find room
 pub record Log : Type 0 where
   pub entries : List Entry
   pub room : ℕ
-
--- how many entries a journal may have, so that each has a number of 32 bits
-abbrev pub most_entries : ℕ
-most_entries = 2 ^ 32
 
 -- a journal in which nothing stands
 abbrev pub blank : Log
@@ -19,12 +16,12 @@ blank = record { entries = []; room = 0 }
 
 -- the journal with one entry more, which is numbered by its place and uses up one place of the room
 abbrev pub entered : ℕ → Act → Reply → Log → Log
-entered by act reply log = record {
-  entries = log.entries ++ record { at = length log.entries; by = by; act = act; reply = reply } ∷ [];
-  room = log.room - 1;
-}
+entered by act reply log =
+    let entry : Entry = record { at = length log.entries; by = by; act = act; reply = reply } in
+    record { entries = log.entries ++ entry ∷ []; room = log.room - 1 }
 
 -- each entry is numbered by its place, and with the room they are no more than may be
-pub record IsSound (log : Log) : Type 0 where
-  pub numbered : (place : ℕ) (entry : Entry) → slice_get log.entries place ≡ Some entry → entry.at ≡ place
-  pub few : length log.entries + log.room ≤ most_entries
+pub record IsLog (log : Log) : Type 0 where
+  pub numbered : (place : ℕ) (entry : Entry) →
+      slice_get log.entries place ≡ Some entry → entry.at ≡ place
+  pub few : length log.entries + log.room ≤ MOST_ENTRIES

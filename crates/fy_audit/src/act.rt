@@ -9,8 +9,9 @@ use fy_locality::ProcId;
 use fy_team::Members;
 use std::alloc::{AllocError, Global};
 
-/// What an actor asks of the cluster. Its numbers need not be of anything that is there: an act that names what isn't
-/// there is refused by its reply.
+/// What an actor asks of the cluster. Its numbers need not be of anything that is there: an act
+/// that names what isn't there is refused by its reply.
+#[derive(PartialEq, Eq)]
 pub enum Act {
     /// Kill the processes of a target.
     Kill { order: KillOrder },
@@ -20,8 +21,8 @@ pub enum Act {
     Unclog { target: Target },
     /// Form a team that satisfies the policy with this number.
     Form { members: Members, policy: u32 },
-    /// Begin a record for a team: a store is sent to each member. A payload has any length here; the reply refuses one of
-    /// more than 256 bytes.
+    /// Begin a record for a team: a store is sent to each member. A payload has any length here;
+    /// the reply refuses one of more than 256 bytes.
     Begin { team: u32, payload: Payload },
     /// Deliver the message in flight with this number.
     Deliver { message: u64 },
@@ -80,7 +81,10 @@ impl Drop for Act {
 }
 
 impl Act {
-    /// An equal act in memory of its own. Only the members of a `Form` and the payload of a `Begin` take memory.
+    /// An equal act in memory of its own. Only the members of a `Form` and the payload of a `Begin`
+    /// take memory.
+    ///
+    /// # Errors
     ///
     /// `AllocError` only where that memory is refused.
     pub fn try_copy(&self, alloc: Global) -> Result<Act, AllocError>

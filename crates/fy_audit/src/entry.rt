@@ -2,6 +2,7 @@
 use crate::{Act, Reply};
 
 /// One act and its reply.
+#[derive(PartialEq, Eq)]
 pub struct Entry {
     /// Its place in the journal, from 0.
     pub at: u32,

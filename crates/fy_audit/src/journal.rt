@@ -1,28 +1,29 @@
 //! The journal of a cluster.
 ghost use Rattle.std.specs.Prelude.{◌≡◌, ◌+◌, ◌<◌, ◌≤◌, max, length, slice_get, IsOk, IfSome, OnOk, OnErr};
 ghost use Rattle.std.specs.Option.{option_copied};
-ghost use Rattle.fy_audit.specs.Journal.{blank, entered, most_entries, IsSound};
+ghost use Rattle.fy_audit.specs.Journal.{blank, entered, IsLog};
 
-use crate::{Act, Entry, Reply};
+use crate::{Act, Entry, MOST_ENTRIES, Reply};
 use std::alloc::{AllocError, Global};
 use std::marker::Model;
 
-/// All that was asked of a cluster and replied, the oldest first. Each entry is numbered by its place.
+/// All that was asked of a cluster and replied, the oldest first. Each entry is numbered by its
+/// place.
 pub struct Journal {
     entries: Vec<Entry>,
     room: usize,
 }
 
 impl Model for Journal {
-    ghost use Rattle.std.specs.Prelude.{◌≤◌, ◌+◌, vec_len};
-    ghost use Rattle.std.specs.Vec.{vec_capacity};
-    ghost use Rattle.fy_audit.specs.Journal.{Log, IsSound};
+    ghost use Rattle.fy_audit.specs.Journal.{Log};
 
     ghost Value = { Log };
 
-    ghost view = { λ j. record { entries = j.entries.items; room = j.room } };
+    ghost use Rattle.fy_audit.specs.Kept.{log, IsKept};
 
-    ghost invariant = { λ j. IsSound (record { entries = j.entries.items; room = j.room }) × (vec_len j.entries + j.room ≤ vec_capacity j.entries) };
+    ghost view = { log };
+
+    ghost invariant = { IsKept };
 }
 
 // Written out, so that whoever drops a journal makes one call.
@@ -46,12 +47,14 @@ impl Journal {
         }
     }
 
-    /// Makes room for `count` pushes. Room that is there already counts. With them there may be no more than 2^32
-    /// entries.
+    /// Makes room for `count` pushes. Room that is there already counts. With them there may be no
+    /// more than 2^32 entries.
+    ///
+    /// # Errors
     ///
     /// `AllocError` only where the memory for them is refused.
     pub fn reserve(&mut self, count: usize) -> Result<(), AllocError>
-        requires { length self.old.entries + count ≤ most_entries }
+        requires { length self.old.entries + count ≤ MOST_ENTRIES }
         ensures there { count ≤ self.old.room → IsOk result }
         ensures ok { OnOk result (self.new ≡ record self.old { room = max self.old.room count }) }
         ensures err { OnErr result (self.new ≡ self.old) }
@@ -61,15 +64,14 @@ impl Journal {
         Ok(())
     }
 
-    /// Puts an act by the actor with this number last, with its reply. It uses up one place of the room, and takes no
-    /// memory.
+    /// Puts an act by the actor with this number last, with its reply. It uses up one place of the
+    /// room, and takes no memory.
     pub fn push(&mut self, by: u32, act: Act, reply: Reply)
         requires { 0 < self.old.room }
         ensures { self.new ≡ entered by act reply self.old }
     {
         let at = self.len() as u32;
-        // The room was made before, so this takes no memory and can't be refused.
-        let _ = self.entries.push(Entry { at, by, act, reply });
+        self.entries.push_reserved(Entry { at, by, act, reply });
         self.room -= 1;
     }
 
@@ -89,8 +91,8 @@ impl Journal {
     }
 
     /// Each entry is numbered by its place, and with the room there are no more than 2^32.
-    pub fn entries_are_numbered(&self)
-        ensures { IsSound self.now }
+    pub fn invariant(&self)
+        ensures { IsLog self.now }
     {
         let _entries = &self.entries;
     }

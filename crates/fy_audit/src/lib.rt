@@ -4,6 +4,8 @@
 mod act;
 mod entry;
 mod journal;
+pub mod laws;
+mod limits;
 mod reply;
 #[cfg(test)]
 mod tests;
@@ -11,4 +13,5 @@ mod tests;
 pub use act::Act;
 pub use entry::Entry;
 pub use journal::Journal;
+pub use limits::MOST_ENTRIES;
 pub use reply::{Refusal, Reply};

@@ -1,24 +1,29 @@
 //! What the cluster replies.
 use fy_kinds::{Rule, Verdict};
 
-/// The reply to an act. Records, teams and messages are known by their numbers, each counted from 0.
+/// The reply to an act. Records, teams and messages are known by their numbers, each counted from
+/// 0.
 #[derive(Clone, Copy, PartialEq, Eq, Debug)]
 pub enum Reply {
-    /// To a kill: the kind that struck, if one did, and the rule that bars the ordered kind, if one does.
+    /// To a kill: the kind that struck, if one did, and the rule that bars the ordered kind, if one
+    /// does.
     Verdict(Verdict),
     /// To a clog, or to the end of one: the rule that bars it. With none it was done.
     Ruled { rule: Option<Rule> },
     /// A team was formed and has this number.
     Formed { team: u32 },
-    /// A record was begun and has this number. Its stores have numbers from `first` on, one for each member.
+    /// A record was begun and has this number. Its stores have numbers from `first` on, one for
+    /// each member.
     Begun { rec: u32, first: u64 },
     /// A store was delivered.
     Stored,
-    /// A process's word that it has synced a record was delivered: whether the record is acknowledged now.
+    /// A process's word that it has synced a record was delivered: whether the record is
+    /// acknowledged now.
     Marked { acked: bool },
     /// A store was sent and has this number.
     Sent { message: u64 },
-    /// So many writes were synced. The words of it have numbers from `first` on, one for each write.
+    /// So many writes were synced. The words of it have numbers from `first` on, one for each
+    /// write.
     Synced { first: u64, count: u32 },
     /// The time now, in ticks from 0 to 2^40.
     Time { now: u64 },

@@ -91,7 +91,7 @@ fn entries_are_numbered_by_place(rt: HostRuntime) -> Result<(), Fail> {
     journal.reserve(2)?;
     journal.push(0, forming, Reply::Formed { team: 4 });
     journal.push(1, beginning, Reply::Begun { rec: 0, first: 0 });
-    journal.entries_are_numbered();
+    journal.invariant();
     let (first, second) = (journal.entry(0), journal.entry(1));
     let (first, second) = (first.ok_or("no first")?, second.ok_or("no second")?);
     assert_eq!(rt; (first.at, first.by), (0, 0));
@@ -99,6 +99,56 @@ fn entries_are_numbered_by_place(rt: HostRuntime) -> Result<(), Fail> {
     assert_eq!(rt; first.reply, Reply::Formed { team: 4 });
     assert_eq!(rt; second.reply, Reply::Begun { rec: 0, first: 0 });
     assert!(rt; is_form(&first.act, &[P0, P2]) && is_begin(&second.act, b"hi"));
+    Ok(())
+}
+
+#[test]
+fn a_journal_takes_a_hundred_thousand_entries(rt: HostRuntime) -> Result<(), Fail> {
+    let mut journal = Journal::make(rt.alloc());
+    journal.reserve(100_000)?;
+    for message in 0..100_000 {
+        journal.push(0, Act::Lose { message }, Reply::Done);
+    }
+    assert_eq!(rt; journal.len(), 100_000);
+    let last = journal.entry(99_999).ok_or("no last")?;
+    assert!(rt; last.at == 99_999 && last.act == Act::Lose { message: 99_999 });
+    Ok(())
+}
+
+/// A form with as many members, and a begin with as many bytes, where they are made.
+fn longest(alloc: Global, members: u32, bytes: usize) -> Option<(Act, Act)> {
+    let mut processes = Vec::new(alloc);
+    for p in 0..members {
+        processes.push(ProcId(p)).ok()?;
+    }
+    let members = Members::from_vec(processes).ok()?;
+    let payload = Payload::from_vec(vec![in alloc; 7; bytes].ok()?);
+    Some((
+        Act::Form { members, policy: 3 },
+        Act::Begin { team: 4, payload },
+    ))
+}
+
+#[test]
+fn the_longest_acts_are_copied(rt: HostRuntime) -> Result<(), Fail> {
+    let alloc = rt.alloc();
+    let (forming, beginning) = longest(alloc, 1024, 256).ok_or("no acts")?;
+    assert!(rt; copy(&forming, alloc) == Some(forming));
+    assert!(rt; copy(&beginning, alloc) == Some(beginning));
+    Ok(())
+}
+
+#[test]
+fn acts_are_equal_by_all_that_they_hold(rt: HostRuntime) -> Result<(), Fail> {
+    let alloc = rt.alloc();
+    let forming = form(alloc, &[P0, P2]).ok_or("no form")?;
+    assert!(rt; form(alloc, &[P0, P2]) == copy(&forming, alloc));
+    assert!(rt; form(alloc, &[P0]) != Some(forming));
+    assert!(rt; begin(alloc, b"hi") == begin(alloc, &[0x68, 0x69]));
+    assert!(rt; begin(alloc, b"hi") != begin(alloc, b"ha"));
+    assert!(rt; Act::Lose { message: 6 } != Act::Deliver { message: 6 });
+    assert!(rt; Act::Take { actor: 1, index: 2 } != Act::Take { actor: 2, index: 1 });
+    assert!(rt; Act::Sync { process: P2 } == Act::Sync { process: P2 });
     Ok(())
 }
 

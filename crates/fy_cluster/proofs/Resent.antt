@@ -8,7 +8,7 @@ use Rattle.std.specs.Option.{option_map_or}
 use Rattle.fy_locality.specs.declared.ProcId.{ProcId}
 use Rattle.fy_net.specs.declared.message.Body.TheVariants.{Store}
 use Rattle.fy_net.specs.Net.{Traffic, reserve_refusal, sent_on}
-use Rattle.fy_team.specs.Teams.{Team, Record, Roster, is_among, is_acked, IsFormed, members_of as members_in}
+use Rattle.fy_team.specs.Teams.{Team, Record, Roster, is_among, is_acked, IsFormed, members_in}
 use Rattle.fy_audit.specs.declared.act.Act.TheVariants.{Resend}
 use Rattle.fy_audit.specs.declared.reply.Reply.TheVariants.{Sent, No}
 use Rattle.fy_audit.specs.declared.reply.Refusal.TheVariants.{NoRecord, NotMember, Acked, NetFull}

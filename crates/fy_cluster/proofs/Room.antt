@@ -5,7 +5,8 @@ use Rattle.std.proofs.lemmas.Bool.Decides.{nat_tests}
 use Rattle.fy_net.specs.declared.message.Body.{Body}
 use Rattle.fy_net.specs.declared.fault.NetFault.{NetFault}
 use Rattle.fy_net.specs.declared.fault.NetFault.TheVariants.{NetFull as FullNet, NoMemory as NoMemoryLeft}
-use Rattle.fy_net.specs.Net.{Traffic, reserve_refusal, most_in_flight}
+use Rattle.fy_net.specs.Net.{Traffic, reserve_refusal}
+use Rattle.fy_net.specs.declared.limits.TheConstants.{MOST_IN_FLIGHT}
 use Rattle.fy_audit.specs.declared.act.Act.{Act}
 use Rattle.fy_audit.specs.declared.reply.Refusal.TheVariants.{NetFull}
 use Rattle.fy_audit.specs.declared.reply.Reply.TheVariants.{No}
@@ -19,7 +20,7 @@ use Rattle.fy_cluster.proofs.Entering.{length-history}
 use Rattle.fy_cluster.proofs.Refusals.{refuse}
 
 -- whether so many more would be too many is what the network says
-pub full_is : (c : Setup) (h : History) (net : Traffic) (n : ℕ) → KeepsNet c h net → nat_lt most_in_flight (length net.in_flight + n) ≡ is_full h n
+pub full_is : (c : Setup) (h : History) (net : Traffic) (n : ℕ) → KeepsNet c h net → nat_lt MOST_IN_FLIGHT (length net.in_flight + n) ≡ is_full h n
 full_is c h net n k = ap (λ l. nat_lt 65536 (l + n)) (ap length k.in_flight ∙ count_flying h)
 
 -- fewer messages were ever sent than there are numbers
@@ -59,17 +60,17 @@ pub no_room_left : (turn : Turn) (act : Act) (n : ℕ) (m : Machine) (net : Traf
     → (reserve_refusal m.net n ≡ Some fault) ⊎ ((reserve_refusal m.net n ≡ None) × (fault ≡ NoMemoryLeft)) → net ≡ m.net
     → Comes turn act (no_room fault) (record m { net = net })
 no_room_left turn act n m net fault k full (inr out) is = rw (out.1, is) (refl, k)
-no_room_left turn act n m net fault k full (inl why) is = at (nat_lt most_in_flight (length m.net.in_flight + n)) refl why
+no_room_left turn act n m net fault k full (inl why) is = at (nat_lt MOST_IN_FLIGHT (length m.net.in_flight + n)) refl why
   where
-    at : (b : Bool) → nat_lt most_in_flight (length m.net.in_flight + n) ≡ b → (if b then Some FullNet else None) ≡ Some fault → Comes turn act (no_room fault) (record m { net = net })
+    at : (b : Bool) → nat_lt MOST_IN_FLIGHT (length m.net.in_flight + n) ≡ b → (if b then Some FullNet else None) ≡ Some fault → Comes turn act (no_room fault) (record m { net = net })
     at true e why = let same : fault ≡ FullNet = cc in rw (same, is) (refuse turn act NetFull m k (full (sym (full_is turn.setup turn.before m.net n k.net) ∙ e)))
     at false e why = absurd (cc)
 
 -- and what its success tells
 pub room_for : (c : Setup) (h : History) (net : Traffic) (n : ℕ) → KeepsNet c h net → reserve_refusal net n ≡ None → (is_full h n ≡ false) × (n ≤ 65536)
-room_for c h net n k clear = at (nat_lt most_in_flight (length net.in_flight + n)) refl clear
+room_for c h net n k clear = at (nat_lt MOST_IN_FLIGHT (length net.in_flight + n)) refl clear
   where
-    at : (b : Bool) → nat_lt most_in_flight (length net.in_flight + n) ≡ b → (if b then Some FullNet else None) ≡ None → (is_full h n ≡ false) × (n ≤ 65536)
+    at : (b : Bool) → nat_lt MOST_IN_FLIGHT (length net.in_flight + n) ≡ b → (if b then Some FullNet else None) ≡ None → (is_full h n ≡ false) × (n ≤ 65536)
     at true e clear = absurd (cc)
     at false e clear = (sym (full_is c h net n k) ∙ e, (let low : length net.in_flight + n ≤ 65536 = grind (arith, nat_tests) in omega arith))
 

@@ -10,7 +10,7 @@ use Rattle.std.specs.Cmp.{nat_cmp_total, unsigned_tied}
 use Rattle.fy_locality.specs.declared.ProcId.{ProcId}
 use Rattle.fy_locality.specs.Members.{IsLeast, TakesLeast}
 use Rattle.fy_disk.specs.Disk.{Stored as OnDisk}
-use Rattle.fy_net.specs.Net.{first_free_of, IsSound}
+use Rattle.fy_net.specs.Net.{first_free_of, IsTraffic}
 use Rattle.fy_cluster.specs.declared.machine.Machine.{Machine}
 use Rattle.fy_cluster.specs.declared.sight.Sight.{Sight}
 use Rattle.fy_cluster.specs.Setup.{Setup}
@@ -95,7 +95,7 @@ least_of : (set : sets.FinSet nat_cmp) (test : ℕ → Bool) → ((p : ℕ) → 
 least_of set test same None some none = λ n. sym (same n) ∙ ap (λ s. sets.contains s n) none ∙ sets.contains-empty nat_cmp n
 least_of set test same (Some p) some none = record { passes = sym (same p.0) ∙ some.present; none_below = λ k l. sym (same k) ∙ some.none_below k l }
 
-pub sees : (c : Setup) (h : History) (m : Machine) (disks : List OnDisk) (asleep : sets.FinSet nat_cmp) (sight : Sight) → Stands c h m → IsSound m.net
+pub sees : (c : Setup) (h : History) (m : Machine) (disks : List OnDisk) (asleep : sets.FinSet nat_cmp) (sight : Sight) → Stands c h m → IsTraffic m.net
     → sight.now ≡ m.net.clock → sight.deliverable ≡ first_free_of m.net (sets.contains m.up) → disks ≡ m.disks.items → LeastProcess (λ p. sets.contains m.up p && has_unsynced disks p) sight.unsynced
     → asleep ≡ sets.difference m.dead.left m.up → IfSome sight.sleeping (λ p. IsLeast asleep p.0) → IfNone sight.sleeping (asleep ≡ sets.empty)
     → Sees c h sight

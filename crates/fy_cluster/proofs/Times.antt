@@ -2,7 +2,8 @@
 use Rattle.std.proofs.Common.{◌≡◌, ℕ, ◌+◌, ◌∷◌, Bool, true, false, Some, None, Result, Ok, Err, refl, sym, ap, subst, nat_lt}
 use Rattle.fy_net.specs.declared.fault.NetFault.{NetFault}
 use Rattle.fy_net.specs.declared.fault.NetFault.TheVariants.{ClockEnd as AtEnd}
-use Rattle.fy_net.specs.Net.{Traffic, advance_refusal, last_tick}
+use Rattle.fy_net.specs.Net.{Traffic, advance_refusal}
+use Rattle.fy_net.specs.declared.limits.TheConstants.{LAST_TICK}
 use Rattle.fy_audit.specs.declared.act.Act.TheVariants.{Tick}
 use Rattle.fy_audit.specs.declared.reply.Reply.{Reply}
 use Rattle.fy_audit.specs.declared.reply.Reply.TheVariants.{Time, No}
@@ -19,15 +20,15 @@ abbrev reply_of : Result ℕ NetFault → Reply
 reply_of (Ok time) = Time time
 reply_of (Err fault) = No ClockEnd
 
-at_end : (c : Setup) (h : History) (by n clock : ℕ) → clock ≡ now h → nat_lt last_tick (clock + n) ≡ true → refused (refusals c h (Tick n)) (answer c h by (Tick n)) ≡ No ClockEnd
+at_end : (c : Setup) (h : History) (by n clock : ℕ) → clock ≡ now h → nat_lt LAST_TICK (clock + n) ≡ true → refused (refusals c h (Tick n)) (answer c h by (Tick n)) ≡ No ClockEnd
 unfolding refusals answer
-at_end c h by n clock e t = let past : nat_lt last_tick (now h + n) ≡ true = rw e at t in rw past refl
+at_end c h by n clock e t = let past : nat_lt LAST_TICK (now h + n) ≡ true = rw e at t in rw past refl
 
-in_time : (c : Setup) (h : History) (by n clock : ℕ) → clock ≡ now h → nat_lt last_tick (clock + n) ≡ false → Time (clock + n) ≡ refused (refusals c h (Tick n)) (answer c h by (Tick n))
+in_time : (c : Setup) (h : History) (by n clock : ℕ) → clock ≡ now h → nat_lt LAST_TICK (clock + n) ≡ false → Time (clock + n) ≡ refused (refusals c h (Tick n)) (answer c h by (Tick n))
 unfolding refusals answer
-in_time c h by n clock e t = let past : nat_lt last_tick (now h + n) ≡ false = rw e at t in rw (past, e) refl
+in_time c h by n clock e t = let past : nat_lt LAST_TICK (now h + n) ≡ false = rw e at t in rw (past, e) refl
 
-passed : (turn : Turn) (n : ℕ) (m : Machine) → Stands turn.setup turn.before m → nat_lt last_tick (m.net.clock + n) ≡ false → Follows turn (Tick n) (Time (m.net.clock + n)) (record m { net = record m.net { clock = m.net.clock + n } })
+passed : (turn : Turn) (n : ℕ) (m : Machine) → Stands turn.setup turn.before m → nat_lt LAST_TICK (m.net.clock + n) ≡ false → Follows turn (Tick n) (Time (m.net.clock + n)) (record m { net = record m.net { clock = m.net.clock + n } })
 passed turn n machine k t = record {
   right = in_time c h turn.by n machine.net.clock k.net.clock t;
   stands = record {
@@ -53,8 +54,8 @@ pub tick_step : (turn : Turn) (n : ℕ) (m : Machine) (net : Traffic) (result : 
     → ((fault : NetFault) → advance_refusal m.net n ≡ Some fault → (result ≡ Err fault) × (net ≡ m.net))
     → (advance_refusal m.net n ≡ None → (result ≡ Ok (m.net.clock + n)) × (net ≡ record m.net { clock = m.net.clock + n }))
     → Follows turn (Tick n) (reply_of result) (record m { net = net })
-tick_step turn n m net result k past fits = at (nat_lt last_tick (m.net.clock + n)) refl
+tick_step turn n m net result k past fits = at (nat_lt LAST_TICK (m.net.clock + n)) refl
   where
-    at : (b : Bool) → nat_lt last_tick (m.net.clock + n) ≡ b → Follows turn (Tick n) (reply_of result) (record m { net = net })
+    at : (b : Bool) → nat_lt LAST_TICK (m.net.clock + n) ≡ b → Follows turn (Tick n) (reply_of result) (record m { net = net })
     at true t = let said = past AtEnd (rw t refl) in rw (said.0, said.1) (refuse turn (Tick n) ClockEnd m k (at_end turn.setup turn.before turn.by n m.net.clock k.net.clock t))
     at false t = let said = fits (rw t refl) in rw (said.0, said.1) (passed turn n m k t)

@@ -20,7 +20,8 @@ use Rattle.fy_net.specs.declared.message.Body.{Body}
 use Rattle.fy_net.specs.declared.message.Message.{Message}
 use Rattle.fy_net.specs.declared.fault.NetFault.{NetFault}
 use Rattle.fy_net.specs.declared.fault.NetFault.TheVariants.{NetFull as NetNetFull, NoMessage as NetNoMessage, Clogged as NetClogged, ClockEnd as NetClockEnd, NoMemory as NetNoMemory}
-use Rattle.fy_net.specs.Net.{Traffic, last_tick}
+use Rattle.fy_net.specs.Net.{Traffic}
+use Rattle.fy_net.specs.declared.limits.TheConstants.{LAST_TICK}
 use Rattle.fy_team.specs.declared.fault.TeamFault.{TeamFault}
 use Rattle.fy_team.specs.declared.fault.TeamFault.TheVariants.{TooMany as TeamTooMany, NoPolicy as TeamNoPolicy, NoProcess as TeamNoProcess, Gone as TeamGone, TeamShort as IsShort, NoTeam as TeamNoTeam, Payload as TeamPayload, NoMemory as TeamNoMemory}
 use Rattle.fy_team.specs.Teams.{Roster, Record, is_marked}
@@ -136,7 +137,7 @@ pub record KeepsNet (c : Setup) (h : History) (net : Traffic) : Type 0 where
 
 -- until when a process is clogged after a clog of some ticks, which shortens no other
 abbrev pub clog_end : ℕ → ℕ → ℕ → ℕ
-clog_end ticks time until = max until (min (time + ticks) last_tick)
+clog_end ticks time until = max until (min (time + ticks) LAST_TICK)
 
 -- and after its clogs have ended
 abbrev pub unclog_end : ℕ → ℕ → ℕ

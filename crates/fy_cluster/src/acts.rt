@@ -1,11 +1,11 @@
 //! One act of an actor that may make it.
 ghost use Rattle.std.specs.Prelude.{◌≡◌, ◌<◌, ◌++◌, ◌∷◌, [], length, IfOk, OnErr};
-ghost use Rattle.fy_audit.specs.Journal.{entered, most_entries};
+ghost use Rattle.fy_audit.specs.Journal.{entered};
 ghost use Rattle.fy_cluster.specs.Standing.{Turn, Stands, Comes, Answers, IsLived};
 
 use crate::machine::Machine;
 use crate::{Config, Fault};
-use fy_audit::{Act, Journal, Refusal, Reply};
+use fy_audit::{Act, Journal, MOST_ENTRIES, Refusal, Reply};
 use std::alloc::Global;
 
 impl Machine {
@@ -23,7 +23,7 @@ impl Machine {
         requires config { config.now ≡ turn.setup }
         requires by { by ≡ turn.by }
         requires lived { IsLived turn.setup turn.before }
-        requires room { length journal.old.entries < most_entries }
+        requires room { length journal.old.entries < MOST_ENTRIES }
         ensures answered { Answers turn act result self.new }
         ensures entered { IfOk result
             (λ reply. journal.new.entries ≡ (entered by act reply journal.old).entries) }

@@ -54,7 +54,7 @@ impl Machine {
         if !self.teams.acked(rec) {
             return None;
         }
-        let Some(team) = self.teams.team_of(rec) else {
+        let Some(team) = self.teams.team_number(rec) else {
             unreachable!();
         };
         let Some(members) = self.teams.members(team) else {

@@ -50,7 +50,7 @@ impl Machine {
     pub(crate) fn sight(&self) -> Sight
         ensures { (c : Setup) (h : History) → Stands c h self.now → Sees c h result }
     {
-        self.net.messages_are_in_order();
+        self.net.invariant();
         Sight {
             now: self.net.now(),
             deliverable: self.net.first_free(&self.up),

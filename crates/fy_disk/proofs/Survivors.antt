@@ -1,6 +1,6 @@
 -- a loop that moves the items that pass forward, over those that don't
 use Rattle.std.proofs.Common.{◌≡◌, ℕ, ◌+◌, ◌<◌, ◌≤◌, Bool, true, false, List, [], ◌∷◌, ◌++◌, length, get_or, set, take, drop, refl, sym, ap, ap₂, ◌∙◌, append_assoc, arith, length-set}
-use Rattle.std.proofs.lemmas.List.{take_more, drop_more, take-set-le, drop-set-lt, append-nil, drop_all}
+use Rattle.std.proofs.lemmas.List.{take_more, drop_more, take-set-le, drop-set-lt}
 use Rattle.std.specs.List.{SwappedAt}
 use Rattle.fy_disk.specs.declared.item.Item.{Item}
 use Rattle.fy_disk.specs.Disk.{passing}

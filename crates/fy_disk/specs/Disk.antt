@@ -1,5 +1,5 @@
 -- what a disk holds, and what a crash leaves of it
-use Rattle.std.specs.Prelude.{ℕ, ◌+◌, Bool, ◌&&◌, ◌==◌, nat_lt, List, [], ◌∷◌, if◌then◌else◌}
+use Rattle.std.specs.Prelude.{ℕ, ◌+◌, Bool, ◌&&◌, ◌==◌, nat_lt, List, [], ◌∷◌, ◌++◌, if◌then◌else◌}
 use Rattle.std.specs.Int.{bit_at}
 use Rattle.fy_disk.specs.declared.item.Item.{Item}
 
@@ -8,7 +8,20 @@ pub record Stored : Type 0 where
   pub synced : List Item
   pub unsynced : List Item
 
--- whether the unsynced item at a place outlives a crash: only the first 64 can, and each of them by its own bit of tear
+-- a disk with nothing on it
+abbrev pub blank : Stored
+blank = record { synced = []; unsynced = [] }
+
+-- the disk with one item more, behind all others and not synced
+abbrev pub written : Item → Stored → Stored
+written item disk = record disk { unsynced = disk.unsynced ++ item ∷ [] }
+
+-- the disk once every item is synced
+abbrev pub all_synced : Stored → Stored
+all_synced disk = record { synced = disk.synced ++ disk.unsynced; unsynced = [] }
+
+-- whether the unsynced item at a place outlives a crash: only the first 64 can, and each of them by
+-- its own bit of tear
 abbrev pub outlives : ℕ → ℕ → Bool
 outlives tear place = nat_lt place 64 && bit_at tear place == 1
 
@@ -21,3 +34,7 @@ passing test place (item ∷ items) =
 -- what a crash leaves of the unsynced items
 abbrev pub survivors : ℕ → List Item → List Item
 survivors tear items = passing (outlives tear) 0 items
+
+-- the disk once its process has crashed
+abbrev pub crashed : ℕ → Stored → Stored
+crashed tear disk = record { synced = disk.synced ++ survivors tear disk.unsynced; unsynced = [] }

@@ -1,13 +1,14 @@
 //! The disk itself.
 ghost use Rattle.std.specs.Prelude.{◌≡◌, ◌≤◌, [], ◌∷◌, ◌++◌, length, take, drop, vec_len, slice_get, IfOk, IfErr, OnOk};
 ghost use Rattle.std.specs.Option.{option_copied};
-ghost use Rattle.fy_disk.specs.Disk.{outlives, survivors};
+ghost use Rattle.fy_disk.specs.Disk.{blank, written, all_synced, crashed, outlives, survivors};
 
 use crate::Item;
 use std::alloc::Global;
 use std::marker::Model;
 
-/// The items of one process, each in order of writing: first those synced, then those not yet synced.
+/// The items of one process, each in order of writing: first those synced, then those not yet
+/// synced.
 #[derive(Drop)]
 pub struct Disk {
     synced: Vec<Item>,
@@ -29,7 +30,7 @@ impl Model for Disk {
 impl Disk {
     /// A disk with nothing on it.
     pub fn make(alloc: Global) -> Disk
-        ensures { result ≡ record { synced = []; unsynced = [] } }
+        ensures { result ≡ blank }
     {
         Disk {
             synced: Vec::new(alloc),
@@ -39,35 +40,34 @@ impl Disk {
 
     /// Writes an item behind all others. It isn't synced yet.
     ///
-    /// Where the memory for it is refused, the item is handed back and the disk stays as it was.
+    /// # Errors
+    ///
+    /// The item itself where the memory for it is refused. The disk then stays as it was.
     pub fn write(&mut self, item: Item) -> Result<(), Item>
-        ensures written { OnOk result (self.new ≡ record { synced = self.old.synced; unsynced = self.old.unsynced ++ item ∷ [] }) }
+        ensures written { OnOk result (self.new ≡ written item self.old) }
         ensures refused { IfErr result (λ back. (back ≡ item) × (self.new ≡ self.old)) }
     {
         // A place among the synced items too, so that no later sync takes memory.
         if self.synced.reserve(self.unsynced.len() + 1).is_err() {
             return Err(item);
         }
-        match self.unsynced.push(item) {
-            Ok(()) => Ok(()),
-            Err(refused) => Err(refused.value),
-        }
+        self.unsynced.push(item).map_err(|refused| refused.value)
     }
 
     /// Syncs every unsynced item, and says how many they were.
     pub fn sync(&mut self) -> usize
         ensures count { result ≡ length self.old.unsynced }
-        ensures moved { self.new ≡ record { synced = self.old.synced ++ self.old.unsynced; unsynced = [] } }
+        ensures moved { self.new ≡ all_synced self.old }
     {
         let count = self.unsynced.len();
         let _ = self.synced.append(&mut self.unsynced);
         count
     }
 
-    /// Crashes: of the unsynced items those stay, and count as synced, whose place among them (from 0) is below 64 and
-    /// has a 1 in `tear`. The others are lost.
+    /// Crashes: of the unsynced items those stay, and count as synced, whose place among them (from
+    /// 0) is below 64 and has a 1 in `tear`. The others are lost.
     pub fn crash(&mut self, tear: u64)
-        ensures { self.new ≡ record { synced = self.old.synced ++ survivors tear self.old.unsynced; unsynced = [] } }
+        ensures { self.new ≡ crashed tear self.old }
     {
         keep_survivors(&mut self.unsynced, tear);
         let _ = self.synced.append(&mut self.unsynced);
@@ -75,7 +75,7 @@ impl Disk {
 
     /// Loses everything.
     pub fn wipe(&mut self)
-        ensures { self.new ≡ record { synced = []; unsynced = [] } }
+        ensures { self.new ≡ blank }
     {
         self.synced.clear();
         self.unsynced.clear();
@@ -106,7 +106,7 @@ impl Disk {
     pub fn unsynced_len(&self) -> usize
         ensures { result ≡ length self.now.unsynced }
     {
-        self.unsynced.len() // those that a crash may tear off
+        self.unsynced.len()
     }
 }
 

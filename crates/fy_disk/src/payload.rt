@@ -1,5 +1,5 @@
 //! What a record holds.
-ghost use Rattle.std.specs.Prelude.{◌≡◌, IfOk};
+ghost use Rattle.std.specs.Prelude.{◌≡◌, ◌↔◌, IfOk, IsTrue};
 
 use std::alloc::{AllocError, Global};
 use std::marker::Model;
@@ -19,7 +19,9 @@ impl Model for Payload {
 }
 
 impl Payload {
-    /// A payload of these bytes.
+    /// A payload of a copy of these bytes.
+    ///
+    /// # Errors
     ///
     /// `AllocError` only where the memory for them is refused.
     pub fn make(alloc: Global, bytes: &[u8]) -> Result<Payload, AllocError>
@@ -27,6 +29,20 @@ impl Payload {
     {
         let bytes = Vec::from_slice(alloc, bytes)?;
         Ok(Payload { bytes })
+    }
+
+    /// A payload of these bytes, in the memory that they have.
+    pub fn from_vec(bytes: Vec<u8>) -> Payload
+        ensures { result ≡ bytes.items }
+    {
+        Payload { bytes }
+    }
+
+    /// The bytes, in the memory that they have.
+    pub fn into_vec(self) -> Vec<u8>
+        ensures { result.items ≡ self }
+    {
+        self.bytes
     }
 
     /// The bytes.
@@ -38,10 +54,36 @@ impl Payload {
 
     /// An equal payload in memory of its own.
     ///
+    /// # Errors
+    ///
     /// `AllocError` only where that memory is refused.
     pub fn try_copy(&self, alloc: Global) -> Result<Payload, AllocError>
         ensures { IfOk result (λ copy. copy ≡ self.now) }
     {
         Payload::make(alloc, &self.bytes)
     }
+}
+
+impl PartialEq for Payload {
+    ghost use Rattle.std.specs.Str.{bytes_eq};
+    ghost use Rattle.std.specs.Cmp.{partial_equiv_from_equiv};
+    ghost use Rattle.std.specs.Cmp.Lexicographic.{nat_list_eq_equiv};
+
+    ghost eq = { bytes_eq };
+
+    ghost laws = { partial_equiv_from_equiv nat_list_eq_equiv };
+
+    /// Whether both hold the same bytes.
+    fn eq(&self, other: &Payload) -> bool
+        ensures test { result ≡ bytes_eq self.now other.now }
+        ensures same { IsTrue result ↔ (self.now ≡ other.now) }
+    {
+        self.bytes() == other.bytes()
+    }
+}
+
+impl Eq for Payload {
+    ghost use Rattle.std.specs.Cmp.Lexicographic.{nat_list_eq_equiv};
+
+    ghost laws = { nat_list_eq_equiv };
 }

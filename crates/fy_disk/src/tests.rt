@@ -33,6 +33,30 @@ fn a_payload_is_its_bytes(rt: HostRuntime) -> Result<(), Fail> {
 }
 
 #[test]
+fn a_payload_keeps_the_memory_of_its_vec(rt: HostRuntime) -> Result<(), Fail> {
+    let bytes = Vec::from_slice(rt.alloc(), &[0, 255, 7])?;
+    let payload = Payload::from_vec(bytes);
+    assert_eq!(rt; payload.bytes(), &[0, 255, 7][..]);
+    assert_eq!(rt; payload.into_vec().as_slice(), &[0, 255, 7][..]);
+    Ok(())
+}
+
+#[test]
+fn payloads_are_equal_by_their_bytes(rt: HostRuntime) -> Result<(), Fail> {
+    let payload = Payload::make(rt.alloc(), &[1, 2])?;
+    for (bytes, same) in [
+        (&[1, 2][..], true),
+        (&[1, 3][..], false),
+        (&[1][..], false),
+        (&[1, 2, 0][..], false),
+    ] {
+        let other = Payload::make(rt.alloc(), bytes)?;
+        assert!(rt; (payload == other) == same && (payload != other) != same);
+    }
+    Ok(())
+}
+
+#[test]
 fn what_is_written_is_pending_until_it_is_synced(rt: HostRuntime) -> Result<(), Fail> {
     let mut disk = Disk::make(rt.alloc());
     assert_eq!(rt; disk.sync(), 0);
@@ -108,6 +132,25 @@ fn only_the_first_64_can_outlive_a_crash(rt: HostRuntime) -> Result<(), Fail> {
     for rec in 0..64 {
         assert_eq!(rt; durable_rec(&disk, rec as usize), Some(rec));
     }
+    Ok(())
+}
+
+#[test]
+fn a_disk_takes_a_thousand_unsynced_items(rt: HostRuntime) -> Result<(), Fail> {
+    let mut disk = Disk::make(rt.alloc());
+    for rec in 0..1000 {
+        write_one(&mut disk, rt.alloc(), rec)?;
+    }
+    assert_eq!(rt; (disk.synced_len(), disk.unsynced_len()), (0, 1000));
+    assert_eq!(rt;
+        (pending_rec(&disk, 999), pending_rec(&disk, 1000)),
+        (Some(999), None)
+    );
+    assert_eq!(rt; disk.sync(), 1000);
+    assert_eq!(rt;
+        (durable_rec(&disk, 0), durable_rec(&disk, 999)),
+        (Some(0), Some(999))
+    );
     Ok(())
 }
 

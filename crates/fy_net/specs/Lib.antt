@@ -1,2 +1,4 @@
+pub mod Kept
 pub mod Net
+pub mod Numbers
 pub mod Places

@@ -3,6 +3,7 @@
 
 mod fault;
 pub mod laws;
+mod limits;
 mod message;
 mod net;
 mod places;
@@ -10,5 +11,6 @@ mod places;
 mod tests;
 
 pub use fault::NetFault;
+pub use limits::{LAST_TICK, MOST_IN_FLIGHT};
 pub use message::{Body, Message};
 pub use net::Net;

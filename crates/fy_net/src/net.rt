@@ -4,21 +4,17 @@ ghost use Rattle.std.specs.List.{All};
 ghost use Rattle.std.specs.FinSet as sets;
 ghost use Rattle.fy_net.specs.declared.fault.NetFault.{NetFault};
 ghost use Rattle.fy_net.specs.declared.fault.NetFault.TheVariants.{NoMemory};
-ghost use Rattle.fy_net.specs.Net.{quiet, process_of, body_of, left_by, sent_on, is_clogged, clogged_for, unclogged, is_free, first_free_of, reserve_refusal, take_refusal, lose_refusal, advance_refusal, last_tick, IsSound};
+ghost use Rattle.fy_net.specs.Net.{quiet, process_of, body_of, left_by, sent_on, is_clogged, clogged_for, unclogged, is_free, first_free_of, reserve_refusal, take_refusal, lose_refusal, advance_refusal, NoneFreeBelow, IsTraffic};
 
+use crate::limits::{LAST_TICK, MOST_IN_FLIGHT};
 use crate::places::{first_free_among, lasts, place_of};
 use crate::{Body, Message, NetFault};
 use fy_locality::{ProcId, ProcSet};
 use std::alloc::Global;
 use std::marker::Model;
 
-/// How many messages may be in flight.
-const MOST_IN_FLIGHT: usize = 65_536;
-
-/// The last time that the clock shows.
-const LAST_TICK: u64 = 1 << 40;
-
-/// The messages in flight between the processes and the client, which processes are clogged, and the time.
+/// The messages in flight between the processes and the client, which processes are clogged, and
+/// the time.
 #[derive(Drop)]
 pub struct Net {
     messages: Vec<Message>,
@@ -29,21 +25,23 @@ pub struct Net {
 }
 
 impl Model for Net {
-    ghost use Rattle.std.specs.Prelude.{◌≤◌, ◌+◌, vec_len};
-    ghost use Rattle.std.specs.Vec.{vec_capacity};
-    ghost use Rattle.fy_net.specs.Net.{Traffic, IsSound};
+    ghost use Rattle.fy_net.specs.Net.{Traffic};
 
     ghost Value = { Traffic };
 
-    ghost view = { λ n. record { in_flight = n.messages.items; sent = n.sent; clock = n.clock; until = n.until.items; room = n.room } };
+    ghost use Rattle.fy_net.specs.Kept.{traffic, IsKept};
 
-    ghost invariant = { λ n. IsSound (record { in_flight = n.messages.items; sent = n.sent; clock = n.clock; until = n.until.items; room = n.room }) × (vec_len n.messages + n.room ≤ vec_capacity n.messages) };
+    ghost view = { traffic };
+
+    ghost invariant = { IsKept };
 }
 
 impl Net {
     /// A network of so many processes at time 0, with no clog and nothing in flight.
     ///
-    /// `NoMemory` where the memory for the processes is refused.
+    /// # Errors
+    ///
+    /// `NoMemory` only where the memory for the processes is refused.
     pub fn make(alloc: Global, processes: u32) -> Result<Net, NetFault>
         ensures made { IfOk result (λ net. net ≡ quiet processes) }
         ensures memory { IfErr result (λ fault. fault ≡ NoMemory) }
@@ -60,11 +58,16 @@ impl Net {
 
     /// Makes room for `count` sends. Room that is there already counts.
     ///
-    /// `NetFull` where more than 65,536 messages would be in flight with them, then `NoMemory`.
+    /// # Errors
+    ///
+    /// In order: `NetFull` where more than 65,536 messages would be in flight with them,
+    /// `NoMemory`.
     pub fn reserve(&mut self, count: usize) -> Result<(), NetFault>
         requires { self.old.sent < 2 ^ 63 }
-        ensures refused { (fault : NetFault) → reserve_refusal self.old count ≡ Some fault → result ≡ Err fault }
-        ensures memory { reserve_refusal self.old count ≡ None → IfErr result (λ fault. fault ≡ NoMemory) }
+        ensures refused { (fault : NetFault) →
+            reserve_refusal self.old count ≡ Some fault → result ≡ Err fault }
+        ensures memory { reserve_refusal self.old count ≡ None →
+            IfErr result (λ fault. fault ≡ NoMemory) }
         ensures there { count ≤ self.old.room → IsOk result }
         ensures ok { OnOk result (self.new ≡ record self.old { room = max self.old.room count }) }
         ensures err { OnErr result (self.new ≡ self.old) }
@@ -77,8 +80,8 @@ impl Net {
         Ok(())
     }
 
-    /// Sends a message and answers its number, which is beyond each number given out before. It uses up one place of the
-    /// room.
+    /// Sends a message and answers its number, which is beyond each number given out before. It
+    /// uses up one place of the room.
     pub fn send(&mut self, body: Body) -> u64
         requires room { 0 < self.old.room }
         requires process { process_of body < length self.old.until }
@@ -87,8 +90,7 @@ impl Net {
         ensures sent { self.new ≡ sent_on body self.old }
     {
         let number = self.sent;
-        // The room was made before, so this takes no memory and can't be refused.
-        let _ = self.messages.push(Message { number, body });
+        self.messages.push_reserved(Message { number, body });
         self.sent += 1;
         self.room -= 1;
         number
@@ -105,10 +107,16 @@ impl Net {
 
     /// Takes a message out of the network, to be delivered, and answers what it says.
     ///
-    /// `NoMessage` where none in flight has the number, then `Clogged` where its process is clogged.
+    /// # Errors
+    ///
+    /// In order: `NoMessage` where none in flight has the number, `Clogged` where its process is
+    /// clogged.
     pub fn take(&mut self, number: u64) -> Result<Body, NetFault>
-        ensures refused { (fault : NetFault) → take_refusal self.old number ≡ Some fault → (result ≡ Err fault) × (self.new ≡ self.old) }
-        ensures taken { take_refusal self.old number ≡ None → IsOkAnd result (λ body. body_of self.old.in_flight number ≡ Some body) × (self.new ≡ left_by number self.old) }
+        ensures refused { (fault : NetFault) → take_refusal self.old number ≡ Some fault →
+            (result ≡ Err fault) × (self.new ≡ self.old) }
+        ensures taken { take_refusal self.old number ≡ None →
+            IsOkAnd result (λ body. body_of self.old.in_flight number ≡ Some body)
+            × (self.new ≡ left_by number self.old) }
     {
         let Some(place) = place_of(&self.messages, number) else {
             return Err(NetFault::NoMessage);
@@ -121,10 +129,14 @@ impl Net {
 
     /// Takes a message out of the network, clogged or not, and forgets it.
     ///
+    /// # Errors
+    ///
     /// `NoMessage` where none in flight has the number.
     pub fn lose(&mut self, number: u64) -> Result<(), NetFault>
-        ensures refused { (fault : NetFault) → lose_refusal self.old number ≡ Some fault → (result ≡ Err fault) × (self.new ≡ self.old) }
-        ensures lost { lose_refusal self.old number ≡ None → (IsOk result) × (self.new ≡ left_by number self.old) }
+        ensures refused { (fault : NetFault) → lose_refusal self.old number ≡ Some fault →
+            (result ≡ Err fault) × (self.new ≡ self.old) }
+        ensures lost { lose_refusal self.old number ≡ None →
+            (IsOk result) × (self.new ≡ left_by number self.old) }
     {
         let Some(place) = place_of(&self.messages, number) else {
             return Err(NetFault::NoMessage);
@@ -133,7 +145,8 @@ impl Net {
         Ok(())
     }
 
-    /// Clogs a process for some ticks from now on, at most up to the clock's end. A longer clog stays.
+    /// Clogs a process for some ticks from now on, at most up to the clock's end. A longer clog
+    /// stays.
     pub fn clog(&mut self, p: ProcId, ticks: u64)
         requires { p.0 < length self.old.until }
         ensures { self.new ≡ clogged_for p.0 ticks self.old }
@@ -163,17 +176,22 @@ impl Net {
     /// The time, in ticks from 0 to 2^40.
     pub fn now(&self) -> u64
         ensures time { result ≡ self.now.clock }
-        ensures within { result ≤ last_tick }
+        ensures within { result ≤ LAST_TICK }
     {
-        self.clock // never past the last tick
+        self.clock
     }
 
     /// Lets some ticks pass and answers the new time.
     ///
+    /// # Errors
+    ///
     /// `ClockEnd` where that would be past 2^40.
     pub fn advance(&mut self, ticks: u64) -> Result<u64, NetFault>
-        ensures refused { (fault : NetFault) → advance_refusal self.old ticks ≡ Some fault → (result ≡ Err fault) × (self.new ≡ self.old) }
-        ensures passed { advance_refusal self.old ticks ≡ None → (result ≡ Ok (self.old.clock + ticks)) × (self.new ≡ record self.old { clock = self.old.clock + ticks }) }
+        ensures refused { (fault : NetFault) → advance_refusal self.old ticks ≡ Some fault →
+            (result ≡ Err fault) × (self.new ≡ self.old) }
+        ensures passed { advance_refusal self.old ticks ≡ None →
+            (result ≡ Ok (self.old.clock + ticks))
+            × (self.new ≡ record self.old { clock = self.old.clock + ticks }) }
     {
         if ticks > LAST_TICK - self.clock {
             return Err(NetFault::ClockEnd);
@@ -182,10 +200,11 @@ impl Net {
         Ok(self.clock)
     }
 
-    /// The least number of a message that isn't clogged and, if it is a store, goes to a process of `up`.
+    /// The least number of a message that isn't clogged and, if it is a store, goes to a process of
+    /// `up`.
     pub fn first_free(&self, up: &ProcSet) -> Option<u64>
         ensures first { result ≡ first_free_of self.now (sets.contains up.now) }
-        ensures least { IfSome result (λ number. All (λ message. IsTrue (is_free self.now (sets.contains up.now) message) → number ≤ message.number) self.now.in_flight) }
+        ensures least { IfSome result (NoneFreeBelow self.now (sets.contains up.now)) }
     {
         first_free_among(&self.messages, &self.until, self.clock, up)
     }
@@ -194,13 +213,13 @@ impl Net {
     pub fn sent(&self) -> u64
         ensures { result ≡ self.now.sent }
     {
-        self.sent // no number is used twice
+        self.sent
     }
 
-    /// The messages in flight stand in order of their numbers, all below the next one, and each is of a process that is
-    /// there. With the room they are no more than may be in flight.
-    pub fn messages_are_in_order(&self)
-        ensures { IsSound self.now }
+    /// The messages in flight stand in order of their numbers, all below the next one, and each is
+    /// of a process that is there. With the room they are no more than may be in flight.
+    pub fn invariant(&self)
+        ensures { IsTraffic self.now }
     {
         let _messages = &self.messages;
     }

@@ -2,7 +2,7 @@
 ghost use Rattle.std.specs.Prelude.{◌≡◌, ℕ, not, ◌&&◌, nat_lt, slice_index, find, option_map, IfSome, IfNone, None};
 ghost use Rattle.std.specs.FinSet as sets;
 ghost use Rattle.fy_net.specs.Net.{Rises, body_of, process_of, is_reached};
-ghost use Rattle.fy_net.specs.Places.{IsAt};
+ghost use Rattle.fy_net.specs.Places.{IsAt, may_be_taken};
 
 use crate::{Body, Message};
 use fy_locality::{ProcId, ProcSet};
@@ -40,7 +40,7 @@ pub(crate) fn reaches(up: &ProcSet, body: Body) -> bool
 
 /// Whether a message isn't clogged and finds its process up.
 fn may_be_taken(until: &[u64], now: u64, up: &ProcSet, message: Message) -> bool
-    ensures { result ≡ (not (nat_lt now (slice_index until.now (process_of message.body))) && is_reached (sets.contains up.now) message.body) }
+    ensures { result ≡ may_be_taken until.now now (sets.contains up.now) message }
 {
     !lasts(until, now, message.body.process()) && reaches(up, message.body)
 }
@@ -52,7 +52,8 @@ pub(crate) fn first_free_among(
     now: u64,
     up: &ProcSet,
 ) -> Option<u64>
-    ensures { result ≡ option_map (λ message. message.number) (find (λ message. not (nat_lt now (slice_index until.now (process_of message.body))) && is_reached (sets.contains up.now) message.body) messages.now) }
+    ensures { result ≡ option_map (λ message. message.number)
+        (find (may_be_taken until.now now (sets.contains up.now)) messages.now) }
 {
     messages
         .iter()

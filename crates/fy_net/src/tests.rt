@@ -118,6 +118,38 @@ fn the_first_free_message_is_found(rt: HostRuntime) -> Result<(), Fail> {
     Ok(())
 }
 
+#[test]
+fn a_network_has_1024_processes(rt: HostRuntime) -> Result<(), Fail> {
+    let mut net = Net::make(rt.alloc(), 1024)?;
+    let last = ProcId(1023);
+    net.reserve(1)?;
+    assert_eq!(rt; net.send(Body::Store { rec: 0, to: last }), 0);
+    net.clog(last, 1);
+    assert_eq!(rt;
+        (net.clogged(last), net.take(0)),
+        (true, Err(NetFault::Clogged))
+    );
+    Ok(())
+}
+
+#[test]
+fn as_many_messages_fly_as_may(rt: HostRuntime) -> Result<(), Fail> {
+    let mut net = Net::make(rt.alloc(), 1)?;
+    net.reserve(MOST_IN_FLIGHT)?;
+    for number in 0..MOST_IN_FLIGHT as u64 {
+        assert_eq!(rt; net.send(Body::Store { rec: 0, to: P0 }), number);
+    }
+    assert_eq!(rt; net.reserve(1), Err(NetFault::NetFull));
+    assert_eq!(rt;
+        (net.body(65_535).is_some(), net.body(65_536)),
+        (true, None)
+    );
+    assert_eq!(rt; net.lose(0), Ok(()));
+    assert_eq!(rt; net.reserve(1), Ok(()));
+    assert_eq!(rt; net.sent(), 65_536);
+    Ok(())
+}
+
 /// Whether a network was made and grew, each refusal being for memory and leaving what was there.
 fn grew(rt: &impl Abort, alloc: Global, count: usize) -> bool {
     assert!(rt; count > 0);

@@ -1,7 +1,7 @@
 -- flags as a set of numbers, and who has marked a record
 use Rattle.std.proofs.Common.{◌≡◌, ◌↔◌, ◌≢◌, ℕ, zero, suc, ◌+◌, ◌-◌, ◌<◌, ◌≤◌, Bool, true, false, cond, ◌&&◌, ◌||◌, eqb, leb, List, [], ◌∷◌, ◌++◌, length, get_or, set, replicate, refl, sym, ap, ◌∙◌, arith}
-use Rattle.std.specs.Prelude.{Option, Some, None, slice_get}
-use Rattle.std.specs.List.{All}
+use Rattle.std.specs.Prelude.{Option, Some, None, option_map, slice_get}
+use Rattle.std.specs.List.{All, list_all}
 use Rattle.std.specs.Option.{option_map_or}
 use Rattle.std.specs.Ordering.{nat_cmp}
 use Rattle.std.specs.FinSet as sets
@@ -11,7 +11,7 @@ use Rattle.std.proofs.lemmas.List.Elements.{All-cons, All-head, All-tail}
 use Rattle.fy_locality.specs.declared.ProcId.{ProcId}
 use Rattle.fy_team.specs.Marks.{set_from, set_of}
 use Rattle.std.proofs.lemmas.Option.{slice_get-get_or}
-use Rattle.fy_team.specs.Teams.{Roster, Record, marked_by, begun_for, is_marked, is_acked, IsAcked, all_marked, members_of}
+use Rattle.fy_team.specs.Teams.{Roster, Record, marked_by, begun_for, is_marked, is_acked, IsAcked, all_marked, team_number, members_in, with_mark}
 
 -- the flag of a number, where the first flag is that of the number given
 flag_at : ℕ → List Bool → ℕ → Bool
@@ -118,19 +118,38 @@ marked_each marks (p ∷ ps) all =
 pub acked-IsAcked : (roster : Roster) (rec : ℕ) → (is_acked roster rec ≡ true) ↔ IsAcked roster rec
 acked-IsAcked roster rec = (forth (slice_get roster.records rec) refl, back)
   where
-    forth : (found : Option Record) → slice_get roster.records rec ≡ found → option_map_or (λ it. option_map_or (all_marked it.marks) (members_of roster it.team) false) found false ≡ true → IsAcked roster rec
+    forth : (found : Option Record) → slice_get roster.records rec ≡ found → option_map_or (λ it. option_map_or (all_marked it.marks) (members_in roster it.team) false) found false ≡ true → IsAcked roster rec
     forth None is passes = absurd (let x : ⊥ = cc in x)
-    forth (Some it) is passes = within (members_of roster it.team) refl passes
+    forth (Some it) is passes = within (members_in roster it.team) refl passes
       where
-        within : (members : Option (List ProcId)) → members_of roster it.team ≡ members → option_map_or (all_marked it.marks) members false ≡ true → IsAcked roster rec
+        within : (members : Option (List ProcId)) → members_in roster it.team ≡ members → option_map_or (all_marked it.marks) members false ≡ true → IsAcked roster rec
         within None of_team passes = absurd (let x : ⊥ = cc in x)
         within (Some members) of_team passes = record { held = it; there = is; members = members; team = of_team; marked = each_marked it.marks members passes }
 
     back : IsAcked roster rec → is_acked roster rec ≡ true
     back h =
-        ap (λ found. option_map_or (λ it. option_map_or (all_marked it.marks) (members_of roster it.team) false) found false) h.there
+        ap (λ found. option_map_or (λ it. option_map_or (all_marked it.marks) (members_in roster it.team) false) found false) h.there
         ∙ ap (λ members. option_map_or (all_marked h.held.marks) members false) h.team
         ∙ marked_each h.held.marks h.members h.marked
+
+-- the marks of a record that is there are those of each process
+all_marked_each : (roster : Roster) (rec : ℕ) (it : Record) → slice_get roster.records rec ≡ Some it → (ps : List ProcId) → all_marked it.marks ps ≡ list_all (λ p. is_marked roster rec p.0) ps
+all_marked_each roster rec it there [] = refl
+all_marked_each roster rec it there (p ∷ ps) =
+    ap (λ b. b && all_marked it.marks ps) (sym (ap (λ (found : Option Record). option_map_or (λ held. sets.contains held.marks p.0) found false) there))
+    ∙ ap (λ b. is_marked roster rec p.0 && b) (all_marked_each roster rec it there ps)
+
+-- the test of acknowledgement by the marks of each member
+pub acked-marks : (roster : Roster) (rec team : ℕ) (members : List ProcId) → team_number roster rec ≡ Some team → members_in roster team ≡ Some members → is_acked roster rec ≡ list_all (λ p. is_marked roster rec p.0) members
+acked-marks roster rec team members named there = go (slice_get roster.records rec) refl named
+  where
+    go : (found : Option Record) → slice_get roster.records rec ≡ found → option_map (λ it. it.team) found ≡ Some team → is_acked roster rec ≡ list_all (λ p. is_marked roster rec p.0) members
+    go None is of_team = absurd (let x : ⊥ = cc in x)
+    go (Some it) is of_team =
+        let same : it.team ≡ team = cc in
+        ap (λ found. option_map_or (λ it. option_map_or (all_marked it.marks) (members_in roster it.team) false) found false) is
+        ∙ ap (λ members. option_map_or (all_marked it.marks) members false) (ap (members_in roster) same ∙ there)
+        ∙ all_marked_each roster rec it is members
 
 -- ---- what a mark changes
 
@@ -140,9 +159,6 @@ slice_get-set (y ∷ ys) zero zero x within = refl
 slice_get-set (y ∷ ys) zero (suc r) x within = ap (λ b. cond b (Some x) (slice_get ys r)) (let e : false ≡ eqb (suc r) 0 = grind (arith, nat_tests) in e)
 slice_get-set (y ∷ ys) (suc i) zero x within = ap (λ b. cond b (Some x) (Some y)) (let e : false ≡ eqb 0 (suc i) = grind (arith, nat_tests) in e)
 slice_get-set (y ∷ ys) (suc i) (suc r) x within = slice_get-set ys i r x (omega arith) ∙ ap (λ b. cond b (Some x) (slice_get ys r)) (let e : eqb r i ≡ eqb (suc r) (suc i) = grind (arith, nat_tests) in e)
-
-abbrev with_mark : ℕ → Record → Record
-with_mark p it = record it { marks = sets.insert it.marks p }
 
 pub marked-teams : (roster : Roster) (rec p : ℕ) → (marked_by rec p roster).teams ≡ roster.teams
 marked-teams roster rec p = go (slice_get roster.records rec)

@@ -1,4 +1,6 @@
 pub mod Marks
+pub mod Members
+pub mod Standing
 pub mod Teams
 pub use Rattle.fy_locality.specs.Locality
 pub use Rattle.fy_policy.specs.Sat

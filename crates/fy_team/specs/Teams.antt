@@ -8,6 +8,7 @@ use Rattle.fy_locality.specs.declared.ProcId.{ProcId}
 use Rattle.fy_locality.specs.declared.locality.Locality.{Locality}
 use Rattle.fy_policy.specs.Tree.{Tree}
 use Rattle.fy_policy.specs.Sat.{Sat, satisfies}
+use Rattle.fy_team.specs.declared.limits.TheConstants.{MOST_MEMBERS, MOST_TEAMS, MOST_RECORDS, MOST_BYTES}
 use Rattle.fy_team.specs.declared.fault.TeamFault.{TeamFault}
 use Rattle.fy_team.specs.declared.fault.TeamFault.TheVariants.{TooMany, NoPolicy, NoProcess, Gone, TeamShort, NoTeam, Payload}
 
@@ -33,9 +34,9 @@ nobody = record { teams = []; records = [] }
 
 -- ---- members
 
--- no more than 1024 processes by rising number
+-- few enough processes, by rising number
 pub record AreMembers (ps : List ProcId) : Type 0 where
-  pub few : length ps ≤ 1024
+  pub few : length ps ≤ MOST_MEMBERS
   pub rising : AllPairs (λ p q. p.0 < q.0) ps
 
 -- whether the process with a number is one of these
@@ -56,7 +57,8 @@ abbrev pub AreFormed : List Locality → List Tree → List Team → Type 0
 AreFormed processes policies teams = AllByRecursion (IsFormed processes policies) teams
 
 -- why members don't make a team under a policy, in order
-abbrev pub unfit : List Locality → Option Tree → sets.FinSet nat_cmp → List ProcId → ℕ → Option TeamFault
+abbrev pub unfit :
+    List Locality → Option Tree → sets.FinSet nat_cmp → List ProcId → ℕ → Option TeamFault
 unfit processes None gone members policy = Some NoPolicy
 unfit processes (Some need) gone members policy =
     if list_any (λ p. nat_le (length processes) p.0) members then Some NoProcess
@@ -64,39 +66,62 @@ unfit processes (Some need) gone members policy =
     else (if satisfies processes need (is_among members) then None else Some (TeamShort policy)))
 
 -- why a team isn't formed, in order
-abbrev pub form_refusal : Roster → List Locality → List Tree → sets.FinSet nat_cmp → List ProcId → ℕ → Option TeamFault
+abbrev pub form_refusal :
+    Roster → List Locality → List Tree → sets.FinSet nat_cmp → List ProcId → ℕ → Option TeamFault
 form_refusal roster processes policies gone members policy =
-    if nat_le 4096 (length roster.teams) then Some TooMany
+    if nat_le MOST_TEAMS (length roster.teams) then Some TooMany
     else unfit processes (slice_get policies policy) gone members policy
 
 -- the teams once one more is formed
 abbrev pub formed_of : List ProcId → ℕ → Roster → Roster
-formed_of members policy roster = record roster { teams = roster.teams ++ record { members = members; policy = policy } ∷ [] }
+formed_of members policy roster =
+    record roster { teams = roster.teams ++ record { members = members; policy = policy } ∷ [] }
 
 -- the members of the team with a number
-abbrev pub members_of : Roster → ℕ → Option (List ProcId)
-members_of roster team = option_map (λ it. it.members) (slice_get roster.teams team)
+abbrev pub members_in : Roster → ℕ → Option (List ProcId)
+members_in roster team = option_map (λ it. it.members) (slice_get roster.teams team)
 
 -- ---- records
+
+-- the number of a record's team
+abbrev pub team_number : Roster → ℕ → Option ℕ
+team_number roster rec = option_map (λ it. it.team) (slice_get roster.records rec)
+
+-- what a record holds
+abbrev pub payload_in : Roster → ℕ → Option (List ℕ)
+payload_in roster rec = option_map (λ it. it.payload) (slice_get roster.records rec)
+
+-- a record as it is begun
+abbrev pub unmarked : ℕ → List ℕ → Record
+unmarked team payload = record { team = team; payload = payload; marks = sets.empty }
 
 -- why a record isn't begun, in order
 abbrev pub begin_refusal : Roster → ℕ → List ℕ → Option TeamFault
 begin_refusal roster team payload =
     if nat_le (length roster.teams) team then Some NoTeam
-    else (if nat_lt 256 (length payload) then Some Payload
-    else (if nat_le 65536 (length roster.records) then Some TooMany else None))
+    else (if nat_lt MOST_BYTES (length payload) then Some Payload
+    else (if nat_le MOST_RECORDS (length roster.records) then Some TooMany else None))
 
 -- the records once one more is begun: nobody has marked it
 abbrev pub begun_for : ℕ → List ℕ → Roster → Roster
-begun_for team payload roster = record roster { records = roster.records ++ record { team = team; payload = payload; marks = sets.empty } ∷ [] }
+begun_for team payload roster =
+    record roster { records = roster.records ++ unmarked team payload ∷ [] }
+
+-- a record once process p has marked it
+abbrev pub with_mark : ℕ → Record → Record
+with_mark p it = record it { marks = sets.insert it.marks p }
 
 -- the records once process p has marked one that is there
 abbrev pub marked_by : ℕ → ℕ → Roster → Roster
-marked_by rec p roster = option_map_or (λ it. record roster { records = slice_set roster.records rec (record it { marks = sets.insert it.marks p }) }) (slice_get roster.records rec) roster
+marked_by rec p roster = option_map_or
+    (λ it. record roster { records = slice_set roster.records rec (with_mark p it) })
+    (slice_get roster.records rec)
+    roster
 
 -- whether there is such a record and process p has marked it
 abbrev pub is_marked : Roster → ℕ → ℕ → Bool
-is_marked roster rec p = option_map_or (λ it. sets.contains it.marks p) (slice_get roster.records rec) false
+is_marked roster rec p =
+    option_map_or (λ it. sets.contains it.marks p) (slice_get roster.records rec) false
 
 -- whether each of these members is among the marks
 abbrev pub all_marked : sets.FinSet nat_cmp → List ProcId → Bool
@@ -104,22 +129,26 @@ all_marked marks members = list_all (λ p. sets.contains marks p.0) members
 
 -- whether there is such a record and each member of its team has marked it
 abbrev pub is_acked : Roster → ℕ → Bool
-is_acked roster rec = option_map_or (λ it. option_map_or (all_marked it.marks) (members_of roster it.team) false) (slice_get roster.records rec) false
+is_acked roster rec = option_map_or
+    (λ it. option_map_or (all_marked it.marks) (members_in roster it.team) false)
+    (slice_get roster.records rec)
+    false
 
 -- there is such a record, of a team that is there, and each member of the team has marked it
 pub record IsAcked (roster : Roster) (rec : ℕ) : Type 0 where
   pub held : Record
   pub there : slice_get roster.records rec ≡ Some held
   pub members : List ProcId
-  pub team : members_of roster held.team ≡ Some members
+  pub team : members_in roster held.team ≡ Some members
   pub marked : All (λ p. sets.contains held.marks p.0 ≡ true) members
 
 -- ---- what holds of all teams and records
 
--- members rise, each record is of a team that is there and is small, and nothing is beyond its limit
-pub record IsSound (roster : Roster) : Type 0 where
+-- members rise, each record is of a team that is there and is small, and nothing is beyond its
+-- limit
+pub record IsRoster (roster : Roster) : Type 0 where
   pub rising : All (λ team. AreMembers team.members) roster.teams
-  pub few_teams : length roster.teams ≤ 4096
+  pub few_teams : length roster.teams ≤ MOST_TEAMS
   pub named : All (λ it. it.team < length roster.teams) roster.records
-  pub small : All (λ it. length it.payload ≤ 256) roster.records
-  pub few_records : length roster.records ≤ 65536
+  pub small : All (λ it. length it.payload ≤ MOST_BYTES) roster.records
+  pub few_records : length roster.records ≤ MOST_RECORDS

@@ -21,7 +21,8 @@ impl From<AllocError> for MembersFault {
     }
 }
 
-/// Why a team wasn't formed, or a record wasn't begun. Teams and records are then as they were before the call.
+/// Why a team wasn't formed, or a record wasn't begun. Teams and records are then as they were
+/// before the call.
 #[derive(Clone, Copy, PartialEq, Eq, Debug)]
 pub enum TeamFault {
     /// 4096 teams, or 65,536 records, are there already.

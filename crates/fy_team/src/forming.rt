@@ -5,35 +5,32 @@ ghost use Rattle.std.specs.FinSet as sets;
 ghost use Rattle.fy_team.specs.Teams.{is_among, unfit};
 
 use crate::TeamFault;
+use crate::limits::MOST_PROCESSES;
+use crate::team::KeptTeam;
 use fy_locality::{Map, ProcId, ProcSet};
 use fy_policy::{Policy, satisfied};
 
-/// Why members don't make a team under the policy with this number.
+/// Why the members of a team don't make one under the policy that it names.
 pub(crate) fn unfit(
     map: &Map,
     policies: &[Policy],
     gone: &ProcSet,
-    members: &[ProcId],
-    policy: u32,
+    team: &KeptTeam,
 ) -> Option<TeamFault>
-    ensures { result ≡ unfit map.now (slice_get policies.now policy) gone.now members.now policy }
+    ensures { result ≡ unfit map.now (slice_get policies.now team.now.policy)
+        gone.now team.now.members team.now.policy }
 {
-    let Some(need) = policies.get(policy as usize) else {
+    let Some(need) = policies.get(team.policy as usize) else {
         return Some(TeamFault::NoPolicy);
     };
-    unfit_for(map, need, gone, members, policy)
+    unfit_for(map, need, gone, team)
 }
 
-/// Why members don't make a team under a policy, whose number is given.
-fn unfit_for(
-    map: &Map,
-    need: &Policy,
-    gone: &ProcSet,
-    members: &[ProcId],
-    policy: u32,
-) -> Option<TeamFault>
-    ensures { result ≡ unfit map.now (Some need.now) gone.now members.now policy }
+/// Why the members of a team don't make one under this policy, which the team names.
+fn unfit_for(map: &Map, need: &Policy, gone: &ProcSet, team: &KeptTeam) -> Option<TeamFault>
+    ensures { result ≡ unfit map.now (Some need.now) gone.now team.now.members team.now.policy }
 {
+    let (members, policy) = (team.members.as_slice(), team.policy);
     if has_stranger(map, members) {
         return Some(TeamFault::NoProcess);
     }
@@ -49,7 +46,7 @@ fn unfit_for(
 /// Whether some member is no process of the map.
 fn has_stranger(map: &Map, members: &[ProcId]) -> bool
     ensures strangers { result ≡ list_any (λ p. nat_le (length map.now) p.0) members.now }
-    ensures few { length map.now ≤ 1024 }
+    ensures few { length map.now ≤ MOST_PROCESSES }
 {
     let count = map.len();
     members.iter().any(|p| p.0 >= count)
@@ -64,7 +61,7 @@ fn has_some(set: &ProcSet, members: &[ProcId]) -> bool
 
 /// The members as a set.
 fn set_of(members: &[ProcId]) -> ProcSet
-    requires { list_any (λ p. nat_le 1024 p.0) members.now ≡ false }
+    requires { list_any (λ p. nat_le MOST_PROCESSES p.0) members.now ≡ false }
     ensures { (q : ℕ) → sets.contains result q ≡ is_among members.now q }
 {
     let mut set = ProcSet::empty();

@@ -1,9 +1,11 @@
-//! Teams of processes that satisfy a policy, records that are begun for them, and who has marked each record.
+//! Teams of processes that satisfy a policy, records that are begun for them, and who has marked
+//! each record.
 #![tactic(auto)]
 
 mod fault;
 mod forming;
 pub mod laws;
+mod limits;
 mod members;
 mod record;
 mod team;
@@ -12,5 +14,6 @@ mod teams;
 mod tests;
 
 pub use fault::{MembersFault, TeamFault};
+pub use limits::{MOST_BYTES, MOST_MEMBERS, MOST_RECORDS, MOST_TEAMS};
 pub use members::Members;
 pub use teams::Teams;

@@ -1,10 +1,11 @@
 //! The members of a team.
-ghost use Rattle.std.specs.Prelude.{◌≡◌, ◌↔◌, ◌<◌, IfOk, IfErr, IsTrue};
+ghost use Rattle.std.specs.Prelude.{◌≡◌, ◌↔◌, ◌<◌, IfOk, IfErr, IsOk, IsTrue};
 ghost use Rattle.std.specs.List.{AllPairs};
 ghost use Rattle.fy_team.specs.Teams.{AreMembers, is_among};
 ghost use Rattle.fy_team.specs.declared.fault.MembersFault.TheVariants.{NoMemory};
 
 use crate::MembersFault;
+use crate::limits::MOST_MEMBERS;
 use fy_locality::ProcId;
 use std::alloc::{AllocError, Global};
 use std::marker::Model;
@@ -29,20 +30,45 @@ impl Model for Members {
 }
 
 impl Members {
-    /// Members of these numbers, whether or not there are such processes.
+    /// Members of a copy of these numbers, whether or not there are such processes.
     ///
-    /// `Members` where the numbers don't rise, one being no more than the one before it, or where there are more than
-    /// 1024; then `NoMemory`.
+    /// # Errors
+    ///
+    /// In order: `Members` where the numbers don't rise, one being no more than the one before it,
+    /// or where there are more than 1024; `NoMemory`.
     pub fn make(alloc: Global, processes: &[ProcId]) -> Result<Members, MembersFault>
         ensures refused { ¬ AreMembers processes.now → result ≡ Err MembersFault.Members }
         ensures memory { AreMembers processes.now → IfErr result (λ fault. fault ≡ NoMemory) }
         ensures made { IfOk result (λ made. made ≡ processes.now) }
     {
-        if processes.len() > 1024 || !rise(processes) {
+        if !are_members(processes) {
             return Err(MembersFault::Members);
         }
         let processes = Vec::from_slice(alloc, processes)?;
         Ok(Members { processes })
+    }
+
+    /// Members of these numbers, in the memory that they have.
+    ///
+    /// # Errors
+    ///
+    /// `Members` as for `make`.
+    pub fn from_vec(processes: Vec<ProcId>) -> Result<Members, MembersFault>
+        ensures refused { ¬ AreMembers processes.items → result ≡ Err MembersFault.Members }
+        ensures accepted { AreMembers processes.items → IsOk result }
+        ensures made { IfOk result (λ made. made ≡ processes.items) }
+    {
+        if !are_members(&processes) {
+            return Err(MembersFault::Members);
+        }
+        Ok(Members { processes })
+    }
+
+    /// The members by rising number, in the memory that they have.
+    pub fn into_vec(self) -> Vec<ProcId>
+        ensures { result.items ≡ self }
+    {
+        self.processes
     }
 
     /// The members by rising number.
@@ -62,6 +88,8 @@ impl Members {
 
     /// Equal members in memory of their own.
     ///
+    /// # Errors
+    ///
     /// `AllocError` only where that memory is refused.
     pub fn try_copy(&self, alloc: Global) -> Result<Members, AllocError>
         ensures { IfOk result (λ copy. copy ≡ self.now) }
@@ -69,6 +97,38 @@ impl Members {
         let processes = Vec::from_slice(alloc, &self.processes)?;
         Ok(Members { processes })
     }
+}
+
+impl PartialEq for Members {
+    ghost use Rattle.std.proofs.Common.{rules};
+    ghost use Rattle.std.specs.Cmp.Rules.{comparing};
+    ghost use Rattle.fy_team.specs.Members.{same_numbers};
+
+    ghost eq = { same_numbers };
+
+    ghost laws = { Prim.search (comparing, rules) };
+
+    /// Whether both have the same members.
+    fn eq(&self, other: &Members) -> bool
+        ensures test { result ≡ same_numbers self.now other.now }
+        ensures same { IsTrue result ↔ (self.now ≡ other.now) }
+    {
+        self.as_slice() == other.as_slice()
+    }
+}
+
+impl Eq for Members {
+    ghost use Rattle.std.proofs.Common.{rules};
+    ghost use Rattle.std.specs.Cmp.Rules.{comparing};
+
+    ghost laws = { Prim.search (comparing, rules) };
+}
+
+/// Whether these make members: they are few enough, and rise.
+fn are_members(processes: &[ProcId]) -> bool
+    ensures { IsTrue result ↔ AreMembers processes.now }
+{
+    processes.len() <= MOST_MEMBERS && rise(processes)
 }
 
 /// Whether each number is more than the one before it.

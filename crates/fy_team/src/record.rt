@@ -1,15 +1,13 @@
 //! A record as it is kept.
 ghost use Rattle.std.specs.Prelude.{◌≡◌, ◌<◌, false, replicate, IfOk};
 ghost use Rattle.std.specs.FinSet as sets;
-ghost use Rattle.fy_team.specs.Teams.{all_marked};
+ghost use Rattle.fy_team.specs.Teams.{unmarked, all_marked};
 
+use crate::limits::MOST_PROCESSES;
 use fy_disk::Payload;
 use fy_locality::ProcId;
 use std::alloc::{AllocError, Global};
 use std::marker::Model;
-
-/// How many processes may mark a record.
-const MARKS: usize = 1024;
 
 /// The number of its team, its payload, and for each process whether it has marked the record.
 pub(crate) struct KeptRecord {
@@ -30,9 +28,15 @@ impl Model for KeptRecord {
 
     ghost coded = { Prim.hlevel (codes, sets.code {R = nat_cmp} coded_ℕ) };
 
-    ghost view = { λ r. record { team = r.team; payload = r.payload; marks = set_of r.marks.items } };
+    ghost view = { λ r. record {
+      team = r.team;
+      payload = r.payload;
+      marks = set_of r.marks.items;
+    } };
 
-    ghost invariant = { λ r. length r.marks.items ≡ 1024 };
+    ghost use Rattle.fy_team.specs.declared.limits.TheConstants.{MOST_PROCESSES};
+
+    ghost invariant = { λ r. length r.marks.items ≡ MOST_PROCESSES };
 }
 
 // Written out, so that whoever drops a record makes one call.
@@ -49,7 +53,7 @@ impl Drop for KeptRecord {
 impl KeptRecord {
     /// A record without marks, and with the room for all of them.
     pub(crate) fn make(alloc: Global, team: u32, payload: Payload) -> Result<KeptRecord, AllocError>
-        ensures { IfOk result (λ made. made ≡ record { team = team; payload = payload; marks = sets.empty }) }
+        ensures { IfOk result (λ made. made ≡ unmarked team payload) }
     {
         let marks = no_marks(alloc)?;
         Ok(KeptRecord {
@@ -75,7 +79,7 @@ impl KeptRecord {
 
     /// Takes down that a process has marked it.
     pub(crate) fn mark(&mut self, p: ProcId)
-        requires { p.0 < 1024 }
+        requires { p.0 < MOST_PROCESSES }
         ensures { self.new ≡ record self.old { marks = sets.insert self.old.marks p.0 } }
     {
         self.marks[p.0 as usize] = true;
@@ -100,7 +104,7 @@ impl KeptRecord {
 }
 
 fn no_marks(alloc: Global) -> Result<Vec<bool>, AllocError>
-    ensures { IfOk result (λ marks. marks.items ≡ replicate 1024 false) }
+    ensures { IfOk result (λ marks. marks.items ≡ replicate MOST_PROCESSES false) }
 {
-    vec![in alloc; false; MARKS]
+    vec![in alloc; false; MOST_PROCESSES as usize]
 }

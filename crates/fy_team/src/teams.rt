@@ -1,11 +1,12 @@
 //! The teams and their records.
 ghost use Rattle.std.specs.Prelude.{◌≡◌, ◌↔◌, ◌<◌, ℕ, false, Some, None, length, slice_get, option_map, IfOk, IfErr, IsOk, OnOk, OnErr, IsTrue};
 ghost use Rattle.std.specs.Option.{option_copied, option_map_or};
-ghost use Rattle.fy_team.specs.Teams.{nobody, all_marked, IsFormed, AreFormed, unfit, form_refusal, formed_of, members_of, begin_refusal, begun_for, marked_by, is_marked, is_acked, IsAcked, IsSound};
+ghost use Rattle.fy_team.specs.Teams.{nobody, all_marked, IsFormed, AreFormed, unfit, form_refusal, formed_of, team_number, members_in, payload_in, begin_refusal, begun_for, marked_by, is_marked, is_acked, IsAcked, IsRoster};
 ghost use Rattle.fy_team.specs.declared.fault.TeamFault.{TeamFault};
 ghost use Rattle.fy_team.specs.declared.fault.TeamFault.TheVariants.{NoMemory};
 
 use crate::forming::unfit;
+use crate::limits::{MOST_BYTES, MOST_PROCESSES, MOST_RECORDS, MOST_TEAMS};
 use crate::record::KeptRecord;
 use crate::team::KeptTeam;
 use crate::{Members, TeamFault, laws};
@@ -15,17 +16,8 @@ use fy_policy::Policy;
 use std::alloc::Global;
 use std::marker::Model;
 
-/// How many teams there may be.
-const MOST_TEAMS: usize = 4096;
-
-/// How many records there may be.
-const MOST_RECORDS: usize = 65_536;
-
-/// How many bytes a record may hold.
-const MOST_BYTES: usize = 256;
-
-/// Teams, the records that were begun for them, and which processes have marked each record. Teams and records are known
-/// by their numbers, from 0 in the order in which they came.
+/// Teams, the records that were begun for them, and which processes have marked each record. Teams
+/// and records are known by their numbers, from 0 in the order in which they came.
 pub struct Teams {
     alloc: Global,
     teams: Vec<KeptTeam>,
@@ -36,7 +28,7 @@ impl Model for Teams {
     ghost use Rattle.std.specs.Coded.{codes, coded_ℕ};
     ghost use Rattle.std.specs.FinSet as sets;
     ghost use Rattle.std.specs.Ordering.{nat_cmp};
-    ghost use Rattle.fy_team.specs.Teams.{Roster, IsSound};
+    ghost use Rattle.fy_team.specs.Teams.{Roster, IsRoster};
 
     ghost Value = { Roster };
 
@@ -44,7 +36,8 @@ impl Model for Teams {
 
     ghost view = { λ t. record { teams = t.teams.items; records = t.records.items } };
 
-    ghost invariant = { λ t. IsSound (record { teams = t.teams.items; records = t.records.items }) };
+    ghost invariant = { λ t.
+        IsRoster (record { teams = t.teams.items; records = t.records.items }) };
 }
 
 // Written out, so that whoever drops the teams makes one call.
@@ -72,9 +65,12 @@ impl Teams {
 
     /// Forms a team that names the policy with this number, and answers the team's number.
     ///
-    /// In order: `TooMany` where 4096 teams are there already, `NoPolicy` where there is no such policy, `NoProcess` where
-    /// a member is no process of the map, `Gone` where a member is in `gone`, `TeamShort` where the members don't satisfy
-    /// the policy, `NoMemory`. A refused team leaves all as it was.
+    /// # Errors
+    ///
+    /// In order: `TooMany` where 4096 teams are there already, `NoPolicy` where there is no such
+    /// policy, `NoProcess` where a member is no process of the map, `Gone` where a member is in
+    /// `gone`, `TeamShort` where the members don't satisfy the policy, `NoMemory`. A refused team
+    /// leaves all as it was.
     pub fn form(
         &mut self,
         map: &Map,
@@ -83,32 +79,41 @@ impl Teams {
         members: Members,
         policy: u32,
     ) -> Result<u32, TeamFault>
-        ensures refused { (fault : TeamFault) → form_refusal self.old map.now policies.now gone.now members policy ≡ Some fault → result ≡ Err fault }
-        ensures memory { form_refusal self.old map.now policies.now gone.now members policy ≡ None → IfErr result (λ fault. fault ≡ NoMemory) }
+        ensures refused { (fault : TeamFault) →
+            form_refusal self.old map.now policies.now gone.now members policy ≡ Some fault →
+            result ≡ Err fault }
+        ensures memory { form_refusal self.old map.now policies.now gone.now members policy ≡ None →
+            IfErr result (λ fault. fault ≡ NoMemory) }
         ensures number { IfOk result (λ team. team ≡ length self.old.teams) }
         ensures formed { OnOk result (self.new ≡ formed_of members policy self.old) }
-        ensures satisfied { OnOk result (IsFormed map.now policies.now (record { members = members; policy = policy })) }
-        ensures kept { AreFormed map.now policies.now self.old.teams → AreFormed map.now policies.now self.new.teams }
+        ensures satisfied { OnOk result
+            (IsFormed map.now policies.now (record { members = members; policy = policy })) }
+        ensures kept { AreFormed map.now policies.now self.old.teams →
+            AreFormed map.now policies.now self.new.teams }
         ensures err { OnErr result (self.new ≡ self.old) }
     {
         laws::fit_is_formed();
         if self.teams.len() >= MOST_TEAMS {
             return Err(TeamFault::TooMany);
         }
-        if let Some(fault) = unfit(map, policies, gone, members.as_slice(), policy) {
+        let team = KeptTeam { members, policy };
+        if let Some(fault) = unfit(map, policies, gone, &team) {
             return Err(fault);
         }
         let number = self.teams.len() as u32;
-        self.teams.push(KeptTeam { members, policy })?;
+        self.teams.push(team)?;
         Ok(number)
     }
 
     /// Whether `begin` would take such a record, want of memory aside. Takes no memory.
     ///
-    /// In order: `NoTeam` where there is no such team, `Payload` where it has more than 256 bytes, `TooMany` where 65,536
-    /// records are there already.
+    /// # Errors
+    ///
+    /// In order: `NoTeam` where there is no such team, `Payload` where it has more than 256 bytes,
+    /// `TooMany` where 65,536 records are there already.
     pub fn may_begin(&self, team: u32, payload: &Payload) -> Result<(), TeamFault>
-        ensures refused { (fault : TeamFault) → begin_refusal self.now team payload.now ≡ Some fault → result ≡ Err fault }
+        ensures refused { (fault : TeamFault) →
+            begin_refusal self.now team payload.now ≡ Some fault → result ≡ Err fault }
         ensures accepted { begin_refusal self.now team payload.now ≡ None → IsOk result }
     {
         if team as usize >= self.teams.len() {
@@ -123,12 +128,18 @@ impl Teams {
         Ok(())
     }
 
-    /// Begins a record for a team, with the room for all its marks, and answers the record's number.
+    /// Begins a record for a team, with the room for all its marks, and answers the record's
+    /// number.
     ///
-    /// The refusals of `may_begin` in their order, then `NoMemory`. A refused record leaves all as it was.
+    /// # Errors
+    ///
+    /// The refusals of `may_begin` in their order, then `NoMemory`. A refused record leaves all as
+    /// it was.
     pub fn begin(&mut self, team: u32, payload: Payload) -> Result<u32, TeamFault>
-        ensures refused { (fault : TeamFault) → begin_refusal self.old team payload ≡ Some fault → result ≡ Err fault }
-        ensures memory { begin_refusal self.old team payload ≡ None → IfErr result (λ fault. fault ≡ NoMemory) }
+        ensures refused { (fault : TeamFault) →
+            begin_refusal self.old team payload ≡ Some fault → result ≡ Err fault }
+        ensures memory { begin_refusal self.old team payload ≡ None →
+            IfErr result (λ fault. fault ≡ NoMemory) }
         ensures number { IfOk result (λ rec. rec ≡ length self.old.records) }
         ensures begun { OnOk result (self.new ≡ begun_for team payload self.old) }
         ensures err { OnErr result (self.new ≡ self.old) }
@@ -140,13 +151,14 @@ impl Teams {
         Ok(number)
     }
 
-    /// Takes down that a process, member of the team or not, has marked a record, and answers whether the record is
-    /// acknowledged now. A mark that is there already changes nothing. Takes no memory.
+    /// Takes down that a process, member of the team or not, has marked a record, and answers
+    /// whether the record is acknowledged now. A mark that is there already changes nothing. Takes
+    /// no memory.
     ///
     /// Asks for a record that is there, and a process number below 1024.
     pub fn mark(&mut self, rec: u32, p: ProcId) -> bool
         requires there { rec < length self.old.records }
-        requires small { p.0 < 1024 }
+        requires small { p.0 < MOST_PROCESSES }
         ensures acked { result ≡ is_acked self.new rec }
         ensures marked { self.new ≡ marked_by rec p.0 self.old }
     {
@@ -154,7 +166,8 @@ impl Teams {
         self.acked(rec)
     }
 
-    /// Whether there is such a record and it is acknowledged: each member of its team has marked it.
+    /// Whether there is such a record and it is acknowledged: each member of its team has marked
+    /// it.
     pub fn acked(&self, rec: u32) -> bool
         ensures relation { IsTrue result ↔ IsAcked self.now rec }
         ensures test { result ≡ is_acked self.now rec }
@@ -168,7 +181,8 @@ impl Teams {
 
     /// Whether each member of a record's team has marked the record.
     fn is_complete(&self, kept: &KeptRecord) -> bool
-        ensures { result ≡ option_map_or (all_marked kept.now.marks) (members_of self.now kept.now.team) false }
+        ensures { result
+            ≡ option_map_or (all_marked kept.now.marks) (members_in self.now kept.now.team) false }
     {
         match self.members(kept.team()) {
             Some(members) => kept.has_all_marks(members.as_slice()),
@@ -193,8 +207,8 @@ impl Teams {
     }
 
     /// The number of a record's team, where there is such a record.
-    pub fn team_of(&self, rec: u32) -> Option<u32>
-        ensures { result ≡ option_map (λ it. it.team) (slice_get self.now.records rec) }
+    pub fn team_number(&self, rec: u32) -> Option<u32>
+        ensures { result ≡ team_number self.now rec }
     {
         match self.record(rec) {
             Some(record) => Some(record.team()),
@@ -204,7 +218,7 @@ impl Teams {
 
     /// The members of a team, where there is such a team.
     pub fn members(&self, team: u32) -> Option<&Members>
-        ensures { option_copied result ≡ members_of self.now team }
+        ensures { option_copied result ≡ members_in self.now team }
     {
         match self.teams.get(team as usize) {
             Some(team) => Some(&team.members),
@@ -214,7 +228,7 @@ impl Teams {
 
     /// What a record holds, where there is such a record.
     pub fn payload(&self, rec: u32) -> Option<&Payload>
-        ensures { option_copied result ≡ option_map (λ it. it.payload) (slice_get self.now.records rec) }
+        ensures { option_copied result ≡ payload_in self.now rec }
     {
         match self.record(rec) {
             Some(record) => Some(record.payload()),
@@ -222,10 +236,10 @@ impl Teams {
         }
     }
 
-    /// Members rise, each record is of a team that is there and holds no more than 256 bytes, and there are no more than
-    /// 4096 teams and 65,536 records.
-    pub fn teams_are_sound(&self)
-        ensures { IsSound self.now }
+    /// Members rise, each record is of a team that is there and holds no more than 256 bytes, and
+    /// there are no more than 4096 teams and 65,536 records.
+    pub fn invariant(&self)
+        ensures { IsRoster self.now }
     {
         let _teams = &self.teams;
     }

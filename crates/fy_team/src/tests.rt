@@ -87,7 +87,7 @@ fn may_begin(
 
 /// Marks a record that is there.
 fn mark(teams: &mut Teams, rec: u32, p: ProcId) -> Option<bool> {
-    let _ = teams.team_of(rec)?;
+    let _ = teams.team_number(rec)?;
     if p.0 >= 1024 {
         return None;
     }
@@ -130,7 +130,7 @@ fn a_record_is_acknowledged_by_each_member(rt: HostRuntime) -> Result<(), Fail> 
         ),
         (true, false, true, false)
     );
-    assert_eq!(rt; teams.team_of(0), Some(0));
+    assert_eq!(rt; teams.team_number(0), Some(0));
     assert!(rt; members_are(teams, 0, &[P0, P2]) && payload_is(teams, 0, &[0x68, 0x69]));
     Ok(())
 }
@@ -139,7 +139,7 @@ fn a_record_is_acknowledged_by_each_member(rt: HostRuntime) -> Result<(), Fail> 
 fn what_is_not_there_has_no_answer(rt: HostRuntime) -> Result<(), Fail> {
     let teams = Teams::make(rt.alloc());
     assert_eq!(rt; (teams.acked(0), teams.marked(0, P0)), (false, false));
-    assert_eq!(rt; teams.team_of(0), None);
+    assert_eq!(rt; teams.team_number(0), None);
     assert!(rt; teams.members(0).is_none() && teams.payload(0).is_none());
     Ok(())
 }
@@ -161,7 +161,10 @@ fn a_mark_of_a_stranger_acknowledges_nothing(rt: HostRuntime) -> Result<(), Fail
         (true, false)
     );
     assert_eq!(rt; mark(teams, 0, P1), Some(true));
-    assert_eq!(rt; (teams.team_of(0), teams.team_of(1)), (Some(1), Some(0)));
+    assert_eq!(rt;
+        (teams.team_number(0), teams.team_number(1)),
+        (Some(1), Some(0))
+    );
     Ok(())
 }
 
@@ -251,6 +254,35 @@ fn members_rise_and_are_few(rt: HostRuntime) -> Result<(), Fail> {
     Ok(())
 }
 
+#[test]
+fn members_keep_the_memory_of_their_vec(rt: HostRuntime) -> Result<(), Fail> {
+    let alloc = rt.alloc();
+    let members = Members::from_vec(Vec::from_slice(alloc, &[P0, P2])?)?;
+    assert_eq!(rt; members.as_slice(), &[P0, P2][..]);
+    assert_eq!(rt; members.into_vec().as_slice(), &[P0, P2][..]);
+    for refused in [&[P2, P0][..], &[P0, P0][..]] {
+        let fault = Members::from_vec(Vec::from_slice(alloc, refused)?).err();
+        assert_eq!(rt; fault, Some(MembersFault::Members));
+    }
+    Ok(())
+}
+
+#[test]
+fn members_are_equal_by_their_numbers(rt: HostRuntime) -> Result<(), Fail> {
+    let alloc = rt.alloc();
+    let members = Members::make(alloc, &[P0, P2])?;
+    for (numbers, same) in [
+        (&[P0, P2][..], true),
+        (&[P0, P1][..], false),
+        (&[P0][..], false),
+        (&[P0, P2, P9][..], false),
+    ] {
+        let other = Members::make(alloc, numbers)?;
+        assert!(rt; (members == other) == same && (members != other) != same);
+    }
+    Ok(())
+}
+
 /// How many members are made of as many processes.
 fn made_of(alloc: Global, count: u32) -> Option<Result<usize, MembersFault>> {
     let processes = first(alloc, count)?;
@@ -307,7 +339,8 @@ fn teams_and_records_are_limited(rt: HostRuntime) -> Result<(), Fail> {
     Ok(())
 }
 
-/// Forms one more team, and says whether all is right after it: one more, or as it was without memory.
+/// Forms one more team, and says whether all is right after it: one more, or as it was without
+/// memory.
 fn forms_or_stays(cluster: &mut Setting, alloc: Global, number: u32) -> bool {
     match form(cluster, alloc, &[P1, P2], 0) {
         Some(Ok(team)) => team == number && members_are(&cluster.teams, number, &[P1, P2]),
@@ -318,12 +351,13 @@ fn forms_or_stays(cluster: &mut Setting, alloc: Global, number: u32) -> bool {
     }
 }
 
-/// Begins one more record, and says whether all is right after it: one more, or as it was without memory.
+/// Begins one more record, and says whether all is right after it: one more, or as it was without
+/// memory.
 fn begins_or_stays(teams: &mut Teams, alloc: Global, number: u32) -> bool {
     match begin(teams, alloc, 0, b"hi") {
         Some(Ok(rec)) => rec == number && payload_is(teams, number, b"hi"),
-        Some(Err(fault)) => fault == TeamFault::NoMemory && teams.team_of(number).is_none(),
-        None => teams.team_of(number).is_none(),
+        Some(Err(fault)) => fault == TeamFault::NoMemory && teams.team_number(number).is_none(),
+        None => teams.team_number(number).is_none(),
     }
 }
 
@@ -340,7 +374,7 @@ fn a_refused_growth_changes_nothing(rt: HostRuntime) -> Result<(), Fail> {
         }
         if formed > 0 {
             assert!(rt; begins_or_stays(&mut cluster.teams, alloc, begun));
-            if cluster.teams.team_of(begun).is_some() {
+            if cluster.teams.team_number(begun).is_some() {
                 begun = begun.saturating_add(1);
             }
         }

@@ -5,6 +5,7 @@ use Rattle.std.specs.Cmp.{nat_cmp_total, unsigned_tied}
 use Rattle.std.proofs.lemmas.List.{take_all}
 use Rattle.std.proofs.lemmas.List.Folds.{list_any_more}
 use Rattle.fy_locality.specs.declared.ProcId.{ProcId}
+use Rattle.fy_team.specs.declared.limits.TheConstants.{MOST_PROCESSES}
 use Rattle.fy_team.specs.Teams.{is_among}
 use Rattle.fy_team.proofs.Rising.{all_below, either_way}
 use Rattle.fy_team.proofs.forming.set_of.Goals as goal
@@ -13,7 +14,7 @@ pub loop-p-init : goal.loop-p-init
 loop-p-init c = λ q. ap (λ s. sets.contains s q) c.empty-set.ensures ∙ sets.contains-empty nat_cmp q
 
 pub put-requires : goal.put-requires
-put-requires c = all_below 1024 c.args.members.now c.requires c.loop-p.p-index _ c.loop-p-test.true
+put-requires c = all_below MOST_PROCESSES c.args.members.now c.requires c.loop-p.p-index _ c.loop-p-test.true
 
 pub loop-p-preserved : goal.loop-p-preserved
 loop-p-preserved c = λ q.

@@ -1,7 +1,7 @@
 use Rattle.std.proofs.Common.{◌≡◌, Ok, Err, length, ◌∙◌, sym, ap, subst}
 use Rattle.fy_net.specs.declared.fault.NetFault.TheVariants.{NoMemory}
 use Rattle.fy_net.specs.Net.{Traffic}
-use Rattle.fy_team.specs.Teams.{Roster, members_of}
+use Rattle.fy_team.specs.Teams.{Roster, members_in}
 use Rattle.fy_audit.specs.declared.act.Act.TheVariants.{Begin}
 use Rattle.fy_cluster.specs.History.{stores_of}
 use Rattle.fy_cluster.specs.Standing.{Sends}
@@ -36,13 +36,13 @@ send_stores-requires-clause-there g c =
     there_all (length g.turn.setup.processes) (length c.reserve.new.self.until) c.in-Some-members.members.now c.as_slice-in-Some-members.result.now
     (sym (ap (λ (n : Traffic). length n.until) c.in_default-reserve.ensures.ok ∙ c.requires.0.net.count))
     (sym c.as_slice-in-Some-members.ensures.members)
-    (members_known c.test_is_satisfaction.ensures g.turn c.args.self.now c.requires.0 c.requires.1 c.args.team c.in-Some-members.members.now (c.in-Some-members.ensures ∙ ap (λ (r : Roster). members_of r c.args.team) c.in-Ok.ensures.begun))
+    (members_known c.test_is_satisfaction.ensures g.turn c.args.self.now c.requires.0 c.requires.1 c.args.team c.in-Some-members.members.now (c.in-Some-members.ensures ∙ ap (λ (r : Roster). members_in r c.args.team) c.in-Ok.ensures.begun))
 
 pub returns : goal.returns
 returns g c =
     let fit : Fits g.turn.before c.args.team c.args.payload = fits g.turn.before c.args.self.now.teams c.args.team c.args.payload c.requires.0.teams (told_all _ (Ok c.in_default.field-0) c.in_default.ensures.refused c.in_default.ensures.accepted) in
     let one = members_are g.turn c.args.team c.in-Some.members.now c.args.self.now c.requires.0 c.in-Some.ensures in
-    let two = members_are g.turn c.args.team c.in-Some-members.members.now c.args.self.now c.requires.0 (c.in-Some-members.ensures ∙ ap (λ (r : Roster). members_of r c.args.team) c.in-Ok.ensures.begun) in
+    let two = members_are g.turn c.args.team c.in-Some-members.members.now c.args.self.now c.requires.0 (c.in-Some-members.ensures ∙ ap (λ (r : Roster). members_in r c.args.team) c.in-Ok.ensures.begun) in
     let same : c.as_slice-in-Some-members.result.now ≡ c.in-Some.members.now = c.as_slice-in-Some-members.ensures.members ∙ sym two ∙ one in
     begins_now c.a_record_begins_unmarked.ensures g.turn c.args.team c.args.payload c.in-Some.members.now c.args.self.now c.reserve.new.self c.send_stores.new.net c.begin.new.self c.in-Ok.rec c.sent-first.result (length c.as_slice.result.now) c.requires.0 fit
     one

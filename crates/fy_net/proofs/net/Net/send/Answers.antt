@@ -1,5 +1,4 @@
-use Rattle.std.proofs.Common.{◌≡◌, ◌<◌, true, length, ap, arith}
-use Rattle.std.specs.Result.{is_ok}
+use Rattle.std.proofs.Common.{◌<◌, length, ap, arith}
 use Rattle.fy_net.specs.Net.{Traffic, process_of}
 use Rattle.fy_net.proofs.Flights.{sound_sent}
 use Rattle.fy_net.proofs.net.Net.send.Goals as goal
@@ -8,5 +7,4 @@ pub invariant_of-self : goal.invariant_of-self
 invariant_of-self c =
     let room : 0 < c.self.inside.room = omega (arith, ap (λ (net : Traffic). net.room) c.self.view_is) in
     let known : process_of c.args.body < length c.self.inside.until.items = omega (arith, ap (λ (net : Traffic). length net.until) c.self.view_is) in
-    let fits : is_ok c.push.result ≡ true = c.push.ensures.succeeds (omega arith) in
-    rw (c.push.ensures.items, fits) (sound_sent _ c.args.body room known c.self.invariant.0, omega arith)
+    rw c.push_reserved.ensures.items (sound_sent _ c.args.body room known c.self.invariant.0, omega arith)

@@ -1,4 +1,4 @@
-use Rattle.std.proofs.Common.{◌≡◌, ap, sym, subst, ◌∙◌}
+use Rattle.std.proofs.Common.{◌≡◌, sym, subst, ◌∙◌}
 use Rattle.std.specs.Prelude.{None, slice_get}
 use Rattle.fy_team.specs.Teams.{Roster, Team, AreFormed, unfit}
 use Rattle.fy_team.proofs.Rising.{AreFormed-push}
@@ -6,14 +6,12 @@ use Rattle.fy_team.proofs.teams.Teams.form.Goals as goal
 
 pub returns-clause-satisfied : goal.returns-clause-satisfied
 returns-clause-satisfied c =
-    let members = c.as_slice.ensures.members in
-    let fit : unfit c.args.map.now (slice_get c.args.policies.now c.args.policy) c.args.gone.now c.args.members c.args.policy ≡ None = ap (λ ps. unfit c.args.map.now (slice_get c.args.policies.now c.args.policy) c.args.gone.now ps c.args.policy) (sym members) ∙ sym c.unfit.ensures ∙ c.in_default.is in
+    let fit : unfit c.args.map.now (slice_get c.args.policies.now c.args.policy) c.args.gone.now c.args.members c.args.policy ≡ None = sym c.unfit.ensures ∙ c.in_default.is in
     c.fit_is_formed.ensures c.args.map.now c.args.policies.now c.args.gone.now c.args.members c.args.policy fit
 
 pub returns-clause-kept : goal.returns-clause-kept
 returns-clause-kept c = λ before.
-    let members = c.as_slice.ensures.members in
-    let fit : unfit c.args.map.now (slice_get c.args.policies.now c.args.policy) c.args.gone.now c.args.members c.args.policy ≡ None = ap (λ ps. unfit c.args.map.now (slice_get c.args.policies.now c.args.policy) c.args.gone.now ps c.args.policy) (sym members) ∙ sym c.unfit.ensures ∙ c.in_default.is in
+    let fit : unfit c.args.map.now (slice_get c.args.policies.now c.args.policy) c.args.gone.now c.args.members c.args.policy ≡ None = sym c.unfit.ensures ∙ c.in_default.is in
     let team : Team = record { members = c.args.members; policy = c.args.policy } in
     subst (AreFormed c.args.map.now c.args.policies.now) (sym c.in_ok-push.ensures.items)
     (AreFormed-push c.args.map.now c.args.policies.now c.self.inside.teams.items team (c.fit_is_formed.ensures c.args.map.now c.args.policies.now c.args.gone.now c.args.members c.args.policy fit)
