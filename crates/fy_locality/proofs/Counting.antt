@@ -12,7 +12,8 @@ use Rattle.std.proofs.Math.Pow.{pow_pos}
 use Rattle.std.proofs.lemmas.Bool.{cases_lt, cases_eq}
 use Rattle.std.proofs.lemmas.Bool.Decides.{nat_tests}
 use Rattle.fy_locality.specs.Members.{has_bit, members, members_below, AreWords, IsLeast}
-use Rattle.fy_locality.specs.MembersInverse.{contains-members, contains-members_below, contains-members_at, members_are}
+use Rattle.fy_locality.specs.MembersInverse.{contains-members, contains-members_below, contains-members_at}
+use Rattle.fy_locality.proofs.Sizes.{members_are}
 
 no_ones : count_ones 0 ≡ 0
 unfolding ones ones_in

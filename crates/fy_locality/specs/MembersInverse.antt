@@ -1,6 +1,6 @@
 -- why the words of a set are those of its members: these lemmas stand here since the model of
 -- `ProcSet` cites one of them
-use Rattle.std.specs.Prelude.{◌≡◌, ℕ, ◌+◌, ◌-◌, ◌*◌, ◌/◌, ◌%◌, ◌^◌, ◌<◌, ◌≤◌, Bool, true, false, ◌&&◌, ◌||◌, List, length}
+use Rattle.std.specs.Prelude.{◌≡◌, ℕ, ◌+◌, ◌-◌, ◌*◌, ◌/◌, ◌%◌, ◌^◌, ◌<◌, Bool, true, false, ◌&&◌, ◌||◌, List, length}
 use Rattle.std.specs.Ordering.{nat_cmp}
 use Rattle.std.specs.Int.{bit_at}
 use Rattle.std.specs.FinSet as set
@@ -12,11 +12,9 @@ use Rattle.std.proofs.lemmas.Bool.{cases_lt}
 use Rattle.std.proofs.lemmas.Bool.Decides.{nat_tests}
 use Rattle.fy_locality.specs.Members.{has_bit, members_below, members, AreWords, word, words_from, words_of}
 
-pub members_are : (ws : List ℕ) → members ws ≡ members_below ws 1024
-unfolding members
-members_are ws = refl
-
-with_last : (f : ℕ → Bool) (n q : ℕ) → f n ≡ true → (eqb q n || (ltb q n && f q)) ≡ (ltb q (suc n) && f q)
+with_last :
+    (f : ℕ → Bool) (n q : ℕ) → f n ≡ true
+    → (eqb q n || (ltb q n && f q)) ≡ (ltb q (suc n) && f q)
 with_last f n q e = grind (arith, nat_tests)
 
 without_last : (f : ℕ → Bool) (n q : ℕ) → f n ≡ false → (ltb q n && f q) ≡ (ltb q (suc n) && f q)
@@ -25,44 +23,40 @@ without_last f n q e = grind (arith, nat_tests)
 none_below : (b : Bool) (q : ℕ) → false ≡ (ltb q 0 && b)
 none_below b q = grind (arith, nat_tests)
 
-pub contains-members_below : (ws : List ℕ) (n q : ℕ) → set.contains (members_below ws n) q ≡ (ltb q n && has_bit ws q)
+pub contains-members_below :
+    (ws : List ℕ) (n q : ℕ)
+    → set.contains (members_below ws n) q ≡ (ltb q n && has_bit ws q)
 unfolding members_below
 contains-members_below ws zero q = set.contains-empty nat_cmp q ∙ none_below (has_bit ws q) q
 contains-members_below ws (suc n) q =
-    elim (has_bit ws n) as (λ b. has_bit ws n ≡ b → set.contains (cond b (set.insert (members_below ws n) n) (members_below ws n)) q ≡ (ltb q (suc n) && has_bit ws q)) [
-      | true ↦ λ e. set.contains-insert nat_cmp_total (members_below ws n) n q ∙ ap (λ b. b || set.contains (members_below ws n) q) (unsigned_tied q n) ∙ ap (λ b. eqb q n || b) (contains-members_below ws n q) ∙ with_last (has_bit ws) n q e
+    elim (has_bit ws n) as (λ b.
+    has_bit ws n ≡ b
+    → set.contains (cond b (set.insert (members_below ws n) n) (members_below ws n)) q
+    ≡ (ltb q (suc n) && has_bit ws q)) [
+      | true ↦ λ e.
+          set.contains-insert nat_cmp_total (members_below ws n) n q
+          ∙ ap (λ b. b || set.contains (members_below ws n) q) (unsigned_tied q n)
+          ∙ ap (λ b. eqb q n || b) (contains-members_below ws n q)
+          ∙ with_last (has_bit ws) n q e
       | false ↦ λ e. contains-members_below ws n q ∙ without_last (has_bit ws) n q e
     ] refl
 
 -- which numbers are members
-pub contains-members : (ws : List ℕ) (q : ℕ) → set.contains (members ws) q ≡ (ltb q 1024 && has_bit ws q)
+pub contains-members :
+    (ws : List ℕ) (q : ℕ)
+    → set.contains (members ws) q ≡ (ltb q 1024 && has_bit ws q)
 unfolding members
 contains-members ws q = contains-members_below ws 1024 q
-
-len-cond : (b c : Bool) (k : ℕ) → cond b (cond c k (k + 1)) k ≤ suc k
-len-cond b c k = grind (arith, nat_tests)
-
-pub len-members_below : (ws : List ℕ) (n : ℕ) → set.len (members_below ws n) ≤ n
-unfolding members_below
-len-members_below ws zero = let e : set.len (set.empty {R = nat_cmp}) ≡ 0 = set.len-empty nat_cmp in omega arith
-len-members_below ws (suc n) =
-    let before : set.len (members_below ws n) ≤ n = len-members_below ws n in
-    elim (has_bit ws n) as (λ b. set.len (cond b (set.insert (members_below ws n) n) (members_below ws n)) ≤ suc n) [
-      | true ↦ let e : set.len (set.insert (members_below ws n) n) ≡ cond (set.contains (members_below ws n) n) (set.len (members_below ws n)) (set.len (members_below ws n) + 1) = set.len-insert nat_cmp_total _ n in grind (arith, nat_tests)
-      | false ↦ omega arith
-    ]
-
--- no more than 1024
-pub len-members : (ws : List ℕ) → set.len (members ws) ≤ 1024
-unfolding members
-len-members ws = len-members_below ws 1024
 
 word-lt : (f : ℕ → Bool) (base n : ℕ) → word f base n < 2 ^ n
 unfolding word
 word-lt f base zero = omega arith
 word-lt f base (suc n) =
     let low : word f base n < 2 ^ n = word-lt f base n in
-    elim (f (base + n)) as (λ b. cond b 1 0 * 2 ^ n + word f base n < 2 ^ suc n) [ true ↦ omega arith | false ↦ omega arith ]
+    elim (f (base + n)) as (λ b. cond b 1 0 * 2 ^ n + word f base n < 2 ^ suc n) [
+      | true ↦ omega arith
+      | false ↦ omega arith
+    ]
 
 one_bit : (b : Bool) → cond b 1 0 % 2 ≡ cond b 1 0
 one_bit true = refl
@@ -74,12 +68,16 @@ bit_of_test n h = grind (arith, nat_tests)
 passes : (k n : ℕ) (b : Bool) → k < n → (ltb k n && b) ≡ b
 passes k n b h = grind (arith, nat_tests)
 
-bit_at-word : (f : ℕ → Bool) (base n i : ℕ) → i < n → bit_at (word f base n) i ≡ cond (f (base + i)) 1 0
+bit_at-word :
+    (f : ℕ → Bool) (base n i : ℕ) → i < n
+    → bit_at (word f base n) i ≡ cond (f (base + i)) 1 0
 unfolding word
 bit_at-word f base zero i h = absurd (omega arith)
 bit_at-word f base (suc n) i h =
     elim (cases_lt i n) [
-      | inl lower ↦ bit_at_cat_low (cond (f (base + n)) 1 0) n (word f base n) i lower ∙ bit_at-word f base n i lower
+      | inl lower ↦
+          bit_at_cat_low (cond (f (base + n)) 1 0) n (word f base n) i lower
+          ∙ bit_at-word f base n i lower
       | inr not_lower ↦
           let same : i ≡ n = omega arith in
           bit_at_cat_high (cond (f (base + n)) 1 0) n (word f base n) i (word-lt f base n) not_lower
@@ -94,14 +92,21 @@ unfolding words_from
 length-words_from f k zero = refl
 length-words_from f k (suc n) = ap suc (length-words_from f (suc k) n)
 
-get_or-words_from : (f : ℕ → Bool) (k n i : ℕ) → i < n → get_or (words_from f k n) i 0 ≡ word f ((k + i) * 64) 64
+get_or-words_from :
+    (f : ℕ → Bool) (k n i : ℕ) → i < n
+    → get_or (words_from f k n) i 0 ≡ word f ((k + i) * 64) 64
 unfolding words_from
 get_or-words_from f k zero i h = absurd (omega arith)
-get_or-words_from f k (suc n) zero h = ap (λ j. word f (j * 64) 64) (let e : k ≡ k + 0 = omega arith in e)
-get_or-words_from f k (suc n) (suc i) h = get_or-words_from f (suc k) n i (omega arith) ∙ ap (λ j. word f (j * 64) 64) (let e : suc k + i ≡ k + suc i = omega arith in e)
+get_or-words_from f k (suc n) zero h =
+    ap (λ j. word f (j * 64) 64) (let e : k ≡ k + 0 = omega arith in e)
+get_or-words_from f k (suc n) (suc i) h =
+    get_or-words_from f (suc k) n i (omega arith)
+    ∙ ap (λ j. word f (j * 64) 64) (let e : suc k + i ≡ k + suc i = omega arith in e)
 
 -- bit i of word k
-pub contains-members_at : (ws : List ℕ) (k i : ℕ) → k < 16 → i < 64 → set.contains (members ws) (k * 64 + i) ≡ eqb (bit_at (get_or ws k 0) i) 1
+pub contains-members_at :
+    (ws : List ℕ) (k i : ℕ) → k < 16 → i < 64
+    → set.contains (members ws) (k * 64 + i) ≡ eqb (bit_at (get_or ws k 0) i) 1
 contains-members_at ws k i in_words in_word =
     let within : k * 64 + i < 1024 = omega arith in
     let at : (k * 64 + i) / 64 ≡ k = omega arith in
@@ -125,10 +130,3 @@ words_of-members ws are =
     ∙ ap (λ b. cond b 1 0) (contains-members_at ws k i in_words in_word)
     ∙ bit_of_test _ (bit_at-lt (get_or ws k 0) i))
     ∙ get_or_default _ k 0 d (omega (arith, are.count)))
-
--- every member is below 1024
-pub small_members : (ws : List ℕ) (q : ℕ) → set.contains (members ws) q ≡ true → q < 1024
-small_members ws q h = small q (has_bit ws q) (sym (contains-members ws q) ∙ h)
-  where
-    small : (q : ℕ) (b : Bool) → (ltb q 1024 && b) ≡ true → q < 1024
-    small q b h = grind (arith, nat_tests)

@@ -28,6 +28,7 @@ impl Key {
             Key::DataCenter => "dcid",
         }
     }
+
     /// The key whose text a word is; none for any other word.
     pub fn named(word: &str) -> Option<Key>
         ensures { MatchOption result

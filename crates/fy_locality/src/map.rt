@@ -2,9 +2,7 @@
 ghost use Rattle.std.specs.Prelude.{◌≡◌, ◌<◌, ◌≤◌, ◌++◌, nat_lt, ℕ, [], ◌∷◌, Some, None, length, IfOk, OnErr, slice_get, ◌≢◌, IfSome, IfNone, IfErr, IsTrue, ◌↔◌};
 ghost use Rattle.std.specs.FinSet as sets;
 ghost use Rattle.std.specs.Option.{option_copied};
-ghost use Rattle.std.specs.List.{IsDistinct};
 ghost use Rattle.std.specs.Map.{keys_of};
-ghost use Rattle.std.specs.Str.{bytes_eq};
 ghost use Rattle.indexmap.specs.IndexMap.{spare};
 ghost use Rattle.fy_locality.specs.declared.key.Key.TheVariants.{Process};
 ghost use Rattle.fy_locality.specs.Locality.{value_of, has_value, values_of, NamesDiffer, ArePeers, locality_of, taken_or_full, refusal_of};

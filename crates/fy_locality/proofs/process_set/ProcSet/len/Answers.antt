@@ -2,7 +2,7 @@ use Rattle.std.proofs.Common.{◌≡◌, ◌≤◌, ◌*◌, ◌+◌, sym, ap, �
 use Rattle.std.specs.Prelude.{count_ones, slice_index}
 use Rattle.std.specs.FinSet as sets
 use Rattle.fy_locality.specs.Members.{members_below}
-use Rattle.fy_locality.specs.MembersInverse.{len-members_below}
+use Rattle.fy_locality.proofs.Sizes.{len-members_below}
 use Rattle.fy_locality.proofs.Counting.{len-none, len-word, len-all}
 use Rattle.fy_locality.proofs.process_set.ProcSet.len.Goals as goal
 
