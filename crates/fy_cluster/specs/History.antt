@@ -16,6 +16,7 @@ use Rattle.fy_disk.specs.Disk.{outlives}
 use Rattle.fy_net.specs.declared.message.Body.{Body}
 use Rattle.fy_net.specs.declared.message.Body.TheVariants.{Store, Synced}
 use Rattle.fy_grants.specs.Least.{least_with}
+use Rattle.fy_net.specs.declared.limits.TheConstants.{LAST_TICK}
 use Rattle.fy_team.specs.Teams.{Team, is_among}
 use Rattle.fy_decide.specs.Verdicts.{targets, destroys_for_good}
 use Rattle.fy_audit.specs.declared.act.Act.{Act}
@@ -292,8 +293,12 @@ now (m ∷ h) = now h + unwrap_or (ticks m.entry.act m.entry.reply) 0
 
 -- the clog of the entry, made at the time n, holds the process at the time t
 abbrev pub holds : Moment → ℕ → ℕ → ℕ → Bool
+<<<<<<< HEAD
 holds m n t p =
     some_is (λ k. m.targets p && nat_lt t (min (n + k) (2 ^ 40))) (clogs m.entry.act m.entry.reply)
+=======
+holds m n t p = some_is (λ k. m.targets p && nat_lt t (min (n + k) LAST_TICK)) (clogs m.entry.act m.entry.reply)
+>>>>>>> 9f874b9db6aa151cb16cf136ac879caa6c98dc31
 
 -- some clog holds it, after which it was not unclogged
 abbrev pub clogged_at : ℕ → History → ProcessSet

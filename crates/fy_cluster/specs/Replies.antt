@@ -5,6 +5,8 @@ use Rattle.std.specs.Option.{option_map_or}
 use Rattle.fy_policy.specs.Sat.{satisfies}
 use Rattle.fy_kinds.specs.Kinds.{Clogging}
 use Rattle.fy_team.specs.Teams.{is_among}
+use Rattle.fy_team.specs.declared.limits.TheConstants.{MOST_TEAMS, MOST_RECORDS, MOST_BYTES}
+use Rattle.fy_net.specs.declared.limits.TheConstants.{MOST_IN_FLIGHT, LAST_TICK}
 use Rattle.fy_decide.specs.Verdicts.{targets, bar, verdict}
 use Rattle.fy_net.specs.declared.message.Body.{Body}
 use Rattle.fy_net.specs.Net.{process_of}
@@ -80,7 +82,7 @@ grant_count c h = sum_by (λ a. length (grants c h a)) (range_with_len 0 (length
 
 -- so many messages more would be more than may be in flight
 abbrev pub is_full : History → ℕ → Bool
-is_full h more = nat_lt 65536 (in_flight_count h + more)
+is_full h more = nat_lt MOST_IN_FLIGHT (in_flight_count h + more)
 
 -- there is no process with the number
 abbrev pub no_process : Setup → ℕ → Bool
@@ -100,7 +102,7 @@ refusals c h (Kill order) = []
 refusals c h (Clog target n) = []
 refusals c h (Unclog target) = []
 refusals c h (Form members policy) =
-    (nat_le 4096 (length (teams h)), TooMany)
+    (nat_le MOST_TEAMS (length (teams h)), TooMany)
     ∷ (nat_le (length c.policies) policy, NoPolicy)
     ∷ (list_any (λ p. no_process c p.0) members, NoProcess)
     ∷ (list_any (λ p. gone h p.0) members, Gone)
@@ -108,8 +110,8 @@ refusals c h (Form members policy) =
     ∷ []
 refusals c h (Begin team payload) =
     (nat_le (length (teams h)) team, NoTeam)
-    ∷ (nat_lt 256 (length payload), Payload)
-    ∷ (nat_le 65536 (length (records h)), TooMany)
+    ∷ (nat_lt MOST_BYTES (length payload), Payload)
+    ∷ (nat_le MOST_RECORDS (length (records h)), TooMany)
     ∷ (is_full h (length (members_of h team)), NetFull)
     ∷ []
 refusals c h (Deliver n) =
@@ -134,7 +136,7 @@ refusals c h (Up process) =
     ∷ (gone h process.0, Gone)
     ∷ (up h process.0, IsUp)
     ∷ []
-refusals c h (Tick n) = (nat_lt (2 ^ 40) (now h + n), ClockEnd) ∷ []
+refusals c h (Tick n) = (nat_lt LAST_TICK (now h + n), ClockEnd) ∷ []
 refusals c h (Give grant) =
     (no_actor c grant.actor, NoActor)
     ∷ (nat_le 4096 (grant_count c h), Full)

@@ -21,7 +21,7 @@ use Rattle.fy_net.specs.declared.message.Message.{Message}
 use Rattle.fy_net.specs.declared.fault.NetFault.{NetFault}
 use Rattle.fy_net.specs.declared.fault.NetFault.TheVariants.{NetFull as NetNetFull, NoMessage as NetNoMessage, Clogged as NetClogged, ClockEnd as NetClockEnd, NoMemory as NetNoMemory}
 use Rattle.fy_net.specs.Net.{Traffic}
-use Rattle.fy_net.specs.declared.limits.TheConstants.{LAST_TICK}
+use Rattle.fy_net.specs.declared.limits.TheConstants.{LAST_TICK, MOST_IN_FLIGHT}
 use Rattle.fy_team.specs.declared.fault.TeamFault.{TeamFault}
 use Rattle.fy_team.specs.declared.fault.TeamFault.TheVariants.{TooMany as TeamTooMany, NoPolicy as TeamNoPolicy, NoProcess as TeamNoProcess, Gone as TeamGone, TeamShort as IsShort, NoTeam as TeamNoTeam, Payload as TeamPayload, NoMemory as TeamNoMemory}
 use Rattle.fy_team.specs.Teams.{Roster, Record, is_marked}
@@ -133,7 +133,7 @@ pub record KeepsNet (c : Setup) (h : History) (net : Traffic) : Type 0 where
       clogged_at t h p ≡ nat_lt t (slice_index net.until p)
   -- nothing was taken out before it was sent, and no entry sent more than may be in flight
   pub early : (n : ℕ) → length (sent h) ≤ n → list_any (takes_out n) h ≡ false
-  pub few : length (sent h) ≤ 65536 * length h
+  pub few : length (sent h) ≤ MOST_IN_FLIGHT * length h
 
 -- until when a process is clogged after a clog of some ticks, which shortens no other
 abbrev pub clog_end : ℕ → ℕ → ℕ → ℕ
