@@ -1,7 +1,8 @@
 -- the kinds of kill in their order, and sets of them with clogging
-use Rattle.std.specs.Prelude.{ℕ, ◌+◌, Bool, true, false, ◌&&◌, ◌||◌, not, ◌==◌, List, [], ◌∷◌, map, codes, if◌then◌else◌}
+use Rattle.std.specs.Prelude.{ℕ, ◌+◌, Bool, true, false, ◌&&◌, ◌||◌, not, ◌==◌, nat_eq, List, [], ◌∷◌, map, codes, Option, option_map, if◌then◌else◌}
+use Rattle.std.specs.Cmp.Lexicographic.{pointwise}
 use Rattle.std.specs.Int.RustNames.{bit_and}
-use Rattle.std.specs.List.{list_all, list_any}
+use Rattle.std.specs.List.{find, list_all, list_any}
 use Rattle.fy_kinds.specs.declared.kind.Kind.{Kind}
 use Rattle.fy_kinds.specs.declared.kind.Kind.TheVariants.{RebootProcess, Reboot, RebootAndDelete, KillInstantly}
 use Rattle.fy_kinds.specs.declared.kind_set.KindSet.{KindSet}
@@ -13,12 +14,20 @@ rank Reboot = 1
 rank RebootAndDelete = 2
 rank KillInstantly = 3
 
+-- every kind, from the mildest
+abbrev pub all_kinds : List Kind
+all_kinds = RebootProcess ∷ Reboot ∷ RebootAndDelete ∷ KillInstantly ∷ []
+
 -- how kinds are written
 abbrev pub kind_text : Kind → List ℕ
 kind_text RebootProcess = codes "RebootProcess"
 kind_text Reboot = codes "Reboot"
 kind_text RebootAndDelete = codes "RebootAndDelete"
 kind_text KillInstantly = codes "KillInstantly"
+
+-- the kind that is written so
+abbrev pub kind_named : List ℕ → Option Kind
+kind_named text = find (λ kind. pointwise nat_eq (kind_text kind) text) all_kinds
 
 -- the kinds that empty the disk
 abbrev pub is_destroying : Kind → Bool
@@ -27,6 +36,11 @@ is_destroying Reboot = false
 is_destroying RebootAndDelete = true
 is_destroying KillInstantly = true
 
+-- the kind that leaves nobody to come back
+abbrev pub destroys_for_good : Kind → Bool
+destroys_for_good KillInstantly = true
+destroys_for_good _ = false
+
 -- what a grant allows or a protection forbids: a kill of a kind, or clogging
 pub data Deed : Type 0 where
   Striking : Kind → Deed
@@ -34,7 +48,23 @@ pub data Deed : Type 0 where
 
 -- every deed, in the order in which sets are written
 abbrev pub deeds : List Deed
-deeds = Striking RebootProcess ∷ Striking Reboot ∷ Striking RebootAndDelete ∷ Striking KillInstantly ∷ Clogging ∷ []
+deeds =
+    Striking RebootProcess ∷ Striking Reboot ∷ Striking RebootAndDelete ∷ Striking KillInstantly
+    ∷ Clogging ∷ []
+
+-- how deeds are written
+abbrev pub deed_text : Deed → List ℕ
+deed_text (Striking kind) = kind_text kind
+deed_text Clogging = codes "Clog"
+
+-- the deed that is written so
+abbrev pub deed_named : List ℕ → Option Deed
+deed_named text = find (λ d. pointwise nat_eq (deed_text d) text) deeds
+
+-- whether a deed is a kill of a kind that passes a test
+abbrev pub is_kill_which : (Kind → Bool) → Deed → Bool
+is_kill_which test (Striking kind) = test kind
+is_kill_which test Clogging = false
 
 -- the place of a deed among them
 abbrev pub place : Deed → ℕ
@@ -87,6 +117,10 @@ has_all kinds asked = list_all (λ d. not (has asked d) || has kinds d) deeds
 abbrev pub has_some : KindSet → KindSet → Bool
 has_some kinds asked = list_any (λ d. has asked d && has kinds d) deeds
 
+-- the set of the one deed that is written so
+abbrev pub set_named : List ℕ → Option KindSet
+set_named text = option_map only (deed_named text)
+
 -- ---- sets as five bits
 
 -- the bit of a deed
@@ -105,11 +139,6 @@ bits_among kinds (d ∷ ds) = (if has kinds d then bit_of d else 0) + bits_among
 -- the deeds whose bit is set
 abbrev pub set_of_bits : ℕ → KindSet
 set_of_bits bits = those (λ d. not (bit_and bits (bit_of d) == 0))
-
--- how sets are written: a text for each deed
-abbrev pub deed_text : Deed → List ℕ
-deed_text (Striking kind) = kind_text kind
-deed_text Clogging = codes "Clog"
 
 -- every deed with its text and the set of it alone
 abbrev pub table : List (List ℕ × KindSet)

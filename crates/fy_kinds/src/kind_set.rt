@@ -1,7 +1,7 @@
 //! Sets of the four kinds of kill and of clogging.
 ghost use Rattle.std.specs.Prelude.{◌≡◌, IsTrue, ◌↔◌, map, List, ℕ};
 ghost use Rattle.fy_kinds.specs.declared.kind_set.KindSet.{KindSet as KindSetValue};
-ghost use Rattle.fy_kinds.specs.Kinds.{has, no_deed, only, with_all, in_both, without_all, has_all, has_some, deeds, table, bits_among, set_of_bits};
+ghost use Rattle.fy_kinds.specs.Kinds.{has, no_deed, only, with_all, in_both, without_all, has_all, has_some, set_named, deeds, table, bits_among, set_of_bits};
 ghost use Rattle.fy_kinds.specs.Kinds.{Striking, Clogging};
 
 use crate::Kind;
@@ -99,6 +99,17 @@ impl KindSet {
         ensures { result ≡ only Clogging }
     {
         KindSet::CLOG
+    }
+
+    /// The set of the one member that is written so, if one is: a kind's text, or `Clog`.
+    pub fn named(text: &str) -> Option<KindSet>
+        ensures { result ≡ set_named text.now }
+    {
+        match Kind::named(text) {
+            Some(kind) => Some(KindSet::of(kind)),
+            None if text == "Clog" => Some(KindSet::CLOG),
+            None => None,
+        }
     }
 
     /// Whether a kind of kill is a member.

@@ -29,6 +29,7 @@ fn kinds_rise_from_mild_to_hard(rt: HostRuntime) {
             assert_eq!(rt; kind < other, place < other_place, "{kind:?} {other:?}");
         }
         assert_eq!(rt; kind.is_destroying(), place >= 2);
+        assert_eq!(rt; kind.destroys_for_good(), place == 3);
     }
 }
 
@@ -42,6 +43,14 @@ fn kinds_are_written(rt: HostRuntime) {
     ];
     for (kind, text) in texts {
         assert_eq!(rt; kind.text(), text);
+        assert_eq!(rt; Kind::named(text), Some(kind));
+        assert_eq!(rt; KindSet::named(text), Some(KindSet::of(kind)));
+    }
+    assert_eq!(rt; KindSet::named("Clog"), Some(KindSet::of_clog()));
+    assert_eq!(rt; Kind::named("Clog"), None);
+    for text in ["", "reboot", "Reboot ", "RebootAnd", "Clogs"] {
+        assert_eq!(rt; Kind::named(text), None, "{text}");
+        assert_eq!(rt; KindSet::named(text), None, "{text}");
     }
 }
 
