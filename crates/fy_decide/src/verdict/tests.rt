@@ -169,7 +169,8 @@ fn refused(rule: Rule) -> Verdict {
     }
 }
 
-/// Gives one order after another: the place of the first whose verdict isn't the one that is due, with its verdict.
+/// Gives one order after another: the place of the first whose verdict isn't the one that is due,
+/// with its verdict.
 fn misjudged(yard: &mut Yard, dues: &[Due<'_>]) -> Option<(usize, Option<Verdict>)> {
     for (place, due) in dues.iter().enumerate() {
         let verdict = match target(due.key, due.value) {
@@ -300,7 +301,8 @@ fn grants_and_protections_come_and_go(rt: HostRuntime) {
     }
 }
 
-/// Whether the second actor may clog a target, then with p1 protected from that; and whether the fourth may.
+/// Whether the second actor may clog a target, then with p1 protected from that; and whether the
+/// fourth may.
 fn clogs(alloc: Global, value: &str) -> Option<(Option<Rule>, Option<Rule>, Option<Rule>)> {
     let mut yard = Yard::make(alloc, 6, TWO_ZONES)?;
     let target = target(Key::Zone, value)?;
