@@ -31,14 +31,14 @@ pub record IsFresh (processes : List Locality) (policies : List Tree) (dead : Ca
 -- whether the policies bear the loss of a set, by a dead book
 abbrev pub MayLose : Casualties → (ℕ → Bool) → Loss → Type 0
 MayLose dead s loss =
-    MayDestroy dead.processes dead.policies (sets.contains dead.destroyed) (sets.contains dead.left)
-    s loss
+    MayDestroy dead.processes dead.policies
+    (sets.contains dead.destroyed) (sets.contains dead.left) s loss
 
 -- the same as a test
 abbrev pub may_lose : Casualties → (ℕ → Bool) → Loss → Bool
 may_lose dead s loss =
-    may_destroy dead.processes dead.policies (sets.contains dead.destroyed) (sets.contains dead.left)
-    s loss
+    may_destroy dead.processes dead.policies
+    (sets.contains dead.destroyed) (sets.contains dead.left) s loss
 
 -- a dead book after the loss of a set
 abbrev pub struck : Casualties → sets.FinSet nat_cmp → Loss → Casualties

@@ -81,7 +81,8 @@ impl Model for DeadBook {
 
     ghost Value = { Casualties };
 
-    ghost coded = { Prim.hlevel (codes, tree_code, e.the_row.coded, sets.code {R = nat_cmp} coded_ℕ) };
+    ghost coded = { Prim.hlevel
+        (codes, tree_code, e.the_row.coded, sets.code {R = nat_cmp} coded_ℕ) };
 
     ghost view = { λ b. record {
       processes = b.map;
@@ -184,8 +185,8 @@ impl DeadBook {
         })
     }
 
-    /// Whether the set may be lost: the destroyed with it are short of every policy and, where it is
-    /// gone, those left without it satisfy each. Takes no memory.
+    /// Whether the set may be lost: the destroyed with it are short of every policy and, where it
+    /// is gone, those left without it satisfy each. Takes no memory.
     pub fn may_destroy(&self, set: &ProcSet, loss: Loss) -> bool
         ensures relation { IsTrue result ↔ MayLose self.now (sets.contains set.now) loss }
         ensures test { result ≡ may_lose self.now (sets.contains set.now) loss }
@@ -217,8 +218,8 @@ impl DeadBook {
         first_short(&self.policies, &self.map, &self.left.difference(set))
     }
 
-    /// Those left that have the target's value of its key; the map is the one that the book was made
-    /// of.
+    /// Those left that have the target's value of its key; the map is the one that the book was
+    /// made of.
     pub fn targets(&self, map: &Map, target: &Target) -> ProcSet
         requires { map.now ≡ self.now.processes }
         ensures { (p : ℕ) → sets.contains result p
@@ -243,7 +244,8 @@ impl DeadBook {
     /// The destroyed: they are short of every policy.
     pub fn destroyed(&self) -> ProcSet
         ensures destroyed { result ≡ self.now.destroyed }
-        ensures short { AreShort self.now.processes self.now.policies (sets.contains self.now.destroyed) }
+        ensures short { AreShort self.now.processes self.now.policies
+            (sets.contains self.now.destroyed) }
     {
         self.destroyed
     }
@@ -251,7 +253,8 @@ impl DeadBook {
     /// Those left: they satisfy every policy.
     pub fn left(&self) -> ProcSet
         ensures left { result ≡ self.now.left }
-        ensures satisfied { AreSatisfied self.now.processes self.now.policies (sets.contains self.now.left) }
+        ensures satisfied { AreSatisfied self.now.processes self.now.policies
+            (sets.contains self.now.left) }
     {
         self.left
     }

@@ -32,7 +32,8 @@ struct Case<'a> {
 impl Case<'_> {
     /// The bar of a deed by the first three rules, those of leave.
     fn leave_bar(&self, kinds: KindSet, targets: &ProcSet) -> Option<Rule>
-        requires members { (q : ℕ) → sets.contains targets.now q ≡ true → q < length self.now.map.now }
+        requires members { (q : ℕ)
+            → sets.contains targets.now q ≡ true → q < length self.now.map.now }
         ensures { (deed : Deed) → kinds ≡ only deed → result
             ≡ first_rule (leave_rules
             (situation_of self.now.dead.now self.now.book.now self.now.actor) deed
@@ -55,7 +56,8 @@ impl Case<'_> {
 
     /// The bar of a kind of kill: the first of all five rules that bars it.
     fn bar(&self, kind: Kind, targets: &ProcSet) -> Option<Rule>
-        requires members { (q : ℕ) → sets.contains targets.now q ≡ true → q < length self.now.map.now }
+        requires members { (q : ℕ)
+            → sets.contains targets.now q ≡ true → q < length self.now.map.now }
         ensures { result
             ≡ bar (situation_of self.now.dead.now self.now.book.now self.now.actor) (Striking kind)
             (sets.contains targets.now) }
@@ -68,7 +70,8 @@ impl Case<'_> {
 
     /// The hardest kind that an order allows and that has no bar.
     fn hardest(&self, order: &KillOrder, targets: &ProcSet) -> Option<Kind>
-        requires members { (q : ℕ) → sets.contains targets.now q ≡ true → q < length self.now.map.now }
+        requires members { (q : ℕ)
+            → sets.contains targets.now q ≡ true → q < length self.now.map.now }
         ensures { result
             ≡ hardest (situation_of self.now.dead.now self.now.book.now self.now.actor) order.now
             (sets.contains targets.now) }

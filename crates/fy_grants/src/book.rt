@@ -86,8 +86,8 @@ impl Book {
     /// One more grant, last in its actor's list.
     ///
     /// # Errors
-    /// In this order: `NoActor`; `Full` where [`MOST_GRANTS`] are there already; `NoMemory`. A refused
-    /// grant leaves the book as it was.
+    /// In this order: `NoActor`; `Full` where [`MOST_GRANTS`] are there already; `NoMemory`. A
+    /// refused grant leaves the book as it was.
     pub fn give(&mut self, grant: Grant) -> Result<(), BookFault>
         ensures refused { (fault : BookFault)
             → give_refusal self.old grant ≡ Some fault → result ≡ Err fault }

@@ -106,8 +106,8 @@ fn holds_kinds(book: &Book, actor: u32, kinds: &[Kind]) -> bool {
     true
 }
 
-/// Gives one grant to actor 0, and says whether the book is right after it: one longer, or as it was
-/// without memory.
+/// Gives one grant to actor 0, and says whether the book is right after it: one longer, or as it
+/// was without memory.
 fn gives_or_stays(book: &mut Book) -> bool {
     let before = book.grants(0).len();
     match book.give(to_all(0, Kind::Reboot)) {

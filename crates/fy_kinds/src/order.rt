@@ -51,8 +51,8 @@ impl Model for KillOrder {
 }
 
 impl KillOrder {
-    /// An order. A reboot keeps unsynced write number `i`, from 0, where `i` is below 64 and bit `i`
-    /// of `tear` is 1.
+    /// An order. A reboot keeps unsynced write number `i`, from 0, where `i` is below 64 and bit
+    /// `i` of `tear` is 1.
     ///
     /// # Errors
     /// `Floor` where the floor is above the kind.

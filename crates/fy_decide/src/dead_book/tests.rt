@@ -103,8 +103,8 @@ fn the_first_unmet_policy_is_found(rt: HostRuntime) {
     assert_eq!(rt; unmet_of(alloc, &["Across(2,zoneid,One())"]), Some(None));
 }
 
-/// Asks for one loss after another, each of which is taken down where it may be: whether each answer
-/// is the one that is due.
+/// Asks for one loss after another, each of which is taken down where it may be: whether each
+/// answer is the one that is due.
 fn answers_as_due(book: &mut DeadBook, asks: &[(Loss, u64, bool)]) -> bool {
     for (loss, bits, due) in asks {
         let set = set_of(*bits);
@@ -189,8 +189,8 @@ fn large_map(alloc: Global) -> Option<Map> {
     Some(map)
 }
 
-/// How many of 1,024 are destroyed and left after the loss of two in a zone, or none where an answer
-/// isn't the one that is due.
+/// How many of 1,024 are destroyed and left after the loss of two in a zone, or none where an
+/// answer isn't the one that is due.
 fn large_walk(alloc: Global) -> Option<(u32, u32)> {
     let map = large_map(alloc)?;
     let policies = read_all(alloc, &["Across(2,zoneid,One())"])?;

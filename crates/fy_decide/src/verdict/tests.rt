@@ -44,16 +44,6 @@ fn policies(alloc: Global, text: &str) -> Option<Vec<Policy>> {
     Some(policies)
 }
 
-fn every_kind() -> KindSet {
-    KindSet {
-        reboot_process: true,
-        reboot: true,
-        reboot_and_delete: true,
-        kill_instantly: true,
-        clog: true,
-    }
-}
-
 fn target(key: Key, value: &str) -> Option<Target> {
     let value = Name::make(value).ok()?;
     Some(Target { key, value })
@@ -100,7 +90,7 @@ impl Yard {
     /// The second of the actors has every kind, the third has `KillInstantly` and `Reboot`.
     fn make(alloc: Global, count: u32, policy: &str) -> Option<Yard> {
         let mut yard = Yard::empty(alloc, count, policy)?;
-        yard.give(1, every_kind()).ok()?;
+        yard.give(1, KindSet::all()).ok()?;
         let both = KindSet::of(Kind::KillInstantly).union(KindSet::of(Kind::Reboot));
         yard.give(2, both).ok()?;
         Some(yard)
