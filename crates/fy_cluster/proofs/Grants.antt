@@ -5,6 +5,7 @@ use Rattle.std.specs.List.{sum_by, range_with_len}
 use Rattle.fy_locality.specs.declared.ProcId.{ProcId}
 use Rattle.fy_kinds.specs.declared.kind_set.KindSet.{KindSet}
 use Rattle.fy_kinds.specs.Kinds.{Deed, has, with_all, without_all}
+use Rattle.fy_grants.specs.declared.book.TheConstants.{MOST_GRANTS}
 use Rattle.fy_grants.specs.declared.grant.Grant.{Grant}
 use Rattle.fy_grants.specs.declared.book.BookFault.{BookFault}
 use Rattle.fy_grants.specs.declared.book.BookFault.TheVariants.{NoActor as NoActorThere, NoSuch as NoneThere, Full as FullBook, NoMemory as NoMemoryLeft}
@@ -57,7 +58,7 @@ within c p n e l = grind (arith, nat_tests)
 
 -- ---- give and take
 
-give_reply : (c : Setup) (h : History) (by : ℕ) (grant : Grant) (a b : Bool) → no_actor c grant.actor ≡ a → nat_le 4096 (grant_count c h) ≡ b
+give_reply : (c : Setup) (h : History) (by : ℕ) (grant : Grant) (a b : Bool) → no_actor c grant.actor ≡ a → nat_le MOST_GRANTS (grant_count c h) ≡ b
     → refused (refusals c h (Give grant)) (answer c h by (Give grant)) ≡ refused ((a, NoActor) ∷ (b, Full) ∷ []) Done
 unfolding refusals answer
 give_reply c h by grant a b e f = rw (e, f) refl
@@ -74,7 +75,7 @@ abbrev pub TakesLists : Type 0
 TakesLists = (rights : Rights) (actor index a : ℕ) → actor < length rights.grants → grants_of (without_grant rights actor index) a ≡ (if actor == a then remove (grants_of rights a) index else grants_of rights a)
 
 given : GivesLists → ((rights : Rights) (grant : Grant) → length (with_grant rights grant).grants ≡ length rights.grants)
-    → (turn : Turn) (grant : Grant) (m : Machine) → Stands turn.setup turn.before m → nat_le (length m.book.grants) grant.actor ≡ false → nat_le 4096 (grant_count turn.setup turn.before) ≡ false
+    → (turn : Turn) (grant : Grant) (m : Machine) → Stands turn.setup turn.before m → nat_le (length m.book.grants) grant.actor ≡ false → nat_le MOST_GRANTS (grant_count turn.setup turn.before) ≡ false
     → Follows turn (Give grant) Done (record m { book = with_grant m.book grant })
 given lists actors turn grant machine k e f = record {
   right = sym (give_reply c h turn.by grant false false (ap (λ n. nat_le n grant.actor) (sym k.rights.actors) ∙ e) f);
@@ -110,8 +111,8 @@ pub give_ok : GivesLists → ((rights : Rights) (grant : Grant) → length (with
     → (turn : Turn) (grant : Grant) (m : Machine) (book : Rights) → Stands turn.setup turn.before m → give_refusal m.book grant ≡ None → book ≡ with_grant m.book grant
     → Follows turn (Give grant) Done (record m { book = book })
 give_ok lists actors turn grant m book k clear is =
-    let both = neither (nat_le (length m.book.grants) grant.actor) (nat_le 4096 (count_of m.book)) NoActorThere FullBook clear in
-    rw is (given lists actors turn grant m k both.0 (ap (nat_le 4096) (sym (count_same turn.setup turn.before m.book k.rights)) ∙ both.1))
+    let both = neither (nat_le (length m.book.grants) grant.actor) (nat_le MOST_GRANTS (count_of m.book)) NoActorThere FullBook clear in
+    rw is (given lists actors turn grant m k both.0 (ap (nat_le MOST_GRANTS) (sym (count_same turn.setup turn.before m.book k.rights)) ∙ both.1))
 
 -- one that isn't
 pub give_err : (turn : Turn) (grant : Grant) (m : Machine) (book : Rights) (fault : BookFault) → Stands turn.setup turn.before m
@@ -119,9 +120,9 @@ pub give_err : (turn : Turn) (grant : Grant) (m : Machine) (book : Rights) (faul
     → Comes turn (Give grant) (replied_to fault) (record m { book = book })
 give_err turn grant m book fault k (inr out) is = rw (out.1, is) (refl, k)
 give_err turn grant m book fault k (inl why) is =
-    elim (either (nat_le (length m.book.grants) grant.actor) (nat_le 4096 (count_of m.book)) NoActorThere FullBook fault why) [
+    elim (either (nat_le (length m.book.grants) grant.actor) (nat_le MOST_GRANTS (count_of m.book)) NoActorThere FullBook fault why) [
       | inl w ↦ rw (w.1, is) (refuse turn (Give grant) NoActor m k (give_reply c h turn.by grant true _ (actors ∙ w.0) refl))
-      | inr w ↦ rw (w.2, is) (refuse turn (Give grant) Full m k (give_reply c h turn.by grant false true (actors ∙ w.0) (ap (nat_le 4096) (sym (count_same c h m.book k.rights)) ∙ w.1)))
+      | inr w ↦ rw (w.2, is) (refuse turn (Give grant) Full m k (give_reply c h turn.by grant false true (actors ∙ w.0) (ap (nat_le MOST_GRANTS) (sym (count_same c h m.book k.rights)) ∙ w.1)))
     ]
   where
     c : Setup

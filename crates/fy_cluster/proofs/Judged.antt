@@ -11,7 +11,7 @@ use Rattle.fy_kinds.specs.declared.kind.Kind.TheVariants.{RebootProcess, Reboot,
 use Rattle.fy_kinds.specs.declared.order.Target.{Target}
 use Rattle.fy_kinds.specs.declared.verdict.Rule.{Rule}
 use Rattle.fy_kinds.specs.declared.verdict.Verdict.{Verdict as VerdictOf}
-use Rattle.fy_kinds.specs.Kinds.{Clogging, is_destroying}
+use Rattle.fy_kinds.specs.Kinds.{Clogging, is_destroying, destroys_for_good}
 use Rattle.fy_kinds.specs.Orders.{Order}
 use Rattle.fy_decide.specs.DeadBook.{Casualties}
 use Rattle.fy_decide.specs.Verdicts.{situation_of, targets, bar, verdict}
@@ -23,7 +23,7 @@ use Rattle.fy_audit.specs.declared.act.Act.TheVariants.{Kill, Clog, Unclog}
 use Rattle.fy_audit.specs.declared.reply.Reply.TheVariants.{Ruled, Verdict}
 use Rattle.fy_cluster.specs.declared.machine.Machine.{Machine}
 use Rattle.fy_cluster.specs.Setup.{Setup}
-use Rattle.fy_cluster.specs.History.{History, Moment, some_is, strikes, destroys, is_killing, closes, syncs, writes, tear_of, destroyed, gone, left, up, synced, unsynced, sent, now, takes_out, clogs, unclogs, sends_of, clogged_at}
+use Rattle.fy_cluster.specs.History.{History, Moment, some_is, strikes, destroys, closes, syncs, writes, tear_of, destroyed, gone, left, up, synced, unsynced, sent, now, takes_out, clogs, unclogs, sends_of, clogged_at}
 use Rattle.fy_cluster.specs.Rules.{situation}
 use Rattle.fy_cluster.specs.Replies.{refused, refusals, answer}
 use Rattle.fy_cluster.specs.Standing.{Stands, Turn, Follows, moment_of, following, KeepsDead, KeepsDisks, KeepsUp, ChangesAt, ClogsChange, clog_end, unclog_end, targets_by, clog_bar, buried, stored, left_on, blank_disk}
@@ -183,7 +183,7 @@ spared : (test : Kind → Bool) (b d : Bool) (kind : Kind) → test kind ≡ fal
 spared test true d kind e = rw e refl
 spared test false d kind e = refl
 
-left_less : (n b g : Bool) (kind : Kind) → is_killing kind ≡ true → (n && not g && not b) ≡ (n && not (some_is is_killing (at_target b kind) || g))
+left_less : (n b g : Bool) (kind : Kind) → destroys_for_good kind ≡ true → (n && not g && not b) ≡ (n && not (some_is destroys_for_good (at_target b kind) || g))
 left_less true true true kind e = rw e refl
 left_less true true false kind e = rw e refl
 left_less true false true kind e = refl
@@ -197,21 +197,21 @@ dead_struck c m h book set RebootProcess struck_is k = record {
   policies = k.policies;
   few = k.few;
   destroyed = λ p. k.destroyed p ∙ spared is_destroying (sets.contains set p) (destroyed h p) RebootProcess refl ∙ ap (λ o. some_is is_destroying o || destroyed h p) (sym (struck_is p));
-  left = λ p. k.left p ∙ ap (λ g. nat_lt p (length c.processes) && not g) (spared is_killing (sets.contains set p) (gone h p) RebootProcess refl ∙ ap (λ o. some_is is_killing o || gone h p) (sym (struck_is p)));
+  left = λ p. k.left p ∙ ap (λ g. nat_lt p (length c.processes) && not g) (spared destroys_for_good (sets.contains set p) (gone h p) RebootProcess refl ∙ ap (λ o. some_is destroys_for_good o || gone h p) (sym (struck_is p)));
 }
 dead_struck c m h book set Reboot struck_is k = record {
   processes = k.processes;
   policies = k.policies;
   few = k.few;
   destroyed = λ p. k.destroyed p ∙ spared is_destroying (sets.contains set p) (destroyed h p) Reboot refl ∙ ap (λ o. some_is is_destroying o || destroyed h p) (sym (struck_is p));
-  left = λ p. k.left p ∙ ap (λ g. nat_lt p (length c.processes) && not g) (spared is_killing (sets.contains set p) (gone h p) Reboot refl ∙ ap (λ o. some_is is_killing o || gone h p) (sym (struck_is p)));
+  left = λ p. k.left p ∙ ap (λ g. nat_lt p (length c.processes) && not g) (spared destroys_for_good (sets.contains set p) (gone h p) Reboot refl ∙ ap (λ o. some_is destroys_for_good o || gone h p) (sym (struck_is p)));
 }
 dead_struck c m h book set RebootAndDelete struck_is k = record {
   processes = k.processes;
   policies = k.policies;
   few = k.few;
   destroyed = λ p. sets.contains-union nat_cmp_total book.destroyed set p ∙ ap (λ d. d || sets.contains set p) (k.destroyed p) ∙ destroyed_more (sets.contains set p) (destroyed h p) RebootAndDelete refl ∙ ap (λ o. some_is is_destroying o || destroyed h p) (sym (struck_is p));
-  left = λ p. k.left p ∙ ap (λ g. nat_lt p (length c.processes) && not g) (spared is_killing (sets.contains set p) (gone h p) RebootAndDelete refl ∙ ap (λ o. some_is is_killing o || gone h p) (sym (struck_is p)));
+  left = λ p. k.left p ∙ ap (λ g. nat_lt p (length c.processes) && not g) (spared destroys_for_good (sets.contains set p) (gone h p) RebootAndDelete refl ∙ ap (λ o. some_is destroys_for_good o || gone h p) (sym (struck_is p)));
 }
 dead_struck c m h book set KillInstantly struck_is k = record {
   processes = k.processes;
@@ -219,7 +219,7 @@ dead_struck c m h book set KillInstantly struck_is k = record {
   few = k.few;
   destroyed = λ p. sets.contains-union nat_cmp_total book.destroyed set p ∙ ap (λ d. d || sets.contains set p) (k.destroyed p) ∙ destroyed_more (sets.contains set p) (destroyed h p) KillInstantly refl ∙ ap (λ o. some_is is_destroying o || destroyed h p) (sym (struck_is p));
   left = λ p. sets.contains-difference nat_cmp_total book.left set p ∙ ap (λ l. l && not (sets.contains set p)) (k.left p)
-      ∙ left_less (nat_lt p (length c.processes)) (sets.contains set p) (gone h p) KillInstantly refl ∙ ap (λ o. nat_lt p (length c.processes) && not (some_is is_killing o || gone h p)) (sym (struck_is p));
+      ∙ left_less (nat_lt p (length c.processes)) (sets.contains set p) (gone h p) KillInstantly refl ∙ ap (λ o. nat_lt p (length c.processes) && not (some_is destroys_for_good o || gone h p)) (sym (struck_is p));
 }
 
 up_less : (b u : Bool) (kind : Kind) → (u && not b) ≡ (is_none (at_target b kind) && u)

@@ -1,17 +1,20 @@
 -- a machine before anything happened keeps the empty history
-use Rattle.std.proofs.Common.{◌==◌, ◌≡◌, ℕ, ◌+◌, ◌<◌, ◌≤◌, Bool, true, false, ◌&&◌, ◌||◌, not, List, [], ◌∷◌, ◌++◌, length, take, replicate, slice_get, Some, None, refl, sym, ◌∙◌, ap, nat_lt, get_or, arith, append-nil, append_assoc, filter, if◌then◌else◌}
+use Rattle.std.proofs.Common.{◌==◌, ◌≡◌, ℕ, ◌+◌, ◌<◌, ◌≤◌, Bool, true, false, ◌&&◌, ◌||◌, not, List, [], ◌∷◌, ◌++◌, length, take, replicate, slice_get, Some, None, refl, sym, ◌∙◌, ap, nat_lt, get_or, arith, append-nil, append_assoc, eqb-true, filter, if◌then◌else◌}
 use Rattle.std.proofs.lemmas.Bool.Decides.{nat_tests}
 use Rattle.std.proofs.lemmas.List.{length-replicate, get_or-replicate}
 use Rattle.std.proofs.lemmas.List.Elements.{filter_more}
 use Rattle.std.proofs.lemmas.Option.{slice_get-get_or}
 use Rattle.std.proofs.lemmas.Iterator.Adapters.{position_from-zero}
-use Rattle.std.specs.List.{position_from, AllByRecursion}
+use Rattle.std.specs.List.{position_from, list_any, AllByRecursion}
+use Rattle.std.proofs.lemmas.List.Folds.{list_any_more}
 use Rattle.fy_locality.specs.declared.locality.Locality.{Locality}
 use Rattle.fy_policy.specs.Tree.{Tree, IsPolicy}
 use Rattle.fy_policy.specs.Sat.{Sat, satisfies}
-use Rattle.fy_kinds.specs.Kinds.{Deed, has}
+use Rattle.fy_kinds.specs.declared.kind_set.KindSet.{KindSet}
+use Rattle.fy_kinds.specs.Kinds.{Deed, has, with_all}
 use Rattle.fy_grants.specs.declared.grant.Grant.{Grant}
-use Rattle.fy_grants.specs.Rights.{Rights, grants_of, protections_of, grant_count, with_grant}
+use Rattle.fy_grants.specs.Rights.{Rights, grants_of, protections_of, grant_count, with_grant, with_protection}
+use Rattle.fy_grants.specs.Changes.{ProtectedOne}
 use Rattle.fy_decide.specs.Losses.{everyone, first_unmet}
 use Rattle.std.specs.FinSet as sets
 use Rattle.std.specs.Ordering.{nat_cmp}
@@ -117,6 +120,53 @@ pub record ProtectedUpTo (old new : Rights) (protections : List Protection) (i :
   pub processes : length new.protections ≡ length old.protections
   pub grants : new.grants ≡ old.grants
   pub kinds : (p : ℕ) (deed : Deed) → has (protections_of new p) deed ≡ (some_protects (take i protections) p deed || has (protections_of old p) deed)
+
+or_swapped : (a b c : Bool) → ((a || b) || c) ≡ ((a || c) || b)
+or_swapped true b c = refl
+or_swapped false true true = refl
+or_swapped false true false = refl
+or_swapped false false true = refl
+or_swapped false false false = refl
+
+or_none : (a : Bool) → a ≡ (a || false)
+or_none true = refl
+or_none false = refl
+
+pub protected_next : ProtectedOne
+    → ((rights : Rights) (p : ℕ) (kinds : KindSet) → length (with_protection rights p kinds).protections ≡ length rights.protections)
+    → ((a b : KindSet) (d : Deed) → has (with_all a b) d ≡ (has a d || has b d))
+    → (old new next : Rights) (protections : List Protection) (i : ℕ) (it : Protection) → i < length protections → it ≡ get_or protections i it → it.process.0 < length old.protections
+    → next ≡ with_protection new it.process.0 (with_all (protections_of new it.process.0) it.kinds)
+    → ProtectedUpTo old new protections i → ProtectedUpTo old next protections (i + 1)
+protected_next one processes either old new next protections i it within is known added k = rw added (record {
+  processes = processes new it.process.0 _ ∙ k.processes;
+  grants = k.grants;
+  kinds = λ p deed. ap (λ kinds. has kinds deed) (one new it.process.0 p (with_all (protections_of new it.process.0) it.kinds) there) ∙ at p deed (it.process.0 == p) refl;
+})
+  where
+    there : it.process.0 < length new.protections
+    there = let same = k.processes in omega arith
+
+    of : ℕ → Deed → Protection → Bool
+    of p deed it = it.process.0 == p && has it.kinds deed
+
+    more : (p : ℕ) (deed : Deed) (b : Bool) → (it.process.0 == p) ≡ b → (list_any (of p deed) (take i protections) || (b && has it.kinds deed)) ≡ list_any (of p deed) (take (i + 1) protections)
+    more p deed b e = sym (
+        list_any_more (of p deed) protections i it within
+        ∙ ap (λ (j : Protection). list_any (of p deed) (take i protections) || of p deed j) (sym is)
+        ∙ ap (λ t. list_any (of p deed) (take i protections) || (t && has it.kinds deed)) e)
+
+    at : (p : ℕ) (deed : Deed) (b : Bool) → (it.process.0 == p) ≡ b
+        → has (if b then with_all (protections_of new it.process.0) it.kinds else protections_of new p) deed ≡ (list_any (of p deed) (take (i + 1) protections) || has (protections_of old p) deed)
+    at p deed true e =
+        either (protections_of new it.process.0) it.kinds deed
+        ∙ ap (λ q. has (protections_of new q) deed || has it.kinds deed) (eqb-true it.process.0 p e)
+        ∙ ap (λ t. t || has it.kinds deed) (k.kinds p deed)
+        ∙ or_swapped (list_any (of p deed) (take i protections)) (has (protections_of old p) deed) (has it.kinds deed)
+        ∙ ap (λ t. t || has (protections_of old p) deed) (more p deed true e)
+    at p deed false e =
+        k.kinds p deed
+        ∙ ap (λ t. t || has (protections_of old p) deed) (or_none (list_any (of p deed) (take i protections)) ∙ more p deed false e)
 
 -- ---- the cluster
 

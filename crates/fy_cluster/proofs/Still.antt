@@ -3,7 +3,7 @@ use Rattle.std.proofs.Common.{◌==◌, ◌≡◌, ℕ, Bool, true, false, ◌&&
 use Rattle.std.specs.Prelude.{option_and_then}
 use Rattle.std.proofs.lemmas.Bool.{or_from}
 use Rattle.fy_kinds.specs.declared.kind.Kind.{Kind}
-use Rattle.fy_kinds.specs.Kinds.{is_destroying}
+use Rattle.fy_kinds.specs.Kinds.{is_destroying, destroys_for_good}
 use Rattle.fy_kinds.specs.declared.kind_set.KindSet.{KindSet}
 use Rattle.fy_kinds.specs.declared.order.Target.{Target}
 use Rattle.fy_grants.specs.declared.grant.Grant.{Grant}
@@ -19,7 +19,7 @@ use Rattle.fy_cluster.specs.declared.machine.Machine.{Machine}
 use Rattle.std.specs.Ordering.{nat_cmp}
 use Rattle.std.specs.FinSet as sets
 use Rattle.fy_cluster.specs.Setup.{Setup}
-use Rattle.fy_cluster.specs.History.{History, Moment, BegunRecord, some_is, struck_by, delivers, loses, store_to, word_of, is_stored, clogs, unclogs, forms, begins, syncs, ups, ticks, gives, takes, protects, unprotects, strikes, is_killing, is_closing, closes, writes, destroyed, gone, up, unsynced, sent, takes_out, now, marks, marked, teams, records}
+use Rattle.fy_cluster.specs.History.{History, Moment, BegunRecord, some_is, struck_by, delivers, loses, store_to, word_of, is_stored, clogs, unclogs, forms, begins, syncs, ups, ticks, gives, takes, protects, unprotects, strikes, is_closing, closes, writes, destroyed, gone, up, unsynced, sent, takes_out, now, marks, marked, teams, records}
 use Rattle.fy_cluster.specs.Rules.{grants, is_protected, with_given, without_taken, changes}
 use Rattle.fy_cluster.specs.Standing.{Stands, Turn, moment_of, following, KeepsDead, KeepsRights, KeepsDisks, KeepsUp, KeepsNet, KeepsTeams, stored}
 use Rattle.fy_cluster.proofs.DiskSteps.{synced_else, unsynced_else, own}
@@ -33,7 +33,7 @@ dead_still c m h book none k = record {
   policies = k.policies;
   few = k.few;
   destroyed = λ p. k.destroyed p ∙ sym (ap (λ o. some_is is_destroying o || destroyed h p) (none p));
-  left = λ p. k.left p ∙ sym (ap (λ o. nat_lt p (length c.processes) && not (some_is is_killing o || gone h p)) (none p));
+  left = λ p. k.left p ∙ sym (ap (λ o. nat_lt p (length c.processes) && not (some_is destroys_for_good o || gone h p)) (none p));
 }
 
 pub up_still : (c : Setup) (m : Moment) (h : History) (set : sets.FinSet nat_cmp) → ((p : ℕ) → strikes m p ≡ None) → ups m.entry.act m.entry.reply ≡ None → KeepsUp c h set → KeepsUp c (m ∷ h) set

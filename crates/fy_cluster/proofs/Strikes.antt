@@ -9,7 +9,7 @@ use Rattle.fy_kinds.specs.declared.kind.Kind.{Kind}
 use Rattle.fy_kinds.specs.declared.kind.Kind.TheVariants.{RebootProcess, Reboot, RebootAndDelete, KillInstantly}
 use Rattle.fy_kinds.specs.declared.verdict.Verdict.{Verdict}
 use Rattle.fy_kinds.specs.Orders.{Order}
-use Rattle.fy_kinds.specs.Kinds.{is_destroying}
+use Rattle.fy_kinds.specs.Kinds.{is_destroying, destroys_for_good}
 use Rattle.fy_decide.specs.declared.dead_book.Loss.{Loss}
 use Rattle.fy_decide.specs.declared.dead_book.Loss.TheVariants.{Emptied, Gone}
 use Rattle.fy_decide.specs.Losses.{AreShort, AreSatisfied, MayDestroy, with_set, without_set, everyone}
@@ -21,7 +21,7 @@ use Rattle.fy_audit.specs.declared.reply.Reply.TheVariants.{Verdict as Verdicted
 use Rattle.fy_audit.specs.declared.reply.Refusal.{Refusal}
 use Rattle.fy_audit.specs.declared.entry.Entry.{Entry}
 use Rattle.fy_cluster.specs.Setup.{Setup, IsMet}
-use Rattle.fy_cluster.specs.History.{History, Moment, moment, history, is_accepted, struck_by, some_is, is_killing, strikes, destroyed, gone, left, targets_of}
+use Rattle.fy_cluster.specs.History.{History, Moment, moment, history, is_accepted, struck_by, some_is, strikes, destroyed, gone, left, targets_of}
 use Rattle.fy_cluster.specs.Rules.{situation}
 use Rattle.fy_cluster.specs.Replies.{refused, reasons, answer, reply, IsNext, Legal}
 use Rattle.fy_cluster.proofs.Journals.{kept_after}
@@ -122,7 +122,7 @@ short_by processes policies destroyed left s Reboot is may = absurd (false≢tru
 short_by processes policies destroyed left s RebootAndDelete is may = may Emptied refl
 short_by processes policies destroyed left s KillInstantly is may = (may Gone refl).0
 
-satisfied_by : (processes : List Locality) (policies : List Tree) (destroyed left s : ℕ → Bool) (kind : Kind) → is_killing kind ≡ true → ((loss : Loss) → loss_of kind ≡ Some loss → MayDestroy processes policies destroyed left s loss) → AreSatisfied processes policies (without_set left s)
+satisfied_by : (processes : List Locality) (policies : List Tree) (destroyed left s : ℕ → Bool) (kind : Kind) → destroys_for_good kind ≡ true → ((loss : Loss) → loss_of kind ≡ Some loss → MayDestroy processes policies destroyed left s loss) → AreSatisfied processes policies (without_set left s)
 satisfied_by processes policies destroyed left s RebootProcess is may = absurd (false≢true is)
 satisfied_by processes policies destroyed left s Reboot is may = absurd (false≢true is)
 satisfied_by processes policies destroyed left s RebootAndDelete is may = absurd (false≢true is)
@@ -146,18 +146,18 @@ not_either false b f n = n
 
 -- those left still satisfy
 left_next : More → May → (c : Setup) (h : History) (e : Entry) → IsNext c h e → AreSatisfied c.processes c.policies (left c h) → AreSatisfied c.processes c.policies (left c (moment c h e ∷ h))
-left_next more may c h e next before = at (some_is is_killing (struck_by e.act e.reply)) refl
+left_next more may c h e next before = at (some_is destroys_for_good (struck_by e.act e.reply)) refl
   where
-    at : (b : Bool) → some_is is_killing (struck_by e.act e.reply) ≡ b → AreSatisfied c.processes c.policies (left c (moment c h e ∷ h))
+    at : (b : Bool) → some_is destroys_for_good (struck_by e.act e.reply) ≡ b → AreSatisfied c.processes c.policies (left c (moment c h e ∷ h))
     at false f = satisfied_more more c.processes c.policies (left c h) _ (λ p l. let both = and_parts (nat_lt p (length c.processes)) (not (gone h p)) l in
-        and_from _ _ both.0 (not_either _ (gone h p) (struck_none c h e is_killing f p) both.1)) before
+        and_from _ _ both.0 (not_either _ (gone h p) (struck_none c h e destroys_for_good f p) both.1)) before
     at true t =
-        let s = struck c h e next is_killing t in
+        let s = struck c h e next destroys_for_good t in
         satisfied_more more c.processes c.policies (without_set (left c h) (targets c.processes (left c h) s.order.target)) _
         (λ p l.
         let spared = and_parts (left c h p) (not (targets c.processes (left c h) s.order.target p)) l in
         let both = and_parts (nat_lt p (length c.processes)) (not (gone h p)) spared.0 in
-        and_from _ _ both.0 (not_either _ (gone h p) (λ k. both_ways _ (not-true _ spared.1) (only_targets c h e s.order s.act is_killing p k)) both.1))
+        and_from _ _ both.0 (not_either _ (gone h p) (λ k. both_ways _ (not-true _ spared.1) (only_targets c h e s.order s.act destroys_for_good p k)) both.1))
         (satisfied_by c.processes c.policies (destroyed h) (left c h) _ s.kind s.is (λ loss brings. may (situation c h e.by) s.order s.kind loss s.strikes brings))
 
 -- ---- whole journals

@@ -9,7 +9,7 @@ use Rattle.fy_kinds.specs.declared.kind.Kind.{Kind}
 use Rattle.fy_kinds.specs.declared.kind.Kind.TheVariants.{RebootProcess}
 use Rattle.fy_kinds.specs.declared.kind_set.KindSet.{KindSet}
 use Rattle.fy_kinds.specs.declared.order.Target.{Target}
-use Rattle.fy_kinds.specs.Kinds.{is_destroying, Striking}
+use Rattle.fy_kinds.specs.Kinds.{is_destroying, destroys_for_good}
 use Rattle.fy_grants.specs.declared.grant.Grant.{Grant}
 use Rattle.fy_disk.specs.declared.item.Item.{Item}
 use Rattle.fy_disk.specs.Disk.{outlives}
@@ -18,7 +18,7 @@ use Rattle.fy_net.specs.declared.message.Body.TheVariants.{Store, Synced}
 use Rattle.fy_grants.specs.Least.{least_with}
 use Rattle.fy_net.specs.declared.limits.TheConstants.{LAST_TICK}
 use Rattle.fy_team.specs.Teams.{Team, is_among}
-use Rattle.fy_decide.specs.Verdicts.{targets, destroys_for_good}
+use Rattle.fy_decide.specs.Verdicts.{targets}
 use Rattle.fy_audit.specs.declared.act.Act.{Act}
 use Rattle.fy_audit.specs.declared.act.Act.TheVariants.{Kill, Clog, Unclog, Form, Begin, Deliver, Lose, Resend, Sync, Up, Tick, Give, Take, Protect, Unprotect}
 use Rattle.fy_audit.specs.declared.reply.Reply.{Reply}
@@ -142,10 +142,6 @@ some_is test (Some x) = test x
 
 -- ---- strikes
 
--- the kind that leaves nobody to come back
-abbrev pub is_killing : Kind → Bool
-is_killing kind = destroys_for_good (Striking kind)
-
 -- Reboot or a destroying kind: it decides what becomes of unsynced writes
 abbrev pub is_closing : Kind → Bool
 is_closing RebootProcess = false
@@ -165,7 +161,7 @@ destroyed h p = list_any (λ m. destroys m p) h
 
 -- some entry struck it by the kind that leaves nobody to come back
 abbrev pub gone : History → ProcessSet
-gone h p = list_any (λ m. some_is is_killing (strikes m p)) h
+gone h p = list_any (λ m. some_is destroys_for_good (strikes m p)) h
 
 -- the processes that are not gone, emptied ones too
 abbrev pub left : Setup → History → ProcessSet
@@ -293,12 +289,8 @@ now (m ∷ h) = now h + unwrap_or (ticks m.entry.act m.entry.reply) 0
 
 -- the clog of the entry, made at the time n, holds the process at the time t
 abbrev pub holds : Moment → ℕ → ℕ → ℕ → Bool
-<<<<<<< HEAD
 holds m n t p =
-    some_is (λ k. m.targets p && nat_lt t (min (n + k) (2 ^ 40))) (clogs m.entry.act m.entry.reply)
-=======
-holds m n t p = some_is (λ k. m.targets p && nat_lt t (min (n + k) LAST_TICK)) (clogs m.entry.act m.entry.reply)
->>>>>>> 9f874b9db6aa151cb16cf136ac879caa6c98dc31
+    some_is (λ k. m.targets p && nat_lt t (min (n + k) LAST_TICK)) (clogs m.entry.act m.entry.reply)
 
 -- some clog holds it, after which it was not unclogged
 abbrev pub clogged_at : ℕ → History → ProcessSet

@@ -2,6 +2,7 @@
 use Rattle.std.specs.Prelude.{◌≡◌, ℕ, ◌+◌, ◌^◌, ◌≤◌, Bool, true, false, ◌||◌, not, List, [], ◌∷◌, length, nat_lt, nat_le, ◌==◌, slice_get, sum_by}
 use Rattle.std.specs.List.{list_any, list_all, range_with_len}
 use Rattle.std.specs.Option.{option_map_or}
+use Rattle.fy_grants.specs.declared.book.TheConstants.{MOST_GRANTS}
 use Rattle.fy_policy.specs.Sat.{satisfies}
 use Rattle.fy_kinds.specs.Kinds.{Clogging}
 use Rattle.fy_team.specs.Teams.{is_among}
@@ -139,7 +140,7 @@ refusals c h (Up process) =
 refusals c h (Tick n) = (nat_lt LAST_TICK (now h + n), ClockEnd) ∷ []
 refusals c h (Give grant) =
     (no_actor c grant.actor, NoActor)
-    ∷ (nat_le 4096 (grant_count c h), Full)
+    ∷ (nat_le MOST_GRANTS (grant_count c h), Full)
     ∷ []
 refusals c h (Take actor index) =
     (no_actor c actor, NoActor)

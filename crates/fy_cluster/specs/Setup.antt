@@ -6,6 +6,7 @@ use Rattle.fy_locality.specs.declared.locality.Locality.{Locality}
 use Rattle.fy_policy.specs.Tree.{Tree, IsPolicy}
 use Rattle.fy_policy.specs.Sat.{Sat}
 use Rattle.fy_grants.specs.declared.grant.Grant.{Grant}
+use Rattle.fy_grants.specs.declared.book.TheConstants.{MOST_GRANTS}
 use Rattle.fy_decide.specs.Losses.{everyone, first_unmet}
 use Rattle.fy_cluster.specs.declared.role.Role.{Role}
 use Rattle.fy_cluster.specs.declared.config.Protection.{Protection}
@@ -49,7 +50,7 @@ abbrev pub is_in_range : Setup → Bool
 is_in_range c =
     is_between 1 8 (length c.policies)
     && is_between 1 64 (length c.roles)
-    && nat_le (length c.grants) 4096
+    && nat_le (length c.grants) MOST_GRANTS
     && list_all (λ grant. nat_lt grant.actor (length c.roles)) c.grants
     && list_all (λ protection. nat_lt protection.process.0 (length c.processes)) c.protections
     && is_between 1 1048576 c.limit

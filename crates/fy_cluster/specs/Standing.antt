@@ -10,9 +10,7 @@ use Rattle.fy_kinds.specs.declared.order.Target.{Target}
 use Rattle.fy_kinds.specs.declared.verdict.Rule.{Rule}
 use Rattle.fy_kinds.specs.Kinds.{Deed, Clogging, has}
 use Rattle.fy_grants.specs.Rights.{Rights, grants_of, protections_of}
-use Rattle.fy_decide.specs.declared.dead_book.Loss.{Loss}
 use Rattle.fy_decide.specs.DeadBook.{Casualties, struck}
-use Rattle.fy_decide.specs.Losses.{MayDestroy}
 use Rattle.fy_decide.specs.Verdicts.{situation_of, targets, bar, loss_of}
 use Rattle.fy_disk.specs.declared.item.Item.{Item}
 use Rattle.fy_disk.specs.Disk.{Stored, survivors}
@@ -43,22 +41,16 @@ use Rattle.fy_cluster.specs.Replies.{refusals, answer, reply, refused, Legal}
 -- ---- the parts
 
 -- who was destroyed, who is left, and who is gone: nobody but processes
-pub record KeepsDead (c : Setup) (h : History) (book : Casualties) : Type 0 where
-  pub processes : book.processes ≡ c.processes
-  pub policies : book.policies ≡ c.policies
+pub record KeepsDead (c : Setup) (h : History) (dead : Casualties) : Type 0 where
+  pub processes : dead.processes ≡ c.processes
+  pub policies : dead.policies ≡ c.policies
   pub few : length c.processes ≤ 1024
-  pub destroyed : (p : ℕ) → sets.contains book.destroyed p ≡ destroyed h p
-  pub left : (p : ℕ) → sets.contains book.left p ≡ left c h p
+  pub destroyed : (p : ℕ) → sets.contains dead.destroyed p ≡ destroyed h p
+  pub left : (p : ℕ) → sets.contains dead.left p ≡ left c h p
 
--- the policies bear the loss of a set, by the book
-abbrev pub MayLose : Casualties → (ℕ → Bool) → Loss → Type 0
-MayLose book set loss =
-    MayDestroy book.processes book.policies (sets.contains book.destroyed)
-    (sets.contains book.left) set loss
-
--- the book with a set taken down as lost, where the kind destroys
+-- the dead book with a set taken down as lost, where the kind destroys
 abbrev pub buried : Casualties → sets.FinSet nat_cmp → Kind → Casualties
-buried book set kind = option_map_or (λ loss. struck book set loss) (loss_of kind) book
+buried dead set kind = option_map_or (λ loss. struck dead set loss) (loss_of kind) dead
 
 -- the grants of each actor, and what each process is protected from
 pub record KeepsRights (c : Setup) (h : History) (rights : Rights) : Type 0 where

@@ -5,7 +5,7 @@ ghost use Rattle.fy_cluster.specs.Setup.{setup_of, is_in_range, config_refusal, 
 
 use crate::Role;
 use fy_decide::first_unmet;
-use fy_grants::Grant;
+use fy_grants::{Grant, MOST_GRANTS};
 use fy_kinds::KindSet;
 use fy_locality::{Map, ProcId};
 use fy_policy::{Policy, try_copy_all};
@@ -16,8 +16,6 @@ use std::marker::Model;
 const MOST_POLICIES: usize = 8;
 /// How many actors there may be, from 1.
 const MOST_ACTORS: usize = 64;
-/// How many grants there may be in all.
-const MOST_GRANTS: usize = 4096;
 /// How many entries a journal may have, from 1.
 const MOST_ENTRIES: u32 = 1_048_576;
 

@@ -4,7 +4,8 @@ ghost use Rattle.std.specs.FinSet as sets;
 ghost use Rattle.fy_decide.specs.declared.dead_book.Loss.{Loss};
 ghost use Rattle.fy_decide.specs.Verdicts.{loss_of};
 ghost use Rattle.fy_audit.specs.declared.act.Act.TheVariants.{Kill};
-ghost use Rattle.fy_cluster.specs.Standing.{Turn, Stands, Follows, MayLose, buried, ChangesAt, left_on, blank_disk};
+ghost use Rattle.fy_decide.specs.DeadBook.{MayLose};
+ghost use Rattle.fy_cluster.specs.Standing.{Turn, Stands, Follows, buried, ChangesAt, left_on, blank_disk};
 
 use crate::machine::Machine;
 use fy_audit::Reply;

@@ -2,6 +2,7 @@
 ghost use Rattle.std.specs.Prelude.{◌≡◌, ◌≤◌, ◌<◌, ◌+◌, ◌++◌, ◌==◌, ◌&&◌, ◌||◌, ℕ, [], length, filter, replicate, IfOk, OnOk};
 ghost use Rattle.std.specs.List.{All, list_any};
 ghost use Rattle.fy_kinds.specs.Kinds.{Deed, has};
+ghost use Rattle.fy_grants.specs.declared.book.TheConstants.{MOST_GRANTS};
 ghost use Rattle.fy_grants.specs.Rights.{grants_of, protections_of, grant_count};
 ghost use Rattle.fy_decide.specs.DeadBook.{IsFresh};
 ghost use Rattle.fy_net.specs.Net.{quiet};
@@ -34,7 +35,7 @@ fn nobody_destroyed(alloc: Global, config: &Config) -> Result<DeadBook, AllocErr
 /// Gives one grant after another.
 fn give_all(book: &mut Book, grants: &[Grant]) -> Result<(), AllocError>
     requires actors { All (λ grant. grant.actor < length book.old.grants) grants.now }
-    requires few { grant_count book.old + length grants.now ≤ 4096 }
+    requires few { grant_count book.old + length grants.now ≤ MOST_GRANTS }
     ensures given { OnOk result ((a : ℕ) →
         grants_of book.new a ≡ grants_of book.old a ++ grants_to a grants.now) }
     ensures actors { length book.new.grants ≡ length book.old.grants }

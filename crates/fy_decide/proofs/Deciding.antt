@@ -20,85 +20,85 @@ pub difference_is : (s t : sets.FinSet nat_cmp) → sets.contains (sets.differen
 difference_is s t = λ i p. sets.contains-difference nat_cmp_total s t p i
 
 abbrev May : Casualties → sets.FinSet nat_cmp → Loss → Type 0
-May book s loss = MayDestroy book.processes book.policies (sets.contains book.destroyed) (sets.contains book.left) (sets.contains s) loss
+May dead s loss = MayDestroy dead.processes dead.policies (sets.contains dead.destroyed) (sets.contains dead.left) (sets.contains s) loss
 
 abbrev may : Casualties → sets.FinSet nat_cmp → Loss → Bool
-may book s loss = may_destroy book.processes book.policies (sets.contains book.destroyed) (sets.contains book.left) (sets.contains s) loss
+may dead s loss = may_destroy dead.processes dead.policies (sets.contains dead.destroyed) (sets.contains dead.left) (sets.contains s) loss
 
 abbrev Short : Casualties → sets.FinSet nat_cmp → Type 0
-Short book s = AreShort book.processes book.policies (sets.contains (sets.union book.destroyed s))
+Short dead s = AreShort dead.processes dead.policies (sets.contains (sets.union dead.destroyed s))
 
 abbrev Enough : Casualties → sets.FinSet nat_cmp → Type 0
-Enough book s = AreSatisfied book.processes book.policies (sets.contains (sets.difference book.left s))
+Enough dead s = AreSatisfied dead.processes dead.policies (sets.contains (sets.difference dead.left s))
 
-module _ (book : Casualties) (s : sets.FinSet nat_cmp) where
-  short : Short book s → AreShort book.processes book.policies (with_set (sets.contains book.destroyed) (sets.contains s))
-  short = subst (λ t. AreShort book.processes book.policies t) (union_is book.destroyed s)
+module _ (dead : Casualties) (s : sets.FinSet nat_cmp) where
+  short : Short dead s → AreShort dead.processes dead.policies (with_set (sets.contains dead.destroyed) (sets.contains s))
+  short = subst (λ t. AreShort dead.processes dead.policies t) (union_is dead.destroyed s)
 
-  short_back : AreShort book.processes book.policies (with_set (sets.contains book.destroyed) (sets.contains s)) → Short book s
-  short_back = subst (λ t. AreShort book.processes book.policies t) (sym (union_is book.destroyed s))
+  short_back : AreShort dead.processes dead.policies (with_set (sets.contains dead.destroyed) (sets.contains s)) → Short dead s
+  short_back = subst (λ t. AreShort dead.processes dead.policies t) (sym (union_is dead.destroyed s))
 
-  enough : Enough book s → AreSatisfied book.processes book.policies (without_set (sets.contains book.left) (sets.contains s))
-  enough = subst (λ t. AreSatisfied book.processes book.policies t) (difference_is book.left s)
+  enough : Enough dead s → AreSatisfied dead.processes dead.policies (without_set (sets.contains dead.left) (sets.contains s))
+  enough = subst (λ t. AreSatisfied dead.processes dead.policies t) (difference_is dead.left s)
 
-  enough_back : AreSatisfied book.processes book.policies (without_set (sets.contains book.left) (sets.contains s)) → Enough book s
-  enough_back = subst (λ t. AreSatisfied book.processes book.policies t) (sym (difference_is book.left s))
+  enough_back : AreSatisfied dead.processes dead.policies (without_set (sets.contains dead.left) (sets.contains s)) → Enough dead s
+  enough_back = subst (λ t. AreSatisfied dead.processes dead.policies t) (sym (difference_is dead.left s))
 
   -- what the code tests, of its own copies of these
-  pub as_short : (policies : List Tree) (u : sets.FinSet nat_cmp) (b : Bool) → policies ≡ book.policies → u ≡ sets.union book.destroyed s → (b ≡ true) ↔ AreShort book.processes policies (sets.contains u) → (b ≡ true) ↔ Short book s
-  as_short policies u b e f law = subst (λ t. (b ≡ true) ↔ AreShort book.processes book.policies (sets.contains t)) f (subst (λ qs. (b ≡ true) ↔ AreShort book.processes qs (sets.contains u)) e law)
+  pub as_short : (policies : List Tree) (u : sets.FinSet nat_cmp) (b : Bool) → policies ≡ dead.policies → u ≡ sets.union dead.destroyed s → (b ≡ true) ↔ AreShort dead.processes policies (sets.contains u) → (b ≡ true) ↔ Short dead s
+  as_short policies u b e f law = subst (λ t. (b ≡ true) ↔ AreShort dead.processes dead.policies (sets.contains t)) f (subst (λ qs. (b ≡ true) ↔ AreShort dead.processes qs (sets.contains u)) e law)
 
-  pub as_short_test : (policies : List Tree) (u : sets.FinSet nat_cmp) (b : Bool) → policies ≡ book.policies → u ≡ sets.union book.destroyed s → b ≡ all_short book.processes policies (sets.contains u) → b ≡ all_short book.processes book.policies (sets.contains (sets.union book.destroyed s))
-  as_short_test policies u b e f law = law ∙ ap (λ qs. all_short book.processes qs (sets.contains u)) e ∙ ap (λ t. all_short book.processes book.policies (sets.contains t)) f
+  pub as_short_test : (policies : List Tree) (u : sets.FinSet nat_cmp) (b : Bool) → policies ≡ dead.policies → u ≡ sets.union dead.destroyed s → b ≡ all_short dead.processes policies (sets.contains u) → b ≡ all_short dead.processes dead.policies (sets.contains (sets.union dead.destroyed s))
+  as_short_test policies u b e f law = law ∙ ap (λ qs. all_short dead.processes qs (sets.contains u)) e ∙ ap (λ t. all_short dead.processes dead.policies (sets.contains t)) f
 
-  pub as_enough : (policies : List Tree) (u : sets.FinSet nat_cmp) (b : Bool) → policies ≡ book.policies → u ≡ sets.difference book.left s → (b ≡ true) ↔ AreSatisfied book.processes policies (sets.contains u) → (b ≡ true) ↔ Enough book s
-  as_enough policies u b e f law = subst (λ t. (b ≡ true) ↔ AreSatisfied book.processes book.policies (sets.contains t)) f (subst (λ qs. (b ≡ true) ↔ AreSatisfied book.processes qs (sets.contains u)) e law)
+  pub as_enough : (policies : List Tree) (u : sets.FinSet nat_cmp) (b : Bool) → policies ≡ dead.policies → u ≡ sets.difference dead.left s → (b ≡ true) ↔ AreSatisfied dead.processes policies (sets.contains u) → (b ≡ true) ↔ Enough dead s
+  as_enough policies u b e f law = subst (λ t. (b ≡ true) ↔ AreSatisfied dead.processes dead.policies (sets.contains t)) f (subst (λ qs. (b ≡ true) ↔ AreSatisfied dead.processes qs (sets.contains u)) e law)
 
-  pub as_enough_test : (policies : List Tree) (u : sets.FinSet nat_cmp) (b : Bool) → policies ≡ book.policies → u ≡ sets.difference book.left s → b ≡ all_satisfied book.processes policies (sets.contains u) → b ≡ all_satisfied book.processes book.policies (sets.contains (sets.difference book.left s))
-  as_enough_test policies u b e f law = law ∙ ap (λ qs. all_satisfied book.processes qs (sets.contains u)) e ∙ ap (λ t. all_satisfied book.processes book.policies (sets.contains t)) f
+  pub as_enough_test : (policies : List Tree) (u : sets.FinSet nat_cmp) (b : Bool) → policies ≡ dead.policies → u ≡ sets.difference dead.left s → b ≡ all_satisfied dead.processes policies (sets.contains u) → b ≡ all_satisfied dead.processes dead.policies (sets.contains (sets.difference dead.left s))
+  as_enough_test policies u b e f law = law ∙ ap (λ qs. all_satisfied dead.processes qs (sets.contains u)) e ∙ ap (λ t. all_satisfied dead.processes dead.policies (sets.contains t)) f
 
   -- not short
-  pub refused : (loss : Loss) (b : Bool) → b ≡ false → (b ≡ true) ↔ Short book s → (false ≡ true) ↔ May book s loss
+  pub refused : (loss : Loss) (b : Bool) → b ≡ false → (b ≡ true) ↔ Short dead s → (false ≡ true) ↔ May dead s loss
   refused loss b fails law = (λ e. absurd (true≢false (sym e)), λ m. absurd (true≢false (sym (law.1 (short_back (first loss m))) ∙ fails)))
     where
-      first : (loss : Loss) → May book s loss → AreShort book.processes book.policies (with_set (sets.contains book.destroyed) (sets.contains s))
+      first : (loss : Loss) → May dead s loss → AreShort dead.processes dead.policies (with_set (sets.contains dead.destroyed) (sets.contains s))
       first Emptied m = m
       first Gone m = m.0
 
-  pub refused_test : (loss : Loss) (b : Bool) → b ≡ false → b ≡ all_short book.processes book.policies (sets.contains (sets.union book.destroyed s)) → false ≡ may book s loss
+  pub refused_test : (loss : Loss) (b : Bool) → b ≡ false → b ≡ all_short dead.processes dead.policies (sets.contains (sets.union dead.destroyed s)) → false ≡ may dead s loss
   refused_test loss b off is = go loss
     where
-      fails : all_short book.processes book.policies (with_set (sets.contains book.destroyed) (sets.contains s)) ≡ false
-      fails = ap (λ t. all_short book.processes book.policies t) (sym (union_is book.destroyed s)) ∙ sym is ∙ off
+      fails : all_short dead.processes dead.policies (with_set (sets.contains dead.destroyed) (sets.contains s)) ≡ false
+      fails = ap (λ t. all_short dead.processes dead.policies t) (sym (union_is dead.destroyed s)) ∙ sym is ∙ off
 
-      go : (loss : Loss) → false ≡ may book s loss
+      go : (loss : Loss) → false ≡ may dead s loss
       go Emptied = sym fails
-      go Gone = sym (ap (λ b. b && all_satisfied book.processes book.policies (without_set (sets.contains book.left) (sets.contains s))) fails)
+      go Gone = sym (ap (λ b. b && all_satisfied dead.processes dead.policies (without_set (sets.contains dead.left) (sets.contains s))) fails)
 
   -- short, and emptied
-  pub emptied : (loss : Loss) (b : Bool) → loss ≡ Emptied → b ≡ true → (b ≡ true) ↔ Short book s → (true ≡ true) ↔ May book s loss
-  emptied loss b is on law = (λ _. subst (May book s) (sym is) (short (law.0 on)), λ _. refl)
+  pub emptied : (loss : Loss) (b : Bool) → loss ≡ Emptied → b ≡ true → (b ≡ true) ↔ Short dead s → (true ≡ true) ↔ May dead s loss
+  emptied loss b is on law = (λ _. subst (May dead s) (sym is) (short (law.0 on)), λ _. refl)
 
-  pub emptied_test : (loss : Loss) (b : Bool) → loss ≡ Emptied → b ≡ true → b ≡ all_short book.processes book.policies (sets.contains (sets.union book.destroyed s)) → true ≡ may book s loss
-  emptied_test loss b is on test = sym (ap (may book s) is ∙ ap (λ t. all_short book.processes book.policies t) (sym (union_is book.destroyed s)) ∙ sym test ∙ on)
+  pub emptied_test : (loss : Loss) (b : Bool) → loss ≡ Emptied → b ≡ true → b ≡ all_short dead.processes dead.policies (sets.contains (sets.union dead.destroyed s)) → true ≡ may dead s loss
+  emptied_test loss b is on test = sym (ap (may dead s) is ∙ ap (λ t. all_short dead.processes dead.policies t) (sym (union_is dead.destroyed s)) ∙ sym test ∙ on)
 
   -- short, and gone
-  pub gone : (loss : Loss) (b r : Bool) → loss ≡ Gone → b ≡ true → (b ≡ true) ↔ Short book s → (r ≡ true) ↔ Enough book s → (r ≡ true) ↔ May book s loss
-  gone loss b r is on law left = (λ e. subst (May book s) (sym is) (short (law.0 on), enough (left.0 e)), λ m. left.1 (enough_back (subst (May book s) is m).1))
+  pub gone : (loss : Loss) (b r : Bool) → loss ≡ Gone → b ≡ true → (b ≡ true) ↔ Short dead s → (r ≡ true) ↔ Enough dead s → (r ≡ true) ↔ May dead s loss
+  gone loss b r is on law left = (λ e. subst (May dead s) (sym is) (short (law.0 on), enough (left.0 e)), λ m. left.1 (enough_back (subst (May dead s) is m).1))
 
-  pub gone_test : (loss : Loss) (b r : Bool) → loss ≡ Gone → b ≡ true → b ≡ all_short book.processes book.policies (sets.contains (sets.union book.destroyed s)) → r ≡ all_satisfied book.processes book.policies (sets.contains (sets.difference book.left s)) → r ≡ may book s loss
+  pub gone_test : (loss : Loss) (b r : Bool) → loss ≡ Gone → b ≡ true → b ≡ all_short dead.processes dead.policies (sets.contains (sets.union dead.destroyed s)) → r ≡ all_satisfied dead.processes dead.policies (sets.contains (sets.difference dead.left s)) → r ≡ may dead s loss
   gone_test loss b r is on test left =
       left
-      ∙ ap (λ t. all_satisfied book.processes book.policies t) (difference_is book.left s)
-      ∙ sym (ap (λ b. b && all_satisfied book.processes book.policies (without_set (sets.contains book.left) (sets.contains s))) (ap (λ t. all_short book.processes book.policies t) (sym (union_is book.destroyed s)) ∙ sym test ∙ on))
-      ∙ sym (ap (may book s) is)
+      ∙ ap (λ t. all_satisfied dead.processes dead.policies t) (difference_is dead.left s)
+      ∙ sym (ap (λ b. b && all_satisfied dead.processes dead.policies (without_set (sets.contains dead.left) (sets.contains s))) (ap (λ t. all_short dead.processes dead.policies t) (sym (union_is dead.destroyed s)) ∙ sym test ∙ on))
+      ∙ sym (ap (may dead s) is)
 
-  -- a strike keeps the book safe
-  pub IsSafe-emptied : (loss : Loss) → loss ≡ Emptied → IsSafe book → May book s loss → IsSafe (record book { destroyed = sets.union book.destroyed s })
-  IsSafe-emptied loss is safe m = record { short = short_back (subst (May book s) is m); satisfied = safe.satisfied }
+  -- a strike keeps a dead book safe
+  pub IsSafe-emptied : (loss : Loss) → loss ≡ Emptied → IsSafe dead → May dead s loss → IsSafe (record dead { destroyed = sets.union dead.destroyed s })
+  IsSafe-emptied loss is safe m = record { short = short_back (subst (May dead s) is m); satisfied = safe.satisfied }
 
-  pub IsSafe-gone : (loss : Loss) → loss ≡ Gone → May book s loss → IsSafe (record book { destroyed = sets.union book.destroyed s; left = sets.difference book.left s })
-  IsSafe-gone loss is m = let both : May book s Gone = subst (May book s) is m in record { short = short_back both.0; satisfied = enough_back both.1 }
+  pub IsSafe-gone : (loss : Loss) → loss ≡ Gone → May dead s loss → IsSafe (record dead { destroyed = sets.union dead.destroyed s; left = sets.difference dead.left s })
+  IsSafe-gone loss is m = let both : May dead s Gone = subst (May dead s) is m in record { short = short_back both.0; satisfied = enough_back both.1 }
 
 -- ---- what a search found
 pub none_found : {X : Type 0} (t : X → Bool) (i : ℕ) (xs : List X) → position_from t i xs ≡ None → AllByRecursion (λ x. t x ≡ false) xs
@@ -119,7 +119,7 @@ each_satisfied processes (q ∷ qs) s law h = ((law processes q s).0 (turned (sa
     turned true e = refl
     turned false e = absurd (true≢false e)
 
--- ---- a new book
+-- ---- a new dead book
 nobody_short : (processes : List Locality) (policies : List Tree) (s : ℕ → Bool)
     → ((processes : List Locality) (policy : Tree) (s : ℕ → Bool) → IsPolicy policy → ((p : ℕ) → s p ≡ false) → Sat processes policy s → ⊥)
     → ((p : ℕ) → s p ≡ false) → AllByRecursion (λ P. IsPolicy P × Sat processes P (everyone processes)) policies → AreShort processes policies s

@@ -1,10 +1,10 @@
 -- what a DeadBook is seen as
-use Rattle.std.specs.Prelude.{◌≡◌, ℕ, List}
+use Rattle.std.specs.Prelude.{◌≡◌, ℕ, Bool, List}
 use Rattle.std.specs.Ordering.{nat_cmp}
 use Rattle.std.specs.FinSet as sets
 use Rattle.fy_locality.specs.declared.locality.Locality.{Locality}
 use Rattle.fy_policy.specs.Tree.{Tree}
-use Rattle.fy_decide.specs.Losses.{AreShort, AreSatisfied, everyone}
+use Rattle.fy_decide.specs.Losses.{AreShort, AreSatisfied, MayDestroy, may_destroy, everyone}
 use Rattle.fy_decide.specs.declared.dead_book.Loss.{Loss}
 use Rattle.fy_decide.specs.declared.dead_book.Loss.TheVariants.{Emptied, Gone}
 
@@ -16,18 +16,34 @@ pub record Casualties : Type 0 where
   pub left : sets.FinSet nat_cmp
 
 -- the destroyed are short of every policy, and those left satisfy each
-pub record IsSafe (book : Casualties) : Type 0 where
-  pub short : AreShort book.processes book.policies (sets.contains book.destroyed)
-  pub satisfied : AreSatisfied book.processes book.policies (sets.contains book.left)
+pub record IsSafe (dead : Casualties) : Type 0 where
+  pub short : AreShort dead.processes dead.policies (sets.contains dead.destroyed)
+  pub satisfied : AreSatisfied dead.processes dead.policies (sets.contains dead.left)
 
 -- of these processes and policies, with nobody destroyed and everyone left
-pub record IsFresh (processes : List Locality) (policies : List Tree) (book : Casualties) : Type 0 where
-  pub processes_are : book.processes ≡ processes
-  pub policies_are : book.policies ≡ policies
-  pub none_destroyed : book.destroyed ≡ sets.empty
-  pub all_left : (q : ℕ) → sets.contains book.left q ≡ everyone processes q
+pub record IsFresh (processes : List Locality) (policies : List Tree) (dead : Casualties) : Type 0
+  where
+    pub processes_are : dead.processes ≡ processes
+    pub policies_are : dead.policies ≡ policies
+    pub none_destroyed : dead.destroyed ≡ sets.empty
+    pub all_left : (q : ℕ) → sets.contains dead.left q ≡ everyone processes q
 
--- the book after the loss of a set
+-- whether the policies bear the loss of a set, by a dead book
+abbrev pub MayLose : Casualties → (ℕ → Bool) → Loss → Type 0
+MayLose dead s loss =
+    MayDestroy dead.processes dead.policies
+    (sets.contains dead.destroyed) (sets.contains dead.left) s loss
+
+-- the same as a test
+abbrev pub may_lose : Casualties → (ℕ → Bool) → Loss → Bool
+may_lose dead s loss =
+    may_destroy dead.processes dead.policies
+    (sets.contains dead.destroyed) (sets.contains dead.left) s loss
+
+-- a dead book after the loss of a set
 abbrev pub struck : Casualties → sets.FinSet nat_cmp → Loss → Casualties
-struck book s Emptied = record book { destroyed = sets.union book.destroyed s }
-struck book s Gone = record book { destroyed = sets.union book.destroyed s; left = sets.difference book.left s }
+struck dead s Emptied = record dead { destroyed = sets.union dead.destroyed s }
+struck dead s Gone = record dead {
+  destroyed = sets.union dead.destroyed s;
+  left = sets.difference dead.left s;
+}

@@ -1,11 +1,8 @@
 //! Who was destroyed, who is left, and whether more may be destroyed.
-ghost use Rattle.std.specs.Prelude.{◌≡◌, ◌↔◌, ℕ, not, IsTrue, IfOk, IfErr, Some, None};
-ghost use Rattle.std.specs.List.{position, AllByRecursion};
+ghost use Rattle.std.specs.Prelude.{◌≡◌, ◌↔◌, ℕ, IsTrue, IfOk, IfErr, Some, None};
 ghost use Rattle.std.specs.FinSet as sets;
-ghost use Rattle.fy_policy.specs.Sat.{Sat, satisfies};
-ghost use Rattle.fy_policy.specs.Tree.{IsPolicy};
-ghost use Rattle.fy_decide.specs.Losses.{AreShort, AreSatisfied, all_short, all_satisfied, everyone, first_unmet, MayDestroy, may_destroy, with_set, without_set};
-ghost use Rattle.fy_decide.specs.DeadBook.{IsFresh, struck};
+ghost use Rattle.fy_decide.specs.Losses.{AreShort, AreSatisfied, AreMet, all_short, all_satisfied, everyone, first_satisfied, first_short, first_unmet, with_set, without_set};
+ghost use Rattle.fy_decide.specs.DeadBook.{IsFresh, MayLose, may_lose, struck};
 ghost use Rattle.fy_decide.specs.Verdicts.{targets, loss_of};
 
 use fy_kinds::{Kind, Target};
@@ -44,7 +41,8 @@ impl<T: Drop> From<AllocFailed<T>> for MakeFault {
     }
 }
 
-/// How processes are lost: an emptied one comes back without its data, a gone one doesn't come back.
+/// How processes are lost: an emptied one comes back without its data, a gone one doesn't come
+/// back.
 #[derive(Clone, Copy, PartialEq, Eq, Debug)]
 pub enum Loss {
     Emptied,
@@ -64,7 +62,8 @@ impl Loss {
     }
 }
 
-/// The destroyed, and those left. The destroyed are short of every policy, and those left satisfy each.
+/// The destroyed, and those left. The destroyed are short of every policy, and those left satisfy
+/// each.
 pub struct DeadBook {
     map: Map,
     policies: Vec<Policy>,
@@ -82,11 +81,22 @@ impl Model for DeadBook {
 
     ghost Value = { Casualties };
 
-    ghost coded = { Prim.hlevel (codes, tree_code, e.the_row.coded, sets.code {R = nat_cmp} coded_ℕ) };
+    ghost coded = { Prim.hlevel
+        (codes, tree_code, e.the_row.coded, sets.code {R = nat_cmp} coded_ℕ) };
 
-    ghost view = { λ b. record { processes = b.map; policies = b.policies.items; destroyed = b.destroyed; left = b.left } };
+    ghost view = { λ b. record {
+      processes = b.map;
+      policies = b.policies.items;
+      destroyed = b.destroyed;
+      left = b.left;
+    } };
 
-    ghost invariant = { λ b. IsSafe (record { processes = b.map; policies = b.policies.items; destroyed = b.destroyed; left = b.left }) };
+    ghost invariant = { λ b. IsSafe (record {
+      processes = b.map;
+      policies = b.policies.items;
+      destroyed = b.destroyed;
+      left = b.left;
+    }) };
 }
 
 // Written out, so that whoever drops a book makes one call.
@@ -117,28 +127,28 @@ fn are_satisfied(policies: &[Policy], map: &Map, set: &ProcSet) -> bool
     policies.iter().all(|policy| satisfied(policy, map, set))
 }
 
-/// The place of the first policy that the set doesn't satisfy.
-fn unmet(policies: &[Policy], map: &Map, set: &ProcSet) -> Option<usize>
-    ensures place { result ≡ position (λ P. not (satisfies map.now P (sets.contains set.now))) policies.now }
-    ensures met { result ≡ None → AllByRecursion (λ P. IsPolicy P × Sat map.now P (sets.contains set.now)) policies.now }
+/// The place of the first policy that the set is short of.
+fn first_short(policies: &[Policy], map: &Map, set: &ProcSet) -> Option<usize>
+    ensures place { result ≡ first_short map.now policies.now (sets.contains set.now) }
+    ensures met { result ≡ None → AreMet map.now policies.now (sets.contains set.now) }
 {
     policies
         .iter()
         .position(|policy| !satisfied(policy, map, set))
 }
 
-/// The place of the first policy that all processes together don't satisfy. Where there is none, each is within the
-/// limits of a policy and met. Takes no memory.
+/// The place of the first policy that all processes together don't satisfy. Where there is none,
+/// each is within the limits of a policy and met. Takes no memory.
 pub fn first_unmet(policies: &[Policy], map: &Map) -> Option<usize>
     ensures place { result ≡ first_unmet map.now policies.now }
-    ensures met { result ≡ None → AllByRecursion (λ P. IsPolicy P × Sat map.now P (everyone map.now)) policies.now }
+    ensures met { result ≡ None → AreMet map.now policies.now (everyone map.now) }
 {
-    unmet(policies, map, &map.everyone())
+    first_short(policies, map, &map.everyone())
 }
 
 /// The place of the first policy that the set satisfies.
-fn met(policies: &[Policy], map: &Map, set: &ProcSet) -> Option<usize>
-    ensures { result ≡ position (λ P. satisfies map.now P (sets.contains set.now)) policies.now }
+fn first_satisfied(policies: &[Policy], map: &Map, set: &ProcSet) -> Option<usize>
+    ensures { result ≡ first_satisfied map.now policies.now (sets.contains set.now) }
 {
     policies
         .iter()
@@ -148,12 +158,17 @@ fn met(policies: &[Policy], map: &Map, set: &ProcSet) -> Option<usize>
 impl DeadBook {
     ghost use Rattle.fy_decide.specs.declared.dead_book.MakeFault.TheVariants.{Unmet, NoMemory};
 
-    /// Nobody is destroyed and everyone is left. Refused with the first policy that all processes together don't
-    /// satisfy, then for want of memory.
+    /// Nobody is destroyed and everyone is left.
+    ///
+    /// # Errors
+    /// In this order: `Unmet` with the place of the first policy that all processes together don't
+    /// satisfy; `NoMemory`.
     pub fn make(alloc: Global, map: &Map, policies: &[Policy]) -> Result<DeadBook, MakeFault>
         ensures made { IfOk result (IsFresh map.now policies.now) }
-        ensures unmet { (i : ℕ) → first_unmet map.now policies.now ≡ Some i → result ≡ Err (Unmet i) }
-        ensures memory { first_unmet map.now policies.now ≡ None → IfErr result (λ fault. fault ≡ NoMemory) }
+        ensures unmet { (i : ℕ)
+            → first_unmet map.now policies.now ≡ Some i → result ≡ Err (Unmet i) }
+        ensures memory { first_unmet map.now policies.now ≡ None
+            → IfErr result (λ fault. fault ≡ NoMemory) }
     {
         laws::empty_satisfies_none();
         if let Some(index) = first_unmet(policies, map) {
@@ -170,11 +185,11 @@ impl DeadBook {
         })
     }
 
-    /// Whether the set may be lost: the destroyed with it are short of every policy and, where it is gone, those left
-    /// without it satisfy each. Takes no memory.
+    /// Whether the set may be lost: the destroyed with it are short of every policy and, where it
+    /// is gone, those left without it satisfy each. Takes no memory.
     pub fn may_destroy(&self, set: &ProcSet, loss: Loss) -> bool
-        ensures relation { IsTrue result ↔ MayDestroy self.now.processes self.now.policies (sets.contains self.now.destroyed) (sets.contains self.now.left) (sets.contains set.now) loss }
-        ensures test { result ≡ may_destroy self.now.processes self.now.policies (sets.contains self.now.destroyed) (sets.contains self.now.left) (sets.contains set.now) loss }
+        ensures relation { IsTrue result ↔ MayLose self.now (sets.contains set.now) loss }
+        ensures test { result ≡ may_lose self.now (sets.contains set.now) loss }
     {
         if !are_short(&self.policies, &self.map, &self.destroyed.union(set)) {
             return false;
@@ -187,22 +202,28 @@ impl DeadBook {
 
     /// The place of the first policy that the destroyed with the set would satisfy.
     pub(crate) fn too_many_destroyed(&self, set: &ProcSet) -> Option<usize>
-        ensures { result ≡ position (λ P. satisfies self.now.processes P (with_set (sets.contains self.now.destroyed) (sets.contains set.now))) self.now.policies }
+        ensures { result
+            ≡ first_satisfied self.now.processes self.now.policies
+            (with_set (sets.contains self.now.destroyed) (sets.contains set.now)) }
     {
-        met(&self.policies, &self.map, &self.destroyed.union(set))
+        first_satisfied(&self.policies, &self.map, &self.destroyed.union(set))
     }
 
     /// The place of the first policy that those left without the set would be short of.
     pub(crate) fn too_few_left(&self, set: &ProcSet) -> Option<usize>
-        ensures { result ≡ position (λ P. not (satisfies self.now.processes P (without_set (sets.contains self.now.left) (sets.contains set.now)))) self.now.policies }
+        ensures { result
+            ≡ first_short self.now.processes self.now.policies
+            (without_set (sets.contains self.now.left) (sets.contains set.now)) }
     {
-        unmet(&self.policies, &self.map, &self.left.difference(set))
+        first_short(&self.policies, &self.map, &self.left.difference(set))
     }
 
-    /// Those left that have the target's value of its key; the map is the one that the book was made of.
+    /// Those left that have the target's value of its key; the map is the one that the book was
+    /// made of.
     pub fn targets(&self, map: &Map, target: &Target) -> ProcSet
         requires { map.now ≡ self.now.processes }
-        ensures { (p : ℕ) → sets.contains result p ≡ targets self.now.processes (sets.contains self.now.left) target.now p }
+        ensures { (p : ℕ) → sets.contains result p
+            ≡ targets self.now.processes (sets.contains self.now.left) target.now p }
     {
         map.members(target.key, &target.value)
             .intersection(&self.left)
@@ -210,7 +231,7 @@ impl DeadBook {
 
     /// Takes the loss of a set down. Takes no memory.
     pub fn strike(&mut self, set: &ProcSet, loss: Loss)
-        requires { MayDestroy self.old.processes self.old.policies (sets.contains self.old.destroyed) (sets.contains self.old.left) (sets.contains set.now) loss }
+        requires { MayLose self.old (sets.contains set.now) loss }
         ensures { self.new ≡ struck self.old set.now loss }
     {
         self.destroyed = self.destroyed.union(set);
@@ -223,7 +244,8 @@ impl DeadBook {
     /// The destroyed: they are short of every policy.
     pub fn destroyed(&self) -> ProcSet
         ensures destroyed { result ≡ self.now.destroyed }
-        ensures short { AreShort self.now.processes self.now.policies (sets.contains self.now.destroyed) }
+        ensures short { AreShort self.now.processes self.now.policies
+            (sets.contains self.now.destroyed) }
     {
         self.destroyed
     }
@@ -231,7 +253,8 @@ impl DeadBook {
     /// Those left: they satisfy every policy.
     pub fn left(&self) -> ProcSet
         ensures left { result ≡ self.now.left }
-        ensures satisfied { AreSatisfied self.now.processes self.now.policies (sets.contains self.now.left) }
+        ensures satisfied { AreSatisfied self.now.processes self.now.policies
+            (sets.contains self.now.left) }
     {
         self.left
     }

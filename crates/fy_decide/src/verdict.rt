@@ -3,7 +3,6 @@ ghost use Rattle.std.specs.Prelude.{◌≡◌, ◌<◌, ℕ, true, length};
 ghost use Rattle.std.specs.FinSet as sets;
 ghost use Rattle.fy_kinds.specs.Kinds.{Deed, Striking, Clogging, only};
 ghost use Rattle.fy_decide.specs.Verdicts.{situation_of, targets, bar, hardest, verdict, first_rule, leave_rules, loss_rules};
-ghost use Rattle.fy_decide.specs.DeadBook.{Casualties};
 ghost use Rattle.fy_grants.specs.Rights.{Rights};
 
 use crate::DeadBook;
@@ -19,29 +18,80 @@ const HARDEST_FIRST: [Kind; 4] = [
     Kind::RebootProcess,
 ];
 
-/// The bar of a deed by the first three rules, those of leave.
-fn leave_bar(book: &Book, map: &Map, actor: u32, kinds: KindSet, targets: &ProcSet) -> Option<Rule>
-    requires members { (q : ℕ) → sets.contains targets.now q ≡ true → q < length map.now }
-    ensures { (dead : Casualties) (deed : Deed) → dead.processes ≡ map.now → kinds ≡ only deed → result ≡ first_rule (leave_rules (situation_of dead book.now actor) deed (sets.contains targets.now)) }
-{
-    // To be protected from some of one kind is to be protected from it.
-    fy_kinds::laws::one_deed();
-    fy_grants::laws::least_is_first_found();
-    if targets.is_empty() {
-        return Some(Rule::NoTarget);
+/// What a verdict rests on: the dead book and the map that it was made of, the book of grants, and
+/// who asks.
+#[derive(Clone, Copy)]
+struct Case<'a> {
+    dead: &'a DeadBook,
+    map: &'a Map,
+    book: &'a Book,
+    actor: u32,
+    ghost made_of: { map.now ≡ dead.now.processes },
+}
+
+impl Case<'_> {
+    /// The bar of a deed by the first three rules, those of leave.
+    fn leave_bar(&self, kinds: KindSet, targets: &ProcSet) -> Option<Rule>
+        requires members { (q : ℕ)
+            → sets.contains targets.now q ≡ true → q < length self.now.map.now }
+        ensures { (deed : Deed) → kinds ≡ only deed → result
+            ≡ first_rule (leave_rules
+            (situation_of self.now.dead.now self.now.book.now self.now.actor) deed
+            (sets.contains targets.now)) }
+    {
+        // To be protected from some of one kind is to be protected from it.
+        fy_kinds::laws::one_deed();
+        fy_grants::laws::least_is_first_found();
+        if targets.is_empty() {
+            return Some(Rule::NoTarget);
+        }
+        if let Some(process) = self.book.uncovered(self.actor, kinds, self.map, targets) {
+            return Some(Rule::NoGrant { process });
+        }
+        match self.book.barred(kinds, targets) {
+            Some(process) => Some(Rule::Protected { process }),
+            None => None,
+        }
     }
-    if let Some(process) = book.uncovered(actor, kinds, map, targets) {
-        return Some(Rule::NoGrant { process });
+
+    /// The bar of a kind of kill: the first of all five rules that bars it.
+    fn bar(&self, kind: Kind, targets: &ProcSet) -> Option<Rule>
+        requires members { (q : ℕ)
+            → sets.contains targets.now q ≡ true → q < length self.now.map.now }
+        ensures { result
+            ≡ bar (situation_of self.now.dead.now self.now.book.now self.now.actor) (Striking kind)
+            (sets.contains targets.now) }
+    {
+        match self.leave_bar(KindSet::of(kind), targets) {
+            Some(rule) => Some(rule),
+            None => loss_bar(self.dead, kind, targets),
+        }
     }
-    match book.barred(kinds, targets) {
-        Some(process) => Some(Rule::Protected { process }),
-        None => None,
+
+    /// The hardest kind that an order allows and that has no bar.
+    fn hardest(&self, order: &KillOrder, targets: &ProcSet) -> Option<Kind>
+        requires members { (q : ℕ)
+            → sets.contains targets.now q ≡ true → q < length self.now.map.now }
+        ensures { result
+            ≡ hardest (situation_of self.now.dead.now self.now.book.now self.now.actor) order.now
+            (sets.contains targets.now) }
+    {
+        for kind in HARDEST_FIRST {
+            let above = kind.is_above(order.kind());
+            let below = order.floor().is_above(kind);
+            if !above && !below && self.bar(kind, targets).is_none() {
+                return Some(kind);
+            }
+        }
+        None
     }
 }
 
 /// The bar of a kind of kill by the last two rules, those of replication.
 fn loss_bar(dead: &DeadBook, kind: Kind, targets: &ProcSet) -> Option<Rule>
-    ensures { (rights : Rights) (actor : ℕ) → result ≡ first_rule (loss_rules (situation_of dead.now rights actor) (Striking kind) (sets.contains targets.now)) }
+    ensures { (rights : Rights) (actor : ℕ) → result
+        ≡ first_rule (loss_rules (situation_of dead.now rights actor) (Striking kind)
+        (sets.contains targets.now)) }
 {
     if !kind.is_destroying() {
         return None;
@@ -49,7 +99,7 @@ fn loss_bar(dead: &DeadBook, kind: Kind, targets: &ProcSet) -> Option<Rule>
     if let Some(policy) = dead.too_many_destroyed(targets) {
         return Some(Rule::TooManyDestroyed { policy });
     }
-    if kind != Kind::KillInstantly {
+    if !kind.destroys_for_good() {
         return None;
     }
     match dead.too_few_left(targets) {
@@ -58,60 +108,24 @@ fn loss_bar(dead: &DeadBook, kind: Kind, targets: &ProcSet) -> Option<Rule>
     }
 }
 
-/// The bar of a kind of kill: the first of all five rules that bars it.
-fn bar(
-    dead: &DeadBook,
-    book: &Book,
-    map: &Map,
-    actor: u32,
-    kind: Kind,
-    targets: &ProcSet,
-) -> Option<Rule>
-    requires map { map.now ≡ dead.now.processes }
-    requires members { (q : ℕ) → sets.contains targets.now q ≡ true → q < length map.now }
-    ensures { result ≡ bar (situation_of dead.now book.now actor) (Striking kind) (sets.contains targets.now) }
-{
-    match leave_bar(book, map, actor, KindSet::of(kind), targets) {
-        Some(rule) => Some(rule),
-        None => loss_bar(dead, kind, targets),
-    }
-}
-
-/// The hardest kind that an order allows and that has no bar.
-fn hardest(
-    dead: &DeadBook,
-    book: &Book,
-    map: &Map,
-    actor: u32,
-    order: &KillOrder,
-    targets: &ProcSet,
-) -> Option<Kind>
-    requires map { map.now ≡ dead.now.processes }
-    requires members { (q : ℕ) → sets.contains targets.now q ≡ true → q < length map.now }
-    ensures { result ≡ hardest (situation_of dead.now book.now actor) order.now (sets.contains targets.now) }
-{
-    for kind in HARDEST_FIRST {
-        let above = kind.is_above(order.kind());
-        let below = order.floor().is_above(kind);
-        if !above && !below && bar(dead, book, map, actor, kind, targets).is_none() {
-            return Some(kind);
-        }
-    }
-    None
-}
-
-/// The verdict on an order of an actor: the hardest kind, from the ordered one down to its floor, that has no bar at the
-/// order's targets, and the bar of the ordered kind. It changes nothing; the caller strikes. The map is the one that
-/// the dead book was made of. Takes no memory.
+/// The verdict on an order of an actor: the hardest kind, from the ordered one down to its floor,
+/// that has no bar at the order's targets, and the bar of the ordered kind. It changes nothing; the
+/// caller strikes. The map is the one that the dead book was made of. Takes no memory.
 pub fn judge(dead: &DeadBook, book: &Book, map: &Map, actor: u32, order: &KillOrder) -> Verdict
     requires map { map.now ≡ dead.now.processes }
     ensures { result ≡ verdict (situation_of dead.now book.now actor) order.now }
 {
     let targets = dead.targets(map, &order.target());
-    let rule = bar(dead, book, map, actor, order.kind(), &targets);
+    let case = Case {
+        dead,
+        map,
+        book,
+        actor,
+    };
+    let rule = case.bar(order.kind(), &targets);
     let struck = match rule {
         None => Some(order.kind()),
-        Some(_) => hardest(dead, book, map, actor, order, &targets),
+        Some(_) => case.hardest(order, &targets),
     };
     Verdict { struck, rule }
 }
@@ -125,10 +139,18 @@ pub fn judge_clog(
     target: &Target,
 ) -> Option<Rule>
     requires map { map.now ≡ dead.now.processes }
-    ensures { result ≡ bar (situation_of dead.now book.now actor) Clogging (targets dead.now.processes (sets.contains dead.now.left) target.now) }
+    ensures { result
+        ≡ bar (situation_of dead.now book.now actor) Clogging
+        (targets dead.now.processes (sets.contains dead.now.left) target.now) }
 {
     let targets = dead.targets(map, target);
-    leave_bar(book, map, actor, KindSet::of_clog(), &targets)
+    let case = Case {
+        dead,
+        map,
+        book,
+        actor,
+    };
+    case.leave_bar(KindSet::of_clog(), &targets)
 }
 
 #[cfg(test)]

@@ -8,6 +8,7 @@ use Rattle.std.proofs.lemmas.List.Folds.{sum_by-replicate}
 use Rattle.std.specs.List.{sum_by}
 use Rattle.fy_grants.specs.declared.grant.Grant.{Grant}
 use Rattle.fy_grants.specs.Rights.{IsCounted}
+use Rattle.fy_grants.specs.declared.book.TheConstants.{MOST_GRANTS}
 
 -- the lists of grants that vectors hold
 abbrev pub lists_of : List (Vec Grant Global) → List (List Grant)
@@ -41,7 +42,7 @@ counted_none actors = omega (arith, sum_by-replicate length actors (let none : L
 pub one_more : (lists : List (List Grant)) (a : ℕ) (grant : Grant) → a < length lists → sum_by length (slice_set lists a (get_or lists a [] ++ grant ∷ [])) ≡ sum_by length lists + 1
 one_more lists a grant within = omega (arith, sum_by-set length lists a (get_or lists a [] ++ grant ∷ []) [] within, length-append (get_or lists a []) (grant ∷ []))
 
-pub counted_more : (lists : List (List Grant)) (given a : ℕ) (grant : Grant) → IsCounted lists given → a < length lists → given < 4096 → IsCounted (slice_set lists a (get_or lists a [] ++ grant ∷ [])) (given + 1)
+pub counted_more : (lists : List (List Grant)) (given a : ℕ) (grant : Grant) → IsCounted lists given → a < length lists → given < MOST_GRANTS → IsCounted (slice_set lists a (get_or lists a [] ++ grant ∷ [])) (given + 1)
 counted_more lists given a grant counted within few = record {
   all = omega (arith, counted.all, one_more lists a grant within);
   few = omega arith;

@@ -11,7 +11,8 @@ pub record IsLeastWith (set test : ℕ → Bool) (p : ℕ) : Type 0 where
 
 -- found is that process, or none where none in the set passes
 abbrev pub LeastWith : (ℕ → Bool) → (ℕ → Bool) → Option ProcId → Type 0
-LeastWith set test found = MatchOption found ((q : ℕ) → set q ≡ true → test q ≡ false) (λ p. IsLeastWith set test p.0)
+LeastWith set test found =
+    MatchOption found ((q : ℕ) → set q ≡ true → test q ≡ false) (λ p. IsLeastWith set test p.0)
 
 -- the same as a computation: the first number below count that is in the set and passes
 abbrev pub least_with : ℕ → (ℕ → Bool) → (ℕ → Bool) → Option ℕ

@@ -1,3 +1,4 @@
+pub mod Changes
 pub mod Least
 pub mod Rights
 pub use Rattle.fy_kinds.specs.Kinds

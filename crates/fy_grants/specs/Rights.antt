@@ -10,6 +10,7 @@ use Rattle.fy_grants.specs.declared.grant.Scope.{Scope}
 use Rattle.fy_grants.specs.declared.grant.Scope.TheVariants.{All, Where}
 use Rattle.fy_grants.specs.declared.book.BookFault.{BookFault}
 use Rattle.fy_grants.specs.declared.book.BookFault.TheVariants.{NoActor, NoSuch, Full}
+use Rattle.fy_grants.specs.declared.book.TheConstants.{MOST_GRANTS}
 
 -- the grants of each actor in order, and what each process is protected from
 pub record Rights : Type 0 where
@@ -30,7 +31,10 @@ grant_count rights = sum_by length rights.grants
 
 -- no grants of so many actors, and no protections of so many processes
 abbrev pub no_rights : ℕ → ℕ → Rights
-no_rights actors processes = record { grants = replicate actors []; protections = replicate processes no_deed }
+no_rights actors processes = record {
+  grants = replicate actors [];
+  protections = replicate processes no_deed;
+}
 
 -- ---- who is covered, and who is protected
 
@@ -39,9 +43,14 @@ abbrev pub is_in_scope : List Locality → Scope → ℕ → Bool
 is_in_scope processes All p = true
 is_in_scope processes (Where target) p = has_value processes target.key target.value p
 
--- whether some of the grants has all the deeds asked for and covers process p
+-- whether a grant has all the deeds asked for and covers process p
+abbrev pub is_granted : List Locality → Grant → KindSet → ℕ → Bool
+is_granted processes grant asked p =
+    has_all grant.kinds asked && is_in_scope processes grant.scope p
+
+-- whether some of the grants does
 abbrev pub is_covered : List Locality → List Grant → KindSet → ℕ → Bool
-is_covered processes grants asked p = list_any (λ grant. has_all grant.kinds asked && is_in_scope processes grant.scope p) grants
+is_covered processes grants asked p = list_any (λ grant. is_granted processes grant asked p) grants
 
 -- whether process p is protected from some of the deeds asked for
 abbrev pub is_protected : Rights → KindSet → ℕ → Bool
@@ -53,7 +62,7 @@ is_protected rights asked p = has_some (protections_of rights p) asked
 abbrev pub give_refusal : Rights → Grant → Option BookFault
 give_refusal rights grant =
     if nat_le (length rights.grants) grant.actor then Some NoActor
-    else (if nat_le 4096 (grant_count rights) then Some Full else None)
+    else (if nat_le MOST_GRANTS (grant_count rights) then Some Full else None)
 
 -- the grant is put last in its actor's list
 abbrev pub with_grant : Rights → Grant → Rights
@@ -77,11 +86,14 @@ without_grant rights actor index = record {
 
 -- a process is protected from other deeds than before
 abbrev pub with_protection : Rights → ℕ → KindSet → Rights
-with_protection rights p kinds = record { grants = rights.grants; protections = slice_set rights.protections p kinds }
+with_protection rights p kinds = record {
+  grants = rights.grants;
+  protections = slice_set rights.protections p kinds;
+}
 
 -- ---- what a Book keeps
 
--- the number of grants that it counts, at most 4096
+-- the number of grants that it counts, which is within the limit
 pub record IsCounted (grants : List (List Grant)) (given : ℕ) : Type 0 where
   pub all : given ≡ sum_by length grants
-  pub few : given ≤ 4096
+  pub few : given ≤ MOST_GRANTS

@@ -14,8 +14,11 @@ use fy_locality::{Map, ProcId, ProcSet};
 use std::alloc::{AllocError, Global};
 use std::marker::Model;
 
-/// The grants of each actor in the order in which they were given, at most 4096 in all, and for each process the kinds
-/// from which it is protected.
+/// How many grants a book holds at most, of all actors together.
+pub const MOST_GRANTS: usize = 4096;
+
+/// The grants of each actor in the order in which they were given, at most [`MOST_GRANTS`] in all,
+/// and for each process the kinds from which it is protected.
 pub struct Book {
     grants: Vec<Vec<Grant>>,
     given: usize,
@@ -28,7 +31,10 @@ impl Model for Book {
 
     ghost Value = { Rights };
 
-    ghost view = { λ b. record { grants = map (λ own. own.items) b.grants.items; protections = b.protections.items } };
+    ghost view = { λ b. record {
+      grants = map (λ own. own.items) b.grants.items;
+      protections = b.protections.items;
+    } };
 
     ghost use Rattle.fy_grants.specs.Rights.{IsCounted};
 
@@ -49,7 +55,10 @@ impl Drop for Book {
 impl Book {
     ghost use Rattle.fy_grants.specs.declared.book.BookFault.{BookFault};
 
-    /// A book for so many actors and processes, by number, without grants and protections; or no memory.
+    /// A book for so many actors and processes, by number, without grants and protections.
+    ///
+    /// # Errors
+    /// Where there is no memory.
     pub fn make(alloc: Global, actors: u32, processes: u32) -> Result<Book, AllocError>
         ensures { IfOk result (λ book. book ≡ no_rights actors processes) }
     {
@@ -74,11 +83,16 @@ impl Book {
         self.protections.len()
     }
 
-    /// One more grant, last in its actor's list. In order: no such actor, 4096 grants are there already, no memory. A
+    /// One more grant, last in its actor's list.
+    ///
+    /// # Errors
+    /// In this order: `NoActor`; `Full` where [`MOST_GRANTS`] are there already; `NoMemory`. A
     /// refused grant leaves the book as it was.
     pub fn give(&mut self, grant: Grant) -> Result<(), BookFault>
-        ensures refused { (fault : BookFault) → give_refusal self.old grant ≡ Some fault → result ≡ Err fault }
-        ensures memory { give_refusal self.old grant ≡ None → IfErr result (λ fault. fault ≡ NoMemory) }
+        ensures refused { (fault : BookFault)
+            → give_refusal self.old grant ≡ Some fault → result ≡ Err fault }
+        ensures memory { give_refusal self.old grant ≡ None
+            → IfErr result (λ fault. fault ≡ NoMemory) }
         ensures given { OnOk result (self.new ≡ with_grant self.old grant) }
         ensures err { OnErr result (self.new ≡ self.old) }
     {
@@ -86,7 +100,7 @@ impl Book {
         if actor >= self.grants.len() {
             return Err(BookFault::NoActor);
         }
-        if self.given >= 4096 {
+        if self.given >= MOST_GRANTS {
             return Err(BookFault::Full);
         }
         push_last(&mut self.grants[actor], grant)?;
@@ -94,9 +108,13 @@ impl Book {
         Ok(())
     }
 
-    /// Takes a grant away, by its place in its actor's list, which closes up. In order: no such actor, no such place.
+    /// Takes a grant away, by its place in its actor's list, which closes up.
+    ///
+    /// # Errors
+    /// In this order: `NoActor`; `NoSuch` where the actor has no grant at this place.
     pub fn take(&mut self, actor: u32, index: u32) -> Result<(), BookFault>
-        ensures refused { (fault : BookFault) → take_refusal self.old actor index ≡ Some fault → result ≡ Err fault }
+        ensures refused { (fault : BookFault)
+            → take_refusal self.old actor index ≡ Some fault → result ≡ Err fault }
         ensures accepted { take_refusal self.old actor index ≡ None → IsOk result }
         ensures taken { OnOk result (self.new ≡ without_grant self.old actor index) }
         ensures err { OnErr result (self.new ≡ self.old) }
@@ -116,7 +134,8 @@ impl Book {
     /// Adds to the kinds from which a process is protected.
     pub fn protect(&mut self, p: ProcId, kinds: KindSet)
         requires { p.0 < length self.old.protections }
-        ensures { self.new ≡ with_protection self.old p.0 (with_all (protections_of self.old p.0) kinds) }
+        ensures { self.new
+            ≡ with_protection self.old p.0 (with_all (protections_of self.old p.0) kinds) }
     {
         let place = p.0 as usize;
         self.protections[place] = self.protections[place].union(kinds);
@@ -125,7 +144,8 @@ impl Book {
     /// Takes out of the kinds from which a process is protected.
     pub fn unprotect(&mut self, p: ProcId, kinds: KindSet)
         requires { p.0 < length self.old.protections }
-        ensures { self.new ≡ with_protection self.old p.0 (without_all (protections_of self.old p.0) kinds) }
+        ensures { self.new
+            ≡ with_protection self.old p.0 (without_all (protections_of self.old p.0) kinds) }
     {
         let place = p.0 as usize;
         self.protections[place] = self.protections[place].difference(kinds);
@@ -149,16 +169,17 @@ impl Book {
         self.protections[p.0 as usize]
     }
 
-    /// The least process of a set that no grant of the actor with all these kinds covers. An actor that isn't there has
-    /// no grants.
+    /// The least process of a set that no grant of the actor with all these kinds covers. An actor
+    /// that isn't there has no grants.
     pub fn uncovered(&self, actor: u32, kinds: KindSet, map: &Map, set: &ProcSet) -> Option<ProcId>
-        ensures { LeastWith (sets.contains set.now) (λ q. not (is_covered map.now (grants_of self.now actor) kinds q)) result }
+        ensures { LeastWith (sets.contains set.now)
+            (λ q. not (is_covered map.now (grants_of self.now actor) kinds q)) result }
     {
         left_uncovered(self.grants(actor), kinds, map, set).least()
     }
 
-    /// The least process of a set that is protected from some of these kinds. A process that isn't there is protected
-    /// from none.
+    /// The least process of a set that is protected from some of these kinds. A process that isn't
+    /// there is protected from none.
     pub fn barred(&self, kinds: KindSet, set: &ProcSet) -> Option<ProcId>
         ensures { LeastWith (sets.contains set.now) (is_protected self.now kinds) result }
     {
@@ -173,7 +194,7 @@ pub enum BookFault {
     NoActor,
     /// The actor has no grant at this place.
     NoSuch,
-    /// 4096 grants are there already.
+    /// [`MOST_GRANTS`] are there already.
     Full,
     NoMemory,
 }

@@ -8,5 +8,5 @@ mod scopes;
 #[cfg(test)]
 mod tests;
 
-pub use book::{Book, BookFault};
+pub use book::{Book, BookFault, MOST_GRANTS};
 pub use grant::{Grant, Scope};

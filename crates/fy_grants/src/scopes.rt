@@ -1,9 +1,9 @@
 //! Whom grants leave uncovered, and whom protections shield.
 ghost use Rattle.std.specs.Prelude.{◌≡◌, ◌&&◌, not, ℕ, slice_index_or};
-ghost use Rattle.fy_kinds.specs.Kinds.{no_deed, has_all, has_some};
+ghost use Rattle.fy_kinds.specs.Kinds.{no_deed, has_some};
 ghost use Rattle.std.specs.FinSet as sets;
 ghost use Rattle.fy_grants.specs.Least.{LeastWith};
-ghost use Rattle.fy_grants.specs.Rights.{is_in_scope, is_covered};
+ghost use Rattle.fy_grants.specs.Rights.{is_in_scope, is_granted, is_covered};
 
 use crate::{Grant, Scope};
 use fy_kinds::KindSet;
@@ -11,7 +11,8 @@ use fy_locality::{Map, ProcId, ProcSet};
 
 /// The processes of a set that aren't in a scope.
 fn without_scope(set: ProcSet, scope: Scope, map: &Map) -> ProcSet
-    ensures { (q : ℕ) → sets.contains result q ≡ (sets.contains set q && not (is_in_scope map.now scope q)) }
+    ensures { (q : ℕ) → sets.contains result q
+        ≡ (sets.contains set q && not (is_in_scope map.now scope q)) }
 {
     match scope {
         Scope::All => ProcSet::empty(),
@@ -21,7 +22,8 @@ fn without_scope(set: ProcSet, scope: Scope, map: &Map) -> ProcSet
 
 /// The processes of a set without those that a grant covers, where it has all these kinds.
 fn without_granted(set: ProcSet, grant: &Grant, kinds: KindSet, map: &Map) -> ProcSet
-    ensures { (q : ℕ) → sets.contains result q ≡ (sets.contains set q && not (has_all grant.now.kinds kinds && is_in_scope map.now grant.now.scope q)) }
+    ensures { (q : ℕ) → sets.contains result q
+        ≡ (sets.contains set q && not (is_granted map.now grant.now kinds q)) }
 {
     if grant.kinds.contains(kinds) {
         without_scope(set, grant.scope, map)
@@ -32,7 +34,8 @@ fn without_granted(set: ProcSet, grant: &Grant, kinds: KindSet, map: &Map) -> Pr
 
 /// The processes of a set that none of the grants with all these kinds covers.
 pub(crate) fn left_uncovered(grants: &[Grant], kinds: KindSet, map: &Map, set: &ProcSet) -> ProcSet
-    ensures { (q : ℕ) → sets.contains result q ≡ (sets.contains set.now q && not (is_covered map.now grants.now kinds q)) }
+    ensures { (q : ℕ) → sets.contains result q
+        ≡ (sets.contains set.now q && not (is_covered map.now grants.now kinds q)) }
 {
     let mut left = *set;
     for grant in grants {
@@ -58,7 +61,8 @@ pub(crate) fn least_protected(
     kinds: KindSet,
     set: &ProcSet,
 ) -> Option<ProcId>
-    ensures { LeastWith (sets.contains set.now) (λ q. has_some (slice_index_or protections.now q no_deed) kinds) result }
+    ensures { LeastWith (sets.contains set.now)
+        (λ q. has_some (slice_index_or protections.now q no_deed) kinds) result }
 {
     for p in set.iter() {
         if is_shielded(protections, kinds, p) {

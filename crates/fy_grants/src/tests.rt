@@ -106,7 +106,8 @@ fn holds_kinds(book: &Book, actor: u32, kinds: &[Kind]) -> bool {
     true
 }
 
-/// Gives one grant to actor 0, and says whether the book is right after it: one longer, or as it was without memory.
+/// Gives one grant to actor 0, and says whether the book is right after it: one longer, or as it
+/// was without memory.
 fn gives_or_stays(book: &mut Book) -> bool {
     let before = book.grants(0).len();
     match book.give(to_all(0, Kind::Reboot)) {
@@ -128,6 +129,31 @@ fn a_book_takes_4096_grants(rt: HostRuntime) -> Result<(), Fail> {
     assert_eq!(rt; take(&mut book, 0, 4095), Err(BookFault::NoSuch));
     assert_eq!(rt; give(&mut book, 0, Kind::Reboot), Ok(()));
     assert_eq!(rt; give(&mut book, 0, Kind::Reboot), Err(BookFault::Full));
+    Ok(())
+}
+
+/// Gives 64 grants to each of 64 actors in turn.
+fn fill_each(book: &mut Book) -> Result<(), BookFault> {
+    for _ in 0..64 {
+        for actor in 0..64 {
+            book.give(to_all(actor, Kind::Reboot))?;
+        }
+    }
+    Ok(())
+}
+
+#[test]
+fn a_book_takes_64_actors_and_1024_processes(rt: HostRuntime) -> Result<(), Fail> {
+    let mut book = Book::make(rt.alloc(), 64, 1024)?;
+    assert_eq!(rt; (book.actors(), book.processes()), (64, 1024));
+    fill_each(&mut book)?;
+    assert_eq!(rt; (book.grants(0).len(), book.grants(63).len()), (64, 64));
+    assert_eq!(rt; give(&mut book, 63, Kind::Reboot), Err(BookFault::Full));
+    assert_eq!(rt; give(&mut book, 64, Kind::Reboot), Err(BookFault::NoActor));
+    assert!(rt; protects(&mut book, 1023, KindSet::of_clog(), true));
+    assert!(rt; !protects(&mut book, 1024, KindSet::of_clog(), true));
+    assert_eq!(rt; protections(&book, 1023), Some(KindSet::of_clog()));
+    assert_eq!(rt; protections(&book, 0), Some(KindSet::empty()));
     Ok(())
 }
 

@@ -1,6 +1,6 @@
 //! What a kill does to a process.
 ghost use Rattle.std.specs.Prelude.{◌≡◌, nat_lt};
-ghost use Rattle.fy_kinds.specs.Kinds.{kind_text, is_destroying, rank};
+ghost use Rattle.fy_kinds.specs.Kinds.{kind_text, kind_named, is_destroying, destroys_for_good, rank};
 
 /// What a kill does to a process, from the mildest to the hardest.
 #[derive(Clone, Copy, PartialEq, Eq, PartialOrd, Ord, Debug)]
@@ -15,8 +15,17 @@ pub enum Kind {
     KillInstantly,
 }
 
+/// Every kind, from the mildest.
+const KINDS: [Kind; 4] = [
+    Kind::RebootProcess,
+    Kind::Reboot,
+    Kind::RebootAndDelete,
+    Kind::KillInstantly,
+];
+
 impl Kind {
-    /// The kind as every text of the product writes it: `RebootProcess`, `Reboot`, `RebootAndDelete`, `KillInstantly`.
+    /// The kind as every text of the product writes it: `RebootProcess`, `Reboot`,
+    /// `RebootAndDelete`, `KillInstantly`.
     pub fn text(self) -> &'static str
         ensures { result.now ≡ kind_text self }
     {
@@ -28,6 +37,13 @@ impl Kind {
         }
     }
 
+    /// The kind that is written so, if one is.
+    pub fn named(text: &str) -> Option<Kind>
+        ensures { result ≡ kind_named text.now }
+    {
+        KINDS.iter().copied().find(|kind| kind.text() == text)
+    }
+
     /// Whether the disk is emptied.
     pub fn is_destroying(self) -> bool
         ensures { result ≡ is_destroying self }
@@ -36,6 +52,13 @@ impl Kind {
             Kind::RebootProcess | Kind::Reboot => false,
             Kind::RebootAndDelete | Kind::KillInstantly => true,
         }
+    }
+
+    /// Whether nobody is left to come back.
+    pub fn destroys_for_good(self) -> bool
+        ensures { result ≡ destroys_for_good self }
+    {
+        self == Kind::KillInstantly
     }
 
     /// Whether this kind is harder than the other.

@@ -1,123 +1,161 @@
 //! Sets of the four kinds of kill and of clogging.
-ghost use Rattle.std.specs.Prelude.{◌≡◌, IsTrue, ◌↔◌, map, List, ℕ};
-ghost use Rattle.fy_kinds.specs.declared.kind_set.KindSet.{KindSet as KindSetValue};
-ghost use Rattle.fy_kinds.specs.Kinds.{has, no_deed, only, with_all, in_both, without_all, has_all, has_some, deeds, table, bits_among, set_of_bits};
+ghost use Rattle.std.specs.Prelude.{⊤, ◌≡◌, IsTrue, ◌↔◌};
+ghost use Rattle.fy_kinds.specs.Kinds.{has, no_deed, every_deed, only, with_all, in_both, without_all, has_all, has_some, set_named, table};
 ghost use Rattle.fy_kinds.specs.Kinds.{Striking, Clogging};
 
 use crate::Kind;
 use bitflags::{Flag, Flags};
+use std::marker::Model;
+
+/// A bit for each member of a set: the four kinds of kill from the mildest, then clogging.
+#[derive(Clone, Copy, PartialEq, Eq, Debug)]
+struct MemberBits(u8);
+
+impl MemberBits {
+    const REBOOT_PROCESS: MemberBits = MemberBits(1);
+
+    const REBOOT: MemberBits = MemberBits(2);
+
+    const REBOOT_AND_DELETE: MemberBits = MemberBits(4);
+
+    const KILL_INSTANTLY: MemberBits = MemberBits(8);
+
+    const CLOG: MemberBits = MemberBits(16);
+
+    /// Every member with its text, in the order in which sets are written.
+    const FLAGS: [Flag<MemberBits>; 5] = [
+        Flag {
+            name: "RebootProcess",
+            value: MemberBits::REBOOT_PROCESS,
+        },
+        Flag {
+            name: "Reboot",
+            value: MemberBits::REBOOT,
+        },
+        Flag {
+            name: "RebootAndDelete",
+            value: MemberBits::REBOOT_AND_DELETE,
+        },
+        Flag {
+            name: "KillInstantly",
+            value: MemberBits::KILL_INSTANTLY,
+        },
+        Flag {
+            name: "Clog",
+            value: MemberBits::CLOG,
+        },
+    ];
+}
+
+impl Flags for MemberBits {
+    type Bits = u8;
+
+    ghost exact = { ⊤ };
+
+    ghost table = { table };
+
+    ghost set_of = { λ bits. bits.0 };
+
+    fn flags<'a>() -> &'a [Flag<MemberBits>] {
+        &MemberBits::FLAGS
+    }
+
+    fn bits(&self) -> u8 {
+        self.0
+    }
+
+    fn from_bits_retain(bits: u8) -> MemberBits {
+        MemberBits(bits)
+    }
+}
 
 /// What a grant allows or a protection forbids: any of the four kinds of kill, and clogging.
 #[derive(Clone, Copy, PartialEq, Eq, Debug)]
 pub struct KindSet {
-    pub reboot_process: bool,
-    pub reboot: bool,
-    pub reboot_and_delete: bool,
-    pub kill_instantly: bool,
-    pub clog: bool,
+    bits: MemberBits,
+}
+
+impl Model for KindSet {
+    ghost use Rattle.std.specs.Prelude.{◌<◌};
+    ghost use Rattle.std.proofs.Common.{ap};
+    ghost use Rattle.fy_kinds.specs.Members.{Members};
+    ghost use Rattle.fy_kinds.specs.Kinds.{bits_of, set_of_bits};
+    ghost use Rattle.fy_kinds.specs.BitsBack.{bits_back};
+
+    ghost Value = { Members };
+
+    ghost view = { λ s. set_of_bits s.bits.0 };
+
+    ghost invariant = { λ s. s.bits.0 < 32 };
+
+    ghost inverse = { λ members. record { bits = record { 0 = bits_of members } } };
+
+    ghost inverse_ok = { λ s small i. record { bits = record { 0 = bits_back s.bits.0 small i } } };
 }
 
 impl KindSet {
-    const NONE: KindSet = KindSet {
-        reboot_process: false,
-        reboot: false,
-        reboot_and_delete: false,
-        kill_instantly: false,
-        clog: false,
-    };
-
-    const REBOOT_PROCESS: KindSet = KindSet {
-        reboot_process: true,
-        ..KindSet::NONE
-    };
-
-    const REBOOT: KindSet = KindSet {
-        reboot: true,
-        ..KindSet::NONE
-    };
-
-    const REBOOT_AND_DELETE: KindSet = KindSet {
-        reboot_and_delete: true,
-        ..KindSet::NONE
-    };
-
-    const KILL_INSTANTLY: KindSet = KindSet {
-        kill_instantly: true,
-        ..KindSet::NONE
-    };
-
-    const CLOG: KindSet = KindSet {
-        clog: true,
-        ..KindSet::NONE
-    };
-
-    /// Every member with its text, in the order in which sets are written.
-    pub const FLAGS: [Flag<KindSet>; 5] = [
-        Flag {
-            name: "RebootProcess",
-            value: KindSet::REBOOT_PROCESS,
-        },
-        Flag {
-            name: "Reboot",
-            value: KindSet::REBOOT,
-        },
-        Flag {
-            name: "RebootAndDelete",
-            value: KindSet::REBOOT_AND_DELETE,
-        },
-        Flag {
-            name: "KillInstantly",
-            value: KindSet::KILL_INSTANTLY,
-        },
-        Flag {
-            name: "Clog",
-            value: KindSet::CLOG,
-        },
-    ];
-
     /// The set of no member.
     pub fn empty() -> KindSet
         ensures { result ≡ no_deed }
     {
-        KindSet::NONE
+        KindSet {
+            bits: MemberBits::empty(),
+        }
+    }
+
+    /// The set of every member.
+    pub fn all() -> KindSet
+        ensures { result ≡ every_deed }
+    {
+        KindSet {
+            bits: MemberBits::all(),
+        }
     }
 
     /// The set of one kind of kill.
     pub fn of(kind: Kind) -> KindSet
         ensures { result ≡ only (Striking kind) }
     {
-        match kind {
-            Kind::RebootProcess => KindSet::REBOOT_PROCESS,
-            Kind::Reboot => KindSet::REBOOT,
-            Kind::RebootAndDelete => KindSet::REBOOT_AND_DELETE,
-            Kind::KillInstantly => KindSet::KILL_INSTANTLY,
-        }
+        let bits = match kind {
+            Kind::RebootProcess => MemberBits::REBOOT_PROCESS,
+            Kind::Reboot => MemberBits::REBOOT,
+            Kind::RebootAndDelete => MemberBits::REBOOT_AND_DELETE,
+            Kind::KillInstantly => MemberBits::KILL_INSTANTLY,
+        };
+        KindSet { bits }
     }
 
     /// The set of clogging alone.
     pub fn of_clog() -> KindSet
         ensures { result ≡ only Clogging }
     {
-        KindSet::CLOG
+        KindSet {
+            bits: MemberBits::CLOG,
+        }
+    }
+
+    /// The set of the one member that is written so, if one is: a kind's text, or `Clog`.
+    pub fn named(text: &str) -> Option<KindSet>
+        ensures { result ≡ set_named text.now }
+    {
+        match MemberBits::from_name(text) {
+            Some(bits) => Some(KindSet { bits }),
+            None => None,
+        }
     }
 
     /// Whether a kind of kill is a member.
     pub fn has(self, kind: Kind) -> bool
         ensures { result ≡ has self (Striking kind) }
     {
-        match kind {
-            Kind::RebootProcess => self.reboot_process,
-            Kind::Reboot => self.reboot,
-            Kind::RebootAndDelete => self.reboot_and_delete,
-            Kind::KillInstantly => self.kill_instantly,
-        }
+        self.contains(KindSet::of(kind))
     }
 
     /// Whether clogging is a member.
     pub fn has_clog(self) -> bool
         ensures { result ≡ has self Clogging }
     {
-        self.clog
+        self.contains(KindSet::of_clog())
     }
 
     /// The members of either set.
@@ -125,11 +163,7 @@ impl KindSet {
         ensures { result ≡ with_all self other }
     {
         KindSet {
-            reboot_process: self.reboot_process | other.reboot_process,
-            reboot: self.reboot | other.reboot,
-            reboot_and_delete: self.reboot_and_delete | other.reboot_and_delete,
-            kill_instantly: self.kill_instantly | other.kill_instantly,
-            clog: self.clog | other.clog,
+            bits: self.bits.union(other.bits),
         }
     }
 
@@ -138,11 +172,7 @@ impl KindSet {
         ensures { result ≡ in_both self other }
     {
         KindSet {
-            reboot_process: self.reboot_process & other.reboot_process,
-            reboot: self.reboot & other.reboot,
-            reboot_and_delete: self.reboot_and_delete & other.reboot_and_delete,
-            kill_instantly: self.kill_instantly & other.kill_instantly,
-            clog: self.clog & other.clog,
+            bits: self.bits.intersection(other.bits),
         }
     }
 
@@ -151,11 +181,7 @@ impl KindSet {
         ensures { result ≡ without_all self other }
     {
         KindSet {
-            reboot_process: self.reboot_process & !other.reboot_process,
-            reboot: self.reboot & !other.reboot,
-            reboot_and_delete: self.reboot_and_delete & !other.reboot_and_delete,
-            kill_instantly: self.kill_instantly & !other.kill_instantly,
-            clog: self.clog & !other.clog,
+            bits: self.bits.difference(other.bits),
         }
     }
 
@@ -177,54 +203,20 @@ impl KindSet {
     pub fn is_empty(self) -> bool
         ensures { IsTrue result ↔ (self ≡ no_deed) }
     {
-        self == KindSet::NONE
+        self.bits.is_empty()
     }
 
     /// Whether every member of the other set is a member.
     pub fn contains(self, other: KindSet) -> bool
         ensures { result ≡ has_all self other }
     {
-        other.difference(self).is_empty()
+        self.bits.contains(other.bits)
     }
 
     /// Whether some member of the other set is a member.
     pub fn intersects(self, other: KindSet) -> bool
         ensures { result ≡ has_some self other }
     {
-        let both = other.intersection(self);
-        both.reboot_process | both.reboot | both.reboot_and_delete | both.kill_instantly | both.clog
-    }
-}
-
-impl Flags for KindSet {
-    type Bits = u8;
-
-    fn flags<'a>() -> &'a [Flag<KindSet>]
-        ensures { map {B = List ℕ × KindSetValue} (λ f. (f.name.now, f.value)) result.now ≡ table }
-    {
-        &KindSet::FLAGS
-    }
-
-    fn bits(&self) -> u8
-        ensures { result ≡ bits_among self.now deeds }
-    {
-        u8::from(self.reboot_process)
-            + u8::from(self.reboot) * 2
-            + u8::from(self.reboot_and_delete) * 4
-            + u8::from(self.kill_instantly) * 8
-            + u8::from(self.clog) * 16
-    }
-
-    /// The members whose bits are set; the three bits without a member are left out.
-    fn from_bits_retain(bits: u8) -> KindSet
-        ensures { result ≡ set_of_bits bits }
-    {
-        KindSet {
-            reboot_process: bits & 1 != 0,
-            reboot: bits & 2 != 0,
-            reboot_and_delete: bits & 4 != 0,
-            kill_instantly: bits & 8 != 0,
-            clog: bits & 16 != 0,
-        }
+        self.bits.intersects(other.bits)
     }
 }

@@ -1,12 +1,24 @@
 //! Laws of sets of kinds, for the crates above.
-ghost use Rattle.std.specs.Prelude.{◌≡◌, ◌&&◌, ◌||◌, not};
+ghost use Rattle.std.specs.Prelude.{◌≡◌, ◌&&◌, ◌||◌, not, Some};
 ghost use Rattle.fy_kinds.specs.declared.kind.Kind.{Kind};
 ghost use Rattle.fy_kinds.specs.declared.kind_set.KindSet.{KindSet};
-ghost use Rattle.fy_kinds.specs.Kinds.{Deed, rank, has, only, with_all, in_both, without_all, has_all, has_some};
+ghost use Rattle.fy_kinds.specs.Kinds.{Deed, rank, kind_text, kind_named, deed_text, deed_named, has, only, with_all, in_both, without_all, has_all, has_some};
 
 /// Kinds of one rank are one kind.
 pub fn kinds_by_rank()
     ensures { (k l : Kind) → rank k ≡ rank l → k ≡ l }
+{}
+
+/// No two kinds, and no two deeds, are written alike.
+pub fn texts_differ()
+    ensures kinds { (k l : Kind) → kind_text k ≡ kind_text l → k ≡ l }
+    ensures deeds { (d e : Deed) → deed_text d ≡ deed_text e → d ≡ e }
+{}
+
+/// Whatever is written is read back.
+pub fn texts_read_back()
+    ensures kinds { (kind : Kind) → kind_named (kind_text kind) ≡ Some kind }
+    ensures deeds { (d : Deed) → deed_named (deed_text d) ≡ Some d }
 {}
 
 /// Sets with the same members are equal.
@@ -18,7 +30,8 @@ pub fn same_members()
 pub fn members_together()
     ensures either { (a b : KindSet) (d : Deed) → has (with_all a b) d ≡ (has a d || has b d) }
     ensures both { (a b : KindSet) (d : Deed) → has (in_both a b) d ≡ (has a d && has b d) }
-    ensures first { (a b : KindSet) (d : Deed) → has (without_all a b) d ≡ (has a d && not (has b d)) }
+    ensures first { (a b : KindSet) (d : Deed)
+        → has (without_all a b) d ≡ (has a d && not (has b d)) }
 {}
 
 /// To have all or some of one deed is to have it.

@@ -17,7 +17,8 @@ pub struct Target {
 #[derive(Clone, Copy, PartialEq, Eq, Debug)]
 pub struct Floor;
 
-/// An order to kill the processes of a target: by its kind, or where that is barred by a milder one down to its floor.
+/// An order to kill the processes of a target: by its kind, or where that is barred by a milder one
+/// down to its floor.
 #[derive(Clone, Copy, PartialEq, Eq)]
 pub struct KillOrder {
     target: Target,
@@ -32,14 +33,29 @@ impl Model for KillOrder {
 
     ghost Value = { Order };
 
-    ghost view = { λ o. record { target = o.target; kind = o.kind; floor = o.floor; tear = o.tear; ordered = o.ordered } };
+    ghost view = { λ o. record {
+      target = o.target;
+      kind = o.kind;
+      floor = o.floor;
+      tear = o.tear;
+      ordered = o.ordered;
+    } };
 
-    ghost inverse = { λ v. record { target = v.target; kind = v.kind; floor = v.floor; tear = v.tear; ordered = v.ordered } };
+    ghost inverse = { λ v. record {
+      target = v.target;
+      kind = v.kind;
+      floor = v.floor;
+      tear = v.tear;
+      ordered = v.ordered;
+    } };
 }
 
 impl KillOrder {
-    /// An order. A reboot keeps unsynced write number `i`, from 0, where `i` is below 64 and bit `i` of `tear` is 1.
-    /// Refused where the floor is above the kind.
+    /// An order. A reboot keeps unsynced write number `i`, from 0, where `i` is below 64 and bit
+    /// `i` of `tear` is 1.
+    ///
+    /// # Errors
+    /// `Floor` where the floor is above the kind.
     pub fn make(target: Target, kind: Kind, floor: Kind, tear: u64) -> Result<KillOrder, Floor>
         ensures refused { IsErr result ↔ (rank kind < rank floor) }
         ensures target { IfOk result (λ order. order.target ≡ target) }

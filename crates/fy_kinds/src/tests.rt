@@ -1,5 +1,4 @@
 use super::*;
-use bitflags::Flags;
 use fy_locality::{BadName, Key, Name};
 use std::test::Fail;
 
@@ -29,6 +28,7 @@ fn kinds_rise_from_mild_to_hard(rt: HostRuntime) {
             assert_eq!(rt; kind < other, place < other_place, "{kind:?} {other:?}");
         }
         assert_eq!(rt; kind.is_destroying(), place >= 2);
+        assert_eq!(rt; kind.destroys_for_good(), place == 3);
     }
 }
 
@@ -42,6 +42,14 @@ fn kinds_are_written(rt: HostRuntime) {
     ];
     for (kind, text) in texts {
         assert_eq!(rt; kind.text(), text);
+        assert_eq!(rt; Kind::named(text), Some(kind));
+        assert_eq!(rt; KindSet::named(text), Some(KindSet::of(kind)));
+    }
+    assert_eq!(rt; KindSet::named("Clog"), Some(KindSet::of_clog()));
+    assert_eq!(rt; Kind::named("Clog"), None);
+    for text in ["", "reboot", "Reboot ", "RebootAnd", "Clogs"] {
+        assert_eq!(rt; Kind::named(text), None, "{text}");
+        assert_eq!(rt; KindSet::named(text), None, "{text}");
     }
 }
 
@@ -66,11 +74,12 @@ fn a_floor_is_not_above_its_kind(rt: HostRuntime) -> Result<(), Fail> {
 #[test]
 fn sets_have_members(rt: HostRuntime) {
     assert!(rt; KindSet::empty().is_empty());
-    assert!(rt; KindSet::of_clog().has_clog());
+    assert!(rt; KindSet::of_clog().has_clog() && KindSet::all().has_clog());
     for kind in KINDS {
         let set = KindSet::of(kind);
         assert!(rt; set.has(kind) && !set.has_clog() && !set.is_empty());
         assert!(rt; !KindSet::of_clog().has(kind), "{kind:?}");
+        assert!(rt; KindSet::all().has(kind), "{kind:?}");
     }
 }
 
@@ -94,22 +103,4 @@ fn sets_are_put_together(rt: HostRuntime) {
         ),
         (true, true, false)
     );
-}
-
-#[test]
-fn members_have_texts_and_bits(rt: HostRuntime) -> Result<(), Fail> {
-    for (text, bits) in [
-        ("RebootProcess", 1),
-        ("Reboot", 2),
-        ("RebootAndDelete", 4),
-        ("KillInstantly", 8),
-        ("Clog", 16),
-    ] {
-        let member = <KindSet as Flags>::from_name(text).ok_or("no member")?;
-        assert_eq!(rt; member.bits(), bits, "{text}");
-        assert_eq!(rt; KindSet::from_bits_retain(bits), member, "{text}");
-    }
-    assert_eq!(rt; KindSet::from_bits_retain(255).bits(), 31);
-    assert_eq!(rt; KindSet::flags().len(), 5);
-    Ok(())
 }

@@ -17,7 +17,8 @@ pub enum Rule {
     TooFewLeft { policy: usize },
 }
 
-/// What comes of an order: the kind that strikes, if one does, and the rule that bars the ordered kind, if one does.
+/// What comes of an order: the kind that strikes, if one does, and the rule that bars the ordered
+/// kind, if one does.
 #[derive(Clone, Copy, PartialEq, Eq, Debug)]
 pub struct Verdict {
     pub struck: Option<Kind>,

@@ -1,8 +1,6 @@
 //! Configurations of six processes, two in each of three zones.
 use super::*;
-use crate::tests::clusters::{
-    EVERY, HARD, Parts, TWO_ZONES, cluster_of_six, made, to_all, usual_grants,
-};
+use crate::tests::clusters::{Parts, TWO_ZONES, cluster_of_six, hard, made, to_all, usual_grants};
 use fy_grants::Scope;
 use fy_kinds::Target;
 use fy_locality::{BadName, Key, Name};
@@ -99,16 +97,16 @@ fn protections_may_repeat(rt: HostRuntime) -> Result<(), Fail> {
     };
     let unmet_zone = Grant {
         actor: 4,
-        kinds: HARD,
+        kinds: hard(),
         scope: Scope::Where(zone),
     };
     let parts = Parts {
         policies: &[TWO_ZONES, "One()"],
         grants: &[unmet_zone],
         protections: &[
-            protection(5, HARD),
-            protection(0, EVERY),
-            protection(5, EVERY),
+            protection(5, hard()),
+            protection(0, KindSet::all()),
+            protection(5, KindSet::all()),
         ],
         ..cluster_of_six()
     };
@@ -154,12 +152,12 @@ fn what_is_out_of_range_is_refused(rt: HostRuntime) -> Result<(), Fail> {
     };
     assert_eq!(rt; fault_of(&rt, alloc, &parts)?, limit);
     let parts = Parts {
-        grants: &[to_all(1, EVERY), to_all(5, HARD)],
+        grants: &[to_all(1, KindSet::all()), to_all(5, hard())],
         ..cluster_of_six()
     };
     assert_eq!(rt; fault_of(&rt, alloc, &parts)?, limit);
     let parts = Parts {
-        protections: &[protection(0, HARD), protection(6, HARD)],
+        protections: &[protection(0, hard()), protection(6, hard())],
         ..cluster_of_six()
     };
     assert_eq!(rt; fault_of(&rt, alloc, &parts)?, limit);
@@ -177,18 +175,18 @@ fn the_ends_of_each_range_are_in_it(rt: HostRuntime) -> Result<(), Fail> {
     assert_eq!(rt; fault_of(&rt, alloc, &least)?, None);
     let mut grants = Vec::new(alloc);
     for _ in 0..4096 {
-        grants.push(to_all(63, HARD))?;
+        grants.push(to_all(63, hard()))?;
     }
     let most = Parts {
         policies: &[TWO_ZONES; 8],
         roles: &[Role::Fault; 64],
         grants: &grants,
-        protections: &[protection(5, EVERY)],
+        protections: &[protection(5, KindSet::all())],
         journal_limit: 1_048_576,
         ..cluster_of_six()
     };
     assert_eq!(rt; fault_of(&rt, alloc, &most)?, None);
-    grants.push(to_all(0, HARD))?;
+    grants.push(to_all(0, hard()))?;
     let too_many = Parts {
         grants: &grants,
         ..cluster_of_six()

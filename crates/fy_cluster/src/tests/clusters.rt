@@ -1,7 +1,7 @@
 //! Clusters of six processes, two in each of three zones, and of the four of the first two zones.
 use crate::{Config, MakeFault, Protection, Role};
 use fy_grants::{Grant, Scope};
-use fy_kinds::KindSet;
+use fy_kinds::{Kind, KindSet};
 use fy_locality::{Map, MapFault, ProcId};
 use fy_policy::{Policy, PolicyFault, read_policy};
 use std::alloc::{AllocError, Global};
@@ -28,21 +28,10 @@ const ROLES: [Role; 5] = [
     Role::Operator,
 ];
 
-pub(crate) const EVERY: KindSet = KindSet {
-    reboot_process: true,
-    reboot: true,
-    reboot_and_delete: true,
-    kill_instantly: true,
-    clog: true,
-};
-
-pub(crate) const HARD: KindSet = KindSet {
-    reboot_process: false,
-    reboot: true,
-    reboot_and_delete: false,
-    kill_instantly: true,
-    clog: false,
-};
+/// The kinds of the third actor's grant.
+pub(crate) fn hard() -> KindSet {
+    KindSet::of(Kind::Reboot).union(KindSet::of(Kind::KillInstantly))
+}
 
 pub(crate) fn to_all(actor: u32, kinds: KindSet) -> Grant {
     Grant {
@@ -54,7 +43,7 @@ pub(crate) fn to_all(actor: u32, kinds: KindSet) -> Grant {
 
 /// The second actor has every kind, and the third two of them.
 pub(crate) fn usual_grants() -> [Grant; 2] {
-    [to_all(1, EVERY), to_all(2, HARD)]
+    [to_all(1, KindSet::all()), to_all(2, hard())]
 }
 
 /// What a configuration is made of.

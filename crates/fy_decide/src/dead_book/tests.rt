@@ -5,7 +5,8 @@ use fy_locality::{Map, ProcId, ProcSet};
 use fy_policy::{Policy, read_policy};
 use std::alloc::Global;
 
-/// Each process has a machine of its own, two are in each of three zones, and one in each zone may have a data hall.
+/// Each process has a machine of its own, two are in each of three zones, and one in each zone may
+/// have a data hall.
 const PROCESSES: [(&str, &str, &str, Option<&str>); 6] = [
     ("p0", "m0", "z0", Some("h0")),
     ("p1", "m1", "z0", None),
@@ -102,8 +103,8 @@ fn the_first_unmet_policy_is_found(rt: HostRuntime) {
     assert_eq!(rt; unmet_of(alloc, &["Across(2,zoneid,One())"]), Some(None));
 }
 
-/// Asks for one loss after another, each of which is taken down where it may be: whether each answer is the one that
-/// is due.
+/// Asks for one loss after another, each of which is taken down where it may be: whether each
+/// answer is the one that is due.
 fn answers_as_due(book: &mut DeadBook, asks: &[(Loss, u64, bool)]) -> bool {
     for (loss, bits, due) in asks {
         let set = set_of(*bits);
@@ -118,7 +119,8 @@ fn answers_as_due(book: &mut DeadBook, asks: &[(Loss, u64, bool)]) -> bool {
     true
 }
 
-/// Who is destroyed and who is left after these asks, or none where an answer isn't the one that is due.
+/// Who is destroyed and who is left after these asks, or none where an answer isn't the one that is
+/// due.
 fn walked(
     alloc: Global,
     count: u32,
@@ -170,6 +172,40 @@ fn losses_are_taken_down(rt: HostRuntime) {
     ];
     let end = walked(alloc, 4, &["Across(2,zoneid,One())"], &emptied_first);
     assert_eq!(rt; end, Some((0b0011, 0b1110)));
+}
+
+/// 1,024 processes on one machine, every third in the same zone.
+fn large_map(alloc: Global) -> Option<Map> {
+    let mut map = Map::make(alloc);
+    for number in 0..1024 {
+        let zone = match number % 3 {
+            0 => "z0",
+            1 => "z1",
+            _ => "z2",
+        };
+        let name = format!(in alloc; "p{number}").ok()?;
+        let _ = map.add(name.as_str(), "m0", zone, None, None).ok()?;
+    }
+    Some(map)
+}
+
+/// How many of 1,024 are destroyed and left after the loss of two in a zone, or none where an
+/// answer isn't the one that is due.
+fn large_walk(alloc: Global) -> Option<(u32, u32)> {
+    let map = large_map(alloc)?;
+    let policies = read_all(alloc, &["Across(2,zoneid,One())"])?;
+    let mut book = DeadBook::make(alloc, &map, &policies).ok()?;
+    let asks = [(Loss::Gone, 0b001001, true), (Loss::Gone, 0b000010, false)];
+    if answers_as_due(&mut book, &asks) {
+        Some((book.destroyed().len(), book.left().len()))
+    } else {
+        None
+    }
+}
+
+#[test]
+fn a_book_of_1024_processes_is_made(rt: HostRuntime) {
+    assert_eq!(rt; large_walk(rt.alloc()), Some((2, 1022)));
 }
 
 #[test]

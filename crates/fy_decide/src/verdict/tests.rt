@@ -44,16 +44,6 @@ fn policies(alloc: Global, text: &str) -> Option<Vec<Policy>> {
     Some(policies)
 }
 
-fn every_kind() -> KindSet {
-    KindSet {
-        reboot_process: true,
-        reboot: true,
-        reboot_and_delete: true,
-        kill_instantly: true,
-        clog: true,
-    }
-}
-
 fn target(key: Key, value: &str) -> Option<Target> {
     let value = Name::make(value).ok()?;
     Some(Target { key, value })
@@ -100,7 +90,7 @@ impl Yard {
     /// The second of the actors has every kind, the third has `KillInstantly` and `Reboot`.
     fn make(alloc: Global, count: u32, policy: &str) -> Option<Yard> {
         let mut yard = Yard::empty(alloc, count, policy)?;
-        yard.give(1, every_kind()).ok()?;
+        yard.give(1, KindSet::all()).ok()?;
         let both = KindSet::of(Kind::KillInstantly).union(KindSet::of(Kind::Reboot));
         yard.give(2, both).ok()?;
         Some(yard)
@@ -169,7 +159,8 @@ fn refused(rule: Rule) -> Verdict {
     }
 }
 
-/// Gives one order after another: the place of the first whose verdict isn't the one that is due, with its verdict.
+/// Gives one order after another: the place of the first whose verdict isn't the one that is due,
+/// with its verdict.
 fn misjudged(yard: &mut Yard, dues: &[Due<'_>]) -> Option<(usize, Option<Verdict>)> {
     for (place, due) in dues.iter().enumerate() {
         let verdict = match target(due.key, due.value) {
@@ -300,7 +291,8 @@ fn grants_and_protections_come_and_go(rt: HostRuntime) {
     }
 }
 
-/// Whether the second actor may clog a target, then with p1 protected from that; and whether the fourth may.
+/// Whether the second actor may clog a target, then with p1 protected from that; and whether the
+/// fourth may.
 fn clogs(alloc: Global, value: &str) -> Option<(Option<Rule>, Option<Rule>, Option<Rule>)> {
     let mut yard = Yard::make(alloc, 6, TWO_ZONES)?;
     let target = target(Key::Zone, value)?;

@@ -1,4 +1,4 @@
-use Rattle.std.proofs.Common.{ap, sym, ◌∙◌}
+use Rattle.std.proofs.Common.{ap, ◌∙◌}
 use Rattle.std.specs.FinSet as sets
 use Rattle.fy_kinds.specs.Kinds.{Clogging}
 use Rattle.fy_decide.specs.Verdicts.{situation_of, bar}
@@ -7,6 +7,6 @@ use Rattle.fy_decide.proofs.verdict.judge_clog.Goals as goal
 
 pub returns : goal.returns
 returns c =
-    c.leave_bar.ensures c.args.dead.now Clogging (sym c.requires.map) c.of_clog.ensures
+    c.leave_bar.ensures Clogging c.of_clog.ensures
     ∙ bar_of_clog (situation_of c.args.dead.now c.args.book.now c.args.actor) (sets.contains c.targets-targets.result)
     ∙ ap (bar (situation_of c.args.dead.now c.args.book.now c.args.actor) Clogging) (λ i p. c.targets-targets.ensures p i)

@@ -1,4 +1,3 @@
-use Rattle.std.proofs.Common.{length}
 use Rattle.fy_grants.proofs.Lists.{counted_none, one_more}
 use Rattle.fy_grants.proofs.laws.grants_are_counted.Goals as goal
 

@@ -1,7 +1,8 @@
 use Rattle.std.proofs.Common.{◌∙◌, ◌<◌, ap, refl, sym, subst}
 use Rattle.std.specs.FinSet as sets
 use Rattle.fy_decide.specs.Verdicts.{situation_of}
-use Rattle.fy_cluster.specs.Standing.{ChangesAt, MayLose, targets_by, left_on, blank_disk}
+use Rattle.fy_decide.specs.DeadBook.{MayLose}
+use Rattle.fy_cluster.specs.Standing.{ChangesAt, targets_by, left_on, blank_disk}
 use Rattle.fy_cluster.proofs.Judged.{targets_below, spares, strikes_now, chosen}
 use Rattle.fy_cluster.proofs.machine.Machine.kill.Goals as goal
 

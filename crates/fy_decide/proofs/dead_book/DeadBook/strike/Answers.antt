@@ -10,7 +10,7 @@ invariant_of-self c =
     let inside : Casualties = record { processes = c.self.inside.map; policies = c.self.inside.policies.items; destroyed = c.self.inside.destroyed; left = c.self.inside.left } in
     subst (λ d. IsSafe (record inside { destroyed = d })) (sym c.union-self-inside.ensures)
     (IsSafe-emptied inside c.args.set.now c.args.loss c.in-Emptied.is c.self.invariant
-    (subst (λ book. MayDestroy book.processes book.policies (sets.contains book.destroyed) (sets.contains book.left) (sets.contains c.args.set.now) c.args.loss) (sym c.self.view_is) c.requires))
+    (subst (λ dead. MayDestroy dead.processes dead.policies (sets.contains dead.destroyed) (sets.contains dead.left) (sets.contains c.args.set.now) c.args.loss) (sym c.self.view_is) c.requires))
 
 pub invariant_of-self-in-Gone : goal.invariant_of-self-in-Gone
 invariant_of-self-in-Gone c =
@@ -18,4 +18,4 @@ invariant_of-self-in-Gone c =
     subst (λ d. IsSafe (record inside { destroyed = d; left = c.difference-self-inside.result })) (sym c.union-self-inside.ensures)
     (subst (λ l. IsSafe (record inside { destroyed = sets.union c.self.inside.destroyed c.args.set.now; left = l })) (sym c.difference-self-inside.ensures)
     (IsSafe-gone inside c.args.set.now c.args.loss c.in-Gone.is
-    (subst (λ book. MayDestroy book.processes book.policies (sets.contains book.destroyed) (sets.contains book.left) (sets.contains c.args.set.now) c.args.loss) (sym c.self.view_is) c.requires)))
+    (subst (λ dead. MayDestroy dead.processes dead.policies (sets.contains dead.destroyed) (sets.contains dead.left) (sets.contains c.args.set.now) c.args.loss) (sym c.self.view_is) c.requires)))

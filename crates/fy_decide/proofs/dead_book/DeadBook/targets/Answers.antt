@@ -12,4 +12,4 @@ returns c = λ p.
     ∙ swapped (sets.contains c.members.result p) (sets.contains c.self.inside.left p)
     ∙ ap (λ b. sets.contains c.self.inside.left p && b) (c.members.ensures p)
     ∙ ap (λ ps. sets.contains c.self.inside.left p && has_value ps c.args.target.now.key c.args.target.now.value p) c.requires
-    ∙ ap (λ book. sets.contains book.left p && has_value c.args.self.now.processes c.args.target.now.key c.args.target.now.value p) c.self.view_is
+    ∙ ap (λ dead. sets.contains dead.left p && has_value c.args.self.now.processes c.args.target.now.key c.args.target.now.value p) c.self.view_is

@@ -8,7 +8,7 @@ use Rattle.fy_decide.proofs.dead_book.DeadBook.too_few_left.Goals as goal
 
 pub returns : goal.returns
 returns c =
-    c.unmet.ensures.place
+    c.first_short.ensures.place
     ∙ ap (λ qs. position (λ P. not (satisfies c.self.inside.map P (sets.contains c.difference.result))) qs) c.deref.ensures.value
     ∙ ap (λ t. position (λ P. not (satisfies c.self.inside.map P t)) c.self.inside.policies.items) (ap sets.contains c.difference.ensures ∙ difference_is c.self.inside.left c.args.set.now)
-    ∙ ap (λ book. position (λ P. not (satisfies book.processes P (without_set (sets.contains book.left) (sets.contains c.args.set.now)))) book.policies) c.self.view_is
+    ∙ ap (λ dead. position (λ P. not (satisfies dead.processes P (without_set (sets.contains dead.left) (sets.contains c.args.set.now)))) dead.policies) c.self.view_is

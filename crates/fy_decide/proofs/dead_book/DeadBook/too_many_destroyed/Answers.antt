@@ -8,7 +8,7 @@ use Rattle.fy_decide.proofs.dead_book.DeadBook.too_many_destroyed.Goals as goal
 
 pub returns : goal.returns
 returns c =
-    c.met.ensures
+    c.first_satisfied.ensures
     ∙ ap (λ qs. position (λ P. satisfies c.self.inside.map P (sets.contains c.union.result)) qs) c.deref.ensures.value
     ∙ ap (λ t. position (λ P. satisfies c.self.inside.map P t) c.self.inside.policies.items) (ap sets.contains c.union.ensures ∙ union_is c.self.inside.destroyed c.args.set.now)
-    ∙ ap (λ book. position (λ P. satisfies book.processes P (with_set (sets.contains book.destroyed) (sets.contains c.args.set.now))) book.policies) c.self.view_is
+    ∙ ap (λ dead. position (λ P. satisfies dead.processes P (with_set (sets.contains dead.destroyed) (sets.contains c.args.set.now))) dead.policies) c.self.view_is

@@ -20,7 +20,7 @@ invariant_of-self-2 c =
     let vecs = c.self.inside.grants.items in
     let within : c.args.grant.actor < length c.self.inside.grants.items = omega (arith, c.self.inside.grants.ok.0) in
     subst (λ lists. IsCounted lists (c.self.inside.given + 1)) (sym (written vecs c.args.grant.actor _ _ (c.in_ok-push_last.ensures.ok ∙ ap (λ own. own ++ c.args.grant ∷ []) (own_items vecs c.args.grant.actor _ within c.index_mut.ensures.value))))
-    (counted_more (lists_of vecs) c.self.inside.given c.args.grant.actor c.args.grant c.self.invariant (within_lists vecs _ within) c.if-self-ge4096.false)
+    (counted_more (lists_of vecs) c.self.inside.given c.args.grant.actor c.args.grant c.self.invariant (within_lists vecs _ within) c.if-self-ge-MOST_GRANTS.false)
 
 pub returns-clause-given : goal.returns-clause-given
 returns-clause-given c =
