@@ -1,13 +1,13 @@
 -- equality of acts decides whether they are the same
-use Rattle.std.proofs.Common.{◌≡◌, ℕ, ◌≤◌, Bool, true, false, ◌&&◌, List, refl, ap, ap₂, subst, rules}
+use Rattle.std.proofs.Common.{◌≡◌, ℕ, ◌≤◌, Bool, true, false, ◌&&◌, List, refl, sym, ◌∙◌, ap, ap₂, subst, rules}
 use Rattle.std.specs.Bool.{Decides, beq}
 use Rattle.std.specs.Prelude.{Option, nat_eq}
-use Rattle.std.proofs.lemmas.Bool.{false≢true}
+use Rattle.std.proofs.lemmas.Bool.{false≢true, and_parts}
 use Rattle.std.proofs.lemmas.Slice.Eq.{slice_eq-Decides, bytes_eq-Decides}
 use Rattle.std.proofs.Math.Bridge.{le_prop}
 use Rattle.fy_locality.specs.declared.ProcId.{ProcId}
 use Rattle.fy_kinds.specs.declared.kind.Kind.{Kind}
-use Rattle.fy_kinds.specs.Kinds.{rank}
+use Rattle.fy_kinds.specs.Kinds.{rank, bits_of, set_of_bits}
 use Rattle.fy_kinds.specs.declared.order.Target.{Target}
 use Rattle.fy_kinds.specs.Orders.{Order}
 use Rattle.fy_kinds.specs.declared.kind_set.KindSet.{KindSet}
@@ -70,8 +70,23 @@ same_process p q = said _ (same_number p.0 q.0) (λ e. λ i. record { 0 = e i })
 same_members : (ps qs : List ProcId) → Decides (same_numbers ps qs) (ps ≡ qs)
 same_members ps qs = slice_eq-Decides same_process ps qs (same_numbers ps qs) refl
 
-same_kinds : (a b : KindSet) → Decides (kinds.ghosts.eq a b) (a ≡ b)
-same_kinds a b =
+-- a test that passes at both truth values passes at each
+abbrev at_both : (Bool → Bool) → Bool
+at_both test = test true && test false
+
+at_each : (test : Bool → Bool) → at_both test ≡ true → (b : Bool) → test b ≡ true
+at_each test e true = (and_parts (test true) (test false) e).0
+at_each test e false = (and_parts (test true) (test false) e).1
+
+abbrev kinds_of : Bool → Bool → Bool → Bool → Bool → KindSet
+kinds_of p r d k c = record { reboot_process = p; reboot = r; reboot_and_delete = d; kill_instantly = k; clog = c }
+
+-- two sets by their members
+abbrev are_alike : KindSet → KindSet → Bool
+are_alike a b = beq a.reboot_process b.reboot_process && (beq a.reboot b.reboot && (beq a.reboot_and_delete b.reboot_and_delete && (beq a.kill_instantly b.kill_instantly && beq a.clog b.clog)))
+
+alike : (a b : KindSet) → Decides (are_alike a b) (a ≡ b)
+alike a b =
     said _
     (both _ _ (same_bool a.reboot_process b.reboot_process)
     (both _ _ (same_bool a.reboot b.reboot)
@@ -79,6 +94,33 @@ same_kinds a b =
     (both _ _ (same_bool a.kill_instantly b.kill_instantly) (same_bool a.clog b.clog)))))
     (λ w. λ i. record { reboot_process = w.0 i; reboot = w.1.0 i; reboot_and_delete = w.1.1.0 i; kill_instantly = w.1.1.1.0 i; clog = w.1.1.1.1 i })
     (λ e. (ap (λ (k : KindSet). k.reboot_process) e, (ap (λ (k : KindSet). k.reboot) e, (ap (λ (k : KindSet). k.reboot_and_delete) e, (ap (λ (k : KindSet). k.kill_instantly) e, ap (λ (k : KindSet). k.clog) e)))))
+
+-- a set is had back from its bits
+abbrev goes_back : Bool → Bool → Bool → Bool → Bool → Bool
+goes_back p r d k c = are_alike (set_of_bits (bits_of (kinds_of p r d k c))) (kinds_of p r d k c)
+
+all_go_back : at_both (λ p. at_both (λ r. at_both (λ d. at_both (λ k. at_both (λ c. goes_back p r d k c))))) ≡ true
+all_go_back = refl
+
+had_back : (a : KindSet) → set_of_bits (bits_of a) ≡ a
+had_back a =
+    let p = a.reboot_process in
+    let r = a.reboot in
+    let d = a.reboot_and_delete in
+    let k = a.kill_instantly in
+    (alike (set_of_bits (bits_of a)) a).0
+    (at_each (λ c. goes_back p r d k c)
+    (at_each (λ k. at_both (λ c. goes_back p r d k c))
+    (at_each (λ d. at_both (λ k. at_both (λ c. goes_back p r d k c)))
+    (at_each (λ r. at_both (λ d. at_both (λ k. at_both (λ c. goes_back p r d k c))))
+    (at_each (λ p. at_both (λ r. at_both (λ d. at_both (λ k. at_both (λ c. goes_back p r d k c))))) all_go_back p)
+    r)
+    d)
+    k)
+    a.clog)
+
+same_kinds : (a b : KindSet) → Decides (kinds.ghosts.eq a b) (a ≡ b)
+same_kinds a b = said _ (same_number (bits_of a) (bits_of b)) (λ e. sym (had_back a) ∙ ap set_of_bits e ∙ had_back b) (ap bits_of)
 
 same_scope : (a b : Scope) → Decides (scopes.ghosts.eq a b) (a ≡ b)
 same_scope All All = (λ h. refl, λ e. refl)
