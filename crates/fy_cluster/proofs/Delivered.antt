@@ -23,7 +23,8 @@ use Rattle.fy_cluster.specs.declared.machine.Machine.{Machine}
 use Rattle.fy_cluster.specs.Setup.{Setup}
 use Rattle.fy_cluster.specs.History.{History, Moment, BegunRecord, some_is, sent, in_flight, now, clogged, up, writes, store_to, word_of, marks, marked, teams, records, members_for, payload_of, synced, unsynced}
 use Rattle.fy_cluster.specs.Replies.{refused, refusals, answer, on_delivery, is_down_store, is_acked_with}
-use Rattle.fy_cluster.specs.Standing.{Stands, Turn, Follows, moment_of, KeepsNet, KeepsTeams, stored, blank_disk, begun_of, IsLived}
+use Rattle.fy_disk.specs.Disk.{blank}
+use Rattle.fy_cluster.specs.Standing.{Stands, Turn, Follows, moment_of, KeepsNet, KeepsTeams, stored, begun_of, IsLived}
 use Rattle.fy_cluster.proofs.Still.{dead_still, up_still, disks_still, teams_still, rights_still, stored_still}
 use Rattle.fy_cluster.proofs.DiskSteps.{synced_else, unsynced_else, own}
 use Rattle.fy_cluster.proofs.Refusals.{refuse}
@@ -120,7 +121,7 @@ stores turn n rec to machine disk payload after k e there x u held was e1 e2 e3 
     rights = rw e2 (rights_still c m h machine.book refl refl refl refl k.rights);
     disks = rw e6 (record {
       count = length-set machine.disks.items to.0 _ ∙ k.disks.count;
-      each = λ p l. after_set machine.disks.items to.0 p _ blank_disk room (let n = k.disks.count in omega arith) ∙ at p l (p == to.0) refl;
+      each = λ p l. after_set machine.disks.items to.0 p _ blank room (let n = k.disks.count in omega arith) ∙ at p l (p == to.0) refl;
     });
     up = rw e3 (up_still c m h machine.up (λ p. refl) refl k.up);
     net = rw e4 (net_left c m h machine.net n f.0 refl (λ i. or_nothing (n == i) ∙ swap_eq i n) refl refl refl k.net);

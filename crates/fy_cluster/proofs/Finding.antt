@@ -13,7 +13,8 @@ use Rattle.fy_audit.specs.declared.entry.Entry.{Entry}
 use Rattle.fy_cluster.specs.declared.machine.Machine.{Machine}
 use Rattle.fy_cluster.specs.Setup.{Setup}
 use Rattle.fy_cluster.specs.History.{History, history, members_for, acked, keeps, keeper}
-use Rattle.fy_cluster.specs.Standing.{Stands, IsKept, stored, blank_disk}
+use Rattle.fy_disk.specs.Disk.{blank}
+use Rattle.fy_cluster.specs.Standing.{Stands, IsKept, stored}
 use Rattle.fy_cluster.specs.Sights.{keeps_on}
 use Rattle.fy_cluster.proofs.Keepers.{LeastFound, among_is, members_there, sound_after}
 use Rattle.fy_cluster.proofs.Records.{Tested, Sound}
@@ -96,7 +97,7 @@ least_same set test test' same (Some p) least = record {
 
 -- what the machine says of a process
 keeps_is : (c : Setup) (h : History) (m : Machine) → Stands c h m → (rec p : ℕ) → p < length c.processes → keeps_on m rec p ≡ keeps h rec p
-keeps_is c h m k rec p l = ap₂ (λ a b. not a && b) (k.dead.destroyed p) (ap (λ (d : OnDisk). list_any (λ item. item.rec == rec) d.synced) (get_or_from_slice_get m.disks.items p (stored h p) blank_disk (k.disks.each p l)))
+keeps_is c h m k rec p l = ap₂ (λ a b. not a && b) (k.dead.destroyed p) (ap (λ (d : OnDisk). list_any (λ item. item.rec == rec) d.synced) (get_or_from_slice_get m.disks.items p (stored h p) blank (k.disks.each p l)))
 
 pub no_keeper : Tested → (c : Setup) (journal : List Entry) (m : Machine) (rec : ℕ) → IsKept c journal m → is_acked m.teams rec ≡ false → None ≡ keeper c (history c journal) rec
 no_keeper tested c journal m rec kept e =

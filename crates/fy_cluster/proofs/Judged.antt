@@ -26,7 +26,8 @@ use Rattle.fy_cluster.specs.Setup.{Setup}
 use Rattle.fy_cluster.specs.History.{History, Moment, some_is, strikes, destroys, closes, syncs, writes, tear_of, destroyed, gone, left, up, synced, unsynced, sent, now, takes_out, clogs, unclogs, sends_of, clogged_at}
 use Rattle.fy_cluster.specs.Rules.{situation}
 use Rattle.fy_cluster.specs.Replies.{refused, refusals, answer}
-use Rattle.fy_cluster.specs.Standing.{Stands, Turn, Follows, moment_of, following, KeepsDead, KeepsDisks, KeepsUp, ChangesAt, ClogsChange, clog_end, unclog_end, targets_by, clog_bar, buried, stored, left_on, blank_disk}
+use Rattle.fy_disk.specs.Disk.{blank}
+use Rattle.fy_cluster.specs.Standing.{Stands, Turn, Follows, moment_of, following, KeepsDead, KeepsDisks, KeepsUp, ChangesAt, ClogsChange, clog_end, unclog_end, targets_by, clog_bar, buried, stored, left_on}
 use Rattle.fy_cluster.proofs.Still.{Doings, doings, nothing, clog_alone, unmoved, only_net, none_taken_out, net_still, teams_still, rights_still, stored_still, disk_closes}
 use Rattle.fy_cluster.proofs.DiskSteps.{synced_at_close, unsynced_at_close, synced_at_strike}
 use Rattle.fy_cluster.proofs.Flights.{flying_still}
@@ -256,11 +257,11 @@ element : {X : Type 0} (xs : List X) (i : ℕ) (other x : X) → i < length xs �
 element xs i other x l e = some_is_same (get_or xs i other) x (sym (slice_get-get_or xs i other l) ∙ e)
 
 disks_struck : (c : Setup) (m : Moment) (h : History) (old new : List Stored) (set : sets.FinSet nat_cmp) (kind : Kind) (tear : ℕ) → ((p : ℕ) → strikes m p ≡ at_target (sets.contains set p) kind)
-    → syncs m.entry.act m.entry.reply ≡ None → ((p : ℕ) → writes m p ≡ None) → tear_of m.entry.act ≡ tear → ChangesAt (sets.contains set) (left_on kind tear) blank_disk old new
+    → syncs m.entry.act m.entry.reply ≡ None → ((p : ℕ) → writes m p ≡ None) → tear_of m.entry.act ≡ tear → ChangesAt (sets.contains set) (left_on kind tear) blank old new
     → KeepsDisks c h old → KeepsDisks c (m ∷ h) new
 disks_struck c m h old new set kind tear struck_is idle w torn changed k = record {
   count = changed.count ∙ k.count;
-  each = λ p l. slice_get-get_or new p blank_disk (let a = changed.count in let b = k.count in omega arith) ∙ ap Some (changed.each p (let b = k.count in omega arith) ∙ ap (λ d. if sets.contains set p then left_on kind tear d else d) (element old p blank_disk (stored h p) (let b = k.count in omega arith) (k.each p l)) ∙ at p (sets.contains set p) (struck_is p));
+  each = λ p l. slice_get-get_or new p blank (let a = changed.count in let b = k.count in omega arith) ∙ ap Some (changed.each p (let b = k.count in omega arith) ∙ ap (λ d. if sets.contains set p then left_on kind tear d else d) (element old p blank (stored h p) (let b = k.count in omega arith) (k.each p l)) ∙ at p (sets.contains set p) (struck_is p));
 }
   where
     at : (p : ℕ) (b : Bool) → strikes m p ≡ at_target b kind → (if b then left_on kind tear (stored h p) else stored h p) ≡ stored (m ∷ h) p
@@ -271,7 +272,7 @@ disks_struck c m h old new set kind tear struck_is idle w torn changed k = recor
 pub strikes_now : {turn : Turn} (order : Order) {v : VerdictOf} {kind : Kind} {machine : Machine} (set : sets.FinSet nat_cmp) {by : ℕ} (after : Machine) → Stands turn.setup turn.before machine
     → by ≡ turn.by → v ≡ verdict (situation_of machine.dead machine.book by) order → v.struck ≡ Some kind
     → ((p : ℕ) → sets.contains set p ≡ targets_by machine order.target p)
-    → ChangesAt (sets.contains set) (left_on kind order.tear) blank_disk machine.disks.items after.disks.items
+    → ChangesAt (sets.contains set) (left_on kind order.tear) blank machine.disks.items after.disks.items
     → after.up ≡ sets.difference machine.up set → after.dead ≡ buried machine.dead set kind
     → after.book ≡ machine.book → after.net ≡ machine.net → after.teams ≡ machine.teams → Follows turn (Kill order) (Verdict v) after
 strikes_now {turn} order {v} {kind} {machine} set {by} after k actor is hit who changed ups dead book net teams = record {

@@ -15,7 +15,8 @@ use Rattle.fy_cluster.specs.declared.machine.Machine.{Machine}
 use Rattle.fy_cluster.specs.declared.sight.Sight.{Sight}
 use Rattle.fy_cluster.specs.Setup.{Setup}
 use Rattle.fy_cluster.specs.History.{History, left, up, unsynced}
-use Rattle.fy_cluster.specs.Standing.{Stands, stored, blank_disk}
+use Rattle.fy_disk.specs.Disk.{blank}
+use Rattle.fy_cluster.specs.Standing.{Stands, stored}
 use Rattle.fy_cluster.specs.Sights.{IsLeastNumber, LeastNumber, LeastProcess, has_unsynced, is_behind, is_asleep, Sees}
 use Rattle.fy_cluster.proofs.Deliverable.{first_free_is}
 
@@ -77,10 +78,10 @@ behind_is c h m k p = at (nat_lt p (length c.processes)) refl
     at : (b : Bool) → nat_lt p (length c.processes) ≡ b → (sets.contains m.up p && has_unsynced m.disks.items p) ≡ (b && up h p && nat_lt 0 (length (unsynced h p)))
     at true e =
         let there : p < length c.processes = grind (arith, nat_tests) in
-        ap₂ (λ a b. a && b) (k.up.each p there) (ap (λ (d : OnDisk). nat_lt 0 (length d.unsynced)) (get_or_from_slice_get m.disks.items p (stored h p) blank_disk (k.disks.each p there)))
+        ap₂ (λ a b. a && b) (k.up.each p there) (ap (λ (d : OnDisk). nat_lt 0 (length d.unsynced)) (get_or_from_slice_get m.disks.items p (stored h p) blank (k.disks.each p there)))
     at false e =
         let beyond : length m.disks.items ≤ p = let n = k.disks.count in grind (arith, nat_tests) in
-        and_right (sets.contains m.up p) _ (ap (λ (d : OnDisk). nat_lt 0 (length d.unsynced)) (get_or_past m.disks.items p blank_disk beyond))
+        and_right (sets.contains m.up p) _ (ap (λ (d : OnDisk). nat_lt 0 (length d.unsynced)) (get_or_past m.disks.items p blank beyond))
 
 -- who is left and down, beyond the last process too
 asleep_is : (c : Setup) (h : History) (m : Machine) → Stands c h m → (p : ℕ) → sets.contains (sets.difference m.dead.left m.up) p ≡ is_asleep c h p

@@ -29,7 +29,8 @@ use Rattle.fy_cluster.specs.Rules.{grants_to, some_protects}
 use Rattle.fy_cluster.proofs.Grants.{GivesLists}
 use Rattle.fy_cluster.proofs.Records.{Tested}
 use Rattle.fy_audit.specs.declared.entry.Entry.{Entry}
-use Rattle.fy_cluster.specs.Standing.{Stands, KeepsRights, blank_disk, IsKept}
+use Rattle.fy_disk.specs.Disk.{blank}
+use Rattle.fy_cluster.specs.Standing.{Stands, KeepsRights, IsKept}
 
 and_true : (b : Bool) → b ≡ (b && true)
 and_true true = refl
@@ -38,7 +39,7 @@ and_true false = refl
 none_before : (t n p : ℕ) → p < n → false ≡ nat_lt t (get_or (replicate n 0) p 0)
 none_before t n p l = rw (get_or-replicate {A = ℕ} n p 0 0 l) (let none : nat_lt t 0 ≡ false = grind (arith, nat_tests) in sym none)
 
-pub stands_at_start : (c : Setup) (m : Machine) → length c.processes ≤ 1024 → IsFresh c.processes c.policies m.dead → KeepsRights c [] m.book → m.disks.items ≡ replicate (length c.processes) blank_disk
+pub stands_at_start : (c : Setup) (m : Machine) → length c.processes ≤ 1024 → IsFresh c.processes c.policies m.dead → KeepsRights c [] m.book → m.disks.items ≡ replicate (length c.processes) blank
     → ((p : ℕ) → sets.contains m.up p ≡ nat_lt p (length c.processes)) → m.net ≡ quiet (length c.processes) → m.teams ≡ nobody → Stands c [] m
 stands_at_start c m few fresh rights disks up net teams = record {
   dead = record {
@@ -50,8 +51,8 @@ stands_at_start c m few fresh rights disks up net teams = record {
   };
   rights = rights;
   disks = record {
-    count = ap length disks ∙ length-replicate (length c.processes) blank_disk;
-    each = λ p l. ap (λ ds. slice_get ds p) disks ∙ slice_get-get_or (replicate (length c.processes) blank_disk) p blank_disk (let n = length-replicate (length c.processes) blank_disk in omega arith) ∙ ap Some (get_or-replicate (length c.processes) p blank_disk blank_disk l);
+    count = ap length disks ∙ length-replicate (length c.processes) blank;
+    each = λ p l. ap (λ ds. slice_get ds p) disks ∙ slice_get-get_or (replicate (length c.processes) blank) p blank (let n = length-replicate (length c.processes) blank in omega arith) ∙ ap Some (get_or-replicate (length c.processes) p blank blank l);
   };
   up = record { each = λ p l. up p ∙ (let there : nat_lt p (length c.processes) ≡ true = grind (arith, nat_tests) in there) };
   net = rw net (record {

@@ -14,7 +14,8 @@ use Rattle.fy_cluster.specs.declared.machine.Machine.{Machine}
 use Rattle.fy_cluster.specs.Setup.{Setup}
 use Rattle.fy_cluster.specs.History.{History, Moment, up, sent, synced, unsynced, closes, close_keeps, words_of}
 use Rattle.fy_cluster.specs.Replies.{refused, refusals, answer, no_process, is_full}
-use Rattle.fy_cluster.specs.Standing.{Stands, Turn, Follows, moment_of, stored, blank_disk, Sends}
+use Rattle.fy_disk.specs.Disk.{blank}
+use Rattle.fy_cluster.specs.Standing.{Stands, Turn, Follows, moment_of, stored, Sends}
 use Rattle.fy_cluster.proofs.Still.{dead_still, up_still, teams_still, rights_still, stored_still}
 use Rattle.fy_cluster.proofs.DiskSteps.{synced_at_close, unsynced_at_close}
 use Rattle.fy_cluster.proofs.Refusals.{refuse}
@@ -59,7 +60,7 @@ synced_now turn p machine disk room net first count after k known there ups was 
     rights = rw e2 (rights_still c m h machine.book refl refl refl refl k.rights);
     disks = rw e6 (record {
       count = length-set machine.disks.items p.0 _ ∙ k.disks.count;
-      each = λ q l. after_set machine.disks.items p.0 q _ blank_disk (let n = k.disks.count in omega arith) (let n = k.disks.count in omega arith) ∙ at q l (q == p.0) refl;
+      each = λ q l. after_set machine.disks.items p.0 q _ blank (let n = k.disks.count in omega arith) (let n = k.disks.count in omega arith) ∙ at q l (q == p.0) refl;
     });
     up = rw e3 (up_still c m h machine.up (λ q. refl) refl k.up);
     net = rw e4 (net_sent c m h machine.net net (words_of p disk.unsynced) (ap (λ (d : OnDisk). words_of p d.unsynced) (sym disk_is))

@@ -1,7 +1,7 @@
 -- What the entries before a moment have done. A journal has the oldest entry first. A history has
 -- the newest first, so that what was before a moment is the rest of the list, and beside each entry
 -- it has what that entry did.
-use Rattle.std.specs.Prelude.{ℕ, ◌+◌, ◌^◌, min, Bool, true, false, ◌&&◌, ◌||◌, not, List, [], ◌∷◌, ◌++◌, length, map, find, filter, Option, Some, None, is_some, is_none, option_map, unwrap_or, option_to_list, option_and_then, nat_lt, ◌==◌, slice_get, if◌then◌else◌}
+use Rattle.std.specs.Prelude.{ℕ, ◌+◌, min, Bool, true, false, ◌&&◌, ◌||◌, not, List, [], ◌∷◌, ◌++◌, length, map, find, filter, Option, Some, None, is_some, is_none, option_map, unwrap_or, option_to_list, option_and_then, nat_lt, ◌==◌, slice_get, if◌then◌else◌}
 use Rattle.std.specs.List.{list_any, list_all, range_with_len}
 use Rattle.std.specs.Option.{option_map_or}
 use Rattle.fy_locality.specs.declared.ProcId.{ProcId}

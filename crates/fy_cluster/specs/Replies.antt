@@ -1,5 +1,5 @@
 -- the reply to each act, and which journals are legal
-use Rattle.std.specs.Prelude.{◌≡◌, ℕ, ◌+◌, ◌^◌, ◌≤◌, Bool, true, false, ◌||◌, not, List, [], ◌∷◌, length, nat_lt, nat_le, ◌==◌, slice_get, sum_by}
+use Rattle.std.specs.Prelude.{◌≡◌, ℕ, ◌+◌, ◌≤◌, Bool, true, false, ◌||◌, not, List, [], ◌∷◌, length, nat_lt, nat_le, ◌==◌, slice_get, sum_by}
 use Rattle.std.specs.List.{list_any, list_all, range_with_len}
 use Rattle.std.specs.Option.{option_map_or}
 use Rattle.fy_grants.specs.declared.book.TheConstants.{MOST_GRANTS}

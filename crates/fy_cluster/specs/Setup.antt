@@ -8,6 +8,7 @@ use Rattle.fy_policy.specs.Sat.{Sat}
 use Rattle.fy_grants.specs.declared.grant.Grant.{Grant}
 use Rattle.fy_grants.specs.declared.book.TheConstants.{MOST_GRANTS}
 use Rattle.fy_decide.specs.Losses.{everyone, first_unmet}
+use Rattle.fy_cluster.specs.declared.config.TheConstants.{MOST_POLICIES, MOST_ACTORS, MOST_JOURNAL_ENTRIES}
 use Rattle.fy_cluster.specs.declared.role.Role.{Role}
 use Rattle.fy_cluster.specs.declared.config.Protection.{Protection}
 use Rattle.fy_cluster.specs.declared.config.MakeFault.{MakeFault}
@@ -48,12 +49,12 @@ is_between least most n = nat_le least n && nat_le n most
 -- protection of a process that is there, and a journal of 1 to 2^20 entries
 abbrev pub is_in_range : Setup → Bool
 is_in_range c =
-    is_between 1 8 (length c.policies)
-    && is_between 1 64 (length c.roles)
+    is_between 1 MOST_POLICIES (length c.policies)
+    && is_between 1 MOST_ACTORS (length c.roles)
     && nat_le (length c.grants) MOST_GRANTS
     && list_all (λ grant. nat_lt grant.actor (length c.roles)) c.grants
     && list_all (λ protection. nat_lt protection.process.0 (length c.processes)) c.protections
-    && is_between 1 1048576 c.limit
+    && is_between 1 MOST_JOURNAL_ENTRIES c.limit
 
 -- everything is in its range, and every policy is met
 pub record IsSetup (c : Setup) : Type 0 where

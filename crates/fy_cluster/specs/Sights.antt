@@ -12,7 +12,7 @@ use Rattle.fy_cluster.specs.declared.sight.Sight.{Sight}
 use Rattle.fy_cluster.specs.Setup.{Setup}
 use Rattle.fy_cluster.specs.History.{History, left, up, unsynced, now, members_for, keeps}
 use Rattle.fy_cluster.specs.Replies.{refusals}
-use Rattle.fy_cluster.specs.Standing.{blank_disk}
+use Rattle.fy_disk.specs.Disk.{blank}
 
 -- ---- keepers
 
@@ -24,7 +24,7 @@ IsLeastKeeper h rec p = IsLeastWith (is_among (members_for h rec)) (keeps h rec)
 abbrev pub keeps_on : Machine → ℕ → ℕ → Bool
 keeps_on m rec p =
     not (sets.contains m.dead.destroyed p)
-    && list_any (λ item. item.rec == rec) (slice_index_or m.disks.items p blank_disk).synced
+    && list_any (λ item. item.rec == rec) (slice_index_or m.disks.items p blank).synced
 
 -- ---- what may come next
 
@@ -42,7 +42,7 @@ is_asleep c h p = left c h p && not (up h p)
 
 -- the disk of the process has writes that aren't synced
 abbrev pub has_unsynced : List Stored → ℕ → Bool
-has_unsynced disks p = nat_lt 0 (length (slice_index_or disks p blank_disk).unsynced)
+has_unsynced disks p = nat_lt 0 (length (slice_index_or disks p blank).unsynced)
 
 -- n passes the test, and no number below it does
 pub record IsLeastNumber (test : ℕ → Bool) (n : ℕ) : Type 0 where

@@ -4,6 +4,7 @@ use Rattle.std.specs.List.{list_any}
 use Rattle.std.specs.Option.{option_map_or}
 use Rattle.std.specs.Ordering.{nat_cmp}
 use Rattle.std.specs.FinSet as sets
+use Rattle.fy_locality.specs.declared.TheConstants.{MOST_PROCESSES}
 use Rattle.fy_kinds.specs.declared.kind.Kind.{Kind}
 use Rattle.fy_kinds.specs.declared.kind.Kind.TheVariants.{RebootProcess, Reboot, RebootAndDelete, KillInstantly}
 use Rattle.fy_kinds.specs.declared.order.Target.{Target}
@@ -12,8 +13,7 @@ use Rattle.fy_kinds.specs.Kinds.{Deed, Clogging, has}
 use Rattle.fy_grants.specs.Rights.{Rights, grants_of, protections_of}
 use Rattle.fy_decide.specs.DeadBook.{Casualties, struck}
 use Rattle.fy_decide.specs.Verdicts.{situation_of, targets, bar, loss_of}
-use Rattle.fy_disk.specs.declared.item.Item.{Item}
-use Rattle.fy_disk.specs.Disk.{Stored, survivors}
+use Rattle.fy_disk.specs.Disk.{Stored, blank, crashed}
 use Rattle.fy_net.specs.declared.message.Body.{Body}
 use Rattle.fy_net.specs.declared.message.Message.{Message}
 use Rattle.fy_net.specs.declared.fault.NetFault.{NetFault}
@@ -44,7 +44,7 @@ use Rattle.fy_cluster.specs.Replies.{refusals, answer, reply, refused, Legal}
 pub record KeepsDead (c : Setup) (h : History) (dead : Casualties) : Type 0 where
   pub processes : dead.processes ≡ c.processes
   pub policies : dead.policies ≡ c.policies
-  pub few : length c.processes ≤ 1024
+  pub few : length c.processes ≤ MOST_PROCESSES
   pub destroyed : (p : ℕ) → sets.contains dead.destroyed p ≡ destroyed h p
   pub left : (p : ℕ) → sets.contains dead.left p ≡ left c h p
 
@@ -64,21 +64,12 @@ pub record KeepsRights (c : Setup) (h : History) (rights : Rights) : Type 0 wher
 abbrev pub stored : History → ℕ → Stored
 stored h p = record { synced = synced h p; unsynced = unsynced h p }
 
--- a disk with nothing on it
-abbrev pub blank_disk : Stored
-blank_disk = record { synced = []; unsynced = [] }
-
--- a disk with one more item that isn't synced
-abbrev pub written : Item → Stored → Stored
-written item disk = record { synced = disk.synced; unsynced = disk.unsynced ++ item ∷ [] }
-
 -- what a strike leaves on a disk
 abbrev pub left_on : Kind → ℕ → Stored → Stored
 left_on RebootProcess tear disk = disk
-left_on Reboot tear disk =
-    record { synced = disk.synced ++ survivors tear disk.unsynced; unsynced = [] }
-left_on RebootAndDelete tear disk = blank_disk
-left_on KillInstantly tear disk = blank_disk
+left_on Reboot tear disk = crashed tear disk
+left_on RebootAndDelete tear disk = blank
+left_on KillInstantly tear disk = blank
 
 -- the elements at the numbers of a set are changed, and no others; `blank` stands for one that
 -- isn't there

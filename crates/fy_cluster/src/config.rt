@@ -13,11 +13,11 @@ use std::alloc::{AllocError, Global};
 use std::marker::Model;
 
 /// How many policies there may be, from 1.
-const MOST_POLICIES: usize = 8;
+pub const MOST_POLICIES: usize = 8;
 /// How many actors there may be, from 1.
-const MOST_ACTORS: usize = 64;
-/// How many entries a journal may have, from 1.
-const MOST_ENTRIES: u32 = 1_048_576;
+pub const MOST_ACTORS: usize = 64;
+/// How many entries the journal of a cluster may have, from 1.
+pub const MOST_JOURNAL_ENTRIES: u32 = 1_048_576;
 
 /// A process that is protected from the start, and from which kinds. Of several of one process each counts.
 #[derive(Clone, Copy, PartialEq, Eq, Debug)]
@@ -115,7 +115,7 @@ fn is_in_range(
         && grants.len() <= MOST_GRANTS
         && are_of_actors(grants, roles.len())
         && are_of_processes(protections, map.len())
-        && (1..=MOST_ENTRIES).contains(&journal_limit)
+        && (1..=MOST_JOURNAL_ENTRIES).contains(&journal_limit)
 }
 
 impl Config {

@@ -5,7 +5,8 @@ ghost use Rattle.fy_decide.specs.declared.dead_book.Loss.{Loss};
 ghost use Rattle.fy_decide.specs.Verdicts.{loss_of};
 ghost use Rattle.fy_audit.specs.declared.act.Act.TheVariants.{Kill};
 ghost use Rattle.fy_decide.specs.DeadBook.{MayLose};
-ghost use Rattle.fy_cluster.specs.Standing.{Turn, Stands, Follows, buried, ChangesAt, left_on, blank_disk};
+ghost use Rattle.fy_disk.specs.Disk.{blank};
+ghost use Rattle.fy_cluster.specs.Standing.{Turn, Stands, Follows, buried, ChangesAt, left_on};
 
 use crate::machine::Machine;
 use fy_audit::Reply;
@@ -28,7 +29,7 @@ fn strike_disk(disk: &mut Disk, kind: Kind, tear: u64)
 /// Strikes the disk of each target.
 fn strike_disks(disks: &mut Vec<Disk>, targets: &ProcSet, kind: Kind, tear: u64)
     requires { (p : ℕ) → sets.contains targets.now p ≡ true → p < length disks.old.items }
-    ensures { ChangesAt (sets.contains targets.now) (left_on kind tear) blank_disk
+    ensures { ChangesAt (sets.contains targets.now) (left_on kind tear) blank
         disks.old.items disks.new.items }
 {
     for p in targets.iter() {

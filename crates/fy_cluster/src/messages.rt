@@ -4,7 +4,8 @@ ghost use Rattle.fy_net.specs.Net.{body_of, take_refusal, left_by};
 ghost use Rattle.fy_net.specs.declared.message.Body.TheVariants.{Store, Synced};
 ghost use Rattle.fy_audit.specs.declared.act.Act.TheVariants.{Deliver, Lose, Sync};
 ghost use Rattle.fy_cluster.specs.History.{words_of};
-ghost use Rattle.fy_cluster.specs.Standing.{Turn, Stands, Follows, Comes, IsLived, Sends, no_room, written, blank_disk};
+ghost use Rattle.fy_disk.specs.Disk.{written, blank};
+ghost use Rattle.fy_cluster.specs.Standing.{Turn, Stands, Follows, Comes, IsLived, Sends, no_room};
 ghost use Rattle.fy_cluster.specs.declared.fault.Fault.TheVariants.{NoMemory};
 
 use crate::Fault;
@@ -55,7 +56,7 @@ fn take_out(net: &mut Net, message: u64)
 fn write_to(disks: &mut Vec<Disk>, p: ProcId, item: Item) -> Result<(), Fault>
     requires { p.0 < length disks.old.items }
     ensures written { OnOk result (disks.new.items ≡ slice_set disks.old.items p.0
-        (written item (slice_index_or disks.old.items p.0 blank_disk))) }
+        (written item (slice_index_or disks.old.items p.0 blank))) }
     ensures memory { IfErr result (λ fault. fault ≡ NoMemory) }
     ensures err { OnErr result (disks.new.items ≡ disks.old.items) }
 {

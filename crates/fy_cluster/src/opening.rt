@@ -7,7 +7,8 @@ ghost use Rattle.fy_grants.specs.Rights.{grants_of, protections_of, grant_count}
 ghost use Rattle.fy_decide.specs.DeadBook.{IsFresh};
 ghost use Rattle.fy_net.specs.Net.{quiet};
 ghost use Rattle.fy_cluster.specs.Rules.{grants_to, some_protects};
-ghost use Rattle.fy_cluster.specs.Standing.{Stands, KeepsRights, blank_disk};
+ghost use Rattle.fy_disk.specs.Disk.{blank};
+ghost use Rattle.fy_cluster.specs.Standing.{Stands, KeepsRights};
 
 use crate::machine::Machine;
 use crate::{Config, Protection, laws};
@@ -82,7 +83,7 @@ fn first_rights(alloc: Global, config: &Config) -> Result<Book, AllocError>
 
 /// An empty disk for each process.
 fn blank_disks(alloc: Global, processes: u32) -> Result<Vec<Disk>, AllocError>
-    ensures { IfOk result (λ disks. disks.items ≡ replicate processes blank_disk) }
+    ensures { IfOk result (λ disks. disks.items ≡ replicate processes blank) }
 {
     let mut disks = Vec::new(alloc);
     for process in 0..processes {

@@ -5,9 +5,8 @@ ghost use Rattle.std.specs.FinSet as sets;
 ghost use Rattle.fy_team.specs.Teams.{is_among, unfit};
 
 use crate::TeamFault;
-use crate::limits::MOST_PROCESSES;
 use crate::team::KeptTeam;
-use fy_locality::{Map, ProcId, ProcSet};
+use fy_locality::{MOST_PROCESSES, Map, ProcId, ProcSet};
 use fy_policy::{Policy, satisfied};
 
 /// Why the members of a team don't make one under the policy that it names.

@@ -1,8 +1,5 @@
 //! How far teams and records go.
 
-/// How many processes a map may have.
-pub(crate) const MOST_PROCESSES: u32 = 1024;
-
 /// How many members a team may have.
 pub const MOST_MEMBERS: usize = 1024;
 

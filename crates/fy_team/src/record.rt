@@ -3,9 +3,8 @@ ghost use Rattle.std.specs.Prelude.{◌≡◌, ◌<◌, false, replicate, IfOk};
 ghost use Rattle.std.specs.FinSet as sets;
 ghost use Rattle.fy_team.specs.Teams.{unmarked, all_marked};
 
-use crate::limits::MOST_PROCESSES;
 use fy_disk::Payload;
-use fy_locality::ProcId;
+use fy_locality::{MOST_PROCESSES, ProcId};
 use std::alloc::{AllocError, Global};
 use std::marker::Model;
 
@@ -34,7 +33,7 @@ impl Model for KeptRecord {
       marks = set_of r.marks.items;
     } };
 
-    ghost use Rattle.fy_team.specs.declared.limits.TheConstants.{MOST_PROCESSES};
+    ghost use Rattle.fy_locality.specs.declared.TheConstants.{MOST_PROCESSES};
 
     ghost invariant = { λ r. length r.marks.items ≡ MOST_PROCESSES };
 }

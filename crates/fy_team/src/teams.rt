@@ -6,12 +6,12 @@ ghost use Rattle.fy_team.specs.declared.fault.TeamFault.{TeamFault};
 ghost use Rattle.fy_team.specs.declared.fault.TeamFault.TheVariants.{NoMemory};
 
 use crate::forming::unfit;
-use crate::limits::{MOST_BYTES, MOST_PROCESSES, MOST_RECORDS, MOST_TEAMS};
+use crate::limits::{MOST_BYTES, MOST_RECORDS, MOST_TEAMS};
 use crate::record::KeptRecord;
 use crate::team::KeptTeam;
 use crate::{Members, TeamFault, laws};
 use fy_disk::Payload;
-use fy_locality::{Map, ProcId, ProcSet};
+use fy_locality::{MOST_PROCESSES, Map, ProcId, ProcSet};
 use fy_policy::Policy;
 use std::alloc::Global;
 use std::marker::Model;

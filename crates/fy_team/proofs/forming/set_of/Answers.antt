@@ -5,7 +5,7 @@ use Rattle.std.specs.Cmp.{nat_cmp_total, unsigned_tied}
 use Rattle.std.proofs.lemmas.List.{take_all}
 use Rattle.std.proofs.lemmas.List.Folds.{list_any_more}
 use Rattle.fy_locality.specs.declared.ProcId.{ProcId}
-use Rattle.fy_team.specs.declared.limits.TheConstants.{MOST_PROCESSES}
+use Rattle.fy_locality.specs.declared.TheConstants.{MOST_PROCESSES}
 use Rattle.fy_team.specs.Teams.{is_among}
 use Rattle.fy_team.proofs.Rising.{all_below, either_way}
 use Rattle.fy_team.proofs.forming.set_of.Goals as goal

@@ -1,5 +1,5 @@
 use Rattle.std.proofs.Common.{sym, ◌∙◌}
-use Rattle.fy_team.specs.declared.limits.TheConstants.{MOST_PROCESSES}
+use Rattle.fy_locality.specs.declared.TheConstants.{MOST_PROCESSES}
 use Rattle.fy_team.proofs.Rising.{none_above}
 use Rattle.fy_team.proofs.forming.unfit_for.Goals as goal
 

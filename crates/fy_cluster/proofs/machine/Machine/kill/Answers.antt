@@ -2,7 +2,8 @@ use Rattle.std.proofs.Common.{◌∙◌, ◌<◌, ap, refl, sym, subst}
 use Rattle.std.specs.FinSet as sets
 use Rattle.fy_decide.specs.Verdicts.{situation_of}
 use Rattle.fy_decide.specs.DeadBook.{MayLose}
-use Rattle.fy_cluster.specs.Standing.{ChangesAt, targets_by, left_on, blank_disk}
+use Rattle.fy_disk.specs.Disk.{blank}
+use Rattle.fy_cluster.specs.Standing.{ChangesAt, targets_by, left_on}
 use Rattle.fy_cluster.proofs.Judged.{targets_below, spares, strikes_now, chosen}
 use Rattle.fy_cluster.proofs.machine.Machine.kill.Goals as goal
 
@@ -25,7 +26,7 @@ pub returns : goal.returns
 returns g c =
     strikes_now c.args.order.now c.targets-targets.result _ c.requires.0 c.requires.1.1 c.judge-verdict.ensures c.in-Some.is
     (λ p. c.targets-targets.ensures p ∙ ap (λ t. targets_by c.args.self.now t p) c.target.ensures)
-    (subst (λ t. ChangesAt (sets.contains c.targets-targets.result) (left_on c.in-Some.kind t) blank_disk c.args.self.now.disks.items c.strike_disks.new.disks.items) c.tear.ensures c.strike_disks.ensures)
+    (subst (λ t. ChangesAt (sets.contains c.targets-targets.result) (left_on c.in-Some.kind t) blank c.args.self.now.disks.items c.strike_disks.new.disks.items) c.tear.ensures c.strike_disks.ensures)
     c.difference-self.ensures
     c.bury.ensures
     refl

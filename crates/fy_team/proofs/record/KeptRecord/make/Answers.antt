@@ -1,6 +1,6 @@
 use Rattle.std.proofs.Common.{ap, ◌∙◌}
 use Rattle.fy_team.specs.Marks.{set_of}
-use Rattle.fy_team.specs.declared.limits.TheConstants.{MOST_PROCESSES}
+use Rattle.fy_locality.specs.declared.TheConstants.{MOST_PROCESSES}
 use Rattle.fy_team.proofs.Marking.{set_of-falses}
 use Rattle.fy_team.proofs.record.KeptRecord.make.Goals as goal
 
