@@ -15,7 +15,7 @@ use Rattle.faultyard.specs.declared.judge.line.Ask.{Ask}
 use Rattle.faultyard.specs.declared.judge.answer.Answer.{Answer}
 use Rattle.faultyard.specs.declared.judge.answer.Answer.TheVariants.{Yes, No, WasGone}
 use Rattle.faultyard.specs.JudgeLines.{Input}
-use Rattle.faultyard.specs.JudgeTexts.{is_for_good, destroyed_by, gone_by, left_by, answer_of, answers_of, answer_line, granted_after}
+use Rattle.faultyard.specs.JudgeTexts.{destroys_for_good, destroyed_by, gone_by, left_by, answer_of, answers_of, answer_line, granted_after}
 use Rattle.faultyard.specs.JudgeBooks.{Stands}
 
 any-push : (f : Ask → Bool) (xs : List Ask) (a : Ask) → list_any f (xs ++ a ∷ []) ≡ (list_any f xs || f a)
@@ -89,8 +89,8 @@ module _ (i : Input) (granted : List Ask) (book : Casualties) (a : Ask) (stands 
         ∙ ap (λ b. destroyed_by granted q || b) (contains-one q ∙ turned q a.process.0)
         ∙ sym (any-push (λ b. eqb b.process.0 q) granted a)
 
-    gone_after : (loss : Loss) → a.loss ≡ loss → (q : ℕ) → gone_by (granted ++ a ∷ []) q ≡ (gone_by granted q || (is_for_good loss && eqb a.process.0 q))
-    gone_after loss is q = any-push (λ b. is_for_good b.loss && eqb b.process.0 q) granted a ∙ ap (λ l. gone_by granted q || (is_for_good l && eqb a.process.0 q)) is
+    gone_after : (loss : Loss) → a.loss ≡ loss → (q : ℕ) → gone_by (granted ++ a ∷ []) q ≡ (gone_by granted q || (destroys_for_good loss && eqb a.process.0 q))
+    gone_after loss is q = any-push (λ b. destroys_for_good b.loss && eqb b.process.0 q) granted a ∙ ap (λ l. gone_by granted q || (destroys_for_good l && eqb a.process.0 q)) is
 
     pub stands_after : Stands i (granted ++ a ∷ []) (struck book set a.loss)
     stands_after = go a.loss refl

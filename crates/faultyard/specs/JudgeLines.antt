@@ -7,6 +7,7 @@ use Rattle.fy_locality.specs.declared.key.Key.TheVariants.{Process}
 use Rattle.fy_locality.specs.declared.map.MapFault.TheVariants.{Twice as twice, TooMany as too_many}
 use Rattle.fy_locality.specs.Locality.{value_of, locality_of, are_names, taken_or_full}
 use Rattle.fy_locality.specs.Name.{is_name}
+use Rattle.fy_policy.specs.declared.limits.TheConstants.{MOST_POLICIES}
 use Rattle.fy_policy.specs.Tree.{Tree}
 use Rattle.fy_policy.specs.Reading.{Reads}
 use Rattle.fy_policy.specs.declared.fault.PolicyFault.{PolicyFault}
@@ -80,9 +81,9 @@ pub data Step (i : Input) : Option Said → Result Input JudgeFault → Type 0 w
   policy_refused : (text : List ℕ) (fault : PolicyFault) → i.processes ≡ [] →
       Reads text (Err fault) → fault ≢ no_memory → Step i (Some (policy text)) (Err Policy)
   policy_ninth : (text : List ℕ) (tree : Tree) → i.processes ≡ [] → Reads text (Ok tree) →
-      8 ≤ length i.policies → Step i (Some (policy text)) (Err TooMany)
+      MOST_POLICIES ≤ length i.policies → Step i (Some (policy text)) (Err TooMany)
   policy_next : (text : List ℕ) (tree : Tree) → i.processes ≡ [] → Reads text (Ok tree) →
-      length i.policies < 8 →
+      length i.policies < MOST_POLICIES →
       Step i (Some (policy text)) (Ok (record i { policies = i.policies ++ tree ∷ [] }))
   process_early : (new : Locality) → i.policies ≡ [] → Step i (Some (process new)) (Err Syntax)
   process_late : (new : Locality) → (i.asks ≡ [] → ⊥) → Step i (Some (process new)) (Err Syntax)
@@ -111,5 +112,5 @@ Says i (line ∷ lines) j = (k : Input) × Step i (said_of line) (Ok k) × Says 
 
 -- at most eight policies, and asks of processes that are there
 pub record IsInput (i : Input) : Type 0 where
-  pub few : length i.policies ≤ 8
+  pub few : length i.policies ≤ MOST_POLICIES
   pub there : AllByRecursion (λ a. a.process.0 < length i.processes) i.asks

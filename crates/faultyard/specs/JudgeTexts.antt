@@ -17,16 +17,16 @@ use Rattle.fy_decide.specs.declared.dead_book.MakeFault.TheVariants.{Unmet, NoMe
 use Rattle.faultyard.specs.JudgeLines.{Input, nothing, said_of, Step, Says}
 
 -- whether a loss is for good
-abbrev pub is_for_good : Loss → Bool
-is_for_good Emptied = false
-is_for_good Gone = true
+abbrev pub destroys_for_good : Loss → Bool
+destroys_for_good Emptied = false
+destroys_for_good Gone = true
 
 -- the processes of the asks that were answered yes: those destroyed, and of these those gone
 abbrev pub destroyed_by : List Ask → ℕ → Bool
 destroyed_by granted p = list_any (λ a. a.process.0 == p) granted
 
 abbrev pub gone_by : List Ask → ℕ → Bool
-gone_by granted p = list_any (λ a. is_for_good a.loss && a.process.0 == p) granted
+gone_by granted p = list_any (λ a. destroys_for_good a.loss && a.process.0 == p) granted
 
 -- all processes but those gone
 abbrev pub left_by : Input → List Ask → ℕ → Bool

@@ -56,7 +56,7 @@ fn read_lines(alloc: Global, bytes: &[u8]) -> Result<Input, Stop>
 }
 
 /// The stop for policies and processes that make no book.
-fn unmet(fault: MakeFault) -> Stop
+fn dead_book_stop(fault: MakeFault) -> Stop
     requires { IfUnmet fault (λ k. k < 8) }
     ensures { result ≡ unmet_stop fault }
 {
@@ -79,16 +79,16 @@ fn answers(alloc: Global, input: &Input) -> Result<Vec<u8>, Stop>
     ensures no_other { IfErr result (λ stop. (stop ≢ Stop.Read) × (stop ≢ Stop.Write)) }
 {
     match DeadBook::make(alloc, input.map(), input.policies()) {
-        Ok(mut book) => match answer_asks(alloc, input, &mut book) {
+        Ok(mut dead) => match answer_asks(alloc, input, &mut dead) {
             Ok(text) => Ok(text),
             Err(_) => Err(Stop::NoMemory),
         },
-        Err(fault) => Err(unmet(fault)),
+        Err(fault) => Err(dead_book_stop(fault)),
     }
 }
 
 /// The answers to the bytes of an input.
-fn judged(alloc: Global, bytes: &[u8]) -> Result<Vec<u8>, Stop>
+fn answer_bytes(alloc: Global, bytes: &[u8]) -> Result<Vec<u8>, Stop>
     requires { length bytes.now ≤ most_bytes }
     ensures answered { IfOk result (λ text. Judges bytes.now (Ok text.items)) }
     ensures refused { IfErr result (λ stop. IfRefusal stop (Judges bytes.now (Err stop))) }
@@ -142,7 +142,7 @@ pub fn run_judge<R: Read, W: Write>(
         Err(InputFault::Reader) => return Err(Stop::Read),
         Err(InputFault::NoMemory) => return Err(Stop::NoMemory),
     };
-    let text = match judged(alloc, &bytes) {
+    let text = match answer_bytes(alloc, &bytes) {
         Ok(text) => text,
         Err(stop) => return Err(stop),
     };

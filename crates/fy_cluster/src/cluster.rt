@@ -59,7 +59,7 @@ impl Cluster {
     pub fn make(alloc: Global, config: Config) -> Result<Cluster, AllocError>
         ensures { IfOk result (λ cluster. cluster ≡ opened config) }
     {
-        config.is_setup();
+        config.invariant();
         let machine = Machine::make(alloc, &config)?;
         Ok(Cluster {
             alloc,

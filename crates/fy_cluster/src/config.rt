@@ -8,12 +8,10 @@ use fy_decide::first_unmet;
 use fy_grants::{Grant, MOST_GRANTS};
 use fy_kinds::KindSet;
 use fy_locality::{Map, ProcId};
-use fy_policy::{Policy, try_copy_all};
+use fy_policy::{MOST_POLICIES, Policy, try_copy_all};
 use std::alloc::{AllocError, Global};
 use std::marker::Model;
 
-/// How many policies there may be, from 1.
-pub const MOST_POLICIES: usize = 8;
 /// How many actors there may be, from 1.
 pub const MOST_ACTORS: usize = 64;
 /// How many entries the journal of a cluster may have, from 1.
@@ -229,7 +227,7 @@ impl Config {
     }
 
     /// Everything is in its range, and each policy is within its limits and satisfied by all processes together.
-    pub fn is_setup(&self)
+    pub fn invariant(&self)
         ensures { IsSetup self.now }
     {
         let _policies = &self.policies;

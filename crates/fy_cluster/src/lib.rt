@@ -22,7 +22,7 @@ mod teams;
 mod tests;
 
 pub use cluster::Cluster;
-pub use config::{Config, MOST_ACTORS, MOST_JOURNAL_ENTRIES, MOST_POLICIES, MakeFault, Protection};
+pub use config::{Config, MOST_ACTORS, MOST_JOURNAL_ENTRIES, MakeFault, Protection};
 pub use fault::Fault;
 pub use role::Role;
 pub use sight::Sight;

@@ -24,7 +24,7 @@ fn nobody_destroyed(alloc: Global, config: &Config) -> Result<DeadBook, AllocErr
     ensures { IfOk result (IsFresh config.now.processes config.now.policies) }
 {
     laws::none_unmet();
-    config.is_setup();
+    config.invariant();
     match DeadBook::make(alloc, config.map(), config.policies()) {
         Ok(dead) => Ok(dead),
         // All processes together satisfy each policy of a configuration.
@@ -74,7 +74,7 @@ fn first_rights(alloc: Global, config: &Config) -> Result<Book, AllocError>
     ensures { IfOk result (KeepsRights config.now []) }
 {
     fy_grants::laws::grants_are_counted();
-    config.is_setup();
+    config.invariant();
     let mut book = Book::make(alloc, config.actors(), config.map().len())?;
     give_all(&mut book, config.grants())?;
     protect_all(&mut book, config.protections());

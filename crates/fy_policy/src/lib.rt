@@ -15,7 +15,8 @@ pub mod text_laws;
 pub use copied::try_copy_all;
 pub use fault::PolicyFault;
 pub use limits::{
-    LEAST_COUNT, MOST_COUNT, MOST_DEPTH, MOST_NODES, MOST_READ_BYTES, MOST_TEXT_BYTES,
+    LEAST_COUNT, MOST_COUNT, MOST_DEPTH, MOST_NODES, MOST_POLICIES, MOST_READ_BYTES,
+    MOST_TEXT_BYTES,
 };
 pub use policy::{Policy, satisfied};
 pub use reading::read_policy;

@@ -5,6 +5,8 @@ ghost use Rattle.fy_policy.specs.Tree.{HasFitCounts, depth, nodes};
 
 use crate::shape::Shape;
 
+/// How many policies there may be, from 1.
+pub const MOST_POLICIES: usize = 8;
 /// The least count of a policy.
 pub const LEAST_COUNT: u32 = 1;
 /// The greatest count of a policy.

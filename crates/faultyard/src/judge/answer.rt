@@ -10,7 +10,7 @@ ghost use Rattle.fy_decide.specs.DeadBook.{IsFresh};
 use super::input::Input as JudgeInput;
 use super::line::Ask as JudgeAsk;
 use fy_decide::DeadBook;
-use fy_locality::ProcSet;
+use fy_locality::{MOST_PROCESSES, ProcSet};
 use std::alloc::{AllocError, Global};
 
 /// What is answered to an ask.
@@ -34,21 +34,21 @@ impl Answer {
 }
 
 /// The answer to one ask, whose loss is taken down where it is yes.
-fn answer_ask(book: &mut DeadBook, ask: JudgeAsk) -> Answer
-    requires { ask.process.0 < 1024 }
-    ensures { (i : Input) (granted : List Ask) → Stands i granted book.old →
+fn answer_ask(dead: &mut DeadBook, ask: JudgeAsk) -> Answer
+    requires { ask.process.0 < MOST_PROCESSES }
+    ensures { (i : Input) (granted : List Ask) → Stands i granted dead.old →
         ask.process.0 < length i.processes → (result ≡ answer_of i granted ask)
-        × Stands i (granted_after granted ask result) book.new }
+        × Stands i (granted_after granted ask result) dead.new }
 {
-    if !book.left().has(ask.process) {
+    if !dead.left().has(ask.process) {
         return Answer::WasGone;
     }
     let mut set = ProcSet::empty();
     set.put(ask.process);
-    if !book.may_destroy(&set, ask.loss) {
+    if !dead.may_destroy(&set, ask.loss) {
         return Answer::No;
     }
-    book.strike(&set, ask.loss);
+    dead.strike(&set, ask.loss);
     Answer::Yes
 }
 
@@ -56,16 +56,16 @@ fn answer_ask(book: &mut DeadBook, ask: JudgeAsk) -> Answer
 pub fn answer_asks(
     alloc: Global,
     input: &JudgeInput,
-    book: &mut DeadBook,
+    dead: &mut DeadBook,
 ) -> Result<Vec<u8>, AllocError>
-    requires { IsFresh input.now.processes input.now.policies book.old }
+    requires { IsFresh input.now.processes input.now.policies dead.old }
     ensures { IfOk result (λ text. text.items ≡ answers_text input.now) }
 {
     // A map has at most 1024 processes, so the number of each ask fits a set.
     let _processes = input.map().len();
     let mut text = Vec::new(alloc);
     for ask in input.asks() {
-        let answer = answer_ask(book, *ask);
+        let answer = answer_ask(dead, *ask);
         text.extend_from_slice(answer.line().as_bytes())?;
     }
     Ok(text)

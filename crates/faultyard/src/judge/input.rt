@@ -3,16 +3,13 @@ ghost use Rattle.std.specs.Prelude.{◌≡◌, ◌≢◌, Some, OnOk, IfErr};
 ghost use Rattle.faultyard.specs.JudgeLines.{policy, process, ask, said_of, nothing, Step, IsInput};
 ghost use Rattle.faultyard.specs.JudgeViews.{IfFault, policy_fault_of, process_fault_of};
 
-use super::line::{Ask, Keyword, announced_by, asked_id, first_word, policy_text, process_of};
+use super::line::{Ask, Keyword, announced_by, asked_id, first_word, policy_rest, process_of};
 use crate::stop::JudgeFault;
 use fy_decide::Loss;
 use fy_locality::{Locality, Map, MapFault, Name};
-use fy_policy::{Policy, PolicyFault, read_policy};
+use fy_policy::{MOST_POLICIES, Policy, PolicyFault, read_policy};
 use std::alloc::{AllocFailed, Global};
 use std::marker::Model;
-
-/// How many policies an input may have.
-const MOST_POLICIES: usize = 8;
 
 /// Why a line is not taken.
 #[derive(Clone, Copy, PartialEq, Eq, Debug)]
@@ -114,7 +111,7 @@ impl Input {
             return Err(LineFault::Fault(JudgeFault::Syntax));
         };
         match announced_by(word) {
-            Some(Keyword::Policy) => match policy_text(rest) {
+            Some(Keyword::Policy) => match policy_rest(rest) {
                 Some(text) => self.take_policy(alloc, text),
                 None => Err(LineFault::Fault(JudgeFault::Syntax)),
             },

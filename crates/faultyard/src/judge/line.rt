@@ -156,7 +156,7 @@ fn located(
 }
 
 /// The text of a policy, where the words are one that may be a text.
-pub fn policy_text(rest: &[u8]) -> Option<&str>
+pub fn policy_rest(rest: &[u8]) -> Option<&str>
     ensures { option_map (λ text. policy text.now) result
         ≡ said_by (Some Keyword.Policy) (words_of rest.now) }
 {

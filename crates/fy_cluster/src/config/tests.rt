@@ -80,11 +80,25 @@ fn readers_answer_what_was_given(rt: HostRuntime) -> Result<(), Fail> {
         ..cluster_of_six()
     };
     let config = made(&rt, alloc, &parts)??;
-    config.is_setup();
+    config.invariant();
     assert!(rt; answers_as_made(alloc, &config, &parts)?);
     let copy = config.try_copy(alloc)?;
     assert!(rt; answers_as_made(alloc, &copy, &parts)?);
     assert!(rt; answers_as_made(alloc, &config, &parts)?);
+    Ok(())
+}
+
+/// As many grants as there may be.
+#[test]
+fn largest_is_copied(rt: HostRuntime) -> Result<(), Fail> {
+    let alloc = rt.alloc();
+    let grants = vec![in alloc; to_all(1, hard()); MOST_GRANTS]?;
+    let parts = Parts {
+        grants: &grants,
+        ..cluster_of_six()
+    };
+    let copy = made(&rt, alloc, &parts)??.try_copy(alloc)?;
+    assert!(rt; answers_as_made(alloc, &copy, &parts)?);
     Ok(())
 }
 

@@ -10,7 +10,7 @@ use Rattle.faultyard.proofs.judge.answer.answer_asks.Goals as goal
 pub loop-ask-init : goal.loop-ask-init
 loop-ask-init c = record {
   granted = [];
-  stands = stands_first c.args.input.now c.args.book.now c.requires;
+  stands = stands_first c.args.input.now c.args.dead.now c.requires;
   written = sym (ap (λ text. text ++ flat_map answer_line (answers_of c.args.input.now [] c.asks-ask-items.result.now)) c.new-text.ensures.items ∙ nil-append _);
 }
 
@@ -22,7 +22,7 @@ loop-ask-preserved c =
     let here : a.process.0 < length c.args.input.now.processes =
     each_there (length c.args.input.now.processes) asks c.loop-ask.ask-index d
     (subst (λ xs. AllByRecursion (λ b. b.process.0 < length c.args.input.now.processes) xs) (sym c.asks-ask-items.ensures.asks) c.asks-ask-items.ensures.input.there) c.loop-ask-test.true in
-    let step : (c.answer_ask-answer.result ≡ answer_of c.args.input.now c.loop-ask.invariant.granted a) × Stands c.args.input.now (granted_after c.loop-ask.invariant.granted a c.answer_ask-answer.result) c.answer_ask-answer.new.book =
+    let step : (c.answer_ask-answer.result ≡ answer_of c.args.input.now c.loop-ask.invariant.granted a) × Stands c.args.input.now (granted_after c.loop-ask.invariant.granted a c.answer_ask-answer.result) c.answer_ask-answer.new.dead =
     c.answer_ask-answer.ensures c.args.input.now c.loop-ask.invariant.granted c.loop-ask.invariant.stands here in
     record {
       granted = granted_after c.loop-ask.invariant.granted a c.answer_ask-answer.result;

@@ -9,6 +9,6 @@ use Rattle.faultyard.proofs.judge.answer.answer_asks.Given as goal
 abbrev pub invariant-loop-ask : goal.invariant-loop-ask
 invariant-loop-ask l = record {
   granted : List Ask;
-  stands : Stands l.input granted l.book;
+  stands : Stands l.input granted l.dead;
   written : flat_map answer_line (answers_of l.input [] l.ask-items) ≡ l.text.items ++ flat_map answer_line (answers_of l.input granted (drop l.ask-index l.ask-items));
 }

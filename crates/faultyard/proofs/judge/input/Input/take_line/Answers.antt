@@ -7,8 +7,8 @@ use Rattle.faultyard.proofs.judge.input.Input.take_line.Goals as goal
 pub returns-in_default-clause-refused : goal.returns-in_default-clause-refused
 returns-in_default-clause-refused c = lone_unsaid c.args.self.now c.args.line.now c.first_word.result.0.now (rw c.in_default.is at c.first_word.ensures)
 
-pub returns-in-None-policy_text-clause-refused : goal.returns-in-None-policy_text-clause-refused
-returns-in-None-policy_text-clause-refused c = keyword_unsaid c.args.self.now c.args.line.now c.first_word.result.0.now c.in-Some.rest.now _ (rw c.in-Some.is at c.first_word.ensures) (ap Some (sym c.in-Some-Policy.field-0-is) ∙ c.in-Some-Policy.ensures) (sym c.in-None-policy_text.ensures)
+pub returns-in-None-policy_rest-clause-refused : goal.returns-in-None-policy_rest-clause-refused
+returns-in-None-policy_rest-clause-refused c = keyword_unsaid c.args.self.now c.args.line.now c.first_word.result.0.now c.in-Some.rest.now _ (rw c.in-Some.is at c.first_word.ensures) (ap Some (sym c.in-Some-Policy.field-0-is) ∙ c.in-Some-Policy.ensures) (sym c.in-None-policy_rest.ensures)
 
 pub returns-in-None-process_of-clause-refused : goal.returns-in-None-process_of-clause-refused
 returns-in-None-process_of-clause-refused c = keyword_unsaid c.args.self.now c.args.line.now c.first_word.result.0.now c.in-Some.rest.now _ (rw c.in-Some.is at c.first_word.ensures) (ap Some (sym c.in-Some-Process.field-0-is) ∙ c.in-Some-Process.ensures) (sym c.in-None-process_of.ensures)
