@@ -105,13 +105,15 @@ fn answer_bytes(alloc: Global, bytes: &[u8]) -> Result<Vec<u8>, Stop>
 
 /// Reads policies, processes and asks from the reader to its end, and writes a line for each ask.
 ///
-/// The whole input is read and judged before the first byte is written, and at most one byte past its limit is read.
+/// The whole input is read and judged before the first byte is written, and at most one byte past
+/// its limit is read.
 ///
 /// # Errors
 ///
-/// `JudgeTooLong` over 1,048,576 bytes, and `JudgeLine` for the first faulty line: nothing is written then. `Read` where
-/// the reader fails, `NoMemory` where memory was refused: nothing is written then either. `Write` where the writer fails
-/// or takes no byte: a front of the answers is out, and never all of them.
+/// `JudgeTooLong` over 1,048,576 bytes, and `JudgeLine` for the first faulty line: nothing is
+/// written then. `Read` where the reader fails, `NoMemory` where memory was refused: nothing is
+/// written then either. `Write` where the writer fails or takes no byte: a front of the answers is
+/// out, and never all of them.
 #[tactic(auto, using(crate::proofs::LineLemmas::known_long))]
 pub fn run_judge<R: Read, W: Write>(
     alloc: Global,

@@ -33,7 +33,8 @@ fn unclog_targets(net: &mut Net, targets: &ProcSet)
 }
 
 impl Machine {
-    /// The processes of a target that are left, or the rule of leave that bars a clog of them and its end.
+    /// The processes of a target that are left, or the rule of leave that bars a clog of them and
+    /// its end.
     fn leave_to_clog(&self, map: &Map, by: u32, target: &Target) -> Result<ProcSet, Rule>
         requires { map.now ≡ self.now.dead.processes }
         ensures targets { IfOk result (λ set. (p : ℕ) →

@@ -14,8 +14,8 @@ use fy_locality::{ProcId, ProcSet};
 use std::alloc::{AllocError, Global};
 use std::marker::Model;
 
-/// Processes that store records for teams, with all that strikes them, and the journal of what was asked and replied. Each
-/// reply is read off the running parts; the journal is only written.
+/// Processes that store records for teams, with all that strikes them, and the journal of what was
+/// asked and replied. Each reply is read off the running parts; the journal is only written.
 pub struct Cluster {
     alloc: Global,
     config: Config,
@@ -69,12 +69,12 @@ impl Cluster {
         })
     }
 
-    /// Replies to an act by the actor with this number, does it where nothing speaks against it, and enters both into the
-    /// journal.
+    /// Replies to an act by the actor with this number, does it where nothing speaks against it,
+    /// and enters both into the journal.
     ///
     /// # Errors
-    /// In this order: `JournalFull` where the journal has as many entries as it may have; `NoMemory`. The cluster is then
-    /// as it was.
+    /// In this order: `JournalFull` where the journal has as many entries as it may have;
+    /// `NoMemory`. The cluster is then as it was.
     pub fn apply(&mut self, by: u32, act: Act) -> Result<Reply, Fault>
         ensures full { (self.old.setup.limit ≤ length self.old.journal)
             ↔ (result ≡ Err JournalFull) }
@@ -91,11 +91,12 @@ impl Cluster {
             .enter(&mut self.journal, self.alloc, &self.config, by, act)
     }
 
-    /// Applies acts one after another, each by the actor beside it, and stops at the first fault. What was entered before
-    /// it stands.
+    /// Applies acts one after another, each by the actor beside it, and stops at the first fault.
+    /// What was entered before it stands.
     ///
     /// # Errors
-    /// At an act, in this order: `JournalFull` where the journal has as many entries as it may have; `NoMemory`.
+    /// At an act, in this order: `JournalFull` where the journal has as many entries as it may
+    /// have; `NoMemory`.
     pub fn run(&mut self, acts: &[(u32, Act)]) -> Result<(), Fault>
         ensures ran { OnOk result (self.new ≡ after_acts self.old acts.now) }
         ensures stopped { IfErr result (λ fault. StopsAt self.old acts.now fault self.new) }
@@ -142,8 +143,8 @@ impl Cluster {
         &self.config
     }
 
-    /// Of an acknowledged record, the least member of its team that isn't destroyed and has the record synced; none of
-    /// any other record. Takes no memory.
+    /// Of an acknowledged record, the least member of its team that isn't destroyed and has the
+    /// record synced; none of any other record. Takes no memory.
     pub fn keeper(&self, rec: u32) -> Option<ProcId>
         ensures keeper { result ≡ keeper self.now.setup (history_of self.now) rec }
         ensures acked { IsSome result ↔ IsTrue (acked (history_of self.now) rec) }
@@ -153,16 +154,16 @@ impl Cluster {
         self.machine.keeper(rec)
     }
 
-    /// The time, and what there is to do next: the least message to deliver, the least process to sync and the least one
-    /// to start. Takes no memory.
+    /// The time, and what there is to do next: the least message to deliver, the least process to
+    /// sync and the least one to start. Takes no memory.
     pub fn sight(&self) -> Sight
         ensures { Sees self.now.setup (history_of self.now) result }
     {
         self.machine.sight()
     }
 
-    /// Whatever was asked so far, every acknowledged record keeps a synced copy on an undestroyed member, and all else that
-    /// legal journals keep.
+    /// Whatever was asked so far, every acknowledged record keeps a synced copy on an undestroyed
+    /// member, and all else that legal journals keep.
     pub fn survives(&self)
         ensures { Survives self.now.setup self.now.journal }
     {

@@ -17,7 +17,8 @@ pub const MOST_ACTORS: usize = 64;
 /// How many entries the journal of a cluster may have, from 1.
 pub const MOST_JOURNAL_ENTRIES: u32 = 1_048_576;
 
-/// A process that is protected from the start, and from which kinds. Of several of one process each counts.
+/// A process that is protected from the start, and from which kinds. Of several of one process each
+/// counts.
 #[derive(Clone, Copy, PartialEq, Eq, Debug)]
 pub struct Protection {
     pub process: ProcId,
@@ -27,18 +28,20 @@ pub struct Protection {
 /// Why there is no such configuration.
 #[derive(Clone, Copy, PartialEq, Eq, Debug)]
 pub enum MakeFault {
-    /// There are no policies or over 8, no actors or over 64, or over 4096 grants; a grant is of an actor or a protection
-    /// of a process that isn't there; or the journal limit is outside 1 to 1,048,576.
+    /// There are no policies or over 8, no actors or over 64, or over 4096 grants; a grant is of an
+    /// actor or a protection of a process that isn't there; or the journal limit is outside 1 to
+    /// 1,048,576.
     Limit,
     /// The policy at this place is the first that all processes together don't satisfy.
     PolicyUnmet { index: usize },
 }
 
-/// What a cluster begins with: its processes and policies, a role for each actor, the first grants and protections, and
-/// how many entries its journal may have.
+/// What a cluster begins with: its processes and policies, a role for each actor, the first grants
+/// and protections, and how many entries its journal may have.
 ///
-/// There are 1 to 8 policies, each satisfied by all processes together, 1 to 64 actors, at most 4096 grants and a journal
-/// of 1 to 1,048,576 entries; each grant is of an actor and each protection of a process that is there.
+/// There are 1 to 8 policies, each satisfied by all processes together, 1 to 64 actors, at most
+/// 4096 grants and a journal of 1 to 1,048,576 entries; each grant is of an actor and each
+/// protection of a process that is there.
 pub struct Config {
     map: Map,
     policies: Vec<Policy>,
@@ -96,33 +99,39 @@ fn are_of_processes(protections: &[Protection], processes: u32) -> bool
         .all(|protection| protection.process.0 < processes)
 }
 
-/// Whether each number is in its range, and each actor and process that is named is there.
-fn is_in_range(
-    map: &Map,
-    policies: &[Policy],
-    roles: &[Role],
-    grants: &[Grant],
-    protections: &[Protection],
+/// What a configuration is made of, before it is known to be one.
+#[derive(Clone, Copy)]
+struct Parts<'a> {
+    map: &'a Map,
+    policies: &'a [Policy],
+    roles: &'a [Role],
+    grants: &'a [Grant],
+    protections: &'a [Protection],
     journal_limit: u32,
-) -> bool
-    ensures { result ≡ is_in_range
-        (setup_of map.now policies.now roles.now grants.now protections.now journal_limit) }
-{
-    (1..=MOST_POLICIES).contains(&policies.len())
-        && (1..=MOST_ACTORS).contains(&roles.len())
-        && grants.len() <= MOST_GRANTS
-        && are_of_actors(grants, roles.len())
-        && are_of_processes(protections, map.len())
-        && (1..=MOST_JOURNAL_ENTRIES).contains(&journal_limit)
+}
+
+impl Parts<'_> {
+    /// Whether each number is in its range, and each actor and process that is named is there.
+    fn is_in_range(&self) -> bool
+        ensures { result ≡ is_in_range (setup_of self.now.map.now self.now.policies.now
+            self.now.roles.now self.now.grants.now self.now.protections.now self.now.journal_limit) }
+    {
+        (1..=MOST_POLICIES).contains(&self.policies.len())
+            && (1..=MOST_ACTORS).contains(&self.roles.len())
+            && self.grants.len() <= MOST_GRANTS
+            && are_of_actors(self.grants, self.roles.len())
+            && are_of_processes(self.protections, self.map.len())
+            && (1..=MOST_JOURNAL_ENTRIES).contains(&self.journal_limit)
+    }
 }
 
 impl Config {
     /// The configuration of these parts. Takes no memory.
     ///
     /// # Errors
-    /// In this order: `Limit` where a number is outside its range, or where a grant or protection is of an actor or
-    /// process that isn't there; `PolicyUnmet` with the place of the first policy that all processes together don't
-    /// satisfy.
+    /// In this order: `Limit` where a number is outside its range, or where a grant or protection
+    /// is of an actor or process that isn't there; `PolicyUnmet` with the place of the first policy
+    /// that all processes together don't satisfy.
     pub fn make(
         map: Map,
         policies: Vec<Policy>,
@@ -140,14 +149,15 @@ impl Config {
         ensures value { IfOk result (λ config. config ≡ setup_of
             map policies.items roles.items grants.items protections.items journal_limit) }
     {
-        if !is_in_range(
-            &map,
-            &policies,
-            &roles,
-            &grants,
-            &protections,
+        let parts = Parts {
+            map: &map,
+            policies: &policies,
+            roles: &roles,
+            grants: &grants,
+            protections: &protections,
             journal_limit,
-        ) {
+        };
+        if !parts.is_in_range() {
             return Err(MakeFault::Limit);
         }
         if let Some(index) = first_unmet(&policies, &map) {
@@ -226,7 +236,8 @@ impl Config {
         self.journal_limit
     }
 
-    /// Everything is in its range, and each policy is within its limits and satisfied by all processes together.
+    /// Everything is in its range, and each policy is within its limits and satisfied by all
+    /// processes together.
     pub fn invariant(&self)
         ensures { IsSetup self.now }
     {

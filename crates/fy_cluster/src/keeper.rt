@@ -44,7 +44,8 @@ impl Machine {
         processes.iter().copied().find(|p| self.keeps(rec, *p))
     }
 
-    /// The least member of an acknowledged record's team that isn't destroyed and has the record synced.
+    /// The least member of an acknowledged record's team that isn't destroyed and has the record
+    /// synced.
     pub(crate) fn keeper(&self, rec: u32) -> Option<ProcId>
         ensures { (c : Setup) (journal : List Entry) → IsKept c journal self.now →
             result ≡ keeper c (history c journal) rec }

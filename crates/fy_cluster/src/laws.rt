@@ -33,8 +33,8 @@ pub fn rules_named()
     fy_decide::laws::rule_is_named_for_less();
 }
 
-/// Every acknowledged record keeps a synced copy on an undestroyed member of its team, and each undestroyed member has
-/// one.
+/// Every acknowledged record keeps a synced copy on an undestroyed member of its team, and each
+/// undestroyed member has one.
 pub fn records_kept()
     ensures { RecordsKept }
 {
@@ -43,8 +43,8 @@ pub fn records_kept()
     destroyed_short();
 }
 
-/// There is a keeper of exactly the acknowledged records: the least member that isn't destroyed and has the record
-/// synced.
+/// There is a keeper of exactly the acknowledged records: the least member that isn't destroyed and
+/// has the record synced.
 pub fn keepers_found()
     ensures { KeepersFound }
 {
@@ -54,8 +54,8 @@ pub fn keepers_found()
     destroyed_short();
 }
 
-/// Whatever was ordered: the destroyed are short of every policy, those left satisfy each, every kill is judged, and
-/// every acknowledged record keeps a synced copy on an undestroyed member.
+/// Whatever was ordered: the destroyed are short of every policy, those left satisfy each, every
+/// kill is judged, and every acknowledged record keeps a synced copy on an undestroyed member.
 pub fn journals_survive()
     ensures { JournalsSurvive }
 {
@@ -65,8 +65,8 @@ pub fn journals_survive()
     records_kept();
 }
 
-/// A front of a legal journal is legal; an entry more is a moment more; and an entry more is legal exactly where there is a
-/// place for it and it may come next.
+/// A front of a legal journal is legal; an entry more is a moment more; and an entry more is legal
+/// exactly where there is a place for it and it may come next.
 pub fn one_entry_more()
     ensures fronts { FrontsLegal }
     ensures moments { MomentsEntered }

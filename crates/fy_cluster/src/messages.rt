@@ -44,7 +44,8 @@ fn send_words(net: &mut Net, disk: &Disk, process: ProcId)
     }
 }
 
-/// Takes a message out of the network. It is in flight and its process isn't clogged, so this can't be refused.
+/// Takes a message out of the network. It is in flight and its process isn't clogged, so this can't
+/// be refused.
 fn take_out(net: &mut Net, message: u64)
     requires { take_refusal net.old message ≡ None }
     ensures { net.new ≡ left_by message net.old }
@@ -52,7 +53,8 @@ fn take_out(net: &mut Net, message: u64)
     let _ = net.take(message);
 }
 
-/// Writes an item to the disk of a process, or leaves all disks as they were where there is no memory.
+/// Writes an item to the disk of a process, or leaves all disks as they were where there is no
+/// memory.
 fn write_to(disks: &mut Vec<Disk>, p: ProcId, item: Item) -> Result<(), Fault>
     requires { p.0 < length disks.old.items }
     ensures written { OnOk result (disks.new.items ≡ slice_set disks.old.items p.0

@@ -103,8 +103,8 @@ fn quiet_net(alloc: Global, processes: u32) -> Result<Net, AllocError>
 }
 
 impl Machine {
-    /// The machine of a cluster before anything happened: nobody is destroyed, everyone is up, disks are empty, and nothing
-    /// was sent.
+    /// The machine of a cluster before anything happened: nobody is destroyed, everyone is up,
+    /// disks are empty, and nothing was sent.
     pub(crate) fn make(alloc: Global, config: &Config) -> Result<Machine, AllocError>
         ensures { IfOk result (Stands config.now []) }
     {

@@ -9,7 +9,8 @@ use fy_audit::Act;
 pub enum Role {
     /// Orders kills and clogs alone.
     Fault,
-    /// Forms teams, begins records, delivers messages, syncs and starts processes, and lets time pass.
+    /// Forms teams, begins records, delivers messages, syncs and starts processes, and lets time
+    /// pass.
     Storage,
     /// Gives and takes grants and protections.
     Operator,

@@ -65,7 +65,8 @@ impl Machine {
         }
     }
 
-    /// Begins a record for a team, and sends a store to each member. The payload is the machine's own.
+    /// Begins a record for a team, and sends a store to each member. The payload is the machine's
+    /// own.
     pub(crate) fn begin(&mut self, team: u32, payload: Payload) -> Result<Reply, Fault>
         ghost turn: { Turn }
         requires stands { Stands turn.setup turn.before self.old }

@@ -1,5 +1,5 @@
-//! Worked journals. Each law says of a journal that is written out that it is legal and, beside it, what it comes to; or of
-//! a wrong one that it isn't legal.
+//! Worked journals. Each law says of a journal that is written out that it is legal and, beside it,
+//! what it comes to; or of a wrong one that it isn't legal.
 pub mod every;
 pub mod leave;
 pub mod messages;

@@ -8,8 +8,8 @@ use std::test::Fail;
 const CLUSTER: &str =
     "policy Across(2,zoneid,One())\nproc p0 m0 z0 - d0\nproc p1 m1 z0 - d0\nproc p2 m2 z1 - d0\nproc p3 m3 z1 - d0\nproc p4 m4 z2 - d0\nproc p5 m5 z2 - d0\n";
 
-/// Gives a byte a call, and fails at call `fails_at` (counted from 0) alone: a call after that would
-/// give bytes again.
+/// Gives a byte a call, and fails at call `fails_at` (counted from 0) alone: a call after that
+/// would give bytes again.
 #[derive(Drop)]
 struct Failing<'a> {
     bytes: &'a [u8],
@@ -35,8 +35,8 @@ impl Read for Failing<'_> {
     }
 }
 
-/// Takes a byte a call, and fails at call `fails_at` (counted from 0) alone: a call after that would
-/// take bytes again.
+/// Takes a byte a call, and fails at call `fails_at` (counted from 0) alone: a call after that
+/// would take bytes again.
 #[derive(Drop)]
 struct Stumbling {
     taken: usize,

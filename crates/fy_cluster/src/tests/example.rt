@@ -1,4 +1,5 @@
-//! The example of the README: a cluster of six, as somebody makes and asks it who has only read that page.
+//! The example of the README: a cluster of six, as somebody makes and asks it who has only read
+//! that page.
 use crate::{Cluster, Config, Role};
 use fy_audit::{Act, Reply};
 use fy_disk::Payload;
@@ -10,7 +11,8 @@ use fy_team::Members;
 use std::alloc::Global;
 use std::test::Fail;
 
-/// Six processes in three zones, two copies in different zones, an actor that stores and one that kills.
+/// Six processes in three zones, two copies in different zones, an actor that stores and one that
+/// kills.
 fn cluster_of_six(alloc: Global) -> Result<Cluster, Fail> {
     let mut map = Map::make(alloc);
     for (process, zone) in [

@@ -81,7 +81,8 @@ fn written_by_one() -> [Step<'static>; 7] {
     ]
 }
 
-/// An order to strike p0 with this kind alone. A reboot leaves the first and the third of its unsynced writes.
+/// An order to strike p0 with this kind alone. A reboot leaves the first and the third of its
+/// unsynced writes.
 fn strike_first(kind: Kind) -> Ask<'static> {
     Ask::Kill {
         place: process("p0"),

@@ -49,7 +49,8 @@ impl Shown {
     }
 }
 
-/// Asks a cluster for a step. Where it has no memory for that, it is as it was, and answers when asked again.
+/// Asks a cluster for a step. Where it has no memory for that, it is as it was, and answers when
+/// asked again.
 fn play_step(
     rt: &impl Abort,
     alloc: Global,
@@ -156,8 +157,8 @@ impl Twins {
     }
 }
 
-/// Two clusters of the same parts, on which steps are played by `apply` and by `run`. Where there is no
-/// memory for what the test itself needs, they are dropped, and nothing more is shown.
+/// Two clusters of the same parts, on which steps are played by `apply` and by `run`. Where there
+/// is no memory for what the test itself needs, they are dropped, and nothing more is shown.
 #[derive(Drop)]
 pub(super) struct Stage<'r, R: Abort> {
     rt: &'r R,

@@ -37,7 +37,8 @@ pub fn replication_stands()
     fy_cluster::laws::left_satisfy();
 }
 
-/// What is acknowledged is kept: some member isn't destroyed, and each such member has the record synced.
+/// What is acknowledged is kept: some member isn't destroyed, and each such member has the record
+/// synced.
 pub fn record_stands()
     ensures { Kept (history six written_and_synced) 0 }
 {}

@@ -9,8 +9,8 @@ ghost use Rattle.fy_cluster.specs.Replies.{Legal};
 ghost use Rattle.fy_worked.specs.Clusters.{six, members, kill_and_reboot};
 ghost use Rattle.fy_worked.specs.Leave.{protected, given_and_taken, closed_up, one_zone_granted, half_unprotected, protected_from_the_start, full_of_grants, leave, rebooting, guarded, granted};
 
-/// A protection bars its kinds for the whole target. Whoever has no grant is told of that first, also of a process that is
-/// protected.
+/// A protection bars its kinds for the whole target. Whoever has no grant is told of that first,
+/// also of a process that is protected.
 pub fn protected()
     ensures legal { Legal six protected }
     ensures destroyed { members (destroyed (history six protected)) ≡ [] }
@@ -48,7 +48,8 @@ pub fn half_unprotected()
         (Striking RebootAndDelete)) ≡ 1 ∷ [] }
 {}
 
-/// Of several first protections of a process each counts, and an Unprotect takes its kinds out of all of them.
+/// Of several first protections of a process each counts, and an Unprotect takes its kinds out of
+/// all of them.
 pub fn protected_from_the_start()
     ensures legal { Legal guarded protected_from_the_start }
     ensures stays { members (λ p. is_protected guarded (history guarded protected_from_the_start) p

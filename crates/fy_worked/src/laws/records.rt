@@ -6,7 +6,8 @@ ghost use Rattle.fy_cluster.specs.Replies.{Legal};
 ghost use Rattle.fy_worked.specs.Clusters.{six, four_of_one, members, process};
 ghost use Rattle.fy_worked.specs.Records.{written_and_synced, forgotten, and_back, acknowledged, spared, three_written, torn, torn_and_back, torn_once, counted_anew, counted_anew_after_sync, emptied_unsynced, weakened_and_torn, restarted, not_synced_while_down, restarted_and_torn, one_word_each, first_acknowledged, written_again, second_team, item, hi};
 
-/// A record is acknowledged once each member's word of it has come. Its keeper is the member that isn't destroyed.
+/// A record is acknowledged once each member's word of it has come. Its keeper is the member that
+/// isn't destroyed.
 pub fn written_and_synced()
     ensures legal { Legal six written_and_synced }
     ensures keeper { keeper six (history six written_and_synced) 0 ≡ Some (process 2) }
@@ -128,7 +129,8 @@ pub fn restarted_and_torn()
         ≡ item 1 (11 ∷ []) ∷ item 2 (12 ∷ []) ∷ [] }
 {}
 
-/// A word counts for its own record and its own sender: with one word of each of two records, neither is acknowledged.
+/// A word counts for its own record and its own sender: with one word of each of two records,
+/// neither is acknowledged.
 pub fn one_word_each()
     ensures legal { Legal six one_word_each }
     ensures first { acked (history six one_word_each) 0 ≡ false }
@@ -161,5 +163,6 @@ pub fn second_team()
     ensures sent { sent (history six second_team)
         ≡ Store 0 (process 1) ∷ Store 0 (process 3) ∷ Store 0 (process 4) ∷ Store 1 (process 0)
         ∷ Store 1 (process 2) ∷ [] }
-    ensures team { members_for (history six second_team) 0 ≡ process 1 ∷ process 3 ∷ process 4 ∷ [] }
+    ensures team { members_for (history six second_team) 0
+        ≡ process 1 ∷ process 3 ∷ process 4 ∷ [] }
 {}

@@ -10,7 +10,8 @@ ghost use Rattle.fy_worked.specs.Strikes.{three_and_two};
 ghost use Rattle.fy_worked.specs.Leave.{protected};
 ghost use Rattle.fy_worked.specs.Refused.{nobody_formed, gone_protected, refused_before_anything, refused_of_the_gone, refused_in_order, roles_apart, team_by_policy, no_member_of_acknowledged};
 
-/// An act that names what isn't there is refused and changes nothing. The clock stops at its last tick.
+/// An act that names what isn't there is refused and changes nothing. The clock stops at its last
+/// tick.
 pub fn refused_before_anything()
     ensures legal { Legal six refused_before_anything }
     ensures now { now (history six refused_before_anything) ≡ 1099511627776 }
@@ -47,7 +48,8 @@ pub fn refused_in_order()
     ensures records { length (records (history six refused_in_order)) ≡ 1 }
 {}
 
-/// Each role may make its own acts alone; kills and clogs are open to all, as far as their grants go.
+/// Each role may make its own acts alone; kills and clogs are open to all, as far as their grants
+/// go.
 pub fn roles_apart()
     ensures legal { Legal six roles_apart }
     ensures now { now (history six roles_apart) ≡ 0 }

@@ -5,8 +5,8 @@ ghost use Rattle.fy_cluster.specs.Replies.{Legal};
 ghost use Rattle.fy_worked.specs.Clusters.{six, four, four_of_one, members};
 ghost use Rattle.fy_worked.specs.Strikes.{two_zones, few_left, few_left_and_nothing_milder, one_is_enough, few_left_and_no_grant_to_empty, back_and_destroyed, emptied_is_left, killed_is_not_left, two_policies, no_hall, three_and_two, halls};
 
-/// Of three zones one is killed for good, and the next is only rebooted: else the destroyed would satisfy the policy. Two
-/// processes of one zone are no two zones.
+/// Of three zones one is killed for good, and the next is only rebooted: else the destroyed would
+/// satisfy the policy. Two processes of one zone are no two zones.
 pub fn two_zones()
     ensures legal { Legal six two_zones }
     ensures destroyed { members (destroyed (history six two_zones)) ≡ 0 ∷ 1 ∷ [] }
@@ -14,7 +14,8 @@ pub fn two_zones()
     ensures up { members (up (history six two_zones)) ≡ 4 ∷ 5 ∷ [] }
 {}
 
-/// Of two zones one is only emptied: killed for good it would leave too few. The emptied are destroyed, and left.
+/// Of two zones one is only emptied: killed for good it would leave too few. The emptied are
+/// destroyed, and left.
 pub fn few_left()
     ensures legal { Legal four few_left }
     ensures destroyed { members (destroyed (history four few_left)) ≡ 0 ∷ 1 ∷ [] }
