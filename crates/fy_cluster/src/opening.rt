@@ -86,7 +86,7 @@ fn blank_disks(alloc: Global, processes: u32) -> Result<Vec<Disk>, AllocError>
     ensures { IfOk result (λ disks. disks.items ≡ replicate processes blank) }
 {
     let mut disks = Vec::new(alloc);
-    for process in 0..processes {
+    for _process in 0..processes {
         disks.push(Disk::make(alloc))?;
     }
     Ok(disks)

@@ -3,4 +3,4 @@ use Rattle.fy_disk.specs.Disk.{blank}
 use Rattle.fy_cluster.proofs.opening.blank_disks.Given as goal
 
 abbrev pub invariant-loop-process : goal.invariant-loop-process
-invariant-loop-process l = l.disks.items ≡ replicate l.process blank
+invariant-loop-process l = l.disks.items ≡ replicate l._process blank
