@@ -25,7 +25,7 @@ use Rattle.fy_cluster.specs.History.{History, Moment, BegunRecord, some_is, sent
 use Rattle.fy_cluster.specs.Replies.{refused, refusals, answer, on_delivery, is_down_store, is_acked_with}
 use Rattle.fy_disk.specs.Disk.{blank}
 use Rattle.fy_cluster.specs.Standing.{Stands, Turn, Follows, moment_of, KeepsNet, KeepsTeams, stored, begun_of, IsLived}
-use Rattle.fy_cluster.proofs.Still.{dead_still, up_still, disks_still, teams_still, rights_still, stored_still}
+use Rattle.fy_cluster.proofs.Still.{dead_still, up_still, teams_still, rights_still, stored_still, only_traffic}
 use Rattle.fy_cluster.proofs.DiskSteps.{synced_else, unsynced_else, own}
 use Rattle.fy_cluster.proofs.Refusals.{refuse}
 use Rattle.fy_cluster.proofs.Results.{some_is_same, some_not_none}
@@ -215,14 +215,9 @@ pub marks_now : Tested → ((roster : Roster) (rec p : ℕ) → (marked_by rec p
     → Follows turn (Deliver n) (Marked done) (record machine { net = net; teams = roster })
 marks_now tested same_teams more turn n rec from machine done net roster k l e there x left is told = rw left (record {
   right = ap Marked acked_is ∙ sym (deliver_reply c h turn.by n (Synced rec from) false false f.0 f.1 (sym (clog_is c h machine.net from.0 there k.net) ∙ x) refl);
-  stands = record {
-    dead = dead_still c m h machine.dead (λ p. refl) k.dead;
-    rights = rights_still c m h machine.book refl refl refl refl k.rights;
-    disks = disks_still c m h machine.disks.items (λ p. refl) refl (λ p. refl) k.disks;
-    up = up_still c m h machine.up (λ p. refl) refl k.up;
-    net = net_left c m h machine.net n f.0 refl (λ i. or_nothing (n == i) ∙ swap_eq i n) refl refl refl k.net;
-    teams = kept;
-  };
+  stands = only_traffic turn (Deliver n) (Marked done) machine (left_by n machine.net) roster refl (λ p. refl) k
+      (net_left c m h machine.net n f.0 refl (λ i. or_nothing (n == i) ∙ swap_eq i n) refl refl refl k.net)
+      kept;
 })
   where
     c : Setup

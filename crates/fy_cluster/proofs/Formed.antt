@@ -25,7 +25,7 @@ use Rattle.fy_cluster.specs.Setup.{Setup}
 use Rattle.fy_cluster.specs.History.{History, Moment, gone, left, teams, records}
 use Rattle.fy_cluster.specs.Replies.{refused, refusals, answer, no_process, meets}
 use Rattle.fy_cluster.specs.Standing.{Stands, Turn, Follows, Comes, moment_of, replied_to_team}
-use Rattle.fy_cluster.proofs.Still.{dead_still, up_still, disks_still, net_still, rights_still}
+use Rattle.fy_cluster.proofs.Still.{net_still, only_traffic}
 use Rattle.fy_cluster.proofs.Refusals.{refuse}
 use Rattle.fy_cluster.proofs.Results.{ok_not_err}
 use Rattle.fy_cluster.proofs.Starts.{gone_is}
@@ -105,18 +105,13 @@ formed : (turn : Turn) (members : List ProcId) (policy : ℕ) (machine : Machine
     → Follows turn (Form members policy) (Formed (length (teams turn.before))) (record machine { teams = formed_of members policy machine.teams })
 formed turn members policy machine k e = record {
   right = ok_same _ _ _ refl (sym e);
-  stands = record {
-    dead = dead_still c m h machine.dead (λ p. refl) k.dead;
-    rights = rights_still c m h machine.book refl refl refl refl k.rights;
-    disks = disks_still c m h machine.disks.items (λ p. refl) refl (λ p. refl) k.disks;
-    up = up_still c m h machine.up (λ p. refl) refl k.up;
-    net = net_still c m h machine.net refl (λ k. refl) refl refl refl k.net;
-    teams = record {
-      teams = ap (λ ts. ts ++ record { members = members; policy = policy } ∷ []) k.teams.teams;
-      records = k.teams.records ∙ sym (append-nil (records h));
-      marks = k.teams.marks;
-    };
-  };
+  stands = only_traffic turn (Form members policy) (Formed (length (teams turn.before))) machine machine.net (formed_of members policy machine.teams) refl (λ p. refl) k
+      (net_still c m h machine.net refl (λ k. refl) refl refl refl k.net)
+      record {
+        teams = ap (λ ts. ts ++ record { members = members; policy = policy } ∷ []) k.teams.teams;
+        records = k.teams.records ∙ sym (append-nil (records h));
+        marks = k.teams.marks;
+      };
 }
   where
     c : Setup

@@ -19,7 +19,7 @@ use Rattle.fy_cluster.specs.History.{History, Moment}
 use Rattle.fy_cluster.specs.Rules.{grants, is_protected}
 use Rattle.fy_cluster.specs.Replies.{refused, refusals, answer, no_process, no_actor, grant_count}
 use Rattle.fy_cluster.specs.Standing.{Stands, Turn, Follows, Comes, moment_of, KeepsRights, replied_to}
-use Rattle.fy_cluster.proofs.Still.{dead_still, up_still, disks_still, net_still, teams_still}
+use Rattle.fy_cluster.proofs.Still.{only_rights}
 use Rattle.fy_cluster.proofs.Refusals.{refuse}
 use Rattle.fy_cluster.proofs.Results.{neither, either}
 
@@ -79,18 +79,11 @@ given : GivesLists → ((rights : Rights) (grant : Grant) → length (with_grant
     → Follows turn (Give grant) Done (record m { book = with_grant m.book grant })
 given lists actors turn grant machine k e f = record {
   right = sym (give_reply c h turn.by grant false false (ap (λ n. nat_le n grant.actor) (sym k.rights.actors) ∙ e) f);
-  stands = record {
-    dead = dead_still c m h machine.dead (λ p. refl) k.dead;
-    rights = record {
-      actors = actors machine.book grant ∙ k.rights.actors;
-      processes = k.rights.processes;
-      grants = λ a. lists machine.book grant a there ∙ ap (λ own. if grant.actor == a then own ++ grant ∷ [] else own) (k.rights.grants a);
-      protections = k.rights.protections;
-    };
-    disks = disks_still c m h machine.disks.items (λ p. refl) refl (λ p. refl) k.disks;
-    up = up_still c m h machine.up (λ p. refl) refl k.up;
-    net = net_still c m h machine.net refl (λ k. refl) refl refl refl k.net;
-    teams = teams_still m h machine.teams refl refl (λ r p. refl) k.teams;
+  stands = only_rights turn (Give grant) Done machine (with_grant machine.book grant) refl refl k record {
+    actors = actors machine.book grant ∙ k.rights.actors;
+    processes = k.rights.processes;
+    grants = λ a. lists machine.book grant a there ∙ ap (λ own. if grant.actor == a then own ++ grant ∷ [] else own) (k.rights.grants a);
+    protections = k.rights.protections;
   };
 }
   where
@@ -141,18 +134,11 @@ taken : TakesLists → ((rights : Rights) (actor index : ℕ) → length (withou
     → Follows turn (Take actor index) Done (record m { book = without_grant m.book actor index })
 taken lists actors turn actor index machine k e f = record {
   right = sym (take_reply c h turn.by actor index false false (ap (λ n. nat_le n actor) (sym k.rights.actors) ∙ e) (ap (λ own. nat_le (length own) index) (sym (k.rights.grants actor)) ∙ f));
-  stands = record {
-    dead = dead_still c m h machine.dead (λ p. refl) k.dead;
-    rights = record {
-      actors = actors machine.book actor index ∙ k.rights.actors;
-      processes = k.rights.processes;
-      grants = λ a. lists machine.book actor index a there ∙ ap (λ own. if actor == a then remove own index else own) (k.rights.grants a);
-      protections = k.rights.protections;
-    };
-    disks = disks_still c m h machine.disks.items (λ p. refl) refl (λ p. refl) k.disks;
-    up = up_still c m h machine.up (λ p. refl) refl k.up;
-    net = net_still c m h machine.net refl (λ k. refl) refl refl refl k.net;
-    teams = teams_still m h machine.teams refl refl (λ r p. refl) k.teams;
+  stands = only_rights turn (Take actor index) Done machine (without_grant machine.book actor index) refl refl k record {
+    actors = actors machine.book actor index ∙ k.rights.actors;
+    processes = k.rights.processes;
+    grants = λ a. lists machine.book actor index a there ∙ ap (λ own. if actor == a then remove own index else own) (k.rights.grants a);
+    protections = k.rights.protections;
   };
 }
   where
@@ -223,18 +209,11 @@ pub protected : ChangesOne → KeepsCount → ((a b : KindSet) (d : Deed) → ha
     → book ≡ with_protection m.book p.0 (with_all (protections_of m.book p.0) kinds) → Follows turn (Protect p kinds) Done (record m { book = book })
 protected one count together turn p kinds machine book k l is = rw is (record {
   right = sym (protect_reply c h turn.by p kinds false (within c p.0 (length machine.book.protections) k.rights.processes l));
-  stands = record {
-    dead = dead_still c m h machine.dead (λ p. refl) k.dead;
-    rights = record {
-      actors = k.rights.actors;
-      processes = count machine.book p.0 _ ∙ k.rights.processes;
-      grants = k.rights.grants;
-      protections = λ q deed. ap (λ ks. has ks deed) (one machine.book p.0 q _ l) ∙ at q deed (p.0 == q) refl;
-    };
-    disks = disks_still c m h machine.disks.items (λ p. refl) refl (λ p. refl) k.disks;
-    up = up_still c m h machine.up (λ p. refl) refl k.up;
-    net = net_still c m h machine.net refl (λ k. refl) refl refl refl k.net;
-    teams = teams_still m h machine.teams refl refl (λ r p. refl) k.teams;
+  stands = only_rights turn (Protect p kinds) Done machine (with_protection machine.book p.0 (with_all (protections_of machine.book p.0) kinds)) refl refl k record {
+    actors = k.rights.actors;
+    processes = count machine.book p.0 _ ∙ k.rights.processes;
+    grants = k.rights.grants;
+    protections = λ q deed. ap (λ ks. has ks deed) (one machine.book p.0 q _ l) ∙ at q deed (p.0 == q) refl;
   };
 })
   where
@@ -258,18 +237,11 @@ pub unprotected : ChangesOne → KeepsCount → ((a b : KindSet) (d : Deed) → 
     → book ≡ with_protection m.book p.0 (without_all (protections_of m.book p.0) kinds) → Follows turn (Unprotect p kinds) Done (record m { book = book })
 unprotected one count apart turn p kinds machine book k l is = rw is (record {
   right = sym (unprotect_reply c h turn.by p kinds false (within c p.0 (length machine.book.protections) k.rights.processes l));
-  stands = record {
-    dead = dead_still c m h machine.dead (λ p. refl) k.dead;
-    rights = record {
-      actors = k.rights.actors;
-      processes = count machine.book p.0 _ ∙ k.rights.processes;
-      grants = k.rights.grants;
-      protections = λ q deed. ap (λ ks. has ks deed) (one machine.book p.0 q _ l) ∙ at q deed (p.0 == q) refl;
-    };
-    disks = disks_still c m h machine.disks.items (λ p. refl) refl (λ p. refl) k.disks;
-    up = up_still c m h machine.up (λ p. refl) refl k.up;
-    net = net_still c m h machine.net refl (λ k. refl) refl refl refl k.net;
-    teams = teams_still m h machine.teams refl refl (λ r p. refl) k.teams;
+  stands = only_rights turn (Unprotect p kinds) Done machine (with_protection machine.book p.0 (without_all (protections_of machine.book p.0) kinds)) refl refl k record {
+    actors = k.rights.actors;
+    processes = count machine.book p.0 _ ∙ k.rights.processes;
+    grants = k.rights.grants;
+    protections = λ q deed. ap (λ ks. has ks deed) (one machine.book p.0 q _ l) ∙ at q deed (p.0 == q) refl;
   };
 })
   where

@@ -23,12 +23,12 @@ use Rattle.fy_audit.specs.declared.act.Act.TheVariants.{Kill, Clog, Unclog}
 use Rattle.fy_audit.specs.declared.reply.Reply.TheVariants.{Ruled, Verdict}
 use Rattle.fy_cluster.specs.declared.machine.Machine.{Machine}
 use Rattle.fy_cluster.specs.Setup.{Setup}
-use Rattle.fy_cluster.specs.History.{History, Moment, some_is, strikes, destroys, closes, syncs, writes, tear_of, destroyed, gone, left, up, synced, unsynced, sent, now, takes_out, clogs, unclogs, sends_of, clogged_at}
+use Rattle.fy_cluster.specs.History.{History, Moment, some_is, strikes, destroys, closes, syncs, writes, tear_of, destroyed, gone, left, up, synced, unsynced, sent, now, takes_out, sends_of, clogged_at}
 use Rattle.fy_cluster.specs.Rules.{situation}
 use Rattle.fy_cluster.specs.Replies.{refused, refusals, answer}
 use Rattle.fy_disk.specs.Disk.{blank}
 use Rattle.fy_cluster.specs.Standing.{Stands, Turn, Follows, moment_of, following, KeepsDead, KeepsDisks, KeepsUp, ChangesAt, ClogsChange, clog_end, unclog_end, targets_by, clog_bar, buried, stored, left_on}
-use Rattle.fy_cluster.proofs.Still.{Doings, doings, nothing, clog_alone, unmoved, only_net, none_taken_out, net_still, teams_still, rights_still, stored_still, disk_closes}
+use Rattle.fy_cluster.proofs.Still.{Doings, doings, nothing, clogs_alone, unmoved, only_clogs, untaken, net_still, teams_still, rights_still, stored_still, disk_closes}
 use Rattle.fy_cluster.proofs.DiskSteps.{synced_at_close, unsynced_at_close, synced_at_strike}
 use Rattle.fy_cluster.proofs.Flights.{flying_still}
 use Rattle.fy_cluster.proofs.Results.{some_is_same}
@@ -65,7 +65,7 @@ bar_same c h m k by actor e target = ap₂ (λ s t. bar s Clogging t) (situation
 pub record ActsOnClogs (turn : Turn) (act : Act) (target : Target) (change : ℕ → ℕ → ℕ) : Type 0 where
   pub ruled : Ruled (bar (situation turn.setup turn.before turn.by) Clogging (targets turn.setup.processes (left turn.setup turn.before) target)) ≡ refused (refusals turn.setup turn.before act) (answer turn.setup turn.before turn.by act)
   pub idle : (rule : Rule) → doings act (Ruled (Some rule)) ≡ nothing
-  pub alone : doings act (Ruled None) ≡ clog_alone (clogs act (Ruled None)) (unclogs act (Ruled None))
+  pub alone : doings act (Ruled None) ≡ clogs_alone act (Ruled None)
   pub silent : sends_of turn.before act ≡ []
   pub holds : (p t until : ℕ) → now turn.before ≤ t → clogged_at t turn.before p ≡ nat_lt t until
       → clogged_at t (following turn act (Ruled None)) p ≡ nat_lt t (if targets turn.setup.processes (left turn.setup turn.before) target p then change (now turn.before) until else until)
@@ -111,7 +111,7 @@ pub clogs_changed : {turn : Turn} {act : Act} {target : Target} {change : ℕ �
     → None ≡ clog_bar machine by target → ((p : ℕ) → sets.contains set p ≡ targets_by machine target p) → ClogsChange (sets.contains set) change machine.net net → Follows turn act (Ruled None) (record machine { net = net })
 clogs_changed {turn} {act} {target} {change} {machine} {by} set {net} acts k actor is who changed = record {
   right = ap Ruled (is ∙ bar_same c h machine k by turn.by actor target) ∙ acts.ruled;
-  stands = only_net turn act (Ruled None) machine net _ _ acts.alone k record {
+  stands = only_clogs turn act (Ruled None) machine net acts.alone k record {
     in_flight = ap (λ (n : Traffic). n.in_flight) changed.rest ∙ k.net.in_flight ∙ sym (flying_still m h acts.silent keeps);
     sent_so_far = ap (λ (n : Traffic). n.sent) changed.rest ∙ k.net.sent_so_far ∙ sym all_sent;
     clock = ap (λ (n : Traffic). n.clock) changed.rest ∙ k.net.clock ∙ sym time;
@@ -132,7 +132,7 @@ clogs_changed {turn} {act} {target} {change} {machine} {by} set {net} acts k act
     m = moment_of turn act (Ruled None)
 
     keeps : (n : ℕ) → takes_out n m ≡ false
-    keeps = none_taken_out act (Ruled None) _ _ acts.alone
+    keeps = untaken act (Ruled None) (ap (λ (d : Doings). d.delivered) acts.alone) (ap (λ (d : Doings). d.lost) acts.alone)
 
     all_sent : length (sent (m ∷ h)) ≡ length (sent h)
     all_sent = ap (λ xs. length (sent h ++ xs)) acts.silent ∙ ap length (append-nil (sent h))

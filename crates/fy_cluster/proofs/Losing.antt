@@ -15,7 +15,7 @@ use Rattle.fy_cluster.specs.Setup.{Setup}
 use Rattle.fy_cluster.specs.History.{History, Moment, sent, in_flight, takes_out, now, clogs, unclogs, ticks}
 use Rattle.fy_cluster.specs.Replies.{refused, refusals, answer}
 use Rattle.fy_cluster.specs.Standing.{Stands, Turn, Follows, moment_of, KeepsNet}
-use Rattle.fy_cluster.proofs.Still.{dead_still, up_still, disks_still, teams_still, rights_still}
+use Rattle.fy_cluster.proofs.Still.{teams_still, only_traffic}
 use Rattle.fy_cluster.proofs.Flights.{flying_without, body_flying}
 use Rattle.fy_cluster.proofs.Refusals.{refuse}
 use Rattle.fy_cluster.proofs.Records.{slice_get-some}
@@ -78,14 +78,9 @@ swap_eq k n = grind (arith, nat_tests)
 lost : (turn : Turn) (n : ℕ) (m : Machine) → Stands turn.setup turn.before m → in_flight turn.before n ≡ true → Follows turn (Lose n) Done (record m { net = left_by n m.net })
 lost turn n machine k f = record {
   right = sym (lose_reply c h turn.by n true f);
-  stands = record {
-    dead = dead_still c m h machine.dead (λ p. refl) k.dead;
-    rights = rights_still c m h machine.book refl refl refl refl k.rights;
-    disks = disks_still c m h machine.disks.items (λ p. refl) refl (λ p. refl) k.disks;
-    up = up_still c m h machine.up (λ p. refl) refl k.up;
-    net = net_left c m h machine.net n f refl (λ k. swap_eq k n) refl refl refl k.net;
-    teams = teams_still m h machine.teams refl refl (λ r p. refl) k.teams;
-  };
+  stands = only_traffic turn (Lose n) Done machine (left_by n machine.net) machine.teams refl (λ p. refl) k
+      (net_left c m h machine.net n f refl (λ k. swap_eq k n) refl refl refl k.net)
+      (teams_still m h machine.teams refl refl (λ r p. refl) k.teams);
 }
   where
     c : Setup

@@ -17,7 +17,7 @@ use Rattle.fy_cluster.specs.Setup.{Setup}
 use Rattle.fy_cluster.specs.History.{History, Moment, BegunRecord, sent, teams, records, members_for, acked, marked}
 use Rattle.fy_cluster.specs.Replies.{refused, refusals, answer, is_full}
 use Rattle.fy_cluster.specs.Standing.{Stands, Turn, Follows, Comes, moment_of, KeepsTeams, begun_of, IsLived}
-use Rattle.fy_cluster.proofs.Still.{dead_still, up_still, disks_still, teams_still, rights_still}
+use Rattle.fy_cluster.proofs.Still.{teams_still, only_traffic}
 use Rattle.fy_cluster.proofs.Refusals.{refuse}
 use Rattle.fy_cluster.proofs.Results.{some_is_same, some_not_none}
 use Rattle.fy_cluster.proofs.Room.{net_sent, room_for}
@@ -144,19 +144,14 @@ pub resends : (turn : Turn) (rec : ℕ) (p : ProcId) (members : List ProcId) (ma
     → Follows turn (Resend rec p) (Sent number) (record machine { net = net })
 resends turn rec p members machine room number net k is e a clear reserved n sent_is = rw number_is (record {
   right = sym (resend_reply c h turn.by rec p false true false false is.known (ap (λ ps. is_among ps p.0) is.team ∙ e) a (room_for c h machine.net 1 k.net clear).0);
-  stands = record {
-    dead = dead_still c m h machine.dead (λ q. refl) k.dead;
-    rights = rights_still c m h machine.book refl refl refl refl k.rights;
-    disks = disks_still c m h machine.disks.items (λ q. refl) refl (λ q. refl) k.disks;
-    up = up_still c m h machine.up (λ q. refl) refl k.up;
-    net = net_sent c m h machine.net net (Store rec p ∷ []) refl (room_for c h machine.net 1 k.net clear).1 (λ n. refl) refl refl refl
+  stands = only_traffic turn (Resend rec p) (Sent (length (sent turn.before))) machine net machine.teams refl (λ q. refl) k
+      (net_sent c m h machine.net net (Store rec p ∷ []) refl (room_for c h machine.net 1 k.net clear).1 (λ n. refl) refl refl refl
         (ap (λ (r : Traffic). r.in_flight) sent_is ∙ ap (λ (r : Traffic). r.in_flight ++ numbered r.sent (Store rec p ∷ [])) reserved)
         (ap (λ (r : Traffic). r.sent) sent_is ∙ ap (λ (r : Traffic). r.sent + 1) reserved)
         (ap (λ (r : Traffic). r.clock) sent_is ∙ ap (λ (r : Traffic). r.clock) reserved)
         (ap (λ (r : Traffic). r.until) sent_is ∙ ap (λ (r : Traffic). r.until) reserved)
-        k.net;
-    teams = teams_still m h machine.teams refl refl (λ r q. refl) k.teams;
-  };
+        k.net)
+      (teams_still m h machine.teams refl refl (λ r q. refl) k.teams);
 })
   where
     c : Setup
@@ -233,23 +228,18 @@ pub begins_now : ((roster : Roster) (team : ℕ) (payload : List ℕ) (r q : ℕ
     → Follows turn (Begin team payload) (Begun rec first) (record machine { net = net; teams = roster })
 begins_now unmarked turn team payload members machine room net roster rec first n k f is count clear reserved rec_is begun first_is sends = rw (record_is_next, number_is) (record {
   right = sym (begin_reply c h turn.by team payload false false false false f.there f.small f.few (ap (λ ps. is_full h (length ps)) is ∙ ap (is_full h) (sym count) ∙ (room_for c h machine.net n k.net clear).0));
-  stands = record {
-    dead = dead_still c m h machine.dead (λ q. refl) k.dead;
-    rights = rights_still c m h machine.book refl refl refl refl k.rights;
-    disks = disks_still c m h machine.disks.items (λ q. refl) refl (λ q. refl) k.disks;
-    up = up_still c m h machine.up (λ q. refl) refl k.up;
-    net = net_sent c m h machine.net net (stores_of rec members) (ap₂ stores_of (sym record_is_next) is) (let few = (room_for c h machine.net n k.net clear).1 in let s = stores in omega arith) (λ j. refl) refl refl refl
+  stands = only_traffic turn (Begin team payload) (Begun (length (records turn.before)) (length (sent turn.before))) machine net roster refl (λ q. refl) k
+      (net_sent c m h machine.net net (stores_of rec members) (ap₂ stores_of (sym record_is_next) is) (let few = (room_for c h machine.net n k.net clear).1 in let s = stores in omega arith) (λ j. refl) refl refl refl
         sent_now.in_flight
         sent_now.count
         sent_now.clock
         sent_now.until
-        k.net;
-    teams = rw begun (record {
-      teams = k.teams.teams ∙ sym (append-nil (teams h));
-      records = map-push begun_of machine.teams.records _ ∙ ap (λ rs. rs ++ record { team = team; payload = payload } ∷ []) k.teams.records;
-      marks = λ r q. unmarked machine.teams team payload r q ∙ k.teams.marks r q;
-    });
-  };
+        k.net)
+      (rw begun (record {
+        teams = k.teams.teams ∙ sym (append-nil (teams h));
+        records = map-push begun_of machine.teams.records _ ∙ ap (λ rs. rs ++ record { team = team; payload = payload } ∷ []) k.teams.records;
+        marks = λ r q. unmarked machine.teams team payload r q ∙ k.teams.marks r q;
+      }));
 })
   where
     c : Setup

@@ -146,12 +146,12 @@ doings act r = record {
   unshielded = unprotects act r;
 }
 
--- nothing but a clog, or its end
-abbrev pub clog_alone : Option ℕ → Option Target → Doings
-clog_alone n target = record {
+-- nothing at all
+abbrev pub nothing : Doings
+nothing = record {
   struck = None;
-  clogged_for = n;
-  unclogged = target;
+  clogged_for = None;
+  unclogged = None;
   formed = None;
   begun = None;
   delivered = None;
@@ -165,38 +165,110 @@ clog_alone n target = record {
   unshielded = None;
 }
 
--- nothing at all
-abbrev pub nothing : Doings
-nothing = clog_alone None None
+-- what it does to the network and the teams, and nothing else
+abbrev pub traffic_alone : Act → Reply → Doings
+traffic_alone act r = record nothing {
+  clogged_for = clogs act r;
+  unclogged = unclogs act r;
+  formed = forms act r;
+  begun = begins act r;
+  delivered = delivers act r;
+  lost = loses act r;
+  passed = ticks act r;
+}
+
+-- what it does to clogs, and nothing else
+abbrev pub clogs_alone : Act → Reply → Doings
+clogs_alone act r = record nothing { clogged_for = clogs act r; unclogged = unclogs act r }
+
+-- what it does to grants and protections, and nothing else
+abbrev pub rights_alone : Act → Reply → Doings
+rights_alone act r = record nothing { given = gives act r; taken = takes act r; shielded = protects act r; unshielded = unprotects act r }
 
 none_struck : (b : Bool) (o : Option Kind) → o ≡ None → (if b then o else None) ≡ None
 none_struck true o e = e
 none_struck false o e = refl
 
--- it takes no message out
-pub none_taken_out : (act : Act) (r : Reply) (n : Option ℕ) (target : Option Target) → doings act r ≡ clog_alone n target → (m : ℕ) → (some_is (λ k. k == m) (delivers act r) || some_is (λ k. k == m) (loses act r)) ≡ false
-none_taken_out act r n target is m = ap₂ (λ d l. some_is (λ k. k == m) d || some_is (λ k. k == m) l) (ap (λ (d : Doings). d.delivered) is) (ap (λ (d : Doings). d.lost) is)
+-- it strikes nobody
+unstruck : (turn : Turn) (act : Act) (r : Reply) → struck_by act r ≡ None → (p : ℕ) → strikes (moment_of turn act r) p ≡ None
+unstruck turn act r e p = none_struck ((moment_of turn act r).targets p) (struck_by act r) e
 
--- what does no more than clog or unclog leaves all but the network
-pub only_net : (turn : Turn) (act : Act) (r : Reply) (machine : Machine) (net : Traffic) (n : Option ℕ) (target : Option Target) → doings act r ≡ clog_alone n target
-    → Stands turn.setup turn.before machine → KeepsNet turn.setup (following turn act r) net → Stands turn.setup (following turn act r) (record machine { net = net })
-only_net turn act r machine net n target is k kept = record {
-  dead = dead_still turn.setup m turn.before machine.dead struck k.dead;
-  rights = rights_still turn.setup m turn.before machine.book (ap (λ (d : Doings). d.given) is) (ap (λ (d : Doings). d.taken) is) (ap (λ (d : Doings). d.shielded) is) (ap (λ (d : Doings). d.unshielded) is) k.rights;
-  disks = disks_still turn.setup m turn.before machine.disks.items struck (ap (λ (d : Doings). d.synced_at) is) (λ p. ap (λ o. if is_some o && is_stored r then option_and_then (store_to p) m.message else None) (ap (λ (d : Doings). d.delivered) is)) k.disks;
-  up = up_still turn.setup m turn.before machine.up struck (ap (λ (d : Doings). d.started) is) k.up;
-  net = kept;
-  teams = teams_still m turn.before machine.teams (ap (λ (d : Doings). d.formed) is) (ap (λ (d : Doings). d.begun) is) (λ i p. ap (λ o. is_some o && some_is (λ w. w.0 == i && w.1 == p) (option_and_then word_of m.message)) (ap (λ (d : Doings). d.delivered) is)) k.teams;
+-- it writes nothing
+unwritten : (turn : Turn) (act : Act) (r : Reply) → delivers act r ≡ None → (p : ℕ) → writes (moment_of turn act r) p ≡ None
+unwritten turn act r e p = ap (λ o. if is_some o && is_stored r then option_and_then (store_to p) (moment_of turn act r).message else None) e
+
+-- it marks nothing
+unmarked : (turn : Turn) (act : Act) (r : Reply) → delivers act r ≡ None → (rec p : ℕ) → marks (moment_of turn act r) rec p ≡ false
+unmarked turn act r e rec p = ap (λ o. is_some o && some_is (λ w. w.0 == rec && w.1 == p) (option_and_then word_of (moment_of turn act r).message)) e
+
+-- it takes no message out
+pub untaken : (act : Act) (r : Reply) → delivers act r ≡ None → loses act r ≡ None → (n : ℕ) → (some_is (λ k. k == n) (delivers act r) || some_is (λ k. k == n) (loses act r)) ≡ false
+untaken act r d l n = ap₂ (λ d l. some_is (λ k. k == n) d || some_is (λ k. k == n) l) d l
+
+-- what writes nothing, and concerns no more than the network and the teams, leaves all else
+pub only_traffic : (turn : Turn) (act : Act) (r : Reply) (machine : Machine) (net : Traffic) (roster : Roster) → doings act r ≡ traffic_alone act r → ((p : ℕ) → writes (moment_of turn act r) p ≡ None)
+    → Stands turn.setup turn.before machine → KeepsNet turn.setup (following turn act r) net → KeepsTeams (following turn act r) roster
+    → Stands turn.setup (following turn act r) (record machine { net = net; teams = roster })
+only_traffic turn act r machine net roster is unwritten k flows formed = record {
+  dead = dead_still c m h machine.dead struck k.dead;
+  rights = rights_still c m h machine.book (ap (λ (d : Doings). d.given) is) (ap (λ (d : Doings). d.taken) is) (ap (λ (d : Doings). d.shielded) is) (ap (λ (d : Doings). d.unshielded) is) k.rights;
+  disks = disks_still c m h machine.disks.items struck (ap (λ (d : Doings). d.synced_at) is) unwritten k.disks;
+  up = up_still c m h machine.up struck (ap (λ (d : Doings). d.started) is) k.up;
+  net = flows;
+  teams = formed;
 }
   where
+    c : Setup
+    c = turn.setup
+
+    h : History
+    h = turn.before
+
     m : Moment
     m = moment_of turn act r
 
     struck : (p : ℕ) → strikes m p ≡ None
-    struck p = none_struck (m.targets p) _ (ap (λ (d : Doings). d.struck) is)
+    struck = unstruck turn act r (ap (λ (d : Doings). d.struck) is)
+
+-- what concerns no more than clogs leaves all but the network
+pub only_clogs : (turn : Turn) (act : Act) (r : Reply) (machine : Machine) (net : Traffic) → doings act r ≡ clogs_alone act r
+    → Stands turn.setup turn.before machine → KeepsNet turn.setup (following turn act r) net → Stands turn.setup (following turn act r) (record machine { net = net })
+only_clogs turn act r machine net is k flows =
+    only_traffic turn act r machine net machine.teams
+    (is ∙ sym (ap (λ (d : Doings). record nothing { clogged_for = d.clogged_for; unclogged = d.unclogged; formed = d.formed; begun = d.begun; delivered = d.delivered; lost = d.lost; passed = d.passed }) is))
+    (unwritten turn act r (ap (λ (d : Doings). d.delivered) is)) k flows
+    (teams_still (moment_of turn act r) turn.before machine.teams (ap (λ (d : Doings). d.formed) is) (ap (λ (d : Doings). d.begun) is) (unmarked turn act r (ap (λ (d : Doings). d.delivered) is)) k.teams)
+
+-- what concerns no more than grants and protections leaves all else
+pub only_rights : (turn : Turn) (act : Act) (r : Reply) (machine : Machine) (book : Rights) → doings act r ≡ rights_alone act r → (moment_of turn act r).sends ≡ []
+    → Stands turn.setup turn.before machine → KeepsRights turn.setup (following turn act r) book
+    → Stands turn.setup (following turn act r) (record machine { book = book })
+only_rights turn act r machine book is silent k held = record {
+  dead = dead_still c m h machine.dead struck k.dead;
+  rights = held;
+  disks = disks_still c m h machine.disks.items struck (ap (λ (d : Doings). d.synced_at) is) (unwritten turn act r (ap (λ (d : Doings). d.delivered) is)) k.disks;
+  up = up_still c m h machine.up struck (ap (λ (d : Doings). d.started) is) k.up;
+  net = net_still c m h machine.net silent (untaken act r (ap (λ (d : Doings). d.delivered) is) (ap (λ (d : Doings). d.lost) is)) (ap (λ (d : Doings). d.clogged_for) is) (ap (λ (d : Doings). d.unclogged) is) (ap (λ (d : Doings). d.passed) is) k.net;
+  teams = teams_still m h machine.teams (ap (λ (d : Doings). d.formed) is) (ap (λ (d : Doings). d.begun) is) (unmarked turn act r (ap (λ (d : Doings). d.delivered) is)) k.teams;
+}
+  where
+    c : Setup
+    c = turn.setup
+
+    h : History
+    h = turn.before
+
+    m : Moment
+    m = moment_of turn act r
+
+    struck : (p : ℕ) → strikes m p ≡ None
+    struck = unstruck turn act r (ap (λ (d : Doings). d.struck) is)
 
 -- what does nothing, and sends nothing, leaves all
 pub unmoved : (turn : Turn) (act : Act) (r : Reply) (machine : Machine) → doings act r ≡ nothing → (moment_of turn act r).sends ≡ [] → Stands turn.setup turn.before machine → Stands turn.setup (following turn act r) machine
 unmoved turn act r machine is silent k =
-    only_net turn act r machine machine.net None None is k
-    (net_still turn.setup (moment_of turn act r) turn.before machine.net silent (none_taken_out act r None None is) (ap (λ (d : Doings). d.clogged_for) is) (ap (λ (d : Doings). d.unclogged) is) (ap (λ (d : Doings). d.passed) is) k.net)
+    only_rights turn act r machine machine.book (is ∙ sym rights_none) silent k
+    (rights_still turn.setup (moment_of turn act r) turn.before machine.book (ap (λ (d : Doings). d.given) is) (ap (λ (d : Doings). d.taken) is) (ap (λ (d : Doings). d.shielded) is) (ap (λ (d : Doings). d.unshielded) is) k.rights)
+  where
+    rights_none : rights_alone act r ≡ nothing
+    rights_none = ap (λ (d : Doings). record nothing { given = d.given; taken = d.taken; shielded = d.shielded; unshielded = d.unshielded }) is

@@ -13,7 +13,7 @@ use Rattle.fy_cluster.specs.Setup.{Setup}
 use Rattle.fy_cluster.specs.History.{History, Moment, now}
 use Rattle.fy_cluster.specs.Replies.{refused, refusals, answer}
 use Rattle.fy_cluster.specs.Standing.{Stands, Turn, Follows, moment_of, KeepsNet}
-use Rattle.fy_cluster.proofs.Still.{dead_still, up_still, disks_still, net_ticked, teams_still, rights_still}
+use Rattle.fy_cluster.proofs.Still.{net_ticked, teams_still, only_traffic}
 use Rattle.fy_cluster.proofs.Refusals.{refuse}
 
 abbrev reply_of : Result ℕ NetFault → Reply
@@ -31,14 +31,9 @@ in_time c h by n clock e t = let past : nat_lt LAST_TICK (now h + n) ≡ false =
 passed : (turn : Turn) (n : ℕ) (m : Machine) → Stands turn.setup turn.before m → nat_lt LAST_TICK (m.net.clock + n) ≡ false → Follows turn (Tick n) (Time (m.net.clock + n)) (record m { net = record m.net { clock = m.net.clock + n } })
 passed turn n machine k t = record {
   right = in_time c h turn.by n machine.net.clock k.net.clock t;
-  stands = record {
-    dead = dead_still c m h machine.dead (λ p. refl) k.dead;
-    rights = rights_still c m h machine.book refl refl refl refl k.rights;
-    disks = disks_still c m h machine.disks.items (λ p. refl) refl (λ p. refl) k.disks;
-    up = up_still c m h machine.up (λ p. refl) refl k.up;
-    net = subst (λ clock. KeepsNet c (m ∷ h) (record machine.net { clock = clock })) (ap (λ clock. clock + n) (sym k.net.clock)) (net_ticked c m h machine.net refl (λ k. refl) refl refl k.net);
-    teams = teams_still m h machine.teams refl refl (λ r p. refl) k.teams;
-  };
+  stands = only_traffic turn (Tick n) (Time (machine.net.clock + n)) machine (record machine.net { clock = machine.net.clock + n }) machine.teams refl (λ p. refl) k
+      (subst (λ clock. KeepsNet c (m ∷ h) (record machine.net { clock = clock })) (ap (λ clock. clock + n) (sym k.net.clock)) (net_ticked c m h machine.net refl (λ k. refl) refl refl k.net))
+      (teams_still m h machine.teams refl refl (λ r p. refl) k.teams);
 }
   where
     c : Setup
