@@ -22,7 +22,7 @@ use Rattle.fy_grants.specs.contracts.grant.GrantPartialEq.TheImpl as grants
 use Rattle.fy_grants.specs.contracts.grant.ScopePartialEq.TheImpl as scopes
 use Rattle.fy_team.specs.Members.{same_numbers}
 use Rattle.fy_audit.specs.declared.act.Act.{Act}
-use Rattle.fy_audit.specs.declared.act.Act.TheVariants.{Kill, Clog, Unclog, Form, Begin, Deliver, Lose, Resend, Sync, Up, Tick, Give, Take, Protect, Unprotect}
+use Rattle.fy_audit.specs.declared.act.Act.TheVariants.{Kill, Clog, Unclog, Form, Begin, Deliver, Lose, Resend, Sync, Up, Tick, Give, Take, Protect, Unprotect, CopyTo, Replace, Heal}
 use Rattle.fy_audit.specs.contracts.act.ActPartialEq.TheImpl as acts
 use Rattle.fy_kinds.specs.declared.verdict.Rule.{Rule}
 use Rattle.fy_kinds.specs.declared.verdict.Verdict.{Verdict}
@@ -186,6 +186,12 @@ same_act (Protect p k) (Protect q l) = said _ (both _ _ (same_process p q) (same
 same_act (Protect p k) b = never (λ e. cc)
 same_act (Unprotect p k) (Unprotect q l) = said _ (both _ _ (same_process p q) (same_kinds k l)) (λ w. ap₂ Unprotect w.0 w.1) (λ e. (cc, cc))
 same_act (Unprotect p k) b = never (λ e. cc)
+same_act (CopyTo p m r) (CopyTo q n s) = said _ (both _ _ (same_process p q) (both _ _ (same_number m n) (same_process r s))) (λ w. λ i. CopyTo (w.0 i) (w.1.0 i) (w.1.1 i)) (λ e. (cc, (cc, cc)))
+same_act (CopyTo p m r) b = never (λ e. cc)
+same_act (Replace m p r) (Replace n q s) = said _ (both _ _ (same_number m n) (both _ _ (same_process p q) (same_process r s))) (λ w. λ i. Replace (w.0 i) (w.1.0 i) (w.1.1 i)) (λ e. (cc, (cc, cc)))
+same_act (Replace m p r) b = never (λ e. cc)
+same_act (Heal p) (Heal q) = said _ (same_process p q) (ap Heal) (λ e. cc)
+same_act (Heal p) b = never (λ e. cc)
 
 -- ---- replies and entries
 

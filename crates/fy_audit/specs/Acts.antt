@@ -1,7 +1,7 @@
 -- what an act holds
 use Rattle.std.specs.Prelude.{Bool, true, false}
 use Rattle.fy_audit.specs.declared.act.Act.{Act}
-use Rattle.fy_audit.specs.declared.act.Act.TheVariants.{Kill, Clog, Unclog, Form, Begin, Deliver, Lose, Resend, Sync, Up, Tick, Give, Take, Protect, Unprotect}
+use Rattle.fy_audit.specs.declared.act.Act.TheVariants.{Kill, Clog, Unclog, Form, Begin, Deliver, Lose, Resend, Sync, Up, Tick, Give, Take, Protect, Unprotect, CopyTo, Replace, Heal}
 
 -- whether the act holds a list, so that a copy of it takes memory
 abbrev pub holds_list : Act → Bool
@@ -20,3 +20,6 @@ holds_list (Give grant) = false
 holds_list (Take actor index) = false
 holds_list (Protect process kinds) = false
 holds_list (Unprotect process kinds) = false
+holds_list (CopyTo from rec to) = false
+holds_list (Replace team out into) = false
+holds_list (Heal process) = false

@@ -3,22 +3,25 @@ use Rattle.std.specs.Prelude.{◌≡◌, ℕ, ◌+◌, ◌-◌, ◌≤◌, List,
 use Rattle.fy_audit.specs.declared.act.Act.{Act}
 use Rattle.fy_audit.specs.declared.reply.Reply.{Reply}
 use Rattle.fy_audit.specs.declared.entry.Entry.{Entry}
+use Rattle.fy_audit.specs.declared.version.Version.{Version}
 use Rattle.fy_audit.specs.declared.limits.TheConstants.{MOST_ENTRIES}
 
--- a journal: its entries, the oldest first, and how many pushes are sure to find room
+-- a journal: the version of its rules, its entries, the oldest first, and how many pushes are sure
+-- to find room
 pub record Log : Type 0 where
+  pub version : Version
   pub entries : List Entry
   pub room : ℕ
 
--- a journal in which nothing stands
-abbrev pub blank : Log
-blank = record { entries = []; room = 0 }
+-- a journal of a version in which nothing stands
+abbrev pub blank : Version → Log
+blank version = record { version = version; entries = []; room = 0 }
 
 -- the journal with one entry more, which is numbered by its place and uses up one place of the room
 abbrev pub entered : ℕ → Act → Reply → Log → Log
 entered by act reply log =
     let entry : Entry = record { at = length log.entries; by = by; act = act; reply = reply } in
-    record { entries = log.entries ++ entry ∷ []; room = log.room - 1 }
+    record log { entries = log.entries ++ entry ∷ []; room = log.room - 1 }
 
 -- each entry is numbered by its place, and with the room they are no more than may be
 pub record IsLog (log : Log) : Type 0 where

@@ -6,7 +6,11 @@ use Rattle.fy_audit.specs.Journal.{Log, IsLog}
 
 -- what the fields say
 abbrev pub log : Inside → Log
-log journal = record { entries = journal.entries.items; room = journal.room }
+log journal = record {
+  version = journal.version;
+  entries = journal.entries.items;
+  room = journal.room;
+}
 
 -- they are a journal's, and the room is memory that is there
 abbrev pub IsKept : Inside → Type 0

@@ -14,36 +14,89 @@ use std::alloc::{AllocError, Global};
 #[derive(PartialEq, Eq)]
 pub enum Act {
     /// Kill the processes of a target.
-    Kill { order: KillOrder },
+    Kill {
+        order: KillOrder,
+    },
     /// Clog the processes of a target for some ticks from now on, at most up to the clock's end.
-    Clog { target: Target, ticks: u64 },
+    Clog {
+        target: Target,
+        ticks: u64,
+    },
     /// End the clogs of a target's processes now.
-    Unclog { target: Target },
+    Unclog {
+        target: Target,
+    },
     /// Form a team that satisfies the policy with this number.
-    Form { members: Members, policy: u32 },
+    Form {
+        members: Members,
+        policy: u32,
+    },
     /// Begin a record for a team: a store is sent to each member. A payload has any length here;
     /// the reply refuses one of more than 256 bytes.
-    Begin { team: u32, payload: Payload },
+    Begin {
+        team: u32,
+        payload: Payload,
+    },
     /// Deliver the message in flight with this number.
-    Deliver { message: u64 },
+    Deliver {
+        message: u64,
+    },
     /// Lose the message in flight with this number.
-    Lose { message: u64 },
+    Lose {
+        message: u64,
+    },
     /// Send a record to a member of its team once more.
-    Resend { rec: u32, process: ProcId },
+    Resend {
+        rec: u32,
+        process: ProcId,
+    },
     /// Sync what a process has written.
-    Sync { process: ProcId },
+    Sync {
+        process: ProcId,
+    },
     /// Start a process that is down.
-    Up { process: ProcId },
+    Up {
+        process: ProcId,
+    },
     /// Let some ticks pass.
-    Tick { ticks: u64 },
+    Tick {
+        ticks: u64,
+    },
     /// Give a grant, last in its actor's list.
-    Give { grant: Grant },
+    Give {
+        grant: Grant,
+    },
     /// Take the grant at a place, from 0, of an actor's list away.
-    Take { actor: u32, index: u32 },
+    Take {
+        actor: u32,
+        index: u32,
+    },
     /// Add to the kinds from which a process is protected.
-    Protect { process: ProcId, kinds: KindSet },
+    Protect {
+        process: ProcId,
+        kinds: KindSet,
+    },
     /// Take out of the kinds from which a process is protected.
-    Unprotect { process: ProcId, kinds: KindSet },
+    Unprotect {
+        process: ProcId,
+        kinds: KindSet,
+    },
+    /// Send a record that one process has synced to another, a member of its team or not.
+    CopyTo {
+        from: ProcId,
+        rec: u32,
+        to: ProcId,
+    },
+    /// Put a process into a team in the place of a member.
+    Replace {
+        team: u32,
+        out: ProcId,
+        into: ProcId,
+    },
+    /// Count a process that was destroyed, and has its records again, as destroyed no longer.
+    Heal {
+        process: ProcId,
+    },
 }
 
 // Written out, so that whoever drops an act makes one call.
@@ -76,6 +129,17 @@ impl Drop for Act {
             Act::Sync { process: _ } | Act::Up { process: _ } => {}
             Act::Tick { ticks: _ } => {}
             Act::Give { grant: _ } | Act::Take { actor: _, index: _ } => {}
+            Act::CopyTo {
+                from: _,
+                rec: _,
+                to: _,
+            } => {}
+            Act::Replace {
+                team: _,
+                out: _,
+                into: _,
+            } => {}
+            Act::Heal { process: _ } => {}
         }
     }
 }
@@ -116,6 +180,9 @@ impl Act {
             Act::Take { actor, index } => Act::Take { actor, index },
             Act::Protect { process, kinds } => Act::Protect { process, kinds },
             Act::Unprotect { process, kinds } => Act::Unprotect { process, kinds },
+            Act::CopyTo { from, rec, to } => Act::CopyTo { from, rec, to },
+            Act::Replace { team, out, into } => Act::Replace { team, out, into },
+            Act::Heal { process } => Act::Heal { process },
         };
         Ok(copy)
     }

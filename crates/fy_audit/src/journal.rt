@@ -2,14 +2,16 @@
 ghost use Rattle.std.specs.Prelude.{◌≡◌, ◌+◌, ◌<◌, ◌≤◌, max, length, slice_get, IsOk, IfSome, OnOk, OnErr};
 ghost use Rattle.std.specs.Option.{option_copied};
 ghost use Rattle.fy_audit.specs.Journal.{blank, entered, IsLog};
+ghost use Rattle.fy_audit.specs.declared.version.Version.TheVariants.{First, Second};
 
-use crate::{Act, Entry, MOST_ENTRIES, Reply};
+use crate::{Act, Entry, MOST_ENTRIES, Reply, Version};
 use std::alloc::{AllocError, Global};
 use std::marker::Model;
 
 /// All that was asked of a cluster and replied, the oldest first. Each entry is numbered by its
 /// place.
 pub struct Journal {
+    version: Version,
     entries: Vec<Entry>,
     room: usize,
 }
@@ -30,6 +32,7 @@ impl Model for Journal {
 impl Drop for Journal {
     fn drop(self) {
         let Journal {
+            version: _,
             entries: _,
             room: _,
         } = self;
@@ -37,14 +40,35 @@ impl Drop for Journal {
 }
 
 impl Journal {
-    /// A journal without entries and without room. Takes no memory.
+    /// A journal of the second version, without entries and without room. Takes no memory.
     pub fn make(alloc: Global) -> Journal
-        ensures { result ≡ blank }
+        ensures { result ≡ blank Second }
+    {
+        Journal::of_version(alloc, Version::Second)
+    }
+
+    /// A journal of the first version, without entries and without room. Takes no memory.
+    pub fn make_first(alloc: Global) -> Journal
+        ensures { result ≡ blank First }
+    {
+        Journal::of_version(alloc, Version::First)
+    }
+
+    fn of_version(alloc: Global, version: Version) -> Journal
+        ensures { result ≡ blank version }
     {
         Journal {
+            version,
             entries: Vec::new(alloc),
             room: 0,
         }
+    }
+
+    /// The version of the rules by which the journal is read. It never changes.
+    pub fn version(&self) -> Version
+        ensures { result ≡ self.now.version }
+    {
+        self.version
     }
 
     /// Makes room for `count` pushes. Room that is there already counts. With them there may be no

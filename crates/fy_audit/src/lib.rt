@@ -9,9 +9,11 @@ mod limits;
 mod reply;
 #[cfg(test)]
 mod tests;
+mod version;
 
 pub use act::Act;
 pub use entry::Entry;
 pub use journal::Journal;
 pub use limits::MOST_ENTRIES;
 pub use reply::{Refusal, Reply};
+pub use version::Version;

@@ -78,4 +78,12 @@ pub enum Refusal {
     Full,
     /// The actor has no grant at this place.
     NoSuch,
+    /// The process hasn't synced the record that is to be copied from it.
+    NoCopy,
+    /// The process that is to come into the team is a member of it already.
+    IsMember,
+    /// The process isn't destroyed.
+    NotDestroyed,
+    /// The process hasn't synced this record, which is acknowledged and of the team in question.
+    StillNeeds { rec: u32 },
 }

@@ -71,6 +71,22 @@ fn a_push_finds_the_room_that_was_made(rt: HostRuntime) -> Result<(), Fail> {
 }
 
 #[test]
+fn a_journal_keeps_its_version(rt: HostRuntime) -> Result<(), Fail> {
+    let alloc = rt.alloc();
+    let mut first = Journal::make_first(alloc);
+    let second = Journal::make(alloc);
+    assert_eq!(rt;
+        (first.version(), second.version()),
+        (Version::First, Version::Second)
+    );
+    assert_eq!(rt; (first.len(), second.len()), (0, 0));
+    first.reserve(1)?;
+    first.push(0, Act::Tick { ticks: 1 }, Reply::Time { now: 1 });
+    assert_eq!(rt; (first.version(), first.len()), (Version::First, 1));
+    Ok(())
+}
+
+#[test]
 fn acts_with_lists_are_copied(rt: HostRuntime) -> Result<(), Fail> {
     let alloc = rt.alloc();
     let forming = form(alloc, &[P0, P2]).ok_or("no form")?;
@@ -138,6 +154,14 @@ fn the_longest_acts_are_copied(rt: HostRuntime) -> Result<(), Fail> {
     Ok(())
 }
 
+fn copying(from: ProcId, rec: u32, to: ProcId) -> Act {
+    Act::CopyTo { from, rec, to }
+}
+
+fn replacing(team: u32, out: ProcId, into: ProcId) -> Act {
+    Act::Replace { team, out, into }
+}
+
 #[test]
 fn acts_are_equal_by_all_that_they_hold(rt: HostRuntime) -> Result<(), Fail> {
     let alloc = rt.alloc();
@@ -149,6 +173,12 @@ fn acts_are_equal_by_all_that_they_hold(rt: HostRuntime) -> Result<(), Fail> {
     assert!(rt; Act::Lose { message: 6 } != Act::Deliver { message: 6 });
     assert!(rt; Act::Take { actor: 1, index: 2 } != Act::Take { actor: 2, index: 1 });
     assert!(rt; Act::Sync { process: P2 } == Act::Sync { process: P2 });
+    assert!(rt; Act::Heal { process: P2 } != Act::Up { process: P2 });
+    assert!(rt; copying(P0, 7, P2) == copying(P0, 7, P2));
+    assert!(rt; copying(P0, 7, P2) != copying(P2, 7, P0));
+    assert!(rt; copying(P0, 7, P2) != copying(P0, 8, P2));
+    assert!(rt; replacing(4, P0, P2) == replacing(4, P0, P2));
+    assert!(rt; replacing(4, P0, P2) != replacing(4, P2, P0));
     Ok(())
 }
 
@@ -199,6 +229,36 @@ fn acts_of_storage_are_copied(rt: HostRuntime) -> Result<(), Fail> {
     assert!(rt; matches!(&sync, Act::Sync { process: ProcId(2) }));
     assert!(rt; matches!(&up, Act::Up { process: ProcId(2) }));
     assert!(rt; matches!(&tick, Act::Tick { ticks: 9 }));
+    Ok(())
+}
+
+#[test]
+fn acts_on_teams_are_copied(rt: HostRuntime) -> Result<(), Fail> {
+    let alloc = rt.alloc();
+    let copying = copying(P0, 7, P2).try_copy(alloc)?;
+    let replacing = replacing(4, P0, P2).try_copy(alloc)?;
+    let heal = Act::Heal { process: P2 }.try_copy(alloc)?;
+    assert!(rt;
+        matches!(
+            &copying,
+            Act::CopyTo {
+                from: ProcId(0),
+                rec: 7,
+                to: ProcId(2)
+            }
+        )
+    );
+    assert!(rt;
+        matches!(
+            &replacing,
+            Act::Replace {
+                team: 4,
+                out: ProcId(0),
+                into: ProcId(2)
+            }
+        )
+    );
+    assert!(rt; matches!(&heal, Act::Heal { process: ProcId(2) }));
     Ok(())
 }
 

@@ -4,7 +4,7 @@ use Rattle.std.proofs.lemmas.Bool.{cases_order}
 use Rattle.std.proofs.lemmas.Bool.Decides.{nat_tests}
 use Rattle.std.proofs.lemmas.List.Elements.{recursion_from_All}
 use Rattle.std.proofs.lemmas.Option.{slice_get_within}
-use Rattle.std.specs.List.{All, AllByRecursion, list_any}
+use Rattle.std.specs.List.{All, AllByRecursion}
 use Rattle.std.specs.FinSet as sets
 use Rattle.std.specs.Option.{MatchOption}
 use Rattle.fy_net.specs.declared.message.Body.{Body}
@@ -13,7 +13,7 @@ use Rattle.fy_net.specs.declared.message.Message.{Message}
 use Rattle.fy_net.specs.Net.{Traffic, process_of, body_of, is_clogged, is_reached, is_free, first_free_of}
 use Rattle.fy_cluster.specs.declared.machine.Machine.{Machine}
 use Rattle.fy_cluster.specs.Setup.{Setup}
-use Rattle.fy_cluster.specs.History.{History, sent, takes_out, in_flight, clogged}
+use Rattle.fy_cluster.specs.History.{History, sent, is_taken, in_flight, clogged}
 use Rattle.fy_cluster.specs.Replies.{refusals, is_down_store}
 use Rattle.fy_cluster.specs.Standing.{Stands, numbered}
 use Rattle.fy_cluster.specs.Sights.{is_deliverable, LeastNumber}
@@ -101,13 +101,13 @@ all_of false false = refl
 
 -- a message may be delivered just where the network has it and lets it through
 free_is : (c : Setup) (h : History) (m : Machine) → Stands c h m → All (λ message. process_of message.body < length m.net.until) m.net.in_flight → (n : ℕ) (b : Body) → slice_get (sent h) n ≡ Some b
-    → is_deliverable c h n ≡ (not (list_any (takes_out n) h) && is_free m.net (sets.contains m.up) (record { number = n; body = b }))
-free_is c h m k known n b s = at (not (list_any (takes_out n) h)) refl
+    → is_deliverable c h n ≡ (not (is_taken h n) && is_free m.net (sets.contains m.up) (record { number = n; body = b }))
+free_is c h m k known n b s = at (not (is_taken h n)) refl
   where
     within : nat_lt n (length (sent h)) ≡ true
     within = let l = slice_get_within (sent h) n b s in grind (arith, nat_tests)
 
-    at : (kept : Bool) → not (list_any (takes_out n) h) ≡ kept → is_deliverable c h n ≡ (kept && is_free m.net (sets.contains m.up) (record { number = n; body = b }))
+    at : (kept : Bool) → not (is_taken h n) ≡ kept → is_deliverable c h n ≡ (kept && is_free m.net (sets.contains m.up) (record { number = n; body = b }))
     at false e = not_in_flight c h n (ap₂ (λ a b. a && b) within e)
     at true e =
         let f : in_flight h n ≡ true = ap₂ (λ a b. a && b) within e in
@@ -122,6 +122,6 @@ from_zero test None none = λ n. none n (omega arith)
 from_zero test (Some n) least = record { passes = least.0; none_below = λ k l. least.1 k (omega arith) l }
 
 pub first_free_is : (c : Setup) (h : History) (m : Machine) → Stands c h m → All (λ message. process_of message.body < length m.net.until) m.net.in_flight → LeastNumber (is_deliverable c h) (first_free_of m.net (sets.contains m.up))
-first_free_is c h m k known = rw k.net.in_flight (from_zero (is_deliverable c h) _ (first_of (is_deliverable c h) (λ n. not (list_any (takes_out n) h)) (is_free m.net (sets.contains m.up)) 0 (sent h)
+first_free_is c h m k known = rw k.net.in_flight (from_zero (is_deliverable c h) _ (first_of (is_deliverable c h) (λ n. not (is_taken h n)) (is_free m.net (sets.contains m.up)) 0 (sent h)
     (λ n i b e s. let same : i ≡ n = omega arith in free_is c h m k known n b (subst (λ j. slice_get (sent h) j ≡ Some b) same s))
-    (λ n l. let out : nat_lt n (length (sent h)) ≡ false = grind (arith, nat_tests) in not_in_flight c h n (ap (λ b. b && not (list_any (takes_out n) h)) out))))
+    (λ n l. let out : nat_lt n (length (sent h)) ≡ false = grind (arith, nat_tests) in not_in_flight c h n (ap (λ b. b && not (is_taken h n)) out))))

@@ -8,20 +8,20 @@ use Rattle.std.proofs.lemmas.List.{get_or-set_same, get_or-set_other, length-map
 use Rattle.std.specs.Option.{option_map_or}
 use Rattle.std.specs.List.{list_all}
 use Rattle.std.specs.FinSet as sets
-use Rattle.std.specs.Ordering.{nat_cmp}
 use Rattle.fy_locality.specs.declared.ProcId.{ProcId}
 use Rattle.fy_disk.specs.declared.item.Item.{Item}
 use Rattle.fy_disk.specs.Disk.{Stored as OnDisk}
 use Rattle.fy_net.specs.declared.message.Body.{Body}
 use Rattle.fy_net.specs.declared.message.Body.TheVariants.{Store, Synced}
 use Rattle.fy_net.specs.Net.{Traffic, process_of, body_of, is_clogged, left_by, take_refusal}
-use Rattle.fy_team.specs.Teams.{Team, Record, Roster, is_marked, is_acked, marked_by, all_marked}
+use Rattle.fy_team.specs.Teams.{Team, Record, Roster, is_marked, is_acked, marked_by, with_mark}
+use Rattle.fy_team.specs.Standing.{MarkLeavesTeams, MarkIsOneMore, AckedByMark}
 use Rattle.fy_audit.specs.declared.act.Act.TheVariants.{Deliver}
 use Rattle.fy_audit.specs.declared.reply.Reply.TheVariants.{Stored, Marked, No}
 use Rattle.fy_audit.specs.declared.reply.Refusal.TheVariants.{NoMessage, Clogged, NotUp}
 use Rattle.fy_cluster.specs.declared.machine.Machine.{Machine}
 use Rattle.fy_cluster.specs.Setup.{Setup}
-use Rattle.fy_cluster.specs.History.{History, Moment, BegunRecord, some_is, sent, in_flight, now, clogged, up, writes, store_to, word_of, marks, marked, teams, records, members_for, payload_of, synced, unsynced}
+use Rattle.fy_cluster.specs.History.{History, Moment, BegunRecord, some_is, sent, in_flight, now, clogged, up, writes, store_to, word_of, marks, tells, marked, marked_after, acked, teams, records, members_for, payload_of, synced, unsynced}
 use Rattle.fy_cluster.specs.Replies.{refused, refusals, answer, on_delivery, is_down_store, is_acked_with}
 use Rattle.fy_disk.specs.Disk.{blank}
 use Rattle.fy_cluster.specs.Standing.{Stands, Turn, Follows, moment_of, KeepsNet, KeepsTeams, stored, begun_of, IsLived}
@@ -30,7 +30,7 @@ use Rattle.fy_cluster.proofs.DiskSteps.{synced_else, unsynced_else, own}
 use Rattle.fy_cluster.proofs.Refusals.{refuse}
 use Rattle.fy_cluster.proofs.Results.{some_is_same, some_not_none}
 use Rattle.fy_cluster.proofs.Losing.{flies, flies_not, was_sent, net_left, swap_eq}
-use Rattle.fy_cluster.proofs.Records.{Tested, Sound, Known, record_of, slice_get-each}
+use Rattle.fy_cluster.proofs.Records.{Tested, Sound, Known, record_of, slice_get-each, slice_get-some, team_known}
 use Rattle.fy_cluster.proofs.Keepers.{sound_after}
 
 pub sound_of : Tested → (c : Setup) (h : History) → IsLived c h → Sound c h
@@ -102,10 +102,6 @@ after_set xs i p x other l w = at (p == i) refl
         let apart : p ≡ i → ⊥ = λ w. (let hit : (p == i) ≡ true = grind (arith, nat_tests) in true≢false (sym hit ∙ e)) in
         slice_get-get_or (slice_set xs i x) p other (let n = length-set xs i x in omega arith) ∙ ap Some (get_or-set_other xs i p x other apart) ∙ sym (slice_get-get_or xs p other w)
 
-or_nothing : (b : Bool) → (b || false) ≡ b
-or_nothing true = refl
-or_nothing false = refl
-
 -- the machine once a store is delivered
 pub stores : (turn : Turn) (n rec : ℕ) (to : ProcId) (machine : Machine) (disk : OnDisk) (payload : List ℕ) (after : Machine) → Stands turn.setup turn.before machine
     → body_of machine.net.in_flight n ≡ Some (Store rec to) → to.0 < length machine.net.until → is_clogged machine.net to.0 ≡ false → sets.contains machine.up to.0 ≡ true
@@ -117,15 +113,18 @@ pub stores : (turn : Turn) (n rec : ℕ) (to : ProcId) (machine : Machine) (disk
 stores turn n rec to machine disk payload after k e there x u held was e1 e2 e3 e4 e5 e6 = record {
   right = sym (deliver_reply c h turn.by n (Store rec to) false false f.0 f.1 (sym (clog_is c h machine.net to.0 there k.net) ∙ x) (ap not (sym (k.up.each to.0 within) ∙ u)));
   stands = record {
-    dead = rw e1 (dead_still c m h machine.dead (λ p. refl) k.dead);
+    dead = rw e1 (dead_still c m h machine.dead (λ p. refl) refl k.dead);
     rights = rw e2 (rights_still c m h machine.book refl refl refl refl k.rights);
     disks = rw e6 (record {
       count = length-set machine.disks.items to.0 _ ∙ k.disks.count;
       each = λ p l. after_set machine.disks.items to.0 p _ blank room (let n = k.disks.count in omega arith) ∙ at p l (p == to.0) refl;
     });
     up = rw e3 (up_still c m h machine.up (λ p. refl) refl k.up);
-    net = rw e4 (net_left c m h machine.net n f.0 refl (λ i. or_nothing (n == i) ∙ swap_eq i n) refl refl refl k.net);
-    teams = rw e5 (teams_still m h machine.teams refl refl (λ r p. ap (λ o. some_is (λ w. w.0 == r && w.1 == p) (option_and_then word_of o)) f.1) k.teams);
+    net = rw e4 (net_left c m h machine.net n f.0 refl (λ i. swap_eq i n) refl refl refl k.net);
+    teams = rw e5 (teams_still m h machine.teams refl refl refl refl
+        (λ r p. ap (λ o. some_is (λ w. w.0 == r && w.1 == p) (option_and_then word_of o)) f.1)
+        (λ r. ap (λ o. some_is (λ w. w.0 == r) (option_and_then word_of o)) f.1)
+        k.teams);
   };
 }
   where
@@ -168,27 +167,6 @@ stores turn n rec to machine disk payload after k e there x u held was e1 e2 e3 
 
 -- ---- a word
 
-pub acked_same : (h : History) (roster : Roster) → KeepsTeams h roster → (rec : ℕ) → Known h rec → ((b : BegunRecord) → slice_get (records h) rec ≡ Some b → (t : Team) × (slice_get (teams h) b.team ≡ Some t))
-    → is_acked roster rec ≡ list_all (λ q. marked h rec q.0) (members_for h rec)
-acked_same h roster k rec b joined = at (slice_get roster.records rec) refl
-  where
-    t : (t : Team) × (slice_get (teams h) b.0.team ≡ Some t)
-    t = joined b.0 b.1
-
-    team : members_for h rec ≡ t.0.members
-    team = rw (b.1, t.1) refl
-
-    each_same : (it : Record) → slice_get roster.records rec ≡ Some it → (ps : List ProcId) → all_marked it.marks ps ≡ list_all (λ q. marked h rec q.0) ps
-    each_same it s [] = refl
-    each_same it s (p ∷ ps) = ap₂ (λ a b. a && b) (sym (ap (λ (o : Option Record). option_map_or (λ it. sets.contains it.marks p.0) o false) s) ∙ k.marks rec p.0) (each_same it s ps)
-
-    at : (o : Option Record) → slice_get roster.records rec ≡ o → is_acked roster rec ≡ list_all (λ q. marked h rec q.0) (members_for h rec)
-    at None s = absurd (some_not_none b.0 (sym b.1 ∙ record_is h roster k rec ∙ ap (option_map begun_of) s))
-    at (Some it) s =
-        let same : b.0 ≡ begun_of it = some_is_same b.0 (begun_of it) (sym b.1 ∙ record_is h roster k rec ∙ ap (option_map begun_of) s) in
-        let there : slice_get roster.teams it.team ≡ Some t.0 = ap (λ ts. slice_get ts it.team) k.teams ∙ ap (λ (b : BegunRecord). slice_get (teams h) b.team) (sym same) ∙ t.1 in
-        rw (s, there, team) (each_same it s t.0.members)
-
 pub rec_there : Tested → (turn : Turn) (n rec : ℕ) (from : ProcId) (m : Machine) → Stands turn.setup turn.before m → IsLived turn.setup turn.before → body_of m.net.in_flight n ≡ Some (Synced rec from) → rec < length m.teams.records
 rec_there tested turn n rec from m k l e =
     let begun : Known turn.before rec = slice_get-each (λ b. Known turn.before (record_of b)) (sent turn.before) n (Synced rec from) (sound_of tested turn.setup turn.before l).sent_known (flies turn.setup turn.before m.net k.net n (Synced rec from) e).1 in
@@ -208,16 +186,21 @@ or_swap false true = refl
 or_swap false false = refl
 
 -- the machine once a process's word is delivered
-pub marks_now : Tested → ((roster : Roster) (rec p : ℕ) → (marked_by rec p roster).teams ≡ roster.teams) → ((roster : Roster) (rec p r q : ℕ) → rec < length roster.records → is_marked (marked_by rec p roster) r q ≡ ((r == rec && q == p) || is_marked roster r q))
+pub marks_now : Tested → MarkLeavesTeams → MarkIsOneMore → AckedByMark
     → (turn : Turn) (n rec : ℕ) (from : ProcId) (machine : Machine) (done : Bool) (net : Traffic) (roster : Roster) → Stands turn.setup turn.before machine → IsLived turn.setup turn.before
     → body_of machine.net.in_flight n ≡ Some (Synced rec from) → from.0 < length machine.net.until → is_clogged machine.net from.0 ≡ false
     → net ≡ left_by n machine.net → roster ≡ marked_by rec from.0 machine.teams → done ≡ is_acked roster rec
     → Follows turn (Deliver n) (Marked done) (record machine { net = net; teams = roster })
-marks_now tested same_teams more turn n rec from machine done net roster k l e there x left is told = rw left (record {
-  right = ap Marked acked_is ∙ sym (deliver_reply c h turn.by n (Synced rec from) false false f.0 f.1 (sym (clog_is c h machine.net from.0 there k.net) ∙ x) refl);
+marks_now tested same_teams more by_mark turn n rec from machine done net roster k l e there x left is told = rw left (record {
+  right = ap Marked (told ∙ ap (λ r. is_acked r rec) is ∙ acked_now rec ∙ acked_is) ∙ sym (deliver_reply c h turn.by n (Synced rec from) false false f.0 f.1 (sym (clog_is c h machine.net from.0 there k.net) ∙ x) refl);
   stands = only_traffic turn (Deliver n) (Marked done) machine (left_by n machine.net) roster refl (λ p. refl) k
-      (net_left c m h machine.net n f.0 refl (λ i. or_nothing (n == i) ∙ swap_eq i n) refl refl refl k.net)
-      kept;
+      (net_left c m h machine.net n f.0 refl (λ i. swap_eq i n) refl refl refl k.net)
+      (rw is (record {
+        teams = same_teams machine.teams rec from.0 ∙ k.teams.teams ∙ sym (append-nil (teams h));
+        records = records_same machine.teams ∙ k.teams.records ∙ sym (append-nil (records h));
+        marks = marks_same;
+        acked = acked_now;
+      }));
 })
   where
     c : Setup
@@ -229,6 +212,9 @@ marks_now tested same_teams more turn n rec from machine done net roster k l e t
     m : Moment
     m = moment_of turn (Deliver n) (Marked done)
 
+    marked_now : Roster
+    marked_now = marked_by rec from.0 machine.teams
+
     f : (in_flight turn.before n ≡ true) × (slice_get (sent turn.before) n ≡ Some (Synced rec from))
     f = flies turn.setup turn.before machine.net k.net n (Synced rec from) e
 
@@ -238,49 +224,64 @@ marks_now tested same_teams more turn n rec from machine done net roster k l e t
     eq_swap : (a b : ℕ) → (a == b) ≡ (b == a)
     eq_swap a b = swap_eq b a
 
+    eq_self : (a : ℕ) → (a == a) ≡ true
+    eq_self a = grind (arith, nat_tests)
+
     marks_is : (r p : ℕ) → marks m r p ≡ (r == rec && p == from.0)
     marks_is r p = ap (λ o. some_is (λ w. w.0 == r && w.1 == p) (option_and_then word_of o)) f.1 ∙ ap₂ (λ a b. a && b) (eq_swap rec r) (eq_swap from.0 p)
 
-    kept : KeepsTeams (m ∷ h) roster
-    kept = rw is (record {
-      teams = same_teams machine.teams rec from.0 ∙ k.teams.teams ∙ sym (append-nil (teams h));
-      records = records_same machine.teams ∙ k.teams.records ∙ sym (append-nil (records h));
-      marks = λ r p. more machine.teams rec from.0 r p within ∙ ap₂ (λ a b. a || b) (sym (marks_is r p)) (k.teams.marks r p);
-    })
+    tells_is : (r : ℕ) → tells m r ≡ (r == rec)
+    tells_is r = ap (λ o. some_is (λ w. w.0 == r) (option_and_then word_of o)) f.1 ∙ eq_swap rec r
+
+    marks_same : (r p : ℕ) → is_marked marked_now r p ≡ marked (m ∷ h) r p
+    marks_same r p = more machine.teams rec from.0 r p within ∙ ap₂ (λ a b. a || b) (sym (marks_is r p)) (k.teams.marks r p)
+
+    -- whether all members have a mark once the word is delivered
+    all_then : ℕ → Bool
+    all_then r = list_all (λ p. marked_after m r p.0 (acked h r) (marked h r p.0)) (members_for h r)
+
+    acked_is : (acked h rec || tells m rec && all_then rec) ≡ is_acked_with h rec from.0
+    acked_is = ap (λ b. acked h rec || b)
+        (ap (λ b. b && all_then rec) (tells_is rec ∙ eq_self rec)
+        ∙ all_same _ _ (λ q. ap (λ b. b || marked h rec q.0) (marks_is rec q.0 ∙ ap (λ b. b && q.0 == from.0) (eq_self rec)) ∙ or_swap (q.0 == from.0) (marked h rec q.0)) (members_for h rec))
+
+    acked_now : (r : ℕ) → is_acked marked_now r ≡ acked (m ∷ h) r
+    acked_now r =
+        by_mark machine.teams rec from.0 r it.0.team t.0.members (ap (option_map (λ (it : Record). it.team)) it.1) (ap (option_map (λ (it : Team). it.members)) (ap (λ ts. slice_get ts it.0.team) k.teams.teams ∙ t.1))
+        ∙ ap₂ (λ a b. a || b) (k.teams.acked r) (ap (λ ps. r == rec && list_all (λ q. is_marked marked_now rec q.0) ps) (sym team_is) ∙ at (r == rec) refl)
       where
-        set_same : (its : List Record) (i : ℕ) (it : Record) (s : sets.FinSet nat_cmp) → slice_get its i ≡ Some it → map begun_of (slice_set its i (record it { marks = s })) ≡ map begun_of its
-        set_same [] i it s w = refl
-        set_same (x ∷ its) zero it s w = ap (λ (y : Record). begun_of y ∷ map begun_of its) (sym (some_is_same x it w))
-        set_same (x ∷ its) (suc i) it s w = ap (λ ys. begun_of x ∷ ys) (set_same its i it s w)
+        sound : Sound c h
+        sound = sound_of tested c h l
 
-        records_same : (roster : Roster) → map begun_of (marked_by rec from.0 roster).records ≡ map begun_of roster.records
-        records_same roster = into (slice_get roster.records rec) refl
-          where
-            into : (o : Option Record) → slice_get roster.records rec ≡ o → map begun_of (option_map_or (λ it. record roster { records = slice_set roster.records rec (record it { marks = sets.insert it.marks from.0 }) }) o roster).records ≡ map begun_of roster.records
-            into None s = refl
-            into (Some it) s = set_same roster.records rec it (sets.insert it.marks from.0) s
+        it : (it : Record) × (slice_get machine.teams.records rec ≡ Some it)
+        it = slice_get-some machine.teams.records rec within
 
-    sound : Sound c h
-    sound = sound_of tested c h l
+        begun : slice_get (records h) rec ≡ Some (begun_of it.0)
+        begun = record_is h machine.teams k.teams rec ∙ ap (option_map begun_of) it.1
 
-    begun : Known h rec
-    begun = slice_get-each (λ b. Known h (record_of b)) (sent h) n (Synced rec from) sound.sent_known f.1
+        t : (t : Team) × (slice_get (teams h) it.0.team ≡ Some t)
+        t = slice_get-each (λ b. (t : Team) × (slice_get (teams h) b.team ≡ Some t)) (records h) rec (begun_of it.0) sound.joined begun
 
-    team_same : members_for (m ∷ h) rec ≡ members_for h rec
-    team_same = ap₂ (λ rs ts. option_map_or (λ (b : BegunRecord). option_map_or (λ (t : Team). t.members) (slice_get ts b.team) []) (slice_get rs rec) []) (append-nil (records h)) (append-nil (teams h))
+        team_is : members_for h rec ≡ t.0.members
+        team_is = team_known h rec (begun_of it.0) t.0 begun t.1
 
-    acked_is : done ≡ is_acked_with h rec from.0
-    acked_is =
-        told
-        ∙ acked_same (m ∷ h) roster kept rec (begun.0, ap (λ rs. slice_get rs rec) (append-nil (records h)) ∙ begun.1)
-        (λ b w.
-        let t = slice_get-each (λ b. (t : Team) × (slice_get (teams h) b.team ≡ Some t)) (records h) rec b sound.joined (sym (ap (λ rs. slice_get rs rec) (append-nil (records h))) ∙ w) in
-        (t.0, ap (λ ts. slice_get ts b.team) (append-nil (teams h)) ∙ t.1))
-        ∙ ap (list_all (λ q. marked (m ∷ h) rec q.0)) team_same
-        ∙ all_same _ _ (λ q. ap (λ b. b || marked h rec q.0) (marks_is rec q.0 ∙ self rec (q.0 == from.0)) ∙ or_swap (q.0 == from.0) (marked h rec q.0)) (members_for h rec)
+        at : (b : Bool) → (r == rec) ≡ b → (b && list_all (λ q. is_marked marked_now rec q.0) (members_for h rec)) ≡ (tells m r && all_then r)
+        at true e =
+            let same : r ≡ rec = eqb-true r rec e in
+            all_same _ _ (λ q. marks_same rec q.0) (members_for h rec) ∙ ap all_then (sym same) ∙ sym (ap (λ b. b && all_then r) (tells_is r ∙ e))
+        at false e = sym (ap (λ b. b && all_then r) (tells_is r ∙ e))
+
+    set_same : (its : List Record) (i : ℕ) (it next : Record) → begun_of next ≡ begun_of it → slice_get its i ≡ Some it → map begun_of (slice_set its i next) ≡ map begun_of its
+    set_same [] i it next b w = refl
+    set_same (x ∷ its) zero it next b w = ap (λ (y : BegunRecord). y ∷ map begun_of its) (b ∙ ap begun_of (sym (some_is_same x it w)))
+    set_same (x ∷ its) (suc i) it next b w = ap (λ ys. begun_of x ∷ ys) (set_same its i it next b w)
+
+    records_same : (roster : Roster) → map begun_of (marked_by rec from.0 roster).records ≡ map begun_of roster.records
+    records_same roster = into (slice_get roster.records rec) refl
       where
-        self : (r : ℕ) (b : Bool) → (r == r && b) ≡ b
-        self r b = let same : (r == r) ≡ true = grind (arith, nat_tests) in rw same refl
+        into : (o : Option Record) → slice_get roster.records rec ≡ o → map begun_of (option_map_or (λ it. record roster { records = slice_set roster.records rec (with_mark roster from.0 it) }) o roster).records ≡ map begun_of roster.records
+        into None s = refl
+        into (Some it) s = set_same roster.records rec it (with_mark roster from.0 it) refl s
 
 -- what is in flight and isn't held may be taken
 pub may_be_taken : (net : Traffic) (n : ℕ) (b : Body) → body_of net.in_flight n ≡ Some b → is_clogged net (process_of b) ≡ false → take_refusal net n ≡ None

@@ -4,11 +4,12 @@ use Rattle.std.proofs.lemmas.Bool.{false≢true, or_cases, or_from, or_left, or_
 use Rattle.std.proofs.lemmas.List.Folds.{list_any_at, list_any_more}
 use Rattle.std.proofs.lemmas.Option.{get_or_from_slice_get, slice_get_within}
 use Rattle.std.specs.List.{list_any, AllPairs}
+use Rattle.std.proofs.lemmas.List.Elements.{recursion_from_All}
 use Rattle.fy_locality.specs.declared.ProcId.{ProcId}
 use Rattle.fy_disk.specs.declared.item.Item.{Item}
 use Rattle.fy_disk.specs.Disk.{Stored as OnDisk}
 use Rattle.fy_grants.specs.Least.{LeastWith, least_with}
-use Rattle.fy_team.specs.Teams.{Record, is_among, is_acked, members_in}
+use Rattle.fy_team.specs.Teams.{Team, Record, Roster, IsRoster, is_among, is_acked, members_in}
 use Rattle.fy_audit.specs.declared.entry.Entry.{Entry}
 use Rattle.fy_cluster.specs.declared.machine.Machine.{Machine}
 use Rattle.fy_cluster.specs.Setup.{Setup}
@@ -17,8 +18,9 @@ use Rattle.fy_disk.specs.Disk.{blank}
 use Rattle.fy_cluster.specs.Standing.{Stands, IsKept, stored}
 use Rattle.fy_cluster.specs.Sights.{keeps_on}
 use Rattle.fy_cluster.proofs.Keepers.{LeastFound, among_is, members_there, sound_after}
-use Rattle.fy_cluster.proofs.Records.{Tested, Sound}
-use Rattle.fy_cluster.proofs.Resent.{IsOf, is_of, acked_by}
+use Rattle.fy_cluster.proofs.Records.{Tested, Sound, slice_get-each, slice_get-some}
+use Rattle.fy_cluster.proofs.Results.{some_is_same, some_not_none}
+use Rattle.fy_cluster.proofs.Resent.{IsOf, is_of}
 
 -- ---- one disk
 
@@ -99,9 +101,9 @@ least_same set test test' same (Some p) least = record {
 keeps_is : (c : Setup) (h : History) (m : Machine) → Stands c h m → (rec p : ℕ) → p < length c.processes → keeps_on m rec p ≡ keeps h rec p
 keeps_is c h m k rec p l = ap₂ (λ a b. not a && b) (k.dead.destroyed p) (ap (λ (d : OnDisk). list_any (λ item. item.rec == rec) d.synced) (get_or_from_slice_get m.disks.items p (stored h p) blank (k.disks.each p l)))
 
-pub no_keeper : Tested → (c : Setup) (journal : List Entry) (m : Machine) (rec : ℕ) → IsKept c journal m → is_acked m.teams rec ≡ false → None ≡ keeper c (history c journal) rec
-no_keeper tested c journal m rec kept e =
-    let not_acked : acked (history c journal) rec ≡ false = acked_by c (history c journal) m.teams (sound_after tested c journal kept.legal) kept.stands.teams rec ∙ e in
+pub no_keeper : (c : Setup) (journal : List Entry) (m : Machine) (rec : ℕ) → IsKept c journal m → is_acked m.teams rec ≡ false → None ≡ keeper c (history c journal) rec
+no_keeper c journal m rec kept e =
+    let not_acked : acked (history c journal) rec ≡ false = sym (kept.stands.teams.acked rec) ∙ e in
     sym (ap (λ b. if b then option_map {U = ProcId} (λ p. record { 0 = p }) (least_with (length c.processes) (is_among (members_for (history c journal) rec)) (keeps (history c journal) rec)) else None) not_acked)
 
 by_number : (o : Option ProcId) → option_map {U = ProcId} (λ p. record { 0 = p }) (option_map (λ p. p.0) o) ≡ o
@@ -123,7 +125,7 @@ keeper_is tested least c journal m rec team members found kept e named there ris
     sound = sound_after tested c journal kept.legal
 
     is_acknowledged : acked (history c journal) rec ≡ true
-    is_acknowledged = acked_by c (history c journal) m.teams sound kept.stands.teams rec ∙ e
+    is_acknowledged = sym (kept.stands.teams.acked rec) ∙ e
 
     of_team : IsOf (history c journal) rec members
     of_team = is_of (history c journal) m.teams kept.stands.teams rec team members named there
@@ -132,3 +134,14 @@ keeper_is tested least c journal m rec team members found kept e named there ris
     is_least =
         least_same (is_among (members_for h rec)) (keeps_on m rec) (keeps h rec) (λ q i. keeps_is c h m kept.stands rec q (members_there c h sound rec is_acknowledged q i)) found
         (rw (of_team.team, first) (first_is_least (keeps_on m rec) members rising))
+
+-- the team of a record is there
+pub team_is_there : (roster : Roster) → IsRoster roster → (rec team : ℕ) → Some team ≡ option_map (λ (it : Record). it.team) (slice_get roster.records rec) → None ≡ members_in roster team → ⊥
+team_is_there roster is rec team named none = at (slice_get roster.records rec) refl named
+  where
+    at : (o : Option Record) → slice_get roster.records rec ≡ o → Some team ≡ option_map (λ (it : Record). it.team) o → ⊥
+    at None s named = some_not_none team named
+    at (Some it) s named =
+        let low : it.team < length roster.teams = slice_get-each (λ (it : Record). it.team < length roster.teams) roster.records rec it (recursion_from_All _ roster.records is.named) s in
+        let t = slice_get-some roster.teams it.team low in
+        some_not_none t.0.members (sym (none ∙ ap (λ n. members_in roster n) (some_is_same team it.team named) ∙ ap (option_map (λ (it : Team). it.members)) t.1))

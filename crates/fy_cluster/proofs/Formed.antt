@@ -22,10 +22,10 @@ use Rattle.fy_audit.specs.declared.reply.Refusal.TheVariants.{TooMany, NoPolicy,
 use Rattle.fy_cluster.specs.declared.fault.Fault.{Fault}
 use Rattle.fy_cluster.specs.declared.machine.Machine.{Machine}
 use Rattle.fy_cluster.specs.Setup.{Setup}
-use Rattle.fy_cluster.specs.History.{History, Moment, gone, left, teams, records}
+use Rattle.fy_cluster.specs.History.{History, Moment, gone, left, teams, records, acked}
 use Rattle.fy_cluster.specs.Replies.{refused, refusals, answer, no_process, meets}
 use Rattle.fy_cluster.specs.Standing.{Stands, Turn, Follows, Comes, moment_of, replied_to_team}
-use Rattle.fy_cluster.proofs.Still.{net_still, only_traffic}
+use Rattle.fy_cluster.proofs.Still.{net_still, only_traffic, or_nothing}
 use Rattle.fy_cluster.proofs.Refusals.{refuse}
 use Rattle.fy_cluster.proofs.Results.{ok_not_err}
 use Rattle.fy_cluster.proofs.Starts.{gone_is}
@@ -111,6 +111,7 @@ formed turn members policy machine k e = record {
         teams = ap (λ ts. ts ++ record { members = members; policy = policy } ∷ []) k.teams.teams;
         records = k.teams.records ∙ sym (append-nil (records h));
         marks = k.teams.marks;
+        acked = λ r. k.teams.acked r ∙ sym (or_nothing (acked h r));
       };
 }
   where

@@ -1,7 +1,7 @@
 -- from one entry to a whole journal
 use Rattle.std.proofs.Common.{arith, length-append, ◌≡◌, ◌↔◌, ℕ, Some, None, inl, inr, ◌⊎◌, ◌≤◌, ◌<◌, true, false, List, [], ◌∷◌, ◌++◌, length, map, refl, sym, ◌∙◌, ap, ap₂, subst, nat_le, le-leb}
 use Rattle.std.proofs.lemmas.Option.{slice_get-get_or}
-use Rattle.std.proofs.lemmas.Bool.{lt-leb, cases_lt}
+use Rattle.std.proofs.lemmas.Bool.{lt-leb, cases_lt, and_parts, and_from}
 use Rattle.fy_kinds.specs.Orders.{Order}
 use Rattle.fy_kinds.specs.declared.verdict.Verdict.{Verdict as VerdictOf}
 use Rattle.fy_decide.specs.Verdicts.{Situation, verdict}
@@ -11,12 +11,15 @@ use Rattle.fy_audit.specs.declared.reply.Reply.{Reply}
 use Rattle.fy_audit.specs.declared.reply.Reply.TheVariants.{Verdict, No}
 use Rattle.fy_audit.specs.declared.reply.Refusal.TheVariants.{Stranger}
 use Rattle.fy_audit.specs.declared.entry.Entry.{Entry}
+use Rattle.fy_audit.specs.declared.version.Version.{Version}
+use Rattle.fy_audit.specs.declared.version.Version.TheVariants.{Second}
 use Rattle.fy_cluster.specs.declared.role.Role.TheVariants.{Fault}
 use Rattle.fy_cluster.specs.Setup.{Setup}
 use Rattle.fy_cluster.specs.History.{History, moment, after, history}
 use Rattle.fy_cluster.specs.Rules.{situation}
 use Rattle.fy_cluster.specs.Replies.{refusals, reasons, answer, reply, IsNext, LegalAfter, Legal}
-use Rattle.fy_cluster.specs.Survival.{by_and_act, IsJudged, KillsJudged, RulesNamed, FrontsLegal, MomentsEntered, NextLegal}
+use Rattle.fy_cluster.specs.Versions.{knows, knows_all, SecondKnowsAll, NextLegalUnder}
+use Rattle.fy_cluster.specs.Survival.{by_and_act, IsJudged, KillsJudged, RulesNamed, FrontsLegal, MomentsEntered, NextLegal, SameActsSameJournal}
 
 -- what each legal entry keeps, a legal journal keeps
 pub kept_after : (c : Setup) (Q : History → Type 0) → ((h : History) (e : Entry) → IsNext c h e → Q h → Q (moment c h e ∷ h)) → (h : History) (later : List Entry) → Q h → LegalAfter c h later → Q (after c h later)
@@ -70,8 +73,42 @@ same_after c h (x ∷ xs) (y ∷ ys) l k e =
     let moved : LegalAfter c (moment c h x ∷ h) ys = subst (λ z. LegalAfter c (moment c h z ∷ h) ys) (sym same) k.1 in
     ap₂ (λ z zs. z ∷ zs) same (same_after c (moment c h x ∷ h) xs ys l.1 moved rest)
 
-pub same_acts_same_journal : (c : Setup) (xs ys : List Entry) → Legal c xs → Legal c ys → map by_and_act xs ≡ map by_and_act ys → xs ≡ ys
-same_acts_same_journal c xs ys l k e = same_after c [] xs ys l.1 k.1 e
+pub same_acts_same_journal : SameActsSameJournal
+same_acts_same_journal version c xs ys l k e = same_after c [] xs ys l.legal.1 k.legal.1 e
+
+-- ---- versions
+
+all_known : (entries : List Entry) → knows_all Second entries ≡ true
+all_known [] = refl
+all_known (e ∷ entries) = all_known entries
+
+pub second_knows_all : SecondKnowsAll
+second_knows_all c entries = (λ l. l.legal, λ l. record { legal = l; known = all_known entries })
+
+known_parts : (version : Version) (xs ys : List Entry) → knows_all version (xs ++ ys) ≡ true → (knows_all version xs ≡ true) × (knows_all version ys ≡ true)
+known_parts version [] ys k = (refl, k)
+known_parts version (x ∷ xs) ys k =
+    let both = and_parts (knows version x.act) _ k in
+    let rest = known_parts version xs ys both.1 in
+    (and_from _ _ both.0 rest.0, rest.1)
+
+known_both : (version : Version) (xs ys : List Entry) → knows_all version xs ≡ true → knows_all version ys ≡ true → knows_all version (xs ++ ys) ≡ true
+known_both version [] ys j k = k
+known_both version (x ∷ xs) ys j k =
+    let both = and_parts (knows version x.act) _ j in
+    and_from _ _ both.0 (known_both version xs ys both.1 k)
+
+pub next_legal_under : NextLegalUnder
+next_legal_under version c journal e l = (
+  λ more.
+      let next = (next_legal c journal e l.legal).0 more.legal in
+      (next.0, next.1, (and_parts (knows version e.act) true (known_parts version journal (e ∷ []) more.known).1).0),
+  λ next.
+      record {
+        legal = (next_legal c journal e l.legal).1 (next.0, next.1);
+        known = known_both version journal (e ∷ []) l.known (and_from _ true next.2 refl);
+      },
+)
 
 -- ---- kills carry their verdicts
 kill_known : (c : Setup) (h : History) (by : ℕ) (order : Order) → by < length c.roles → reply c h by (Kill order) ≡ Verdict (verdict (situation c h by) order)

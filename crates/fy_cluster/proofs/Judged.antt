@@ -23,12 +23,12 @@ use Rattle.fy_audit.specs.declared.act.Act.TheVariants.{Kill, Clog, Unclog}
 use Rattle.fy_audit.specs.declared.reply.Reply.TheVariants.{Ruled, Verdict}
 use Rattle.fy_cluster.specs.declared.machine.Machine.{Machine}
 use Rattle.fy_cluster.specs.Setup.{Setup}
-use Rattle.fy_cluster.specs.History.{History, Moment, some_is, strikes, destroys, closes, syncs, writes, tear_of, destroyed, gone, left, up, synced, unsynced, sent, now, takes_out, sends_of, clogged_at}
+use Rattle.fy_cluster.specs.History.{History, Moment, some_is, strikes, destroys, closes, syncs, writes, tear_of, heals, destroyed, gone, left, up, synced, unsynced, sent, now, sends_of, clogged_at}
 use Rattle.fy_cluster.specs.Rules.{situation}
 use Rattle.fy_cluster.specs.Replies.{refused, refusals, answer}
 use Rattle.fy_disk.specs.Disk.{blank}
 use Rattle.fy_cluster.specs.Standing.{Stands, Turn, Follows, moment_of, following, KeepsDead, KeepsDisks, KeepsUp, ChangesAt, ClogsChange, clog_end, unclog_end, targets_by, clog_bar, buried, stored, left_on}
-use Rattle.fy_cluster.proofs.Still.{Doings, doings, nothing, clogs_alone, unmoved, only_clogs, untaken, net_still, teams_still, rights_still, stored_still, disk_closes}
+use Rattle.fy_cluster.proofs.Still.{Doings, doings, nothing, clogs_alone, unmoved, only_clogs, untaken, net_still, teams_idle, rights_still, stored_still, disk_closes}
 use Rattle.fy_cluster.proofs.DiskSteps.{synced_at_close, unsynced_at_close, synced_at_strike}
 use Rattle.fy_cluster.proofs.Flights.{flying_still}
 use Rattle.fy_cluster.proofs.Results.{some_is_same}
@@ -131,8 +131,8 @@ clogs_changed {turn} {act} {target} {change} {machine} {by} set {net} acts k act
     m : Moment
     m = moment_of turn act (Ruled None)
 
-    keeps : (n : ℕ) → takes_out n m ≡ false
-    keeps = untaken act (Ruled None) (ap (λ (d : Doings). d.delivered) acts.alone) (ap (λ (d : Doings). d.lost) acts.alone)
+    keeps : (n : ℕ) → m.takes_out n ≡ false
+    keeps = untaken turn act (Ruled None) (ap (λ (d : Doings). d.delivered) acts.alone) (ap (λ (d : Doings). d.lost) acts.alone) (ap (λ (d : Doings). d.healed) acts.alone)
 
     all_sent : length (sent (m ∷ h)) ≡ length (sent h)
     all_sent = ap (λ xs. length (sent h ++ xs)) acts.silent ∙ ap length (append-nil (sent h))
@@ -192,33 +192,33 @@ left_less true false false kind e = refl
 left_less false b g kind e = refl
 
 dead_struck : (c : Setup) (m : Moment) (h : History) (book : Casualties) (set : sets.FinSet nat_cmp) (kind : Kind) → ((p : ℕ) → strikes m p ≡ at_target (sets.contains set p) kind)
-    → KeepsDead c h book → KeepsDead c (m ∷ h) (buried book set kind)
-dead_struck c m h book set RebootProcess struck_is k = record {
+    → heals m.entry.act m.entry.reply ≡ None → KeepsDead c h book → KeepsDead c (m ∷ h) (buried book set kind)
+dead_struck c m h book set RebootProcess struck_is unhealed k = record {
   processes = k.processes;
   policies = k.policies;
   few = k.few;
-  destroyed = λ p. k.destroyed p ∙ spared is_destroying (sets.contains set p) (destroyed h p) RebootProcess refl ∙ ap (λ o. some_is is_destroying o || destroyed h p) (sym (struck_is p));
+  destroyed = λ p. k.destroyed p ∙ spared is_destroying (sets.contains set p) (destroyed h p) RebootProcess refl ∙ ap₂ (λ o q. some_is is_destroying o || not (some_is (λ q. q == p) q) && destroyed h p) (sym (struck_is p)) (sym unhealed);
   left = λ p. k.left p ∙ ap (λ g. nat_lt p (length c.processes) && not g) (spared destroys_for_good (sets.contains set p) (gone h p) RebootProcess refl ∙ ap (λ o. some_is destroys_for_good o || gone h p) (sym (struck_is p)));
 }
-dead_struck c m h book set Reboot struck_is k = record {
+dead_struck c m h book set Reboot struck_is unhealed k = record {
   processes = k.processes;
   policies = k.policies;
   few = k.few;
-  destroyed = λ p. k.destroyed p ∙ spared is_destroying (sets.contains set p) (destroyed h p) Reboot refl ∙ ap (λ o. some_is is_destroying o || destroyed h p) (sym (struck_is p));
+  destroyed = λ p. k.destroyed p ∙ spared is_destroying (sets.contains set p) (destroyed h p) Reboot refl ∙ ap₂ (λ o q. some_is is_destroying o || not (some_is (λ q. q == p) q) && destroyed h p) (sym (struck_is p)) (sym unhealed);
   left = λ p. k.left p ∙ ap (λ g. nat_lt p (length c.processes) && not g) (spared destroys_for_good (sets.contains set p) (gone h p) Reboot refl ∙ ap (λ o. some_is destroys_for_good o || gone h p) (sym (struck_is p)));
 }
-dead_struck c m h book set RebootAndDelete struck_is k = record {
+dead_struck c m h book set RebootAndDelete struck_is unhealed k = record {
   processes = k.processes;
   policies = k.policies;
   few = k.few;
-  destroyed = λ p. sets.contains-union nat_cmp_total book.destroyed set p ∙ ap (λ d. d || sets.contains set p) (k.destroyed p) ∙ destroyed_more (sets.contains set p) (destroyed h p) RebootAndDelete refl ∙ ap (λ o. some_is is_destroying o || destroyed h p) (sym (struck_is p));
+  destroyed = λ p. sets.contains-union nat_cmp_total book.destroyed set p ∙ ap (λ d. d || sets.contains set p) (k.destroyed p) ∙ destroyed_more (sets.contains set p) (destroyed h p) RebootAndDelete refl ∙ ap₂ (λ o q. some_is is_destroying o || not (some_is (λ q. q == p) q) && destroyed h p) (sym (struck_is p)) (sym unhealed);
   left = λ p. k.left p ∙ ap (λ g. nat_lt p (length c.processes) && not g) (spared destroys_for_good (sets.contains set p) (gone h p) RebootAndDelete refl ∙ ap (λ o. some_is destroys_for_good o || gone h p) (sym (struck_is p)));
 }
-dead_struck c m h book set KillInstantly struck_is k = record {
+dead_struck c m h book set KillInstantly struck_is unhealed k = record {
   processes = k.processes;
   policies = k.policies;
   few = k.few;
-  destroyed = λ p. sets.contains-union nat_cmp_total book.destroyed set p ∙ ap (λ d. d || sets.contains set p) (k.destroyed p) ∙ destroyed_more (sets.contains set p) (destroyed h p) KillInstantly refl ∙ ap (λ o. some_is is_destroying o || destroyed h p) (sym (struck_is p));
+  destroyed = λ p. sets.contains-union nat_cmp_total book.destroyed set p ∙ ap (λ d. d || sets.contains set p) (k.destroyed p) ∙ destroyed_more (sets.contains set p) (destroyed h p) KillInstantly refl ∙ ap₂ (λ o q. some_is is_destroying o || not (some_is (λ q. q == p) q) && destroyed h p) (sym (struck_is p)) (sym unhealed);
   left = λ p. sets.contains-difference nat_cmp_total book.left set p ∙ ap (λ l. l && not (sets.contains set p)) (k.left p)
       ∙ left_less (nat_lt p (length c.processes)) (sets.contains set p) (gone h p) KillInstantly refl ∙ ap (λ o. nat_lt p (length c.processes) && not (some_is destroys_for_good o || gone h p)) (sym (struck_is p));
 }
@@ -278,12 +278,12 @@ pub strikes_now : {turn : Turn} (order : Order) {v : VerdictOf} {kind : Kind} {m
 strikes_now {turn} order {v} {kind} {machine} set {by} after k actor is hit who changed ups dead book net teams = record {
   right = kill_reply c h turn.by order v (is ∙ verdict_same c h machine k by turn.by actor order);
   stands = record {
-    dead = rw dead (dead_struck c m h machine.dead set kind struck_is k.dead);
+    dead = rw dead (dead_struck c m h machine.dead set kind struck_is refl k.dead);
     rights = rw book (rights_still c m h machine.book refl refl refl refl k.rights);
     disks = disks_struck c m h machine.disks.items after.disks.items set kind order.tear struck_is refl (λ p. refl) refl changed k.disks;
     up = rw ups (up_struck c m h machine.up set kind (λ q. refl) struck_is k.up);
     net = rw net (net_still c m h machine.net refl (λ k. refl) refl refl refl k.net);
-    teams = rw teams (teams_still m h machine.teams refl refl (λ r p. refl) k.teams);
+    teams = rw teams (teams_idle turn (Kill order) (Verdict v) machine.teams refl refl refl refl refl k.teams);
   };
 }
   where

@@ -1,9 +1,9 @@
 -- from marks to copies: every acknowledged record is kept, and a keeper is found
 use Rattle.std.proofs.Common.{◌≡◌, ◌↔◌, ℕ, ◌<◌, Bool, true, false, not, List, [], ◌∷◌, length, Contains, Option, Some, None, is_some, option_map, refl, sym, ◌∙◌, ap, subst, inl, inr, slice_get, if◌then◌else◌, ◌==◌, eqb-true, eq-eqb}
 use Rattle.std.proofs.lemmas.Bool.{false≢true, or_cases, or_parts, and_from, not-false, not-true, true_from_ne_false, both_ways}
-use Rattle.std.proofs.lemmas.List.Elements.{All-contains, All-from_recursion}
+use Rattle.std.proofs.lemmas.List.Elements.{All-contains}
 use Rattle.std.proofs.lemmas.List.Folds.{Any-from_list_any}
-use Rattle.std.specs.List.{list_any, AllByRecursion, Any}
+use Rattle.std.specs.List.{list_any, Any}
 use Rattle.fy_locality.specs.declared.ProcId.{ProcId}
 use Rattle.fy_policy.specs.Sat.{Sat}
 use Rattle.fy_decide.specs.Losses.{AreShort}
@@ -16,7 +16,7 @@ use Rattle.fy_cluster.specs.Replies.{Legal}
 use Rattle.fy_cluster.specs.Survival.{Kept, DestroyedShort, KeepersFound}
 use Rattle.fy_cluster.proofs.Journals.{kept_after}
 use Rattle.fy_cluster.proofs.Strikes.{More}
-use Rattle.fy_cluster.proofs.Records.{Tested, Sound, sound_start, sound_next, slice_get-each, Known, HasCopy, acked_known, team_known, payload_known}
+use Rattle.fy_cluster.proofs.Records.{Tested, Sound, sound_start, sound_next, slice_get-each, Known, HasCopy, any_at, team_known, payload_known}
 
 -- where no member is undestroyed, all are destroyed
 all_destroyed : (d : ℕ → Bool) (ps : List ProcId) → list_any (λ p. not (d p.0)) ps ≡ false → (p : ℕ) → is_among ps p ≡ true → d p ≡ true
@@ -46,7 +46,7 @@ someone_left more c h sound short r b =
 
 kept_from : More → (c : Setup) (h : History) → Sound c h → AreShort c.processes c.policies (destroyed h) → (r : ℕ) → acked h r ≡ true → Kept h r
 kept_from more c h sound short r a = record {
-  someone = someone_left more c h sound short r (acked_known h r a);
+  someone = someone_left more c h sound short r (sound.ack_known r a);
   everyone = λ p i d. copy_of h r p.0 (sound.by_ack r p a i) d;
 }
 
@@ -71,18 +71,11 @@ among_is ps q i = at (Any-from_list_any (λ p. p.0 == q) ps i)
 -- the members of a record's team are processes of the cluster
 pub members_there : (c : Setup) (h : History) → Sound c h → (r : ℕ) → acked h r ≡ true → (q : ℕ) → is_among (members_for h r) q ≡ true → q < length c.processes
 members_there c h sound r a q i =
-    let b = acked_known h r a in
+    let b = sound.ack_known r a in
     let t = slice_get-each (λ b. (t : Team) × (slice_get (teams h) b.team ≡ Some t)) (records h) r b.0 sound.joined b.1 in
     let is = slice_get-each (IsFormed c.processes c.policies) (teams h) b.0.team t.0 sound.formed t.1 in
     let p = among_is t.0.members q (subst (λ ps. is_among ps q ≡ true) (team_known h r b.0 t.0 b.1 t.1) i) in
     subst (λ n. n < length c.processes) p.4 (All-contains (λ p. p.0 < length c.processes) t.0.members p.1 is.known (p.0, p.2, p.3))
-
-all_false : {X : Type 0} (f : X → Bool) (xs : List X) → list_any f xs ≡ false → AllByRecursion (λ y. f y ≡ false) xs
-all_false f [] e = tt
-all_false f (x ∷ xs) e = let both = or_parts (f x) (list_any f xs) e in (both.0, all_false f xs both.1)
-
-any_at : {X : Type 0} (f : X → Bool) (xs : List X) (x : X) → Contains xs x → f x ≡ true → list_any f xs ≡ true
-any_at f xs x i t = true_from_ne_false _ (λ none. both_ways (f x) (All-contains (λ y. f y ≡ false) xs x (All-from_recursion (λ y. f y ≡ false) xs (all_false f xs none)) i) t)
 
 -- some member keeps the record
 someone_keeps : (h : History) (r : ℕ) → Kept h r → (q : ℕ) × (is_among (members_for h r) q ≡ true) × (keeps h r q ≡ true)

@@ -1,8 +1,6 @@
-pub mod Syncing
-pub mod Targets
-pub mod Times
-pub mod Delivered
+pub mod Copying
 pub mod Deliverable
+pub mod Delivered
 pub mod DiskSteps
 pub mod Disks
 pub mod Entering
@@ -10,12 +8,15 @@ pub mod Finding
 pub mod Flights
 pub mod Formed
 pub mod Grants
+pub mod Healed
 pub mod Journals
 pub mod Judged
 pub mod Keepers
 pub mod Losing
+pub mod Needed
 pub mod Records
 pub mod Refusals
+pub mod Replaced
 pub mod Resent
 pub mod Results
 pub mod Room
@@ -26,3 +27,7 @@ pub mod Starting
 pub mod Starts
 pub mod Still
 pub mod Strikes
+pub mod Syncing
+pub mod Targets
+pub mod Times
+pub mod Unchanged

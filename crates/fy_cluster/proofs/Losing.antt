@@ -12,10 +12,10 @@ use Rattle.fy_audit.specs.declared.reply.Reply.TheVariants.{Done, No}
 use Rattle.fy_audit.specs.declared.reply.Refusal.TheVariants.{NoMessage}
 use Rattle.fy_cluster.specs.declared.machine.Machine.{Machine}
 use Rattle.fy_cluster.specs.Setup.{Setup}
-use Rattle.fy_cluster.specs.History.{History, Moment, sent, in_flight, takes_out, now, clogs, unclogs, ticks}
+use Rattle.fy_cluster.specs.History.{History, Moment, sent, in_flight, now, clogs, unclogs, ticks}
 use Rattle.fy_cluster.specs.Replies.{refused, refusals, answer}
 use Rattle.fy_cluster.specs.Standing.{Stands, Turn, Follows, moment_of, KeepsNet}
-use Rattle.fy_cluster.proofs.Still.{teams_still, only_traffic}
+use Rattle.fy_cluster.proofs.Still.{teams_idle, only_traffic}
 use Rattle.fy_cluster.proofs.Flights.{flying_without, body_flying}
 use Rattle.fy_cluster.proofs.Refusals.{refuse}
 use Rattle.fy_cluster.proofs.Records.{slice_get-some}
@@ -41,7 +41,7 @@ flies_not c h net k there n e = false_from_ne_true _ (λ f.
     let b = there n f in
     some_or_none (body_of net.in_flight n) e b.0 (ap (λ xs. body_of xs n) k.in_flight ∙ body_flying h n ∙ rw f b.1))
 
-pub net_left : (c : Setup) (m : Moment) (h : History) (net : Traffic) (n : ℕ) → in_flight h n ≡ true → m.sends ≡ [] → ((k : ℕ) → takes_out k m ≡ (k == n)) → clogs m.entry.act m.entry.reply ≡ None → unclogs m.entry.act m.entry.reply ≡ None → ticks m.entry.act m.entry.reply ≡ None
+pub net_left : (c : Setup) (m : Moment) (h : History) (net : Traffic) (n : ℕ) → in_flight h n ≡ true → m.sends ≡ [] → ((k : ℕ) → m.takes_out k ≡ (k == n)) → clogs m.entry.act m.entry.reply ≡ None → unclogs m.entry.act m.entry.reply ≡ None → ticks m.entry.act m.entry.reply ≡ None
     → KeepsNet c h net → KeepsNet c (m ∷ h) (left_by n net)
 net_left c m h net n flying_now none one no_clog no_end no_tick k = record {
   in_flight = ap (without n) k.in_flight ∙ sym (flying_without m h n none one);
@@ -80,7 +80,7 @@ lost turn n machine k f = record {
   right = sym (lose_reply c h turn.by n true f);
   stands = only_traffic turn (Lose n) Done machine (left_by n machine.net) machine.teams refl (λ p. refl) k
       (net_left c m h machine.net n f refl (λ k. swap_eq k n) refl refl refl k.net)
-      (teams_still m h machine.teams refl refl (λ r p. refl) k.teams);
+      (teams_idle turn (Lose n) Done machine.teams refl refl refl refl refl k.teams);
 }
   where
     c : Setup

@@ -1,36 +1,35 @@
 -- a record is sent once more
-use Rattle.std.proofs.Common.{◌≡◌, ℕ, ◌+◌, ◌<◌, List, [], ◌∷◌, ◌++◌, Bool, true, false, ◌&&◌, not, Option, Some, None, option_map, refl, sym, ◌∙◌, ap, ap₂, nat_lt, nat_le, length, arith, slice_get, if◌then◌else◌, append-nil}
-use Rattle.std.proofs.lemmas.Bool.{true≢false}
+use Rattle.std.proofs.Common.{◌≡◌, ℕ, ◌+◌, ◌<◌, List, [], ◌∷◌, ◌++◌, Bool, true, false, not, Option, Some, None, option_map, refl, sym, ◌∙◌, ap, ap₂, nat_lt, nat_le, length, arith, slice_get, if◌then◌else◌, append-nil}
 use Rattle.std.proofs.lemmas.Bool.Decides.{nat_tests}
 use Rattle.std.proofs.lemmas.List.Elements.{All-contains}
-use Rattle.std.specs.List.{list_all}
 use Rattle.std.specs.Option.{option_map_or}
 use Rattle.fy_locality.specs.declared.ProcId.{ProcId}
 use Rattle.fy_net.specs.declared.message.Body.TheVariants.{Store}
 use Rattle.fy_net.specs.Net.{Traffic, reserve_refusal, sent_on}
-use Rattle.fy_team.specs.Teams.{Team, Record, Roster, is_among, is_acked, IsFormed, members_in}
+use Rattle.fy_team.specs.Teams.{Team, Record, Roster, is_among, IsFormed, members_in}
 use Rattle.fy_audit.specs.declared.act.Act.TheVariants.{Resend}
 use Rattle.fy_audit.specs.declared.reply.Reply.TheVariants.{Sent, No}
 use Rattle.fy_audit.specs.declared.reply.Refusal.TheVariants.{NoRecord, NotMember, Acked, NetFull}
 use Rattle.fy_cluster.specs.declared.machine.Machine.{Machine}
 use Rattle.fy_cluster.specs.Setup.{Setup}
-use Rattle.fy_cluster.specs.History.{History, Moment, BegunRecord, sent, teams, records, members_for, acked, marked}
+use Rattle.fy_cluster.specs.History.{History, Moment, BegunRecord, sent, teams, records, members_for, acked}
 use Rattle.fy_cluster.specs.Replies.{refused, refusals, answer, is_full}
 use Rattle.fy_cluster.specs.Standing.{Stands, Turn, Follows, Comes, moment_of, KeepsTeams, begun_of, IsLived}
-use Rattle.fy_cluster.proofs.Still.{teams_still, only_traffic}
+use Rattle.fy_cluster.proofs.Still.{teams_idle, only_traffic, or_nothing}
 use Rattle.fy_cluster.proofs.Refusals.{refuse}
 use Rattle.fy_cluster.proofs.Results.{some_is_same, some_not_none}
 use Rattle.fy_cluster.proofs.Room.{net_sent, room_for}
 use Rattle.fy_cluster.proofs.Formed.{past_policies, within_policies}
-use Rattle.fy_cluster.proofs.Records.{Tested, Sound, slice_get-each, slice_get-some}
-use Rattle.fy_cluster.proofs.Delivered.{sound_of, record_is, acked_same}
+use Rattle.fy_cluster.proofs.Records.{Tested, slice_get-each, slice_get-some}
+use Rattle.fy_cluster.proofs.Delivered.{sound_of, record_is}
 use Rattle.fy_cluster.proofs.Keepers.{among_is}
 use Rattle.fy_audit.specs.declared.act.Act.TheVariants.{Begin}
 use Rattle.fy_audit.specs.declared.reply.Reply.TheVariants.{Begun}
 use Rattle.fy_audit.specs.declared.reply.Refusal.TheVariants.{NoTeam, Payload, TooMany}
 use Rattle.fy_team.specs.declared.fault.TeamFault.{TeamFault}
 use Rattle.fy_team.specs.declared.fault.TeamFault.TheVariants.{NoTeam as NoTeamThere, Payload as LongPayload, TooMany as TooManyThere}
-use Rattle.fy_team.specs.Teams.{begin_refusal, begun_for, is_marked}
+use Rattle.fy_team.specs.Teams.{begin_refusal, begun_for}
+use Rattle.fy_team.specs.Standing.{BegunUnmarked, BegunUnacked}
 use Rattle.fy_cluster.specs.History.{members_of, stores_of}
 use Rattle.fy_cluster.specs.Standing.{replied_to_team, numbered, Sends}
 use Rattle.fy_cluster.proofs.Sending.{map-push}
@@ -56,7 +55,7 @@ no_record turn rec p m k none = at (slice_get m.teams.records rec) refl none
     at (Some it) s none = absurd (some_not_none it.team (sym none))
 
 -- what the teams say of a number is what the history says
-team_there : (h : History) (roster : Roster) → KeepsTeams h roster → (team : ℕ) (members : List ProcId) → Some members ≡ members_in roster team → (t : Team) × (slice_get (teams h) team ≡ Some t) × (t.members ≡ members)
+pub team_there : (h : History) (roster : Roster) → KeepsTeams h roster → (team : ℕ) (members : List ProcId) → Some members ≡ members_in roster team → (t : Team) × (slice_get (teams h) team ≡ Some t) × (t.members ≡ members)
 team_there h roster k team members e = at (slice_get roster.teams team) refl e
   where
     at : (o : Option Team) → slice_get roster.teams team ≡ o → Some members ≡ option_map (λ (it : Team). it.members) o → (t : Team) × (slice_get (teams h) team ≡ Some t) × (t.members ≡ members)
@@ -103,34 +102,8 @@ team_missing tested turn m k l rec team named none = at (slice_get m.teams.recor
         let t = slice_get-each (λ b. (t : Team) × (slice_get (teams turn.before) b.team ≡ Some t)) (records turn.before) rec (begun_of it) (sound_of tested turn.setup turn.before l).joined begun in
         some_not_none t.0.members (sym (none ∙ ap (option_map (λ (it : Team). it.members)) (ap (λ ts. slice_get ts team) k.teams.teams ∙ ap (slice_get (teams turn.before)) same ∙ t.1)))
 
-none_acked : (roster : Roster) (rec : ℕ) → slice_get roster.records rec ≡ None → is_acked roster rec ≡ false
-none_acked roster rec e = rw e refl
-
--- whether a record is acknowledged, by the teams and by the history; none is that was not begun
-pub acked_by : (c : Setup) (h : History) (roster : Roster) → Sound c h → KeepsTeams h roster → (rec : ℕ) → acked h rec ≡ is_acked roster rec
-acked_by c h roster sound k rec = at (nat_lt rec (length (records h))) refl
-  where
-    missing : nat_lt rec (length (records h)) ≡ false → slice_get roster.records rec ≡ None
-    missing e = into (slice_get roster.records rec) refl
-      where
-        into : (o : Option Record) → slice_get roster.records rec ≡ o → o ≡ None
-        into None s = refl
-        into (Some it) s =
-            let there : nat_le (length (records h)) rec ≡ false = within_policies (records h) rec (begun_of it) (record_is h roster k rec ∙ ap (option_map begun_of) s) in
-            absurd (let no : true ≡ false = grind (arith, nat_tests) in true≢false no)
-
-    at : (b : Bool) → nat_lt rec (length (records h)) ≡ b → acked h rec ≡ is_acked roster rec
-    at true e =
-        let low : rec < length (records h) = grind (arith, nat_tests) in
-        ap (λ a. a && list_all (λ q. marked h rec q.0) (members_for h rec)) e
-        ∙ sym (acked_same h roster k rec (slice_get-some (records h) rec low) (λ b w. slice_get-each (λ b. (t : Team) × (slice_get (teams h) b.team ≡ Some t)) (records h) rec b sound.joined w))
-    at false e = ap (λ a. a && list_all (λ q. marked h rec q.0) (members_for h rec)) e ∙ sym (none_acked roster rec (missing e))
-
 pub not_member : (turn : Turn) (rec : ℕ) (p : ProcId) (members : List ProcId) (m : Machine) → Stands turn.setup turn.before m → IsOf turn.before rec members → is_among members p.0 ≡ false → Follows turn (Resend rec p) (No NotMember) m
 not_member turn rec p members m k is e = refuse turn (Resend rec p) NotMember m k (resend_reply turn.setup turn.before turn.by rec p false false _ _ is.known (ap (λ ps. is_among ps p.0) is.team ∙ e) refl refl)
-
-pub acked_is : Tested → (turn : Turn) (rec : ℕ) (m : Machine) → Stands turn.setup turn.before m → IsLived turn.setup turn.before → acked turn.before rec ≡ is_acked m.teams rec
-acked_is tested turn rec m k l = acked_by turn.setup turn.before m.teams (sound_of tested turn.setup turn.before l) k.teams rec
 
 pub is_acked_already : (turn : Turn) (rec : ℕ) (p : ProcId) (members : List ProcId) (m : Machine) → Stands turn.setup turn.before m → IsOf turn.before rec members → is_among members p.0 ≡ true → acked turn.before rec ≡ true → Follows turn (Resend rec p) (No Acked) m
 is_acked_already turn rec p members m k is e a = refuse turn (Resend rec p) Acked m k (resend_reply turn.setup turn.before turn.by rec p false true true _ is.known (ap (λ ps. is_among ps p.0) is.team ∙ e) a refl)
@@ -146,12 +119,12 @@ resends turn rec p members machine room number net k is e a clear reserved n sen
   right = sym (resend_reply c h turn.by rec p false true false false is.known (ap (λ ps. is_among ps p.0) is.team ∙ e) a (room_for c h machine.net 1 k.net clear).0);
   stands = only_traffic turn (Resend rec p) (Sent (length (sent turn.before))) machine net machine.teams refl (λ q. refl) k
       (net_sent c m h machine.net net (Store rec p ∷ []) refl (room_for c h machine.net 1 k.net clear).1 (λ n. refl) refl refl refl
-        (ap (λ (r : Traffic). r.in_flight) sent_is ∙ ap (λ (r : Traffic). r.in_flight ++ numbered r.sent (Store rec p ∷ [])) reserved)
-        (ap (λ (r : Traffic). r.sent) sent_is ∙ ap (λ (r : Traffic). r.sent + 1) reserved)
-        (ap (λ (r : Traffic). r.clock) sent_is ∙ ap (λ (r : Traffic). r.clock) reserved)
-        (ap (λ (r : Traffic). r.until) sent_is ∙ ap (λ (r : Traffic). r.until) reserved)
-        k.net)
-      (teams_still m h machine.teams refl refl (λ r q. refl) k.teams);
+      (ap (λ (r : Traffic). r.in_flight) sent_is ∙ ap (λ (r : Traffic). r.in_flight ++ numbered r.sent (Store rec p ∷ [])) reserved)
+      (ap (λ (r : Traffic). r.sent) sent_is ∙ ap (λ (r : Traffic). r.sent + 1) reserved)
+      (ap (λ (r : Traffic). r.clock) sent_is ∙ ap (λ (r : Traffic). r.clock) reserved)
+      (ap (λ (r : Traffic). r.until) sent_is ∙ ap (λ (r : Traffic). r.until) reserved)
+      k.net)
+      (teams_idle turn (Resend rec p) (Sent (length (sent turn.before))) machine.teams refl refl refl refl refl k.teams);
 })
   where
     c : Setup
@@ -173,7 +146,7 @@ begin_reply : (c : Setup) (h : History) (by team : ℕ) (payload : List ℕ) (a 
 unfolding refusals answer
 begin_reply c h by team payload a b d e ea eb ed ee = rw (ea, eb, ed, ee) refl
 
-record_count : (h : History) (roster : Roster) → KeepsTeams h roster → length roster.records ≡ length (records h)
+pub record_count : (h : History) (roster : Roster) → KeepsTeams h roster → length roster.records ≡ length (records h)
 record_count h roster k = sym (length-map roster.records begun_of) ∙ ap length k.records
 
 -- no reason of the teams' speaks against the record
@@ -220,25 +193,25 @@ pub begin_full : (turn : Turn) (team : ℕ) (payload : List ℕ) (members : List
     → refused (refusals turn.setup turn.before (Begin team payload)) (answer turn.setup turn.before turn.by (Begin team payload)) ≡ No NetFull
 begin_full turn team payload members n f is count full = begin_reply turn.setup turn.before turn.by team payload false false false true f.there f.small f.few (ap (λ ps. is_full turn.before (length ps)) is ∙ ap (is_full turn.before) (sym count) ∙ full)
 
-pub begins_now : ((roster : Roster) (team : ℕ) (payload : List ℕ) (r q : ℕ) → is_marked (begun_for team payload roster) r q ≡ is_marked roster r q)
-    → (turn : Turn) (team : ℕ) (payload : List ℕ) (members : List ProcId) (machine : Machine) (room net : Traffic) (roster : Roster) (rec first n : ℕ) → Stands turn.setup turn.before machine
+pub begins_now : BegunUnmarked → BegunUnacked → (turn : Turn) (team : ℕ) (payload : List ℕ) (members : List ProcId) (machine : Machine) (room net : Traffic) (roster : Roster) (rec first n : ℕ) → Stands turn.setup turn.before machine
     → Fits turn.before team payload → members_of turn.before team ≡ members → n ≡ length members → reserve_refusal machine.net n ≡ None → room ≡ record machine.net { room = room.room }
     → rec ≡ length machine.teams.records → roster ≡ begun_for team payload machine.teams → first ≡ room.sent
     → Sends room (stores_of rec members) net
     → Follows turn (Begin team payload) (Begun rec first) (record machine { net = net; teams = roster })
-begins_now unmarked turn team payload members machine room net roster rec first n k f is count clear reserved rec_is begun first_is sends = rw (record_is_next, number_is) (record {
+begins_now unmarked unacked turn team payload members machine room net roster rec first n k f is count clear reserved rec_is begun first_is sends = rw (record_is_next, number_is) (record {
   right = sym (begin_reply c h turn.by team payload false false false false f.there f.small f.few (ap (λ ps. is_full h (length ps)) is ∙ ap (is_full h) (sym count) ∙ (room_for c h machine.net n k.net clear).0));
   stands = only_traffic turn (Begin team payload) (Begun (length (records turn.before)) (length (sent turn.before))) machine net roster refl (λ q. refl) k
       (net_sent c m h machine.net net (stores_of rec members) (ap₂ stores_of (sym record_is_next) is) (let few = (room_for c h machine.net n k.net clear).1 in let s = stores in omega arith) (λ j. refl) refl refl refl
-        sent_now.in_flight
-        sent_now.count
-        sent_now.clock
-        sent_now.until
-        k.net)
+      sent_now.in_flight
+      sent_now.count
+      sent_now.clock
+      sent_now.until
+      k.net)
       (rw begun (record {
         teams = k.teams.teams ∙ sym (append-nil (teams h));
         records = map-push begun_of machine.teams.records _ ∙ ap (λ rs. rs ++ record { team = team; payload = payload } ∷ []) k.teams.records;
         marks = λ r q. unmarked machine.teams team payload r q ∙ k.teams.marks r q;
+        acked = λ r. unacked machine.teams team payload r ∙ k.teams.acked r ∙ sym (or_nothing (acked h r));
       }));
 })
   where

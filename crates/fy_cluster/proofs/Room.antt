@@ -12,7 +12,7 @@ use Rattle.fy_audit.specs.declared.reply.Refusal.TheVariants.{NetFull}
 use Rattle.fy_audit.specs.declared.reply.Reply.TheVariants.{No}
 use Rattle.fy_cluster.specs.declared.machine.Machine.{Machine}
 use Rattle.fy_cluster.specs.Setup.{Setup, is_between}
-use Rattle.fy_cluster.specs.History.{History, Moment, sent, takes_out, now, clogs, unclogs, ticks}
+use Rattle.fy_cluster.specs.History.{History, Moment, sent, now, clogs, unclogs, ticks}
 use Rattle.fy_cluster.specs.Replies.{is_full, refused, refusals, answer}
 use Rattle.fy_cluster.specs.Standing.{Stands, Turn, Comes, KeepsNet, IsLived, numbered, flying, no_room}
 use Rattle.fy_cluster.proofs.Flights.{flying_sent, count_flying}
@@ -36,7 +36,7 @@ few_sent c h net l k =
     omega arith
 
 -- the network once a moment sent its messages
-pub net_sent : (c : Setup) (m : Moment) (h : History) (net next : Traffic) (bodies : List Body) → m.sends ≡ bodies → length bodies ≤ 65536 → ((n : ℕ) → takes_out n m ≡ false) → clogs m.entry.act m.entry.reply ≡ None → unclogs m.entry.act m.entry.reply ≡ None → ticks m.entry.act m.entry.reply ≡ None
+pub net_sent : (c : Setup) (m : Moment) (h : History) (net next : Traffic) (bodies : List Body) → m.sends ≡ bodies → length bodies ≤ 65536 → ((n : ℕ) → m.takes_out n ≡ false) → clogs m.entry.act m.entry.reply ≡ None → unclogs m.entry.act m.entry.reply ≡ None → ticks m.entry.act m.entry.reply ≡ None
     → next.in_flight ≡ net.in_flight ++ numbered net.sent bodies → next.sent ≡ net.sent + length bodies → next.clock ≡ net.clock → next.until ≡ net.until → KeepsNet c h net → KeepsNet c (m ∷ h) next
 net_sent c m h net next bodies sends few keeps no_clog no_end no_tick flight count clock until k = record {
   in_flight = flight ∙ ap₂ (λ xs n. xs ++ numbered n bodies) k.in_flight k.sent_so_far ∙ ap (λ bs. flying h ++ numbered (length (sent h)) bs) (sym sends) ∙ sym (flying_sent m h keeps k.early);

@@ -64,7 +64,7 @@ stands_at_start c m few fresh rights disks up net teams = record {
     early = λ n l. refl;
     few = omega arith;
   });
-  teams = rw teams (record { teams = refl; records = refl; marks = λ r p. refl });
+  teams = rw teams (record { teams = refl; records = refl; marks = λ r p. refl; acked = λ r. refl });
 }
 
 -- ---- no policy is unmet

@@ -14,7 +14,7 @@ use Rattle.fy_cluster.specs.Setup.{Setup}
 use Rattle.fy_cluster.specs.History.{History, Moment, gone, left, up}
 use Rattle.fy_cluster.specs.Replies.{refused, refusals, answer, no_process}
 use Rattle.fy_cluster.specs.Standing.{Stands, Turn, Follows, moment_of, KeepsUp}
-use Rattle.fy_cluster.proofs.Still.{dead_still, disks_still, net_still, teams_still, rights_still}
+use Rattle.fy_cluster.proofs.Still.{dead_still, disks_still, net_still, teams_idle, rights_still}
 use Rattle.fy_cluster.proofs.Refusals.{refuse}
 
 up_reply : (c : Setup) (h : History) (by : ℕ) (p : ProcId) (a b d : Bool) → no_process c p.0 ≡ a → gone h p.0 ≡ b → up h p.0 ≡ d
@@ -36,6 +36,14 @@ gone_is c h p b l e = let there : nat_lt p (length c.processes) ≡ true = grind
     at true e = ap not (sym e)
     at false e = ap not (sym e)
 
+-- what who is left tells of a process that is there
+pub left_tells : (turn : Turn) (m : Machine) → Stands turn.setup turn.before m → (p : ℕ) → p < length turn.setup.processes → (set : sets.FinSet nat_cmp) → set ≡ m.dead.left → (b found : Bool) → found ≡ sets.contains set p → found ≡ b → gone turn.before p ≡ not b
+left_tells turn m k p l set is b found told e = gone_is turn.setup turn.before p b l (sym e ∙ told ∙ ap (λ s. sets.contains s p) is ∙ k.dead.left p)
+
+-- and who is up
+pub up_tells : (turn : Turn) (m : Machine) → Stands turn.setup turn.before m → (p : ℕ) → p < length turn.setup.processes → (b found : Bool) → found ≡ sets.contains m.up p → found ≡ b → up turn.before p ≡ b
+up_tells turn m k p l b found told e = sym (k.up.each p l) ∙ sym told ∙ e
+
 pub nobody : (turn : Turn) (p : ProcId) (m : Machine) → Stands turn.setup turn.before m → no_process turn.setup p.0 ≡ true → Follows turn (Up p) (No NoProcess) m
 nobody turn p m k e = refuse turn (Up p) NoProcess m k (up_reply turn.setup turn.before turn.by p true _ _ e refl refl)
 
@@ -56,12 +64,12 @@ pub starts : (turn : Turn) (p : ProcId) (m : Machine) → Stands turn.setup turn
 starts turn p machine k e f g = record {
   right = sym (up_reply c h turn.by p false false false e f g);
   stands = record {
-    dead = dead_still c m h machine.dead (λ p. refl) k.dead;
+    dead = dead_still c m h machine.dead (λ p. refl) refl k.dead;
     rights = rights_still c m h machine.book refl refl refl refl k.rights;
     disks = disks_still c m h machine.disks.items (λ p. refl) refl (λ p. refl) k.disks;
     up = up_more c m h p.0 machine.up (λ q. refl) k.up;
     net = net_still c m h machine.net refl (λ k. refl) refl refl refl k.net;
-    teams = teams_still m h machine.teams refl refl (λ r p. refl) k.teams;
+    teams = teams_idle turn (Up p) Done machine.teams refl refl refl refl refl k.teams;
   };
 }
   where

@@ -1,6 +1,7 @@
 -- what an entry leaves as it was, part by part
 use Rattle.std.proofs.Common.{◌==◌, ◌≡◌, ℕ, Bool, true, false, ◌&&◌, ◌||◌, not, [], ◌∷◌, Option, Some, None, is_none, refl, sym, ◌∙◌, ap, ap₂, arith, nat_lt, length, append-nil, List, ◌++◌, option_to_list, is_some, if◌then◌else◌}
 use Rattle.std.specs.Prelude.{option_and_then}
+use Rattle.std.specs.List.{list_all}
 use Rattle.std.proofs.lemmas.Bool.{or_from}
 use Rattle.fy_kinds.specs.declared.kind.Kind.{Kind}
 use Rattle.fy_kinds.specs.Kinds.{is_destroying, destroys_for_good}
@@ -14,12 +15,13 @@ use Rattle.fy_disk.specs.Disk.{Stored}
 use Rattle.fy_net.specs.Net.{Traffic}
 use Rattle.fy_team.specs.Teams.{Roster, Team}
 use Rattle.fy_audit.specs.declared.act.Act.{Act}
+use Rattle.fy_audit.specs.declared.act.Act.TheVariants.{Deliver, Lose, Heal}
 use Rattle.fy_audit.specs.declared.reply.Reply.{Reply}
 use Rattle.fy_cluster.specs.declared.machine.Machine.{Machine}
 use Rattle.std.specs.Ordering.{nat_cmp}
 use Rattle.std.specs.FinSet as sets
 use Rattle.fy_cluster.specs.Setup.{Setup}
-use Rattle.fy_cluster.specs.History.{History, Moment, BegunRecord, some_is, struck_by, delivers, loses, store_to, word_of, is_stored, clogs, unclogs, forms, begins, syncs, ups, ticks, gives, takes, protects, unprotects, strikes, is_closing, closes, writes, destroyed, gone, up, unsynced, sent, takes_out, now, marks, marked, teams, records}
+use Rattle.fy_cluster.specs.History.{History, Moment, BegunRecord, some_is, is_accepted, struck_by, delivers, loses, store_to, word_of, is_stored, clogs, unclogs, forms, begins, syncs, ups, ticks, gives, takes, protects, unprotects, Swap, replaces, heals, strikes, is_closing, closes, writes, destroyed, gone, up, unsynced, sent, takes_of, now, marks, tells, marked, marked_after, acked, members_for, after_swap, teams, records}
 use Rattle.fy_cluster.specs.Rules.{grants, is_protected, with_given, without_taken, changes}
 use Rattle.fy_cluster.specs.Standing.{Stands, Turn, moment_of, following, KeepsDead, KeepsRights, KeepsDisks, KeepsUp, KeepsNet, KeepsTeams, stored}
 use Rattle.fy_cluster.proofs.DiskSteps.{synced_else, unsynced_else, own}
@@ -27,12 +29,12 @@ use Rattle.fy_cluster.proofs.Flights.{flying_still}
 
 -- ---- who is destroyed and who is up
 
-pub dead_still : (c : Setup) (m : Moment) (h : History) (book : Casualties) → ((p : ℕ) → strikes m p ≡ None) → KeepsDead c h book → KeepsDead c (m ∷ h) book
-dead_still c m h book none k = record {
+pub dead_still : (c : Setup) (m : Moment) (h : History) (book : Casualties) → ((p : ℕ) → strikes m p ≡ None) → heals m.entry.act m.entry.reply ≡ None → KeepsDead c h book → KeepsDead c (m ∷ h) book
+dead_still c m h book none unhealed k = record {
   processes = k.processes;
   policies = k.policies;
   few = k.few;
-  destroyed = λ p. k.destroyed p ∙ sym (ap (λ o. some_is is_destroying o || destroyed h p) (none p));
+  destroyed = λ p. k.destroyed p ∙ sym (ap₂ (λ o q. some_is is_destroying o || not (some_is (λ q. q == p) q) && destroyed h p) (none p) unhealed);
   left = λ p. k.left p ∙ sym (ap (λ o. nat_lt p (length c.processes) && not (some_is destroys_for_good o || gone h p)) (none p));
 }
 
@@ -61,7 +63,7 @@ disks_still c m h disks none idle w k = record {
 -- ---- the network
 
 -- an entry that neither sends nor takes out, clogs or unclogs leaves the messages; some ticks may have passed
-pub net_ticked : (c : Setup) (m : Moment) (h : History) (net : Traffic) → m.sends ≡ [] → ((n : ℕ) → takes_out n m ≡ false) → clogs m.entry.act m.entry.reply ≡ None → unclogs m.entry.act m.entry.reply ≡ None
+pub net_ticked : (c : Setup) (m : Moment) (h : History) (net : Traffic) → m.sends ≡ [] → ((n : ℕ) → m.takes_out n ≡ false) → clogs m.entry.act m.entry.reply ≡ None → unclogs m.entry.act m.entry.reply ≡ None
     → KeepsNet c h net → KeepsNet c (m ∷ h) (record net { clock = now (m ∷ h) })
 net_ticked c m h net none keeps no_clog no_end k = record {
   in_flight = k.in_flight ∙ sym (flying_still m h none keeps);
@@ -76,7 +78,7 @@ net_ticked c m h net none keeps no_clog no_end k = record {
     same : length (sent (m ∷ h)) ≡ length (sent h)
     same = ap (λ xs. length (sent h ++ xs)) none ∙ ap length (append-nil (sent h))
 
-pub net_still : (c : Setup) (m : Moment) (h : History) (net : Traffic) → m.sends ≡ [] → ((n : ℕ) → takes_out n m ≡ false) → clogs m.entry.act m.entry.reply ≡ None → unclogs m.entry.act m.entry.reply ≡ None → ticks m.entry.act m.entry.reply ≡ None
+pub net_still : (c : Setup) (m : Moment) (h : History) (net : Traffic) → m.sends ≡ [] → ((n : ℕ) → m.takes_out n ≡ false) → clogs m.entry.act m.entry.reply ≡ None → unclogs m.entry.act m.entry.reply ≡ None → ticks m.entry.act m.entry.reply ≡ None
     → KeepsNet c h net → KeepsNet c (m ∷ h) net
 net_still c m h net none keeps no_clog no_end no_tick k = record {
   in_flight = same.in_flight;
@@ -93,11 +95,25 @@ net_still c m h net none keeps no_clog no_end no_tick k = record {
 
 -- ---- teams, and rights
 
-pub teams_still : (m : Moment) (h : History) (roster : Roster) → forms m.entry.act m.entry.reply ≡ None → begins m.entry.act m.entry.reply ≡ None → ((r p : ℕ) → marks m r p ≡ false) → KeepsTeams h roster → KeepsTeams (m ∷ h) roster
-teams_still m h roster no_team no_record no_mark k = record {
-  teams = k.teams ∙ sym (ap (λ o. teams h ++ option_to_list o) no_team ∙ append-nil (teams h));
+pub or_nothing : (b : Bool) → (b || false) ≡ b
+or_nothing true = refl
+or_nothing false = refl
+
+-- no process's mark is taken off
+pub marks_kept : (m : Moment) (h : History) (r p : ℕ) → heals m.entry.act m.entry.reply ≡ None → marks m r p ≡ false → marked (m ∷ h) r p ≡ marked h r p
+marks_kept m h r p unhealed none = ap₂ (λ b q. b || not (some_is (λ q. q == p) q && not (acked h r)) && marked h r p) none unhealed
+
+-- where nobody tells of a record, it is acknowledged as it was
+pub acked_kept : (m : Moment) (h : History) (r : ℕ) → tells m r ≡ false → acked (m ∷ h) r ≡ acked h r
+acked_kept m h r silent = ap (λ b. acked h r || b && list_all (λ p. marked_after m r p.0 (acked h r) (marked h r p.0)) (members_for h r)) silent ∙ or_nothing (acked h r)
+
+pub teams_still : (m : Moment) (h : History) (roster : Roster) → forms m.entry.act m.entry.reply ≡ None → replaces m.entry.act m.entry.reply ≡ None → begins m.entry.act m.entry.reply ≡ None → heals m.entry.act m.entry.reply ≡ None
+    → ((r p : ℕ) → marks m r p ≡ false) → ((r : ℕ) → tells m r ≡ false) → KeepsTeams h roster → KeepsTeams (m ∷ h) roster
+teams_still m h roster no_team no_swap no_record unhealed no_mark silent k = record {
+  teams = k.teams ∙ sym (ap₂ (λ s o. after_swap s (teams h) ++ option_to_list o) no_swap no_team ∙ append-nil (teams h));
   records = k.records ∙ sym (ap (λ o. records h ++ option_to_list o) no_record ∙ append-nil (records h));
-  marks = λ r p. k.marks r p ∙ sym (ap (λ b. b || marked h r p) (no_mark r p));
+  marks = λ r p. k.marks r p ∙ sym (marks_kept m h r p unhealed (no_mark r p));
+  acked = λ r. k.acked r ∙ sym (acked_kept m h r (silent r));
 }
 
 pub rights_still : (c : Setup) (m : Moment) (h : History) (rights : Rights) → gives m.entry.act m.entry.reply ≡ None → takes m.entry.act m.entry.reply ≡ None → protects m.entry.act m.entry.reply ≡ None → unprotects m.entry.act m.entry.reply ≡ None
@@ -117,6 +133,7 @@ pub record Doings : Type 0 where
   pub clogged_for : Option ℕ
   pub unclogged : Option Target
   pub formed : Option Team
+  pub replaced : Option Swap
   pub begun : Option BegunRecord
   pub delivered : Option ℕ
   pub lost : Option ℕ
@@ -127,6 +144,7 @@ pub record Doings : Type 0 where
   pub taken : Option (ℕ × ℕ)
   pub shielded : Option (ℕ × KindSet)
   pub unshielded : Option (ℕ × KindSet)
+  pub healed : Option ℕ
 
 abbrev pub doings : Act → Reply → Doings
 doings act r = record {
@@ -134,6 +152,7 @@ doings act r = record {
   clogged_for = clogs act r;
   unclogged = unclogs act r;
   formed = forms act r;
+  replaced = replaces act r;
   begun = begins act r;
   delivered = delivers act r;
   lost = loses act r;
@@ -144,6 +163,7 @@ doings act r = record {
   taken = takes act r;
   shielded = protects act r;
   unshielded = unprotects act r;
+  healed = heals act r;
 }
 
 -- nothing at all
@@ -153,6 +173,7 @@ nothing = record {
   clogged_for = None;
   unclogged = None;
   formed = None;
+  replaced = None;
   begun = None;
   delivered = None;
   lost = None;
@@ -163,6 +184,7 @@ nothing = record {
   taken = None;
   shielded = None;
   unshielded = None;
+  healed = None;
 }
 
 -- what it does to the network and the teams, and nothing else
@@ -171,6 +193,7 @@ traffic_alone act r = record nothing {
   clogged_for = clogs act r;
   unclogged = unclogs act r;
   formed = forms act r;
+  replaced = replaces act r;
   begun = begins act r;
   delivered = delivers act r;
   lost = loses act r;
@@ -201,16 +224,45 @@ unwritten turn act r e p = ap (λ o. if is_some o && is_stored r then option_and
 unmarked : (turn : Turn) (act : Act) (r : Reply) → delivers act r ≡ None → (rec p : ℕ) → marks (moment_of turn act r) rec p ≡ false
 unmarked turn act r e rec p = ap (λ o. is_some o && some_is (λ w. w.0 == rec && w.1 == p) (option_and_then word_of (moment_of turn act r).message)) e
 
+-- it tells of nothing
+untold : (turn : Turn) (act : Act) (r : Reply) → delivers act r ≡ None → (rec : ℕ) → tells (moment_of turn act r) rec ≡ false
+untold turn act r e rec = ap (λ o. is_some o && some_is (λ w. w.0 == rec) (option_and_then word_of (moment_of turn act r).message)) e
+
+nothing_taken : (b : Bool) → (if b then false else false) ≡ false
+nothing_taken true = refl
+nothing_taken false = refl
+
 -- it takes no message out
-pub untaken : (act : Act) (r : Reply) → delivers act r ≡ None → loses act r ≡ None → (n : ℕ) → (some_is (λ k. k == n) (delivers act r) || some_is (λ k. k == n) (loses act r)) ≡ false
-untaken act r d l n = ap₂ (λ d l. some_is (λ k. k == n) d || some_is (λ k. k == n) l) d l
+pub untaken : (turn : Turn) (act : Act) (r : Reply) → delivers act r ≡ None → loses act r ≡ None → heals act r ≡ None → (n : ℕ) → (moment_of turn act r).takes_out n ≡ false
+untaken turn (Deliver message) r d l q n = at (is_accepted r) d
+  where
+    at : (b : Bool) → (if b then Some message else None) ≡ None → (if b then message == n else false) ≡ false
+    at true e = absurd (cc)
+    at false e = refl
+untaken turn (Lose message) r d l q n = at (is_accepted r) l
+  where
+    at : (b : Bool) → (if b then Some message else None) ≡ None → (if b then message == n else false) ≡ false
+    at true e = absurd (cc)
+    at false e = refl
+untaken turn (Heal process) r d l q n = at (is_accepted r) q
+  where
+    at : (b : Bool) → (if b then Some process.0 else None) ≡ None → (if b then takes_of turn.before (Heal process) n else false) ≡ false
+    at true e = absurd (cc)
+    at false e = refl
+untaken turn _ r d l q n = nothing_taken (is_accepted r)
+
+-- what neither delivers nor heals, and forms, replaces and begins nothing, leaves the teams
+pub teams_idle : (turn : Turn) (act : Act) (r : Reply) (roster : Roster) → forms act r ≡ None → replaces act r ≡ None → begins act r ≡ None → delivers act r ≡ None → heals act r ≡ None
+    → KeepsTeams turn.before roster → KeepsTeams (following turn act r) roster
+teams_idle turn act r roster no_team no_swap no_record undelivered unhealed k =
+    teams_still (moment_of turn act r) turn.before roster no_team no_swap no_record unhealed (unmarked turn act r undelivered) (untold turn act r undelivered) k
 
 -- what writes nothing, and concerns no more than the network and the teams, leaves all else
 pub only_traffic : (turn : Turn) (act : Act) (r : Reply) (machine : Machine) (net : Traffic) (roster : Roster) → doings act r ≡ traffic_alone act r → ((p : ℕ) → writes (moment_of turn act r) p ≡ None)
     → Stands turn.setup turn.before machine → KeepsNet turn.setup (following turn act r) net → KeepsTeams (following turn act r) roster
     → Stands turn.setup (following turn act r) (record machine { net = net; teams = roster })
 only_traffic turn act r machine net roster is unwritten k flows formed = record {
-  dead = dead_still c m h machine.dead struck k.dead;
+  dead = dead_still c m h machine.dead struck (ap (λ (d : Doings). d.healed) is) k.dead;
   rights = rights_still c m h machine.book (ap (λ (d : Doings). d.given) is) (ap (λ (d : Doings). d.taken) is) (ap (λ (d : Doings). d.shielded) is) (ap (λ (d : Doings). d.unshielded) is) k.rights;
   disks = disks_still c m h machine.disks.items struck (ap (λ (d : Doings). d.synced_at) is) unwritten k.disks;
   up = up_still c m h machine.up struck (ap (λ (d : Doings). d.started) is) k.up;
@@ -235,21 +287,21 @@ pub only_clogs : (turn : Turn) (act : Act) (r : Reply) (machine : Machine) (net 
     → Stands turn.setup turn.before machine → KeepsNet turn.setup (following turn act r) net → Stands turn.setup (following turn act r) (record machine { net = net })
 only_clogs turn act r machine net is k flows =
     only_traffic turn act r machine net machine.teams
-    (is ∙ sym (ap (λ (d : Doings). record nothing { clogged_for = d.clogged_for; unclogged = d.unclogged; formed = d.formed; begun = d.begun; delivered = d.delivered; lost = d.lost; passed = d.passed }) is))
+    (is ∙ sym (ap (λ (d : Doings). record nothing { clogged_for = d.clogged_for; unclogged = d.unclogged; formed = d.formed; replaced = d.replaced; begun = d.begun; delivered = d.delivered; lost = d.lost; passed = d.passed }) is))
     (unwritten turn act r (ap (λ (d : Doings). d.delivered) is)) k flows
-    (teams_still (moment_of turn act r) turn.before machine.teams (ap (λ (d : Doings). d.formed) is) (ap (λ (d : Doings). d.begun) is) (unmarked turn act r (ap (λ (d : Doings). d.delivered) is)) k.teams)
+    (teams_idle turn act r machine.teams (ap (λ (d : Doings). d.formed) is) (ap (λ (d : Doings). d.replaced) is) (ap (λ (d : Doings). d.begun) is) (ap (λ (d : Doings). d.delivered) is) (ap (λ (d : Doings). d.healed) is) k.teams)
 
 -- what concerns no more than grants and protections leaves all else
 pub only_rights : (turn : Turn) (act : Act) (r : Reply) (machine : Machine) (book : Rights) → doings act r ≡ rights_alone act r → (moment_of turn act r).sends ≡ []
     → Stands turn.setup turn.before machine → KeepsRights turn.setup (following turn act r) book
     → Stands turn.setup (following turn act r) (record machine { book = book })
 only_rights turn act r machine book is silent k held = record {
-  dead = dead_still c m h machine.dead struck k.dead;
+  dead = dead_still c m h machine.dead struck (ap (λ (d : Doings). d.healed) is) k.dead;
   rights = held;
   disks = disks_still c m h machine.disks.items struck (ap (λ (d : Doings). d.synced_at) is) (unwritten turn act r (ap (λ (d : Doings). d.delivered) is)) k.disks;
   up = up_still c m h machine.up struck (ap (λ (d : Doings). d.started) is) k.up;
-  net = net_still c m h machine.net silent (untaken act r (ap (λ (d : Doings). d.delivered) is) (ap (λ (d : Doings). d.lost) is)) (ap (λ (d : Doings). d.clogged_for) is) (ap (λ (d : Doings). d.unclogged) is) (ap (λ (d : Doings). d.passed) is) k.net;
-  teams = teams_still m h machine.teams (ap (λ (d : Doings). d.formed) is) (ap (λ (d : Doings). d.begun) is) (unmarked turn act r (ap (λ (d : Doings). d.delivered) is)) k.teams;
+  net = net_still c m h machine.net silent (untaken turn act r (ap (λ (d : Doings). d.delivered) is) (ap (λ (d : Doings). d.lost) is) (ap (λ (d : Doings). d.healed) is)) (ap (λ (d : Doings). d.clogged_for) is) (ap (λ (d : Doings). d.unclogged) is) (ap (λ (d : Doings). d.passed) is) k.net;
+  teams = teams_idle turn act r machine.teams (ap (λ (d : Doings). d.formed) is) (ap (λ (d : Doings). d.replaced) is) (ap (λ (d : Doings). d.begun) is) (ap (λ (d : Doings). d.delivered) is) (ap (λ (d : Doings). d.healed) is) k.teams;
 }
   where
     c : Setup

@@ -1,5 +1,5 @@
 -- the destroyed stay short of every policy, and those left satisfy each
-use Rattle.std.proofs.Common.{◌≡◌, ℕ, Bool, true, false, ◌||◌, not, List, [], ◌∷◌, length, Option, Some, None, refl, sym, ◌∙◌, ap, inl, inr, nat_lt, if◌then◌else◌}
+use Rattle.std.proofs.Common.{◌≡◌, ℕ, Bool, true, false, ◌||◌, not, List, [], ◌∷◌, length, Option, Some, None, refl, sym, ◌∙◌, ap, inl, inr, ◌⊎◌, nat_lt, if◌then◌else◌}
 use Rattle.std.proofs.lemmas.Bool.{false≢true, or_cases, or_left, or_right, and_parts, and_from, not-true, both_ways}
 use Rattle.std.specs.List.{AllByRecursion}
 use Rattle.fy_locality.specs.declared.locality.Locality.{Locality}
@@ -21,7 +21,7 @@ use Rattle.fy_audit.specs.declared.reply.Reply.TheVariants.{Verdict as Verdicted
 use Rattle.fy_audit.specs.declared.reply.Refusal.{Refusal}
 use Rattle.fy_audit.specs.declared.entry.Entry.{Entry}
 use Rattle.fy_cluster.specs.Setup.{Setup, IsMet}
-use Rattle.fy_cluster.specs.History.{History, Moment, moment, history, is_accepted, struck_by, some_is, strikes, destroyed, gone, left, targets_of}
+use Rattle.fy_cluster.specs.History.{History, Moment, moment, history, is_accepted, struck_by, some_is, strikes, destroys, heals_at, destroyed, gone, left, targets_of}
 use Rattle.fy_cluster.specs.Rules.{situation}
 use Rattle.fy_cluster.specs.Replies.{refused, reasons, answer, reply, IsNext, Legal}
 use Rattle.fy_cluster.proofs.Journals.{kept_after}
@@ -128,16 +128,20 @@ satisfied_by processes policies destroyed left s Reboot is may = absurd (false�
 satisfied_by processes policies destroyed left s RebootAndDelete is may = absurd (false≢true is)
 satisfied_by processes policies destroyed left s KillInstantly is may = (may Gone refl).1
 
+-- who is destroyed after an entry was struck by it, or was destroyed before
+destroyed_by : (m : Moment) (h : History) (p : ℕ) → destroyed (m ∷ h) p ≡ true → (destroys m p ≡ true) ⊎ (destroyed h p ≡ true)
+destroyed_by m h p d = elim (or_cases (destroys m p) _ d) [ inl a ↦ inl a | inr a ↦ inr (and_parts (not (heals_at m p)) (destroyed h p) a).1 ]
+
 -- the destroyed stay short
 short_next : More → May → (c : Setup) (h : History) (e : Entry) → IsNext c h e → AreShort c.processes c.policies (destroyed h) → AreShort c.processes c.policies (destroyed (moment c h e ∷ h))
 short_next more may c h e next before = at (some_is is_destroying (struck_by e.act e.reply)) refl
   where
     at : (b : Bool) → some_is is_destroying (struck_by e.act e.reply) ≡ b → AreShort c.processes c.policies (destroyed (moment c h e ∷ h))
-    at false f = short_less more c.processes c.policies _ (destroyed h) (λ p d. elim (or_cases _ (destroyed h p) d) [ inl a ↦ absurd (struck_none c h e is_destroying f p a) | inr a ↦ a ]) before
+    at false f = short_less more c.processes c.policies _ (destroyed h) (λ p d. elim (destroyed_by (moment c h e) h p d) [ inl a ↦ absurd (struck_none c h e is_destroying f p a) | inr a ↦ a ]) before
     at true t =
         let s = struck c h e next is_destroying t in
         short_less more c.processes c.policies _ (with_set (destroyed h) (targets c.processes (left c h) s.order.target))
-        (λ p d. elim (or_cases _ (destroyed h p) d) [ inl a ↦ or_right (destroyed h p) _ (only_targets c h e s.order s.act is_destroying p a) | inr a ↦ or_left _ _ a ])
+        (λ p d. elim (destroyed_by (moment c h e) h p d) [ inl a ↦ or_right (destroyed h p) _ (only_targets c h e s.order s.act is_destroying p a) | inr a ↦ or_left _ _ a ])
         (short_by c.processes c.policies (destroyed h) (left c h) _ s.kind s.is (λ loss brings. may (situation c h e.by) s.order s.kind loss s.strikes brings))
 
 not_either : (a b : Bool) → (a ≡ true → ⊥) → not b ≡ true → not (a || b) ≡ true

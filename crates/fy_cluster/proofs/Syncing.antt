@@ -16,7 +16,7 @@ use Rattle.fy_cluster.specs.History.{History, Moment, up, sent, synced, unsynced
 use Rattle.fy_cluster.specs.Replies.{refused, refusals, answer, no_process, is_full}
 use Rattle.fy_disk.specs.Disk.{blank}
 use Rattle.fy_cluster.specs.Standing.{Stands, Turn, Follows, moment_of, stored, Sends}
-use Rattle.fy_cluster.proofs.Still.{dead_still, up_still, teams_still, rights_still, stored_still}
+use Rattle.fy_cluster.proofs.Still.{dead_still, up_still, teams_idle, rights_still, stored_still}
 use Rattle.fy_cluster.proofs.DiskSteps.{synced_at_close, unsynced_at_close}
 use Rattle.fy_cluster.proofs.Refusals.{refuse}
 use Rattle.fy_cluster.proofs.Results.{some_is_same}
@@ -56,7 +56,7 @@ pub synced_now : (turn : Turn) (p : ProcId) (machine : Machine) (disk : OnDisk) 
 synced_now turn p machine disk room net first count after k known there ups was clear reserved sends number counted e1 e2 e3 e4 e5 e6 = rw (first_is, count_is) (record {
   right = sym (sync_reply c h turn.by p false true false known ups (ap (is_full h) (sym size) ∙ (room_for c h machine.net (length disk.unsynced) k.net clear).0));
   stands = record {
-    dead = rw e1 (dead_still c m h machine.dead (λ q. refl) k.dead);
+    dead = rw e1 (dead_still c m h machine.dead (λ q. refl) refl k.dead);
     rights = rw e2 (rights_still c m h machine.book refl refl refl refl k.rights);
     disks = rw e6 (record {
       count = length-set machine.disks.items p.0 _ ∙ k.disks.count;
@@ -74,7 +74,7 @@ synced_now turn p machine disk room net first count after k known there ups was 
         sent_now.clock
         sent_now.until
         k.net);
-    teams = rw e5 (teams_still m h machine.teams refl refl (λ r q. refl) k.teams);
+    teams = rw e5 (teams_idle turn (Sync p) (Synced (length (sent h)) (length (unsynced h p.0))) machine.teams refl refl refl refl refl k.teams);
   };
 })
   where

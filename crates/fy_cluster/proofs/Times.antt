@@ -13,7 +13,7 @@ use Rattle.fy_cluster.specs.Setup.{Setup}
 use Rattle.fy_cluster.specs.History.{History, Moment, now}
 use Rattle.fy_cluster.specs.Replies.{refused, refusals, answer}
 use Rattle.fy_cluster.specs.Standing.{Stands, Turn, Follows, moment_of, KeepsNet}
-use Rattle.fy_cluster.proofs.Still.{net_ticked, teams_still, only_traffic}
+use Rattle.fy_cluster.proofs.Still.{net_ticked, teams_idle, only_traffic}
 use Rattle.fy_cluster.proofs.Refusals.{refuse}
 
 abbrev reply_of : Result ℕ NetFault → Reply
@@ -33,7 +33,7 @@ passed turn n machine k t = record {
   right = in_time c h turn.by n machine.net.clock k.net.clock t;
   stands = only_traffic turn (Tick n) (Time (machine.net.clock + n)) machine (record machine.net { clock = machine.net.clock + n }) machine.teams refl (λ p. refl) k
       (subst (λ clock. KeepsNet c (m ∷ h) (record machine.net { clock = clock })) (ap (λ clock. clock + n) (sym k.net.clock)) (net_ticked c m h machine.net refl (λ k. refl) refl refl k.net))
-      (teams_still m h machine.teams refl refl (λ r p. refl) k.teams);
+      (teams_idle turn (Tick n) (Time (machine.net.clock + n)) machine.teams refl refl refl refl refl k.teams);
 }
   where
     c : Setup

@@ -1,7 +1,7 @@
 -- What the entries before a moment have done. A journal has the oldest entry first. A history has
 -- the newest first, so that what was before a moment is the rest of the list, and beside each entry
 -- it has what that entry did.
-use Rattle.std.specs.Prelude.{ℕ, ◌+◌, min, Bool, true, false, ◌&&◌, ◌||◌, not, List, [], ◌∷◌, ◌++◌, length, map, find, filter, Option, Some, None, is_some, is_none, option_map, unwrap_or, option_to_list, option_and_then, nat_lt, ◌==◌, slice_get, if◌then◌else◌}
+use Rattle.std.specs.Prelude.{ℕ, ◌+◌, min, Bool, true, false, ◌&&◌, ◌||◌, not, List, [], ◌∷◌, ◌++◌, length, map, find, filter, Option, Some, None, is_some, is_none, option_map, unwrap_or, option_to_list, option_and_then, nat_lt, ◌==◌, slice_get, slice_set, if◌then◌else◌}
 use Rattle.std.specs.List.{list_any, list_all, range_with_len}
 use Rattle.std.specs.Option.{option_map_or}
 use Rattle.fy_locality.specs.declared.ProcId.{ProcId}
@@ -15,12 +15,13 @@ use Rattle.fy_disk.specs.declared.item.Item.{Item}
 use Rattle.fy_disk.specs.Disk.{outlives}
 use Rattle.fy_net.specs.declared.message.Body.{Body}
 use Rattle.fy_net.specs.declared.message.Body.TheVariants.{Store, Synced}
+use Rattle.fy_net.specs.Net.{is_word_from}
 use Rattle.fy_grants.specs.Least.{least_with}
 use Rattle.fy_net.specs.declared.limits.TheConstants.{LAST_TICK}
-use Rattle.fy_team.specs.Teams.{Team, is_among}
+use Rattle.fy_team.specs.Teams.{Team, is_among, swapped}
 use Rattle.fy_decide.specs.Verdicts.{targets}
 use Rattle.fy_audit.specs.declared.act.Act.{Act}
-use Rattle.fy_audit.specs.declared.act.Act.TheVariants.{Kill, Clog, Unclog, Form, Begin, Deliver, Lose, Resend, Sync, Up, Tick, Give, Take, Protect, Unprotect}
+use Rattle.fy_audit.specs.declared.act.Act.TheVariants.{Kill, Clog, Unclog, Form, Begin, Deliver, Lose, Resend, Sync, Up, Tick, Give, Take, Protect, Unprotect, CopyTo, Replace, Heal}
 use Rattle.fy_audit.specs.declared.reply.Reply.{Reply}
 use Rattle.fy_audit.specs.declared.reply.Reply.TheVariants.{Verdict, Ruled, No, Stored}
 use Rattle.fy_audit.specs.declared.entry.Entry.{Entry}
@@ -35,13 +36,14 @@ pub record BegunRecord : Type 0 where
   pub team : ℕ
   pub payload : List ℕ
 
--- an entry with what it did: whom its target named, the message that it names, and the messages
--- that it sent
+-- an entry with what it did: whom its target named, the message that it names, the messages that
+-- it sent, and the numbers of those that it took out of the network
 pub record Moment : Type 0 where
   pub entry : Entry
   pub targets : ProcessSet
   pub message : Option Body
   pub sends : List Body
+  pub takes_out : ℕ → Bool
 
 -- the newest first
 abbrev pub History : Type 0
@@ -135,6 +137,23 @@ abbrev pub unprotects : Act → Reply → Option (ℕ × KindSet)
 unprotects (Unprotect process kinds) r = if_accepted r (process.0, kinds)
 unprotects _ r = None
 
+-- who leaves a team, and who comes for it
+pub record Swap : Type 0 where
+  pub team : ℕ
+  pub out : ProcId
+  pub into : ProcId
+
+-- the swap that is made in a team
+abbrev pub replaces : Act → Reply → Option Swap
+replaces (Replace team out into) r =
+    if_accepted r (record { team = team; out = out; into = into })
+replaces _ r = None
+
+-- the process that is healed
+abbrev pub heals : Act → Reply → Option ℕ
+heals (Heal process) r = if_accepted r process.0
+heals _ r = None
+
 -- whether there is a value that passes
 abbrev pub some_is : {X : Type 0} → (X → Bool) → Option X → Bool
 some_is test None = false
@@ -155,9 +174,14 @@ strikes m p = if m.targets p then struck_by m.entry.act m.entry.reply else None
 abbrev pub destroys : Moment → ℕ → Bool
 destroys m p = some_is is_destroying (strikes m p)
 
--- some entry did
+-- the entry healed the process
+abbrev pub heals_at : Moment → ℕ → Bool
+heals_at m p = some_is (λ q. q == p) (heals m.entry.act m.entry.reply)
+
+-- some entry destroyed it, and none healed it since
 abbrev pub destroyed : History → ProcessSet
-destroyed h p = list_any (λ m. destroys m p) h
+destroyed [] p = false
+destroyed (m ∷ h) p = destroys m p || not (heals_at m p) && destroyed h p
 
 -- some entry struck it by the kind that leaves nobody to come back
 abbrev pub gone : History → ProcessSet
@@ -220,10 +244,22 @@ is_kept p later i =
 
 -- ---- teams and records
 
+-- the team once another process stands in for a member
+abbrev pub with_swap : Swap → Team → Team
+with_swap s team = record team { members = swapped s.out s.into team.members }
+
+-- the teams once a swap is made in one of them
+abbrev pub after_swap : Option Swap → List Team → List Team
+after_swap None teams = teams
+after_swap (Some s) teams =
+    option_map_or (λ team. slice_set teams s.team (with_swap s team)) (slice_get teams s.team) teams
+
 -- the teams, by number
 abbrev pub teams : History → List Team
 teams [] = []
-teams (m ∷ h) = teams h ++ option_to_list (forms m.entry.act m.entry.reply)
+teams (m ∷ h) =
+    after_swap (replaces m.entry.act m.entry.reply) (teams h)
+    ++ option_to_list (forms m.entry.act m.entry.reply)
 
 -- the records, by number
 abbrev pub records : History → List BegunRecord
@@ -268,15 +304,13 @@ abbrev pub sent : History → List Body
 sent [] = []
 sent (m ∷ h) = sent h ++ m.sends
 
--- the entry took the message out of the network
-abbrev pub takes_out : ℕ → Moment → Bool
-takes_out n m =
-    some_is (λ k. k == n) (delivers m.entry.act m.entry.reply)
-    || some_is (λ k. k == n) (loses m.entry.act m.entry.reply)
+-- some entry took the message out of the network
+abbrev pub is_taken : History → ℕ → Bool
+is_taken h n = list_any (λ m. m.takes_out n) h
 
 -- the message was sent, and nothing took it out
 abbrev pub in_flight : History → ℕ → Bool
-in_flight h n = nat_lt n (length (sent h)) && not (list_any (takes_out n) h)
+in_flight h n = nat_lt n (length (sent h)) && not (is_taken h n)
 
 -- how many messages are in flight
 abbrev pub in_flight_count : History → ℕ
@@ -321,13 +355,31 @@ marks m r p =
     is_some (delivers m.entry.act m.entry.reply)
     && some_is (λ w. w.0 == r && w.1 == p) (option_and_then word_of m.message)
 
--- some entry delivered a Synced of the record from the process
-abbrev pub marked : History → ℕ → ProcessSet
-marked h r p = list_any (λ m. marks m r p) h
+-- the entry delivered a Synced of the record, whoever sent it
+abbrev pub tells : Moment → ℕ → Bool
+tells m r =
+    is_some (delivers m.entry.act m.entry.reply)
+    && some_is (λ w. w.0 == r) (option_and_then word_of m.message)
 
--- the record was begun, and every member of its team has a mark
-abbrev pub acked : History → ℕ → Bool
-acked h r = nat_lt r (length (records h)) && list_all (λ p. marked h r p.0) (members_for h r)
+-- after the entry the process has a mark for the record: it gets one, or it had one and isn't
+-- healed while the record is not acknowledged
+abbrev pub marked_after : Moment → (r p : ℕ) → (was_acked was_marked : Bool) → Bool
+marked_after m r p was_acked was_marked =
+    marks m r p || not (heals_at m p && not was_acked) && was_marked
+
+abbrev mutual
+  -- the process got a mark, after which it was not healed while the record wasn't acknowledged
+  pub marked : History → ℕ → ProcessSet
+  marked [] r p = false
+  marked (m ∷ h) r p = marked_after m r p (acked h r) (marked h r p)
+
+  -- a Synced of the record was delivered after which every member of its team had a mark
+  pub acked : History → ℕ → Bool
+  acked [] r = false
+  acked (m ∷ h) r =
+      acked h r
+      || tells m r
+      && list_all (λ p. marked_after m r p.0 (acked h r) (marked h r p.0)) (members_for h r)
 
 -- the process has the record synced
 abbrev pub has_synced : History → ℕ → ℕ → Bool
@@ -362,6 +414,9 @@ targets_of c h (Give grant) = λ p. false
 targets_of c h (Take actor index) = λ p. false
 targets_of c h (Protect process kinds) = λ p. false
 targets_of c h (Unprotect process kinds) = λ p. false
+targets_of c h (CopyTo from rec to) = λ p. false
+targets_of c h (Replace team out into) = λ p. false
+targets_of c h (Heal process) = λ p. false
 
 -- the message that the act names
 abbrev pub message_of : History → Act → Option Body
@@ -380,6 +435,9 @@ message_of h (Give grant) = None
 message_of h (Take actor index) = None
 message_of h (Protect process kinds) = None
 message_of h (Unprotect process kinds) = None
+message_of h (CopyTo from rec to) = None
+message_of h (Replace team out into) = None
+message_of h (Heal process) = None
 
 -- a store of the record to each of these processes
 abbrev pub stores_of : ℕ → List ProcId → List Body
@@ -389,11 +447,12 @@ stores_of rec processes = map (λ p. Store rec p) processes
 abbrev pub words_of : ProcId → List Item → List Body
 words_of process items = map (λ item. Synced item.rec process) items
 
--- what the act sends where it is accepted: Begin a Store to each member, Resend one, Sync a word of
--- each unsynced write
+-- what the act sends where it is accepted: Begin a Store to each member, Resend and CopyTo one,
+-- Sync a word of each unsynced write
 abbrev pub sends_of : History → Act → List Body
 sends_of h (Begin team payload) = stores_of (length (records h)) (members_of h team)
 sends_of h (Resend rec process) = Store rec process ∷ []
+sends_of h (CopyTo from rec to) = Store rec to ∷ []
 sends_of h (Sync process) = words_of process (unsynced h process.0)
 sends_of h (Kill order) = []
 sends_of h (Clog target n) = []
@@ -407,6 +466,30 @@ sends_of h (Give grant) = []
 sends_of h (Take actor index) = []
 sends_of h (Protect process kinds) = []
 sends_of h (Unprotect process kinds) = []
+sends_of h (Replace team out into) = []
+sends_of h (Heal process) = []
+
+-- which messages the act takes out of the network where it is accepted: Deliver and Lose the one
+-- that they name, Heal every word that its process has sent
+abbrev pub takes_of : History → Act → ℕ → Bool
+takes_of h (Deliver message) n = message == n
+takes_of h (Lose message) n = message == n
+takes_of h (Heal process) n = some_is (is_word_from process.0) (slice_get (sent h) n)
+takes_of h (Kill order) n = false
+takes_of h (Clog target k) n = false
+takes_of h (Unclog target) n = false
+takes_of h (Form members policy) n = false
+takes_of h (Begin team payload) n = false
+takes_of h (Resend rec process) n = false
+takes_of h (Sync process) n = false
+takes_of h (Up process) n = false
+takes_of h (Tick k) n = false
+takes_of h (Give grant) n = false
+takes_of h (Take actor index) n = false
+takes_of h (Protect process kinds) n = false
+takes_of h (Unprotect process kinds) n = false
+takes_of h (CopyTo from rec to) n = false
+takes_of h (Replace team out into) n = false
 
 -- the entry with what it did, after this history
 abbrev pub moment : Setup → History → Entry → Moment
@@ -415,6 +498,7 @@ moment c h e = record {
   targets = targets_of c h e.act;
   message = message_of h e.act;
   sends = if is_accepted e.reply then sends_of h e.act else [];
+  takes_out = λ n. if is_accepted e.reply then takes_of h e.act n else false;
 }
 
 -- the history after the rest of a journal

@@ -2,8 +2,11 @@ pub mod Setup
 pub mod History
 pub mod Rules
 pub mod Replies
+pub mod Versions
+pub mod Earlier
 pub mod Survival
 pub mod Course
 pub mod Standing
 pub mod Sights
 pub use Rattle.fy_locality.specs.Locality
+pub mod Needs

@@ -1,27 +1,27 @@
 -- the reply to each act, and which journals are legal
-use Rattle.std.specs.Prelude.{◌≡◌, ℕ, ◌+◌, ◌≤◌, Bool, true, false, ◌||◌, not, List, [], ◌∷◌, length, nat_lt, nat_le, ◌==◌, slice_get, sum_by}
+use Rattle.std.specs.Prelude.{◌≡◌, ℕ, ◌+◌, ◌≤◌, Bool, true, false, ◌&&◌, ◌||◌, not, List, [], ◌∷◌, length, find, nat_lt, nat_le, ◌==◌, slice_get, sum_by, Option, is_some, unwrap_or}
 use Rattle.std.specs.List.{list_any, list_all, range_with_len}
 use Rattle.std.specs.Option.{option_map_or}
 use Rattle.fy_grants.specs.declared.book.TheConstants.{MOST_GRANTS}
 use Rattle.fy_policy.specs.Sat.{satisfies}
 use Rattle.fy_kinds.specs.Kinds.{Clogging}
-use Rattle.fy_team.specs.Teams.{is_among}
+use Rattle.fy_team.specs.Teams.{is_among, swapped}
 use Rattle.fy_team.specs.declared.limits.TheConstants.{MOST_TEAMS, MOST_RECORDS, MOST_BYTES}
 use Rattle.fy_net.specs.declared.limits.TheConstants.{MOST_IN_FLIGHT, LAST_TICK}
 use Rattle.fy_decide.specs.Verdicts.{targets, bar, verdict}
 use Rattle.fy_net.specs.declared.message.Body.{Body}
 use Rattle.fy_net.specs.Net.{process_of}
 use Rattle.fy_audit.specs.declared.act.Act.{Act}
-use Rattle.fy_audit.specs.declared.act.Act.TheVariants.{Kill, Clog, Unclog, Form, Begin, Deliver, Lose, Resend, Sync, Up, Tick, Give, Take, Protect, Unprotect}
+use Rattle.fy_audit.specs.declared.act.Act.TheVariants.{Kill, Clog, Unclog, Form, Begin, Deliver, Lose, Resend, Sync, Up, Tick, Give, Take, Protect, Unprotect, CopyTo, Replace, Heal}
 use Rattle.fy_audit.specs.declared.reply.Refusal.{Refusal}
-use Rattle.fy_audit.specs.declared.reply.Refusal.TheVariants.{Stranger, WrongRole, TooMany, NoPolicy, NoProcess, Gone, TeamShort, NoTeam, Payload, NetFull, NoMessage, Clogged, NotUp, NoRecord, NotMember, Acked, IsUp, ClockEnd, NoActor, Full, NoSuch}
+use Rattle.fy_audit.specs.declared.reply.Refusal.TheVariants.{Stranger, WrongRole, TooMany, NoPolicy, NoProcess, Gone, TeamShort, NoTeam, Payload, NetFull, NoMessage, Clogged, NotUp, NoRecord, NotMember, Acked, IsUp, ClockEnd, NoActor, Full, NoSuch, NoCopy, IsMember, NotDestroyed, StillNeeds}
 use Rattle.fy_audit.specs.declared.reply.Reply.{Reply}
 use Rattle.fy_audit.specs.declared.reply.Reply.TheVariants.{Verdict, Ruled, Formed, Begun, Stored, Done, Marked, Sent, Synced, Time, No}
 use Rattle.fy_audit.specs.declared.entry.Entry.{Entry}
 use Rattle.fy_cluster.specs.declared.role.Role.{Role}
 use Rattle.fy_cluster.specs.declared.role.Role.TheVariants.{Fault, Storage, Operator}
 use Rattle.fy_cluster.specs.Setup.{Setup}
-use Rattle.fy_cluster.specs.History.{History, ProcessSet, some_is, gone, left, up, teams, records, members_of, members_for, unsynced, sent, in_flight, in_flight_count, now, clogged, marked, acked, word_of, stores_at, moment}
+use Rattle.fy_cluster.specs.History.{History, ProcessSet, some_is, destroyed, gone, left, up, teams, records, members_of, members_for, unsynced, sent, in_flight, in_flight_count, now, clogged, marked, acked, has_synced, word_of, stores_at, moment}
 use Rattle.fy_cluster.specs.Rules.{grants, situation}
 
 -- the first refusal that holds, or else the answer
@@ -59,14 +59,18 @@ may role (Give grant) = is_operator role
 may role (Take actor index) = is_operator role
 may role (Protect process kinds) = is_operator role
 may role (Unprotect process kinds) = is_operator role
+may role (CopyTo from rec to) = is_storage role
+may role (Replace team out into) = is_storage role
+may role (Heal process) = is_storage role
 
 -- whether the message asks a process to store that isn't up
 abbrev pub is_down_store : History → Body → Bool
 is_down_store h body = some_is (λ p. not (up h p)) (stores_at body)
 
--- every member has a mark, or gets it now
+-- the record is acknowledged, or every member of its team has a mark once the process has one
 abbrev pub is_acked_with : History → ℕ → ℕ → Bool
-is_acked_with h r p = list_all (λ q. marked h r q.0 || q.0 == p) (members_for h r)
+is_acked_with h r p =
+    acked h r || list_all (λ q. marked h r q.0 || q.0 == p) (members_for h r)
 
 -- a Store is stored, a Synced is a mark
 abbrev pub on_delivery : History → Body → Reply
@@ -96,6 +100,24 @@ no_actor c a = nat_le (length c.roles) a
 -- the actor is there, and its role may make the act
 abbrev pub may_make : Setup → ℕ → Act → Bool
 may_make c by act = some_is (λ role. may role act) (slice_get c.roles by)
+
+-- the policy of the team with a number
+abbrev pub policy_of : History → ℕ → ℕ
+policy_of h team = option_map_or (λ t. t.policy) (slice_get (teams h) team) 0
+
+-- whether the record is of the team
+abbrev pub is_of_team : History → (team r : ℕ) → Bool
+is_of_team h team r = some_is (λ b. b.team == team) (slice_get (records h) r)
+
+-- the least acknowledged record that passes a test and that the process hasn't synced
+abbrev pub needed_by : History → (p : ℕ) → (test : ℕ → Bool) → Option ℕ
+needed_by h p test =
+    find (λ r. acked h r && test r && not (has_synced h r p))
+    (range_with_len 0 (length (records h)))
+
+-- who still needs a record is refused with the first
+abbrev pub still_needs : Option ℕ → Bool × Refusal
+still_needs need = (is_some need, StillNeeds (unwrap_or need 0))
 
 -- why an act that its actor may make is refused: each reason, in order
 unfoldable pub refusals : Setup → History → Act → List (Bool × Refusal)
@@ -148,6 +170,33 @@ refusals c h (Take actor index) =
     ∷ []
 refusals c h (Protect process kinds) = (no_process c process.0, NoProcess) ∷ []
 refusals c h (Unprotect process kinds) = (no_process c process.0, NoProcess) ∷ []
+refusals c h (CopyTo from rec to) =
+    (nat_le (length (records h)) rec, NoRecord)
+    ∷ (no_process c from.0 || no_process c to.0, NoProcess)
+    ∷ (gone h to.0, Gone)
+    ∷ (not (up h from.0), NotUp)
+    ∷ (not (has_synced h rec from.0), NoCopy)
+    ∷ (is_full h 1, NetFull)
+    ∷ []
+refusals c h (Replace team out into) =
+    (nat_le (length (teams h)) team, NoTeam)
+    ∷ (no_process c into.0, NoProcess)
+    ∷ (not (is_among (members_of h team) out.0), NotMember)
+    ∷ (is_among (members_of h team) into.0, IsMember)
+    ∷ (gone h into.0, Gone)
+    ∷ (
+      not (meets c (policy_of h team) (is_among (swapped out into (members_of h team)))),
+      TeamShort (policy_of h team),
+    )
+    ∷ still_needs (needed_by h into.0 (is_of_team h team))
+    ∷ []
+refusals c h (Heal process) =
+    (no_process c process.0, NoProcess)
+    ∷ (gone h process.0, Gone)
+    ∷ (not (destroyed h process.0), NotDestroyed)
+    ∷ (not (up h process.0), NotUp)
+    ∷ still_needs (needed_by h process.0 (λ r. is_among (members_for h r) process.0))
+    ∷ []
 
 -- the reply to an act that isn't refused
 unfoldable pub answer : Setup → History → ℕ → Act → Reply
@@ -168,6 +217,9 @@ answer c h by (Give grant) = Done
 answer c h by (Take actor index) = Done
 answer c h by (Protect process kinds) = Done
 answer c h by (Unprotect process kinds) = Done
+answer c h by (CopyTo from rec to) = Sent (length (sent h))
+answer c h by (Replace team out into) = Done
+answer c h by (Heal process) = Done
 
 -- every reason to refuse the act, in order
 unfoldable pub reasons : Setup → History → ℕ → Act → List (Bool × Refusal)
@@ -188,6 +240,7 @@ abbrev pub LegalAfter : Setup → History → List Entry → Type 0
 LegalAfter c h [] = Unit {0}
 LegalAfter c h (e ∷ later) = IsNext c h e × LegalAfter c (moment c h e ∷ h) later
 
--- each entry has its place and its reply, and there are no more than the journal may have
+-- each entry has its place and its reply, and there are no more than the journal may have; under
+-- either version of the rules (Versions says what the first asks besides)
 abbrev pub Legal : Setup → List Entry → Type 0
 Legal c journal = (length journal ≤ c.limit) × LegalAfter c [] journal

@@ -1,6 +1,5 @@
 -- what a machine keeps of a history: one equation for each of its parts
 use Rattle.std.specs.Prelude.{◌≡◌, ℕ, ◌+◌, ◌*◌, ◌<◌, ◌≤◌, min, max, Bool, false, not, nat_lt, List, [], ◌∷◌, ◌++◌, length, map, filter, slice_get, slice_index, slice_index_or, Option, Some, Result, Ok, Err, if◌then◌else◌}
-use Rattle.std.specs.List.{list_any}
 use Rattle.std.specs.Option.{option_map_or}
 use Rattle.std.specs.Ordering.{nat_cmp}
 use Rattle.std.specs.FinSet as sets
@@ -22,25 +21,27 @@ use Rattle.fy_net.specs.Net.{Traffic}
 use Rattle.fy_net.specs.declared.limits.TheConstants.{LAST_TICK, MOST_IN_FLIGHT}
 use Rattle.fy_team.specs.declared.fault.TeamFault.{TeamFault}
 use Rattle.fy_team.specs.declared.fault.TeamFault.TheVariants.{TooMany as TeamTooMany, NoPolicy as TeamNoPolicy, NoProcess as TeamNoProcess, Gone as TeamGone, TeamShort as IsShort, NoTeam as TeamNoTeam, Payload as TeamPayload, NoMemory as TeamNoMemory}
-use Rattle.fy_team.specs.Teams.{Roster, Record, is_marked}
+use Rattle.fy_team.specs.Teams.{Roster, Record, is_marked, is_acked}
 use Rattle.fy_audit.specs.declared.act.Act.{Act}
 use Rattle.fy_audit.specs.declared.reply.Reply.{Reply}
 use Rattle.fy_audit.specs.declared.reply.Reply.TheVariants.{No}
 use Rattle.fy_audit.specs.declared.reply.Refusal.TheVariants.{NoActor as Nobody, NoSuch as Nothing, Full as TooFull, TooMany, NoPolicy, NoProcess, Gone, TeamShort, NoTeam, Payload, NetFull, NoMessage, Clogged, ClockEnd}
 use Rattle.fy_audit.specs.declared.entry.Entry.{Entry}
+use Rattle.fy_audit.specs.declared.version.Version.TheVariants.{Second}
+use Rattle.fy_audit.specs.Journal.{Log}
 use Rattle.fy_grants.specs.declared.book.BookFault.{BookFault}
 use Rattle.fy_grants.specs.declared.book.BookFault.TheVariants.{NoActor, NoSuch, Full, NoMemory as BookNoMemory}
 use Rattle.fy_cluster.specs.declared.fault.Fault.{Fault}
 use Rattle.fy_cluster.specs.declared.fault.Fault.TheVariants.{NoMemory}
 use Rattle.fy_cluster.specs.declared.machine.Machine.{Machine}
 use Rattle.fy_cluster.specs.Setup.{Setup, IsSetup}
-use Rattle.fy_cluster.specs.History.{History, Moment, BegunRecord, destroyed, left, up, synced, unsynced, sent, takes_out, now, clogged_at, teams, records, marked, moment, history}
+use Rattle.fy_cluster.specs.History.{History, Moment, BegunRecord, destroyed, left, up, synced, unsynced, sent, is_taken, now, clogged_at, teams, records, marked, acked, moment, history}
 use Rattle.fy_cluster.specs.Rules.{grants, is_protected}
 use Rattle.fy_cluster.specs.Replies.{refusals, answer, reply, refused, Legal}
 
 -- ---- the parts
 
--- who was destroyed, who is left, and who is gone: nobody but processes
+-- who is destroyed, who is left, and who is gone: nobody but processes
 pub record KeepsDead (c : Setup) (h : History) (dead : Casualties) : Type 0 where
   pub processes : dead.processes ≡ c.processes
   pub policies : dead.policies ≡ c.policies
@@ -104,7 +105,7 @@ pub record Sends (before : Traffic) (bodies : List Body) (net : Traffic) : Type 
 
 -- the messages in flight, each with its number
 abbrev pub flying : History → List Message
-flying h = filter (λ x. not (list_any (takes_out x.number) h)) (numbered 0 (sent h))
+flying h = filter (λ x. not (is_taken h x.number)) (numbered 0 (sent h))
 
 -- the messages in flight, how many were sent, the time, and until when each process is clogged
 pub record KeepsNet (c : Setup) (h : History) (net : Traffic) : Type 0 where
@@ -115,7 +116,7 @@ pub record KeepsNet (c : Setup) (h : History) (net : Traffic) : Type 0 where
   pub ends : (p t : ℕ) → p < length c.processes → now h ≤ t →
       clogged_at t h p ≡ nat_lt t (slice_index net.until p)
   -- nothing was taken out before it was sent, and no entry sent more than may be in flight
-  pub early : (n : ℕ) → length (sent h) ≤ n → list_any (takes_out n) h ≡ false
+  pub early : (n : ℕ) → length (sent h) ≤ n → is_taken h n ≡ false
   pub few : length (sent h) ≤ MOST_IN_FLIGHT * length h
 
 -- until when a process is clogged after a clog of some ticks, which shortens no other
@@ -131,15 +132,16 @@ pub record ClogsChange (set : ℕ → Bool) (change : ℕ → ℕ → ℕ) (old 
   pub rest : new ≡ record old { until = new.until }
   pub ends : ChangesAt set (change old.clock) 0 old.until new.until
 
--- a record without its marks
+-- a record without its marks and its acknowledgement
 abbrev pub begun_of : Record → BegunRecord
 begun_of it = record { team = it.team; payload = it.payload }
 
--- the teams, the records, and who marked each
+-- the teams, the records, who marked each, and which are acknowledged
 pub record KeepsTeams (h : History) (roster : Roster) : Type 0 where
   pub teams : roster.teams ≡ teams h
   pub records : map begun_of roster.records ≡ records h
   pub marks : (r p : ℕ) → is_marked roster r p ≡ marked h r p
+  pub acked : (r : ℕ) → is_acked roster r ≡ acked h r
 
 -- ---- the whole
 
@@ -240,3 +242,8 @@ pub record IsKept (c : Setup) (journal : List Entry) (m : Machine) : Type 0 wher
   pub setup : IsSetup c
   pub legal : Legal c journal
   pub stands : Stands c (history c journal) m
+
+-- so it is of a cluster's journal, which is of the second version
+pub record IsHeld (c : Setup) (log : Log) (m : Machine) : Type 0 where
+  pub kept : IsKept c log.entries m
+  pub second : log.version ≡ Second

@@ -13,10 +13,12 @@ use Rattle.fy_audit.specs.declared.act.Act.TheVariants.{Kill}
 use Rattle.fy_audit.specs.declared.reply.Reply.TheVariants.{Verdict as Verdicted, No}
 use Rattle.fy_audit.specs.declared.reply.Refusal.TheVariants.{Stranger}
 use Rattle.fy_audit.specs.declared.entry.Entry.{Entry}
+use Rattle.fy_audit.specs.declared.version.Version.{Version}
 use Rattle.fy_cluster.specs.Setup.{Setup, IsMet}
 use Rattle.fy_cluster.specs.History.{History, moment, history, destroyed, left, synced, acked, keeps, keeper, members_for, payload_of}
 use Rattle.fy_cluster.specs.Rules.{situation}
 use Rattle.fy_cluster.specs.Replies.{IsNext, Legal}
+use Rattle.fy_cluster.specs.Versions.{LegalUnder}
 
 -- who asked for what
 abbrev pub by_and_act : Entry → ℕ × Act
@@ -97,11 +99,11 @@ NextLegal =
 abbrev pub NoneUnmet : Type 0
 NoneUnmet = (c : Setup) → IsMet c → first_unmet c.processes c.policies ≡ None
 
--- the same acts by the same actors make the same journal
+-- the same acts by the same actors make the same journal of a version
 abbrev pub SameActsSameJournal : Type 0
 SameActsSameJournal =
-    (c : Setup) (xs ys : List Entry) → Legal c xs → Legal c ys →
-    map by_and_act xs ≡ map by_and_act ys → xs ≡ ys
+    (version : Version) (c : Setup) (xs ys : List Entry) → LegalUnder version c xs →
+    LegalUnder version c ys → map by_and_act xs ≡ map by_and_act ys → xs ≡ ys
 
 -- what a journal keeps, whatever was ordered: it is legal, the destroyed are short of every policy,
 -- those left satisfy each, every kill is judged, and every acknowledged record has a synced copy on

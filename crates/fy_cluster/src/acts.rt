@@ -28,6 +28,7 @@ impl Machine {
         ensures entered { IfOk result
             (λ reply. journal.new.entries ≡ (entered by act reply journal.old).entries) }
         ensures err { OnErr result (journal.new.entries ≡ journal.old.entries) }
+        ensures version { journal.new.version ≡ journal.old.version }
     {
         journal.reserve(1)?;
         let reply = self.reply(alloc, config, by, &act)?;
@@ -97,6 +98,9 @@ impl Machine {
             Act::Take { actor, index } => self.take(*actor, *index),
             Act::Protect { process, kinds } => Ok(self.protect(*process, *kinds)),
             Act::Unprotect { process, kinds } => Ok(self.unprotect(*process, *kinds)),
+            Act::CopyTo { from, rec, to } => self.copy(map, *from, *rec, *to),
+            Act::Replace { team, out, into } => Ok(self.replace(config, *team, *out, *into)),
+            Act::Heal { process } => Ok(self.heal(map, *process)),
         }
     }
 }

@@ -1,6 +1,7 @@
 //! A cluster: it replies to acts, and keeps them all in its journal.
 ghost use Rattle.std.specs.Prelude.{◌≡◌, ◌↔◌, ◌<◌, ◌≤◌, ℕ, length, IfOk, IfErr, IsTrue, OnOk, OnErr, Err, IsSome, IfSome};
 ghost use Rattle.std.specs.FinSet as sets;
+ghost use Rattle.fy_audit.specs.declared.version.Version.TheVariants.{Second};
 ghost use Rattle.fy_cluster.specs.History.{destroyed, acked, keeper};
 ghost use Rattle.fy_cluster.specs.declared.fault.Fault.TheVariants.{JournalFull};
 ghost use Rattle.fy_cluster.specs.Survival.{Survives};
@@ -28,7 +29,7 @@ impl Model for Cluster {
     ghost use Rattle.fy_locality.specs.contracts.locality.Locality as e;
     ghost use Rattle.fy_policy.specs.TreeCode.{tree_code};
     ghost use Rattle.fy_cluster.specs.Course.{Course};
-    ghost use Rattle.fy_cluster.specs.Standing.{IsKept};
+    ghost use Rattle.fy_cluster.specs.Standing.{IsHeld};
 
     ghost Value = { Course };
 
@@ -36,7 +37,7 @@ impl Model for Cluster {
 
     ghost view = { λ x. record { setup = x.config; journal = x.journal.entries } };
 
-    ghost invariant = { λ x. IsKept x.config x.journal.entries x.machine };
+    ghost invariant = { λ x. IsHeld x.config x.journal x.machine };
 }
 
 // Written out, so that whoever drops a cluster makes one call.
@@ -113,16 +114,17 @@ impl Cluster {
         Ok(())
     }
 
-    /// All that was asked and replied.
+    /// All that was asked and replied, under the second version of the rules.
     pub fn journal(&self) -> &Journal
         ensures journal { result.now.entries ≡ self.now.journal }
+        ensures version { result.now.version ≡ Second }
         ensures survives { Survives self.now.setup self.now.journal }
     {
         self.survives();
         &self.journal
     }
 
-    /// Who was destroyed at any time.
+    /// Who is destroyed: struck by a kind that destroys, and not healed since.
     pub fn destroyed(&self) -> ProcSet
         ensures { (p : ℕ) → sets.contains result p ≡ destroyed (history_of self.now) p }
     {

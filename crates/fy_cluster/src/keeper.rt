@@ -12,7 +12,7 @@ use fy_disk::Disk;
 use fy_locality::ProcId;
 
 /// Whether a disk has a record synced.
-fn has_synced(disk: &Disk, rec: u32) -> bool
+pub(crate) fn has_synced(disk: &Disk, rec: u32) -> bool
     ensures { result ≡ list_any (λ item. item.rec == rec) disk.now.synced }
 {
     for place in 0..disk.synced_len() {
@@ -55,6 +55,7 @@ impl Machine {
         if !self.teams.acked(rec) {
             return None;
         }
+        self.teams.invariant();
         let Some(team) = self.teams.team_number(rec) else {
             unreachable!();
         };

@@ -1,5 +1,7 @@
 //! What every legal journal keeps, over the definitions alone.
 ghost use Rattle.fy_cluster.specs.Survival.{DestroyedShort, LeftSatisfy, KillsJudged, RulesNamed, RecordsKept, KeepersFound, JournalsSurvive, FrontsLegal, MomentsEntered, NextLegal, NoneUnmet, SameActsSameJournal};
+ghost use Rattle.fy_cluster.specs.Versions.{SecondKnowsAll, NextLegalUnder};
+ghost use Rattle.fy_cluster.specs.Earlier.{EarlierRulesHold};
 
 /// The destroyed are short of every policy.
 #[tactic(auto, using(crate::proofs::Strikes::destroyed_short))]
@@ -80,7 +82,24 @@ pub fn none_unmet()
     fy_policy::laws::test_is_satisfaction();
 }
 
-/// The same acts by the same actors make the same journal.
+/// The same acts by the same actors make the same journal of a version.
 pub fn same_acts_same_journal()
     ensures { SameActsSameJournal }
 {}
+
+/// Under the second version a journal is legal where its entries are; and one entry more is legal
+/// exactly where there is a place for it, it may come next and the version knows its act.
+pub fn versions()
+    ensures second { SecondKnowsAll }
+    ensures next { NextLegalUnder }
+{}
+
+/// In a legal journal of the first version, which has no `CopyTo`, `Replace` and `Heal`, those
+/// destroyed, the teams, the marks and the acknowledged records are as the rules gave them before
+/// there were these acts.
+pub fn earlier_rules_hold()
+    ensures { EarlierRulesHold }
+{
+    fy_policy::laws::test_is_satisfaction();
+    fy_policy::laws::empty_satisfies_none();
+}

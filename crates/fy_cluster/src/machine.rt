@@ -6,7 +6,7 @@ use fy_locality::ProcSet;
 use fy_net::Net;
 use fy_team::Teams;
 
-/// Who was destroyed and who is left, the grants and protections, each process's disk, who is up,
+/// Who is destroyed and who is left, the grants and protections, each process's disk, who is up,
 /// the network, and the teams with their records.
 #[derive(Drop)]
 pub(crate) struct Machine {

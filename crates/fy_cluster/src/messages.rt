@@ -119,6 +119,7 @@ impl Machine {
     {
         fy_policy::laws::test_is_satisfaction();
         fy_team::laws::a_mark_is_one_more();
+        fy_team::laws::a_mark_acknowledges();
         if self.net.clogged(from) {
             return Reply::No(Refusal::Clogged);
         }

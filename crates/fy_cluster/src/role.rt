@@ -9,8 +9,8 @@ use fy_audit::Act;
 pub enum Role {
     /// Orders kills and clogs alone.
     Fault,
-    /// Forms teams, begins records, delivers messages, syncs and starts processes, and lets time
-    /// pass.
+    /// Forms teams and changes them, begins and copies records, delivers messages, syncs, starts
+    /// and heals processes, and lets time pass.
     Storage,
     /// Gives and takes grants and protections.
     Operator,
@@ -32,7 +32,10 @@ impl Role {
             | Act::Resend { .. }
             | Act::Sync { .. }
             | Act::Up { .. }
-            | Act::Tick { .. } => self == Role::Storage,
+            | Act::Tick { .. }
+            | Act::CopyTo { .. }
+            | Act::Replace { .. }
+            | Act::Heal { .. } => self == Role::Storage,
         }
     }
 }

@@ -4,6 +4,7 @@ use crate::laws;
 pub(crate) mod clusters;
 mod example;
 mod growths;
+mod healing;
 mod kills;
 mod limits;
 mod messages;
@@ -26,4 +27,6 @@ fn laws_can_be_called() {
     laws::one_entry_more();
     laws::none_unmet();
     laws::same_acts_same_journal();
+    laws::versions();
+    laws::earlier_rules_hold();
 }

@@ -1,17 +1,17 @@
 -- the sets in 16 words, and the sets as tests
-use Rattle.std.proofs.Common.{◌≡◌, ◌↔◌, ℕ, Bool, true, false, cond, ◌&&◌, not, List, [], ◌∷◌, refl, sym, ap, subst, ◌∙◌, true≢false}
+use Rattle.std.proofs.Common.{◌≡◌, ◌↔◌, ℕ, Bool, true, false, cond, ◌&&◌, not, eqb, List, [], ◌∷◌, refl, sym, ap, subst, ◌∙◌, true≢false}
 use Rattle.std.specs.List.{AllByRecursion, position_from}
 use Rattle.std.specs.Prelude.{None, Some, ◌+◌}
 use Rattle.std.specs.Ordering.{nat_cmp}
 use Rattle.std.specs.FinSet as sets
-use Rattle.std.specs.Cmp.{nat_cmp_total}
+use Rattle.std.specs.Cmp.{nat_cmp_total, unsigned_tied}
 use Rattle.fy_locality.specs.declared.locality.Locality.{Locality}
 use Rattle.fy_policy.specs.Tree.{Tree, IsPolicy}
 use Rattle.fy_policy.specs.Sat.{Sat, satisfies}
 use Rattle.fy_decide.specs.declared.dead_book.Loss.{Loss}
 use Rattle.fy_decide.specs.declared.dead_book.Loss.TheVariants.{Emptied, Gone}
 use Rattle.fy_decide.specs.Losses.{AreShort, AreSatisfied, all_short, all_satisfied, with_set, without_set, everyone, MayDestroy, may_destroy}
-use Rattle.fy_decide.specs.DeadBook.{Casualties, IsSafe}
+use Rattle.fy_decide.specs.DeadBook.{Casualties, IsSafe, healed}
 
 pub union_is : (s t : sets.FinSet nat_cmp) → sets.contains (sets.union s t) ≡ with_set (sets.contains s) (sets.contains t)
 union_is s t = λ i p. sets.contains-union nat_cmp_total s t p i
@@ -99,6 +99,28 @@ module _ (dead : Casualties) (s : sets.FinSet nat_cmp) where
 
   pub IsSafe-gone : (loss : Loss) → loss ≡ Gone → May dead s loss → IsSafe (record dead { destroyed = sets.union dead.destroyed s; left = sets.difference dead.left s })
   IsSafe-gone loss is m = let both : May dead s Gone = subst (May dead s) is m in record { short = short_back both.0; satisfied = enough_back both.1 }
+
+-- ---- a heal
+second : (b c : Bool) → (not b && c) ≡ true → c ≡ true
+second true c e = absurd (true≢false (sym e))
+second false c e = e
+
+-- a set is short of each policy that a larger one is short of
+short_of_less : ((processes : List Locality) (policy : Tree) (s t : ℕ → Bool) → ((p : ℕ) → s p ≡ true → t p ≡ true) → Sat processes policy s → Sat processes policy t)
+    → (processes : List Locality) (policies : List Tree) (s t : ℕ → Bool) → ((p : ℕ) → s p ≡ true → t p ≡ true) → AreShort processes policies t → AreShort processes policies s
+short_of_less more processes [] s t less short = tt
+short_of_less more processes (q ∷ qs) s t less short = (λ sat. short.0 (more processes q s t less sat), short_of_less more processes qs s t less short.1)
+
+-- a heal keeps a dead book safe
+pub IsSafe-healed : ((processes : List Locality) (policy : Tree) (s t : ℕ → Bool) → ((p : ℕ) → s p ≡ true → t p ≡ true) → Sat processes policy s → Sat processes policy t)
+    → (dead : Casualties) (p : ℕ) → IsSafe dead → IsSafe (healed p dead)
+IsSafe-healed more dead p safe = record {
+  short = short_of_less more dead.processes dead.policies _ _ (λ q there. second (eqb q p) (sets.contains dead.destroyed q) (sym (without q) ∙ there)) safe.short;
+  satisfied = safe.satisfied;
+}
+  where
+    without : (q : ℕ) → sets.contains (sets.remove dead.destroyed p) q ≡ (not (eqb q p) && sets.contains dead.destroyed q)
+    without q = sets.contains-remove nat_cmp_total dead.destroyed p q ∙ ap (λ b. not b && sets.contains dead.destroyed q) (unsigned_tied q p)
 
 -- ---- what a search found
 pub none_found : {X : Type 0} (t : X → Bool) (i : ℕ) (xs : List X) → position_from t i xs ≡ None → AllByRecursion (λ x. t x ≡ false) xs

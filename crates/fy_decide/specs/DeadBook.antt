@@ -1,5 +1,5 @@
 -- what a DeadBook is seen as
-use Rattle.std.specs.Prelude.{◌≡◌, ℕ, Bool, List}
+use Rattle.std.specs.Prelude.{◌≡◌, ℕ, Bool, true, List}
 use Rattle.std.specs.Ordering.{nat_cmp}
 use Rattle.std.specs.FinSet as sets
 use Rattle.fy_locality.specs.declared.locality.Locality.{Locality}
@@ -8,7 +8,7 @@ use Rattle.fy_decide.specs.Losses.{AreShort, AreSatisfied, MayDestroy, may_destr
 use Rattle.fy_decide.specs.declared.dead_book.Loss.{Loss}
 use Rattle.fy_decide.specs.declared.dead_book.Loss.TheVariants.{Emptied, Gone}
 
--- the processes and the policies of a cluster, who was destroyed and who is left
+-- the processes and the policies of a cluster, who is destroyed and who is left
 pub record Casualties : Type 0 where
   pub processes : List Locality
   pub policies : List Tree
@@ -47,3 +47,12 @@ struck dead s Gone = record dead {
   destroyed = sets.union dead.destroyed s;
   left = sets.difference dead.left s;
 }
+
+-- a process may be healed where it is destroyed and still left
+pub record MayHeal (dead : Casualties) (p : ℕ) : Type 0 where
+  pub destroyed : sets.contains dead.destroyed p ≡ true
+  pub left : sets.contains dead.left p ≡ true
+
+-- a dead book once process p is healed: it isn't destroyed any more
+abbrev pub healed : ℕ → Casualties → Casualties
+healed p dead = record dead { destroyed = sets.remove dead.destroyed p }

@@ -1,12 +1,12 @@
-//! Who was destroyed, who is left, and whether more may be destroyed.
+//! Who is destroyed, who is left, and whether more may be destroyed.
 ghost use Rattle.std.specs.Prelude.{◌≡◌, ◌↔◌, ℕ, IsTrue, IfOk, IfErr, Some, None};
 ghost use Rattle.std.specs.FinSet as sets;
 ghost use Rattle.fy_decide.specs.Losses.{AreShort, AreSatisfied, AreMet, all_short, all_satisfied, everyone, first_satisfied, first_short, first_unmet, with_set, without_set};
-ghost use Rattle.fy_decide.specs.DeadBook.{IsFresh, MayLose, may_lose, struck};
+ghost use Rattle.fy_decide.specs.DeadBook.{IsFresh, MayLose, may_lose, struck, MayHeal, healed};
 ghost use Rattle.fy_decide.specs.Verdicts.{targets, loss_of};
 
 use fy_kinds::{Kind, Target};
-use fy_locality::{Map, ProcSet};
+use fy_locality::{Map, ProcId, ProcSet};
 use fy_policy::{Policy, laws, satisfied, try_copy_all};
 use std::alloc::{AllocError, AllocFailed, Global};
 use std::marker::Model;
@@ -239,6 +239,20 @@ impl DeadBook {
             Loss::Emptied => {}
             Loss::Gone => self.left = self.left.difference(set),
         }
+    }
+
+    /// Takes down that a destroyed process has its data again: it isn't destroyed any more. Takes
+    /// no memory.
+    ///
+    /// Asks for a process that is destroyed and not gone.
+    pub fn heal(&mut self, p: ProcId)
+        requires { MayHeal self.old p.0 }
+        ensures { self.new ≡ healed p.0 self.old }
+    {
+        laws::more_satisfies();
+        let destroyed = &mut self.destroyed;
+        destroyed.invariant();
+        destroyed.drop_one(p);
     }
 
     /// The destroyed: they are short of every policy.

@@ -130,15 +130,19 @@ filtered_is_shorter p (m ∷ ms) =
     let rest : length (filter p ms) ≤ length ms = filtered_is_shorter p ms in
     elim (p m) as (λ b. length (cond b (m ∷ filter p ms) (filter p ms)) ≤ suc (length ms)) [ true ↦ omega arith | false ↦ omega arith ]
 
-pub sound_left : (net : Traffic) (number : ℕ) → IsTraffic net → IsTraffic (left_by number net)
-sound_left net number sound = record {
-  rising = rises_filtered _ 0 net.in_flight sound.rising;
-  past = All-filter _ (λ (m : Message). m.number < net.sent) net.in_flight sound.past;
-  known = All-filter _ (λ (m : Message). process_of m.body < length net.until) net.in_flight sound.known;
-  few = omega (arith, sound.few, filtered_is_shorter (λ m. not (eqb m.number number)) net.in_flight);
+-- a network once all messages but those of one kind have left it
+pub sound_filtered : (stays : Message → Bool) (net : Traffic) → IsTraffic net → IsTraffic (record net { in_flight = filter stays net.in_flight })
+sound_filtered stays net sound = record {
+  rising = rises_filtered stays 0 net.in_flight sound.rising;
+  past = All-filter stays (λ (m : Message). m.number < net.sent) net.in_flight sound.past;
+  known = All-filter stays (λ (m : Message). process_of m.body < length net.until) net.in_flight sound.known;
+  few = omega (arith, sound.few, filtered_is_shorter stays net.in_flight);
   countable = sound.countable;
   on_time = sound.on_time;
 }
+
+pub sound_left : (net : Traffic) (number : ℕ) → IsTraffic net → IsTraffic (left_by number net)
+sound_left net number sound = sound_filtered (λ m. not (eqb m.number number)) net sound
 
 pub sound_sent : (net : Traffic) (body : Body) → 0 < net.room → process_of body < length net.until → IsTraffic net → IsTraffic (sent_on body net)
 sound_sent net body room known sound =

@@ -1,5 +1,5 @@
 -- messages in flight, clogs and the clock
-use Rattle.std.specs.Prelude.{ℕ, ◌+◌, ◌-◌, ◌^◌, ◌<◌, ◌≤◌, min, max, Bool, true, not, ◌&&◌, ◌==◌, nat_lt, List, [], ◌∷◌, ◌++◌, length, replicate, find, filter, slice_index, slice_set, Option, Some, None, option_map, if◌then◌else◌, IsTrue, ⊤}
+use Rattle.std.specs.Prelude.{ℕ, ◌+◌, ◌-◌, ◌^◌, ◌<◌, ◌≤◌, min, max, Bool, true, false, not, ◌&&◌, ◌==◌, nat_lt, List, [], ◌∷◌, ◌++◌, length, replicate, find, filter, slice_index, slice_set, Option, Some, None, option_map, if◌then◌else◌, IsTrue, ⊤}
 use Rattle.std.specs.List.{All}
 use Rattle.fy_net.specs.declared.fault.NetFault.{NetFault}
 use Rattle.fy_net.specs.declared.fault.NetFault.TheVariants.{NetFull, NoMessage, Clogged, ClockEnd}
@@ -55,6 +55,16 @@ sent_on body net = record net {
   sent = net.sent + 1;
   room = net.room - 1;
 }
+
+-- whether a process says this: it has synced a record
+abbrev pub is_word_from : ℕ → Body → Bool
+is_word_from p (Store rec to) = false
+is_word_from p (Synced rec from) = from.0 == p
+
+-- the network once every word of process p is taken out of it
+abbrev pub voided : ℕ → Traffic → Traffic
+voided p net =
+    record net { in_flight = filter (λ message. not (is_word_from p message.body)) net.in_flight }
 
 -- ---- clogs
 

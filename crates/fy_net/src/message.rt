@@ -1,6 +1,6 @@
 //! What is sent.
 ghost use Rattle.std.specs.Prelude.{◌≡◌};
-ghost use Rattle.fy_net.specs.Net.{process_of};
+ghost use Rattle.fy_net.specs.Net.{process_of, is_word_from};
 
 use fy_locality::ProcId;
 
@@ -28,6 +28,16 @@ impl Body {
         match self {
             Body::Store { to, .. } => to,
             Body::Synced { from, .. } => from,
+        }
+    }
+
+    /// Whether a process says this.
+    pub(crate) fn is_word_from(self, p: ProcId) -> bool
+        ensures { result ≡ is_word_from p.0 self }
+    {
+        match self {
+            Body::Store { .. } => false,
+            Body::Synced { from, .. } => from.0 == p.0,
         }
     }
 }

@@ -4,7 +4,7 @@ ghost use Rattle.std.specs.List.{All};
 ghost use Rattle.std.specs.FinSet as sets;
 ghost use Rattle.fy_net.specs.declared.fault.NetFault.{NetFault};
 ghost use Rattle.fy_net.specs.declared.fault.NetFault.TheVariants.{NoMemory};
-ghost use Rattle.fy_net.specs.Net.{quiet, process_of, body_of, left_by, sent_on, is_clogged, clogged_for, unclogged, is_free, first_free_of, reserve_refusal, take_refusal, lose_refusal, advance_refusal, NoneFreeBelow, IsTraffic};
+ghost use Rattle.fy_net.specs.Net.{quiet, process_of, body_of, left_by, sent_on, voided, is_clogged, clogged_for, unclogged, is_free, first_free_of, reserve_refusal, take_refusal, lose_refusal, advance_refusal, NoneFreeBelow, IsTraffic};
 
 use crate::limits::{LAST_TICK, MOST_IN_FLIGHT};
 use crate::places::{first_free_among, lasts, place_of};
@@ -143,6 +143,15 @@ impl Net {
         };
         self.messages.remove(place);
         Ok(())
+    }
+
+    /// Takes every word of a process out of the network, clogged or not, and forgets it. What goes
+    /// to the process stays. Takes no memory.
+    pub fn void(&mut self, p: ProcId)
+        ensures { self.new ≡ voided p.0 self.old }
+    {
+        self.messages
+            .retain(|message| !message.body.is_word_from(p));
     }
 
     /// Clogs a process for some ticks from now on, at most up to the clock's end. A longer clog

@@ -95,6 +95,42 @@ fn a_message_is_lost_clogged_or_not(rt: HostRuntime) -> Result<(), Fail> {
 }
 
 #[test]
+fn the_words_of_one_process_are_taken_out(rt: HostRuntime) -> Result<(), Fail> {
+    let mut net = Net::make(rt.alloc(), 2)?;
+    net.reserve(6)?;
+    let store = Body::Store { rec: 0, to: P0 };
+    let word = Body::Synced { rec: 0, from: P0 };
+    let other_store = Body::Store { rec: 1, to: P1 };
+    let other_word = Body::Synced { rec: 1, from: P1 };
+    assert_eq!(rt; (net.send(word), net.send(store)), (0, 1));
+    assert_eq!(rt; (net.send(other_word), net.send(word)), (2, 3));
+    assert_eq!(rt; (net.send(other_store), net.send(word)), (4, 5));
+    net.clog(P0, 5);
+    net.void(P0);
+    net.void(ProcId(5000));
+    net.void(P0);
+    assert_eq!(rt;
+        (net.body(0), net.body(1), net.body(2)),
+        (None, Some(store), Some(other_word))
+    );
+    assert_eq!(rt;
+        (net.body(3), net.body(4), net.body(5)),
+        (None, Some(other_store), None)
+    );
+    assert_eq!(rt; (net.sent(), net.clogged(P0)), (6, true));
+    assert_eq!(rt; net.first_free(&ProcSet::empty()), Some(2));
+    assert_eq!(rt; net.reserve(65_534), Err(NetFault::NetFull));
+    assert_eq!(rt; net.reserve(65_533), Ok(()));
+    assert_eq!(rt;
+        (net.take(2), net.take(4)),
+        (Ok(other_word), Ok(other_store))
+    );
+    net.void(P1);
+    assert_eq!(rt; net.body(1), Some(store));
+    Ok(())
+}
+
+#[test]
 fn the_first_free_message_is_found(rt: HostRuntime) -> Result<(), Fail> {
     let mut net = Net::make(rt.alloc(), 2)?;
     net.reserve(3)?;

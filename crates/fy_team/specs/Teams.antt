@@ -1,5 +1,5 @@
 -- teams, the records that were begun for them, and who has marked each
-use Rattle.std.specs.Prelude.{◌≡◌, ℕ, ◌<◌, ◌≤◌, Bool, true, false, ◌==◌, nat_le, nat_lt, List, [], ◌∷◌, ◌++◌, length, slice_get, slice_set, Option, Some, None, option_map, if◌then◌else◌}
+use Rattle.std.specs.Prelude.{◌≡◌, ℕ, ◌<◌, ◌≤◌, Bool, true, false, ◌||◌, ◌==◌, not, nat_le, nat_lt, List, [], ◌∷◌, ◌++◌, length, map, filter, slice_get, slice_set, Option, Some, None, option_map, if◌then◌else◌}
 use Rattle.std.specs.List.{All, AllByRecursion, AllPairs, list_all, list_any}
 use Rattle.std.specs.Option.{option_map_or}
 use Rattle.std.specs.Ordering.{nat_cmp}
@@ -17,11 +17,13 @@ pub record Team : Type 0 where
   pub members : List ProcId
   pub policy : ℕ
 
--- a record: the number of its team, what it holds, and the processes that have marked it
+-- a record: the number of its team, what it holds, the processes that have marked it, and whether
+-- it is acknowledged
 pub record Record : Type 0 where
   pub team : ℕ
   pub payload : List ℕ
   pub marks : sets.FinSet nat_cmp
+  pub acked : Bool
 
 -- the teams and the records, each by its number
 pub record Roster : Type 0 where
@@ -42,6 +44,13 @@ pub record AreMembers (ps : List ProcId) : Type 0 where
 -- whether the process with a number is one of these
 abbrev pub is_among : List ProcId → ℕ → Bool
 is_among ps q = list_any (λ p. p.0 == q) ps
+
+-- the members once `into` stands for `out`: the others stay, those below `into` before it and those
+-- above behind it
+abbrev pub swapped : ProcId → ProcId → List ProcId → List ProcId
+swapped out into members =
+    let staying = filter (λ p. not (p.0 == out.0)) members in
+    filter (λ p. nat_lt p.0 into.0) staying ++ into ∷ filter (λ p. nat_lt into.0 p.0) staying
 
 -- ---- teams
 
@@ -81,6 +90,38 @@ formed_of members policy roster =
 abbrev pub members_in : Roster → ℕ → Option (List ProcId)
 members_in roster team = option_map (λ it. it.members) (slice_get roster.teams team)
 
+-- the number of the policy that the team with a number names
+abbrev pub policy_in : Roster → ℕ → Option ℕ
+policy_in roster team = option_map (λ it. it.policy) (slice_get roster.teams team)
+
+-- a team once `into` stands for `out` in it
+abbrev pub with_member : ProcId → ProcId → Team → Team
+with_member out into team = record team { members = swapped out into team.members }
+
+-- the teams once `into` stands for `out` in one that is there
+abbrev pub replaced : ℕ → ProcId → ProcId → Roster → Roster
+replaced team out into roster = record roster {
+  teams = option_map_or
+      (λ it. slice_set roster.teams team (with_member out into it))
+      (slice_get roster.teams team)
+      roster.teams;
+}
+
+-- the team is there, `out` is a member, `into` a process that isn't one, and with `into` for `out`
+-- the members satisfy the policy that the team names
+pub record MayReplace (processes : List Locality) (policies : List Tree) (roster : Roster)
+    (team : ℕ) (out into : ProcId) : Type 0 where
+  pub members : List ProcId
+  pub policy : ℕ
+  pub need : Tree
+  pub there : members_in roster team ≡ Some members
+  pub names : policy_in roster team ≡ Some policy
+  pub named : slice_get policies policy ≡ Some need
+  pub member : is_among members out.0 ≡ true
+  pub stranger : is_among members into.0 ≡ false
+  pub known : into.0 < length processes
+  pub satisfied : Sat processes need (is_among (swapped out into members))
+
 -- ---- records
 
 -- the number of a record's team
@@ -91,9 +132,10 @@ team_number roster rec = option_map (λ it. it.team) (slice_get roster.records r
 abbrev pub payload_in : Roster → ℕ → Option (List ℕ)
 payload_in roster rec = option_map (λ it. it.payload) (slice_get roster.records rec)
 
--- a record as it is begun
+-- a record as it is begun: nobody has marked it, and it isn't acknowledged
 abbrev pub unmarked : ℕ → List ℕ → Record
-unmarked team payload = record { team = team; payload = payload; marks = sets.empty }
+unmarked team payload =
+    record { team = team; payload = payload; marks = sets.empty; acked = false }
 
 -- why a record isn't begun, in order
 abbrev pub begin_refusal : Roster → ℕ → List ℕ → Option TeamFault
@@ -107,35 +149,47 @@ abbrev pub begun_for : ℕ → List ℕ → Roster → Roster
 begun_for team payload roster =
     record roster { records = roster.records ++ unmarked team payload ∷ [] }
 
--- a record once process p has marked it
-abbrev pub with_mark : ℕ → Record → Record
-with_mark p it = record it { marks = sets.insert it.marks p }
+-- whether each of these members is among the marks
+abbrev pub all_marked : sets.FinSet nat_cmp → List ProcId → Bool
+all_marked marks members = list_all (λ p. sets.contains marks p.0) members
+
+-- whether the team with a number is there and each of its members is among the marks
+abbrev pub is_complete : Roster → ℕ → sets.FinSet nat_cmp → Bool
+is_complete roster team marks = option_map_or (all_marked marks) (members_in roster team) false
+
+-- a record once process p has marked it: acknowledged where it was, and where each member of its
+-- team has marked it by then
+abbrev pub with_mark : Roster → ℕ → Record → Record
+with_mark roster p it =
+    let marks = sets.insert it.marks p in
+    record it { marks = marks; acked = it.acked || is_complete roster it.team marks }
 
 -- the records once process p has marked one that is there
 abbrev pub marked_by : ℕ → ℕ → Roster → Roster
 marked_by rec p roster = option_map_or
-    (λ it. record roster { records = slice_set roster.records rec (with_mark p it) })
+    (λ it. record roster { records = slice_set roster.records rec (with_mark roster p it) })
     (slice_get roster.records rec)
     roster
+
+-- a record once process p is healed: without its mark, but where it is acknowledged
+abbrev pub unless_acked : ℕ → Record → Record
+unless_acked p it = if it.acked then it else record it { marks = sets.remove it.marks p }
+
+-- the records once process p is healed
+abbrev pub healed : ℕ → Roster → Roster
+healed p roster = record roster { records = map (unless_acked p) roster.records }
 
 -- whether there is such a record and process p has marked it
 abbrev pub is_marked : Roster → ℕ → ℕ → Bool
 is_marked roster rec p =
     option_map_or (λ it. sets.contains it.marks p) (slice_get roster.records rec) false
 
--- whether each of these members is among the marks
-abbrev pub all_marked : sets.FinSet nat_cmp → List ProcId → Bool
-all_marked marks members = list_all (λ p. sets.contains marks p.0) members
-
--- whether there is such a record and each member of its team has marked it
+-- whether there is such a record and it is acknowledged
 abbrev pub is_acked : Roster → ℕ → Bool
-is_acked roster rec = option_map_or
-    (λ it. option_map_or (all_marked it.marks) (members_in roster it.team) false)
-    (slice_get roster.records rec)
-    false
+is_acked roster rec = option_map_or (λ it. it.acked) (slice_get roster.records rec) false
 
 -- there is such a record, of a team that is there, and each member of the team has marked it
-pub record IsAcked (roster : Roster) (rec : ℕ) : Type 0 where
+pub record IsMarkedByAll (roster : Roster) (rec : ℕ) : Type 0 where
   pub held : Record
   pub there : slice_get roster.records rec ≡ Some held
   pub members : List ProcId

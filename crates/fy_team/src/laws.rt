@@ -1,5 +1,5 @@
 //! Laws of teams, for the crates above.
-ghost use Rattle.fy_team.specs.Standing.{FitIsFormed, AckedIsMarkedByAll, AckedByMarks, MarkLeavesTeams, MarkIsOneMore, MarkTwice, BegunUnmarked};
+ghost use Rattle.fy_team.specs.Standing.{FitIsFormed, SwappedMembers, ReplacedMembers, ReplacedPolicies, MarkAcknowledges, AckedByMark, AckedStays, MarkLeavesTeams, MarkIsOneMore, MarkTwice, BegunUnmarked, BegunUnacked, HealedMarks, HealedAcked, HealedTeams, HealedPayloads};
 
 /// Members against whom nothing speaks satisfy the policy that the team names.
 pub fn fit_is_formed()
@@ -8,22 +8,41 @@ pub fn fit_is_formed()
     fy_policy::laws::test_is_satisfaction();
 }
 
-/// The test of acknowledgement is the relation: each member of the record's team has marked it. By
-/// its members' marks, the test is that of each of them.
-pub fn acked_is_marked_by_all()
-    ensures relation { AckedIsMarkedByAll }
-    ensures marks { AckedByMarks }
+/// A replacement changes one team: one process isn't a member any more, and another is. Each team
+/// names the policy that it named.
+pub fn a_replacement_changes_one_team()
+    ensures among { SwappedMembers }
+    ensures members { ReplacedMembers }
+    ensures policies { ReplacedPolicies }
+{}
+
+/// A record is acknowledged from the first mark after which each member of its team has marked it,
+/// and stays so at each mark.
+pub fn a_mark_acknowledges()
+    ensures relation { MarkAcknowledges }
+    ensures marks { AckedByMark }
+    ensures stays { AckedStays }
 {}
 
 /// A mark leaves the teams, adds one process to the marks of one record, and changes nothing where
-/// it is there already.
+/// it is there already and the record is acknowledged.
 pub fn a_mark_is_one_more()
     ensures teams { MarkLeavesTeams }
     ensures marks { MarkIsOneMore }
     ensures repeat { MarkTwice }
 {}
 
-/// A record that was just begun has no mark, and the others keep theirs.
+/// A record that was just begun has no mark and isn't acknowledged, and the others keep theirs.
 pub fn a_record_begins_unmarked()
-    ensures { BegunUnmarked }
+    ensures marks { BegunUnmarked }
+    ensures acked { BegunUnacked }
+{}
+
+/// A heal takes one process's marks off each record that isn't acknowledged, and leaves each record
+/// acknowledged or not, with its team and what it holds.
+pub fn a_heal_takes_marks_off()
+    ensures marks { HealedMarks }
+    ensures acked { HealedAcked }
+    ensures teams { HealedTeams }
+    ensures payloads { HealedPayloads }
 {}

@@ -1,7 +1,7 @@
 //! The members of a team.
-ghost use Rattle.std.specs.Prelude.{◌≡◌, ◌↔◌, ◌<◌, IfOk, IfErr, IsOk, IsTrue};
+ghost use Rattle.std.specs.Prelude.{◌≡◌, ◌↔◌, ◌<◌, true, false, IfOk, IfErr, IsOk, IsTrue};
 ghost use Rattle.std.specs.List.{AllPairs};
-ghost use Rattle.fy_team.specs.Teams.{AreMembers, is_among};
+ghost use Rattle.fy_team.specs.Teams.{AreMembers, is_among, swapped};
 ghost use Rattle.fy_team.specs.declared.fault.MembersFault.TheVariants.{NoMemory};
 
 use crate::MembersFault;
@@ -10,7 +10,7 @@ use fy_locality::ProcId;
 use std::alloc::{AllocError, Global};
 use std::marker::Model;
 
-/// Processes by rising number, at most 1024 of them. They never change.
+/// Processes by rising number, at most 1024 of them.
 #[derive(Drop)]
 pub struct Members {
     processes: Vec<ProcId>,
@@ -84,6 +84,20 @@ impl Members {
         ensures { result ≡ is_among self.now p.0 }
     {
         self.processes.iter().any(|member| member.0 == p.0)
+    }
+
+    /// Lets a process stand for a member, in its place by number. Takes no memory.
+    ///
+    /// Asks for a member, and a process that isn't one.
+    pub fn replace(&mut self, out: ProcId, into: ProcId)
+        requires member { is_among self.old out.0 ≡ true }
+        requires stranger { is_among self.old into.0 ≡ false }
+        ensures { self.new ≡ swapped out into self.old }
+    {
+        self.processes.retain(|member| member.0 != out.0);
+        let place = self.processes.partition_point(|member| member.0 < into.0);
+        // The one that left made room.
+        let _ = self.processes.insert(place, into);
     }
 
     /// Equal members in memory of their own.

@@ -1,18 +1,20 @@
 //! A record as it is kept.
-ghost use Rattle.std.specs.Prelude.{◌≡◌, ◌<◌, false, replicate, IfOk};
+ghost use Rattle.std.specs.Prelude.{◌≡◌, ◌<◌, ◌||◌, false, replicate, IfOk};
 ghost use Rattle.std.specs.FinSet as sets;
-ghost use Rattle.fy_team.specs.Teams.{unmarked, all_marked};
+ghost use Rattle.fy_team.specs.Teams.{unmarked, all_marked, unless_acked};
 
 use fy_disk::Payload;
 use fy_locality::{MOST_PROCESSES, ProcId};
 use std::alloc::{AllocError, Global};
 use std::marker::Model;
 
-/// The number of its team, its payload, and for each process whether it has marked the record.
+/// The number of its team, its payload, for each process whether it has marked the record, and
+/// whether it is acknowledged.
 pub(crate) struct KeptRecord {
     team: u32,
     payload: Payload,
     marks: Vec<bool>,
+    acked: bool,
 }
 
 impl Model for KeptRecord {
@@ -31,6 +33,7 @@ impl Model for KeptRecord {
       team = r.team;
       payload = r.payload;
       marks = set_of r.marks.items;
+      acked = r.acked;
     } };
 
     ghost use Rattle.fy_locality.specs.declared.TheConstants.{MOST_PROCESSES};
@@ -45,12 +48,13 @@ impl Drop for KeptRecord {
             team: _,
             payload: _,
             marks: _,
+            acked: _,
         } = self;
     }
 }
 
 impl KeptRecord {
-    /// A record without marks, and with the room for all of them.
+    /// A record without marks, not acknowledged, and with the room for all marks.
     pub(crate) fn make(alloc: Global, team: u32, payload: Payload) -> Result<KeptRecord, AllocError>
         ensures { IfOk result (λ made. made ≡ unmarked team payload) }
     {
@@ -59,6 +63,7 @@ impl KeptRecord {
             team,
             payload,
             marks,
+            acked: false,
         })
     }
 
@@ -76,12 +81,36 @@ impl KeptRecord {
         &self.payload
     }
 
-    /// Takes down that a process has marked it.
-    pub(crate) fn mark(&mut self, p: ProcId)
+    /// Takes down that a process has marked it. Where each of these members has marked it by then,
+    /// it is acknowledged from now on.
+    pub(crate) fn mark(&mut self, p: ProcId, members: &[ProcId])
         requires { p.0 < MOST_PROCESSES }
-        ensures { self.new ≡ record self.old { marks = sets.insert self.old.marks p.0 } }
+        ensures { let marks = sets.insert self.old.marks p.0 in
+            self.new ≡ record self.old {
+              marks = marks;
+              acked = self.old.acked || all_marked marks members.now;
+            } }
     {
         self.marks[p.0 as usize] = true;
+        if !self.acked {
+            self.acked = self.has_all_marks(members);
+        }
+    }
+
+    /// Takes a process's mark off, but where the record is acknowledged.
+    pub(crate) fn heal(&mut self, p: ProcId)
+        ensures { self.new ≡ unless_acked p.0 self.old }
+    {
+        if !self.acked && p.0 < MOST_PROCESSES {
+            self.marks[p.0 as usize] = false;
+        }
+    }
+
+    /// Whether it is acknowledged.
+    pub(crate) fn acked(&self) -> bool
+        ensures { result ≡ self.now.acked }
+    {
+        self.acked
     }
 
     /// Whether a process has marked it.
@@ -95,7 +124,7 @@ impl KeptRecord {
     }
 
     /// Whether each of these processes has marked it.
-    pub(crate) fn has_all_marks(&self, members: &[ProcId]) -> bool
+    fn has_all_marks(&self, members: &[ProcId]) -> bool
         ensures { result ≡ all_marked self.now.marks members.now }
     {
         members.iter().all(|p| self.has_mark(*p))

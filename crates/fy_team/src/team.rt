@@ -1,5 +1,9 @@
 //! A team as it is kept.
+ghost use Rattle.std.specs.Prelude.{◌≡◌, true, false};
+ghost use Rattle.fy_team.specs.Teams.{is_among, with_member};
+
 use crate::Members;
+use fy_locality::ProcId;
 use std::marker::Model;
 
 /// Its members, and the number of its policy.
@@ -23,5 +27,16 @@ impl Drop for KeptTeam {
             members: _,
             policy: _,
         } = self;
+    }
+}
+
+impl KeptTeam {
+    /// Lets a process stand for a member.
+    pub(crate) fn replace(&mut self, out: ProcId, into: ProcId)
+        requires member { is_among self.old.members out.0 ≡ true }
+        requires stranger { is_among self.old.members into.0 ≡ false }
+        ensures { self.new ≡ with_member out into self.old }
+    {
+        self.members.replace(out, into);
     }
 }

@@ -1,7 +1,7 @@
 //! The teams and their records.
-ghost use Rattle.std.specs.Prelude.{◌≡◌, ◌↔◌, ◌<◌, ℕ, false, Some, None, length, slice_get, option_map, IfOk, IfErr, IsOk, OnOk, OnErr, IsTrue};
-ghost use Rattle.std.specs.Option.{option_copied, option_map_or};
-ghost use Rattle.fy_team.specs.Teams.{nobody, all_marked, IsFormed, AreFormed, unfit, form_refusal, formed_of, team_number, members_in, payload_in, begin_refusal, begun_for, marked_by, is_marked, is_acked, IsAcked, IsRoster};
+ghost use Rattle.std.specs.Prelude.{◌≡◌, ◌<◌, Some, None, length, slice_get, IfOk, IfErr, IsOk, OnOk, OnErr};
+ghost use Rattle.std.specs.Option.{option_copied};
+ghost use Rattle.fy_team.specs.Teams.{nobody, IsFormed, AreFormed, unfit, form_refusal, formed_of, team_number, members_in, policy_in, payload_in, begin_refusal, begun_for, marked_by, is_marked, is_acked, replaced, MayReplace, healed, IsRoster};
 ghost use Rattle.fy_team.specs.declared.fault.TeamFault.{TeamFault};
 ghost use Rattle.fy_team.specs.declared.fault.TeamFault.TheVariants.{NoMemory};
 
@@ -152,8 +152,8 @@ impl Teams {
     }
 
     /// Takes down that a process, member of the team or not, has marked a record, and answers
-    /// whether the record is acknowledged now. A mark that is there already changes nothing. Takes
-    /// no memory.
+    /// whether the record is acknowledged now: it was already, or each member of its team has
+    /// marked it. Takes no memory.
     ///
     /// Asks for a record that is there, and a process number below 1024.
     pub fn mark(&mut self, rec: u32, p: ProcId) -> bool
@@ -162,31 +162,44 @@ impl Teams {
         ensures acked { result ≡ is_acked self.new rec }
         ensures marked { self.new ≡ marked_by rec p.0 self.old }
     {
-        self.records[rec as usize].mark(p);
-        self.acked(rec)
+        let record = &mut self.records[rec as usize];
+        let team = &self.teams[record.team() as usize];
+        record.mark(p, team.members.as_slice());
+        record.acked()
     }
 
-    /// Whether there is such a record and it is acknowledged: each member of its team has marked
-    /// it.
+    /// Whether there is such a record and it is acknowledged: at some mark each member of its team
+    /// had marked it.
     pub fn acked(&self, rec: u32) -> bool
-        ensures relation { IsTrue result ↔ IsAcked self.now rec }
-        ensures test { result ≡ is_acked self.now rec }
+        ensures { result ≡ is_acked self.now rec }
     {
-        laws::acked_is_marked_by_all();
         match self.record(rec) {
-            Some(record) => self.is_complete(record),
+            Some(record) => record.acked(),
             None => false,
         }
     }
 
-    /// Whether each member of a record's team has marked the record.
-    fn is_complete(&self, kept: &KeptRecord) -> bool
-        ensures { result
-            ≡ option_map_or (all_marked kept.now.marks) (members_in self.now kept.now.team) false }
+    /// Lets a process stand for a member of a team from now on. Marks stay, and no record is
+    /// acknowledged by it. Takes no memory.
+    ///
+    /// Asks for a team that is there, a member of it and a process of the map that isn't one, so
+    /// that the team satisfies its policy with the one for the other. The map and the policies are
+    /// those by which the caller knows it.
+    pub fn replace(&mut self, map: &Map, policies: &[Policy], team: u32, out: ProcId, into: ProcId)
+        requires { MayReplace map.now policies.now self.old team out into }
+        ensures replaced { self.new ≡ replaced team out into self.old }
+        ensures kept { AreFormed map.now policies.now self.old.teams →
+            AreFormed map.now policies.now self.new.teams }
     {
-        match self.members(kept.team()) {
-            Some(members) => kept.has_all_marks(members.as_slice()),
-            None => false,
+        self.teams[team as usize].replace(out, into);
+    }
+
+    /// Takes a process's mark off each record that isn't acknowledged. Takes no memory.
+    pub fn heal(&mut self, p: ProcId)
+        ensures { self.new ≡ healed p.0 self.old }
+    {
+        for rec in 0..self.records.len() {
+            self.records[rec].heal(p);
         }
     }
 
@@ -216,6 +229,13 @@ impl Teams {
         }
     }
 
+    /// How many records there are.
+    pub fn record_count(&self) -> u32
+        ensures { result ≡ length self.now.records }
+    {
+        self.records.len() as u32
+    }
+
     /// The members of a team, where there is such a team.
     pub fn members(&self, team: u32) -> Option<&Members>
         ensures { option_copied result ≡ members_in self.now team }
@@ -224,6 +244,14 @@ impl Teams {
             Some(team) => Some(&team.members),
             None => None,
         }
+    }
+
+    /// The number of the policy that a team names, where there is such a team.
+    pub fn policy_of(&self, team: u32) -> Option<u32>
+        ensures { result ≡ policy_in self.now team }
+    {
+        let team = self.teams.get(team as usize)?;
+        Some(team.policy)
     }
 
     /// What a record holds, where there is such a record.

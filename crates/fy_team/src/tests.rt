@@ -1,4 +1,6 @@
 use super::*;
+use crate::forming::unfit;
+use crate::team::KeptTeam;
 use fy_disk::Payload;
 use fy_locality::{Map, ProcId, ProcSet};
 use fy_policy::{Policy, read_policy};
@@ -10,6 +12,10 @@ const P0: ProcId = ProcId(0);
 const P1: ProcId = ProcId(1);
 
 const P2: ProcId = ProcId(2);
+
+const P3: ProcId = ProcId(3);
+
+const P5: ProcId = ProcId(5);
 
 const P9: ProcId = ProcId(9);
 
@@ -94,6 +100,35 @@ fn mark(teams: &mut Teams, rec: u32, p: ProcId) -> Option<bool> {
     Some(teams.mark(rec, p))
 }
 
+/// Lets a process stand for a member of a team that is there where it may, and says whether it
+/// does.
+fn replace(
+    cluster: &mut Setting,
+    alloc: Global,
+    team: u32,
+    out: ProcId,
+    into: ProcId,
+) -> Option<bool> {
+    let Setting {
+        map,
+        policies,
+        gone,
+        teams,
+    } = cluster;
+    let policy = teams.policy_of(team)?;
+    let mut members = teams.members(team)?.try_copy(alloc).ok()?;
+    if !members.has(out) || members.has(into) || into.0 >= map.len() {
+        return Some(false);
+    }
+    members.replace(out, into);
+    laws::fit_is_formed();
+    if unfit(map, policies, gone, &KeptTeam { members, policy }).is_some() {
+        return Some(false);
+    }
+    teams.replace(map, policies, team, out, into);
+    Some(true)
+}
+
 fn members_are(teams: &Teams, team: u32, wanted: &[ProcId]) -> bool {
     match teams.members(team) {
         Some(members) => members.as_slice() == wanted,
@@ -139,7 +174,7 @@ fn a_record_is_acknowledged_by_each_member(rt: HostRuntime) -> Result<(), Fail> 
 fn what_is_not_there_has_no_answer(rt: HostRuntime) -> Result<(), Fail> {
     let teams = Teams::make(rt.alloc());
     assert_eq!(rt; (teams.acked(0), teams.marked(0, P0)), (false, false));
-    assert_eq!(rt; teams.team_number(0), None);
+    assert_eq!(rt; (teams.record_count(), teams.team_number(0)), (0, None));
     assert!(rt; teams.members(0).is_none() && teams.payload(0).is_none());
     Ok(())
 }
@@ -153,6 +188,8 @@ fn a_mark_of_a_stranger_acknowledges_nothing(rt: HostRuntime) -> Result<(), Fail
     let teams = &mut cluster.teams;
     assert_eq!(rt; begin(teams, alloc, 1, b""), Some(Ok(0)));
     assert_eq!(rt; begin(teams, alloc, 0, b"x"), Some(Ok(1)));
+    assert_eq!(rt; begin(teams, alloc, 0, b"y"), Some(Ok(2)));
+    assert_eq!(rt; teams.record_count(), 3);
     assert_eq!(rt; mark(teams, 0, P0), Some(false));
     assert_eq!(rt; mark(teams, 0, ProcId(1023)), Some(false));
     assert_eq!(rt; mark(teams, 0, P2), Some(false));
@@ -164,6 +201,117 @@ fn a_mark_of_a_stranger_acknowledges_nothing(rt: HostRuntime) -> Result<(), Fail
     assert_eq!(rt;
         (teams.team_number(0), teams.team_number(1)),
         (Some(1), Some(0))
+    );
+    Ok(())
+}
+
+#[test]
+fn a_process_stands_for_a_member(rt: HostRuntime) -> Result<(), Fail> {
+    let alloc = rt.alloc();
+    let mut cluster = cluster(alloc).ok_or("no cluster")?;
+    assert_eq!(rt; form(&mut cluster, alloc, &[P0, P2], 0), Some(Ok(0)));
+    for (out, into) in [(P0, P2), (P0, P3), (P5, P1), (P0, P9)] {
+        assert_eq!(rt; replace(&mut cluster, alloc, 0, out, into), Some(false));
+        assert!(rt; members_are(&cluster.teams, 0, &[P0, P2]));
+    }
+    assert_eq!(rt; replace(&mut cluster, alloc, 1, P0, P1), None);
+    assert_eq!(rt; replace(&mut cluster, alloc, 0, P0, P1), Some(true));
+    assert!(rt; members_are(&cluster.teams, 0, &[P1, P2]));
+    assert_eq!(rt; replace(&mut cluster, alloc, 0, P1, P5), Some(true));
+    assert!(rt; members_are(&cluster.teams, 0, &[P2, P5]));
+    assert_eq!(rt; replace(&mut cluster, alloc, 0, P5, P0), Some(true));
+    assert!(rt; members_are(&cluster.teams, 0, &[P0, P2]));
+    Ok(())
+}
+
+#[test]
+fn a_replacement_acknowledges_nothing(rt: HostRuntime) -> Result<(), Fail> {
+    let alloc = rt.alloc();
+    let mut cluster = cluster(alloc).ok_or("no cluster")?;
+    assert_eq!(rt; form(&mut cluster, alloc, &[P0, P2], 0), Some(Ok(0)));
+    assert_eq!(rt; begin(&mut cluster.teams, alloc, 0, b"hi"), Some(Ok(0)));
+    assert_eq!(rt; mark(&mut cluster.teams, 0, P1), Some(false));
+    assert_eq!(rt; mark(&mut cluster.teams, 0, P2), Some(false));
+    assert_eq!(rt; replace(&mut cluster, alloc, 0, P0, P1), Some(true));
+    assert_eq!(rt; cluster.teams.acked(0), false);
+    assert_eq!(rt; mark(&mut cluster.teams, 0, P2), Some(true));
+    assert_eq!(rt; replace(&mut cluster, alloc, 0, P1, P0), Some(true));
+    assert_eq!(rt;
+        (cluster.teams.acked(0), cluster.teams.marked(0, P0)),
+        (true, false)
+    );
+    assert_eq!(rt; mark(&mut cluster.teams, 0, P5), Some(true));
+    assert_eq!(rt; cluster.teams.marked(0, P1), true);
+    Ok(())
+}
+
+#[test]
+fn a_heal_takes_marks_off(rt: HostRuntime) -> Result<(), Fail> {
+    let alloc = rt.alloc();
+    let mut cluster = cluster(alloc).ok_or("no cluster")?;
+    assert_eq!(rt; form(&mut cluster, alloc, &[P0, P2], 0), Some(Ok(0)));
+    assert_eq!(rt; form(&mut cluster, alloc, &[P1, P2], 0), Some(Ok(1)));
+    let teams = &mut cluster.teams;
+    assert_eq!(rt; begin(teams, alloc, 0, b"a"), Some(Ok(0)));
+    assert_eq!(rt; begin(teams, alloc, 1, b"b"), Some(Ok(1)));
+    assert_eq!(rt; begin(teams, alloc, 0, b"c"), Some(Ok(2)));
+    assert_eq!(rt;
+        (mark(teams, 0, P0), mark(teams, 1, P0)),
+        (Some(false), Some(false))
+    );
+    assert_eq!(rt;
+        (mark(teams, 2, P0), mark(teams, 2, P2)),
+        (Some(false), Some(true))
+    );
+    assert_eq!(rt; mark(teams, 1, P2), Some(false));
+    teams.heal(P5);
+    teams.heal(ProcId(5000));
+    assert_eq!(rt;
+        (
+            teams.marked(0, P0),
+            teams.marked(1, P0),
+            teams.marked(2, P0)
+        ),
+        (true, true, true)
+    );
+    teams.heal(P0);
+    assert_eq!(rt;
+        (
+            teams.marked(0, P0),
+            teams.marked(1, P0),
+            teams.marked(2, P0)
+        ),
+        (false, false, true)
+    );
+    assert_eq!(rt;
+        (teams.acked(0), teams.acked(1), teams.acked(2)),
+        (false, false, true)
+    );
+    assert_eq!(rt;
+        (teams.marked(1, P2), mark(teams, 1, P1)),
+        (true, Some(true))
+    );
+    assert_eq!(rt;
+        (mark(teams, 0, P2), mark(teams, 0, P0)),
+        (Some(false), Some(true))
+    );
+    assert!(rt; members_are(teams, 0, &[P0, P2]) && payload_is(teams, 0, b"a"));
+    Ok(())
+}
+
+#[test]
+fn a_team_names_its_policy(rt: HostRuntime) -> Result<(), Fail> {
+    let alloc = rt.alloc();
+    let mut cluster = cluster(alloc).ok_or("no cluster")?;
+    cluster.policies.push(read_policy(alloc, "One()")?)?;
+    assert_eq!(rt; form(&mut cluster, alloc, &[P0, P2], 0), Some(Ok(0)));
+    assert_eq!(rt; form(&mut cluster, alloc, &[P3], 1), Some(Ok(1)));
+    assert_eq!(rt; replace(&mut cluster, alloc, 1, P3, P0), Some(true));
+    assert!(rt; members_are(&cluster.teams, 1, &[P0]) && members_are(&cluster.teams, 0, &[P0, P2]));
+    let teams = &cluster.teams;
+    assert_eq!(rt;
+        (teams.policy_of(0), teams.policy_of(1), teams.policy_of(2)),
+        (Some(0), Some(1), None)
     );
     Ok(())
 }
@@ -252,6 +400,67 @@ fn members_rise_and_are_few(rt: HostRuntime) -> Result<(), Fail> {
         );
     }
     Ok(())
+}
+
+/// The members once one process stands for another that is one, where it isn't.
+fn replaced(alloc: Global, members: &[ProcId], out: ProcId, into: ProcId) -> Option<Vec<ProcId>> {
+    let mut members = Members::make(alloc, members).ok()?;
+    if !members.has(out) || members.has(into) {
+        return None;
+    }
+    members.replace(out, into);
+    Some(members.into_vec())
+}
+
+fn replaced_are(
+    alloc: Global,
+    members: &[ProcId],
+    out: ProcId,
+    into: ProcId,
+    wanted: &[ProcId],
+) -> bool {
+    match replaced(alloc, members, out, into) {
+        Some(members) => members.as_slice() == wanted,
+        None => false,
+    }
+}
+
+#[test]
+fn replaced_members_rise(rt: HostRuntime) {
+    let alloc = rt.alloc();
+    let last = ProcId(u32::MAX);
+    for (out, into, wanted) in [
+        (P1, P0, &[P0, P3, P5][..]),
+        (P1, P2, &[P2, P3, P5][..]),
+        (P1, ProcId(4), &[P3, ProcId(4), P5][..]),
+        (P1, P9, &[P3, P5, P9][..]),
+        (P3, P0, &[P0, P1, P5][..]),
+        (P3, P2, &[P1, P2, P5][..]),
+        (P3, last, &[P1, P5, last][..]),
+        (P5, P0, &[P0, P1, P3][..]),
+        (P5, P2, &[P1, P2, P3][..]),
+        (P5, last, &[P1, P3, last][..]),
+    ] {
+        assert!(rt; replaced_are(alloc, &[P1, P3, P5], out, into, wanted));
+    }
+    assert!(rt; replaced_are(alloc, &[P9], P9, P0, &[P0]));
+}
+
+/// Whether of 1,025 processes the first 1,024 are members, and become the last 1,024 and then the
+/// first once more.
+fn most_are_replaced(alloc: Global) -> Option<bool> {
+    let all = first(alloc, 1025)?;
+    let (lower, higher) = (all.get(..1024)?, all.get(1..)?);
+    let last = ProcId(1024);
+    Some(
+        replaced_are(alloc, lower, P0, last, higher)
+            && replaced_are(alloc, higher, last, P0, lower),
+    )
+}
+
+#[test]
+fn of_1024_members_each_may_be_replaced(rt: HostRuntime) {
+    assert_eq!(rt; most_are_replaced(rt.alloc()), Some(true));
 }
 
 #[test]

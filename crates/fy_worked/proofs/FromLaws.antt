@@ -8,10 +8,13 @@ use Rattle.fy_decide.specs.Verdicts.{verdict}
 use Rattle.fy_audit.specs.declared.reply.Reply.TheVariants.{Verdict as Verdicted}
 use Rattle.std.specs.Prelude.{ℕ, List, map, IsTrue, is_some}
 use Rattle.fy_audit.specs.declared.entry.Entry.{Entry}
+use Rattle.fy_audit.specs.declared.version.Version.TheVariants.{First, Second}
 use Rattle.fy_cluster.specs.Setup.{IsMet}
 use Rattle.fy_cluster.specs.History.{history, destroyed, left, acked, keeper}
 use Rattle.fy_cluster.specs.Rules.{situation}
 use Rattle.fy_cluster.specs.Replies.{Legal}
+use Rattle.fy_cluster.specs.Versions.{SecondKnowsAll, LegalUnder}
+use Rattle.fy_cluster.specs.Earlier.{EarlierRulesHold, IsAsEarlier}
 use Rattle.fy_cluster.specs.Survival.{DestroyedShort, LeftSatisfy, KillsJudged, RecordsKept, KeepersFound, SameActsSameJournal, Kept, by_and_act}
 use Rattle.fy_worked.specs.Clusters.{six}
 use Rattle.fy_worked.specs.Records.{written_and_synced}
@@ -38,5 +41,8 @@ six_keep law met journal legal = law six journal met legal
 pub six_have_keepers : KeepersFound → IsMet six → (journal : List Entry) → Legal six journal → (r : ℕ) → is_some (keeper six (history six journal) r) ≡ acked (history six journal) r
 six_have_keepers law met journal legal r = (law six journal met legal r).0
 
-pub two_zones_alone : SameActsSameJournal → Legal six two_zones → (journal : List Entry) → Legal six journal → map by_and_act journal ≡ map by_and_act two_zones → journal ≡ two_zones
-two_zones_alone law right journal legal same = law six journal two_zones legal right same
+pub two_zones_alone : SameActsSameJournal → SecondKnowsAll → Legal six two_zones → (journal : List Entry) → Legal six journal → map by_and_act journal ≡ map by_and_act two_zones → journal ≡ two_zones
+two_zones_alone law known right journal legal same = law Second six journal two_zones ((known six journal).1 legal) ((known six two_zones).1 right) same
+
+pub six_as_earlier : EarlierRulesHold → IsMet six → LegalUnder First six written_and_synced → IsAsEarlier (history six written_and_synced)
+six_as_earlier law met legal = law six written_and_synced met legal

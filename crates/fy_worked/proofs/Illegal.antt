@@ -1,11 +1,11 @@
 -- wrong journals: each has an entry whose place or reply the definitions refute
-use Rattle.std.proofs.Common.{◌≡◌, ℕ, ◌≤◌, arith, false, Option, Some, None, ap}
+use Rattle.std.proofs.Common.{◌≡◌, ℕ, ◌≤◌, arith, true, false, Option, Some, None, ap}
 use Rattle.fy_kinds.specs.declared.kind.Kind.TheVariants.{Reboot, RebootAndDelete, KillInstantly}
 use Rattle.fy_kinds.specs.declared.verdict.Rule.{Rule}
 use Rattle.fy_kinds.specs.declared.verdict.Rule.TheVariants.{NoGrant, Protected, TooManyDestroyed, TooFewLeft}
-use Rattle.fy_audit.specs.declared.reply.Refusal.TheVariants.{NoMessage, Acked}
+use Rattle.fy_audit.specs.declared.reply.Refusal.TheVariants.{TeamShort, NoMessage, NotUp, Acked, NoCopy, IsMember, StillNeeds}
 use Rattle.fy_audit.specs.declared.reply.Reply.{Reply}
-use Rattle.fy_audit.specs.declared.reply.Reply.TheVariants.{Verdict, Begun, Stored, Marked, Sent, No}
+use Rattle.fy_audit.specs.declared.reply.Reply.TheVariants.{Verdict, Begun, Stored, Marked, Sent, Done, No}
 use Rattle.fy_cluster.specs.Replies.{Legal}
 use Rattle.fy_worked.specs.Clusters.{six, four, process, struck, weakened, barred}
 use Rattle.fy_worked.specs.Wrong as wrong
@@ -77,6 +77,79 @@ killed_or_emptied e = let rules : None ≡ Some (TooFewLeft 0) = ap rule_of e in
 pub too_few_left : Legal four wrong.too_few_left → ⊥
 unfolding cluster_on_literals
 too_few_left l = killed_or_emptied l.1.0.right
+
+-- ---- copies, replaced members and healing
+
+acked_or_not : Marked true ≡ Marked false → ⊥
+acked_or_not e = absurd (cc)
+
+pub mark_kept : Legal six wrong.mark_kept → ⊥
+unfolding cluster_on_literals
+mark_kept l = acked_or_not l.1.1.1.1.1.1.1.1.1.1.1.0.right
+
+pub word_kept : Legal six wrong.word_kept → ⊥
+unfolding cluster_on_literals
+word_kept l = marked_or_no_message l.1.1.1.1.1.1.1.1.0.right
+
+done_or_needed : Done ≡ No (StillNeeds 0) → ⊥
+done_or_needed e = absurd (cc)
+
+pub healed_in_need : Legal six wrong.healed_in_need → ⊥
+unfolding cluster_on_literals
+healed_in_need l = done_or_needed l.1.1.1.1.1.1.1.1.1.1.1.1.0.right
+
+pub replaced_in_need : Legal six wrong.replaced_in_need → ⊥
+unfolding cluster_on_literals
+replaced_in_need l = done_or_needed l.1.1.1.1.1.1.1.1.1.1.1.0.right
+
+done_or_member : Done ≡ No IsMember → ⊥
+done_or_member e = absurd (cc)
+
+pub replaced_by_member : Legal six wrong.replaced_by_member → ⊥
+unfolding cluster_on_literals
+replaced_by_member l = done_or_member l.1.1.1.1.1.1.1.1.1.1.1.0.right
+
+done_or_short : Done ≡ No (TeamShort 0) → ⊥
+done_or_short e = absurd (cc)
+
+pub replaced_short : Legal six wrong.replaced_short → ⊥
+unfolding cluster_on_literals
+replaced_short l = done_or_short l.1.1.1.1.1.1.1.1.1.1.1.0.right
+
+acknowledged_or_sent : No Acked ≡ Sent 5 → ⊥
+acknowledged_or_sent e = absurd (cc)
+
+pub acknowledged_by_replace : Legal six wrong.acknowledged_by_replace → ⊥
+unfolding cluster_on_literals
+acknowledged_by_replace l = acknowledged_or_sent l.1.1.1.1.1.1.1.1.1.1.1.0.right
+
+sent_or_no_copy : Sent 4 ≡ No NoCopy → ⊥
+sent_or_no_copy e = absurd (cc)
+
+pub copied_from_nothing : Legal six wrong.copied_from_nothing → ⊥
+unfolding cluster_on_literals
+copied_from_nothing l = sent_or_no_copy l.1.1.1.1.1.1.1.1.1.1.1.0.right
+
+sent_or_not_up : Sent 4 ≡ No NotUp → ⊥
+sent_or_not_up e = absurd (cc)
+
+pub copied_while_down : Legal six wrong.copied_while_down → ⊥
+unfolding cluster_on_literals
+copied_while_down l = sent_or_not_up l.1.1.1.1.1.1.1.1.1.1.1.1.0.right
+
+weakened_or_emptied : weakened Reboot (TooManyDestroyed 0) ≡ struck RebootAndDelete → ⊥
+weakened_or_emptied e = let rules : Some (TooManyDestroyed 0) ≡ None = ap rule_of e in absurd (cc)
+
+pub healed_and_counted : Legal six wrong.healed_and_counted → ⊥
+unfolding cluster_on_literals
+healed_and_counted l = weakened_or_emptied l.1.1.1.1.1.1.1.1.1.1.1.1.1.1.1.1.1.0.right
+
+emptied_or_weakened : struck RebootAndDelete ≡ weakened Reboot (TooManyDestroyed 0) → ⊥
+emptied_or_weakened e = let rules : None ≡ Some (TooManyDestroyed 0) = ap rule_of e in absurd (cc)
+
+pub back_and_not_counted : Legal six wrong.back_and_not_counted → ⊥
+unfolding cluster_on_literals
+back_and_not_counted l = emptied_or_weakened l.1.1.1.1.1.1.1.1.1.1.1.1.0.right
 
 -- ---- a journal that is too long
 

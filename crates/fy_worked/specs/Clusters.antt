@@ -15,7 +15,7 @@ use Rattle.fy_kinds.specs.Orders.{Order}
 use Rattle.fy_kinds.specs.Kinds.{rank}
 use Rattle.fy_grants.specs.declared.grant.Scope.TheVariants.{All}
 use Rattle.fy_audit.specs.declared.act.Act.{Act}
-use Rattle.fy_audit.specs.declared.act.Act.TheVariants.{Kill}
+use Rattle.fy_audit.specs.declared.act.Act.TheVariants.{Kill, CopyTo, Replace, Heal}
 use Rattle.fy_audit.specs.declared.reply.Reply.{Reply}
 use Rattle.fy_audit.specs.declared.reply.Reply.TheVariants.{Verdict}
 use Rattle.fy_audit.specs.declared.entry.Entry.{Entry}
@@ -158,6 +158,18 @@ reboot_or_restart target = Kill (order target Reboot RebootProcess (leb-true 0 1
 -- restart the process
 abbrev pub restart : Target → Act
 restart target = Kill (order target RebootProcess RebootProcess (leb-true 0 0 refl) 0)
+
+-- copy a record from one process to another
+abbrev pub copy : (from rec to : ℕ) → Act
+copy from rec to = CopyTo (process from) rec (process to)
+
+-- put a process into a team in the place of another
+abbrev pub replace : (team out into : ℕ) → Act
+replace team out into = Replace team (process out) (process into)
+
+-- heal a process
+abbrev pub heal : ℕ → Act
+heal p = Heal (process p)
 
 -- struck by the kind that was ordered
 abbrev pub struck : Kind → Reply

@@ -4,4 +4,6 @@ pub mod Leave
 pub mod Records
 pub mod Messages
 pub mod Refused
+pub mod Healed
+pub mod Replaced
 pub mod Wrong

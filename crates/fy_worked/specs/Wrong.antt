@@ -1,15 +1,18 @@
 -- journals that aren't legal: each is a legal one with one thing turned
-use Rattle.std.specs.Prelude.{false, List, [], ◌∷◌, ◌++◌, codes}
-use Rattle.fy_kinds.specs.declared.kind.Kind.TheVariants.{Reboot, KillInstantly}
+use Rattle.std.specs.Prelude.{true, false, List, [], ◌∷◌, ◌++◌, codes}
+use Rattle.fy_kinds.specs.declared.kind.Kind.TheVariants.{Reboot, RebootAndDelete, KillInstantly}
 use Rattle.fy_kinds.specs.declared.verdict.Rule.TheVariants.{NoGrant, Protected, TooManyDestroyed}
-use Rattle.fy_audit.specs.declared.act.Act.TheVariants.{Form, Begin, Deliver, Resend, Tick, Protect}
-use Rattle.fy_audit.specs.declared.reply.Reply.TheVariants.{Formed, Begun, Stored, Marked, Sent, Time, Done}
+use Rattle.fy_audit.specs.declared.act.Act.TheVariants.{Form, Begin, Deliver, Resend, Up, Tick, Protect}
+use Rattle.fy_audit.specs.declared.reply.Refusal.TheVariants.{Acked}
+use Rattle.fy_audit.specs.declared.reply.Reply.TheVariants.{Formed, Begun, Stored, Marked, Sent, Time, Done, No}
 use Rattle.fy_audit.specs.declared.entry.Entry.{Entry}
 use Rattle.fy_cluster.specs.Setup.{Setup}
-use Rattle.fy_worked.specs.Clusters.{entry, process, zone_named, kill, struck, weakened, barred, cluster, six_processes, in_two_zones}
+use Rattle.fy_worked.specs.Clusters.{entry, process, zone_named, process_named, kill, empty, reboot, copy, replace, heal, struck, weakened, barred, cluster, six_processes, in_two_zones}
 use Rattle.fy_worked.specs.Leave.{destroying}
-use Rattle.fy_worked.specs.Records.{pair, hi, written_and_synced}
+use Rattle.fy_worked.specs.Records.{pair, hi, written_and_synced, forgotten}
 use Rattle.fy_worked.specs.Messages.{begun}
+use Rattle.fy_worked.specs.Healed.{healed, sent_and_healed, marked_and_healed}
+use Rattle.fy_worked.specs.Replaced.{all_marked}
 
 -- the second zone is killed too
 abbrev pub second_zone_killed : List Entry
@@ -58,6 +61,64 @@ sent_though_acknowledged = written_and_synced ++ entry 9 0 (Resend 0 (process 2)
 -- one of two zones is killed, so that too few are left
 abbrev pub too_few_left : List Entry
 too_few_left = entry 0 1 (kill (zone_named (codes "z0"))) (struck KillInstantly) ∷ []
+
+-- ---- copies, replaced members and healing
+
+-- a heal keeps the mark of a record that isn't acknowledged
+abbrev pub mark_kept : List Entry
+mark_kept = marked_and_healed ++ entry 10 0 (Deliver 3) (Marked true) ∷ []
+
+-- a heal keeps the word that was sent before
+abbrev pub word_kept : List Entry
+word_kept = sent_and_healed ++ entry 7 0 (Deliver 2) (Marked false) ∷ []
+
+-- who lacks an acknowledged record is healed
+abbrev pub healed_in_need : List Entry
+healed_in_need = forgotten ++ entry 10 0 (Up (process 0)) Done ∷ entry 11 0 (heal 0) Done ∷ []
+
+-- who lacks it comes into the team
+abbrev pub replaced_in_need : List Entry
+replaced_in_need = forgotten ++ entry 10 0 (replace 0 0 1) Done ∷ []
+
+-- a member comes in another's place
+abbrev pub replaced_by_member : List Entry
+replaced_by_member = forgotten ++ entry 10 0 (replace 0 0 2) Done ∷ []
+
+-- the team is short then
+abbrev pub replaced_short : List Entry
+replaced_short = forgotten ++ entry 10 0 (replace 0 0 3) Done ∷ []
+
+-- a replaced member makes a record acknowledged
+abbrev pub acknowledged_by_replace : List Entry
+acknowledged_by_replace = all_marked ++ entry 10 0 (Resend 0 (process 0)) (No Acked) ∷ []
+
+-- a record is copied by who hasn't it
+abbrev pub copied_from_nothing : List Entry
+copied_from_nothing = forgotten ++ entry 10 0 (copy 3 0 1) (Sent 4) ∷ []
+
+-- a record is copied by who is down
+abbrev pub copied_while_down : List Entry
+copied_while_down =
+    forgotten
+    ++ entry 10 1 (reboot (process_named (codes "p2")) 0) (struck Reboot)
+    ∷ entry 11 0 (copy 2 0 1) (Sent 4)
+    ∷ []
+
+-- who is healed counts as destroyed still
+abbrev pub healed_and_counted : List Entry
+healed_and_counted =
+    healed
+    ++ entry 16 1 (empty (process_named (codes "p2"))) (weakened Reboot (TooManyDestroyed 0)) ∷ []
+
+-- who is up again and was never healed counts no more
+abbrev pub back_and_not_counted : List Entry
+back_and_not_counted =
+    forgotten
+    ++ entry 10 0 (Up (process 0)) Done
+    ∷ entry 11 1 (empty (process_named (codes "p2"))) (struck RebootAndDelete)
+    ∷ []
+
+-- ---- a journal that is too long
 
 -- a cluster whose journal may have one entry
 abbrev pub short_lived : Setup

@@ -1,9 +1,12 @@
 //! Worked journals. Each law says of a journal that is written out that it is legal and, beside it,
 //! what it comes to; or of a wrong one that it isn't legal.
 pub mod every;
+pub mod healed;
 pub mod leave;
 pub mod messages;
 pub mod records;
 pub mod refused;
+pub mod replaced;
 pub mod strikes;
+pub mod versions;
 pub mod wrong;

@@ -69,6 +69,48 @@ fn messages_can_be_called() {
 }
 
 #[test]
+fn healing_can_be_called() {
+    laws::healed::still_needed();
+    laws::healed::copied_back();
+    laws::healed::healed();
+    laws::healed::healed_stands_in();
+    laws::healed::word_taken();
+    laws::healed::mark_taken();
+    laws::healed::marked_again();
+    laws::healed::own_word_taken();
+    laws::healed::later_words_come();
+    laws::healed::refused_takes_nothing();
+    laws::healed::destroyed_again();
+    laws::healed::one_of_two_healed();
+    laws::healed::not_healed();
+    laws::healed::least_needed();
+    laws::healed::copies_refused();
+    laws::healed::copied_along();
+    laws::healed::copied_to_who_is_down();
+    laws::healed::not_copied_while_down();
+}
+
+#[test]
+fn replaced_members_can_be_called() {
+    laws::replaced::not_replaced();
+    laws::replaced::copied();
+    laws::replaced::replaced();
+    laws::replaced::healed_outside();
+    laws::replaced::stays_acknowledged();
+    laws::replaced::gone_replaced();
+    laws::replaced::mark_counts();
+    laws::replaced::all_marked();
+    laws::replaced::not_yet_acknowledged();
+    laws::replaced::word_of_another();
+    laws::replaced::acknowledged_from_outside();
+    laws::replaced::mark_outside_taken();
+    laws::replaced::sent_to_members();
+    laws::replaced::needed_by_its_team();
+    laws::replaced::replaces_refused();
+    laws::replaced::short_by_its_policy();
+}
+
+#[test]
 fn refusals_can_be_called() {
     laws::refused::refused_before_anything();
     laws::refused::refused_of_the_gone();
@@ -91,7 +133,26 @@ fn wrong_journals_can_be_called() {
     laws::wrong::word_never_sent();
     laws::wrong::sent_though_acknowledged();
     laws::wrong::too_few_left();
+    laws::wrong::mark_kept();
+    laws::wrong::word_kept();
+    laws::wrong::healed_in_need();
+    laws::wrong::replaced_in_need();
+    laws::wrong::replaced_by_member();
+    laws::wrong::replaced_short();
+    laws::wrong::acknowledged_by_replace();
+    laws::wrong::copied_from_nothing();
+    laws::wrong::copied_while_down();
+    laws::wrong::healed_and_counted();
+    laws::wrong::back_and_not_counted();
     laws::wrong::two_ticks();
+}
+
+#[test]
+fn versions_can_be_called() {
+    laws::versions::both_know_the_earlier_acts();
+    laws::versions::first_knows_no_others();
+    laws::versions::first_is_as_earlier();
+    laws::versions::second_is_not();
 }
 
 #[test]

@@ -6,7 +6,7 @@ use fy_audit::{Act, Refusal, Reply};
 use fy_kinds::{Kind, KindSet};
 
 /// One of each act, with its reply on a cluster in which nothing happened yet.
-fn one_of_each() -> [Step<'static>; 15] {
+fn one_of_each() -> [Step<'static>; 18] {
     let (process, kinds) = (P0, KindSet::of(Kind::Reboot));
     let resend = Act::Resend { rec: 0, process };
     let take = Act::Take {
@@ -29,6 +29,9 @@ fn one_of_each() -> [Step<'static>; 15] {
         operator(take, Reply::Done),
         operator(Act::Protect { process, kinds }, Reply::Done),
         operator(Act::Unprotect { process, kinds }, Reply::Done),
+        copy(P0, 0, P1, no(Refusal::NoRecord)),
+        replace(P0, P1, no(Refusal::NoTeam)),
+        heal(P0, no(Refusal::NotDestroyed)),
     ]
 }
 

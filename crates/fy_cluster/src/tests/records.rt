@@ -6,7 +6,7 @@ use fy_audit::{Act, Refusal, Reply};
 use fy_kinds::Kind;
 
 /// A record of p0 and p2 that p0 acknowledged before it was emptied, and p2 after that.
-fn acknowledged_by_both() -> [Step<'static>; 9] {
+pub(super) fn acknowledged_by_both() -> [Step<'static>; 9] {
     [
         formed(&[P0, P2]),
         begun(0, 0),

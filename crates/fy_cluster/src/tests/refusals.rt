@@ -17,7 +17,7 @@ fn of_every_role(by: u32, kill: Reply, clog: Reply) -> [Step<'static>; 3] {
 }
 
 /// One of each act of role storage.
-fn of_storage(by: u32, reply: Reply) -> [Step<'static>; 8] {
+fn of_storage(by: u32, reply: Reply) -> [Step<'static>; 11] {
     let (members, payload) = (&[P0, P2], b"hi");
     let plain = |act| asked(by, Ask::Plain(act), reply);
     [
@@ -32,6 +32,17 @@ fn of_storage(by: u32, reply: Reply) -> [Step<'static>; 8] {
         plain(Act::Sync { process: P0 }),
         plain(Act::Up { process: P0 }),
         plain(Act::Tick { ticks: 1 }),
+        plain(Act::CopyTo {
+            from: P0,
+            rec: 0,
+            to: P1,
+        }),
+        plain(Act::Replace {
+            team: 0,
+            out: P0,
+            into: P1,
+        }),
+        plain(Act::Heal { process: P0 }),
     ]
 }
 
@@ -58,7 +69,7 @@ fn roles_are_kept_apart(rt: HostRuntime) {
     stage.play(&of_storage(OPERATOR, wrong));
     stage.play(&of_operator(FAULT, wrong));
     stage.play(&of_operator(STORAGE, wrong));
-    stage.sees_entries(24, false);
+    stage.sees_entries(30, false);
 }
 
 #[test]
@@ -80,7 +91,7 @@ fn strangers_are_refused_everything(rt: HostRuntime) {
     stage.play(&of_every_role(STRANGER, stranger, stranger));
     stage.play(&of_storage(STRANGER, stranger));
     stage.play(&of_operator(STRANGER, stranger));
-    stage.sees_entries(15, false);
+    stage.sees_entries(18, false);
     stage.sees_destroyed(&[]);
 }
 

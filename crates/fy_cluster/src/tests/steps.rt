@@ -16,6 +16,12 @@ pub(super) const P1: ProcId = ProcId(1);
 
 pub(super) const P2: ProcId = ProcId(2);
 
+pub(super) const P3: ProcId = ProcId(3);
+
+pub(super) const P4: ProcId = ProcId(4);
+
+pub(super) const P5: ProcId = ProcId(5);
+
 /// There is no such process.
 pub(super) const P99: ProcId = ProcId(99);
 
@@ -213,6 +219,22 @@ pub(super) fn synced(process: ProcId, first: u64, count: u32) -> Step<'static> {
 /// The start of a process.
 pub(super) fn up(process: ProcId, reply: Reply) -> Step<'static> {
     storage(Act::Up { process }, reply)
+}
+
+/// The copy of a record from one process to another.
+pub(super) fn copy(from: ProcId, rec: u32, to: ProcId, reply: Reply) -> Step<'static> {
+    storage(Act::CopyTo { from, rec, to }, reply)
+}
+
+/// The replacement of a member of the first team.
+pub(super) fn replace(out: ProcId, into: ProcId, reply: Reply) -> Step<'static> {
+    let team = 0;
+    storage(Act::Replace { team, out, into }, reply)
+}
+
+/// The heal of a process.
+pub(super) fn heal(process: ProcId, reply: Reply) -> Step<'static> {
+    storage(Act::Heal { process }, reply)
 }
 
 /// Some ticks, and the time after them.

@@ -4,6 +4,7 @@ use fy_kinds::Kind;
 use fy_locality::{Map, ProcId, ProcSet};
 use fy_policy::{Policy, read_policy};
 use std::alloc::Global;
+use std::test::Fail;
 
 /// Each process has a machine of its own, two are in each of three zones, and one in each zone may
 /// have a data hall.
@@ -172,6 +173,52 @@ fn losses_are_taken_down(rt: HostRuntime) {
     ];
     let end = walked(alloc, 4, &["Across(2,zoneid,One())"], &emptied_first);
     assert_eq!(rt; end, Some((0b0011, 0b1110)));
+}
+
+/// Heals a process that is destroyed and not gone, and says whether it was one.
+fn heals(book: &mut DeadBook, p: u32) -> bool {
+    let p = ProcId(p);
+    if !book.destroyed().contains(p) || !book.left().contains(p) {
+        return false;
+    }
+    book.heal(p);
+    true
+}
+
+#[test]
+fn the_healed_are_destroyed_no_more(rt: HostRuntime) -> Result<(), Fail> {
+    let mut book = book_of(rt.alloc(), 6, &["Across(2,zoneid,One())"]).ok_or("no book")?;
+    let zone_and_one = [
+        (Loss::Emptied, 0b000011, true),
+        (Loss::Emptied, 0b000100, false),
+    ];
+    assert!(rt; answers_as_due(&mut book, &zone_and_one));
+    assert_eq!(rt;
+        (
+            heals(&mut book, 0),
+            heals(&mut book, 0),
+            heals(&mut book, 2)
+        ),
+        (true, false, false)
+    );
+    assert_eq!(rt; bits_of(&book.destroyed()), 0b000010);
+    assert!(rt; answers_as_due(&mut book, &[(Loss::Emptied, 0b000100, false)]));
+    assert_eq!(rt; heals(&mut book, 1), true);
+    assert_eq!(rt;
+        (bits_of(&book.destroyed()), bits_of(&book.left())),
+        (0, 0b111111)
+    );
+    let other_zone = [
+        (Loss::Emptied, 0b001100, true),
+        (Loss::Gone, 0b000100, true),
+    ];
+    assert!(rt; answers_as_due(&mut book, &other_zone));
+    assert_eq!(rt; (heals(&mut book, 2), heals(&mut book, 3)), (false, true));
+    assert_eq!(rt;
+        (bits_of(&book.destroyed()), bits_of(&book.left())),
+        (0b000100, 0b111011)
+    );
+    Ok(())
 }
 
 /// 1,024 processes on one machine, every third in the same zone.

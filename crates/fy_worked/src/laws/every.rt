@@ -70,6 +70,7 @@ pub fn two_zones_alone()
 {
     strikes::two_zones();
     fy_cluster::laws::same_acts_same_journal();
+    fy_cluster::laws::versions();
 }
 
 /// What stands in a legal journal beside a kill is the verdict on it.

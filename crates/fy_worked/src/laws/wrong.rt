@@ -1,7 +1,7 @@
 //! Wrong journals, none of which is legal.
 ghost use Rattle.fy_cluster.specs.Replies.{Legal};
 ghost use Rattle.fy_worked.specs.Clusters.{six, four};
-ghost use Rattle.fy_worked.specs.Wrong.{second_zone_killed, place_left_out, grant_overlooked, protection_named_first, number_left_out, marked_unsynced, word_never_sent, sent_though_acknowledged, too_few_left, short_lived, two_ticks};
+ghost use Rattle.fy_worked.specs.Wrong.{second_zone_killed, place_left_out, grant_overlooked, protection_named_first, number_left_out, marked_unsynced, word_never_sent, sent_though_acknowledged, too_few_left, mark_kept, word_kept, healed_in_need, replaced_in_need, replaced_by_member, replaced_short, acknowledged_by_replace, copied_from_nothing, copied_while_down, healed_and_counted, back_and_not_counted, short_lived, two_ticks};
 
 /// A kill that is to be weakened isn't answered as one that struck.
 pub fn second_zone_killed()
@@ -46,6 +46,61 @@ pub fn sent_though_acknowledged()
 /// No kill leaves too few.
 pub fn too_few_left()
     ensures { Legal four too_few_left → ⊥ }
+{}
+
+/// A heal takes the mark of a record that isn't acknowledged.
+pub fn mark_kept()
+    ensures { Legal six mark_kept → ⊥ }
+{}
+
+/// A heal takes the word that was sent before.
+pub fn word_kept()
+    ensures { Legal six word_kept → ⊥ }
+{}
+
+/// Who lacks an acknowledged record isn't healed.
+pub fn healed_in_need()
+    ensures { Legal six healed_in_need → ⊥ }
+{}
+
+/// Who lacks an acknowledged record of the team doesn't come into it.
+pub fn replaced_in_need()
+    ensures { Legal six replaced_in_need → ⊥ }
+{}
+
+/// No member comes in another's place.
+pub fn replaced_by_member()
+    ensures { Legal six replaced_by_member → ⊥ }
+{}
+
+/// No team that changes is short of its policy.
+pub fn replaced_short()
+    ensures { Legal six replaced_short → ⊥ }
+{}
+
+/// A replaced member acknowledges nothing.
+pub fn acknowledged_by_replace()
+    ensures { Legal six acknowledged_by_replace → ⊥ }
+{}
+
+/// Who hasn't a record copies none.
+pub fn copied_from_nothing()
+    ensures { Legal six copied_from_nothing → ⊥ }
+{}
+
+/// Who is down copies none.
+pub fn copied_while_down()
+    ensures { Legal six copied_while_down → ⊥ }
+{}
+
+/// Who is healed doesn't count as destroyed.
+pub fn healed_and_counted()
+    ensures { Legal six healed_and_counted → ⊥ }
+{}
+
+/// Who was never healed counts as destroyed.
+pub fn back_and_not_counted()
+    ensures { Legal six back_and_not_counted → ⊥ }
 {}
 
 /// No journal is longer than it may be. With more room this one is legal.

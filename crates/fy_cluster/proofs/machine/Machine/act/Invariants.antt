@@ -44,3 +44,12 @@ ghost-protect g a = g.turn
 
 abbrev pub ghost-unprotect : goal.ghost-unprotect
 ghost-unprotect g a = g.turn
+
+abbrev pub ghost-copy : goal.ghost-copy
+ghost-copy g a = g.turn
+
+abbrev pub ghost-replace : goal.ghost-replace
+ghost-replace g a = g.turn
+
+abbrev pub ghost-heal : goal.ghost-heal
+ghost-heal g a = g.turn

@@ -44,7 +44,7 @@ returns g c =
     let one = members_are g.turn c.args.team c.in-Some.members.now c.args.self.now c.requires.0 c.in-Some.ensures in
     let two = members_are g.turn c.args.team c.in-Some-members.members.now c.args.self.now c.requires.0 (c.in-Some-members.ensures ∙ ap (λ (r : Roster). members_in r c.args.team) c.in-Ok.ensures.begun) in
     let same : c.as_slice-in-Some-members.result.now ≡ c.in-Some.members.now = c.as_slice-in-Some-members.ensures.members ∙ sym two ∙ one in
-    begins_now c.a_record_begins_unmarked.ensures g.turn c.args.team c.args.payload c.in-Some.members.now c.args.self.now c.reserve.new.self c.send_stores.new.net c.begin.new.self c.in-Ok.rec c.sent-first.result (length c.as_slice.result.now) c.requires.0 fit
+    begins_now c.a_record_begins_unmarked.ensures.marks c.a_record_begins_unmarked.ensures.acked g.turn c.args.team c.args.payload c.in-Some.members.now c.args.self.now c.reserve.new.self c.send_stores.new.net c.begin.new.self c.in-Ok.rec c.sent-first.result (length c.as_slice.result.now) c.requires.0 fit
     one
     (ap length c.as_slice.ensures.members)
     (told _ NoMemory (Ok c.in_default-reserve.field-0) c.in_default-reserve.ensures.refused c.in_default-reserve.ensures.memory)

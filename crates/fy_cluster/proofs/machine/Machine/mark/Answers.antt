@@ -16,7 +16,7 @@ mark-acked-requires-clause-small g c = let a = c.requires.0.net.count in let b =
 
 pub returns : goal.returns
 returns g c =
-    marks_now c.test_is_satisfaction.ensures c.a_mark_is_one_more.ensures.teams c.a_mark_is_one_more.ensures.marks g.turn c.args.message c.args.rec c.args.from c.args.self.now c.mark-acked.result c.take_out.new.net c.mark-acked.new.self c.requires.0 c.requires.1.0 c.requires.1.1.0 c.requires.1.1.1
+    marks_now c.test_is_satisfaction.ensures c.a_mark_is_one_more.ensures.teams c.a_mark_is_one_more.ensures.marks c.a_mark_acknowledges.ensures.marks g.turn c.args.message c.args.rec c.args.from c.args.self.now c.mark-acked.result c.take_out.new.net c.mark-acked.new.self c.requires.0 c.requires.1.0 c.requires.1.1.0 c.requires.1.1.1
     (sym c.if-clogged.ensures)
     c.take_out.ensures
     c.mark-acked.ensures.marked

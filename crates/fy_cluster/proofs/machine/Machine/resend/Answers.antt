@@ -3,7 +3,7 @@ use Rattle.fy_net.specs.declared.fault.NetFault.TheVariants.{NoMemory}
 use Rattle.fy_audit.specs.declared.act.Act.TheVariants.{Resend}
 use Rattle.fy_cluster.proofs.Results.{told}
 use Rattle.fy_cluster.proofs.Room.{few_sent, no_room_left, reserved_is}
-use Rattle.fy_cluster.proofs.Resent.{IsOf, no_record, is_of, member_known, team_missing, not_member, acked_is, is_acked_already, resend_full, resends}
+use Rattle.fy_cluster.proofs.Resent.{IsOf, no_record, is_of, member_known, team_missing, not_member, is_acked_already, resend_full, resends}
 use Rattle.fy_cluster.proofs.machine.Machine.resend.Goals as goal
 
 pub returns-in_default : goal.returns-in_default
@@ -21,7 +21,7 @@ pub returns-then-acked : goal.returns-then-acked
 returns-then-acked g c =
     let is : IsOf g.turn.before c.args.rec c.in-Some-members.members.now = is_of g.turn.before c.args.self.now.teams c.requires.0.teams c.args.rec c.in-Some.team c.in-Some-members.members.now c.in-Some.ensures c.in-Some-members.ensures in
     is_acked_already g.turn c.args.rec c.args.process c.in-Some-members.members.now _ c.requires.0 is (sym c.if-not-has.ensures)
-    (acked_is c.test_is_satisfaction.ensures g.turn c.args.rec c.args.self.now c.requires.0 c.requires.1 ∙ sym c.acked.ensures.test ∙ c.if-acked.true)
+    (sym (c.requires.0.teams.acked c.args.rec) ∙ sym c.acked.ensures ∙ c.if-acked.true)
 
 pub reserve-requires : goal.reserve-requires
 reserve-requires g c = few_sent g.turn.setup g.turn.before c.args.self.now.net c.requires.1 c.requires.0.net
@@ -32,7 +32,7 @@ returns-in-Err g c =
     rw c.no_room.ensures
     (no_room_left g.turn (Resend c.args.rec c.args.process) 1 c.args.self.now c.reserve.new.self c.in-Err.fault c.requires.0
     (resend_full g.turn c.args.rec c.args.process c.in-Some-members.members.now is (sym c.if-not-has.ensures)
-    (acked_is c.test_is_satisfaction.ensures g.turn c.args.rec c.args.self.now c.requires.0 c.requires.1 ∙ sym c.acked.ensures.test ∙ c.if-acked.false))
+    (sym (c.requires.0.teams.acked c.args.rec) ∙ sym c.acked.ensures ∙ c.if-acked.false))
     (told _ NoMemory (Err c.in-Err.fault) c.in-Err.ensures.refused c.in-Err.ensures.memory)
     c.in-Err.ensures.err)
 
@@ -45,7 +45,7 @@ pub returns : goal.returns
 returns g c =
     let is : IsOf g.turn.before c.args.rec c.in-Some-members.members.now = is_of g.turn.before c.args.self.now.teams c.requires.0.teams c.args.rec c.in-Some.team c.in-Some-members.members.now c.in-Some.ensures c.in-Some-members.ensures in
     resends g.turn c.args.rec c.args.process c.in-Some-members.members.now c.args.self.now c.reserve.new.self c.send-message.result c.send-message.new.self c.requires.0 is (sym c.if-not-has.ensures)
-    (acked_is c.test_is_satisfaction.ensures g.turn c.args.rec c.args.self.now c.requires.0 c.requires.1 ∙ sym c.acked.ensures.test ∙ c.if-acked.false)
+    (sym (c.requires.0.teams.acked c.args.rec) ∙ sym c.acked.ensures ∙ c.if-acked.false)
     (told _ NoMemory (Ok c.in_default-reserve.field-0) c.in_default-reserve.ensures.refused c.in_default-reserve.ensures.memory)
     (reserved_is c.args.self.now.net c.reserve.new.self _ c.in_default-reserve.ensures.ok)
     c.send-message.ensures.number

@@ -1,0 +1,49 @@
+//! Records are copied.
+ghost use Rattle.std.specs.Prelude.{◌≡◌};
+ghost use Rattle.fy_audit.specs.declared.act.Act.TheVariants.{CopyTo};
+ghost use Rattle.fy_cluster.specs.Standing.{Turn, Stands, Comes, IsLived};
+
+use crate::Fault;
+use crate::machine::Machine;
+use crate::messages::no_room;
+use fy_audit::{Refusal, Reply};
+use fy_locality::{Map, ProcId};
+use fy_net::Body;
+
+impl Machine {
+    /// Sends a record from a process that has it synced to another, member of its team or not.
+    pub(crate) fn copy(
+        &mut self,
+        map: &Map,
+        from: ProcId,
+        rec: u32,
+        to: ProcId,
+    ) -> Result<Reply, Fault>
+        ghost turn: { Turn }
+        requires stands { Stands turn.setup turn.before self.old }
+        requires map { map.now ≡ turn.setup.processes }
+        requires lived { IsLived turn.setup turn.before }
+        ensures { Comes turn (CopyTo from rec to) result self.new }
+    {
+        let Some(_team) = self.teams.team_number(rec) else {
+            return Ok(Reply::No(Refusal::NoRecord));
+        };
+        if from.0.max(to.0) >= map.len() {
+            return Ok(Reply::No(Refusal::NoProcess));
+        }
+        if !self.dead.left().contains(to) {
+            return Ok(Reply::No(Refusal::Gone));
+        }
+        if !self.up.contains(from) {
+            return Ok(Reply::No(Refusal::NotUp));
+        }
+        if !self.has_synced(rec, from) {
+            return Ok(Reply::No(Refusal::NoCopy));
+        }
+        if let Err(fault) = self.net.reserve(1) {
+            return no_room(fault);
+        }
+        let message = self.net.send(Body::Store { rec, to });
+        Ok(Reply::Sent { message })
+    }
+}

@@ -1,0 +1,41 @@
+//! Processes are healed.
+ghost use Rattle.std.specs.Prelude.{◌≡◌};
+ghost use Rattle.fy_audit.specs.declared.act.Act.TheVariants.{Heal};
+ghost use Rattle.fy_cluster.specs.Standing.{Turn, Stands, Follows};
+
+use crate::machine::Machine;
+use fy_audit::{Refusal, Reply};
+use fy_locality::{Map, ProcId};
+
+impl Machine {
+    /// Takes down that a destroyed process isn't any more: it has every acknowledged record of its
+    /// teams again. Its words on the way, and its marks for records that aren't acknowledged, are
+    /// of what its disk had before, and count no longer.
+    pub(crate) fn heal(&mut self, map: &Map, process: ProcId) -> Reply
+        ghost turn: { Turn }
+        requires stands { Stands turn.setup turn.before self.old }
+        requires map { map.now ≡ turn.setup.processes }
+        ensures { Follows turn (Heal process) result self.new }
+    {
+        fy_team::laws::a_heal_takes_marks_off();
+        if process.0 >= map.len() {
+            return Reply::No(Refusal::NoProcess);
+        }
+        if !self.dead.left().contains(process) {
+            return Reply::No(Refusal::Gone);
+        }
+        if !self.dead.destroyed().contains(process) {
+            return Reply::No(Refusal::NotDestroyed);
+        }
+        if !self.up.contains(process) {
+            return Reply::No(Refusal::NotUp);
+        }
+        if let Some(rec) = self.needed_by_member(process) {
+            return Reply::No(Refusal::StillNeeds { rec });
+        }
+        self.dead.heal(process);
+        self.net.void(process);
+        self.teams.heal(process);
+        Reply::Done
+    }
+}
