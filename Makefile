@@ -4,7 +4,7 @@
 #   make run              builds the program without its proofs, and asks it about examples/c6.judge: yes, yes, no, gone
 #   make test             all that CI runs: every proof, test and must-fail edit, then the command-line cases
 #   make install          puts the program into $(PREFIX)/bin; by default PREFIX is /usr/local
-#   make bench            times the program on generated inputs, and verdicts and acts by programs of their own
+#   make bench            times the program on generated inputs, and verdicts, acts and cluster files by programs of their own
 #   make clean            removes what was built, and what earlier checks kept
 
 PREFIX ?= /usr/local
@@ -29,6 +29,7 @@ test:
 	mkdir -p bin
 	cp $(BUILT) bin/faultyard
 	tests/cli/run bin/faultyard
+	tests/examples/run
 
 install: build
 	mkdir -p $(DESTDIR)$(PREFIX)/bin
@@ -40,6 +41,8 @@ bench: build
 	bench/judge.py bin/faultyard $$(ls bin/judge_by_hand 2> /dev/null)
 	bench/verdicts.sh
 	bench/acts.sh
+	bench/needs.sh
+	bench/configs.sh
 
 clean:
 	rm -rf bin crates/*/out

@@ -1,0 +1,16 @@
+pub mod Answered
+pub mod Built
+pub mod Found
+pub mod Granted
+pub mod Later
+pub mod Lists
+pub mod Mapped
+pub mod Once
+pub mod Places
+pub mod Protected
+pub mod Ranges
+pub mod ReadAll
+pub mod Setups
+pub mod Spelt
+pub mod Unions
+pub mod Written

@@ -1,0 +1,7 @@
+-- What the map of a table finds at a key is what its members have there.
+use Rattle.toml.proofs.Views.{table_get}
+use Rattle.fy_config.proofs.tables.find.Goals as goal
+
+pub returns : goal.returns
+returns c =
+    table_get c.get.result c.args.key.now c.args.table.now.entries c.get.ensures.value
