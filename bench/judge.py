@@ -1,5 +1,6 @@
 #!/usr/bin/env python3
-"""Times `judge` of one or more programs on generated inputs of 6, 100 and 1024 processes under eight policies.
+"""Times `judge` of one or more programs on generated inputs of 6, 100 and 1000 processes under eight policies,
+whose counts are small or, as large clusters have them, in proportion to the processes.
 
     bench/judge.py [--rounds N] PROGRAM..
 
@@ -32,10 +33,29 @@ POLICIES = [
 ]
 
 
+def proportional(count):
+    """Eight policies whose counts grow with the cluster; all processes together meet each."""
+    zones = zone_count(count)
+    return [
+        f"Across({max(2, zones // 2)},zoneid,One())",
+        f"Across({max(2, zones // 3)},zoneid,Across(2,machineid,One()))",
+        f"Across({max(2, count // 4 + 1)},machineid,One())",
+        f"And(Across(2,dcid,One()),Across({max(2, zones // 2)},zoneid,One()))",
+        f"Across(2,dcid,Across({max(2, zones // 6)},zoneid,One()))",
+        f"Across(2,dcid,Across({max(1, zones // 40)},zoneid,Across(2,machineid,One())))",
+        f"Across({max(3, count // 2)},processid,One())",
+        f"Across({max(2, zones // 3)},zoneid,One())",
+    ]
+
+
+def zone_count(count):
+    return max(3, count // 8)
+
+
 def cluster(count):
     """The lines of `count` processes: neighbours share a zone, of which there are at least three, and
     the first half stands in another hall and data centre than the second, so each holds two zones."""
-    zones = max(3, count // 8)
+    zones = zone_count(count)
     lines = []
     for place in range(count):
         zone = place // 2 % zones
@@ -44,10 +64,10 @@ def cluster(count):
     return lines
 
 
-def judge_input(count):
+def judge_input(count, policies):
     """One input with as many asks as fit, and their number. One ask in eight is a `destroy`."""
     chosen = random.Random(count)
-    text = "".join(f"policy {policy}\n" for policy in POLICIES)
+    text = "".join(f"policy {policy}\n" for policy in policies)
     text += "".join(f"{line}\n" for line in cluster(count))
     asks = []
     size = len(text)
@@ -92,22 +112,27 @@ def main():
     words.add_argument("programs", nargs="+")
     words = words.parse_args()
     width = max(len(program) for program in words.programs)
-    print(f"{'program':<{width}} {'processes':>9} {'asks':>7} {'yes':>5} {'gone':>6} {'seconds':>8} {'asks/s':>9} {'peak KiB':>9}")
-    for count in (6, 100, 1024):
-        data, asks = judge_input(count)
-        with tempfile.NamedTemporaryFile(suffix=".judge") as file:
-            file.write(data)
-            file.flush()
-            programs = [os.path.abspath(program) for program in words.programs]
-            rounds = [[timed(program, file.name) for program in programs] for _ in range(words.rounds)]
-            peaks = [peak(program, file.name) for program in programs]
-        for program, memory, runs in zip(words.programs, peaks, zip(*rounds)):
-            seconds, status, written = min(runs)
-            answers = written.split(b"\n")[:-1]
-            if status != 0 or len(answers) != asks or written != rounds[0][0][2]:
-                sys.exit(f"{program}, {count} processes: status {status}, {len(answers)} answers to {asks} asks, or other ones than {words.programs[0]}")
-            yes, gone = answers.count(b"yes"), answers.count(b"gone")
-            print(f"{program:<{width}} {count:>9} {asks:>7} {yes:>5} {gone:>6} {seconds:>8.3f} {asks / seconds:>9.0f} {memory:>9}")
+    print(f"{'program':<{width}} {'counts':>7} {'processes':>9} {'asks':>7} {'yes':>5} {'gone':>6} {'seconds':>8} {'asks/s':>9} {'peak KiB':>9}")
+    for counts, policies_of in (("small", lambda _: POLICIES), ("large", proportional)):
+        for count in (6, 100, 1000):
+            compare(words, width, counts, count, *judge_input(count, policies_of(count)))
+
+
+def compare(words, width, counts, count, data, asks):
+    """Lets the programs take turns on one input, and prints a row for each."""
+    with tempfile.NamedTemporaryFile(suffix=".judge") as file:
+        file.write(data)
+        file.flush()
+        programs = [os.path.abspath(program) for program in words.programs]
+        rounds = [[timed(program, file.name) for program in programs] for _ in range(words.rounds)]
+        peaks = [peak(program, file.name) for program in programs]
+    for program, memory, runs in zip(words.programs, peaks, zip(*rounds)):
+        seconds, status, written = min(runs)
+        answers = written.split(b"\n")[:-1]
+        if status != 0 or len(answers) != asks or written != rounds[0][0][2]:
+            sys.exit(f"{program}, {count} processes: status {status}, {len(answers)} answers to {asks} asks, or other ones than {words.programs[0]}")
+        yes, gone = answers.count(b"yes"), answers.count(b"gone")
+        print(f"{program:<{width}} {counts:>7} {count:>9} {asks:>7} {yes:>5} {gone:>6} {seconds:>8.4f} {asks / seconds:>9.0f} {memory:>9}")
 
 
 main()

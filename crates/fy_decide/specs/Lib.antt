@@ -1,7 +1,9 @@
 pub mod DeadBook
 pub mod Losses
+pub mod Tallies
 pub mod Verdicts
 pub use Rattle.fy_locality.specs.Locality
+pub use Rattle.fy_policy.specs.Counted
 pub use Rattle.fy_policy.specs.Sat
 pub use Rattle.fy_policy.specs.Tree
 pub use Rattle.fy_kinds.specs.Kinds

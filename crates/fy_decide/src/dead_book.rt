@@ -1,15 +1,19 @@
 //! Who is destroyed, who is left, and whether more may be destroyed.
 ghost use Rattle.std.specs.Prelude.{◌≡◌, ◌↔◌, ℕ, IsTrue, IfOk, IfErr, Some, None};
 ghost use Rattle.std.specs.FinSet as sets;
-ghost use Rattle.fy_decide.specs.Losses.{AreShort, AreSatisfied, AreMet, all_short, all_satisfied, everyone, first_satisfied, first_short, first_unmet, with_set, without_set};
+ghost use Rattle.fy_decide.specs.Losses.{AreShort, AreSatisfied, AreMet, everyone, first_satisfied, first_short, first_unmet, with_set, without_set};
 ghost use Rattle.fy_decide.specs.DeadBook.{IsFresh, MayLose, may_lose, struck, MayHeal, healed};
 ghost use Rattle.fy_decide.specs.Verdicts.{targets, loss_of};
 
+use crate::tallies::{
+    drop_from_each, first_satisfied_with, first_short_without, put_in_each, tallies_of,
+};
 use fy_kinds::{Kind, Target};
 use fy_locality::{Map, ProcId, ProcSet};
-use fy_policy::{Policy, laws, satisfied, try_copy_all};
+use fy_policy::{Policy, Tally, laws, satisfied, try_copy_all};
 use std::alloc::{AllocError, AllocFailed, Global};
 use std::marker::Model;
+use std::sync::Arc;
 
 /// Why there is no book.
 #[derive(Clone, Copy, PartialEq, Eq, Debug)]
@@ -63,12 +67,14 @@ impl Loss {
 }
 
 /// The destroyed, and those left. The destroyed are short of every policy, and those left satisfy
-/// each.
+/// each. Beside each of the two sets stand its tallies, one by each policy; they share the map.
 pub struct DeadBook {
-    map: Map,
+    map: Arc<Map>,
     policies: Vec<Policy>,
     destroyed: ProcSet,
     left: ProcSet,
+    destroyed_tallies: Vec<Tally>,
+    left_tallies: Vec<Tally>,
 }
 
 impl Model for DeadBook {
@@ -77,7 +83,8 @@ impl Model for DeadBook {
     ghost use Rattle.std.specs.Ordering.{nat_cmp};
     ghost use Rattle.fy_locality.specs.contracts.locality.Locality as e;
     ghost use Rattle.fy_policy.specs.TreeCode.{tree_code};
-    ghost use Rattle.fy_decide.specs.DeadBook.{Casualties, IsSafe};
+    ghost use Rattle.fy_decide.specs.DeadBook.{Casualties};
+    ghost use Rattle.fy_decide.specs.Tallies.{IsBook};
 
     ghost Value = { Casualties };
 
@@ -85,18 +92,18 @@ impl Model for DeadBook {
         (codes, tree_code, e.the_row.coded, sets.code {R = nat_cmp} coded_ℕ) };
 
     ghost view = { λ b. record {
-      processes = b.map;
+      processes = b.map.value;
       policies = b.policies.items;
       destroyed = b.destroyed;
       left = b.left;
     } };
 
-    ghost invariant = { λ b. IsSafe (record {
-      processes = b.map;
+    ghost invariant = { λ b. IsBook (record {
+      processes = b.map.value;
       policies = b.policies.items;
       destroyed = b.destroyed;
       left = b.left;
-    }) };
+    }) b.destroyed_tallies.items b.left_tallies.items };
 }
 
 // Written out, so that whoever drops a book makes one call.
@@ -107,24 +114,10 @@ impl Drop for DeadBook {
             policies: _,
             destroyed: _,
             left: _,
+            destroyed_tallies: _,
+            left_tallies: _,
         } = self;
     }
-}
-
-/// Whether the set is short of every policy.
-fn are_short(policies: &[Policy], map: &Map, set: &ProcSet) -> bool
-    ensures relation { IsTrue result ↔ AreShort map.now policies.now (sets.contains set.now) }
-    ensures test { result ≡ all_short map.now policies.now (sets.contains set.now) }
-{
-    policies.iter().all(|policy| !satisfied(policy, map, set))
-}
-
-/// Whether the set satisfies each policy.
-fn are_satisfied(policies: &[Policy], map: &Map, set: &ProcSet) -> bool
-    ensures relation { IsTrue result ↔ AreSatisfied map.now policies.now (sets.contains set.now) }
-    ensures test { result ≡ all_satisfied map.now policies.now (sets.contains set.now) }
-{
-    policies.iter().all(|policy| satisfied(policy, map, set))
 }
 
 /// The place of the first policy that the set is short of.
@@ -144,15 +137,6 @@ pub fn first_unmet(policies: &[Policy], map: &Map) -> Option<usize>
     ensures met { result ≡ None → AreMet map.now policies.now (everyone map.now) }
 {
     first_short(policies, map, &map.everyone())
-}
-
-/// The place of the first policy that the set satisfies.
-fn first_satisfied(policies: &[Policy], map: &Map, set: &ProcSet) -> Option<usize>
-    ensures { result ≡ first_satisfied map.now policies.now (sets.contains set.now) }
-{
-    policies
-        .iter()
-        .position(|policy| satisfied(policy, map, set))
 }
 
 impl DeadBook {
@@ -175,13 +159,17 @@ impl DeadBook {
             return Err(MakeFault::Unmet { index });
         }
         let left = map.everyone();
+        let map = Arc::new(alloc, map.try_copy(alloc)?)?;
+        let destroyed_tallies = tallies_of(alloc, &map, policies, &ProcSet::empty())?;
+        let left_tallies = tallies_of(alloc, &map, policies, &left)?;
         let policies = try_copy_all(alloc, policies)?;
-        let map = map.try_copy(alloc)?;
         Ok(DeadBook {
             map,
             policies,
             destroyed: ProcSet::empty(),
             left,
+            destroyed_tallies,
+            left_tallies,
         })
     }
 
@@ -191,12 +179,13 @@ impl DeadBook {
         ensures relation { IsTrue result ↔ MayLose self.now (sets.contains set.now) loss }
         ensures test { result ≡ may_lose self.now (sets.contains set.now) loss }
     {
-        if !are_short(&self.policies, &self.map, &self.destroyed.union(set)) {
+        laws::test_is_satisfaction();
+        if self.too_many_destroyed(set).is_some() {
             return false;
         }
         match loss {
             Loss::Emptied => true,
-            Loss::Gone => are_satisfied(&self.policies, &self.map, &self.left.difference(set)),
+            Loss::Gone => self.too_few_left(set).is_none(),
         }
     }
 
@@ -206,7 +195,7 @@ impl DeadBook {
             ≡ first_satisfied self.now.processes self.now.policies
             (with_set (sets.contains self.now.destroyed) (sets.contains set.now)) }
     {
-        first_satisfied(&self.policies, &self.map, &self.destroyed.union(set))
+        first_satisfied_with(&self.destroyed_tallies, set)
     }
 
     /// The place of the first policy that those left without the set would be short of.
@@ -215,7 +204,7 @@ impl DeadBook {
             ≡ first_short self.now.processes self.now.policies
             (without_set (sets.contains self.now.left) (sets.contains set.now)) }
     {
-        first_short(&self.policies, &self.map, &self.left.difference(set))
+        first_short_without(&self.left_tallies, set)
     }
 
     /// Those left that have the target's value of its key; the map is the one that the book was
@@ -235,9 +224,13 @@ impl DeadBook {
         ensures { self.new ≡ struck self.old set.now loss }
     {
         self.destroyed = self.destroyed.union(set);
+        put_in_each(&mut self.destroyed_tallies, set);
         match loss {
             Loss::Emptied => {}
-            Loss::Gone => self.left = self.left.difference(set),
+            Loss::Gone => {
+                self.left = self.left.difference(set);
+                drop_from_each(&mut self.left_tallies, set);
+            }
         }
     }
 
@@ -253,6 +246,9 @@ impl DeadBook {
         let destroyed = &mut self.destroyed;
         destroyed.invariant();
         destroyed.drop_one(p);
+        let mut back = ProcSet::empty();
+        back.put(p);
+        drop_from_each(&mut self.destroyed_tallies, &back);
     }
 
     /// The destroyed: they are short of every policy.

@@ -3,6 +3,7 @@
 
 mod dead_book;
 pub mod laws;
+mod tallies;
 mod verdict;
 
 pub use dead_book::{DeadBook, Loss, MakeFault, first_unmet};

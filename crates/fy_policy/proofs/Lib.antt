@@ -1,12 +1,17 @@
 pub mod Answered
 pub mod Bounds
 pub mod Counts
+pub mod Leaders
 pub mod Numerals
+pub mod Planting
 pub mod Readings
 pub mod SatLaws
 pub mod Shapes
+pub mod Standing
+pub mod Tallied
 pub mod Tests
 pub mod TextLaws
 pub mod TextOnce
 pub mod Texts
+pub mod Turning
 pub mod Walk

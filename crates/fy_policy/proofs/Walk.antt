@@ -25,10 +25,10 @@ use Rattle.fy_policy.proofs.Tests.{ValuesDiffer, ValuesOccur, satisfies-none}
 abbrev pub passing : List Locality → Key → Tree → (ℕ → Bool) → ℕ
 passing processes key q s = length (filter (λ v. satisfies processes q (group processes key v s)) (values_of processes key))
 
-has_none : (processes : List Locality) (key : Key) (v : List ℕ) (p : ℕ) → value_of processes key p ≡ None → has_value processes key v p ≡ false
+pub has_none : (processes : List Locality) (key : Key) (v : List ℕ) (p : ℕ) → value_of processes key p ≡ None → has_value processes key v p ≡ false
 has_none processes key v p e = ap (λ o. option_eq bytes_eq o (Some v)) e
 
-has_one : (processes : List Locality) (key : Key) (v w : List ℕ) (p : ℕ) → bytes_eq v w ≡ false → (has_value processes key v p && has_value processes key w p) ≡ false
+pub has_one : (processes : List Locality) (key : Key) (v w : List ℕ) (p : ℕ) → bytes_eq v w ≡ false → (has_value processes key v p && has_value processes key w p) ≡ false
 has_one processes key v w p apart = go (value_of processes key p)
   where
     go : (o : Option (List ℕ)) → (option_eq bytes_eq o (Some v) && option_eq bytes_eq o (Some w)) ≡ false

@@ -1,3 +1,4 @@
+pub mod Counted
 pub mod Fronts
 pub mod Laws
 pub mod Reading

@@ -5,10 +5,13 @@ mod copied;
 mod fault;
 pub mod laws;
 mod limits;
+mod node;
+mod planted;
 mod policy;
 mod reading;
 mod satisfaction;
 mod shape;
+mod tally;
 mod text;
 pub mod text_laws;
 
@@ -20,4 +23,5 @@ pub use limits::{
 };
 pub use policy::{Policy, satisfied};
 pub use reading::read_policy;
+pub use tally::Tally;
 pub use text::policy_text;

@@ -1,14 +1,13 @@
-use Rattle.std.proofs.Common.{ap, ◌∙◌, not}
-use Rattle.std.specs.List.{position}
+use Rattle.std.proofs.Common.{ap, ◌∙◌}
 use Rattle.std.specs.FinSet as sets
-use Rattle.fy_policy.specs.Sat.{satisfies}
-use Rattle.fy_decide.specs.Losses.{without_set}
-use Rattle.fy_decide.proofs.Deciding.{difference_is}
+use Rattle.fy_decide.specs.DeadBook.{Casualties}
+use Rattle.fy_decide.specs.Losses.{first_short, without_set}
+use Rattle.fy_decide.proofs.Tallying.{first-without}
 use Rattle.fy_decide.proofs.dead_book.DeadBook.too_few_left.Goals as goal
 
 pub returns : goal.returns
 returns c =
-    c.first_short.ensures.place
-    ∙ ap (λ qs. position (λ P. not (satisfies c.self.inside.map P (sets.contains c.difference.result))) qs) c.deref.ensures.value
-    ∙ ap (λ t. position (λ P. not (satisfies c.self.inside.map P t)) c.self.inside.policies.items) (ap sets.contains c.difference.ensures ∙ difference_is c.self.inside.left c.args.set.now)
-    ∙ ap (λ dead. position (λ P. not (satisfies dead.processes P (without_set (sets.contains dead.left) (sets.contains c.args.set.now)))) dead.policies) c.self.view_is
+    let inside : Casualties = record { processes = c.self.inside.map.value; policies = c.self.inside.policies.items; destroyed = c.self.inside.destroyed; left = c.self.inside.left } in
+    c.first_short_without.ensures
+    ∙ first-without inside c.args.set.now c.deref.result.now (c.deref.ensures.value ∙ c.self.invariant.left_agree)
+    ∙ ap (λ dead. first_short dead.processes dead.policies (without_set (sets.contains dead.left) (sets.contains c.args.set.now))) c.self.view_is

@@ -1,0 +1,95 @@
+//! Tallies of one set of processes, one by each policy.
+ghost use Rattle.std.specs.Prelude.{◌≡◌, not, map, IfOk};
+ghost use Rattle.std.specs.Arc.{arc_value};
+ghost use Rattle.std.specs.FinSet as sets;
+ghost use Rattle.std.specs.List.{position};
+ghost use Rattle.fy_policy.specs.Sat.{satisfies};
+ghost use Rattle.fy_decide.specs.Tallies.{tallied, with_all, without_all};
+
+use fy_locality::{Map, ProcSet};
+use fy_policy::{Policy, Tally};
+use std::alloc::{AllocError, Global};
+use std::sync::Arc;
+
+/// A tally of the set by each policy.
+///
+/// # Errors
+/// Want of memory.
+pub(crate) fn tallies_of(
+    alloc: Global,
+    map: &Arc<Map>,
+    policies: &[Policy],
+    set: &ProcSet,
+) -> Result<Vec<Tally>, AllocError>
+    ensures { IfOk result (λ tallies.
+        tallies.items ≡ tallied (arc_value map.now) policies.now set.now) }
+{
+    let mut tallies = Vec::new(alloc);
+    for policy in policies {
+        let mut tally = Tally::make(alloc, policy, map)?;
+        put_all(&mut tally, set);
+        tallies.push(tally)?;
+    }
+    Ok(tallies)
+}
+
+/// Puts a set into a tally. Takes no memory.
+fn put_all(tally: &mut Tally, set: &ProcSet)
+    ensures { tally.new ≡ with_all set.now tally.old }
+{
+    let mut rest = *set;
+    while let Some(p) = rest.least() {
+        rest.drop_one(p);
+        tally.add(p);
+    }
+}
+
+/// Takes a set out of a tally. Takes no memory.
+fn drop_all(tally: &mut Tally, set: &ProcSet)
+    ensures { tally.new ≡ without_all set.now tally.old }
+{
+    let mut rest = *set;
+    while let Some(p) = rest.least() {
+        rest.drop_one(p);
+        tally.remove(p);
+    }
+}
+
+/// Puts a set into each tally. Takes no memory.
+pub(crate) fn put_in_each(tallies: &mut [Tally], set: &ProcSet)
+    ensures { tallies.new ≡ map (with_all set.now) tallies.old }
+{
+    for i in 0..tallies.len() {
+        put_all(&mut tallies[i], set);
+    }
+}
+
+/// Takes a set out of each tally. Takes no memory.
+pub(crate) fn drop_from_each(tallies: &mut [Tally], set: &ProcSet)
+    ensures { tallies.new ≡ map (without_all set.now) tallies.old }
+{
+    for i in 0..tallies.len() {
+        drop_all(&mut tallies[i], set);
+    }
+}
+
+/// The place of the first policy that the tallies' set with this one satisfies. Takes no memory.
+pub(crate) fn first_satisfied_with(tallies: &[Tally], set: &ProcSet) -> Option<usize>
+    ensures { result ≡ position (λ tally.
+        satisfies tally.processes tally.policy (sets.contains (sets.union tally.set set.now)))
+        tallies.now }
+{
+    tallies.iter().position(|tally| tally.satisfied_with(set))
+}
+
+/// The place of the first policy that the tallies' set without this one is short of. Takes no
+/// memory.
+pub(crate) fn first_short_without(tallies: &[Tally], set: &ProcSet) -> Option<usize>
+    ensures { result ≡ position (λ tally. not
+        (satisfies tally.processes tally.policy
+        (sets.contains (sets.difference tally.set set.now)))) tallies.now }
+{
+    tallies
+        .iter()
+        .position(|tally| !tally.satisfied_without(set))
+}

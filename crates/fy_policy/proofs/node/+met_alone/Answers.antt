@@ -1,0 +1,46 @@
+use Rattle.std.proofs.Common.{◌≡◌, ◌≤◌, length, slice_index_or, sym, ap, subst, ◌∙◌}
+use Rattle.fy_policy.specs.Counted.{IsRight, tree_of_node, within, turned, place_in}
+use Rattle.fy_policy.specs.Sat.{satisfies}
+use Rattle.fy_policy.proofs.Standing.{both, and-yes, and-no, read-below, inner-right, place-fits}
+use Rattle.fy_policy.proofs.Turning.{one-alone, keyed-alone, keyless-alone, met-both-by}
+use Rattle.fy_policy.proofs.node.+met_alone.Goals as goal
+
+pub returns-in-One : goal.returns-in-One
+returns-in-One t c = λ at s few right small here inside was.
+    one-alone c.args.map.now at s c.args.p.0 c.args.comes c.args.group few small here inside was c.args.node.now c.in-One.counts c.in-One.is right c.count_at.result
+    (c.count_at.ensures ∙ ap (λ xs. slice_index_or xs c.args.group 0) c.deref.ensures.value) c.some_beside.result c.some_beside.ensures
+
+pub returns-then-has_key : goal.returns-then-has_key
+returns-then-has_key t c = λ at s few right small here inside was.
+    let place : c.count_at-below.result ≡ place_in c.in-Across.places.items c.args.p.0 = c.count_at-below.ensures ∙ ap (λ xs. slice_index_or xs c.args.p.0 0) c.deref-in-Across-2.ensures.value in
+    let below = inner-right c.args.map.now at s c.args.p.0 c.args.comes c.args.group few small here inside was c.args.node.now _ _ c.in-Across.places c.in-Across.counts c.in-Across.inner c.in-Across.is right in
+    let fits : place_in c.in-Across.places.items c.args.p.0 ≤ length c.args.map.now = place-fits c.args.map.now at s c.args.p.0 c.args.comes c.args.group few small here inside was c.args.node.now _ _ c.in-Across.places c.in-Across.counts c.in-Across.inner c.in-Across.is right in
+    keyed-alone c.args.map.now at s c.args.p.0 c.args.comes c.args.group few small here inside was c.args.node.now c.in-Across.wanted c.in-Across.key c.in-Across.places c.in-Across.counts c.in-Across.inner c.in-Across.is right c.count_at-count.result (c.count_at-count.ensures ∙ ap (λ xs. slice_index_or xs c.args.group 0) c.deref-in-Across.ensures.value)
+    c.values_differ.ensures c.values_occur.ensures (sym c.has_key.ensures ∙ c.if-has_key.true) c.met-before.result c.met_alone-after.result
+    (read-below c.args.map.now (place_in c.in-Across.places.items) s c.deref-then-has_key.result.now c.in-Across.inner.value c.count_at-below.result _ c.met-before.result c.met-before.ensures c.deref-then-has_key.ensures place below fits)
+    (c.met_alone-after.ensures (place_in c.in-Across.places.items) s few (subst (IsRight c.args.map.now (place_in c.in-Across.places.items) s) (sym c.deref-then-has_key-2.ensures) below) small (sym place)
+    (subst (λ k. k ≤ length c.args.map.now) (sym place) fits) was
+    ∙ (λ i. satisfies c.args.map.now (tree_of_node (c.deref-then-has_key-2.ensures i)) (within c.args.map.now (place_in c.in-Across.places.items) (place i) (turned s c.args.p.0 c.args.comes))))
+    c.recounted.result c.recounted.ensures
+
+pub returns-else-has_key : goal.returns-else-has_key
+returns-else-has_key t c = λ at s few right small here inside was.
+    keyless-alone c.args.map.now at s c.args.p.0 c.args.comes c.args.group few small here inside was c.args.node.now c.in-Across.wanted c.in-Across.key c.in-Across.places c.in-Across.counts c.in-Across.inner c.in-Across.is right c.count_at-count.result (c.count_at-count.ensures ∙ ap (λ xs. slice_index_or xs c.args.group 0) c.deref-in-Across.ensures.value)
+    (sym c.has_key.ensures ∙ c.if-has_key.false)
+
+pub returns-then-met_alone : goal.returns-then-met_alone
+returns-then-met_alone t c = λ at s few right small here inside was.
+    let parts = both c.args.map.now at s c.args.node.now c.in-Both.first c.in-Both.second c.in-Both.is right in
+    let s' = turned s c.args.p.0 c.args.comes in
+    and-yes _ _ _ _
+    (c.met_alone.ensures at s few (subst (IsRight c.args.map.now at s) (sym c.deref-in-Both.ensures) parts.0) small here inside was ∙ ap (λ n. satisfies c.args.map.now (tree_of_node n) (within c.args.map.now at c.args.group s')) c.deref-in-Both.ensures) c.if-met_alone.true
+    (c.met_alone-then-met_alone.ensures at s few (subst (IsRight c.args.map.now at s) (sym c.deref-then-met_alone.ensures) parts.1) small here inside was ∙ ap (λ n. satisfies c.args.map.now (tree_of_node n) (within c.args.map.now at c.args.group s')) c.deref-then-met_alone.ensures)
+    ∙ sym (met-both-by c.args.map.now at c.args.group s' c.args.node.now c.in-Both.first c.in-Both.second c.in-Both.is)
+
+pub returns-else-met_alone : goal.returns-else-met_alone
+returns-else-met_alone t c = λ at s few right small here inside was.
+    let parts = both c.args.map.now at s c.args.node.now c.in-Both.first c.in-Both.second c.in-Both.is right in
+    let s' = turned s c.args.p.0 c.args.comes in
+    and-no _ _ _
+    (c.met_alone.ensures at s few (subst (IsRight c.args.map.now at s) (sym c.deref-in-Both.ensures) parts.0) small here inside was ∙ ap (λ n. satisfies c.args.map.now (tree_of_node n) (within c.args.map.now at c.args.group s')) c.deref-in-Both.ensures) c.if-met_alone.false
+    ∙ sym (met-both-by c.args.map.now at c.args.group s' c.args.node.now c.in-Both.first c.in-Both.second c.in-Both.is)

@@ -1,0 +1,23 @@
+use Rattle.std.proofs.Common.{◌≡◌, ◌<◌, ◌≤◌, not, ℕ, Bool, true, length, refl, sym, ap, subst, ◌∙◌, arith}
+use Rattle.std.specs.FinSet as sets
+use Rattle.fy_policy.specs.Counted.{IsTallied, IsRight, turned}
+use Rattle.fy_policy.proofs.Standing.{tallied-turned, tallied-kept, turned-put, came, stayed}
+use Rattle.fy_policy.proofs.tally.Tally.add.Goals.{then-comes, else-comes}
+use Rattle.fy_policy.proofs.tally.Tally.add.Goals as goal
+
+pub invariant_of-self : goal.invariant_of-self
+invariant_of-self c =
+    let is : c.if-comes.self-inside.set ≡ c.self.inside.set → (x : ℕ) → turned (sets.contains c.self.inside.set) c.args.p.0 true x ≡ sets.contains c.put.new.self x =
+    (λ same x. turned-put c.self.inside.set c.args.p.0 x ∙ ap (λ s. sets.contains (sets.insert s c.args.p.0) x) (sym same) ∙ ap (λ s. sets.contains s x) (sym c.put.ensures)) in
+    elim c.if-comes.branch [
+      | then-comes w ↦
+          let told = came c.has.result c.has-2.result (sets.contains c.self.inside.set c.args.p.0) c.args.p.0 (length c.self.inside.map.value) w.if-comes.true (c.has.ensures ∙ c.self.invariant.everyone c.args.p.0) c.has-2.ensures in
+          let turn = subst (λ m. (at : ℕ → ℕ) (s : ℕ → Bool) → length m ≤ 1024 → IsRight m at s c.self.inside.node → c.args.p.0 < length m → at c.args.p.0 ≡ 0 → 0 ≤ length m → s c.args.p.0 ≡ not true → IsRight m at (turned s c.args.p.0 true) w.turn.new.node) w.deref.ensures w.turn.ensures.right in
+          subst (λ t. IsTallied t.map.value t.everyone t.policy c.put.new.self t.node) (sym w.self-inside-is)
+          (tallied-turned c.self.inside.map.value c.self.inside.everyone c.self.inside.policy c.self.inside.set c.put.new.self c.self.inside.node w.turn.new.node c.args.p.0 true c.self.invariant w.turn.ensures.tree
+          (turn (λ _. 0) (sets.contains c.self.inside.set) c.self.invariant.few c.self.invariant.right told.1 refl (omega arith) told.0) (is (ap (λ t. t.set) w.self-inside-is)))
+      | else-comes w ↦
+          subst (λ t. IsTallied t.map.value t.everyone t.policy c.put.new.self t.node) (sym w.self-inside-is)
+          (tallied-kept c.self.inside.map.value c.self.inside.everyone c.self.inside.policy c.self.inside.set c.put.new.self c.self.inside.node c.args.p.0 true c.self.invariant (is (ap (λ t. t.set) w.self-inside-is))
+          (λ small. stayed c.has.result c.has-2.result _ c.args.p.0 _ w.if-comes.false (c.has.ensures ∙ c.self.invariant.everyone c.args.p.0) c.has-2.ensures small))
+    ]

@@ -1,0 +1,23 @@
+use Rattle.std.proofs.Common.{◌≡◌, ◌<◌, ◌≤◌, ◌&&◌, not, ℕ, Bool, false, length, refl, sym, ap, subst, ◌∙◌, arith}
+use Rattle.std.specs.FinSet as sets
+use Rattle.fy_policy.specs.Counted.{IsTallied, IsRight, turned}
+use Rattle.fy_policy.proofs.Standing.{tallied-turned, tallied-kept, turned-dropped, came, stayed, not-not}
+use Rattle.fy_policy.proofs.tally.Tally.remove.Goals.{then-goes, else-goes}
+use Rattle.fy_policy.proofs.tally.Tally.remove.Goals as goal
+
+pub invariant_of-self : goal.invariant_of-self
+invariant_of-self c =
+    let is : c.if-goes.self-inside.set ≡ c.self.inside.set → (x : ℕ) → turned (sets.contains c.self.inside.set) c.args.p.0 false x ≡ sets.contains c.drop_one.new.self x =
+    (λ same x. turned-dropped c.self.inside.set c.args.p.0 x ∙ ap (λ s. sets.contains (sets.remove s c.args.p.0) x) (sym same) ∙ ap (λ s. sets.contains s x) (sym c.drop_one.ensures)) in
+    elim c.if-goes.branch [
+      | then-goes w ↦
+          let told = came c.has.result (not c.has-2.result) (not (sets.contains c.self.inside.set c.args.p.0)) c.args.p.0 (length c.self.inside.map.value) (ap (λ b. c.has.result && b) (not-not c.has-2.result) ∙ w.if-goes.true) (c.has.ensures ∙ c.self.invariant.everyone c.args.p.0) (ap not c.has-2.ensures) in
+          let turn = subst (λ m. (at : ℕ → ℕ) (s : ℕ → Bool) → length m ≤ 1024 → IsRight m at s c.self.inside.node → c.args.p.0 < length m → at c.args.p.0 ≡ 0 → 0 ≤ length m → s c.args.p.0 ≡ not false → IsRight m at (turned s c.args.p.0 false) w.turn.new.node) w.deref.ensures w.turn.ensures.right in
+          subst (λ t. IsTallied t.map.value t.everyone t.policy c.drop_one.new.self t.node) (sym w.self-inside-is)
+          (tallied-turned c.self.inside.map.value c.self.inside.everyone c.self.inside.policy c.self.inside.set c.drop_one.new.self c.self.inside.node w.turn.new.node c.args.p.0 false c.self.invariant w.turn.ensures.tree
+          (turn (λ _. 0) (sets.contains c.self.inside.set) c.self.invariant.few c.self.invariant.right told.1 refl (omega arith) (sym (not-not _) ∙ ap not told.0)) (is (ap (λ t. t.set) w.self-inside-is)))
+      | else-goes w ↦
+          subst (λ t. IsTallied t.map.value t.everyone t.policy c.drop_one.new.self t.node) (sym w.self-inside-is)
+          (tallied-kept c.self.inside.map.value c.self.inside.everyone c.self.inside.policy c.self.inside.set c.drop_one.new.self c.self.inside.node c.args.p.0 false c.self.invariant (is (ap (λ t. t.set) w.self-inside-is))
+          (λ small. sym (not-not _) ∙ ap not (stayed c.has.result (not c.has-2.result) (not (sets.contains c.self.inside.set c.args.p.0)) c.args.p.0 _ (ap (λ b. c.has.result && b) (not-not c.has-2.result) ∙ w.if-goes.false) (c.has.ensures ∙ c.self.invariant.everyone c.args.p.0) (ap not c.has-2.ensures) small)))
+    ]

@@ -1,0 +1,129 @@
+-- a policy's tree with counts: what its counts are for a set of processes
+use Rattle.std.specs.Prelude.{◌≡◌, ◌≢◌, ℕ, ◌+◌, ◌^◌, ◌<◌, ◌≤◌, Bool, ◌&&◌, not, cond, List, length, filter, Some, None, true, false, nat_lt, slice_index_or}
+use Rattle.std.specs.Ordering.{nat_cmp}
+use Rattle.std.specs.FinSet as sets
+use Rattle.std.proofs.Common.{zero, suc, eqb}
+use Rattle.fy_locality.specs.declared.locality.Locality.{Locality}
+use Rattle.fy_locality.specs.declared.key.Key.{Key}
+use Rattle.fy_locality.specs.declared.TheConstants.{MOST_PROCESSES}
+use Rattle.fy_locality.specs.Locality.{has_value, value_of, values_of}
+use Rattle.fy_policy.specs.declared.node.Node.{Node, One, Across', Both'}
+use Rattle.fy_policy.specs.Sat.{group, satisfies}
+use Rattle.fy_policy.specs.Tree.{Tree, one, across, every, part, none, IsWellFormed}
+
+-- the policy of a counted tree, its parts two by two
+abbrev pub tree_of_node : Node → Tree
+tree_of_node (One counts) = one
+tree_of_node (Across' n key places counts ptr inner) = across n key (tree_of_node inner)
+tree_of_node (Both' p a q b) = every (part (tree_of_node a) (part (tree_of_node b) none))
+
+-- how many numbers below n pass
+abbrev pub number_of : (ℕ → Bool) → ℕ → ℕ
+number_of f zero = 0
+number_of f (suc n) = cond (f n) 1 0 + number_of f n
+
+-- how many values of a key have a group in s that satisfies q
+abbrev pub passing : List Locality → Key → Tree → (ℕ → Bool) → ℕ
+passing processes key q s =
+    length (filter (λ v. satisfies processes q (group processes key v s)) (values_of processes key))
+
+-- the processes of s that stand in group g
+abbrev pub within : List Locality → (ℕ → ℕ) → ℕ → (ℕ → Bool) → ℕ → Bool
+within processes at g s q = nat_lt q (length processes) && (eqb (at q) g && s q)
+
+-- s after process p came or went
+abbrev pub turned : (ℕ → Bool) → ℕ → Bool → ℕ → Bool
+turned s p comes q = cond (eqb q p) comes (s q)
+
+-- s after those came or went
+abbrev pub turned_by : (ℕ → Bool) → (ℕ → Bool) → Bool → ℕ → Bool
+turned_by s those comes q = cond (those q) comes (s q)
+
+-- those of a group who can come, as none of them is in s, or go, as each of them is
+pub record CanTurn
+    (processes : List Locality) (at : ℕ → ℕ) (group : ℕ) (s : ℕ → Bool)
+    (those : ℕ → Bool) (comes : Bool) : Type 0 where
+  pub known : (q : ℕ) → those q ≡ true → q < length processes
+  pub here : (q : ℕ) → those q ≡ true → at q ≡ group
+  pub were : (q : ℕ) → those q ≡ true → s q ≡ not comes
+
+-- the group of each process, as listed
+abbrev pub place_in : List ℕ → ℕ → ℕ
+place_in places p = slice_index_or places p 0
+
+-- a count for each group, of which the numbers run to the number of processes
+pub record AreCounts (processes : List Locality) (counts : List ℕ) (f : ℕ → ℕ) : Type 0
+  where
+    pub wide : length counts ≡ length processes + 1
+    pub each : (g : ℕ) → g ≤ length processes → slice_index_or counts g 0 ≡ f g
+
+-- one of those counted at a group was counted before, or wasn't, and is counted after, or isn't
+pub record IsRecounted
+    (old : List ℕ) (group : ℕ) (before after : Bool) (new : List ℕ) : Type 0 where
+  pub wide : length new ≡ length old
+  pub others : (i : ℕ) → i ≢ group → slice_index_or new i 0 ≡ slice_index_or old i 0
+  pub here : group < length old → slice_index_or old group 0 < 2 ^ 31
+      → cond before 1 0 ≤ slice_index_or old group 0 + cond after 1 0
+      → slice_index_or new group 0 + cond before 1 0
+      ≡ slice_index_or old group 0 + cond after 1 0
+
+-- below a key those stand together that stood together and have the same value of it
+pub record IsParted (processes : List Locality) (key : Key) (at below : ℕ → ℕ) : Type 0
+  where
+    pub fits : (p : ℕ) → p < length processes → below p ≤ length processes
+    pub same : (p q : ℕ) (v : List ℕ) → p < length processes → q < length processes
+        → value_of processes key p ≡ Some v
+        → eqb (below q) (below p) ≡ (eqb (at q) (at p) && has_value processes key v q)
+
+-- the least process of those that stand together with process p and have the value v of the key
+pub record IsLeaderOf
+    (processes : List Locality) (key : Key) (at : ℕ → ℕ) (p : ℕ) (v : List ℕ) (l : ℕ) : Type 0
+  where
+    pub together : eqb (at l) (at p) ≡ true
+    pub has : has_value processes key v l ≡ true
+    pub none_below : (x : ℕ) → x < l
+        → (eqb (at x) (at p) && has_value processes key v x) ≡ false
+
+-- a process stands at the leader of its group; one without the key stands alone
+pub record IsLeader (processes : List Locality) (key : Key) (at : ℕ → ℕ) (p l : ℕ) : Type 0
+  where
+    pub fits : l < length processes
+    pub alone : value_of processes key p ≡ None → l ≡ p
+    pub leads : (v : List ℕ)
+        → value_of processes key p ≡ Some v → IsLeaderOf processes key at p v l
+
+-- the counts are those of s, where the processes stand in these groups
+unfoldable pub IsRight : List Locality → (ℕ → ℕ) → (ℕ → Bool) → Node → Type 0
+IsRight processes at s (One counts) =
+    AreCounts processes counts.items
+    (λ g. number_of (within processes at g s) (length processes))
+IsRight processes at s (Across' n key places counts ptr inner) =
+    AreCounts processes counts.items
+    (λ g. passing processes key (tree_of_node inner) (within processes at g s))
+    × IsWellFormed (tree_of_node inner) × IsParted processes key at (place_in places.items)
+    × IsRight processes (place_in places.items) s inner
+IsRight processes at s (Both' p a q b) = IsRight processes at s a × IsRight processes at s b
+
+-- the counted tree of a policy, for nobody
+pub record IsPlanted
+    (processes : List Locality) (at : ℕ → ℕ) (tree : Tree) (node : Node) : Type 0 where
+  pub same : (s : ℕ → Bool)
+      → satisfies processes (tree_of_node node) s ≡ satisfies processes tree s
+  pub counted : IsWellFormed (tree_of_node node)
+  pub right : IsRight processes at (λ _. false) node
+
+-- what a Tally is seen as: the processes of its map, its policy, and a set
+pub record Tallied : Type 0 where
+  pub processes : List Locality
+  pub policy : Tree
+  pub set : sets.FinSet nat_cmp
+
+-- the counted tree is the policy's, and its counts are those of the set
+pub record IsTallied
+    (processes : List Locality) (all : sets.FinSet nat_cmp) (policy : Tree)
+    (set : sets.FinSet nat_cmp) (node : Node) : Type 0 where
+  pub few : length processes ≤ MOST_PROCESSES
+  pub everyone : (q : ℕ) → sets.contains all q ≡ nat_lt q (length processes)
+  pub same : (s : ℕ → Bool)
+      → satisfies processes (tree_of_node node) s ≡ satisfies processes policy s
+  pub right : IsRight processes (λ _. 0) (sets.contains set) node

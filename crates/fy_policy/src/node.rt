@@ -1,0 +1,274 @@
+//! A policy's tree with counts, for every group of processes at once.
+ghost use Rattle.std.specs.Prelude.{is_some, IfOk, IsTrue, ◌≡◌, ◌+◌, ◌^◌, ◌<◌, ◌≤◌, ℕ, Bool, true, false, not, ◌||◌, cond, nat_lt, List, length, slice_index_or};
+ghost use Rattle.std.specs.FinSet as sets;
+ghost use Rattle.fy_locality.specs.declared.TheConstants.{MOST_PROCESSES};
+ghost use Rattle.fy_locality.specs.declared.locality.Locality.{Locality};
+ghost use Rattle.fy_locality.specs.Locality.{value_of};
+ghost use Rattle.fy_policy.specs.Sat.{satisfies};
+ghost use Rattle.fy_policy.specs.Counted.{tree_of_node, IsLeader, IsRight, IsRecounted, place_in, within, turned, turned_by, CanTurn};
+
+use fy_locality::{Key, Map, ProcId, ProcSet, laws};
+use std::alloc::{AllocError, Global};
+
+/// A policy, counted for a set of processes. Each node parts the processes into groups, and each
+/// group has the number of its least process; the root has one group. A node below an `Across`
+/// parts them by the value of its key too.
+#[derive(Drop)]
+pub(crate) enum Node {
+    /// For each group how many of its processes are in the set.
+    One(Vec<u32>),
+    /// The count that is wanted, the key, for each process its group below, for each group of this
+    /// node how many of its groups below are satisfied, and the node below.
+    Across(u32, Key, Vec<u32>, Vec<u32>, Box<Node>),
+    /// Two policies at once.
+    Both(Box<Node>, Box<Node>),
+}
+
+/// The count of a group; none where there is no such group.
+fn count_at(counts: &[u32], group: u32) -> u32
+    ensures { result ≡ slice_index_or counts.now group 0 }
+{
+    match counts.get(group as usize) {
+        Some(count) => *count,
+        None => 0,
+    }
+}
+
+/// A count after one of those counted was looked at again: it counted before, and it counts after.
+fn recounted(count: u32, before: bool, after: bool) -> u32
+    ensures { count < 2 ^ 31 → cond before 1 0 ≤ count + cond after 1 0
+        → result + cond before 1 0 ≡ count + cond after 1 0 }
+{
+    count
+        .saturating_add(u32::from(after))
+        .saturating_sub(u32::from(before))
+}
+
+/// Counts one again at a group.
+fn recount(counts: &mut [u32], group: u32, before: bool, after: bool)
+    ensures { IsRecounted counts.old group before after counts.new }
+{
+    let i = group as usize;
+    if i < counts.len() {
+        counts[i] = recounted(counts[i], before, after);
+    }
+}
+
+/// Whether the set satisfies the policy at a group.
+pub(crate) fn met(node: &Node, group: u32) -> bool
+    ensures { (processes : List Locality) (at : ℕ → ℕ) (s : ℕ → Bool)
+        → IsRight processes at s node.now → group ≤ length processes
+        → result ≡ satisfies processes (tree_of_node node.now) (within processes at group s) }
+{
+    match node {
+        Node::One(counts) => count_at(counts, group) > 0,
+        Node::Across(wanted, _, _, counts, _) => count_at(counts, group) >= *wanted,
+        Node::Both(first, second) => met(first, group) && met(second, group),
+    }
+}
+
+/// Puts a process of the group into the set, or takes it out.
+pub(crate) fn turn(node: &mut Node, map: &Map, group: u32, p: ProcId, comes: bool)
+    ensures tree { tree_of_node node.new ≡ tree_of_node node.old }
+    ensures right { (at : ℕ → ℕ) (s : ℕ → Bool) → length map.now ≤ MOST_PROCESSES
+        → IsRight map.now at s node.old → p.0 < length map.now → at p.0 ≡ group
+        → group ≤ length map.now → s p.0 ≡ not comes
+        → IsRight map.now at (turned s p.0 comes) node.new }
+{
+    match node {
+        Node::One(counts) => recount(counts, group, !comes, comes),
+        Node::Across(_, key, places, counts, inner) => {
+            laws::values_differ();
+            laws::values_occur();
+            let below = count_at(places, p.0);
+            let before = met(inner, below);
+            turn(inner, map, below, p, comes);
+            let after = met(inner, below);
+            if has_key(map, p, *key) {
+                recount(counts, group, before, after);
+            }
+        }
+        Node::Both(first, second) => {
+            turn(first, map, group, p, comes);
+            turn(second, map, group, p, comes);
+        }
+    }
+}
+
+/// Whether the set would satisfy the policy at a group after these of its processes came or went.
+/// One process is followed through the nodes alone.
+pub(crate) fn met_after(node: &Node, map: &Map, group: u32, those: &ProcSet, comes: bool) -> bool
+    ensures { (at : ℕ → ℕ) (s : ℕ → Bool) → length map.now ≤ MOST_PROCESSES
+        → IsRight map.now at s node.now → group ≤ length map.now
+        → CanTurn map.now at group s (sets.contains those.now) comes
+        → result ≡ satisfies map.now (tree_of_node node.now)
+        (within map.now at group (turned_by s (sets.contains those.now) comes)) }
+{
+    if those.len() == 1 {
+        if let Some(p) = those.least() {
+            return met_alone(node, map, group, p, comes);
+        }
+    }
+    met_turned(node, map, group, those, comes)
+}
+
+/// The same by value after value of these processes.
+fn met_turned(node: &Node, map: &Map, group: u32, those: &ProcSet, comes: bool) -> bool
+    ensures { (at : ℕ → ℕ) (s : ℕ → Bool) → length map.now ≤ MOST_PROCESSES
+        → IsRight map.now at s node.now → group ≤ length map.now
+        → CanTurn map.now at group s (sets.contains those.now) comes
+        → result ≡ satisfies map.now (tree_of_node node.now)
+        (within map.now at group (turned_by s (sets.contains those.now) comes)) }
+{
+    match node {
+        Node::One(counts) => some_after(count_at(counts, group), those, comes),
+        Node::Across(wanted, key, places, counts, inner) => {
+            laws::values_differ();
+            laws::values_occur();
+            let mut count = count_at(counts, group);
+            if is_out_of_reach(count, *wanted, those, comes) {
+                return !comes;
+            }
+            let mut rest = *those;
+            while let Some(p) = rest.least() {
+                match map.peers(p, *key) {
+                    None => rest.drop_one(p),
+                    Some(peers) => {
+                        let part = rest.intersection(&peers);
+                        rest = rest.difference(&part);
+                        let below = count_at(places, p.0);
+                        let before = met(inner, below);
+                        let after = met_turned(inner, map, below, &part, comes);
+                        count = recounted(count, before, after);
+                    }
+                }
+            }
+            count >= *wanted
+        }
+        Node::Both(first, second) => {
+            met_turned(first, map, group, those, comes)
+                && met_turned(second, map, group, those, comes)
+        }
+    }
+}
+
+/// The same for one process, of which no set need be made.
+fn met_alone(node: &Node, map: &Map, group: u32, p: ProcId, comes: bool) -> bool
+    ensures { (at : ℕ → ℕ) (s : ℕ → Bool) → length map.now ≤ MOST_PROCESSES
+        → IsRight map.now at s node.now → p.0 < length map.now → at p.0 ≡ group
+        → group ≤ length map.now → s p.0 ≡ not comes
+        → result ≡ satisfies map.now (tree_of_node node.now)
+        (within map.now at group (turned s p.0 comes)) }
+{
+    match node {
+        Node::One(counts) => some_beside(count_at(counts, group), comes),
+        Node::Across(wanted, key, places, counts, inner) => {
+            laws::values_differ();
+            laws::values_occur();
+            let count = count_at(counts, group);
+            let below = count_at(places, p.0);
+            if has_key(map, p, *key) {
+                let before = met(inner, below);
+                let after = met_alone(inner, map, below, p, comes);
+                recounted(count, before, after) >= *wanted
+            } else {
+                count >= *wanted
+            }
+        }
+        Node::Both(first, second) => {
+            met_alone(first, map, group, p, comes) && met_alone(second, map, group, p, comes)
+        }
+    }
+}
+
+/// Whether there is somebody after one came to so many, or went from them.
+fn some_beside(count: u32, comes: bool) -> bool
+    ensures { result ≡ (comes || nat_lt 1 count) }
+{
+    comes || count > 1
+}
+
+/// Whether there is somebody after these came to so many, or went from them.
+fn some_after(count: u32, those: &ProcSet, comes: bool) -> bool
+    ensures comes { comes ≡ true → result ≡ nat_lt 0 (count + sets.len those.now) }
+    ensures goes { comes ≡ false → result ≡ nat_lt (sets.len those.now) count }
+{
+    if comes {
+        count > 0 || those.len() > 0
+    } else {
+        count > those.len()
+    }
+}
+
+/// Whether a count stays below what is wanted, however these come, or stays there, however they go:
+/// each of them changes the count by one at most.
+fn is_out_of_reach(count: u32, wanted: u32, those: &ProcSet, comes: bool) -> bool
+    ensures comes { IsTrue result → comes ≡ true → count + sets.len those.now < wanted }
+    ensures goes { IsTrue result → comes ≡ false → wanted + sets.len those.now ≤ count }
+{
+    if comes {
+        count.saturating_add(those.len()) < wanted
+    } else {
+        count >= those.len() && count - those.len() >= wanted
+    }
+}
+
+/// Whether a process has a value of a key.
+fn has_key(map: &Map, p: ProcId, key: Key) -> bool
+    ensures { result ≡ is_some (value_of map.now key p.0) }
+{
+    p.0 < map.len() && map.value(p, key).is_some()
+}
+
+/// The number of the group of a process where groups are parted by a key: its least process. A
+/// process without the key is a group of its own.
+fn leader(map: &Map, places: &[u32], p: ProcId, key: Key) -> u32
+    requires { p.0 < length map.now }
+    ensures { IsLeader map.now key (place_in places.now) p.0 result }
+{
+    laws::processes_have_values();
+    match map.peers(p, key) {
+        None => p.0,
+        Some(peers) => {
+            let group = count_at(places, p.0);
+            let mut rest = peers;
+            while let Some(q) = rest.least() {
+                if count_at(places, q.0) == group {
+                    return q.0;
+                }
+                rest.drop_one(q);
+            }
+            p.0
+        }
+    }
+}
+
+/// For each process its group where groups are parted by a key.
+pub(crate) fn parted(
+    alloc: Global,
+    map: &Map,
+    places: &[u32],
+    key: Key,
+) -> Result<Vec<u32>, AllocError>
+    ensures wide { IfOk result (λ below. length below.items ≡ length map.now) }
+    ensures leaders { IfOk result (λ below. (p : ℕ) → p < length map.now
+        → IsLeader map.now key (place_in places.now) p (place_in below.items p)) }
+{
+    let mut below = Vec::new(alloc);
+    for p in 0..map.len() {
+        below.push(leader(map, places, ProcId(p), key))?;
+    }
+    Ok(below)
+}
+
+/// So many zeros.
+pub(crate) fn zeros(alloc: Global, count: u32) -> Result<Vec<u32>, AllocError>
+    ensures wide { IfOk result (λ counts. length counts.items ≡ count) }
+    ensures zeros { IfOk result (λ counts. (i : ℕ) → slice_index_or counts.items i 0 ≡ 0) }
+{
+    let mut counts = Vec::with_capacity(alloc, count as usize)?;
+    for _ in 0..count {
+        counts.push(0)?;
+    }
+    Ok(counts)
+}

@@ -1,0 +1,130 @@
+//! A set of processes with whether it satisfies a policy, kept while processes come and go.
+ghost use Rattle.std.specs.Prelude.{◌≡◌, ◌<◌, IfOk};
+ghost use Rattle.std.specs.Arc.{arc_value};
+ghost use Rattle.std.specs.FinSet as sets;
+ghost use Rattle.fy_locality.specs.declared.TheConstants.{MOST_PROCESSES};
+ghost use Rattle.fy_policy.specs.Sat.{satisfies};
+
+use crate::Policy;
+use crate::node::{Node, met, met_after, turn, zeros};
+use crate::planted::planted;
+use fy_locality::{Map, ProcId, ProcSet};
+use std::alloc::{AllocError, Global};
+use std::marker::Model;
+use std::sync::Arc;
+
+/// A policy, the processes of a map, and a set of processes. Whether the set satisfies the policy
+/// is counted along the policy's tree, for every group of processes, so that a process that comes
+/// or goes is counted once a node. Those who share a map share it here too.
+pub struct Tally {
+    map: Arc<Map>,
+    everyone: ProcSet,
+    policy: Policy,
+    node: Node,
+    set: ProcSet,
+}
+
+impl Model for Tally {
+    ghost use Rattle.std.specs.Coded.{codes, coded_ℕ};
+    ghost use Rattle.std.specs.FinSet as sets;
+    ghost use Rattle.std.specs.Ordering.{nat_cmp};
+    ghost use Rattle.fy_locality.specs.contracts.locality.Locality as e;
+    ghost use Rattle.fy_policy.specs.TreeCode.{tree_code};
+    ghost use Rattle.fy_policy.specs.Counted.{Tallied, IsTallied};
+
+    ghost Value = { Tallied };
+
+    ghost coded = { Prim.hlevel
+        (codes, tree_code, e.the_row.coded, sets.code {R = nat_cmp} coded_ℕ) };
+
+    ghost view = { λ t. record { processes = t.map.value; policy = t.policy; set = t.set } };
+
+    ghost invariant = { λ t. IsTallied t.map.value t.everyone t.policy t.set t.node };
+}
+
+// Written out, so that whoever drops a tally makes one call.
+impl Drop for Tally {
+    fn drop(self) {
+        let Tally {
+            map: _,
+            everyone: _,
+            policy: _,
+            node: _,
+            set: _,
+        } = self;
+    }
+}
+
+impl Tally {
+    /// The empty set, of the processes of a map and by a policy.
+    ///
+    /// # Errors
+    /// Want of memory.
+    pub fn make(alloc: Global, policy: &Policy, map: &Arc<Map>) -> Result<Tally, AllocError>
+        ensures { IfOk result (λ t. (t.processes ≡ arc_value map.now)
+            × (t.policy ≡ policy.now) × (t.set ≡ sets.empty)) }
+    {
+        let places = zeros(alloc, map.len())?;
+        let node = planted(alloc, policy.shape(), map, &places)?;
+        Ok(Tally {
+            map: Arc::try_clone(map)?,
+            everyone: map.everyone(),
+            policy: policy.try_copy(alloc)?,
+            node,
+            set: ProcSet::empty(),
+        })
+    }
+
+    /// Puts a process in. Takes no memory.
+    pub fn add(&mut self, p: ProcId)
+        requires { p.0 < MOST_PROCESSES }
+        ensures { self.new ≡ record self.old { set = sets.insert self.old.set p.0 } }
+    {
+        let comes = self.everyone.has(p) & !self.set.has(p);
+        if comes {
+            turn(&mut self.node, &self.map, 0, p, true);
+        }
+        self.set.put(p);
+    }
+
+    /// Takes a process out. Takes no memory.
+    pub fn remove(&mut self, p: ProcId)
+        requires { p.0 < MOST_PROCESSES }
+        ensures { self.new ≡ record self.old { set = sets.remove self.old.set p.0 } }
+    {
+        let goes = self.everyone.has(p) & self.set.has(p);
+        if goes {
+            turn(&mut self.node, &self.map, 0, p, false);
+        }
+        self.set.drop_one(p);
+    }
+
+    /// Whether the set satisfies the policy. Takes no memory.
+    pub fn satisfied(&self) -> bool
+        ensures { result
+            ≡ satisfies self.now.processes self.now.policy (sets.contains self.now.set) }
+    {
+        met(&self.node, 0)
+    }
+
+    /// Whether the set with those given would satisfy the policy. Takes no memory.
+    pub fn satisfied_with(&self, given: &ProcSet) -> bool
+        ensures { result ≡ satisfies self.now.processes self.now.policy
+            (sets.contains (sets.union self.now.set given.now)) }
+    {
+        let comers = given.intersection(&self.everyone).difference(&self.set);
+        met_after(&self.node, &self.map, 0, &comers, true)
+    }
+
+    /// Whether the set without those given would satisfy the policy. Takes no memory.
+    pub fn satisfied_without(&self, given: &ProcSet) -> bool
+        ensures { result ≡ satisfies self.now.processes self.now.policy
+            (sets.contains (sets.difference self.now.set given.now)) }
+    {
+        let goers = given.intersection(&self.everyone).intersection(&self.set);
+        met_after(&self.node, &self.map, 0, &goers, false)
+    }
+}
+
+#[cfg(test)]
+mod tests;
