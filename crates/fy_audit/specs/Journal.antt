@@ -1,8 +1,8 @@
 -- a journal as the list of its entries
 use Rattle.std.specs.Prelude.{◌≡◌, ℕ, ◌+◌, ◌-◌, ◌≤◌, List, [], ◌∷◌, ◌++◌, length, slice_get, Some}
-use Rattle.fy_audit.specs.declared.act.Act.{Act}
-use Rattle.fy_audit.specs.declared.reply.Reply.{Reply}
-use Rattle.fy_audit.specs.declared.entry.Entry.{Entry}
+use Rattle.fy_spelling.specs.declared.act.Act.{Act}
+use Rattle.fy_spelling.specs.declared.reply.Reply.{Reply}
+use Rattle.fy_spelling.specs.declared.entry.Entry.{Entry}
 use Rattle.fy_audit.specs.declared.version.Version.{Version}
 use Rattle.fy_audit.specs.declared.limits.TheConstants.{MOST_ENTRIES}
 

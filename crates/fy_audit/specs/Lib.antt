@@ -1,3 +1,5 @@
-pub mod Acts
 pub mod Journal
 pub mod Kept
+pub mod AuditText
+pub mod Script
+pub mod One

@@ -114,6 +114,13 @@ impl Journal {
         self.entries.get(place)
     }
 
+    /// All entries, the oldest first.
+    pub fn entries(&self) -> &[Entry]
+        ensures { result.now ≡ self.now.entries }
+    {
+        self.entries.as_slice()
+    }
+
     /// Each entry is numbered by its place, and with the room there are no more than 2^32.
     pub fn invariant(&self)
         ensures { IsLog self.now }

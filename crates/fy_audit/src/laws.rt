@@ -1,12 +1,20 @@
-//! Laws of acts and entries, for the crates above.
-ghost use Rattle.std.specs.Prelude.{◌≡◌, ◌↔◌, IsTrue};
-ghost use Rattle.fy_audit.specs.declared.act.Act.{Act};
-ghost use Rattle.fy_audit.specs.declared.entry.Entry.{Entry};
+//! Laws of scripts and audits, for the crates above.
+ghost use Rattle.fy_audit.specs.One.{AuditIsOne, ScriptIsOne};
 
-use crate::{Act, Entry};
+use fy_spelling::laws::{a_line_comes_to_one, a_text_is_a_line, a_text_is_of_one_entry};
 
-/// Acts are equal where they are the same, and so are entries.
-pub fn equal_is_the_same()
-    ensures acts { (a b : Act) → IsTrue (⟦<Act as PartialEq>⟧.eq a b) ↔ (a ≡ b) }
-    ensures entries { (a b : Entry) → IsTrue (⟦<Entry as PartialEq>⟧.eq a b) ↔ (a ≡ b) }
-{}
+/// Bytes are one script, or have one first fault.
+pub fn a_script_is_one()
+    ensures { ScriptIsOne }
+{
+    a_line_comes_to_one()
+}
+
+/// Two journals with one text, whose entries' numbers and names fit, are of one version and have
+/// the same entries.
+pub fn an_audit_is_of_one_journal()
+    ensures { AuditIsOne }
+{
+    a_text_is_a_line();
+    a_text_is_of_one_entry()
+}

@@ -1,19 +1,16 @@
-//! What actors ask of a cluster, what it replies, and the journal of both.
+//! The journal of a cluster, every act with its reply, and scripts of acts to come.
 #![tactic(auto)]
 
-mod act;
-mod entry;
 mod journal;
 pub mod laws;
 mod limits;
-mod reply;
+mod script;
 #[cfg(test)]
 mod tests;
 mod version;
 
-pub use act::Act;
-pub use entry::Entry;
+pub use fy_spelling::{Act, Command, Entry, LineFault, MOST_LINE_BYTES, Refusal, Reply};
 pub use journal::Journal;
 pub use limits::MOST_ENTRIES;
-pub use reply::{Refusal, Reply};
+pub use script::{MOST_SCRIPT_BYTES, ScriptFault, read_script};
 pub use version::Version;

@@ -1,8 +1,6 @@
 use super::*;
 use fy_disk::Payload;
-use fy_grants::{Grant, Scope};
-use fy_kinds::{KillOrder, Kind, KindSet, Target};
-use fy_locality::{BadName, Key, Name, ProcId};
+use fy_locality::ProcId;
 use fy_team::Members;
 use std::alloc::Global;
 use std::test::Fail;
@@ -10,13 +8,6 @@ use std::test::Fail;
 const P0: ProcId = ProcId(0);
 
 const P2: ProcId = ProcId(2);
-
-fn zone(text: &str) -> Result<Target, BadName> {
-    Ok(Target {
-        key: Key::Zone,
-        value: Name::make(text)?,
-    })
-}
 
 /// The form of a team under policy 3, where its members are made.
 fn form(alloc: Global, members: &[ProcId]) -> Option<Act> {
@@ -28,10 +19,6 @@ fn form(alloc: Global, members: &[ProcId]) -> Option<Act> {
 fn begin(alloc: Global, bytes: &[u8]) -> Option<Act> {
     let payload = Payload::make(alloc, bytes).ok()?;
     Some(Act::Begin { team: 4, payload })
-}
-
-fn copy(act: &Act, alloc: Global) -> Option<Act> {
-    act.try_copy(alloc).ok()
 }
 
 fn is_form(act: &Act, wanted: &[ProcId]) -> bool {
@@ -87,18 +74,6 @@ fn a_journal_keeps_its_version(rt: HostRuntime) -> Result<(), Fail> {
 }
 
 #[test]
-fn acts_with_lists_are_copied(rt: HostRuntime) -> Result<(), Fail> {
-    let alloc = rt.alloc();
-    let forming = form(alloc, &[P0, P2]).ok_or("no form")?;
-    let beginning = begin(alloc, b"hi").ok_or("no begin")?;
-    let formed = copy(&forming, alloc).ok_or("no copy of the form")?;
-    let begun = copy(&beginning, alloc).ok_or("no copy of the begin")?;
-    assert!(rt; is_form(&formed, &[P0, P2]) && is_form(&forming, &[P0, P2]));
-    assert!(rt; is_begin(&begun, &[0x68, 0x69]) && is_begin(&beginning, b"hi"));
-    Ok(())
-}
-
-#[test]
 fn entries_are_numbered_by_place(rt: HostRuntime) -> Result<(), Fail> {
     let alloc = rt.alloc();
     let mut journal = Journal::make(alloc);
@@ -131,161 +106,65 @@ fn a_journal_takes_a_hundred_thousand_entries(rt: HostRuntime) -> Result<(), Fai
     Ok(())
 }
 
-/// A form with as many members, and a begin with as many bytes, where they are made.
-fn longest(alloc: Global, members: u32, bytes: usize) -> Option<(Act, Act)> {
-    let mut processes = Vec::new(alloc);
-    for p in 0..members {
-        processes.push(ProcId(p)).ok()?;
+#[test]
+fn scripts_are_read_line_by_line(rt: HostRuntime) -> Result<(), Fail> {
+    let alloc = rt.alloc();
+    // The second line has blanks and members in another order, and lacks its line feed.
+    let script = b"{\"by\":7,\"act\":{\"lose\":{\"message\":5}}}\n\
+        { \"act\" : {\"up\": {\"process\": 2}}, \"by\" : 0 }";
+    let commands = read_script(alloc, script).map_err(|_| Fail::from("no script"))?;
+    let [first, second] = commands.as_slice() else {
+        return Err(Fail::from("two commands"));
+    };
+    assert!(rt; first.by == 7 && first.act == Act::Lose { message: 5 });
+    assert!(rt; second.by == 0 && second.act == Act::Up { process: P2 });
+    let none = read_script(alloc, b"").map_err(|_| Fail::from("no script"))?;
+    assert_eq!(rt; none.len(), 0);
+    Ok(())
+}
+
+#[test]
+fn the_first_faulty_line_is_told(rt: HostRuntime) -> Result<(), Fail> {
+    let alloc = rt.alloc();
+    let cases = [
+        ("\n{}", 1, LineFault::Syntax),
+        (
+            "{\"by\":0,\"act\":{\"up\":{\"process\":2}}}\n\n",
+            2,
+            LineFault::Syntax,
+        ),
+        (
+            "{\"by\":1,\"act\":{\"kill\":{\"key\":\"zoneid\",\"value\":\"z1\",\"kind\":\"Reboot\",\
+            \"floor\":\"KillInstantly\",\"tear\":0}}}\n[",
+            1,
+            LineFault::Floor,
+        ),
+    ];
+    for (script, number, fault) in cases {
+        let answer = read_script(alloc, script.as_bytes()).map(|_| ());
+        assert_eq!(rt;
+            answer,
+            Err(ScriptFault::Line { number, fault }),
+            "{script}"
+        );
     }
-    let members = Members::from_vec(processes).ok()?;
-    let payload = Payload::from_vec(vec![in alloc; 7; bytes].ok()?);
-    Some((
-        Act::Form { members, policy: 3 },
-        Act::Begin { team: 4, payload },
-    ))
-}
-
-#[test]
-fn the_longest_acts_are_copied(rt: HostRuntime) -> Result<(), Fail> {
-    let alloc = rt.alloc();
-    let (forming, beginning) = longest(alloc, 1024, 256).ok_or("no acts")?;
-    assert!(rt; copy(&forming, alloc) == Some(forming));
-    assert!(rt; copy(&beginning, alloc) == Some(beginning));
-    Ok(())
-}
-
-fn copying(from: ProcId, rec: u32, to: ProcId) -> Act {
-    Act::CopyTo { from, rec, to }
-}
-
-fn replacing(team: u32, out: ProcId, into: ProcId) -> Act {
-    Act::Replace { team, out, into }
-}
-
-#[test]
-fn acts_are_equal_by_all_that_they_hold(rt: HostRuntime) -> Result<(), Fail> {
-    let alloc = rt.alloc();
-    let forming = form(alloc, &[P0, P2]).ok_or("no form")?;
-    assert!(rt; form(alloc, &[P0, P2]) == copy(&forming, alloc));
-    assert!(rt; form(alloc, &[P0]) != Some(forming));
-    assert!(rt; begin(alloc, b"hi") == begin(alloc, &[0x68, 0x69]));
-    assert!(rt; begin(alloc, b"hi") != begin(alloc, b"ha"));
-    assert!(rt; Act::Lose { message: 6 } != Act::Deliver { message: 6 });
-    assert!(rt; Act::Take { actor: 1, index: 2 } != Act::Take { actor: 2, index: 1 });
-    assert!(rt; Act::Sync { process: P2 } == Act::Sync { process: P2 });
-    assert!(rt; Act::Heal { process: P2 } != Act::Up { process: P2 });
-    assert!(rt; copying(P0, 7, P2) == copying(P0, 7, P2));
-    assert!(rt; copying(P0, 7, P2) != copying(P2, 7, P0));
-    assert!(rt; copying(P0, 7, P2) != copying(P0, 8, P2));
-    assert!(rt; replacing(4, P0, P2) == replacing(4, P0, P2));
-    assert!(rt; replacing(4, P0, P2) != replacing(4, P2, P0));
     Ok(())
 }
 
 #[test]
-fn acts_on_targets_are_copied(rt: HostRuntime) -> Result<(), Fail> {
+fn a_script_may_be_as_long_as_it_may(rt: HostRuntime) -> Result<(), Fail> {
     let alloc = rt.alloc();
-    let target = zone("z0")?;
-    let order = KillOrder::make(target, Kind::KillInstantly, Kind::Reboot, 5)?;
-    let kill = Act::Kill { order }.try_copy(alloc)?;
-    let clog = Act::Clog { target, ticks: 10 }.try_copy(alloc)?;
-    let unclog = Act::Unclog { target }.try_copy(alloc)?;
-    assert!(rt; matches!(&kill, Act::Kill { order: it } if *it == order));
-    assert!(rt; matches!(&clog, Act::Clog { target: it, ticks: 10 } if *it == target));
-    assert!(rt; matches!(&unclog, Act::Unclog { target: it } if *it == target));
-    Ok(())
-}
-
-#[test]
-fn acts_on_messages_are_copied(rt: HostRuntime) -> Result<(), Fail> {
-    let alloc = rt.alloc();
-    let deliver = Act::Deliver { message: u64::MAX }.try_copy(alloc)?;
-    let lose = Act::Lose { message: 6 }.try_copy(alloc)?;
-    let resend = Act::Resend {
-        rec: 7,
-        process: P2,
-    };
-    let resend = resend.try_copy(alloc)?;
-    assert!(rt; is_deliver(&deliver, u64::MAX));
-    assert!(rt; matches!(&lose, Act::Lose { message: 6 }));
-    assert!(rt;
-        matches!(
-            &resend,
-            Act::Resend {
-                rec: 7,
-                process: ProcId(2)
-            }
-        )
+    let mut script: Vec<u8> = Vec::new(alloc);
+    script.resize(MOST_SCRIPT_BYTES, b'\n')?;
+    let fault = LineFault::Syntax;
+    assert_eq!(rt;
+        read_script(alloc, &script).map(|_| ()),
+        Err(ScriptFault::Line { number: 1, fault })
     );
-    Ok(())
-}
-
-#[test]
-fn acts_of_storage_are_copied(rt: HostRuntime) -> Result<(), Fail> {
-    let alloc = rt.alloc();
-    let sync = Act::Sync { process: P2 }.try_copy(alloc)?;
-    let up = Act::Up { process: P2 }.try_copy(alloc)?;
-    let tick = Act::Tick { ticks: 9 }.try_copy(alloc)?;
-    assert!(rt; matches!(&sync, Act::Sync { process: ProcId(2) }));
-    assert!(rt; matches!(&up, Act::Up { process: ProcId(2) }));
-    assert!(rt; matches!(&tick, Act::Tick { ticks: 9 }));
-    Ok(())
-}
-
-#[test]
-fn acts_on_teams_are_copied(rt: HostRuntime) -> Result<(), Fail> {
-    let alloc = rt.alloc();
-    let copying = copying(P0, 7, P2).try_copy(alloc)?;
-    let replacing = replacing(4, P0, P2).try_copy(alloc)?;
-    let heal = Act::Heal { process: P2 }.try_copy(alloc)?;
-    assert!(rt;
-        matches!(
-            &copying,
-            Act::CopyTo {
-                from: ProcId(0),
-                rec: 7,
-                to: ProcId(2)
-            }
-        )
-    );
-    assert!(rt;
-        matches!(
-            &replacing,
-            Act::Replace {
-                team: 4,
-                out: ProcId(0),
-                into: ProcId(2)
-            }
-        )
-    );
-    assert!(rt; matches!(&heal, Act::Heal { process: ProcId(2) }));
-    Ok(())
-}
-
-#[test]
-fn acts_on_grants_are_copied(rt: HostRuntime) -> Result<(), Fail> {
-    let alloc = rt.alloc();
-    let grant = Grant {
-        actor: 3,
-        kinds: KindSet::of(Kind::Reboot),
-        scope: Scope::Where(zone("z1")?),
-    };
-    let give = Act::Give { grant }.try_copy(alloc)?;
-    let take = Act::Take { actor: 3, index: 8 }.try_copy(alloc)?;
-    assert!(rt; matches!(&give, Act::Give { grant: it } if *it == grant));
-    assert!(rt; matches!(&take, Act::Take { actor: 3, index: 8 }));
-    Ok(())
-}
-
-#[test]
-fn acts_on_protections_are_copied(rt: HostRuntime) -> Result<(), Fail> {
-    let (alloc, process) = (rt.alloc(), P2);
-    let kinds = KindSet::of_clog();
-    let protect = Act::Protect { process, kinds }.try_copy(alloc)?;
-    let unprotect = Act::Unprotect { process, kinds }.try_copy(alloc)?;
-    assert!(rt; matches!(&protect, Act::Protect { process: ProcId(2), kinds: it } if *it == kinds));
-    assert!(rt;
-        matches!(&unprotect, Act::Unprotect { process: ProcId(2), kinds: it } if *it == kinds)
+    script.push(b'\n')?;
+    assert_eq!(rt;
+        read_script(alloc, &script).map(|_| ()),
+        Err(ScriptFault::TooLong)
     );
     Ok(())
 }

@@ -5,12 +5,12 @@ use Rattle.std.proofs.lemmas.Bool.{lt-leb, cases_lt, and_parts, and_from}
 use Rattle.fy_kinds.specs.Orders.{Order}
 use Rattle.fy_kinds.specs.declared.verdict.Verdict.{Verdict as VerdictOf}
 use Rattle.fy_decide.specs.Verdicts.{Situation, verdict}
-use Rattle.fy_audit.specs.declared.act.Act.{Act}
-use Rattle.fy_audit.specs.declared.act.Act.TheVariants.{Kill}
-use Rattle.fy_audit.specs.declared.reply.Reply.{Reply}
-use Rattle.fy_audit.specs.declared.reply.Reply.TheVariants.{Verdict, No}
-use Rattle.fy_audit.specs.declared.reply.Refusal.TheVariants.{Stranger}
-use Rattle.fy_audit.specs.declared.entry.Entry.{Entry}
+use Rattle.fy_spelling.specs.declared.act.Act.{Act}
+use Rattle.fy_spelling.specs.declared.act.Act.TheVariants.{Kill}
+use Rattle.fy_spelling.specs.declared.reply.Reply.{Reply}
+use Rattle.fy_spelling.specs.declared.reply.Reply.TheVariants.{Verdict, No}
+use Rattle.fy_spelling.specs.declared.reply.Refusal.TheVariants.{Stranger}
+use Rattle.fy_spelling.specs.declared.entry.Entry.{Entry}
 use Rattle.fy_audit.specs.declared.version.Version.{Version}
 use Rattle.fy_audit.specs.declared.version.Version.TheVariants.{Second}
 use Rattle.fy_cluster.specs.declared.role.Role.TheVariants.{Fault}

@@ -9,10 +9,10 @@ use Rattle.fy_locality.specs.declared.locality.Locality.{Locality}
 use Rattle.fy_policy.specs.Tree.{Tree, IsPolicy}
 use Rattle.fy_policy.specs.Sat.{Sat}
 use Rattle.fy_team.specs.Teams.{Team, is_among, IsFormed}
-use Rattle.fy_audit.specs.declared.act.Act.{Act}
-use Rattle.fy_audit.specs.declared.act.Act.TheVariants.{Replace, Heal}
-use Rattle.fy_audit.specs.declared.reply.Reply.{Reply}
-use Rattle.fy_audit.specs.declared.entry.Entry.{Entry}
+use Rattle.fy_spelling.specs.declared.act.Act.{Act}
+use Rattle.fy_spelling.specs.declared.act.Act.TheVariants.{Replace, Heal}
+use Rattle.fy_spelling.specs.declared.reply.Reply.{Reply}
+use Rattle.fy_spelling.specs.declared.entry.Entry.{Entry}
 use Rattle.fy_audit.specs.declared.version.Version.TheVariants.{First}
 use Rattle.fy_cluster.specs.Setup.{Setup, IsMet}
 use Rattle.fy_cluster.specs.History.{History, Moment, moment, after, some_is, forms, delivers, destroys, destroyed, heals, heals_at, replaces, after_swap, teams, records, members_for, word_of, marks, marked, tells, acked}

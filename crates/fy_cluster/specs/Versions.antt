@@ -4,9 +4,9 @@
 -- it which has one of these is not legal.
 use Rattle.std.specs.Prelude.{◌<◌, ◌↔◌, Bool, true, false, List, [], ◌∷◌, ◌++◌, length, IsTrue}
 use Rattle.std.specs.List.{list_all}
-use Rattle.fy_audit.specs.declared.act.Act.{Act}
-use Rattle.fy_audit.specs.declared.act.Act.TheVariants.{Kill, Clog, Unclog, Form, Begin, Deliver, Lose, Resend, Sync, Up, Tick, Give, Take, Protect, Unprotect, CopyTo, Replace, Heal}
-use Rattle.fy_audit.specs.declared.entry.Entry.{Entry}
+use Rattle.fy_spelling.specs.declared.act.Act.{Act}
+use Rattle.fy_spelling.specs.declared.act.Act.TheVariants.{Kill, Clog, Unclog, Form, Begin, Deliver, Lose, Resend, Sync, Up, Tick, Give, Take, Protect, Unprotect, CopyTo, Replace, Heal}
+use Rattle.fy_spelling.specs.declared.entry.Entry.{Entry}
 use Rattle.fy_audit.specs.declared.version.Version.{Version}
 use Rattle.fy_audit.specs.declared.version.Version.TheVariants.{First, Second}
 use Rattle.fy_cluster.specs.Setup.{Setup}

@@ -1,5 +1,5 @@
 //! Time.
-ghost use Rattle.fy_audit.specs.declared.act.Act.TheVariants.{Tick};
+ghost use Rattle.fy_spelling.specs.declared.act.Act.TheVariants.{Tick};
 ghost use Rattle.fy_cluster.specs.Standing.{Turn, Stands, Follows};
 
 use crate::machine::Machine;

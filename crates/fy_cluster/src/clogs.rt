@@ -2,7 +2,7 @@
 ghost use Rattle.std.specs.Prelude.{◌≡◌, ◌<◌, ℕ, true, length, IfOk};
 ghost use Rattle.std.specs.Result.{result_err};
 ghost use Rattle.std.specs.FinSet as sets;
-ghost use Rattle.fy_audit.specs.declared.act.Act.TheVariants.{Clog, Unclog};
+ghost use Rattle.fy_spelling.specs.declared.act.Act.TheVariants.{Clog, Unclog};
 ghost use Rattle.fy_cluster.specs.Standing.{Turn, Stands, Follows, ClogsChange, clog_end, unclog_end, targets_by, clog_bar};
 
 use crate::machine::Machine;

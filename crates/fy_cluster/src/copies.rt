@@ -1,6 +1,6 @@
 //! Records are copied.
 ghost use Rattle.std.specs.Prelude.{◌≡◌};
-ghost use Rattle.fy_audit.specs.declared.act.Act.TheVariants.{CopyTo};
+ghost use Rattle.fy_spelling.specs.declared.act.Act.TheVariants.{CopyTo};
 ghost use Rattle.fy_cluster.specs.Standing.{Turn, Stands, Comes, IsLived};
 
 use crate::Fault;

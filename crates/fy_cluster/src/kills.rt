@@ -3,7 +3,7 @@ ghost use Rattle.std.specs.Prelude.{◌≡◌, ◌<◌, ℕ, true, [], length, S
 ghost use Rattle.std.specs.FinSet as sets;
 ghost use Rattle.fy_decide.specs.declared.dead_book.Loss.{Loss};
 ghost use Rattle.fy_decide.specs.Verdicts.{loss_of};
-ghost use Rattle.fy_audit.specs.declared.act.Act.TheVariants.{Kill};
+ghost use Rattle.fy_spelling.specs.declared.act.Act.TheVariants.{Kill};
 ghost use Rattle.fy_decide.specs.DeadBook.{MayLose};
 ghost use Rattle.fy_disk.specs.Disk.{blank};
 ghost use Rattle.fy_cluster.specs.Standing.{Turn, Stands, Follows, buried, ChangesAt, left_on};

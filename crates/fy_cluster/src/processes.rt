@@ -1,6 +1,6 @@
 //! Processes start.
 ghost use Rattle.std.specs.Prelude.{◌≡◌};
-ghost use Rattle.fy_audit.specs.declared.act.Act.TheVariants.{Up};
+ghost use Rattle.fy_spelling.specs.declared.act.Act.TheVariants.{Up};
 ghost use Rattle.fy_cluster.specs.Standing.{Turn, Stands, Follows};
 
 use crate::machine::Machine;

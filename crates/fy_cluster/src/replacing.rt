@@ -2,7 +2,7 @@
 ghost use Rattle.std.specs.Prelude.{◌≡◌, ◌<◌, ◌≤◌, ℕ, length, All};
 ghost use Rattle.std.specs.FinSet as sets;
 ghost use Rattle.fy_team.specs.Teams.{is_among, swapped};
-ghost use Rattle.fy_audit.specs.declared.act.Act.TheVariants.{Replace};
+ghost use Rattle.fy_spelling.specs.declared.act.Act.TheVariants.{Replace};
 ghost use Rattle.fy_cluster.specs.Replies.{meets};
 ghost use Rattle.fy_cluster.specs.Standing.{Turn, Stands, Follows, IsLived};
 

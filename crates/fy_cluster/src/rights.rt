@@ -1,6 +1,6 @@
 //! Grants and protections are given and taken.
 ghost use Rattle.std.specs.Prelude.{◌≡◌};
-ghost use Rattle.fy_audit.specs.declared.act.Act.TheVariants.{Give, Take, Protect, Unprotect};
+ghost use Rattle.fy_spelling.specs.declared.act.Act.TheVariants.{Give, Take, Protect, Unprotect};
 ghost use Rattle.fy_cluster.specs.Standing.{Turn, Stands, Follows, Comes, replied_to};
 
 use crate::Fault;

@@ -2,7 +2,7 @@
 ghost use Rattle.std.specs.Prelude.{◌≡◌, ◌≤◌, ◌<◌, ◌+◌, ◌++◌, map, length};
 ghost use Rattle.std.specs.List.{All};
 ghost use Rattle.fy_net.specs.declared.message.Body.TheVariants.{Store};
-ghost use Rattle.fy_audit.specs.declared.act.Act.TheVariants.{Form, Begin, Resend};
+ghost use Rattle.fy_spelling.specs.declared.act.Act.TheVariants.{Form, Begin, Resend};
 ghost use Rattle.fy_cluster.specs.History.{stores_of};
 ghost use Rattle.fy_cluster.specs.Standing.{Turn, Stands, Comes, IsLived, Sends, replied_to_team};
 

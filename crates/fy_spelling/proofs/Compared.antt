@@ -21,19 +21,19 @@ use Rattle.fy_grants.specs.declared.grant.Scope.TheVariants.{All, Where}
 use Rattle.fy_grants.specs.contracts.grant.GrantPartialEq.TheImpl as grants
 use Rattle.fy_grants.specs.contracts.grant.ScopePartialEq.TheImpl as scopes
 use Rattle.fy_team.specs.Members.{same_numbers}
-use Rattle.fy_audit.specs.declared.act.Act.{Act}
-use Rattle.fy_audit.specs.declared.act.Act.TheVariants.{Kill, Clog, Unclog, Form, Begin, Deliver, Lose, Resend, Sync, Up, Tick, Give, Take, Protect, Unprotect, CopyTo, Replace, Heal}
-use Rattle.fy_audit.specs.contracts.act.ActPartialEq.TheImpl as acts
+use Rattle.fy_spelling.specs.declared.act.Act.{Act}
+use Rattle.fy_spelling.specs.declared.act.Act.TheVariants.{Kill, Clog, Unclog, Form, Begin, Deliver, Lose, Resend, Sync, Up, Tick, Give, Take, Protect, Unprotect, CopyTo, Replace, Heal}
+use Rattle.fy_spelling.specs.contracts.act.ActPartialEq.TheImpl as acts
 use Rattle.fy_kinds.specs.declared.verdict.Rule.{Rule}
 use Rattle.fy_kinds.specs.declared.verdict.Verdict.{Verdict}
 use Rattle.fy_kinds.specs.contracts.verdict.VerdictPartialEq.TheImpl as verdicts
-use Rattle.fy_audit.specs.declared.reply.Refusal.{Refusal}
-use Rattle.fy_audit.specs.declared.reply.Reply.{Reply}
-use Rattle.fy_audit.specs.declared.reply.Reply.TheVariants.{Verdict as Verdicted, Ruled, Formed, Begun, Stored, Marked, Sent, Synced, Time, Done, No}
-use Rattle.fy_audit.specs.declared.entry.Entry.{Entry}
-use Rattle.fy_audit.specs.contracts.reply.RefusalPartialEq.TheImpl as refusals
-use Rattle.fy_audit.specs.contracts.reply.ReplyPartialEq.TheImpl as replies
-use Rattle.fy_audit.specs.contracts.entry.EntryPartialEq.TheImpl as entries
+use Rattle.fy_spelling.specs.declared.reply.Refusal.{Refusal}
+use Rattle.fy_spelling.specs.declared.reply.Reply.{Reply}
+use Rattle.fy_spelling.specs.declared.reply.Reply.TheVariants.{Verdict as Verdicted, Ruled, Formed, Begun, Stored, Marked, Sent, Synced, Time, Done, No}
+use Rattle.fy_spelling.specs.declared.entry.Entry.{Entry}
+use Rattle.fy_spelling.specs.contracts.reply.RefusalPartialEq.TheImpl as refusals
+use Rattle.fy_spelling.specs.contracts.reply.ReplyPartialEq.TheImpl as replies
+use Rattle.fy_spelling.specs.contracts.entry.EntryPartialEq.TheImpl as entries
 
 -- ---- tests that decide
 
@@ -139,7 +139,7 @@ abbrev order_of : Target → (k f : Kind) → ℕ → rank f ≤ rank k → Orde
 order_of t k f n o = record { target = t; kind = k; floor = f; tear = n; ordered = o }
 
 -- orders of the same parts are the same, whatever shows that the floor isn't above the kind
-same_parts : (a : Order) (t : Target) (k f : Kind) (n : ℕ) (o : rank f ≤ rank k) → a.target ≡ t → a.kind ≡ k → a.floor ≡ f → a.tear ≡ n → a ≡ order_of t k f n o
+pub same_parts : (a : Order) (t : Target) (k f : Kind) (n : ℕ) (o : rank f ≤ rank k) → a.target ≡ t → a.kind ≡ k → a.floor ≡ f → a.tear ≡ n → a ≡ order_of t k f n o
 same_parts a t k f n o et ek ef en =
     subst (λ (f : Kind). (o : rank f ≤ rank k) → a ≡ order_of t k f n o) ef
     (subst (λ (k : Kind). (o : rank a.floor ≤ rank k) → a ≡ order_of t k a.floor n o) ek

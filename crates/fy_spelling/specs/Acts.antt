@@ -1,7 +1,7 @@
 -- what an act holds
 use Rattle.std.specs.Prelude.{Bool, true, false}
-use Rattle.fy_audit.specs.declared.act.Act.{Act}
-use Rattle.fy_audit.specs.declared.act.Act.TheVariants.{Kill, Clog, Unclog, Form, Begin, Deliver, Lose, Resend, Sync, Up, Tick, Give, Take, Protect, Unprotect, CopyTo, Replace, Heal}
+use Rattle.fy_spelling.specs.declared.act.Act.{Act}
+use Rattle.fy_spelling.specs.declared.act.Act.TheVariants.{Kill, Clog, Unclog, Form, Begin, Deliver, Lose, Resend, Sync, Up, Tick, Give, Take, Protect, Unprotect, CopyTo, Replace, Heal}
 
 -- whether the act holds a list, so that a copy of it takes memory
 abbrev pub holds_list : Act → Bool

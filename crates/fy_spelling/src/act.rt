@@ -1,6 +1,6 @@
 //! What an actor may ask of the cluster.
 ghost use Rattle.std.specs.Prelude.{◌≡◌, false, IfOk, IsOk};
-ghost use Rattle.fy_audit.specs.Acts.{holds_list};
+ghost use Rattle.fy_spelling.specs.Acts.{holds_list};
 
 use fy_disk::Payload;
 use fy_grants::Grant;

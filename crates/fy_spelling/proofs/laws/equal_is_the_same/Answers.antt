@@ -1,5 +1,5 @@
-use Rattle.fy_audit.proofs.Compared.{same_act, same_entry}
-use Rattle.fy_audit.proofs.laws.equal_is_the_same.Goals as goal
+use Rattle.fy_spelling.proofs.Compared.{same_act, same_entry}
+use Rattle.fy_spelling.proofs.laws.equal_is_the_same.Goals as goal
 
 pub returns-clause-acts : goal.returns-clause-acts
 returns-clause-acts c = same_act

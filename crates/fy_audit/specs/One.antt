@@ -1,0 +1,22 @@
+-- bytes that are of one thing each
+use Rattle.std.specs.Prelude.{◌≡◌, ℕ, List, Result}
+use Rattle.std.specs.List.{AllByRecursion}
+use Rattle.fy_spelling.specs.Fits.{FitsEntry}
+use Rattle.fy_spelling.specs.declared.command.Command.{Command}
+use Rattle.fy_spelling.specs.declared.entry.Entry.{Entry}
+use Rattle.fy_audit.specs.AuditText.{audit_text}
+use Rattle.fy_audit.specs.Script.{ScriptOf}
+use Rattle.fy_audit.specs.declared.script.ScriptFault.{ScriptFault}
+use Rattle.fy_audit.specs.declared.version.Version.{Version}
+
+-- bytes are one script, or have one first fault
+abbrev pub ScriptIsOne : Type 0
+ScriptIsOne =
+    (bytes : List ℕ) (x y : Result (List Command) ScriptFault) → ScriptOf bytes x →
+    ScriptOf bytes y → x ≡ y
+
+-- two journals with one text are of one version and have the same entries
+abbrev pub AuditIsOne : Type 0
+AuditIsOne =
+    (v w : Version) (xs ys : List Entry) → AllByRecursion FitsEntry xs →
+    AllByRecursion FitsEntry ys → audit_text v xs ≡ audit_text w ys → (v ≡ w) × (xs ≡ ys)

@@ -1,0 +1,72 @@
+//! Scripts: what many actors ask for, a command a line.
+ghost use Rattle.std.specs.Prelude.{◌≡◌, IfOk, IfErr, Ok, Err};
+ghost use Rattle.fy_audit.specs.Script.{ScriptOf, ScriptAnswers, fault_at};
+
+use fy_lines::first_line;
+use fy_spelling::{Command, LineFault, read_command};
+use std::alloc::{AllocFailed, Global};
+
+/// How many bytes a script may have: 16,777,216.
+pub const MOST_SCRIPT_BYTES: usize = 16_777_216;
+
+/// Why a script is refused.
+#[derive(Clone, Copy, PartialEq, Eq, Debug)]
+pub enum ScriptFault {
+    /// It has more than 16,777,216 bytes.
+    TooLong,
+    /// The first faulty line, counted from 1, and its first fault.
+    Line { number: u32, fault: LineFault },
+    /// There is no memory for it.
+    NoMemory,
+}
+
+impl<T: Drop> From<AllocFailed<T>> for ScriptFault {
+    ghost use Rattle.std.specs.Prelude.{◌≡◌};
+    ghost use Rattle.fy_audit.specs.declared.script.ScriptFault.TheVariants.{NoMemory};
+
+    ghost from_gives = { λ _ fault. fault ≡ NoMemory };
+
+    fn from(_refused: AllocFailed<T>) -> ScriptFault {
+        ScriptFault::NoMemory
+    }
+}
+
+/// The fault of a script by that of one of its lines.
+fn line_fault(number: u32, fault: LineFault) -> ScriptFault
+    ensures { result ≡ fault_at number fault }
+{
+    match fault {
+        LineFault::NoMemory => ScriptFault::NoMemory,
+        fault => ScriptFault::Line { number, fault },
+    }
+}
+
+/// The commands of a script, one for each line. The last line may lack its line feed, and a script
+/// of no bytes has no lines.
+///
+/// # Errors
+///
+/// In this order: `TooLong`; `Line` for the first faulty line; `NoMemory` where memory is refused
+/// before.
+pub fn read_script(alloc: Global, bytes: &[u8]) -> Result<Vec<Command>, ScriptFault>
+    ensures read { IfOk result (λ commands. ScriptOf bytes.now (Ok commands.items)) }
+    ensures refused { IfErr result (λ fault. ScriptAnswers bytes.now (Err fault)) }
+{
+    if bytes.len() > MOST_SCRIPT_BYTES {
+        return Err(ScriptFault::TooLong);
+    }
+    let mut commands = Vec::new(alloc);
+    let mut room = Vec::new(alloc);
+    let mut rest = bytes;
+    let mut number = 0;
+    while !rest.is_empty() {
+        let (line, next) = first_line(rest);
+        number += 1;
+        match read_command(alloc, line, &mut room) {
+            Ok(command) => commands.push(command)?,
+            Err(fault) => return Err(line_fault(number, fault)),
+        }
+        rest = next;
+    }
+    Ok(commands)
+}

@@ -1,0 +1,153 @@
+-- the parts of acts are found as they are defined
+use Rattle.std.proofs.Common.{◌≡◌, ◌≢◌, ℕ, ◌+◌, ◌<◌, ◌≤◌, suc, Bool, true, false, cond, ◌||◌, leb, List, ◌∷◌, length, drop, get_or, Option, Some, None, option_map, MatchOption, nat_eq, inl, inr, refl, sym, ap, subst, ◌∙◌, arith}
+use Rattle.std.proofs.Math.Seq.{drop-cons}
+use Rattle.std.proofs.lemmas.Bool.{cases_Bool, and_parts}
+use Rattle.std.proofs.lemmas.Bool.Decides.{nat_tests}
+use Rattle.std.specs.Cmp.Lexicographic.{pointwise, same_text}
+use Rattle.serde_json.specs.View.{view, items_view}
+use Rattle.serde_json.specs.declared.value.Value.{Value}
+use Rattle.fy_locality.specs.Key.{key_text}
+use Rattle.fy_locality.specs.declared.ProcId.{ProcId}
+use Rattle.fy_locality.specs.declared.key.Key.{Key}
+use Rattle.fy_locality.specs.declared.key.Key.TheVariants.{Process, Machine, Zone, DataHall, DataCenter}
+use Rattle.fy_kinds.specs.Kinds.{Deed, only, with_all}
+use Rattle.fy_kinds.specs.Members.{Members}
+use Rattle.fy_team.proofs.Rising.{rises_from, rises-AllPairs}
+use Rattle.fy_team.specs.Teams.{AreMembers}
+use Rattle.fy_team.specs.declared.limits.TheConstants.{MOST_MEMBERS}
+use Rattle.fy_spelling.specs.Candidate.{◌>>=◌, key_named, are_members, deed_from, deeds_from}
+use Rattle.fy_spelling.specs.Command.{gathered}
+
+-- ---- keys
+
+-- a text that isn't the word fails the test
+fails : (xs ys : List ℕ) → xs ≢ ys → pointwise nat_eq xs ys ≡ false
+fails xs ys differ =
+    elim (cases_Bool (pointwise nat_eq xs ys)) [
+      | inl same ↦ absurd (differ (same_text xs ys (sym same)))
+      | inr other ↦ other
+    ]
+
+pub written : (key : Key) → Some key ≡ key_named (key_text key)
+written Process = refl
+written Machine = refl
+written Zone = refl
+written DataHall = refl
+written DataCenter = refl
+
+pub key_found :
+    (found : Option Key) (word : List ℕ)
+    → MatchOption found ((key : Key) → key_text key ≢ word) (λ key. key_text key ≡ word)
+    → found ≡ key_named word
+key_found (Some key) word same = subst (λ (w : List ℕ). Some key ≡ key_named w) same (written key)
+key_found None word differ =
+    rw (
+      fails (key_text Process) word (differ Process),
+      fails (key_text Machine) word (differ Machine),
+      fails (key_text Zone) word (differ Zone),
+      fails (key_text DataHall) word (differ DataHall),
+      fails (key_text DataCenter) word (differ DataCenter),
+    )
+
+-- ---- members
+
+few_tested : (n m : ℕ) → n ≤ m → leb n m ≡ true
+few_tested n m le = grind (arith, nat_tests)
+
+few_meant : (n m : ℕ) → leb n m ≡ true → n ≤ m
+few_meant n m e = grind (arith, nat_tests)
+
+-- the test is what it means
+pub members_pass : (ps : List ProcId) → AreMembers ps → are_members ps ≡ true
+members_pass ps are =
+    rw (few_tested (length ps) MOST_MEMBERS are.few, (rises-AllPairs ps).1 are.rising) refl
+
+pub members_meant : (ps : List ProcId) → are_members ps ≡ true → AreMembers ps
+members_meant ps e =
+    let both = and_parts (leb (length ps) MOST_MEMBERS) (rises_from 0 ps) e in
+    record {
+      few = few_meant (length ps) MOST_MEMBERS both.0;
+      rising = (rises-AllPairs ps).0 both.1;
+    }
+
+pub members_kept :
+    (ps m : List ProcId) (b : Bool) → are_members ps ≡ b → ((AreMembers ps → ⊥) → ⊥) → m ≡ ps
+    → Some m ≡ cond b (Some ps) None
+members_kept ps m true e h is = ap Some is
+members_kept ps m false e h is =
+    absurd (h (λ are. let t : are_members ps ≡ true = members_pass ps are in let no : ⊥ = cc in no))
+
+pub members_refused :
+    (ps : List ProcId) (b : Bool) → are_members ps ≡ b → (AreMembers ps → ⊥)
+    → None ≡ cond b (Some ps) None
+members_refused ps true e h = absurd (h (members_meant ps e))
+members_refused ps false e h = refl
+
+-- ---- kinds
+
+or_regroups : (a b c : Bool) → ((a || b) || c) ≡ (a || (b || c))
+or_regroups true b c = refl
+or_regroups false b c = refl
+
+or_of_none : (a : Bool) → (a || false) ≡ a
+or_of_none true = refl
+or_of_none false = refl
+
+-- three sets together, whichever two come first
+with_all_regroups : (a b c : Members) → with_all (with_all a b) c ≡ with_all a (with_all b c)
+with_all_regroups a b c =
+    rw (
+      or_regroups a.reboot_process b.reboot_process c.reboot_process,
+      or_regroups a.reboot b.reboot c.reboot,
+      or_regroups a.reboot_and_delete b.reboot_and_delete c.reboot_and_delete,
+      or_regroups a.kill_instantly b.kill_instantly c.kill_instantly,
+      or_regroups a.clog b.clog c.clog,
+    )
+
+-- one set more goes to those that are left, or to those before
+one_more :
+    (before x : Members) (found : Option Deed) (rest : Option (List Deed))
+    → option_map only found ≡ Some x
+    → option_map (λ more. with_all (with_all before x) (gathered more)) rest
+    ≡ option_map (λ more. with_all before (gathered more))
+    (found >>= λ deed. option_map (λ more. deed ∷ more) rest)
+one_more before x None rest e = absurd (let no : ⊥ = cc in no)
+one_more before x (Some deed) None e = refl
+one_more before x (Some deed) (Some more) e =
+    let is : only deed ≡ x = cc in
+    ap Some
+    (with_all_regroups before x (gathered more)
+    ∙ ap (λ s. with_all before (with_all s (gathered more))) (sym is))
+
+drop_next :
+    (vs : List Value) (i : ℕ) (v : Value) → i < length vs
+    → drop i vs ≡ get_or vs i v ∷ drop (i + 1) vs
+drop_next vs i v within =
+    drop-cons vs i v within ∙ ap (λ n. get_or vs i v ∷ drop n vs) (let e : suc i ≡ i + 1 = omega arith in e)
+
+-- what the words from a place on name
+deeds_from-drop :
+    (vs : List Value) (i : ℕ) (v : Value) → i < length vs → v ≡ get_or vs i v
+    → deeds_from (items_view (drop i vs))
+    ≡ (deed_from (view v) >>= λ deed.
+    option_map (λ more. deed ∷ more) (deeds_from (items_view (drop (i + 1) vs))))
+deeds_from-drop vs i v within is =
+    ap (λ (w : List Value). deeds_from (items_view w)) (drop_next vs i v within)
+    ∙ ap (λ (w : Value). deed_from (view w) >>= λ deed.
+    option_map (λ more. deed ∷ more) (deeds_from (items_view (drop (i + 1) vs))))
+    (sym is)
+
+-- after a word more, the kinds so far and those of the words that are left are the same together
+pub kinds_kept :
+    (before x : Members) (vs : List Value) (i : ℕ) (v : Value) (whole : Option Members)
+    → i < length vs → v ≡ get_or vs i v → option_map only (deed_from (view v)) ≡ Some x
+    → option_map (λ more. with_all before (gathered more)) (deeds_from (items_view (drop i vs)))
+    ≡ whole
+    → option_map (λ more. with_all (with_all before x) (gathered more))
+    (deeds_from (items_view (drop (i + 1) vs)))
+    ≡ whole
+kinds_kept before x vs i v whole within is has so_far =
+    one_more before x (deed_from (view v)) (deeds_from (items_view (drop (i + 1) vs))) has
+    ∙ ap (option_map (λ more. with_all before (gathered more)))
+    (sym (deeds_from-drop vs i v within is))
+    ∙ so_far

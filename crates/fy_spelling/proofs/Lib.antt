@@ -1,0 +1,14 @@
+pub mod Compared
+pub mod Found
+pub mod Told
+pub mod Listing
+pub mod Again
+pub mod Lines
+pub mod Joined
+pub mod Plain
+pub mod Round
+pub mod Same
+pub mod Shapes
+pub mod Tame
+pub mod OneLine
+pub mod Feedless

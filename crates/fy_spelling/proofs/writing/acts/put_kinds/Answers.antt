@@ -1,0 +1,49 @@
+use Rattle.std.proofs.Common.{◌≡◌, ◌∙◌, sym, ap, add-one, append_assoc, ℕ, ◌<◌, ◌+◌, Bool, true, false, List, [], ◌∷◌, ◌++◌, codes, drop, drop-cons, get_or, map, filter, length}
+use Rattle.serde_json.specs.Written.{comma_if}
+use Rattle.fy_kinds.specs.Kinds.{Deed, Striking, Clogging, all_kinds, has, kind_text}
+use Rattle.fy_kinds.specs.Members.{Members}
+use Rattle.fy_kinds.specs.declared.kind.Kind.{Kind}
+use Rattle.fy_kinds.specs.declared.kind.Kind.TheVariants.{RebootProcess}
+use Rattle.fy_spelling.specs.Pieces.{deeds_text}
+use Rattle.fy_spelling.proofs.writing.acts.put_kinds.Goals as goal
+use Rattle.fy_spelling.proofs.writing.acts.put_kinds.Goals.{then-has+in_ok-put_listed, else-has}
+
+-- the members from a kind on
+abbrev rest : Members → List Kind → List Deed
+rest kinds left = filter (has kinds) (map Striking left ++ Clogging ∷ [])
+
+abbrev word_text : Bool → List ℕ → List ℕ
+word_text later word = comma_if later ++ (codes "\"" ++ (word ++ codes "\""))
+
+-- a word and what stands behind it
+behind : (o comma word more : List ℕ)
+    → (o ++ (comma ++ (codes "\"" ++ (word ++ codes "\"")))) ++ more ≡ o ++ (comma ++ (codes "\"" ++ (word ++ (codes "\"" ++ more))))
+behind o comma word more = simp append_assoc
+
+-- a member is written
+listed : (kinds : Members) (kind : Kind) (left : List Kind) (later : Bool) (old out new : List ℕ) → has kinds (Striking kind) ≡ true
+    → new ≡ out ++ word_text later (kind_text kind) → out ++ deeds_text later (rest kinds (kind ∷ left)) ≡ old → new ++ deeds_text true (rest kinds left) ≡ old
+listed kinds kind left later old out new is written before =
+    ap (λ x. x ++ deeds_text true (rest kinds left)) written ∙ behind out (comma_if later) (kind_text kind) (deeds_text true (rest kinds left)) ∙ rw is at before
+
+-- no member, nothing is written
+left_out : (kinds : Members) (kind : Kind) (left : List Kind) (later : Bool) (old out : List ℕ) → has kinds (Striking kind) ≡ false
+    → out ++ deeds_text later (rest kinds (kind ∷ left)) ≡ old → out ++ deeds_text later (rest kinds left) ≡ old
+left_out kinds kind left later old out is before = rw is at before
+
+-- the first kind of what is left
+first : (kinds : List Kind) (i : ℕ) → i < length kinds → drop i kinds ≡ get_or kinds i RebootProcess ∷ drop (i + 1) kinds
+first kinds i below = rw (add-one i) (drop-cons kinds i RebootProcess below)
+
+pub loop-kind-preserved : goal.loop-kind-preserved
+loop-kind-preserved c =
+    let i = c.loop-kind.kind-index in
+    let kinds = c.args.kinds in
+    let kind = get_or all_kinds i RebootProcess in
+    let left = drop (i + 1) all_kinds in
+    let old = c.args.out.now.items ++ deeds_text false (rest kinds all_kinds) in
+    let before = rw (first all_kinds i c.loop-kind-test.true) at c.loop-kind.invariant in
+    elim c.if-has.branch [
+      | then-has+in_ok-put_listed w ↦ rw (w.out-is, w.later-is) (listed kinds kind left c.loop-kind.later old c.loop-kind.out.items w.put_listed.new.out.items (sym c.has.ensures ∙ w.if-has.true) (w.in_ok-put_listed.ensures ∙ ap (λ word. c.loop-kind.out.items ++ word_text c.loop-kind.later word) w.text.ensures) before)
+      | else-has w ↦ rw (w.out-is, w.later-is) (left_out kinds kind left c.loop-kind.later old c.loop-kind.out.items (sym c.has.ensures ∙ w.if-has.false) before)
+    ]

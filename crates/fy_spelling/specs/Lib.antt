@@ -1,0 +1,11 @@
+pub mod Acts
+pub mod Values
+pub mod Fits
+pub mod Command
+pub mod Candidate
+pub mod Held
+pub mod OneText
+pub mod Plain
+pub mod Pieces
+pub mod Tame
+pub mod Rows

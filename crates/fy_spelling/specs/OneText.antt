@@ -1,0 +1,26 @@
+-- texts of entries and lines of scripts that are of one thing each
+use Rattle.std.specs.List.{AllByRecursion}
+use Rattle.std.specs.Prelude.{◌≡◌, ◌≢◌, ℕ, List, Result}
+use Rattle.fy_spelling.specs.Fits.{FitsEntry}
+use Rattle.fy_spelling.specs.Values.{text_of}
+use Rattle.fy_spelling.specs.Command.{LineOf}
+use Rattle.fy_spelling.specs.declared.command.Command.{Command}
+use Rattle.fy_spelling.specs.declared.command.LineFault.{LineFault}
+use Rattle.fy_spelling.specs.declared.entry.Entry.{Entry}
+
+-- two entries with one text are equal
+abbrev pub OneEntryPerText : Type 0
+OneEntryPerText = (a b : Entry) → FitsEntry a → FitsEntry b → text_of a ≡ text_of b → a ≡ b
+
+-- a line of a script comes to one command, or has one first fault
+abbrev pub LineComesToOne : Type 0
+LineComesToOne =
+    (line : List ℕ) (x y : Result Command LineFault) → LineOf line x → LineOf line y → x ≡ y
+
+-- no byte is a line feed
+abbrev pub HasNoFeed : List ℕ → Type 0
+HasNoFeed bytes = AllByRecursion (λ b. b ≢ 10) bytes
+
+-- the text of an entry is one line
+abbrev pub TextsAreLines : Type 0
+TextsAreLines = (e : Entry) → FitsEntry e → HasNoFeed (text_of e)

@@ -1,0 +1,46 @@
+//! Lines of scripts: who asks for which act.
+ghost use Rattle.std.specs.Prelude.{◌≡◌};
+
+use crate::Act;
+
+/// How many bytes a line of a script or an audit may have, without its line end: 65,536.
+pub const MOST_LINE_BYTES: usize = 65_536;
+
+/// An act that an actor asks for.
+#[derive(PartialEq, Eq)]
+pub struct Command {
+    /// The number of whoever asks, an actor or not.
+    pub by: u32,
+    pub act: Act,
+}
+
+// Written out, so that whoever drops a command makes one call.
+impl Drop for Command {
+    fn drop(self) {
+        let Command { by: _, act: _ } = self;
+    }
+}
+
+impl Command {
+    /// Who asks, and for which act.
+    pub fn into_parts(self) -> (u32, Act)
+        ensures { result ≡ (self.by, self.act) }
+    {
+        let Command { by, act } = self;
+        (by, act)
+    }
+}
+
+/// Why a line of a script asks for nothing, the first that holds.
+#[derive(Clone, Copy, PartialEq, Eq, Debug)]
+pub enum LineFault {
+    /// It has more than 65,536 bytes.
+    TooLong,
+    /// It is no JSON object with exactly the members of a command, or one of them isn't as it has
+    /// to be.
+    Syntax,
+    /// The floor of its kill is above the kind.
+    Floor,
+    /// There is no memory to read it.
+    NoMemory,
+}

@@ -1,0 +1,43 @@
+//! Laws of acts and entries, for the crates above.
+ghost use Rattle.std.specs.Prelude.{◌≡◌, ◌↔◌, IsTrue};
+ghost use Rattle.fy_spelling.specs.declared.act.Act.{Act};
+ghost use Rattle.fy_spelling.specs.declared.entry.Entry.{Entry};
+ghost use Rattle.fy_spelling.specs.OneText.{OneEntryPerText, LineComesToOne, TextsAreLines};
+ghost use Rattle.fy_spelling.specs.Plain.{PlainTextSpells};
+ghost use Rattle.fy_spelling.specs.Rows.{EntryTexts, ReplyTexts, ActTexts, CommandText};
+
+use crate::{Act, Entry};
+
+/// Acts are equal where they are the same, and so are entries.
+pub fn equal_is_the_same()
+    ensures acts { (a b : Act) → IsTrue (⟦<Act as PartialEq>⟧.eq a b) ↔ (a ≡ b) }
+    ensures entries { (a b : Entry) → IsTrue (⟦<Entry as PartialEq>⟧.eq a b) ↔ (a ≡ b) }
+{}
+
+/// Two entries with one text, whose numbers and names fit, are equal.
+pub fn a_text_is_of_one_entry()
+    ensures { OneEntryPerText }
+{}
+
+/// The text of an entry, whose numbers and names fit, has no line feed.
+pub fn a_text_is_a_line()
+    ensures { TextsAreLines }
+{}
+
+/// A line of a script asks for one command, or has one first fault.
+pub fn a_line_comes_to_one()
+    ensures { LineComesToOne }
+{}
+
+/// The plain text of a command, whose numbers and names fit, is a line that asks for it.
+pub fn plain_text_spells()
+    ensures { PlainTextSpells }
+{}
+
+/// Entries, replies, acts and a command have the texts that are written out by hand.
+pub fn texts_are_as_written_out()
+    ensures entries { EntryTexts }
+    ensures replies { ReplyTexts }
+    ensures acts { ActTexts }
+    ensures command { CommandText }
+{}

@@ -1,0 +1,374 @@
+//! Commands from JSON values.
+ghost use Rattle.std.specs.Prelude.{◌≡◌, ◌⊎◌, IfOk, IfErr, option_map};
+ghost use Rattle.serde_json.specs.Data.{Data};
+ghost use Rattle.serde_json.specs.View.{view};
+ghost use Rattle.fy_spelling.specs.Candidate.{long_in, process_in, clog_in, order_in, form_in, begin_in, give_in, protection_in, resend_in, take_in, copy_in, replace_in, aimed_by, moved_by, righted_by, healed_by, asked_by, act_from, command_from, IsMeant};
+ghost use Rattle.fy_spelling.specs.Command.{IsJson, LineAnswers};
+ghost use Rattle.fy_spelling.specs.declared.command.LineFault.TheVariants.{Syntax, NoMemory};
+ghost use Rattle.fy_spelling.specs.declared.reading.Asked.TheVariants.{Other};
+
+use crate::parts::{
+    five, kind_of, kinds_of, long_of, members_of, one, payload_of, process_of, scope_of, short_of,
+    sole, target_in, target_of, three, two,
+};
+use crate::{Act, Command, LineFault, MOST_LINE_BYTES};
+use fy_grants::Grant;
+use fy_kinds::{Floor, KillOrder, Kind, KindSet, Target};
+use fy_locality::ProcId;
+use serde_json::Value;
+use std::alloc::{AllocError, Global};
+
+/// What an act's value asks for.
+#[derive(Drop)]
+pub(crate) enum Asked {
+    /// A kill, whether or not its floor is above its kind.
+    Order {
+        target: Target,
+        kind: Kind,
+        floor: Kind,
+        tear: u64,
+    },
+    /// Any other act.
+    Other(Act),
+}
+
+/// A number of 64 bits at the one key.
+fn long_in(value: &Value, key: &str) -> Option<u64>
+    ensures { result ≡ long_in key.now (view value.now) }
+{
+    long_of(one(value, key)?)
+}
+
+/// A process at the key of one.
+fn process_in(value: &Value) -> Option<ProcId>
+    ensures { result ≡ process_in (view value.now) }
+{
+    process_of(one(value, "process")?)
+}
+
+/// A target and ticks.
+fn clog_in(value: &Value) -> Option<(Target, u64)>
+    ensures { result ≡ clog_in (view value.now) }
+{
+    let (key, ticks, value) = three(value, "key", "ticks", "value")?;
+    let target = target_of(key, value)?;
+    let ticks = long_of(ticks)?;
+    Some((target, ticks))
+}
+
+/// An order, whether or not its floor is above its kind.
+fn order_in(value: &Value) -> Option<Asked>
+    ensures { result ≡ order_in (view value.now) }
+{
+    let (floor, key, kind, tear, value) = five(value, "floor", "key", "kind", "tear", "value")?;
+    let floor = kind_of(floor)?;
+    let target = target_of(key, value)?;
+    let kind = kind_of(kind)?;
+    let tear = long_of(tear)?;
+    Some(Asked::Order {
+        target,
+        kind,
+        floor,
+        tear,
+    })
+}
+
+/// The form of a team.
+fn form_in(alloc: Global, value: &Value) -> Result<Option<Act>, AllocError>
+    ensures { IfOk result (λ found. found ≡ form_in (view value.now)) }
+{
+    let Some((members, policy)) = two(value, "members", "policy") else {
+        return Ok(None);
+    };
+    let Some(policy) = short_of(policy) else {
+        return Ok(None);
+    };
+    let Some(members) = members_of(alloc, members)? else {
+        return Ok(None);
+    };
+    Ok(Some(Act::Form { members, policy }))
+}
+
+/// The begin of a record.
+fn begin_in(alloc: Global, value: &Value) -> Result<Option<Act>, AllocError>
+    ensures { IfOk result (λ found. found ≡ begin_in (view value.now)) }
+{
+    let Some((payload, team)) = two(value, "payload", "team") else {
+        return Ok(None);
+    };
+    let Some(team) = short_of(team) else {
+        return Ok(None);
+    };
+    let Some(payload) = payload_of(alloc, payload)? else {
+        return Ok(None);
+    };
+    Ok(Some(Act::Begin { team, payload }))
+}
+
+/// A grant.
+fn give_in(value: &Value) -> Option<Act>
+    ensures { result ≡ give_in (view value.now) }
+{
+    let (actor, kinds, scope) = three(value, "actor", "kinds", "scope")?;
+    let actor = short_of(actor)?;
+    let kinds = kinds_of(kinds)?;
+    let scope = scope_of(scope)?;
+    let grant = Grant {
+        actor,
+        kinds,
+        scope,
+    };
+    Some(Act::Give { grant })
+}
+
+/// A process and kinds.
+fn protection_in(value: &Value) -> Option<(ProcId, KindSet)>
+    ensures { result ≡ protection_in (view value.now) }
+{
+    let (kinds, process) = two(value, "kinds", "process")?;
+    let kinds = kinds_of(kinds)?;
+    let process = process_of(process)?;
+    Some((process, kinds))
+}
+
+/// A record and a process.
+fn resend_in(value: &Value) -> Option<Act>
+    ensures { result ≡ resend_in (view value.now) }
+{
+    let (process, rec) = two(value, "process", "record")?;
+    let process = process_of(process)?;
+    let rec = short_of(rec)?;
+    Some(Act::Resend { rec, process })
+}
+
+/// A grant's place.
+fn take_in(value: &Value) -> Option<Act>
+    ensures { result ≡ take_in (view value.now) }
+{
+    let (actor, index) = two(value, "actor", "index")?;
+    let actor = short_of(actor)?;
+    let index = short_of(index)?;
+    Some(Act::Take { actor, index })
+}
+
+/// A copy of a record.
+fn copy_in(value: &Value) -> Option<Act>
+    ensures { result ≡ copy_in (view value.now) }
+{
+    let (from, rec, to) = three(value, "from", "record", "to")?;
+    let from = process_of(from)?;
+    let rec = short_of(rec)?;
+    let to = process_of(to)?;
+    Some(Act::CopyTo { from, rec, to })
+}
+
+/// The replacement of a member.
+fn replace_in(value: &Value) -> Option<Act>
+    ensures { result ≡ replace_in (view value.now) }
+{
+    let (into, out, team) = three(value, "into", "out", "team")?;
+    let into = process_of(into)?;
+    let out = process_of(out)?;
+    let team = short_of(team)?;
+    Some(Act::Replace { team, out, into })
+}
+
+/// An act of a target or of ticks, by its name.
+fn aimed_by(name: &str, value: &Value) -> Option<Act>
+    ensures { result ≡ aimed_by name.now (view value.now) }
+{
+    match name {
+        "clog" => {
+            let (target, ticks) = clog_in(value)?;
+            Some(Act::Clog { target, ticks })
+        }
+        "unclog" => {
+            let target = target_in(value)?;
+            Some(Act::Unclog { target })
+        }
+        "tick" => {
+            let ticks = long_in(value, "ticks")?;
+            Some(Act::Tick { ticks })
+        }
+        _ => None,
+    }
+}
+
+/// An act of a process or a message, by its name.
+fn moved_by(name: &str, value: &Value) -> Option<Act>
+    ensures { result ≡ moved_by name.now (view value.now) }
+{
+    match name {
+        "deliver" => {
+            let message = long_in(value, "message")?;
+            Some(Act::Deliver { message })
+        }
+        "lose" => {
+            let message = long_in(value, "message")?;
+            Some(Act::Lose { message })
+        }
+        "resend" => resend_in(value),
+        "sync" => {
+            let process = process_in(value)?;
+            Some(Act::Sync { process })
+        }
+        "up" => {
+            let process = process_in(value)?;
+            Some(Act::Up { process })
+        }
+        _ => aimed_by(name, value),
+    }
+}
+
+/// An act of rights, by its name.
+fn righted_by(name: &str, value: &Value) -> Option<Act>
+    ensures { result ≡ righted_by name.now (view value.now) }
+{
+    match name {
+        "give" => give_in(value),
+        "take" => take_in(value),
+        "protect" => {
+            let (process, kinds) = protection_in(value)?;
+            Some(Act::Protect { process, kinds })
+        }
+        "unprotect" => {
+            let (process, kinds) = protection_in(value)?;
+            Some(Act::Unprotect { process, kinds })
+        }
+        _ => moved_by(name, value),
+    }
+}
+
+/// An act of healing, or any act but a kill, a form or a begin, by its name.
+fn healed_by(name: &str, value: &Value) -> Option<Act>
+    ensures { result ≡ healed_by name.now (view value.now) }
+{
+    match name {
+        "copy" => copy_in(value),
+        "replace" => replace_in(value),
+        "heal" => {
+            let process = process_in(value)?;
+            Some(Act::Heal { process })
+        }
+        _ => righted_by(name, value),
+    }
+}
+
+/// An act that is no kill.
+fn other(found: Option<Act>) -> Option<Asked>
+    ensures { result ≡ option_map Other found }
+{
+    match found {
+        Some(act) => Some(Asked::Other(act)),
+        None => None,
+    }
+}
+
+/// Any act, by its name.
+fn asked_by(alloc: Global, name: &str, value: &Value) -> Result<Option<Asked>, AllocError>
+    ensures { IfOk result (λ found. found ≡ asked_by name.now (view value.now)) }
+{
+    match name {
+        "kill" => Ok(order_in(value)),
+        "form" => Ok(other(form_in(alloc, value)?)),
+        "begin" => Ok(other(begin_in(alloc, value)?)),
+        _ => Ok(other(healed_by(name, value))),
+    }
+}
+
+/// What an act's value asks for.
+fn act_of(alloc: Global, value: &Value) -> Result<Option<Asked>, AllocError>
+    ensures { IfOk result (λ found. found ≡ act_from (view value.now)) }
+{
+    let Some((name, value)) = sole(value) else {
+        return Ok(None);
+    };
+    asked_by(alloc, name, value)
+}
+
+/// Who asks for which act.
+fn command_of(alloc: Global, value: &Value) -> Result<Option<(u32, Asked)>, AllocError>
+    ensures { IfOk result (λ found. found ≡ command_from (view value.now)) }
+{
+    let Some((act, by)) = two(value, "act", "by") else {
+        return Ok(None);
+    };
+    let Some(by) = short_of(by) else {
+        return Ok(None);
+    };
+    let Some(asked) = act_of(alloc, act)? else {
+        return Ok(None);
+    };
+    Ok(Some((by, asked)))
+}
+
+/// The act that is asked for.
+///
+/// # Errors
+///
+/// `Floor` where it is a kill whose floor is above its kind.
+fn meant(asked: Asked) -> Result<Act, LineFault>
+    ensures { IsMeant asked result }
+{
+    match asked {
+        Asked::Order {
+            target,
+            kind,
+            floor,
+            tear,
+        } => match KillOrder::make(target, kind, floor, tear) {
+            Ok(order) => Ok(Act::Kill { order }),
+            Err(Floor) => Err(LineFault::Floor),
+        },
+        Asked::Other(act) => Ok(act),
+    }
+}
+
+/// The JSON value of a line.
+///
+/// # Errors
+///
+/// `Syntax` where it is none; `NoMemory`.
+fn value_of(alloc: Global, line: &[u8]) -> Result<Value, LineFault>
+    ensures found { IfOk result (λ value. IsJson line.now (view value)) }
+    ensures none { IfErr result (λ fault. (fault ≡ NoMemory)
+        ⊎ ((fault ≡ Syntax) × ((d : Data) → IsJson line.now d → ⊥))) }
+{
+    match Value::from_slice(alloc, line) {
+        Ok(value) => Ok(value),
+        Err(error) => {
+            if error.is_memory() {
+                Err(LineFault::NoMemory)
+            } else {
+                Err(LineFault::Syntax)
+            }
+        }
+    }
+}
+
+/// The command of a line of a script, which is told without its line end, as serde_json's value
+/// has it.
+///
+/// # Errors
+///
+/// In order: `TooLong`, `Syntax`, `Floor`; `NoMemory` at any of them but the first.
+pub fn read_command_by_value(alloc: Global, line: &[u8]) -> Result<Command, LineFault>
+    ensures { LineAnswers line.now result }
+{
+    if line.len() > MOST_LINE_BYTES {
+        return Err(LineFault::TooLong);
+    }
+    let value = match value_of(alloc, line) {
+        Ok(value) => value,
+        Err(fault) => return Err(fault),
+    };
+    let (by, asked) = match command_of(alloc, &value) {
+        Ok(Some(found)) => found,
+        Ok(None) => return Err(LineFault::Syntax),
+        Err(AllocError) => return Err(LineFault::NoMemory),
+    };
+    match meant(asked) {
+        Ok(act) => Ok(Command { by, act }),
+        Err(fault) => Err(fault),
+    }
+}

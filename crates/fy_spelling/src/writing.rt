@@ -1,0 +1,132 @@
+//! Texts of acts, replies, entries and commands, written after what a buffer has.
+ghost use Rattle.std.specs.Prelude.{◌≡◌, ◌++◌, OnOk, IfOk, decimal, codes, string_bytes};
+ghost use Rattle.fy_spelling.specs.Values.{text_of};
+ghost use Rattle.fy_spelling.specs.Pieces.{one_text, last_text, asked_text, front_text, entry_pieces, IsBare};
+ghost use Rattle.fy_spelling.specs.Plain.{command_text};
+
+mod acts;
+mod replies;
+
+use crate::fits::entry_is_held;
+use crate::{Command, Entry};
+use acts::put_act;
+use itoa::Buffer;
+use replies::put_reply;
+use std::alloc::{AllocError, Global};
+
+#[inline(always)]
+fn put(out: &mut Vec<u8>, text: &str) -> Result<(), AllocError>
+    ensures { OnOk result (out.new.items ≡ out.old.items ++ text.now) }
+{
+    out.extend_from_slice(text.as_bytes())
+}
+
+#[inline(always)]
+fn put_decimal(out: &mut Vec<u8>, n: u64) -> Result<(), AllocError>
+    ensures { OnOk result (out.new.items ≡ out.old.items ++ decimal n) }
+{
+    let mut digits = Buffer::new();
+    put(out, digits.format(n))
+}
+
+/// A text and then a number.
+#[inline(always)]
+fn put_number(out: &mut Vec<u8>, head: &str, n: u64) -> Result<(), AllocError>
+    ensures { OnOk result (out.new.items ≡ out.old.items ++ (head.now ++ decimal n)) }
+{
+    put(out, head)?;
+    put_decimal(out, n)
+}
+
+/// A text and then a word.
+#[inline(always)]
+fn put_word(out: &mut Vec<u8>, head: &str, word: &str) -> Result<(), AllocError>
+    ensures { OnOk result (out.new.items ≡ out.old.items ++ (head.now ++ word.now)) }
+{
+    put(out, head)?;
+    put(out, word)
+}
+
+/// A number between two texts.
+#[inline(always)]
+fn put_last(out: &mut Vec<u8>, head: &str, n: u64, tail: &str) -> Result<(), AllocError>
+    ensures { OnOk result (out.new.items ≡ out.old.items ++ last_text head.now n tail.now) }
+{
+    put_number(out, head, n)?;
+    put(out, tail)
+}
+
+/// An object with one number.
+#[inline(always)]
+fn put_one(out: &mut Vec<u8>, head: &str, n: u64) -> Result<(), AllocError>
+    ensures { OnOk result (out.new.items ≡ out.old.items ++ one_text head.now n) }
+{
+    put_last(out, head, n, "}}")
+}
+
+fn put_pieces(out: &mut Vec<u8>, command: &Command) -> Result<(), AllocError>
+    ensures text { OnOk result (out.new.items ≡ out.old.items ++ asked_text command.now) }
+    ensures bare { OnOk result (IsBare command.now.act) }
+{
+    put_number(out, "{\"by\":", command.by as u64)?;
+    put(out, ",\"act\":")?;
+    put_act(out, &command.act)?;
+    put(out, "}")
+}
+
+/// Writes the plain text of a command, without a line end, after what the buffer has.
+///
+/// # Errors
+///
+/// `AllocError` where there is no memory for it; a part of it may be written then.
+pub fn put_command(out: &mut Vec<u8>, command: &Command) -> Result<(), AllocError>
+    ensures { OnOk result (out.new.items ≡ out.old.items ++ command_text command.now) }
+{
+    put_pieces(out, command)
+}
+
+fn put_front(out: &mut Vec<u8>, entry: &Entry) -> Result<(), AllocError>
+    ensures text { OnOk result (out.new.items ≡ out.old.items ++ front_text entry.now) }
+    ensures bare { OnOk result (IsBare entry.now.act) }
+{
+    put(out, "{\"act\":")?;
+    put_act(out, &entry.act)?;
+    put_number(out, ",\"at\":", entry.at as u64)?;
+    put_number(out, ",\"by\":", entry.by as u64)
+}
+
+fn put_entry_pieces(out: &mut Vec<u8>, entry: &Entry) -> Result<(), AllocError>
+    ensures text { OnOk result (out.new.items ≡ out.old.items ++ entry_pieces entry.now) }
+    ensures bare { OnOk result (IsBare entry.now.act) }
+{
+    put_front(out, entry)?;
+    put_reply(out, &entry.reply)
+}
+
+/// Writes the one text of an entry, without a line end, after what the buffer has.
+///
+/// # Errors
+///
+/// `AllocError` where there is no memory for it; a part of it may be written then.
+pub fn put_entry(out: &mut Vec<u8>, entry: &Entry) -> Result<(), AllocError>
+    ensures { OnOk result (out.new.items ≡ out.old.items ++ text_of entry.now) }
+{
+    put_entry_pieces(out, entry)
+}
+
+/// The one text of an entry, without a line end.
+///
+/// # Errors
+///
+/// `AllocError` where there is no memory for it.
+pub fn entry_text(alloc: Global, entry: &Entry) -> Result<String, AllocError>
+    ensures { IfOk result (λ text. string_bytes text ≡ text_of entry.now) }
+{
+    entry_is_held(entry);
+    let mut bytes = Vec::new(alloc);
+    put_entry(&mut bytes, entry)?;
+    match String::from_utf8(bytes) {
+        Ok(text) => Ok(text),
+        Err(_) => unreachable!(),
+    }
+}

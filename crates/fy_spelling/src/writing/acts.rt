@@ -1,0 +1,293 @@
+//! Texts of acts.
+ghost use Rattle.std.specs.Prelude.{◌≡◌, ◌++◌, OnOk, decimal, codes, true, false};
+ghost use Rattle.serde_json.specs.Written.{comma_if};
+ghost use Rattle.std.specs.List.{AllByRecursion};
+ghost use Rattle.hex.specs.Hex.{encode_lower};
+ghost use Rattle.fy_locality.specs.Name.{is_name};
+ghost use Rattle.fy_spelling.specs.Fits.{IsByte, FitsTarget, FitsScope};
+ghost use Rattle.fy_spelling.specs.Values.{in_order};
+ghost use Rattle.fy_spelling.specs.Pieces.{one_text, two_text, three_text, valued_text, target_text, keys_text, words_text, order_text, clog_text, processes_text, deeds_text, form_text, begin_text, scope_text, give_text, protection_text, act_text, IsBare};
+
+use super::{put, put_decimal, put_number, put_one, put_word};
+use crate::Act;
+use fy_disk::Payload;
+use fy_grants::{Grant, Scope};
+use fy_kinds::{KillOrder, Kind, KindSet, Target};
+use fy_locality::{Name, ProcId};
+use std::alloc::AllocError;
+
+/// An object with two numbers.
+#[inline(always)]
+fn put_two(out: &mut Vec<u8>, a: &str, m: u64, b: &str, n: u64) -> Result<(), AllocError>
+    ensures { OnOk result (out.new.items ≡ out.old.items ++ two_text a.now m b.now n) }
+{
+    put_number(out, a, m)?;
+    put_one(out, b, n)
+}
+
+/// An object with three numbers.
+#[inline(always)]
+fn put_three(
+    out: &mut Vec<u8>,
+    a: &str,
+    m: u64,
+    b: &str,
+    n: u64,
+    c: &str,
+    k: u64,
+) -> Result<(), AllocError>
+    ensures { OnOk result (out.new.items ≡ out.old.items ++ three_text a.now m b.now n c.now k) }
+{
+    put_number(out, a, m)?;
+    put_two(out, b, n, c, k)
+}
+
+/// A name between two texts.
+#[inline(always)]
+fn put_name(out: &mut Vec<u8>, head: &str, name: &Name, tail: &str) -> Result<(), AllocError>
+    ensures text { OnOk result
+        (out.new.items ≡ out.old.items ++ (head.now ++ (name.now ++ tail.now))) }
+    ensures name { OnOk result (is_name name.now ≡ true) }
+{
+    put(out, head)?;
+    out.extend_from_slice(name.as_bytes())?;
+    put(out, tail)
+}
+
+/// A number, and then a name under `value`.
+#[inline(always)]
+fn put_valued(out: &mut Vec<u8>, head: &str, n: u64, value: &Name) -> Result<(), AllocError>
+    ensures text { OnOk result
+        (out.new.items ≡ out.old.items ++ valued_text head.now n value.now) }
+    ensures name { OnOk result (is_name value.now ≡ true) }
+{
+    put_number(out, head, n)?;
+    put_name(out, ",\"value\":\"", value, "\"}}")
+}
+
+/// A key, and then a name under `value`.
+#[inline(always)]
+fn put_target(out: &mut Vec<u8>, head: &str, target: &Target, tail: &str) -> Result<(), AllocError>
+    ensures text { OnOk result
+        (out.new.items ≡ out.old.items ++ target_text head.now target.now tail.now) }
+    ensures name { OnOk result (FitsTarget target.now) }
+{
+    put_word(out, head, target.key.text())?;
+    put_name(out, "\",\"value\":\"", &target.value, tail)
+}
+
+fn put_keys(out: &mut Vec<u8>, key: &str, kind: &str) -> Result<(), AllocError>
+    ensures { OnOk result (out.new.items ≡ out.old.items ++ keys_text key.now kind.now) }
+{
+    put_word(out, "\",\"key\":\"", key)?;
+    put_word(out, "\",\"kind\":\"", kind)
+}
+
+fn put_words(out: &mut Vec<u8>, floor: &str, key: &str, kind: &str) -> Result<(), AllocError>
+    ensures { OnOk result
+        (out.new.items ≡ out.old.items ++ words_text floor.now key.now kind.now) }
+{
+    put_word(out, "{\"kill\":{\"floor\":\"", floor)?;
+    put_keys(out, key, kind)
+}
+
+fn put_kill(out: &mut Vec<u8>, order: &KillOrder) -> Result<(), AllocError>
+    ensures text { OnOk result (out.new.items ≡ out.old.items ++ order_text order.now) }
+    ensures name { OnOk result (FitsTarget order.now.target) }
+{
+    let target = order.target();
+    put_words(
+        out,
+        order.floor().text(),
+        target.key.text(),
+        order.kind().text(),
+    )?;
+    put_valued(out, "\",\"tear\":", order.tear(), &target.value)
+}
+
+fn put_clog(out: &mut Vec<u8>, target: &Target, ticks: u64) -> Result<(), AllocError>
+    ensures text { OnOk result (out.new.items ≡ out.old.items ++ clog_text target.now ticks) }
+    ensures name { OnOk result (FitsTarget target.now) }
+{
+    put_word(out, "{\"clog\":{\"key\":\"", target.key.text())?;
+    put_valued(out, "\",\"ticks\":", ticks, &target.value)
+}
+
+fn put_processes(out: &mut Vec<u8>, processes: &[ProcId]) -> Result<(), AllocError>
+    ensures { OnOk result (out.new.items ≡ out.old.items ++ processes_text false processes.now) }
+{
+    let mut later = false;
+    for p in processes {
+        if later {
+            put(out, ",")?;
+        }
+        put_decimal(out, p.0 as u64)?;
+        later = true;
+    }
+    Ok(())
+}
+
+fn put_form(out: &mut Vec<u8>, members: &[ProcId], policy: u32) -> Result<(), AllocError>
+    ensures { OnOk result (out.new.items ≡ out.old.items ++ form_text members.now policy) }
+{
+    put(out, "{\"form\":{\"members\":[")?;
+    put_processes(out, members)?;
+    put_one(out, "],\"policy\":", policy as u64)
+}
+
+/// The sixteen digits.
+const DIGITS: &[u8; 16] = b"0123456789abcdef";
+
+/// Two digits for each byte.
+#[tactic(auto, unfolding(hex::specs::Hex::encode_with))]
+fn put_bytes(out: &mut Vec<u8>, bytes: &[u8]) -> Result<(), AllocError>
+    ensures text { OnOk result (out.new.items ≡ out.old.items ++ encode_lower bytes.now) }
+    ensures bytes { OnOk result (AllByRecursion IsByte bytes.now) }
+{
+    for &byte in bytes {
+        let high = DIGITS[(byte / 16) as usize];
+        let low = DIGITS[(byte % 16) as usize];
+        out.extend_from_slice(&[high, low])?;
+    }
+    Ok(())
+}
+
+fn put_begin(out: &mut Vec<u8>, team: u32, payload: &Payload) -> Result<(), AllocError>
+    ensures text { OnOk result (out.new.items ≡ out.old.items ++ begin_text team payload.now) }
+    ensures bytes { OnOk result (AllByRecursion IsByte payload.now) }
+{
+    put(out, "{\"begin\":{\"payload\":\"")?;
+    put_bytes(out, payload.bytes())?;
+    put_one(out, "\",\"team\":", team as u64)
+}
+
+/// The kinds of kill, from the mildest.
+const KINDS: [Kind; 4] = [
+    Kind::RebootProcess,
+    Kind::Reboot,
+    Kind::RebootAndDelete,
+    Kind::KillInstantly,
+];
+
+/// A word of a list, with a comma where one stands before it.
+fn put_listed(out: &mut Vec<u8>, later: bool, word: &str) -> Result<(), AllocError>
+    ensures { OnOk result (out.new.items ≡ out.old.items
+        ++ (comma_if later ++ (codes "\"" ++ (word.now ++ codes "\"")))) }
+{
+    put_word(out, if later { ",\"" } else { "\"" }, word)?;
+    put(out, "\"")
+}
+
+fn put_kinds(out: &mut Vec<u8>, kinds: KindSet) -> Result<(), AllocError>
+    ensures { OnOk result (out.new.items ≡ out.old.items ++ deeds_text false (in_order kinds)) }
+{
+    let mut later = false;
+    for &kind in &KINDS {
+        if kinds.has(kind) {
+            put_listed(out, later, kind.text())?;
+            later = true;
+        }
+    }
+    if kinds.has_clog() {
+        put_listed(out, later, "Clog")?;
+    }
+    Ok(())
+}
+
+fn put_scope(out: &mut Vec<u8>, scope: &Scope) -> Result<(), AllocError>
+    ensures text { OnOk result (out.new.items ≡ out.old.items ++ scope_text scope.now) }
+    ensures name { OnOk result (FitsScope scope.now) }
+{
+    match scope {
+        Scope::All => put(out, "],\"scope\":\"all\"}}"),
+        Scope::Where(target) => put_target(out, "],\"scope\":{\"key\":\"", target, "\"}}}"),
+    }
+}
+
+fn put_give(out: &mut Vec<u8>, grant: &Grant) -> Result<(), AllocError>
+    ensures text { OnOk result (out.new.items ≡ out.old.items ++ give_text grant.now) }
+    ensures name { OnOk result (FitsScope grant.now.scope) }
+{
+    put_number(out, "{\"give\":{\"actor\":", grant.actor as u64)?;
+    put(out, ",\"kinds\":[")?;
+    put_kinds(out, grant.kinds)?;
+    put_scope(out, &grant.scope)
+}
+
+/// The kinds of a protection, and its process.
+fn put_protection(
+    out: &mut Vec<u8>,
+    head: &str,
+    kinds: KindSet,
+    process: ProcId,
+) -> Result<(), AllocError>
+    ensures { OnOk result
+        (out.new.items ≡ out.old.items ++ protection_text head.now kinds process) }
+{
+    put(out, head)?;
+    put_kinds(out, kinds)?;
+    put_one(out, "],\"process\":", process.0 as u64)
+}
+
+/// Writes the text of an act.
+pub(super) fn put_act(out: &mut Vec<u8>, act: &Act) -> Result<(), AllocError>
+    ensures text { OnOk result (out.new.items ≡ out.old.items ++ act_text act.now) }
+    ensures bare { OnOk result (IsBare act.now) }
+{
+    match act {
+        Act::Kill { order } => put_kill(out, order),
+        Act::Clog { target, ticks } => put_clog(out, target, *ticks),
+        Act::Unclog { target } => put_target(out, "{\"unclog\":{\"key\":\"", target, "\"}}"),
+        Act::Form { members, policy } => put_form(out, members.as_slice(), *policy),
+        Act::Begin { team, payload } => put_begin(out, *team, payload),
+        Act::Deliver { message } => put_one(out, "{\"deliver\":{\"message\":", *message),
+        Act::Lose { message } => put_one(out, "{\"lose\":{\"message\":", *message),
+        Act::Resend { rec, process } => put_two(
+            out,
+            "{\"resend\":{\"process\":",
+            process.0 as u64,
+            ",\"record\":",
+            *rec as u64,
+        ),
+        Act::Sync { process } => put_one(out, "{\"sync\":{\"process\":", process.0 as u64),
+        Act::Up { process } => put_one(out, "{\"up\":{\"process\":", process.0 as u64),
+        Act::Tick { ticks } => put_one(out, "{\"tick\":{\"ticks\":", *ticks),
+        Act::Give { grant } => put_give(out, grant),
+        Act::Take { actor, index } => put_two(
+            out,
+            "{\"take\":{\"actor\":",
+            *actor as u64,
+            ",\"index\":",
+            *index as u64,
+        ),
+        Act::Protect { process, kinds } => {
+            put_protection(out, "{\"protect\":{\"kinds\":[", *kinds, *process)
+        }
+        Act::Unprotect { process, kinds } => {
+            put_protection(out, "{\"unprotect\":{\"kinds\":[", *kinds, *process)
+        }
+        Act::CopyTo { from, rec, to } => put_three(
+            out,
+            "{\"copy\":{\"from\":",
+            from.0 as u64,
+            ",\"record\":",
+            *rec as u64,
+            ",\"to\":",
+            to.0 as u64,
+        ),
+        Act::Replace {
+            team,
+            out: left,
+            into,
+        } => put_three(
+            out,
+            "{\"replace\":{\"into\":",
+            into.0 as u64,
+            ",\"out\":",
+            left.0 as u64,
+            ",\"team\":",
+            *team as u64,
+        ),
+        Act::Heal { process } => put_one(out, "{\"heal\":{\"process\":", process.0 as u64),
+    }
+}
