@@ -1,7 +1,12 @@
+pub mod Acting
 pub mod AnswerLemmas
 pub mod CommandLemmas
+pub mod EnterLemmas
+pub mod RowLemmas
 pub mod InputLemmas
 pub mod LineLemmas
+pub mod Loading
+pub mod Moving
 pub mod WordLemmas
 pub mod StepOnce
 pub mod JudgeOnce

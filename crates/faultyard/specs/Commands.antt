@@ -1,23 +1,40 @@
 -- The program's command line: one level of subcommands, of which one is wanted.
-use Rattle.std.specs.Prelude.{◌≡◌, true, List, Option, IsSomeAnd, codes}
-use Rattle.clap.specs.Words.{App, Row, Text, new_app, with_subcommand}
+use Rattle.std.specs.Prelude.{◌≡◌, true, List, Option, Some, IsSomeAnd, codes}
+use Rattle.clap.specs.Words.{App, Row, Rule, Text, first_of, new_app, new_rule, with_rule}
+use Rattle.clap.specs.Words.{with_subcommand}
+use Rattle.clap.specs.declared.builder.action.ArgAction.TheVariants.{Set}
 use Rattle.faultyard.specs.declared.task.Task.{Task}
-use Rattle.faultyard.specs.declared.task.Task.TheVariants.{Judge}
+use Rattle.faultyard.specs.declared.task.Task.TheVariants.{Judge, Run}
 
--- `faultyard` without its subcommands, of which it wants one
+-- `faultyard` without its subcommands, of which it wants one; it has a version
 abbrev pub bare_command : App
 bare_command =
     let app = new_app (codes "faultyard") in
-    record app { top = record app.top { subcommand_required = true } }
+    record app { top = record app.top { has_version = true; subcommand_required = true } }
+
+-- the word that names a cluster file, which has to be there
+abbrev pub config_rule : Rule
+config_rule = record (new_rule (codes "CONFIG")) { action = Some Set; required = true }
+
+-- the subcommand `judge`, which takes no word more
+abbrev pub judge_command : App
+judge_command = new_app (codes "judge")
+
+-- the subcommand `run`, which takes a cluster file
+abbrev pub run_command : App
+run_command = with_rule (new_app (codes "run")) config_rule
 
 -- the command line of `faultyard`
 abbrev pub faultyard_command : App
-faultyard_command = with_subcommand bare_command ((new_app (codes "judge")).top)
+faultyard_command =
+    with_subcommand (with_subcommand bare_command judge_command.top) run_command.top
 
--- the subcommand's name that stands for the task
-abbrev pub task_name : Task → Text
-task_name Judge = codes "judge"
+-- a subcommand's name and its rows, as the matches hold them, stand for the task
+abbrev pub StandsFor : Text × List Row → Task → Type 0
+StandsFor met Judge = met.0 ≡ codes "judge"
+StandsFor met (Run config) =
+    (met.0 ≡ codes "run") × (first_of (codes "CONFIG") met.1 ≡ Some config.now)
 
--- the task is the one that the matches' subcommand, its name beside its rows, stands for
+-- the task is the one that the matches' subcommand stands for
 abbrev pub IsTaskOf : Option (Text × List Row) → Task → Type 0
-IsTaskOf met task = IsSomeAnd met (λ p. p.0 ≡ task_name task)
+IsTaskOf met task = IsSomeAnd met (λ p. StandsFor p task)

@@ -5,3 +5,5 @@ pub mod JudgeViews
 pub mod Stops
 pub mod Commands
 pub use Rattle.fy_lines.specs.Fronts
+pub mod RunTexts
+pub mod Outputs

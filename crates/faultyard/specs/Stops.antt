@@ -1,11 +1,19 @@
 -- The fault lines and the exit statuses of a command that stops.
 use Rattle.std.specs.Prelude.{ℕ, List, ◌++◌, codes, decimal}
+use Rattle.fy_spelling.specs.declared.command.LineFault.{LineFault}
+use Rattle.fy_spelling.specs.declared.command.LineFault.TheVariants as line
+use Rattle.fy_audit.specs.declared.script.ScriptFault.{ScriptFault}
+use Rattle.fy_audit.specs.declared.script.ScriptFault.TheVariants as script
+use Rattle.fy_config.specs.declared.fault.Part.{Part}
+use Rattle.fy_config.specs.declared.fault.Part.TheVariants as part
+use Rattle.fy_config.specs.declared.fault.ConfigFault.{ConfigFault}
+use Rattle.fy_config.specs.declared.fault.ConfigFault.TheVariants as config
 use Rattle.faultyard.specs.declared.stop.JudgeFault.{JudgeFault}
 use Rattle.faultyard.specs.declared.stop.JudgeFault.TheVariants.{Syntax, Policy, Twice, TooMany, Unknown, PolicyUnmet}
 use Rattle.faultyard.specs.declared.stop.Stop.{Stop}
-use Rattle.faultyard.specs.declared.stop.Stop.TheVariants.{JudgeTooLong, JudgeLine, Read, Write, NoMemory}
+use Rattle.faultyard.specs.declared.stop.Stop.TheVariants.{JudgeTooLong, JudgeLine, Config, Script, JournalFull, Read, Write, NoMemory}
 
--- the word for a fault of a line
+-- the word for a fault of a line of judge's input
 abbrev pub fault_word : JudgeFault → List ℕ
 fault_word Syntax = codes "Syntax"
 fault_word Policy = codes "Policy"
@@ -14,11 +22,57 @@ fault_word TooMany = codes "TooMany"
 fault_word Unknown = codes "Unknown"
 fault_word PolicyUnmet = codes "PolicyUnmet"
 
+-- the word for a fault of a line of a script
+abbrev pub line_word : LineFault → List ℕ
+line_word line.TooLong = codes "TooLong"
+line_word line.Syntax = codes "Syntax"
+line_word line.Floor = codes "Floor"
+line_word line.NoMemory = codes "NoMemory"
+
+-- the word for a part of a cluster file
+abbrev pub part_word : Part → List ℕ
+part_word part.JournalLimit = codes "JournalLimit"
+part_word part.Policies = codes "Policies"
+part_word part.Process = codes "Process"
+part_word part.Actor = codes "Actor"
+part_word part.Protect = codes "Protect"
+part_word part.Unknown = codes "Unknown"
+
+-- a line with a word in it
+abbrev pub worded : List ℕ → List ℕ → List ℕ
+worded head word = head ++ word ++ codes "\n"
+
+-- a line with a number in it
+abbrev pub numbered : List ℕ → ℕ → List ℕ → List ℕ
+numbered head number ending = head ++ decimal number ++ ending
+
+-- the line for a cluster file that is refused
+abbrev pub config_text : ConfigFault → List ℕ
+config_text config.TooLong = codes "config: TooLong\n"
+config_text config.Toml = codes "config: Toml\n"
+config_text (config.Field part) = worded (codes "config: Field ") (part_word part)
+config_text (config.Limit part) = worded (codes "config: Limit ") (part_word part)
+config_text (config.Name part index) =
+    numbered (codes "config: Name " ++ part_word part ++ codes " ") index (codes "\n")
+config_text (config.Policy index) = numbered (codes "config: Policy ") index (codes "\n")
+config_text (config.PolicyUnmet index) = numbered (codes "config: PolicyUnmet ") index (codes "\n")
+config_text config.NoMemory = codes "no memory\n"
+
+-- the line for a script that is refused
+abbrev pub script_text : ScriptFault → List ℕ
+script_text script.TooLong = codes "script: TooLong\n"
+script_text (script.Line number fault) =
+    numbered (codes "script: line ") number (codes ": " ++ line_word fault ++ codes "\n")
+script_text script.NoMemory = codes "no memory\n"
+
 -- the line that says why a command stops
 abbrev pub stop_text : Stop → List ℕ
 stop_text JudgeTooLong = codes "judge: TooLong\n"
 stop_text (JudgeLine line fault) =
-    codes "judge: line " ++ decimal line ++ (codes ": " ++ fault_word fault ++ codes "\n")
+    numbered (codes "judge: line ") line (codes ": " ++ fault_word fault ++ codes "\n")
+stop_text (Config fault) = config_text fault
+stop_text (Script fault) = script_text fault
+stop_text JournalFull = codes "script: JournalFull\n"
 stop_text Read = codes "read fault\n"
 stop_text Write = codes "write fault\n"
 stop_text NoMemory = codes "no memory\n"
@@ -27,6 +81,26 @@ stop_text NoMemory = codes "no memory\n"
 abbrev pub stop_status : Stop → ℕ
 stop_status JudgeTooLong = 1
 stop_status (JudgeLine line fault) = 1
+stop_status (Config config.NoMemory) = 4
+stop_status (Config fault) = 1
+stop_status (Script script.NoMemory) = 4
+stop_status (Script fault) = 1
+stop_status JournalFull = 1
 stop_status Read = 3
 stop_status Write = 3
 stop_status NoMemory = 4
+
+-- the stop for a cluster file that is refused
+abbrev pub config_stop : ConfigFault → Stop
+config_stop config.NoMemory = NoMemory
+config_stop fault = Config fault
+
+-- the stop for a script that is refused
+abbrev pub script_stop : ScriptFault → Stop
+script_stop script.NoMemory = NoMemory
+script_stop fault = Script fault
+
+-- a fact for the fault of a cluster file; none for other stops
+abbrev pub IfConfigFault : Stop → (ConfigFault → Type 0) → Type 0
+IfConfigFault (Config fault) P = P fault
+IfConfigFault _ P = Unit {0}

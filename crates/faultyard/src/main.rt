@@ -1,16 +1,23 @@
 //! `faultyard`: a fault injector for a simulated storage cluster.
 #![tactic(auto)]
 
+mod audit;
+#[cfg(test)]
+mod ends;
 mod judge;
+mod load;
+mod run;
 mod stop;
 mod task;
 #[cfg(test)]
 mod tests;
 
 use judge::run_judge;
-use std::env;
+use load::load_config;
+use run::run_script;
 use std::io::ErrorKind;
 use std::process::ExitCode;
+use std::{env, fs};
 use stop::{Stop, write_stop};
 use task::{Task, read_task};
 
@@ -24,11 +31,25 @@ fn main(rt: HostRuntime) -> ExitCode {
     };
     let done = match read_task(rt.alloc(), words.as_slice()) {
         Ok(Task::Judge) => run_judge(rt.alloc(), &mut rt.stdin(), &mut rt.stdout()),
+        Ok(Task::Run(path)) => run_file(&rt, path),
         Err(error) => return answered(&rt, &error),
     };
     match done {
         Ok(_) => ExitCode::SUCCESS,
         Err(stop) => stopped(&rt, stop),
+    }
+}
+
+/// Runs the script on standard input on the cluster of a file.
+fn run_file(rt: &HostRuntime, path: &str) -> Result<bool, Stop> {
+    let mut file = match fs::open(rt, path) {
+        Ok(file) => file,
+        Err(error) if error.kind() == ErrorKind::OutOfMemory => return Err(Stop::NoMemory),
+        Err(_) => return Err(Stop::Read),
+    };
+    match load_config(rt.alloc(), &mut file) {
+        Ok(config) => run_script(rt.alloc(), &config, &mut rt.stdin(), &mut rt.stdout()),
+        Err(stop) => Err(stop),
     }
 }
 

@@ -1,48 +1,96 @@
 //! The program's command line.
 
-ghost use Rattle.std.specs.Prelude.{◌≡◌, IfOk, map, string_bytes};
-ghost use Rattle.clap.specs.Words.{FailsBy, app_of, fault_of, subcommand_of};
-ghost use Rattle.faultyard.specs.Commands.{IsTaskOf, faultyard_command};
+ghost use Rattle.std.specs.Prelude.{◌≡◌, IfOk, Some, codes, is_some, map};
+ghost use Rattle.std.specs.Prelude.{string_bytes, true};
+ghost use Rattle.clap.specs.Words.{FailsBy, app_of, fault_of, first_of, found_of, rows_of};
+ghost use Rattle.clap.specs.Words.{subcommand_of};
+ghost use Rattle.faultyard.specs.Commands.{IsTaskOf, faultyard_command, judge_command};
+ghost use Rattle.faultyard.specs.Commands.{run_command};
 
-use clap::Command;
+use clap::{Arg, ArgAction, ArgMatches, Command};
 use std::alloc::{AllocError, Global};
+
+/// Lines to paste, which the help of the program ends with.
+const EXAMPLES: &str = "Examples:
+  faultyard judge < examples/c6.judge
+  faultyard run examples/c6.toml < examples/two-zones.jsonl";
 
 /// What the program is asked to do.
 #[derive(Clone, Copy, Debug, PartialEq, Eq)]
-pub enum Task {
+pub enum Task<'a> {
     /// `faultyard judge`: answer the asks on standard input.
     Judge,
+    /// `faultyard run CONFIG`: run the script on standard input on the cluster of a file.
+    Run(&'a str),
 }
 
-/// The command line of `faultyard`: one subcommand is wanted, and each has a line of help.
+/// The subcommand `judge`, with its help.
+fn judge<'a>(alloc: Global) -> Command<'a>
+    ensures { app_of result ≡ judge_command }
+{
+    Command::new(alloc, "judge")
+        .about("Reads policies, processes and asks from standard input, and answers each ask")
+        .after_help("Example:\n  faultyard judge < examples/c6.judge")
+}
+
+/// The subcommand `run`, with its help.
+fn run<'a>(alloc: Global) -> Result<Command<'a>, AllocError>
+    ensures { IfOk result (λ command. app_of command ≡ run_command) }
+{
+    let config = Arg::new(alloc, "CONFIG")
+        .required(true)
+        .action(ArgAction::Set)
+        .help("The cluster file");
+    Command::new(alloc, "run")
+        .about("Runs the script on standard input on the cluster of a file, and writes the audit")
+        .after_help("Example:\n  faultyard run examples/c6.toml < examples/two-zones.jsonl")
+        .arg(config)
+}
+
+/// The command line of `faultyard`: one subcommand is wanted, and each has help of its own.
 fn faultyard<'a>(alloc: Global) -> Result<Command<'a>, AllocError>
     ensures { IfOk result (λ command. app_of command ≡ faultyard_command) }
 {
-    let judge = Command::new(alloc, "judge").about(
-        "Reads policies, processes and asks from standard input, and answers each ask",
-    );
     Command::new(alloc, "faultyard")
         .about(
             "Injects faults into a simulated storage cluster, as far as its replication bears them",
         )
+        .after_help(EXAMPLES)
+        .version("0.1.0")
         .subcommand_required(true)
-        .subcommand(judge)
+        .subcommand(judge(alloc))?
+        .subcommand(run(alloc)?)
 }
 
 /// The task that the words ask for; the first word is the program's name.
 ///
 /// # Errors
 ///
-/// Those of `clap`, for help too, whose kind is `DisplayHelp`. Want of memory has the kind
-/// `OutOfMemory`.
-pub fn read_task(alloc: Global, words: &[String]) -> Result<Task, clap::Error>
+/// Those of `clap`, for help and the version too, whose kinds are `DisplayHelp` and
+/// `DisplayVersion`. Want of memory has the kind `OutOfMemory`.
+pub fn read_task<'a>(alloc: Global, words: &'a [String]) -> Result<Task<'a>, clap::Error>
     ensures task { IfOk result
         (IsTaskOf (subcommand_of faultyard_command (map string_bytes words.now))) }
     ensures refused { FailsBy (fault_of faultyard_command (map string_bytes words.now)) result }
 {
     let matches = faultyard(alloc)?.try_get_matches_from(words)?;
-    match matches.subcommand_name() {
-        Some("judge") => Ok(Task::Judge),
+    let Some((name, given)) = matches.subcommand() else {
+        unreachable!();
+    };
+    match name {
+        "judge" => Ok(Task::Judge),
+        "run" => Ok(Task::Run(config_of(given))),
         _ => unreachable!(),
+    }
+}
+
+/// The cluster file among the words of a subcommand that takes one.
+fn config_of<'a>(given: &ArgMatches<'a>) -> &'a str
+    requires { is_some (first_of (codes "CONFIG") (rows_of (found_of given.now))) ≡ true }
+    ensures { first_of (codes "CONFIG") (rows_of (found_of given.now)) ≡ Some result.now }
+{
+    match given.get_str("CONFIG") {
+        Some(config) => config,
+        None => unreachable!(),
     }
 }

@@ -2,6 +2,8 @@
 use crate::stop::{JudgeFault, Stop, write_stop};
 use crate::task::{Task, read_task};
 use clap::error::ErrorKind;
+use fy_audit::{LineFault, ScriptFault};
+use fy_config::{ConfigFault, Part};
 use std::alloc::Global;
 use std::test::Fail;
 
@@ -15,6 +17,18 @@ fn words_of(alloc: Global, line: &str) -> Result<Vec<String>, Fail> {
 
 fn line_fault(line: u32, fault: JudgeFault) -> Stop {
     Stop::JudgeLine { line, fault }
+}
+
+fn config(fault: ConfigFault) -> Stop {
+    Stop::Config { fault }
+}
+
+fn script(fault: ScriptFault) -> Stop {
+    Stop::Script { fault }
+}
+
+fn script_line(number: u32, fault: LineFault) -> Stop {
+    script(ScriptFault::Line { number, fault })
 }
 
 #[test]
@@ -51,6 +65,59 @@ fn writes_each_fault_line(rt: HostRuntime) -> Result<(), Fail> {
             "judge: line 4294967295: PolicyUnmet\n",
             1,
         ),
+        (config(ConfigFault::TooLong), "config: TooLong\n", 1),
+        (config(ConfigFault::Toml), "config: Toml\n", 1),
+        (
+            config(ConfigFault::Field {
+                part: Part::Unknown,
+            }),
+            "config: Field Unknown\n",
+            1,
+        ),
+        (
+            config(ConfigFault::Limit {
+                part: Part::JournalLimit,
+            }),
+            "config: Limit JournalLimit\n",
+            1,
+        ),
+        (
+            config(ConfigFault::Name {
+                part: Part::Process,
+                index: 1,
+            }),
+            "config: Name Process 1\n",
+            1,
+        ),
+        (
+            config(ConfigFault::Policy { index: 0 }),
+            "config: Policy 0\n",
+            1,
+        ),
+        (
+            config(ConfigFault::PolicyUnmet { index: 7 }),
+            "config: PolicyUnmet 7\n",
+            1,
+        ),
+        (config(ConfigFault::NoMemory), "no memory\n", 4),
+        (script(ScriptFault::TooLong), "script: TooLong\n", 1),
+        (
+            script_line(1, LineFault::TooLong),
+            "script: line 1: TooLong\n",
+            1,
+        ),
+        (
+            script_line(2, LineFault::Syntax),
+            "script: line 2: Syntax\n",
+            1,
+        ),
+        (
+            script_line(10, LineFault::Floor),
+            "script: line 10: Floor\n",
+            1,
+        ),
+        (script(ScriptFault::NoMemory), "no memory\n", 4),
+        (Stop::JournalFull, "script: JournalFull\n", 1),
         (Stop::Read, "read fault\n", 3),
         (Stop::Write, "write fault\n", 3),
         (Stop::NoMemory, "no memory\n", 4),
@@ -76,17 +143,35 @@ fn reads_the_task(rt: HostRuntime) -> Result<(), Fail> {
     // Of five words too: with memory there is no want of it, however many words there are.
     let cases = [
         ("faultyard judge", Ok(Task::Judge)),
+        ("faultyard judge --", Ok(Task::Judge)),
+        ("faultyard run c6", Ok(Task::Run("c6"))),
+        ("faultyard run -- c6", Ok(Task::Run("c6"))),
+        ("faultyard run -- -x", Ok(Task::Run("-x"))),
+        ("faultyard run -", Ok(Task::Run("-"))),
+        ("faultyard run judge", Ok(Task::Run("judge"))),
+        ("faultyard run help", Ok(Task::Run("help"))),
+        ("faultyard run ", Ok(Task::Run(""))),
         ("faultyard", Err(ErrorKind::MissingSubcommand)),
-        ("faultyard run", Err(ErrorKind::InvalidSubcommand)),
+        ("faultyard --", Err(ErrorKind::MissingSubcommand)),
+        ("faultyard -- judge", Err(ErrorKind::UnknownArgument)),
+        ("faultyard check c6", Err(ErrorKind::InvalidSubcommand)),
         ("faultyard judge c6", Err(ErrorKind::UnknownArgument)),
+        ("faultyard judge a b c", Err(ErrorKind::UnknownArgument)),
+        ("faultyard run", Err(ErrorKind::MissingRequiredArgument)),
+        ("faultyard run --", Err(ErrorKind::MissingRequiredArgument)),
+        ("faultyard run a b", Err(ErrorKind::UnknownArgument)),
+        ("faultyard run -x", Err(ErrorKind::UnknownArgument)),
+        ("faultyard run c6 --seed 7", Err(ErrorKind::UnknownArgument)),
         ("faultyard --help", Err(ErrorKind::DisplayHelp)),
         ("faultyard help", Err(ErrorKind::DisplayHelp)),
+        ("faultyard help run", Err(ErrorKind::DisplayHelp)),
         ("faultyard judge --help", Err(ErrorKind::DisplayHelp)),
-        ("faultyard --version", Err(ErrorKind::UnknownArgument)),
-        ("faultyard --", Err(ErrorKind::MissingSubcommand)),
-        ("faultyard judge --", Ok(Task::Judge)),
-        ("faultyard judge a b c", Err(ErrorKind::UnknownArgument)),
         ("faultyard judge --help b c", Err(ErrorKind::DisplayHelp)),
+        ("faultyard run --help", Err(ErrorKind::DisplayHelp)),
+        ("faultyard run c6 -h", Err(ErrorKind::DisplayHelp)),
+        ("faultyard --version", Err(ErrorKind::DisplayVersion)),
+        ("faultyard -V", Err(ErrorKind::DisplayVersion)),
+        ("faultyard run --version", Err(ErrorKind::UnknownArgument)),
     ];
     for (line, want) in cases {
         let words = words_of(rt.alloc(), line)?;

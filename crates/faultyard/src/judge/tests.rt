@@ -1,65 +1,11 @@
 //! The engine on the worked examples, and with readers and writers that fail.
 use super::{laws, run_judge};
+use crate::ends::{Failing, Stumbling};
 use crate::stop::{JudgeFault, Stop};
-use std::io;
-use std::io::{ErrorKind, Read, Write};
 use std::test::Fail;
 
 const CLUSTER: &str =
     "policy Across(2,zoneid,One())\nproc p0 m0 z0 - d0\nproc p1 m1 z0 - d0\nproc p2 m2 z1 - d0\nproc p3 m3 z1 - d0\nproc p4 m4 z2 - d0\nproc p5 m5 z2 - d0\n";
-
-/// Gives a byte a call, and fails at call `fails_at` (counted from 0) alone: a call after that
-/// would give bytes again.
-#[derive(Drop)]
-struct Failing<'a> {
-    bytes: &'a [u8],
-    calls: usize,
-    fails_at: usize,
-}
-
-impl Read for Failing<'_> {
-    fn read(&mut self, buf: &mut [u8]) -> io::Result<usize> {
-        let call = self.calls;
-        self.calls = call.saturating_add(1);
-        if call == self.fails_at {
-            return Err(io::Error::from(ErrorKind::Interrupted));
-        }
-        match (self.bytes, buf) {
-            ([first, rest @ ..], [place, ..]) => {
-                *place = *first;
-                self.bytes = rest;
-                Ok(1)
-            }
-            _ => Ok(0),
-        }
-    }
-}
-
-/// Takes a byte a call, and fails at call `fails_at` (counted from 0) alone: a call after that
-/// would take bytes again.
-#[derive(Drop)]
-struct Stumbling {
-    taken: usize,
-    calls: usize,
-    fails_at: usize,
-}
-
-impl Write for Stumbling {
-    fn write(&mut self, buf: &[u8]) -> io::Result<usize> {
-        let call = self.calls;
-        self.calls = call.saturating_add(1);
-        if call == self.fails_at {
-            return Err(io::Error::from(ErrorKind::Other));
-        }
-        let count = buf.len().min(1);
-        self.taken = self.taken.saturating_add(count);
-        Ok(count)
-    }
-
-    fn flush(&mut self) -> io::Result<()> {
-        Ok(())
-    }
-}
 
 #[test]
 fn answers_the_worked_examples(rt: HostRuntime) -> Result<(), Fail> {

@@ -1,0 +1,357 @@
+-- What the words of a command leave where they have no fault, for any command: each row of the
+-- matches has a value, and so has each argument that is required.
+use Rattle.std.proofs.Common.{rules, arith, length, ◌≡◌, ◌⊎◌, ◌&&◌, ◌||◌, not, inl, inr, ℕ, zero, suc, Bool, true, false, List, [], ◌∷◌, ◌++◌, Option, None, Some, refl, sym, ap, subst, is_some, fold, drop}
+use Rattle.std.specs.Prelude.{if◌then◌else◌, find, nat_lt, option_and_then, encode_utf8, slice_get}
+use Rattle.std.specs.Option.{option_map_or}
+use Rattle.std.specs.List.{list_all, list_any}
+use Rattle.std.specs.Str.{bytes_eq, chars}
+use Rattle.clap.specs.Words.{Row, Rule, Text, Shape, first_of}
+use Rattle.clap.specs.Walk.{Held, Names, Outcome, Step, Waiting, Walk, action_of, after_flag, after_step, arg_by_id, arg_by_index, arg_by_long, arg_by_short, at_row, attached_value, bundle, bundle_met, bundle_step, default_rows, done, finished, flag_met, has_row, idle, is_empty, is_pending, long_met, long_or_other, more_values, most_values, next, nothing_held, option, option_met, option_word, plain, plain_word, positional, positional_held, reacted, reading_by, refused, settled, settled_rows, short_met, short_or_plain, subcommand, subcommand_met, subcommand_or_other, takes_several, takes_values, to_positional, trailing, used, used_as, used_by_id, value, values_or_missing, waits, walk, walk_from, walked, walked_from, with_default, with_values, without, word_met}
+use Rattle.clap.specs.Lexer.{long_of, short_of}
+use Rattle.clap.specs.Facts.{explicit_source, unwrap_or_range}
+use Rattle.clap.specs.Takes.{is_given}
+use Rattle.clap.specs.Values.{is_request}
+use Rattle.clap.specs.Kinds.{Kinds, check_kinds, or_else, range_kinds}
+use Rattle.clap.specs.Faults.{bundle_fault, bundle_step_fault, check_fault, defaults_fault, flag_word_fault, flags_fault, level_fault, long_fault, option_fault, other_fault, positional_fault, react_fault, settle_fault, short_fault, step_fault, stray_fault, turn_fault, use_fault, walk_fault, word_fault}
+use Rattle.clap.specs.declared.builder.action.ArgAction.{ArgAction}
+use Rattle.clap.specs.declared.builder.action.ArgAction.TheVariants as action
+use Rattle.clap.specs.declared.builder.value_parser.Reading.{Reading}
+use Rattle.clap.specs.declared.parser.matches.ValueSource.{ValueSource}
+use Rattle.clap.specs.declared.parser.matches.ValueSource.TheVariants.{DefaultValue, CommandLine}
+use Rattle.clap.specs.declared.error.kind.ErrorKind.{ErrorKind}
+use Rattle.clap.specs.declared.error.kind.ErrorKind.TheVariants.{InvalidValue, TooManyValues}
+
+pub some_kinds : (k : ErrorKind) (ks : Kinds) → k ∷ ks ≡ [] → ⊥
+some_kinds k ks none = let bad : length (k ∷ ks) ≡ 0 = ap length none in omega arith
+
+pub or_else_none : (first second : Kinds) → or_else first second ≡ [] → (first ≡ []) × (second ≡ [])
+or_else_none [] second none = (refl, none)
+or_else_none (k ∷ ks) second none = absurd (some_kinds k ks none)
+
+-- ---- rows that have a value
+
+abbrev HasText : List Text → Type 0
+HasText [] = ⊥
+HasText (v ∷ vs) = Unit {0}
+
+abbrev pub AreFilled : List Row → Type 0
+AreFilled [] = Unit {0}
+AreFilled (r ∷ rs) = HasText r.values × AreFilled rs
+
+filled_append : (xs ys : List Row) → AreFilled xs → AreFilled ys → AreFilled (xs ++ ys)
+filled_append [] ys here there = there
+filled_append (x ∷ xs) ys here there = (here.0, filled_append xs ys here.1 there)
+
+filled_at : (id : Text) (change : Row → List Row) (missing rows : List Row) → ((r : Row) → HasText r.values → AreFilled (change r)) → AreFilled missing → AreFilled rows
+    → AreFilled (at_row id change missing rows)
+filled_at id change missing [] changed none filled = none
+filled_at id change missing (r ∷ rs) changed none filled = by (bytes_eq r.id id) (filled_at id change missing rs changed none filled.1)
+  where
+    by : (b : Bool) → AreFilled (at_row id change missing rs) → AreFilled (if b then change r ++ rs else r ∷ at_row id change missing rs)
+    by true rest = filled_append (change r) rs (changed r filled.0) filled.1
+    by false rest = (filled.0, rest)
+
+append_some : (xs : List Text) (v : Text) (vs : List Text) → HasText (xs ++ v ∷ vs)
+append_some [] v vs = tt
+append_some (x ∷ xs) v vs = tt
+
+with_values_filled : (id : Text) (how : Reading) (s : ValueSource) (v : Text) (vs : List Text) (rows : List Row) → AreFilled rows → AreFilled (with_values id how s (v ∷ vs) rows)
+with_values_filled id how s v vs rows filled = filled_at id (more_values s (v ∷ vs)) _ rows (λ r has. (append_some r.values v vs, tt)) (tt, tt) filled
+
+without_filled : (id : Text) (rows : List Row) → AreFilled rows → AreFilled (without id rows)
+without_filled id rows filled = filled_at id (λ r. []) [] rows (λ r has. tt) tt filled
+
+-- ---- one use of an argument
+
+-- a use of the argument has a value, or asks for help or the version
+abbrev pub is_filling : Rule → Bool
+is_filling a = is_request (action_of a) || (nat_lt 0 (unwrap_or_range a.range).start_inclusive || not (is_empty a.missing))
+
+no_values : (least most : ℕ) → nat_lt 0 least ≡ true → range_kinds least most 0 ≡ [] → ⊥
+no_values least most wants none = some_kinds InvalidValue [] (rw wants at none)
+
+given_values : (a : Rule) (values : List Text) → (nat_lt 0 (unwrap_or_range a.range).start_inclusive || not (is_empty a.missing)) ≡ true
+    → range_kinds (unwrap_or_range a.range).start_inclusive (most_values a) (length values) ≡ [] → HasText (values_or_missing a values)
+given_values a (v ∷ vs) fills none = tt
+given_values a [] fills none = by (nat_lt 0 (unwrap_or_range a.range).start_inclusive) a.missing refl fills
+  where
+    by : (b : Bool) (m : List Text) → nat_lt 0 (unwrap_or_range a.range).start_inclusive ≡ b → (b || not (is_empty m)) ≡ true → HasText m
+    by true m wants fills = absurd (no_values (unwrap_or_range a.range).start_inclusive (most_values a) wants none)
+    by false (v ∷ vs) wants fills = tt
+    by false [] wants fills = let bad : false ≡ true = fills in absurd (search rules)
+
+used_given : (x : ArgAction) (id : Text) (how : Reading) (v : Text) (vs : List Text) (rows : List Row) → AreFilled rows → AreFilled (used_as x id how (v ∷ vs) rows)
+used_given action.Set id how v vs rows filled = with_values_filled id how CommandLine v vs (without id rows) (without_filled id rows filled)
+used_given action.SetTrue id how v vs rows filled = with_values_filled id how CommandLine v vs (without id rows) (without_filled id rows filled)
+used_given action.SetFalse id how v vs rows filled = with_values_filled id how CommandLine v vs (without id rows) (without_filled id rows filled)
+used_given action.Append id how v vs rows filled = with_values_filled id how CommandLine v vs rows filled
+used_given action.Count id how v vs rows filled = with_values_filled id how CommandLine v vs (without id rows) (without_filled id rows filled)
+used_given action.Help id how v vs rows filled = filled
+used_given action.HelpShort id how v vs rows filled = filled
+used_given action.HelpLong id how v vs rows filled = filled
+used_given action.Version id how v vs rows filled = filled
+
+used_some : (x : ArgAction) (id : Text) (how : Reading) (values : List Text) (rows : List Row) → HasText values → AreFilled rows → AreFilled (used_as x id how values rows)
+used_some x id how (v ∷ vs) rows some filled = used_given x id how v vs rows filled
+used_some x id how [] rows some filled = absurd some
+
+asked : (x : ArgAction) (id : Text) (how : Reading) (values : List Text) (rows : List Row) → is_request x ≡ true → used_as x id how values rows ≡ rows
+asked action.Help id how values rows is = refl
+asked action.HelpShort id how values rows is = refl
+asked action.HelpLong id how values rows is = refl
+asked action.Version id how values rows is = refl
+asked action.Set id how values rows is = let bad : false ≡ true = is in absurd (search rules)
+asked action.SetTrue id how values rows is = let bad : false ≡ true = is in absurd (search rules)
+asked action.SetFalse id how values rows is = let bad : false ≡ true = is in absurd (search rules)
+asked action.Append id how values rows is = let bad : false ≡ true = is in absurd (search rules)
+asked action.Count id how values rows is = let bad : false ≡ true = is in absurd (search rules)
+
+used_filled : (again : Bool) (a : Rule) (values : List Text) (rows : List Row) → is_filling a ≡ true → use_fault again a values rows ≡ [] → AreFilled rows → AreFilled (used a values rows)
+used_filled again a values rows fills none filled = by (is_request (action_of a)) refl fills
+  where
+    by : (b : Bool) → is_request (action_of a) ≡ b → (b || (nat_lt 0 (unwrap_or_range a.range).start_inclusive || not (is_empty a.missing))) ≡ true → AreFilled (used a values rows)
+    by true is fills = subst AreFilled (sym (asked (action_of a) a.id (reading_by a) (values_or_missing a values) rows is)) filled
+    by false is fills = used_some (action_of a) a.id (reading_by a) (values_or_missing a values) rows (given_values a values fills (or_else_none _ _ none).0) filled
+
+-- ---- the walk
+
+abbrev pub AreFilling : List Rule → Type 0
+AreFilling c = list_all is_filling c ≡ true
+
+abbrev FillsIf : Option Rule → Type 0
+FillsIf None = Unit {0}
+FillsIf (Some a) = is_filling a ≡ true
+
+both_true : (p q : Bool) → (p && q) ≡ true → (p ≡ true) × (q ≡ true)
+both_true true q both = (refl, both)
+both_true false q both = let bad : false ≡ true = both in absurd (search rules)
+
+found_fills : (p : Rule → Bool) (c : List Rule) → AreFilling c → FillsIf (find p c)
+found_fills p [] fills = tt
+found_fills p (a ∷ rest) fills =
+    let parts = both_true (is_filling a) (list_all is_filling rest) fills in
+    by (p a) (found_fills p rest parts.1) parts.0
+  where
+    by : (b : Bool) → FillsIf (find p rest) → is_filling a ≡ true → FillsIf (if b then Some a else find p rest)
+    by true there here = here
+    by false there here = there
+
+by_id_filled : (again : Bool) (o : Option Rule) (values : List Text) (rows : List Row) → FillsIf o → option_map_or (λ a. use_fault again a values rows) o [] ≡ [] → AreFilled rows
+    → AreFilled (used_by_id o values rows)
+by_id_filled again None values rows fills none filled = filled
+by_id_filled again (Some a) values rows fills none filled = used_filled again a values rows fills none filled
+
+settled_filled : (c : List Rule) (again : Bool) (h : Held) → AreFilling c → settle_fault c again h ≡ [] → AreFilled h.rows → AreFilled (settled c h).rows
+settled_filled c again h fills none filled = by h.pending none
+  where
+    by : (p : Option (Text × List Text)) → option_map_or (λ q. option_map_or (λ a. use_fault again a q.1 h.rows) (arg_by_id c q.0) []) p [] ≡ [] → AreFilled (settled_rows c p h.rows)
+    by None none = filled
+    by (Some p) none = by_id_filled again (arg_by_id c p.0) p.1 h.rows (found_fills _ c fills) none filled
+
+reacted_filled : (c : List Rule) (again : Bool) (a : Rule) (values : List Text) (h : Held) → AreFilling c → is_filling a ≡ true → react_fault c again a values h ≡ [] → AreFilled h.rows
+    → AreFilled (reacted c a values h).rows
+reacted_filled c again a values h fills here none filled =
+    let parts = or_else_none (settle_fault c again h) _ none in
+    used_filled again a values (settled c h).rows here parts.1 (settled_filled c again h fills parts.0 filled)
+
+option_filled : (c : List Rule) (again : Bool) (a : Rule) (given : Option Text) (h : Held) → AreFilling c → is_filling a ≡ true → option_fault c again a given h ≡ [] → AreFilled h.rows
+    → AreFilled (option_met c a given h).0.rows
+option_filled c again a (Some v) h fills here none filled = reacted_filled c again a (v ∷ []) h fills here none filled
+option_filled c again a None h fills here none filled = settled_filled c again h fills none filled
+
+long_filled : (c : List Rule) (again : Bool) (o : Option Rule) (given : Option Text) (h : Held) → AreFilling c → FillsIf o → long_fault c again o given h ≡ [] → AreFilled h.rows
+    → AreFilled (long_met c o given h).0.rows
+long_filled c again None given h fills here none filled = filled
+long_filled c again (Some a) given h fills here none filled = by (takes_values a) given none
+  where
+    by : (b : Bool) (v : Option Text) → (if b then option_fault c again a v h else (if is_some v then TooManyValues ∷ [] else react_fault c again a [] h)) ≡ []
+        → AreFilled (if b then option_met c a v h else flag_met c a v h).0.rows
+    by true v none = option_filled c again a v h fills here none filled
+    by false None none = reacted_filled c again a [] h fills here none filled
+    by false (Some v) none = filled
+
+short_filled : (c : List Rule) (again : Bool) (o : Option Rule) (rest : Text) (h : Held) (on : Held → Held × Outcome) (on_fault : Held → Kinds) → AreFilling c → FillsIf o
+    → ((k : Held) → on_fault k ≡ [] → AreFilled k.rows → AreFilled (on k).0.rows) → short_fault c again o rest h on_fault ≡ [] → AreFilled h.rows → AreFilled (short_met c o rest h on).0.rows
+short_filled c again None rest h on on_fault fills here goes none filled = filled
+short_filled c again (Some a) rest h on on_fault fills here goes none filled = by (takes_values a) none
+  where
+    by : (b : Bool) → (if b then option_fault c again a (attached_value rest) h else or_else (react_fault c again a [] h) (on_fault (reacted c a [] h))) ≡ []
+        → AreFilled (if b then option_met c a (attached_value rest) h else on (reacted c a [] h)).0.rows
+    by true none = option_filled c again a (attached_value rest) h fills here none filled
+    by false none =
+        let parts = or_else_none (react_fault c again a [] h) _ none in
+        goes (reacted c a [] h) parts.1 (reacted_filled c again a [] h fills here parts.0 filled)
+
+bundle_filled : (c : List Rule) (again : Bool) → AreFilling c → (k : ℕ) (flags : Text) (skip : ℕ) (so_far : Outcome) (h : Held) → flags_fault c again k flags skip h ≡ [] → AreFilled h.rows
+    → AreFilled (bundle_met c k flags skip so_far h).0.rows
+unfolding bundle_met flags_fault
+bundle_filled c again fills zero flags skip so_far h none filled = filled
+bundle_filled c again fills (suc k) flags skip so_far h none filled = by (slice_get (chars flags) 0) skip none (bundle_filled c again fills k)
+  where
+    by : (o : Option ℕ) (n : ℕ) → bundle_step_fault c again o flags n h (flags_fault c again k) ≡ []
+        → ((f : Text) (i : ℕ) (met : Outcome) (g : Held) → flags_fault c again k f i g ≡ [] → AreFilled g.rows → AreFilled (bundle_met c k f i met g).0.rows) → AreFilled (bundle_step c o flags n so_far h (bundle_met c k)).0.rows
+    by None n none on = filled
+    by (Some x) zero none on =
+        short_filled c again (arg_by_short c x) (drop (length (encode_utf8 x)) flags) h (bundle_met c k (drop (length (encode_utf8 x)) flags) 0 done) (flags_fault c again k (drop (length (encode_utf8 x)) flags) 0)
+        fills (found_fills _ c fills) (on (drop (length (encode_utf8 x)) flags) 0 done) none filled
+    by (Some x) (suc n) none on = on (drop (length (encode_utf8 x)) flags) n so_far h none filled
+
+plain_filled : (c : List Rule) (waiting : Waiting) (word : Text) (h : Held) → AreFilled h.rows → AreFilled (plain_word c waiting word h).0.rows
+plain_filled c (option id) word h filled = by (arg_by_id c id)
+  where
+    by : (o : Option Rule) → AreFilled (option_word o id word h).0.rows
+    by None = filled
+    by (Some a) = filled
+plain_filled c idle word h filled = filled
+plain_filled c positional word h filled = filled
+
+flag_filled : (c : List Rule) (waiting : Waiting) (word : Text) (h : Held) (outcome : Outcome) → AreFilled h.rows → AreFilled (after_flag c waiting word h outcome).0.rows
+flag_filled c waiting word h done filled = filled
+flag_filled c waiting word h (waits id) filled = filled
+flag_filled c waiting word h plain filled = plain_filled c waiting word h filled
+flag_filled c waiting word h refused filled = plain_filled c waiting word h filled
+
+flag_word_filled : (c : List Rule) (again : Bool) (waiting : Waiting) (word : Text) (flag : Option (Text × Option Text)) (h : Held) → AreFilling c
+    → flag_word_fault c again flag word h ≡ [] → AreFilled h.rows → AreFilled (long_or_other c waiting word flag h).0.rows
+flag_word_filled c again waiting word (Some p) h fills none filled =
+    flag_filled c waiting word (long_met c (arg_by_long c p.0) p.1 h).0 (long_met c (arg_by_long c p.0) p.1 h).1
+    (long_filled c again (arg_by_long c p.0) p.1 h fills (found_fills _ c fills) none filled)
+flag_word_filled c again waiting word None h fills none filled = by (short_of word) none
+  where
+    by : (flags : Option Text) → option_map_or (λ f. bundle_fault c again f h) flags [] ≡ [] → AreFilled (short_or_plain c waiting word flags h).0.rows
+    by None none = plain_filled c waiting word h filled
+    by (Some flags) none =
+        flag_filled c waiting word (bundle c flags h).0 (bundle c flags h).1
+        (bundle_filled c again fills (length flags) flags h.skip plain (record h { skip = 0 }) none filled)
+
+other_filled : (s : Shape) (met : Option Text) (waiting : Waiting) (position : ℕ) (word : Text) (h : Held) → AreFilling s.rules → other_fault s met word h ≡ [] → AreFilled h.rows
+    → AreFilled (subcommand_or_other s.rules met waiting position word h).0.rows
+other_filled s (Some name) waiting position word h fills none filled = filled
+other_filled s None waiting position word h fills none filled = by (bytes_eq word (45 ∷ 45 ∷ [])) none
+  where
+    by : (b : Bool) → (if b then [] else flag_word_fault s.rules s.args_override_self (long_of word) word h) ≡ []
+        → AreFilled (if b then (h, trailing position) else long_or_other s.rules waiting word (long_of word) h).0.rows
+    by true none = filled
+    by false none = flag_word_filled s.rules s.args_override_self waiting word (long_of word) h fills none filled
+
+word_filled : (s : Shape) (names : Names) (is_trailing : Bool) (waiting : Waiting) (position : ℕ) (word : Text) (h : Held) → AreFilling s.rules
+    → word_fault s names is_trailing waiting word h ≡ [] → AreFilled h.rows → AreFilled (word_met s.rules names is_trailing waiting position word h).0.rows
+word_filled s names true waiting position word h fills none filled = filled
+word_filled s names false waiting position word h fills none filled = other_filled s (subcommand_met names waiting word) waiting position word h fills none filled
+
+held_filled : (c : List Rule) (again : Bool) (a : Rule) (h : Held) (word : Text) → AreFilling c → positional_fault c again a h ≡ [] → AreFilled h.rows → AreFilled (positional_held c a word h).rows
+held_filled c again a h word fills none filled = by (is_pending a h.pending && takes_several a) none
+  where
+    by : (b : Bool) → (if b then [] else settle_fault c again h) ≡ [] → AreFilled (if b then h else settled c h).rows
+    by true none = filled
+    by false none = settled_filled c again h fills none filled
+
+step_filled : (s : Shape) (word : Text) (w : Walk) (h : Held) (step : Step) → AreFilling s.rules → step_fault s w.position h step ≡ [] → AreFilled h.rows
+    → AreFilled (after_step s.rules word w h step).held.rows
+step_filled s word w h (next waiting) fills none filled = filled
+step_filled s word w h (trailing position) fills none filled = filled
+step_filled s word w h (subcommand name) fills none filled = filled
+step_filled s word w h value fills none filled = by (arg_by_index s.rules w.position) none
+  where
+    by : (o : Option Rule) → option_map_or (λ a. positional_fault s.rules s.args_override_self a h) o (stray_fault s) ≡ [] → AreFilled (to_positional s.rules o word w h).held.rows
+    by None none = filled
+    by (Some a) none = held_filled s.rules s.args_override_self a h word fills none filled
+
+turn_filled : (s : Shape) (names : Names) (stop : Option (Text × List Text)) (w : Walk) (word : Text) → AreFilling s.rules
+    → (if is_some stop then [] else or_else (word_fault s names w.is_trailing w.waiting word w.held)
+    (step_fault s w.position (word_met s.rules names w.is_trailing w.waiting w.position word w.held).0 (word_met s.rules names w.is_trailing w.waiting w.position word w.held).1)) ≡ []
+    → AreFilled w.held.rows → AreFilled (walked_from s.rules names stop w word).held.rows
+turn_filled s names (Some p) w word fills none filled = filled
+turn_filled s names None w word fills none filled =
+    let parts = or_else_none (word_fault s names w.is_trailing w.waiting word w.held) _ none in
+    let met = word_met s.rules names w.is_trailing w.waiting w.position word w.held in
+    step_filled s word w met.0 met.1 fills parts.1 (word_filled s names w.is_trailing w.waiting w.position word w.held fills parts.0 filled)
+
+walk_filled : (s : Shape) (names : Names) → AreFilling s.rules → (words : List Text) (w : Walk) → walk_fault s names w words ≡ [] → AreFilled w.held.rows
+    → AreFilled (fold (walked s.rules names) w words).held.rows
+unfolding walked walk_fault
+walk_filled s names fills [] w none filled = filled
+walk_filled s names fills (word ∷ rest) w none filled =
+    let parts = or_else_none (turn_fault s names w word) _ none in
+    walk_filled s names fills rest (walked s.rules names w word) parts.1 (turn_filled s names w.stopped w word fills parts.0 filled)
+
+-- ---- after the walk
+
+default_filled : (a : Rule) (rows : List Row) → AreFilled rows → AreFilled (with_default rows a)
+default_filled a rows filled = by (has_row a.id rows) a.defaults
+  where
+    by : (b : Bool) (values : List Text) → AreFilled (if b then rows else default_rows a.id (reading_by a) values rows)
+    by true values = filled
+    by false [] = filled
+    by false (v ∷ vs) = with_values_filled a.id (reading_by a) DefaultValue v vs rows filled
+
+defaults_filled : (c : List Rule) (rows : List Row) → AreFilled rows → AreFilled (fold with_default rows c)
+defaults_filled [] rows filled = filled
+defaults_filled (a ∷ rest) rows filled = defaults_filled rest (with_default rows a) (default_filled a rows filled)
+
+-- the rows of a level whose words have no fault have a value each, and pass the last check
+pub level_filled : (s : Shape) (names : Names) (words : List Text) (has_subcommand : Bool) (below : Kinds) → AreFilling s.rules → level_fault s names nothing_held words has_subcommand below ≡ []
+    → AreFilled (finished s.rules (walk s.rules names nothing_held words).held)
+    × (check_fault s (finished s.rules (walk s.rules names nothing_held words).held) has_subcommand ≡ [])
+level_filled s names words has_subcommand below fills none =
+    let ended = walk s.rules names nothing_held words in
+    let walking = or_else_none (walk_fault s names (walk_from nothing_held) words) _ none in
+    let entering = or_else_none below _ walking.1 in
+    let settling = or_else_none (settle_fault s.rules s.args_override_self ended.held) _ entering.1 in
+    let filling = or_else_none (defaults_fault (settled s.rules ended.held).rows s.rules) _ settling.1 in
+    let rows = walk_filled s names fills words (walk_from nothing_held) walking.0 tt in
+    (defaults_filled s.rules (settled s.rules ended.held).rows (settled_filled s.rules s.args_override_self ended.held fills settling.0 rows), filling.1)
+
+-- ---- what is required
+
+-- an argument with this id is required
+abbrev pub Requires : Text → List Rule → Type 0
+Requires id [] = ⊥
+Requires id (a ∷ rest) = ((a.required ≡ true) × (a.id ≡ id)) ⊎ Requires id rest
+
+no_argument_wanted : (help sub arg : Bool) → check_kinds help sub arg ≡ [] → arg ≡ false
+no_argument_wanted true sub arg none = absurd (some_kinds _ _ none)
+no_argument_wanted false true arg none = absurd (some_kinds _ _ none)
+no_argument_wanted false false true none = absurd (some_kinds _ _ none)
+no_argument_wanted false false false none = refl
+
+none_of : (p q : Bool) → (p || q) ≡ false → (p ≡ false) × (q ≡ false)
+none_of false q none = (refl, none)
+none_of true q none = let bad : true ≡ false = none in absurd (search rules)
+
+given_if : (rows : List Row) (rules : List Rule) (id : Text) → Requires id rules → list_any (λ a. a.required && not (is_given a.id rows)) rules ≡ false → is_given id rows ≡ true
+given_if rows [] id wanted none = absurd wanted
+given_if rows (a ∷ rest) id wanted none =
+    let parts = none_of (a.required && not (is_given a.id rows)) _ none in
+    elim wanted [
+      | inl here ↦ subst (λ t. is_given t rows ≡ true) here.1 (by a.required (is_given a.id rows) here.0 parts.0)
+      | inr there ↦ given_if rows rest id there parts.1
+    ]
+  where
+    by : (needs has : Bool) → needs ≡ true → (needs && not has) ≡ false → has ≡ true
+    by needs true is none = refl
+    by true false is none = let bad : true ≡ false = none in absurd (search rules)
+    by false false is none = is
+
+has_first : (id : Text) (rows : List Row) → AreFilled rows → is_given id rows ≡ true → is_some (first_of id rows) ≡ true
+has_first id [] filled given = let bad : false ≡ true = given in absurd (search rules)
+has_first id (r ∷ rs) filled given = by (bytes_eq r.id id) (has_first id rs filled.1) given
+  where
+    some : (values : List Text) → HasText values → is_some (slice_get values 0) ≡ true
+    some [] has = absurd has
+    some (v ∷ vs) has = refl
+
+    by : (b : Bool) → (is_given id rs ≡ true → is_some (first_of id rs) ≡ true) → option_map_or (λ q. explicit_source q.source) (if b then Some r else find (λ q. bytes_eq q.id id) rs) false ≡ true
+        → is_some (option_and_then (λ q. slice_get q.values 0) (if b then Some r else find (λ q. bytes_eq q.id id) rs)) ≡ true
+    by true rest given = some r.values filled.0
+    by false rest given = rest given
+
+-- a required argument of a command without a subcommand, whose words have no fault, has a value
+pub required_first : (s : Shape) (names : Names) (words : List Text) (below : Kinds) (id : Text) → AreFilling s.rules → Requires id s.rules → s.subcommand_negates_reqs ≡ false
+    → level_fault s names nothing_held words false below ≡ [] → is_some (first_of id (finished s.rules (walk s.rules names nothing_held words).held)) ≡ true
+required_first s names words below id fills wanted negates none =
+    let rows = finished s.rules (walk s.rules names nothing_held words).held in
+    let level = level_filled s names words false below fills none in
+    let all : list_any (λ a. a.required && not (is_given a.id rows)) s.rules ≡ false =
+    subst (λ b. (not (b && false) && list_any (λ a. a.required && not (is_given a.id rows)) s.rules) ≡ false) negates (no_argument_wanted _ _ _ level.1) in
+    has_first id rows level.0 (given_if rows s.rules id wanted all)

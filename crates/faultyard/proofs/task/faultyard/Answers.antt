@@ -1,0 +1,15 @@
+use Rattle.std.proofs.Common.{rules, ap, ap₂, ◌≡◌, ◌∙◌}
+use Rattle.std.proofs.lemmas.Result.{IfOk-weaker}
+use Rattle.clap.specs.Words.{App, app_of, with_subcommand}
+use Rattle.faultyard.specs.Commands.{bare_command, judge_command}
+use Rattle.faultyard.proofs.CommandLemmas.{plain_is_local}
+use Rattle.faultyard.proofs.task.faultyard.Goals as goal
+
+pub returns : goal.returns
+returns c =
+    let top : (a b : App) → a ≡ b → a.top ≡ b.top = λ a b is. ap (λ x. x.top) is in
+    let plain : (a b : App) → a ≡ b → a.top.is_plain ≡ b.top.is_plain = λ a b is. ap (λ x. x.top.is_plain) is in
+    let bare : app_of c.subcommand_required.result ≡ bare_command = search rules in
+    let first : app_of c.in_ok-subcommand.field-0 ≡ with_subcommand bare_command judge_command.top =
+    c.in_ok-subcommand.ensures.shape (plain_is_local c.judge.result (plain _ _ c.judge.ensures)) ∙ ap₂ with_subcommand bare (top _ _ c.judge.ensures) in
+    IfOk-weaker c.subcommand-2.result _ _ (λ m h. h.shape (plain_is_local _ (plain _ _ c.in_ok-run.ensures)) ∙ ap₂ with_subcommand first (top _ _ c.in_ok-run.ensures)) c.subcommand-2.ensures
