@@ -104,3 +104,24 @@ script_stop fault = Script fault
 abbrev pub IfConfigFault : Stop → (ConfigFault → Type 0) → Type 0
 IfConfigFault (Config fault) P = P fault
 IfConfigFault _ P = Unit {0}
+
+-- a stop of judge's own, or of any command
+abbrev pub OfJudge : Stop → Type 0
+OfJudge (Config fault) = ⊥
+OfJudge (Script fault) = ⊥
+OfJudge JournalFull = ⊥
+OfJudge _ = Unit {0}
+
+-- a stop of run's own once its cluster file is read, or of any command
+abbrev pub OfRun : Stop → Type 0
+OfRun JudgeTooLong = ⊥
+OfRun (JudgeLine line fault) = ⊥
+OfRun (Config fault) = ⊥
+OfRun _ = Unit {0}
+
+-- a stop of a cluster file that is read
+abbrev pub OfConfig : Stop → Type 0
+OfConfig (Config fault) = Unit {0}
+OfConfig Read = Unit {0}
+OfConfig NoMemory = Unit {0}
+OfConfig _ = ⊥

@@ -5,6 +5,7 @@ ghost use Rattle.fy_lines.specs.Fronts.{StopsShort};
 ghost use Rattle.fy_lines.specs.Readings.{TakesUpTo};
 ghost use Rattle.faultyard.specs.JudgeTexts.{most_bytes, IsFaultless, Judges, IfRefusal, IfUnmet, unmet_stop};
 ghost use Rattle.faultyard.specs.JudgeViews.{line_stop_of};
+ghost use Rattle.faultyard.specs.Stops.{OfJudge};
 
 mod answer;
 mod input;
@@ -26,7 +27,8 @@ const MOST_BYTES: usize = 1_048_576;
 
 /// The stop for a line that is not taken.
 fn line_stop(line: u32, fault: LineFault) -> Stop
-    ensures { result ≡ line_stop_of line fault }
+    ensures stop { result ≡ line_stop_of line fault }
+    ensures own { OfJudge result }
 {
     match fault {
         LineFault::Fault(fault) => Stop::JudgeLine { line, fault },
@@ -40,6 +42,7 @@ fn read_lines(alloc: Global, bytes: &[u8]) -> Result<Input, Stop>
     ensures read { IfOk result (IsFaultless bytes.now) }
     ensures refused { IfErr result (λ stop. IfRefusal stop (Judges bytes.now (Err stop))) }
     ensures no_other { IfErr result (λ stop. (stop ≢ Stop.Read) × (stop ≢ Stop.Write)) }
+    ensures own { IfErr result OfJudge }
 {
     let mut input = Input::new(alloc);
     let mut rest = bytes;
@@ -58,7 +61,8 @@ fn read_lines(alloc: Global, bytes: &[u8]) -> Result<Input, Stop>
 /// The stop for policies and processes that make no book.
 fn dead_book_stop(fault: MakeFault) -> Stop
     requires { IfUnmet fault (λ k. k < 8) }
-    ensures { result ≡ unmet_stop fault }
+    ensures stop { result ≡ unmet_stop fault }
+    ensures own { OfJudge result }
 {
     match fault {
         MakeFault::Unmet { index } => Stop::JudgeLine {
@@ -77,6 +81,7 @@ fn answers(alloc: Global, input: &Input) -> Result<Vec<u8>, Stop>
         (λ stop. (bytes : List ℕ) → IsFaultless bytes input.now →
         IfRefusal stop (Judges bytes (Err stop))) }
     ensures no_other { IfErr result (λ stop. (stop ≢ Stop.Read) × (stop ≢ Stop.Write)) }
+    ensures own { IfErr result OfJudge }
 {
     match DeadBook::make(alloc, input.map(), input.policies()) {
         Ok(mut dead) => match answer_asks(alloc, input, &mut dead) {
@@ -93,6 +98,7 @@ fn answer_bytes(alloc: Global, bytes: &[u8]) -> Result<Vec<u8>, Stop>
     ensures answered { IfOk result (λ text. Judges bytes.now (Ok text.items)) }
     ensures refused { IfErr result (λ stop. IfRefusal stop (Judges bytes.now (Err stop))) }
     ensures no_other { IfErr result (λ stop. (stop ≢ Stop.Read) × (stop ≢ Stop.Write)) }
+    ensures own { IfErr result OfJudge }
 {
     match read_lines(alloc, bytes) {
         Ok(input) => match answers(alloc, &input) {
@@ -133,6 +139,7 @@ pub fn run_judge<R: Read, W: Write>(
         IfSome (R.remaining reader.old)
         (λ bytes. (text : List ℕ) × Judges bytes (Ok text)
         × StopsShort (W.contents writer.old) (W.contents writer.new) text) }
+    ensures no_other { IfErr result OfJudge }
     ensures read_fault { result ≡ Err Stop.Read →
         TakesUpTo (R.remaining reader.old) (R.remaining reader.new) most_bytes }
     ensures no_further { TakesUpTo (R.remaining reader.old) (R.remaining reader.new)

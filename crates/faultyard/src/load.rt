@@ -1,9 +1,9 @@
 //! Cluster files from a reader.
-ghost use Rattle.std.specs.Prelude.{◌≡◌, ◌+◌, IfOk, IfErr, IfSome, Ok, Err};
+ghost use Rattle.std.specs.Prelude.{◌≡◌, ◌≢◌, ◌+◌, IfOk, IfErr, IfSome, Ok, Err};
 ghost use Rattle.fy_lines.specs.Readings.{TakesUpTo};
 ghost use Rattle.fy_config.specs.declared.limits.TheConstants.{MOST_FILE_BYTES};
 ghost use Rattle.fy_config.specs.Config.{ConfigOf};
-ghost use Rattle.faultyard.specs.Stops.{config_stop, IfConfigFault};
+ghost use Rattle.faultyard.specs.Stops.{config_stop, IfConfigFault, OfConfig};
 
 use crate::stop::Stop;
 use fy_cluster::Config;
@@ -14,7 +14,9 @@ use std::io::Read;
 
 /// The stop for a cluster file that is refused.
 fn config_stop(fault: ConfigFault) -> Stop
-    ensures { result ≡ config_stop fault }
+    ensures stop { result ≡ config_stop fault }
+    ensures own { OfConfig result }
+    ensures no_read { result ≢ Stop.Read }
 {
     match fault {
         ConfigFault::NoMemory => Stop::NoMemory,
@@ -33,6 +35,9 @@ pub fn load_config<R: Read>(alloc: Global, reader: &mut R) -> Result<Config, Sto
         (λ bytes. ConfigOf bytes (Ok config))) }
     ensures refused { IfErr result (λ stop. IfConfigFault stop
         (λ fault. IfSome (R.remaining reader.old) (λ bytes. ConfigOf bytes (Err fault)))) }
+    ensures no_other { IfErr result OfConfig }
+    ensures read_fault { result ≡ Err Stop.Read →
+        TakesUpTo (R.remaining reader.old) (R.remaining reader.new) MOST_FILE_BYTES }
     ensures no_further { TakesUpTo (R.remaining reader.old) (R.remaining reader.new)
         (MOST_FILE_BYTES + 1) }
 {

@@ -8,7 +8,7 @@ ghost use Rattle.fy_audit.specs.declared.script.TheConstants.{MOST_SCRIPT_BYTES}
 ghost use Rattle.fy_cluster.specs.Course.{after_acts, opened};
 ghost use Rattle.fy_cluster.specs.declared.fault.Fault.TheVariants.{NoMemory as no_memory};
 ghost use Rattle.faultyard.specs.RunTexts.{asked, HasAudit, Runs, IfRefused, IfRunRefusal};
-ghost use Rattle.faultyard.specs.Stops.{script_stop};
+ghost use Rattle.faultyard.specs.Stops.{script_stop, OfRun};
 
 #[cfg(test)]
 mod tests;
@@ -23,7 +23,8 @@ use std::io::{Read, Write};
 
 /// The stop for a script that is refused.
 fn script_stop(fault: ScriptFault) -> Stop
-    ensures { result ≡ script_stop fault }
+    ensures stop { result ≡ script_stop fault }
+    ensures own { OfRun result }
 {
     match fault {
         ScriptFault::NoMemory => Stop::NoMemory,
@@ -84,6 +85,7 @@ fn load_script<R: Read>(alloc: Global, reader: &mut R) -> Result<Vec<Command>, S
         (λ fault. IfSome (R.remaining reader.old) (λ bytes. ScriptOf bytes (Err fault)))) }
     ensures no_other { IfErr result (λ stop.
         (stop ≢ Stop.JournalFull) × (stop ≢ Stop.Write)) }
+    ensures own { IfErr result OfRun }
     ensures read_fault { result ≡ Err Stop.Read →
         TakesUpTo (R.remaining reader.old) (R.remaining reader.new) MOST_SCRIPT_BYTES }
     ensures no_further { TakesUpTo (R.remaining reader.old) (R.remaining reader.new)
@@ -132,6 +134,7 @@ pub fn run_script<R: Read, W: Write>(
         W.contents writer.new ≡ W.contents writer.old) }
     ensures front_out { result ≡ Err Stop.Write → HasAudit config.now (R.remaining reader.old)
         (StopsShort (W.contents writer.old) (W.contents writer.new)) }
+    ensures no_other { IfErr result OfRun }
     ensures no_memory { result ≡ Err Stop.NoMemory →
         (W.contents writer.new ≡ W.contents writer.old)
         ⊎ HasAudit config.now (R.remaining reader.old)

@@ -13,5 +13,5 @@ returns-in-Ok-answer_asks-clause-answered c = λ bytes faultless.
 pub returns-clause-refused : goal.returns-clause-refused
 returns-clause-refused c =
     let same : first_unmet c.map.result.now c.policies.result.now ≡ first_unmet c.args.input.now.processes c.args.input.now.policies = (λ k. first_unmet (c.map.ensures k) (c.policies.ensures.policies k)) in
-    subst (λ stop. (bytes : List ℕ) → IsFaultless bytes c.args.input.now → IfRefusal stop (Judges bytes (Err stop))) (sym c.dead_book_stop.ensures)
+    subst (λ stop. (bytes : List ℕ) → IsFaultless bytes c.args.input.now → IfRefusal stop (Judges bytes (Err stop))) (sym c.dead_book_stop.ensures.stop)
     (unmet_refused c.in-Err.fault c.args.input.now c.make.result (λ k e. c.make.ensures.unmet k (same ∙ e)) (λ e. c.make.ensures.memory (same ∙ e)) c.in-Err.is)

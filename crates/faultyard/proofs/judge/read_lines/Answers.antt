@@ -8,11 +8,11 @@ use Rattle.faultyard.proofs.judge.read_lines.Goals as goal
 
 pub returns-in-Err-clause-refused : goal.returns-in-Err-clause-refused
 returns-in-Err-clause-refused c =
-    subst (λ stop. IfRefusal stop (Judges c.args.bytes.now (Err stop))) (sym c.line_stop.ensures)
+    subst (λ stop. IfRefusal stop (Judges c.args.bytes.now (Err stop))) (sym c.line_stop.ensures.stop)
     (line_refused c.args.bytes.now c.loop-rest.invariant.good c.loop-rest.input c.loop-rest.rest.now c.first_line.result.0.now c.first_line.result.1.now c.loop-rest.number c.in-Err.fault c.requires c.loop-rest.invariant.split c.first_line.ensures.first c.loop-rest.invariant.said c.loop-rest.invariant.count c.in-Err.ensures.refused)
 
 pub returns-in-Err-clause-no_other : goal.returns-in-Err-clause-no_other
-returns-in-Err-clause-no_other c = rw c.line_stop.ensures (line_stop-other (c.loop-rest.number + 1) c.in-Err.fault)
+returns-in-Err-clause-no_other c = rw c.line_stop.ensures.stop (line_stop-other (c.loop-rest.number + 1) c.in-Err.fault)
 
 pub loop-rest-preserved : goal.loop-rest-preserved
 loop-rest-preserved c = record {

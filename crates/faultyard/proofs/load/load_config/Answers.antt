@@ -20,5 +20,5 @@ returns-clause-refused g c =
     c.in-Err.ensures.answers in
     subst
     (λ stop. IfConfigFault stop (λ fault. IfSome known (λ bytes. ConfigOf bytes (Err fault))))
-    (sym c.config_stop.ensures)
+    (sym c.config_stop.ensures.stop)
     (fault_told known c.in-Ok.bytes.items c.in-Err.fault c.in-Ok.ensures.all holds)
