@@ -3,6 +3,8 @@
 ghost use Rattle.std.specs.Prelude.{◌≡◌, ◌<◌, ◌∷◌, ◌++◌, length, IfSome, IfNone};
 ghost use Rattle.fy_lines.specs.Lines.{lines_of, IsLine, BeginsWithLine};
 
+use memchr::memchr;
+
 /// The first line without its line feed, and all that follows it. The last line may lack the feed.
 #[tactic(auto, using(crate::proofs::SplitLemmas::lines_of_split, crate::proofs::SplitLemmas::lines_of_lone))]
 pub fn first_line(bytes: &[u8]) -> (&[u8], &[u8])
@@ -23,10 +25,6 @@ pub fn first_ended(bytes: &[u8]) -> Option<(&[u8], &[u8])>
     ensures some { IfSome result (λ p. (bytes.now ≡ p.0.now ++ 10 ∷ p.1.now) × IsLine p.0.now) }
     ensures none { IfNone result (IsLine bytes.now) }
 {
-    for i in 0..bytes.len() {
-        if bytes[i] == b'\n' {
-            return Some((&bytes[..i], &bytes[i + 1..]));
-        }
-    }
-    None
+    let end = memchr(b'\n', bytes)?;
+    Some((&bytes[..end], &bytes[end + 1..]))
 }
