@@ -1,2 +1,4 @@
 pub mod AllCommands
 pub mod Ones
+pub mod Steps
+pub mod OneAudit

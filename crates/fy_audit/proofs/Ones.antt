@@ -1,5 +1,5 @@
 -- scripts and audits are of one thing each
-use Rattle.std.proofs.Common.{◌≡◌, ◌≢◌, ◌∙◌, ℕ, suc, ◌+◌, ◌<◌, ◌≤◌, ◌==◌, true, false, slice_index, List, [], ◌∷◌, ◌++◌, length, Result, Ok, Err, refl, sym, ap, subst, arith, append_assoc, codes}
+use Rattle.std.proofs.Common.{◌≡◌, ◌∙◌, ℕ, suc, ◌+◌, ◌==◌, true, false, slice_index, List, [], ◌∷◌, ◌++◌, length, Result, Ok, Err, refl, sym, ap, subst, arith, append_assoc}
 use Rattle.std.specs.List.{AllByRecursion, flat_map}
 use Rattle.std.proofs.lemmas.Bool.{false≢true}
 use Rattle.fy_lines.specs.Lines.{lines_of}
@@ -10,7 +10,7 @@ use Rattle.fy_spelling.specs.Values.{text_of}
 use Rattle.fy_spelling.specs.declared.command.Command.{Command}
 use Rattle.fy_spelling.specs.declared.command.LineFault.{LineFault}
 use Rattle.fy_spelling.specs.declared.entry.Entry.{Entry}
-use Rattle.fy_audit.specs.AuditText.{header, entry_line, audit_text}
+use Rattle.fy_audit.specs.AuditText.{entry_line, audit_text}
 use Rattle.fy_audit.specs.Script.{AreCommands, FirstFaulty, ScriptOf}
 use Rattle.fy_audit.specs.declared.script.ScriptFault.{ScriptFault}
 use Rattle.fy_audit.specs.declared.script.ScriptFault.TheVariants.{TooLong, Line, NoMemory}
@@ -106,7 +106,7 @@ script_once once bytes (Err NoMemory) y p q = absurd p
 -- ---- audits
 
 -- a line ends at its first line feed
-line_once : (x y more rest : List ℕ) → HasNoFeed x → HasNoFeed y →
+pub line_once : (x y more rest : List ℕ) → HasNoFeed x → HasNoFeed y →
     x ++ 10 ∷ more ≡ y ++ 10 ∷ rest → (x ≡ y) × (more ≡ rest)
 line_once [] [] more rest p q same = (refl, let e : more ≡ rest = cc in e)
 line_once [] (b ∷ y) more rest p q same = let e : b ≡ 10 = cc in absurd (q.0 e)

@@ -2,4 +2,6 @@ pub mod Journal
 pub mod Kept
 pub mod AuditText
 pub mod Script
+pub mod Versions
+pub mod Audit
 pub mod One

@@ -4,8 +4,10 @@ use Rattle.std.specs.List.{AllByRecursion}
 use Rattle.fy_spelling.specs.Fits.{FitsEntry}
 use Rattle.fy_spelling.specs.declared.command.Command.{Command}
 use Rattle.fy_spelling.specs.declared.entry.Entry.{Entry}
+use Rattle.fy_audit.specs.Audit.{Audit, AuditOf}
 use Rattle.fy_audit.specs.AuditText.{audit_text}
 use Rattle.fy_audit.specs.Script.{ScriptOf}
+use Rattle.fy_audit.specs.declared.audit.AuditFault.{AuditFault}
 use Rattle.fy_audit.specs.declared.script.ScriptFault.{ScriptFault}
 use Rattle.fy_audit.specs.declared.version.Version.{Version}
 
@@ -14,6 +16,11 @@ abbrev pub ScriptIsOne : Type 0
 ScriptIsOne =
     (bytes : List ℕ) (x y : Result (List Command) ScriptFault) → ScriptOf bytes x →
     ScriptOf bytes y → x ≡ y
+
+-- bytes are one audit, or have one first fault
+abbrev pub AuditComesToOne : Type 0
+AuditComesToOne =
+    (bytes : List ℕ) (x y : Result Audit AuditFault) → AuditOf bytes x → AuditOf bytes y → x ≡ y
 
 -- two journals with one text are of one version and have the same entries
 abbrev pub AuditIsOne : Type 0

@@ -54,7 +54,7 @@ impl Journal {
         Journal::of_version(alloc, Version::First)
     }
 
-    fn of_version(alloc: Global, version: Version) -> Journal
+    pub(crate) fn of_version(alloc: Global, version: Version) -> Journal
         ensures { result ≡ blank version }
     {
         Journal {

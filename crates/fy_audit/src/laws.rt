@@ -1,5 +1,5 @@
 //! Laws of scripts and audits, for the crates above.
-ghost use Rattle.fy_audit.specs.One.{AuditIsOne, ScriptIsOne};
+ghost use Rattle.fy_audit.specs.One.{AuditComesToOne, AuditIsOne, ScriptIsOne};
 
 use fy_spelling::laws::{a_line_comes_to_one, a_text_is_a_line, a_text_is_of_one_entry};
 
@@ -14,6 +14,15 @@ pub fn a_script_is_one()
 /// the same entries.
 pub fn an_audit_is_of_one_journal()
     ensures { AuditIsOne }
+{
+    a_text_is_a_line();
+    a_text_is_of_one_entry()
+}
+
+/// Bytes are one audit, or have one first fault: so where they are the text of a journal within
+/// the limits, a reader that finds memory reads that journal.
+pub fn an_audit_comes_to_one()
+    ensures { AuditComesToOne }
 {
     a_text_is_a_line();
     a_text_is_of_one_entry()

@@ -1,6 +1,8 @@
-//! The journal of a cluster, every act with its reply, and scripts of acts to come.
+//! The journal of a cluster, every act with its reply; scripts of acts to come; audits, which are
+//! journals written out.
 #![tactic(auto)]
 
+mod audit;
 mod journal;
 pub mod laws;
 mod limits;
@@ -9,6 +11,7 @@ mod script;
 mod tests;
 mod version;
 
+pub use audit::{AuditFault, AuditLineFault, MOST_AUDIT_BYTES, read_audit};
 pub use fy_spelling::{Act, Command, Entry, LineFault, MOST_LINE_BYTES, Refusal, Reply};
 pub use journal::Journal;
 pub use limits::MOST_ENTRIES;

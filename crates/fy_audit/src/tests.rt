@@ -1,3 +1,5 @@
+mod audits;
+
 use super::*;
 use fy_disk::Payload;
 use fy_locality::ProcId;

@@ -29,16 +29,16 @@ use Rattle.fy_spelling.proofs.Found.{members_pass}
 
 -- ---- parts
 
-long-again : (n : ℕ) → IsLong n → long_from (whole n) ≡ Some n
+pub long-again : (n : ℕ) → IsLong n → long_from (whole n) ≡ Some n
 long-again n h = rw (lt-ltb n (2 ^ 64) h) refl
 
 long : (n : ℕ) → IsShort n → IsLong n
 long n h = omega arith
 
-short-again : (n : ℕ) → IsShort n → short_from (whole n) ≡ Some n
+pub short-again : (n : ℕ) → IsShort n → short_from (whole n) ≡ Some n
 short-again n h = rw (long-again n (long n h)) (rw (lt-ltb n (2 ^ 32) h) refl)
 
-process-again : (p : ProcId) → IsProcess p → process_from (whole p.0) ≡ Some p
+pub process-again : (p : ProcId) → IsProcess p → process_from (whole p.0) ≡ Some p
 process-again p h = rw (short-again p.0 h) refl
 
 processes-again : (ps : List ProcId) → AllByRecursion IsProcess ps → processes_from (items_of (map (λ (p : ProcId). whole p.0) ps)) ≡ Some ps
@@ -48,7 +48,7 @@ processes-again (p ∷ ps) h = rw (process-again p h.0, processes-again ps h.1) 
 members-again : (ps : List ProcId) → FitsMembers ps → members_from (processes_value ps) ≡ Some ps
 members-again ps h = rw (processes-again ps h.1) (rw (members_pass ps h.0) refl)
 
-kind-again : (k : Kind) → kind_from (string (kind_text k)) ≡ Some k
+pub kind-again : (k : Kind) → kind_from (string (kind_text k)) ≡ Some k
 kind-again RebootProcess = refl
 kind-again Reboot = refl
 kind-again RebootAndDelete = refl
@@ -106,7 +106,7 @@ abbrev pub found_as : Act → Asked
 found_as (Kill order) = Order order.target order.kind order.floor order.tear
 found_as asked = Other asked
 
-act-again :
+pub act-again :
     (kinds : List Deed) (a : Act) → gathered kinds ≡ kinds_in a → FitsAct a
     → act_from (act_listing kinds a) ≡ Some (found_as a)
 act-again kinds (Kill o) same h = order-again o.target o.kind o.floor o.tear h.0 h.1

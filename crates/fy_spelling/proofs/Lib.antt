@@ -3,6 +3,7 @@ pub mod Found
 pub mod Told
 pub mod Listing
 pub mod Again
+pub mod Replied
 pub mod Lines
 pub mod Joined
 pub mod Plain
@@ -12,3 +13,4 @@ pub mod Shapes
 pub mod Tame
 pub mod OneLine
 pub mod Feedless
+pub mod EntryLines

@@ -3,6 +3,8 @@ pub mod Values
 pub mod Fits
 pub mod Command
 pub mod Candidate
+pub mod Replied
+pub mod EntryLine
 pub mod Held
 pub mod OneText
 pub mod Plain

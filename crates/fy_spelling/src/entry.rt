@@ -1,4 +1,6 @@
 //! The entries of a journal.
+ghost use Rattle.std.specs.Prelude.{◌≡◌};
+
 use crate::{Act, Reply};
 
 /// One act and its reply.
@@ -22,4 +24,23 @@ impl Drop for Entry {
             reply: _,
         } = self;
     }
+}
+
+impl Entry {
+    /// Its place, who acted, the act, and the reply.
+    pub fn into_parts(self) -> (u32, u32, Act, Reply)
+        ensures { result ≡ (self.at, self.by, self.act, self.reply) }
+    {
+        let Entry { at, by, act, reply } = self;
+        (at, by, act, reply)
+    }
+}
+
+/// Why no entry is read of a line of an audit.
+#[derive(Clone, Copy, PartialEq, Eq, Debug)]
+pub enum EntryFault {
+    /// It is the text of no entry.
+    Syntax,
+    /// There is no memory to read it.
+    NoMemory,
 }

@@ -1,8 +1,8 @@
-//! What the types of acts, replies and entries say of their values. Nothing here does anything.
-ghost use Rattle.std.specs.Prelude.{◌≡◌, true};
+//! What the types of acts, replies and entries say of their values, and what is left to test.
+ghost use Rattle.std.specs.Prelude.{◌≡◌, ◌↔◌, IsTrue, true};
 ghost use Rattle.std.specs.List.{AllByRecursion};
 ghost use Rattle.fy_team.specs.Teams.{AreMembers};
-ghost use Rattle.fy_spelling.specs.Fits.{IsShort, IsLong, IsByte, IsProcess, FitsTarget, FitsScope, FitsMembers, FitsAct, FitsRefusal};
+ghost use Rattle.fy_spelling.specs.Fits.{IsShort, IsLong, IsByte, IsProcess, FitsTarget, FitsScope, FitsMembers, FitsAct, FitsRule, FitsRefusal, FitsReply};
 ghost use Rattle.fy_spelling.specs.Held.{IsHeldRule, IsHeldReply, IsHeld};
 
 use crate::{Act, Entry, Refusal, Reply};
@@ -169,6 +169,36 @@ pub fn reply_is_held(reply: &Reply)
         }
         Reply::Time { now } => long_fits(*now),
         Reply::No(refusal) => refusal_fits(*refusal),
+    }
+}
+
+/// Whether the number of a rule's policy fits: its type has 64 bits.
+fn rule_fits(rule: Option<Rule>) -> bool
+    ensures { IsTrue result ↔ FitsRule rule }
+{
+    match rule {
+        None | Some(Rule::NoTarget) => true,
+        Some(Rule::NoGrant { process }) | Some(Rule::Protected { process }) => {
+            process_fits(process);
+            true
+        }
+        Some(Rule::TooManyDestroyed { policy }) | Some(Rule::TooFewLeft { policy }) => {
+            policy < 4_294_967_296
+        }
+    }
+}
+
+/// Whether the numbers of a reply fit.
+pub(crate) fn reply_fits(reply: &Reply) -> bool
+    ensures { IsTrue result ↔ FitsReply reply.now }
+{
+    match reply {
+        Reply::Verdict(verdict) => rule_fits(verdict.rule),
+        Reply::Ruled { rule } => rule_fits(*rule),
+        reply => {
+            reply_is_held(reply);
+            true
+        }
     }
 }
 

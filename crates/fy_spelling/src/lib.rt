@@ -4,6 +4,7 @@
 mod act;
 mod command;
 mod entry;
+mod entry_line;
 mod fits;
 pub mod laws;
 mod parts;
@@ -17,7 +18,8 @@ mod writing;
 
 pub use act::Act;
 pub use command::{Command, LineFault, MOST_LINE_BYTES};
-pub use entry::Entry;
+pub use entry::{Entry, EntryFault};
+pub use entry_line::{read_entry, read_entry_by_value};
 pub use fits::{act_fits, entry_is_held, reply_is_held};
 pub use reading::read_command_by_value;
 pub use reply::{Refusal, Reply};

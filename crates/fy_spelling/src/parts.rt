@@ -3,6 +3,7 @@ ghost use Rattle.std.specs.Prelude.{◌≡◌, Some, None, if◌then◌else◌, 
 ghost use Rattle.std.specs.Option.{option_copied};
 ghost use Rattle.serde_json.specs.View.{view, items_view, members_view};
 ghost use Rattle.fy_spelling.specs.Candidate.{next_at, sole, one, two, three, five, long_from, short_from, process_from, processes_from, are_members, members_from, key_named, kind_from, key_from, name_from, target_from, kinds_from, payload_from, deeds_from, deed_from, scope_from, target_in};
+ghost use Rattle.fy_spelling.specs.Replied.{four};
 ghost use Rattle.fy_kinds.specs.Kinds.{only};
 ghost use Rattle.fy_spelling.specs.Command.{gathered};
 
@@ -75,6 +76,28 @@ pub(crate) fn three<'v>(
     match fields.next() {
         Some(_) => None,
         None => Some((a, b, c)),
+    }
+}
+
+/// The values of an object's four members, which have these keys.
+pub(crate) fn four<'v>(
+    value: &'v Value,
+    first: &str,
+    second: &str,
+    third: &str,
+    fourth: &str,
+) -> Option<(&'v Value, &'v Value, &'v Value, &'v Value)>
+    ensures { option_map (λ p. (view p.0.now, view p.1.now, view p.2.now, view p.3.now)) result
+        ≡ four first.now second.now third.now fourth.now (view value.now) }
+{
+    let mut fields = value.as_object()?.iter();
+    let a = next_at(&mut fields, first)?;
+    let b = next_at(&mut fields, second)?;
+    let c = next_at(&mut fields, third)?;
+    let d = next_at(&mut fields, fourth)?;
+    match fields.next() {
+        Some(_) => None,
+        None => Some((a, b, c, d)),
     }
 }
 

@@ -1,4 +1,4 @@
-//! Commands from JSON values.
+//! Commands, replies and entries from JSON values.
 ghost use Rattle.std.specs.Prelude.{◌≡◌, ◌⊎◌, IfOk, IfErr, option_map};
 ghost use Rattle.serde_json.specs.Data.{Data};
 ghost use Rattle.serde_json.specs.View.{view};
@@ -7,11 +7,15 @@ ghost use Rattle.fy_spelling.specs.Command.{IsJson, LineAnswers};
 ghost use Rattle.fy_spelling.specs.declared.command.LineFault.TheVariants.{Syntax, NoMemory};
 ghost use Rattle.fy_spelling.specs.declared.reading.Asked.TheVariants.{Other};
 
+mod entries;
+mod replies;
+
 use crate::parts::{
     five, kind_of, kinds_of, long_of, members_of, one, payload_of, process_of, scope_of, short_of,
     sole, target_in, target_of, three, two,
 };
 use crate::{Act, Command, LineFault, MOST_LINE_BYTES};
+pub(crate) use entries::entry_by_value;
 use fy_grants::Grant;
 use fy_kinds::{Floor, KillOrder, Kind, KindSet, Target};
 use fy_locality::ProcId;

@@ -1,11 +1,14 @@
-//! What a line seems to ask for, where it is in its plain spelling. Nothing is claimed of a guess:
-//! whoever has it writes it again and compares.
-use crate::{Act, Command};
+//! What a line seems to ask for or to tell, where it is in its plain spelling. Nothing is claimed
+//! of a guess: whoever has it writes it again and compares.
+mod replies;
+
+use crate::{Act, Command, Entry};
 use fy_disk::Payload;
 use fy_grants::{Grant, Scope};
 use fy_kinds::{KillOrder, Kind, KindSet, Target};
 use fy_locality::{Key, Name, ProcId};
 use fy_team::Members;
+use replies::reply;
 use std::alloc::Global;
 
 /// What a text is followed by.
@@ -107,32 +110,31 @@ fn order(target: Target, kind: Kind, floor: Kind, tear: u64) -> Option<Act> {
     }
 }
 
-fn kill(rest: &[u8]) -> Option<Act> {
+// Each act comes with what is behind its last member: the ends of its objects.
+
+fn kill(rest: &[u8]) -> Option<(Act, &[u8])> {
     let (floor, rest) = word_after(rest, "{\"floor\":\"")?;
     let (key, rest) = word_after(rest, ",\"key\":\"")?;
     let (kind_word, rest) = word_after(rest, ",\"kind\":\"")?;
     let (tear, rest) = long_after(rest, ",\"tear\":")?;
-    let (value, _) = word_after(rest, ",\"value\":\"")?;
-    order(target(key, value)?, kind(kind_word)?, kind(floor)?, tear)
+    let (value, rest) = word_after(rest, ",\"value\":\"")?;
+    let act = order(target(key, value)?, kind(kind_word)?, kind(floor)?, tear)?;
+    Some((act, rest))
 }
 
-fn clog(rest: &[u8]) -> Option<Act> {
+fn clog(rest: &[u8]) -> Option<(Act, &[u8])> {
     let (key, rest) = word_after(rest, "{\"key\":\"")?;
     let (ticks, rest) = long_after(rest, ",\"ticks\":")?;
-    let (value, _) = word_after(rest, ",\"value\":\"")?;
+    let (value, rest) = word_after(rest, ",\"value\":\"")?;
     let target = target(key, value)?;
-    Some(Act::Clog { target, ticks })
+    Some((Act::Clog { target, ticks }, rest))
 }
 
-fn target_in(rest: &[u8]) -> Option<Target> {
+fn unclog(rest: &[u8]) -> Option<(Act, &[u8])> {
     let (key, rest) = word_after(rest, "{\"key\":\"")?;
-    let (value, _) = word_after(rest, ",\"value\":\"")?;
-    target(key, value)
-}
-
-fn unclog(rest: &[u8]) -> Option<Act> {
-    let target = target_in(rest)?;
-    Some(Act::Unclog { target })
+    let (value, rest) = word_after(rest, ",\"value\":\"")?;
+    let target = target(key, value)?;
+    Some((Act::Unclog { target }, rest))
 }
 
 /// A list of processes up to its end.
@@ -158,60 +160,55 @@ fn members(processes: Vec<ProcId>) -> Option<Members> {
     }
 }
 
-fn form(alloc: Global, rest: &[u8]) -> Option<Act> {
+fn form(alloc: Global, rest: &[u8]) -> Option<(Act, &[u8])> {
     let (processes, rest) = processes(alloc, skip(rest, "{\"members\":[")?)?;
-    let (policy, _) = short_after(rest, ",\"policy\":")?;
+    let (policy, rest) = short_after(rest, ",\"policy\":")?;
     let members = members(processes)?;
-    Some(Act::Form { members, policy })
+    Some((Act::Form { members, policy }, rest))
 }
 
-fn begin(alloc: Global, rest: &[u8]) -> Option<Act> {
+fn begin(alloc: Global, rest: &[u8]) -> Option<(Act, &[u8])> {
     let (digits, rest) = word_after(rest, "{\"payload\":\"")?;
-    let (team, _) = short_after(rest, ",\"team\":")?;
+    let (team, rest) = short_after(rest, ",\"team\":")?;
     let bytes = hex::decode(alloc, digits).ok()?;
     let payload = Payload::from_vec(bytes);
-    Some(Act::Begin { team, payload })
+    Some((Act::Begin { team, payload }, rest))
 }
 
-fn deliver(rest: &[u8]) -> Option<Act> {
-    let (message, _) = long_after(rest, "{\"message\":")?;
-    Some(Act::Deliver { message })
+fn deliver(rest: &[u8]) -> Option<(Act, &[u8])> {
+    let (message, rest) = long_after(rest, "{\"message\":")?;
+    Some((Act::Deliver { message }, rest))
 }
 
-fn lose(rest: &[u8]) -> Option<Act> {
-    let (message, _) = long_after(rest, "{\"message\":")?;
-    Some(Act::Lose { message })
+fn lose(rest: &[u8]) -> Option<(Act, &[u8])> {
+    let (message, rest) = long_after(rest, "{\"message\":")?;
+    Some((Act::Lose { message }, rest))
 }
 
-fn resend(rest: &[u8]) -> Option<Act> {
+fn resend(rest: &[u8]) -> Option<(Act, &[u8])> {
     let (process, rest) = process_after(rest, "{\"process\":")?;
-    let (rec, _) = short_after(rest, ",\"record\":")?;
-    Some(Act::Resend { rec, process })
+    let (rec, rest) = short_after(rest, ",\"record\":")?;
+    Some((Act::Resend { rec, process }, rest))
 }
 
-fn process_in(rest: &[u8]) -> Option<ProcId> {
-    let (process, _) = process_after(rest, "{\"process\":")?;
-    Some(process)
+fn sync(rest: &[u8]) -> Option<(Act, &[u8])> {
+    let (process, rest) = process_after(rest, "{\"process\":")?;
+    Some((Act::Sync { process }, rest))
 }
 
-fn sync(rest: &[u8]) -> Option<Act> {
-    let process = process_in(rest)?;
-    Some(Act::Sync { process })
+fn up(rest: &[u8]) -> Option<(Act, &[u8])> {
+    let (process, rest) = process_after(rest, "{\"process\":")?;
+    Some((Act::Up { process }, rest))
 }
 
-fn up(rest: &[u8]) -> Option<Act> {
-    let process = process_in(rest)?;
-    Some(Act::Up { process })
+fn heal(rest: &[u8]) -> Option<(Act, &[u8])> {
+    let (process, rest) = process_after(rest, "{\"process\":")?;
+    Some((Act::Heal { process }, rest))
 }
 
-fn heal(rest: &[u8]) -> Option<Act> {
-    let process = process_in(rest)?;
-    Some(Act::Heal { process })
-}
-
-fn tick(rest: &[u8]) -> Option<Act> {
-    let (ticks, _) = long_after(rest, "{\"ticks\":")?;
-    Some(Act::Tick { ticks })
+fn tick(rest: &[u8]) -> Option<(Act, &[u8])> {
+    let (ticks, rest) = long_after(rest, "{\"ticks\":")?;
+    Some((Act::Tick { ticks }, rest))
 }
 
 fn deed(word: &[u8]) -> Option<KindSet> {
@@ -236,66 +233,74 @@ fn add_kinds<'l>(found: &mut KindSet, listed: &'l [u8]) -> Option<&'l [u8]> {
     None
 }
 
-fn scope(rest: &[u8]) -> Option<Scope> {
-    if rest.starts_with(b"\"") {
-        return Some(Scope::All);
+/// The scope of a target, which is told by two words; every process without them.
+fn scope(words: Option<(&[u8], &[u8])>) -> Option<Scope> {
+    match words {
+        Some((key, value)) => Some(Scope::Where(target(key, value)?)),
+        None => Some(Scope::All),
     }
-    let target = target_in(rest)?;
-    Some(Scope::Where(target))
 }
 
-fn give(rest: &[u8]) -> Option<Act> {
+/// The words that tell a scope, if any do, and what is behind it.
+fn scope_words(rest: &[u8]) -> Option<(Option<(&[u8], &[u8])>, &[u8])> {
+    if let Some(rest) = skip(rest, "\"all\"") {
+        return Some((None, rest));
+    }
+    let (key, rest) = word_after(rest, "{\"key\":\"")?;
+    let (value, rest) = word_after(rest, ",\"value\":\"")?;
+    Some((Some((key, value)), skip(rest, "}")?))
+}
+
+fn give(rest: &[u8]) -> Option<(Act, &[u8])> {
     let (actor, rest) = short_after(rest, "{\"actor\":")?;
     let mut kinds = KindSet::empty();
     let rest = add_kinds(&mut kinds, skip(rest, ",\"kinds\":[")?)?;
-    let scope = scope(skip(rest, ",\"scope\":")?)?;
+    let (words, rest) = scope_words(skip(rest, ",\"scope\":")?)?;
+    let scope = scope(words)?;
     let grant = Grant {
         actor,
         kinds,
         scope,
     };
-    Some(Act::Give { grant })
+    Some((Act::Give { grant }, rest))
 }
 
-fn take(rest: &[u8]) -> Option<Act> {
+fn take(rest: &[u8]) -> Option<(Act, &[u8])> {
     let (actor, rest) = short_after(rest, "{\"actor\":")?;
-    let (index, _) = short_after(rest, ",\"index\":")?;
-    Some(Act::Take { actor, index })
+    let (index, rest) = short_after(rest, ",\"index\":")?;
+    Some((Act::Take { actor, index }, rest))
 }
 
-fn protection(rest: &[u8]) -> Option<(ProcId, KindSet)> {
+fn protect(rest: &[u8]) -> Option<(Act, &[u8])> {
     let mut kinds = KindSet::empty();
     let rest = add_kinds(&mut kinds, skip(rest, "{\"kinds\":[")?)?;
-    let (process, _) = process_after(rest, ",\"process\":")?;
-    Some((process, kinds))
+    let (process, rest) = process_after(rest, ",\"process\":")?;
+    Some((Act::Protect { process, kinds }, rest))
 }
 
-fn protect(rest: &[u8]) -> Option<Act> {
-    let (process, kinds) = protection(rest)?;
-    Some(Act::Protect { process, kinds })
+fn unprotect(rest: &[u8]) -> Option<(Act, &[u8])> {
+    let mut kinds = KindSet::empty();
+    let rest = add_kinds(&mut kinds, skip(rest, "{\"kinds\":[")?)?;
+    let (process, rest) = process_after(rest, ",\"process\":")?;
+    Some((Act::Unprotect { process, kinds }, rest))
 }
 
-fn unprotect(rest: &[u8]) -> Option<Act> {
-    let (process, kinds) = protection(rest)?;
-    Some(Act::Unprotect { process, kinds })
-}
-
-fn copy(rest: &[u8]) -> Option<Act> {
+fn copy(rest: &[u8]) -> Option<(Act, &[u8])> {
     let (from, rest) = process_after(rest, "{\"from\":")?;
     let (rec, rest) = short_after(rest, ",\"record\":")?;
-    let (to, _) = process_after(rest, ",\"to\":")?;
-    Some(Act::CopyTo { from, rec, to })
+    let (to, rest) = process_after(rest, ",\"to\":")?;
+    Some((Act::CopyTo { from, rec, to }, rest))
 }
 
-fn replace(rest: &[u8]) -> Option<Act> {
+fn replace(rest: &[u8]) -> Option<(Act, &[u8])> {
     let (into, rest) = process_after(rest, "{\"into\":")?;
     let (out, rest) = process_after(rest, ",\"out\":")?;
-    let (team, _) = short_after(rest, ",\"team\":")?;
-    Some(Act::Replace { team, out, into })
+    let (team, rest) = short_after(rest, ",\"team\":")?;
+    Some((Act::Replace { team, out, into }, rest))
 }
 
 /// The act of a name of up to four letters.
-fn act_of_short_name(name: &[u8], rest: &[u8]) -> Option<Act> {
+fn act_of_short_name<'l>(name: &[u8], rest: &'l [u8]) -> Option<(Act, &'l [u8])> {
     if name == b"kill".as_slice() {
         kill(rest)
     } else if name == b"tick".as_slice() {
@@ -313,7 +318,7 @@ fn act_of_short_name(name: &[u8], rest: &[u8]) -> Option<Act> {
     }
 }
 
-fn act_of_rarer_name(name: &[u8], rest: &[u8]) -> Option<Act> {
+fn act_of_rarer_name<'l>(name: &[u8], rest: &'l [u8]) -> Option<(Act, &'l [u8])> {
     if name == b"give".as_slice() {
         give(rest)
     } else if name == b"take".as_slice() {
@@ -328,7 +333,7 @@ fn act_of_rarer_name(name: &[u8], rest: &[u8]) -> Option<Act> {
 }
 
 /// The act of a name of five letters or more.
-fn act_of_long_name(name: &[u8], rest: &[u8]) -> Option<Act> {
+fn act_of_long_name<'l>(name: &[u8], rest: &'l [u8]) -> Option<(Act, &'l [u8])> {
     if name == b"deliver".as_slice() {
         deliver(rest)
     } else if name == b"resend".as_slice() {
@@ -346,7 +351,7 @@ fn act_of_long_name(name: &[u8], rest: &[u8]) -> Option<Act> {
     }
 }
 
-fn act(alloc: Global, rest: &[u8]) -> Option<Act> {
+fn act(alloc: Global, rest: &[u8]) -> Option<(Act, &[u8])> {
     let (name, rest) = word(rest)?;
     let rest = skip(rest, ":")?;
     if name == b"form".as_slice() {
@@ -363,6 +368,15 @@ fn act(alloc: Global, rest: &[u8]) -> Option<Act> {
 /// What a line seems to ask for, where it is in its plain spelling.
 pub(crate) fn guess(alloc: Global, line: &[u8]) -> Option<Command> {
     let (by, rest) = short_after(line, "{\"by\":")?;
-    let act = act(alloc, skip(rest, ",\"act\":{\"")?)?;
+    let (act, _) = act(alloc, skip(rest, ",\"act\":{\"")?)?;
     Some(Command { by, act })
+}
+
+/// What a line seems to tell, where it is the text of an entry.
+pub(crate) fn guess_entry(alloc: Global, line: &[u8]) -> Option<Entry> {
+    let (act, rest) = act(alloc, skip(line, "{\"act\":{\"")?)?;
+    let (at, rest) = short_after(rest, "}},\"at\":")?;
+    let (by, rest) = short_after(rest, ",\"by\":")?;
+    let reply = reply(skip(rest, ",\"reply\":")?)?;
+    Some(Entry { at, by, act, reply })
 }

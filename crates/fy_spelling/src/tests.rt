@@ -1,3 +1,4 @@
+mod entries;
 mod lines;
 mod readers;
 mod texts;

@@ -1,9 +1,9 @@
-use crate::{LineFault, read_command, read_command_by_value};
+use crate::{LineFault, read_command, read_command_by_value, read_entry, read_entry_by_value};
 use std::alloc::{AllocError, Global};
 use std::test::Fail;
 
-/// Lines to be filled in: `_` is a blank or none, and a capital letter stands for a part of its
-/// sort.
+/// Lines of scripts to be filled in: `_` is a blank or none, and a capital letter stands for a part
+/// of its sort.
 const FORMS: [&str; 30] = [
     "{\"by\":S,\"act\":{\"kill\":{\"floor\":K,\"key\":Y,\"kind\":K,\"tear\":L,\"value\":N}}}",
     "{\"by\":S,\"act\":{\"kill\":{\"floor\":\"Reboot\",\"key\":\"zoneid\",\"kind\":K,\"tear\":0,\
@@ -37,6 +37,67 @@ const FORMS: [&str; 30] = [
     "{\"by\":_S,_\"act\":_{\"replace\":_{\"team\":_S,_\"out\":_S,_\"into\":_S}}}",
     "{\"by\":S,\"act\":{\"heal\":{\"process\":S}}}",
     "{\"by\":S,\"act\":{\"heal\":{\"process\":S,\"team\":S}}}",
+];
+
+/// Lines of audits to be filled in, in the same way.
+const ENTRIES: [&str; 20] = [
+    "{\"act\":{\"kill\":{\"floor\":K,\"key\":Y,\"kind\":K,\"tear\":L,\"value\":N}},\"at\":S,\"by\":S,\
+        \"reply\":R}",
+    "{\"act\":{\"kill\":{\"floor\":\"RebootProcess\",\"key\":\"zoneid\",\"kind\":K,\"tear\":0,\
+        \"value\":\"z0\"}},\"at\":0,\"by\":1,\"reply\":R}",
+    "{\"act\":{\"clog\":{\"key\":Y,\"ticks\":L,\"value\":N}},\"at\":3,\"by\":S,\"reply\":R}",
+    "{\"act\":{\"unclog\":{\"key\":Y,\"value\":N}},\"at\":3,\"by\":S,\"reply\":R}",
+    "{\"act\":{\"form\":{\"members\":M,\"policy\":0}},\"at\":S,\"by\":1,\"reply\":R}",
+    "{\"act\":{\"begin\":{\"payload\":H,\"team\":0}},\"at\":S,\"by\":1,\"reply\":R}",
+    "{\"act\":{\"deliver\":{\"message\":L}},\"at\":S,\"by\":1,\"reply\":R}",
+    "{\"act\":{\"lose\":{\"message\":L}},\"at\":S,\"by\":1,\"reply\":R}",
+    "{\"act\":{\"resend\":{\"process\":S,\"record\":S}},\"at\":4,\"by\":1,\"reply\":R}",
+    "{\"act\":{\"sync\":{\"process\":S}},\"at\":4,\"by\":1,\"reply\":R}",
+    "{\"act\":{\"up\":{\"process\":S}},\"at\":4,\"by\":1,\"reply\":R}",
+    "{\"act\":{\"tick\":{\"ticks\":L}},\"at\":4,\"by\":1,\"reply\":R}",
+    "{\"act\":{\"give\":{\"actor\":1,\"kinds\":D,\"scope\":O}},\"at\":4,\"by\":1,\"reply\":R}",
+    "{\"act\":{\"take\":{\"actor\":S,\"index\":S}},\"at\":4,\"by\":1,\"reply\":R}",
+    "{\"act\":{\"protect\":{\"kinds\":D,\"process\":S}},\"at\":4,\"by\":1,\"reply\":R}",
+    "{\"act\":{\"unprotect\":{\"kinds\":D,\"process\":S}},\"at\":4,\"by\":1,\"reply\":R}",
+    "{\"act\":{\"copy\":{\"from\":S,\"record\":S,\"to\":1}},\"at\":4,\"by\":1,\"reply\":R}",
+    "{\"act\":{\"replace\":{\"into\":S,\"out\":0,\"team\":S}},\"at\":4,\"by\":1,\"reply\":R}",
+    "{\"act\":{\"heal\":{\"process\":S}},\"at\":4,\"by\":1,\"reply\":R}",
+    "_{_\"act\":_{\"heal\":_{\"process\":_0}},_\"at\":_4,_\"by\":1,_\"reply\":_R_}_",
+];
+
+const REPLIES: [&str; 32] = [
+    "\"done\"",
+    "\"stored\"",
+    "{\"verdict\":{\"rule\":null,\"struck\":\"KillInstantly\"}}",
+    "{\"verdict\":{\"rule\":[\"TooManyDestroyed\",0],\"struck\":\"Reboot\"}}",
+    "{\"verdict\":{\"rule\":[\"NoGrant\",7],\"struck\":null}}",
+    "{\"ruled\":null}",
+    "{\"ruled\":[\"NoTarget\"]}",
+    "{\"ruled\":[\"Protected\",4294967295]}",
+    "{\"ruled\":[\"TooFewLeft\",4294967295]}",
+    "{\"formed\":0}",
+    "{\"begun\":{\"first\":18446744073709551615,\"record\":0}}",
+    "{\"marked\":true}",
+    "{\"marked\":false}",
+    "{\"sent\":2}",
+    "{\"synced\":{\"count\":1,\"first\":2}}",
+    "{\"time\":9}",
+    "{\"no\":[\"Clogged\"]}",
+    "{\"no\":[\"TeamShort\",0]}",
+    "{\"no\":[\"StillNeeds\",3]}",
+    "{\"no\":[\"NotUp\"]}",
+    "{\"no\":[\"IsMember\"]}",
+    "{\"no\":[\"NoActor\"]}",
+    "{\"no\":[\"NetFull\"]}",
+    "{\"no\":[\"TeamShort\"]}",
+    "{\"no\":[\"Clogged\",0]}",
+    "{\"no\":\"Clogged\"}",
+    "{\"ruled\":[\"TooFewLeft\",4294967296]}",
+    "{\"synced\":{\"first\":2,\"count\":1}}",
+    "{\"formed\":00}",
+    "{\"marked\":1}",
+    "\"Done\"",
+    "null",
 ];
 
 const SHORTS: [&str; 16] = [
@@ -195,6 +256,7 @@ impl Dice {
             b'H' => Some(self.pick(&PAYLOADS)),
             b'D' => Some(self.pick(&DEEDS)),
             b'O' => Some(self.pick(&SCOPES)),
+            b'R' => Some(self.pick(&REPLIES)),
             b'_' => Some(self.pick(&BLANKS)),
             _ => None,
         }
@@ -206,10 +268,10 @@ fn is_inside(before: u8, byte: u8) -> bool {
     byte != b'_' && before.is_ascii_alphabetic()
 }
 
-/// Writes a line over what the buffer has.
-fn fill(line: &mut Vec<u8>, dice: &mut Dice) -> Result<(), AllocError> {
+/// Writes a line of one of the forms over what the buffer has.
+fn fill(line: &mut Vec<u8>, dice: &mut Dice, forms: &[&str]) -> Result<(), AllocError> {
     line.clear();
-    let form = dice.pick(&FORMS);
+    let form = dice.pick(forms);
     let mut before = b' ';
     for &byte in form.as_bytes() {
         let part = if is_inside(before, byte) || before == b'"' {
@@ -260,7 +322,7 @@ fn tell_all(alloc: Global) -> Result<Told, AllocError> {
     let mut line = Vec::new(alloc);
     let mut room = Vec::new(alloc);
     for _ in 0..10_000 {
-        fill(&mut line, &mut dice)?;
+        fill(&mut line, &mut dice, &FORMS)?;
         tell(alloc, &line, &mut room, &mut told);
     }
     Ok(told)
@@ -272,5 +334,50 @@ fn both_readers_tell_the_same(rt: HostRuntime) -> Result<(), Fail> {
     assert!(rt; told.differ == 0);
     assert!(rt; told.commands > 2_000 && told.others > 2_000);
     assert!(rt; told.floors > 50);
+    Ok(())
+}
+
+/// How many lines are entries, how many aren't, and of how many the readers differ.
+#[derive(Drop)]
+struct Found {
+    entries: u32,
+    others: u32,
+    differ: u32,
+}
+
+/// Reads a line of an audit both ways.
+fn find(alloc: Global, line: &[u8], room: &mut Vec<u8>, found: &mut Found) {
+    let quick = read_entry(alloc, line, room);
+    if quick != read_entry_by_value(alloc, line, room) {
+        found.differ = found.differ.saturating_add(1);
+    }
+    match quick {
+        Ok(_) => found.entries = found.entries.saturating_add(1),
+        Err(_) => found.others = found.others.saturating_add(1),
+    }
+}
+
+/// What 10,000 lines of audits are.
+fn find_all(alloc: Global) -> Result<Found, AllocError> {
+    let mut found = Found {
+        entries: 0,
+        others: 0,
+        differ: 0,
+    };
+    let mut dice = Dice { state: 20_27 };
+    let mut line = Vec::new(alloc);
+    let mut room = Vec::new(alloc);
+    for _ in 0..10_000 {
+        fill(&mut line, &mut dice, &ENTRIES)?;
+        find(alloc, &line, &mut room, &mut found);
+    }
+    Ok(found)
+}
+
+#[test]
+fn both_readers_find_the_same_entries(rt: HostRuntime) -> Result<(), Fail> {
+    let found = find_all(rt.alloc())?;
+    assert!(rt; found.differ == 0);
+    assert!(rt; found.entries > 2_000 && found.others > 2_000);
     Ok(())
 }

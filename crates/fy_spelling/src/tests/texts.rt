@@ -1,12 +1,30 @@
 use super::{P0, P2, begin, copying, form, replacing, zone};
-use crate::{Act, Command, Entry, Refusal, Reply, entry_text, put_command, put_entry};
+use crate::scan::guess_entry;
+use crate::{
+    Act, Command, Entry, Refusal, Reply, entry_text, put_command, put_entry, read_entry,
+    read_entry_by_value,
+};
 use fy_grants::{Grant, Scope};
 use fy_kinds::{KillOrder, Kind, KindSet, Rule, Target, Verdict};
 use fy_locality::{Key, Name, ProcId};
 use std::alloc::Global;
 use std::test::Fail;
 
-/// Whether an entry of this act has a text with this in it for the act, and the right rest.
+/// Whether both readers have this entry of the line, and the guess too.
+fn is_read(alloc: Global, line: &[u8], entry: &Entry) -> bool {
+    let mut room = Vec::new(alloc);
+    let by_value = read_entry_by_value(alloc, line, &mut room);
+    let read = read_entry(alloc, line, &mut room);
+    match (guess_entry(alloc, line), read, by_value) {
+        (Some(guessed), Ok(read), Ok(by_value)) => {
+            guessed == *entry && read == *entry && by_value == *entry
+        }
+        _ => false,
+    }
+}
+
+/// Whether an entry of this act has a text with this in it for the act, and the right rest, and is
+/// read of it.
 fn spells(alloc: Global, act: Act, wanted: &str) -> bool {
     let entry = Entry {
         at: 7,
@@ -23,10 +41,11 @@ fn spells(alloc: Global, act: Act, wanted: &str) -> bool {
     let Some(middle) = rest.strip_suffix(",\"at\":7,\"by\":4294967295,\"reply\":\"done\"}") else {
         return false;
     };
-    middle == wanted
+    middle == wanted && is_read(alloc, text.as_bytes(), &entry)
 }
 
-/// Whether an entry of this reply has a text with this in it for the reply, and the right rest.
+/// Whether an entry of this reply has a text with this in it for the reply, and the right rest, and
+/// is read of it.
 fn replies(alloc: Global, reply: Reply, wanted: &str) -> bool {
     let entry = Entry {
         at: u32::MAX,
@@ -41,7 +60,7 @@ fn replies(alloc: Global, reply: Reply, wanted: &str) -> bool {
     let Some(rest) = text.as_str().strip_prefix(front) else {
         return false;
     };
-    rest.strip_suffix("}") == Some(wanted)
+    rest.strip_suffix("}") == Some(wanted) && is_read(alloc, text.as_bytes(), &entry)
 }
 
 #[test]

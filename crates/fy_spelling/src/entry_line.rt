@@ -1,0 +1,79 @@
+//! Lines of audits. An entry has one text, so whatever is found in a line is written again and
+//! compared: first a guess, and where it fails what serde_json's value tells.
+ghost use Rattle.std.specs.Prelude.{◌≡◌, ◌↔◌, IfOk, IsTrue};
+ghost use Rattle.fy_spelling.specs.EntryLine.{IsTextOf, EntryAnswers};
+
+use crate::fits::{entry_is_held, reply_fits};
+use crate::reading::entry_by_value;
+use crate::scan::guess_entry;
+use crate::writing::put_entry;
+use crate::{Entry, EntryFault};
+use std::alloc::{AllocError, Global};
+
+/// Whether the line is the text of the entry. What the room has is written over.
+fn is_text_of(line: &[u8], entry: &Entry, room: &mut Vec<u8>) -> Result<bool, AllocError>
+    ensures { IfOk result (λ same. IsTrue same ↔ IsTextOf line.now entry.now) }
+{
+    entry_is_held(entry);
+    room.clear();
+    put_entry(room, entry)?;
+    Ok(room.as_slice() == line && reply_fits(&entry.reply))
+}
+
+/// The entry of a line, where it is the one that was guessed; else what the line's value tells.
+fn settle(
+    alloc: Global,
+    line: &[u8],
+    guess: Option<Entry>,
+    room: &mut Vec<u8>,
+) -> Result<Entry, EntryFault>
+    ensures { EntryAnswers line.now result }
+{
+    if let Some(entry) = guess {
+        match is_text_of(line, &entry, room) {
+            Ok(true) => return Ok(entry),
+            Ok(false) => {}
+            Err(AllocError) => return Err(EntryFault::NoMemory),
+        }
+    }
+    read_entry_by_value(alloc, line, room)
+}
+
+/// The entry of a line of an audit, which is given without its line end, as serde_json's value has
+/// it. The room is a buffer for the line's own use.
+///
+/// # Errors
+///
+/// `Syntax` where the line is the text of no entry; `NoMemory` in its place, where memory is
+/// refused.
+pub fn read_entry_by_value(
+    alloc: Global,
+    line: &[u8],
+    room: &mut Vec<u8>,
+) -> Result<Entry, EntryFault>
+    ensures { EntryAnswers line.now result }
+{
+    let entry = match entry_by_value(alloc, line) {
+        Ok(entry) => entry,
+        Err(fault) => return Err(fault),
+    };
+    match is_text_of(line, &entry, room) {
+        Ok(true) => Ok(entry),
+        Ok(false) => Err(EntryFault::Syntax),
+        Err(AllocError) => Err(EntryFault::NoMemory),
+    }
+}
+
+/// The entry of a line of an audit, which is given without its line end. The room is a buffer for
+/// the line's own use, kept from line to line so that it grows but once.
+///
+/// # Errors
+///
+/// `Syntax` where the line is the text of no entry: it is no JSON, has blanks, members in another
+/// order, a number with a leading zero or at its bound, kinds twice or in another order, a kill
+/// whose floor is above its kind. `NoMemory` in its place, where memory is refused.
+pub fn read_entry(alloc: Global, line: &[u8], room: &mut Vec<u8>) -> Result<Entry, EntryFault>
+    ensures { EntryAnswers line.now result }
+{
+    settle(alloc, line, guess_entry(alloc, line), room)
+}

@@ -1,0 +1,70 @@
+//! Entries from JSON values.
+ghost use Rattle.std.specs.Prelude.{◌≡◌, IfOk, MatchResult};
+ghost use Rattle.serde_json.specs.View.{view};
+ghost use Rattle.fy_spelling.specs.EntryLine.{IsTextOf};
+ghost use Rattle.fy_spelling.specs.Replied.{entry_from};
+ghost use Rattle.fy_spelling.specs.declared.command.LineFault.TheVariants as line;
+ghost use Rattle.fy_spelling.specs.declared.entry.Entry.{Entry};
+ghost use Rattle.fy_spelling.specs.declared.entry.EntryFault.TheVariants.{NoMemory};
+
+use super::replies::reply_of;
+use super::{Asked, act_of, meant, value_of};
+use crate::parts::{four, short_of};
+use crate::{Entry, EntryFault, LineFault, Reply};
+use serde_json::Value;
+use std::alloc::{AllocError, Global};
+
+/// What was asked, where it stands, who asked, and the reply.
+type Parts = (Asked, u32, u32, Reply);
+
+/// The parts of an entry.
+fn parts_of(alloc: Global, value: &Value) -> Result<Option<Parts>, AllocError>
+    ensures { IfOk result (λ found. found ≡ entry_from (view value.now)) }
+{
+    let Some((act, at, by, reply)) = four(value, "act", "at", "by", "reply") else {
+        return Ok(None);
+    };
+    let Some(at) = short_of(at) else {
+        return Ok(None);
+    };
+    let Some(by) = short_of(by) else {
+        return Ok(None);
+    };
+    let Some(reply) = reply_of(reply) else {
+        return Ok(None);
+    };
+    let Some(asked) = act_of(alloc, act)? else {
+        return Ok(None);
+    };
+    Ok(Some((asked, at, by, reply)))
+}
+
+/// The fault of a line that has no value.
+fn entry_fault(fault: LineFault) -> EntryFault
+    ensures { fault ≡ line.NoMemory → result ≡ NoMemory }
+{
+    match fault {
+        LineFault::NoMemory => EntryFault::NoMemory,
+        _ => EntryFault::Syntax,
+    }
+}
+
+/// The entry that a line may be the text of, if any: it is the text of no other.
+pub(crate) fn entry_by_value(alloc: Global, line: &[u8]) -> Result<Entry, EntryFault>
+    ensures { (entry : Entry) → IsTextOf line.now entry →
+        MatchResult result (λ found. found ≡ entry) (λ fault. fault ≡ NoMemory) }
+{
+    let value = match value_of(alloc, line) {
+        Ok(value) => value,
+        Err(fault) => return Err(entry_fault(fault)),
+    };
+    let (asked, at, by, reply) = match parts_of(alloc, &value) {
+        Ok(Some(parts)) => parts,
+        Ok(None) => return Err(EntryFault::Syntax),
+        Err(AllocError) => return Err(EntryFault::NoMemory),
+    };
+    match meant(asked) {
+        Ok(act) => Ok(Entry { at, by, act, reply }),
+        Err(_) => Err(EntryFault::Syntax),
+    }
+}
