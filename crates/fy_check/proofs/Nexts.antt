@@ -1,0 +1,99 @@
+-- whether an entry may come next
+use Rattle.std.proofs.Common.{◌≡◌, ◌↔◌, ℕ, zero, suc, ◌+◌, ◌<◌, ◌≤◌, inl, inr, Bool, true, false, List, [], ◌∷◌, ◌++◌, length, take, get_or, slice_get, Some, Ok, Err, Result, IsTrue, sym, ◌∙◌, ap, subst, arith, add-one}
+use Rattle.std.specs.Bool.{Decides}
+use Rattle.std.proofs.lemmas.Bool.{false≢true, cases_lt}
+use Rattle.std.proofs.lemmas.List.{length-take-le}
+use Rattle.std.proofs.lemmas.Option.{slice_get-get_or}
+use Rattle.fy_spelling.specs.declared.act.Act.{Act}
+use Rattle.fy_spelling.specs.declared.reply.Reply.{Reply}
+use Rattle.fy_spelling.specs.declared.entry.Entry.{Entry}
+use Rattle.fy_audit.specs.declared.version.Version.{Version}
+use Rattle.fy_cluster.specs.declared.fault.Fault.{Fault}
+use Rattle.fy_cluster.specs.declared.fault.Fault.TheVariants.{JournalFull}
+use Rattle.fy_cluster.specs.Setup.{Setup}
+use Rattle.fy_cluster.specs.Course.{Course, replied, entered}
+use Rattle.fy_cluster.specs.History.{History, moment, after, history}
+use Rattle.fy_cluster.specs.Replies.{reply}
+use Rattle.fy_cluster.specs.Versions.{LegalUnder, NextLegalUnder, knows}
+use Rattle.fy_check.specs.Check.{IsFirstBad}
+
+length-after : (c : Setup) (h : History) (xs : List Entry) → length (after c h xs) ≡ length h + length xs
+length-after c h [] = omega arith
+length-after c h (x ∷ xs) = length-after c (moment c h x ∷ h) xs ∙ (omega arith)
+
+pub length-history : (c : Setup) (journal : List Entry) → length (history c journal) ≡ length journal
+length-history c journal = length-after c [] journal ∙ (omega arith)
+
+-- the entry with its journal is legal where the test is true
+abbrev pub Tells : Version → Setup → List Entry → Entry → Bool → Type 0
+Tells version c journal e may = IsTrue may ↔ LegalUnder version c (journal ++ e ∷ [])
+
+pub not_known : NextLegalUnder → (version : Version) (c : Setup) (journal : List Entry) (e : Entry) → LegalUnder version c journal → knows version e.act ≡ false → Tells version c journal e false
+not_known law version c journal e l k = (
+  λ f. absurd (false≢true f),
+  λ more. absurd (false≢true (sym k ∙ ((law version c journal e l).0 more).2)),
+)
+
+pub no_place : NextLegalUnder → (version : Version) (c : Setup) (journal : List Entry) (e : Entry) → LegalUnder version c journal → c.limit ≤ length journal → Tells version c journal e false
+no_place law version c journal e l full = (
+  λ f. absurd (false≢true f),
+  λ more. let room = ((law version c journal e l).0 more).0 in absurd (omega (arith, room, full)),
+)
+
+pub by_reply : NextLegalUnder → (version : Version) (c : Setup) (journal : List Entry) (e : Entry) (answered : Reply) (same : Bool) → LegalUnder version c journal → knows version e.act ≡ true → length journal < c.limit → e.at ≡ length journal
+    → answered ≡ reply c (history c journal) e.by e.act → Decides same (answered ≡ e.reply) → Tells version c journal e same
+by_reply law version c journal e answered same l k room place right d = (
+  λ t. (law version c journal e l).1 (room, record { place = place ∙ sym (length-history c journal); right = sym (d.0 t) ∙ right }, k),
+  λ more. d.1 (right ∙ sym ((law version c journal e l).0 more).1.right),
+)
+
+-- who got a reply had a place in the journal
+pub had_place : (n limit : ℕ) (answered : Reply) → ((limit ≤ n) ↔ (let result : Result Reply Fault = Ok answered in result ≡ Err JournalFull)) → n < limit
+had_place n limit answered full = elim (cases_lt n limit) [ inl room ↦ room | inr none ↦ absurd (let wrong = full.0 none in let no : ⊥ = cc in no) ]
+
+-- the entry of these parts
+of_parts : (e : Entry) (at : ℕ) (act : Act) (reply : Reply) → e.at ≡ at → e.act ≡ act → e.reply ≡ reply → record { at = at; by = e.by; act = act; reply = reply } ≡ e
+of_parts e at act reply p a r = λ i. record { at = sym p i; by = e.by; act = sym a i; reply = sym r i }
+
+-- the course has the entry then
+pub entered_is : (course new : Course) (e : Entry) (act : Act) (answered : Reply) → act ≡ e.act → e.at ≡ length course.journal → answered ≡ e.reply → answered ≡ replied course e.by act → new ≡ entered course e.by act
+    → new ≡ record { setup = course.setup; journal = course.journal ++ e ∷ [] }
+entered_is course new e act answered a place same right is =
+    is ∙ ap (λ (x : Entry). let more : Course = record { setup = course.setup; journal = course.journal ++ x ∷ [] } in more) (of_parts e (length course.journal) act (replied course e.by act) place (sym a) (sym same ∙ right))
+
+-- ---- the entries one after another
+
+pub take-push : {X : Type 0} (xs : List X) (i : ℕ) (x : X) → slice_get xs i ≡ Some x → take (suc i) xs ≡ take i xs ++ x ∷ []
+take-push [] i x e = absurd (cc)
+take-push (y ∷ xs) zero x e = let same : y ≡ x = cc in ap (λ z. z ∷ []) same
+take-push (y ∷ xs) (suc i) x e = ap (λ ys. y ∷ ys) (take-push xs i x e)
+
+there : (entries : List Entry) (i : ℕ) (e : Entry) → i < length entries → e ≡ get_or entries i e → slice_get entries i ≡ Some e
+there entries i e l is = slice_get-get_or entries i e l ∙ ap Some (sym is)
+
+pub one_more : (entries : List Entry) (i : ℕ) (e : Entry) → i < length entries → e ≡ get_or entries i e → take (i + 1) entries ≡ take i entries ++ e ∷ []
+one_more entries i e l is = ap (λ n. take n entries) (add-one i) ∙ take-push entries i e (there entries i e l is)
+
+-- each entry is numbered by its place
+abbrev pub AreNumbered : List Entry → Type 0
+AreNumbered entries = (place : ℕ) (entry : Entry) → slice_get entries place ≡ Some entry → entry.at ≡ place
+
+-- the course has the entries before this place
+abbrev pub course_at : Setup → List Entry → ℕ → Course
+course_at c entries i = record { setup = c; journal = take i entries }
+
+pub place_is : (c : Setup) (entries : List Entry) (i : ℕ) (e : Entry) (course : Course) → i < length entries → e ≡ get_or entries i e → AreNumbered entries → course ≡ course_at c entries i → e.at ≡ length course.journal
+place_is c entries i e course l is numbered same =
+    numbered i e (there entries i e l is) ∙ sym (length-take-le i entries (omega arith)) ∙ ap (λ (x : Course). length x.journal) (sym same)
+
+pub first_bad : (version : Version) (c : Setup) (entries : List Entry) (i : ℕ) (e : Entry) (course : Course) (next : Bool) → i < length entries → e ≡ get_or entries i e → AreNumbered entries → course ≡ course_at c entries i
+    → LegalUnder version c (take i entries) → (IsTrue next ↔ LegalUnder version course.setup (course.journal ++ e ∷ [])) → next ≡ false → IsFirstBad version c entries e.at
+first_bad version c entries i e course next l is numbered same legal told no_more =
+    let at_i : i ≡ e.at = sym (numbered i e (there entries i e l is)) in
+    let good : LegalUnder version c (take i entries) = legal in
+    let against : LegalUnder version c (take (i + 1) entries) → ⊥ =
+    (λ more.
+    let pushed : LegalUnder version c (take i entries ++ e ∷ []) = subst (LegalUnder version c) (one_more entries i e l is) more in
+    let known : LegalUnder version course.setup (course.journal ++ e ∷ []) = subst (λ (x : Course). LegalUnder version x.setup (x.journal ++ e ∷ [])) (sym same) pushed in
+    false≢true (sym no_more ∙ told.1 known)) in
+    subst (IsFirstBad version c entries) at_i (record { good = good; bad = against })

@@ -1,0 +1,11 @@
+//! Journals that are written out, legal ones and wrong ones, and each law can be called.
+use crate::laws;
+
+mod journals;
+mod legal;
+mod wrong;
+
+#[test]
+fn laws_can_be_called() {
+    laws::one_answer();
+}
