@@ -1,0 +1,180 @@
+//! The desk at which actors take their turns.
+ghost use Rattle.std.specs.Prelude.{◌≡◌, ◌↔◌, ◌≤◌, length, Err, IfOk, IsTrue, OnOk, OnErr};
+ghost use Rattle.fy_cluster.specs.Replies.{Legal};
+ghost use Rattle.fy_cluster.specs.Course.{history_of};
+ghost use Rattle.fy_cluster.specs.Sights.{Sees};
+ghost use Rattle.fy_cluster.specs.Survival.{Survives};
+ghost use Rattle.fy_cluster.specs.declared.fault.Fault.TheVariants.{JournalFull};
+ghost use Rattle.fy_actors.specs.Desk.{course_of, laid, told, acted, Worked};
+
+use fy_audit::{Act, Entry, Reply};
+use fy_cluster::{Cluster, Fault, MOST_JOURNAL_ENTRIES, Sight};
+use std::alloc::Global;
+use std::marker::Model;
+
+/// Whether an actor wants further turns.
+#[derive(Clone, Copy, PartialEq, Eq, Debug)]
+pub enum Turn {
+    /// It may have acts left.
+    More,
+    /// It has no act left, and further turns do nothing.
+    Ended,
+}
+
+/// What takes turns at a desk, whoever wrote it: an actor is asked for one turn after another, and
+/// acts at the desk alone.
+pub trait FaultActor: Drop {
+    ghost use Rattle.fy_actors.specs.Desk.{Worked};
+
+    /// Takes a turn. Whatever it does, the cluster began with the same configuration, the same
+    /// actor sits at the desk, and all new entries of the journal are this actor's and its new
+    /// receipts.
+    ///
+    /// # Errors
+    /// The fault of an act.
+    fn turn(&mut self, desk: &mut Desk) -> Result<Turn, Fault>
+        ensures worked { Worked desk.old desk.new };
+}
+
+/// A cluster, the number of the actor whose turn it is, and that actor's receipts: the entries of
+/// its acts. It keeps its allocator.
+pub struct Desk {
+    alloc: Global,
+    cluster: Cluster,
+    actor: u32,
+    receipts: Vec<Entry>,
+}
+
+impl Model for Desk {
+    ghost use Rattle.std.specs.Coded.{codes};
+    ghost use Rattle.fy_locality.specs.contracts.locality.Locality as e;
+    ghost use Rattle.fy_policy.specs.TreeCode.{tree_code};
+    ghost use Rattle.fy_actors.specs.Desk.{Bench};
+
+    ghost Value = { Bench };
+
+    ghost coded = { Prim.hlevel (codes, tree_code, e.the_row.coded) };
+
+    ghost view = { λ d. record {
+      setup = d.cluster.setup;
+      journal = d.cluster.journal;
+      actor = d.actor;
+      receipts = d.receipts.items;
+    } };
+}
+
+// Written out, so that whoever drops a desk makes one call.
+impl Drop for Desk {
+    fn drop(self) {
+        let Desk {
+            alloc: _,
+            cluster: _,
+            actor: _,
+            receipts: _,
+        } = self;
+    }
+}
+
+impl Desk {
+    /// The desk of a cluster, for actor 0, without receipts. Takes no memory.
+    pub fn make(alloc: Global, cluster: Cluster) -> Desk
+        ensures { result ≡ laid cluster }
+    {
+        Desk {
+            alloc,
+            cluster,
+            actor: 0,
+            receipts: Vec::new(alloc),
+        }
+    }
+
+    /// Seats the actor with this number, and swaps the receipts with the list. Takes no memory.
+    pub fn sit(&mut self, actor: u32, receipts: &mut Vec<Entry>)
+        ensures desk { self.new
+            ≡ record self.old { actor = actor; receipts = receipts.old.items } }
+        ensures list { receipts.new.items ≡ self.old.receipts }
+    {
+        self.actor = actor;
+        std::mem::swap(&mut self.receipts, receipts);
+    }
+
+    /// The cluster. Takes no memory.
+    pub fn into_cluster(self) -> Cluster
+        ensures { result ≡ course_of self }
+    {
+        let Desk {
+            alloc: _,
+            cluster,
+            actor: _,
+            receipts: _,
+        } = self;
+        cluster
+    }
+
+    /// The time, and what there is to do next. Takes no memory.
+    pub fn sight(&self) -> Sight
+        ensures { Sees self.now.setup (history_of (course_of self.now)) result }
+    {
+        self.cluster.sight()
+    }
+
+    /// How many entries the cluster's journal has. It is legal. Takes no memory.
+    pub fn journal_len(&self) -> usize
+        ensures length { result ≡ length self.now.journal }
+        ensures legal { Legal self.now.setup self.now.journal }
+        ensures few { result ≤ MOST_JOURNAL_ENTRIES }
+    {
+        self.cluster.config().invariant();
+        self.cluster.journal().len()
+    }
+
+    /// What every legal journal keeps, the cluster's keeps: each acknowledged record has a synced
+    /// copy on an undestroyed member, and all else that [`Cluster::survives`] says.
+    pub fn survives(&self)
+        ensures { Survives self.now.setup self.now.journal }
+    {
+        self.cluster.survives();
+    }
+
+    /// Whether the journal has as many entries as it may have. Takes no memory.
+    pub fn is_full(&self) -> bool
+        ensures { IsTrue result ↔ (self.now.setup.limit ≤ length self.now.journal) }
+    {
+        self.cluster.is_full()
+    }
+
+    /// Makes an act of who sits here. The entry that it leaves in the cluster's journal is also
+    /// the last receipt.
+    ///
+    /// # Errors
+    /// In this order: `JournalFull` where the journal has as many entries as it may have;
+    /// `NoMemory`. The cluster and the receipts are then as they were.
+    pub fn act(&mut self, act: Act) -> Result<Reply, Fault>
+        ensures full { (self.old.setup.limit ≤ length self.old.journal)
+            ↔ (result ≡ Err JournalFull) }
+        ensures replied { IfOk result (λ reply. reply ≡ told self.old act) }
+        ensures acted { OnOk result (self.new ≡ acted self.old act) }
+        ensures err { OnErr result (self.new ≡ self.old) }
+        ensures worked { Worked self.old self.new }
+    {
+        if self.is_full() {
+            return Err(Fault::JournalFull);
+        }
+        if self.receipts.reserve(1).is_err() {
+            return Err(Fault::NoMemory);
+        }
+        let Ok(copy) = act.try_copy(self.alloc) else {
+            return Err(Fault::NoMemory);
+        };
+        let at = self.journal_len() as u32;
+        let by = self.actor;
+        let reply = self.cluster.apply(by, act)?;
+        self.receipts.push_reserved(Entry {
+            at,
+            by,
+            act: copy,
+            reply,
+        });
+        Ok(reply)
+    }
+}

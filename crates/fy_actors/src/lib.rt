@@ -1,0 +1,20 @@
+//! Those who act on a cluster: what they plan, the desk at which they take turns, and the actors.
+#![tactic(auto)]
+
+mod agenda;
+mod attrition;
+mod desk;
+mod driver;
+pub mod laws;
+mod plans;
+mod seeded;
+mod swizzle;
+#[cfg(test)]
+mod tests;
+
+pub use attrition::{Attrition, AttritionFault};
+pub use desk::{Desk, FaultActor, Turn};
+pub use driver::StorageDriver;
+pub use plans::{AttritionPlan, PlanFault, SwizzlePlan, attrition_plan, swizzle_plan};
+pub use seeded::words;
+pub use swizzle::Swizzle;
