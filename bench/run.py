@@ -153,4 +153,5 @@ def main():
                 compare(words, width, f"{count} {name}", cluster, script)
 
 
-main()
+if __name__ == "__main__":
+    main()

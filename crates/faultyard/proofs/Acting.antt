@@ -1,5 +1,5 @@
 -- what is entered for a list of acts
-use Rattle.std.proofs.Common.{◌≡◌, ◌∙◌, ℕ, ◌+◌, List, [], ◌∷◌, ◌++◌, map, length, refl, sym, ap, arith, append_assoc, append-nil, length-append, subst}
+use Rattle.std.proofs.Common.{◌≡◌, ◌∙◌, ℕ, ◌+◌, List, [], ◌∷◌, ◌++◌, map, length, refl, sym, ap, append_assoc, append-nil, length-append, subst}
 use Rattle.std.proofs.lemmas.List.{map-append}
 use Rattle.fy_spelling.specs.declared.act.Act.{Act}
 use Rattle.fy_cluster.specs.Course.{Course, entered, after_acts}
@@ -11,13 +11,12 @@ use Rattle.fy_spelling.specs.declared.command.Command.{Command}
 use Rattle.fy_spelling.specs.declared.entry.Entry.{Entry}
 use Rattle.fy_audit.specs.AuditText.{audit_text}
 use Rattle.fy_audit.specs.Script.{ScriptOf}
-use Rattle.fy_audit.specs.declared.script.ScriptFault.{ScriptFault}
 use Rattle.fy_audit.specs.declared.version.Version.{Version}
 use Rattle.fy_audit.specs.declared.version.Version.TheVariants.{Second}
 use Rattle.std.specs.Prelude.{◌≢◌, ◌<◌, Option, Some, None, IfSome, Ok, Err}
 use Rattle.faultyard.specs.RunTexts.{asked, IsAuditOf, Runs, IfRefused, IfRunRefusal, HasAudit}
 use Rattle.faultyard.specs.declared.stop.Stop.{Stop}
-use Rattle.faultyard.specs.declared.stop.Stop.TheVariants.{JudgeTooLong, JudgeLine, Config, Script, JournalFull, Read, Write, NoMemory}
+use Rattle.faultyard.specs.declared.stop.Stop.TheVariants.{JudgeTooLong, JudgeLine, Config, Script, JournalFull, Audit, Read, Write, NoMemory}
 
 entered_acts : (course : Course) (by : ℕ) (act : Act) →
     map by_and_act (entered course by act).journal
@@ -79,6 +78,7 @@ is_refused setup known JournalFull faulty other = absurd (other refl)
 is_refused setup known JudgeTooLong faulty other = tt
 is_refused setup known (JudgeLine line fault) faulty other = tt
 is_refused setup known (Config fault) faulty other = tt
+is_refused setup known (Audit fault) faulty other = tt
 is_refused setup known Read faulty other = tt
 is_refused setup known Write faulty other = tt
 is_refused setup known NoMemory faulty other = tt

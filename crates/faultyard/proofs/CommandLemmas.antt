@@ -40,7 +40,7 @@ plain_is_local c plain = by (is_empty (out-Command c).groups.items) (out-Command
 
 -- the subcommand takes a cluster file
 abbrev TakesConfig : Text → Type 0
-TakesConfig name = name ≡ codes "run"
+TakesConfig name = (name ≡ codes "run") ⊎ (name ≡ codes "check")
 
 abbrev HasConfig : List Row → Type 0
 HasConfig rows = is_some (first_of (codes "CONFIG") rows) ≡ true
@@ -60,9 +60,10 @@ known_task : (s : Shape) (words : List Text) → IsIn s (built faultyard_command
 known_task s words known other none =
     elim known [
       | inl judge ↦ inl (ap (λ t. t.name) judge)
-      | inr (inl run) ↦ inr (ap (λ t. t.name) run, config_given s _ words run refl (inl (refl, refl)) refl none)
-      | inr (inr (inl help)) ↦ absurd (other (ap (λ t. t.name) help) (ap (λ t. t.aliases) help))
-      | inr (inr (inr none)) ↦ absurd none
+      | inr (inl run) ↦ inr (inl (ap (λ t. t.name) run), config_given s _ words run refl (inl (refl, refl)) refl none)
+      | inr (inr (inl check)) ↦ inr (inr (ap (λ t. t.name) check), config_given s _ words check refl (inl (refl, refl)) refl none)
+      | inr (inr (inr (inl help))) ↦ absurd (other (ap (λ t. t.name) help) (ap (λ t. t.aliases) help))
+      | inr (inr (inr (inr none))) ↦ absurd none
     ]
 
 meets_task : (words : List Text) → fault_of faultyard_command words ≡ [] → IsSomeAnd (subcommand_of faultyard_command words) IsTask

@@ -1,5 +1,5 @@
 -- what is known of the bytes of a cluster file
-use Rattle.std.proofs.Common.{◌≡◌, ℕ, List, Option, Some, None, Ok, Err, subst}
+use Rattle.std.proofs.Common.{◌≡◌, ℕ, List, Option, Some, None, Err, subst}
 use Rattle.std.specs.Prelude.{IfSome}
 use Rattle.fy_config.specs.Config.{ConfigOf, UnlessMemory}
 use Rattle.fy_config.specs.declared.fault.ConfigFault.{ConfigFault}

@@ -4,7 +4,7 @@ use Rattle.clap.specs.Words.{App, Row, Rule, Text, first_of, new_app, new_rule, 
 use Rattle.clap.specs.Words.{with_subcommand}
 use Rattle.clap.specs.declared.builder.action.ArgAction.TheVariants.{Set}
 use Rattle.faultyard.specs.declared.task.Task.{Task}
-use Rattle.faultyard.specs.declared.task.Task.TheVariants.{Judge, Run}
+use Rattle.faultyard.specs.declared.task.Task.TheVariants.{Judge, Run, Check}
 
 -- `faultyard` without its subcommands, of which it wants one; it has a version
 abbrev pub bare_command : App
@@ -24,16 +24,24 @@ judge_command = new_app (codes "judge")
 abbrev pub run_command : App
 run_command = with_rule (new_app (codes "run")) config_rule
 
+-- the subcommand `check`, which takes a cluster file
+abbrev pub check_command : App
+check_command = with_rule (new_app (codes "check")) config_rule
+
 -- the command line of `faultyard`
 abbrev pub faultyard_command : App
 faultyard_command =
-    with_subcommand (with_subcommand bare_command judge_command.top) run_command.top
+    with_subcommand
+    (with_subcommand (with_subcommand bare_command judge_command.top) run_command.top)
+    check_command.top
 
 -- a subcommand's name and its rows, as the matches hold them, stand for the task
 abbrev pub StandsFor : Text × List Row → Task → Type 0
 StandsFor met Judge = met.0 ≡ codes "judge"
 StandsFor met (Run config) =
     (met.0 ≡ codes "run") × (first_of (codes "CONFIG") met.1 ≡ Some config.now)
+StandsFor met (Check config) =
+    (met.0 ≡ codes "check") × (first_of (codes "CONFIG") met.1 ≡ Some config.now)
 
 -- the task is the one that the matches' subcommand stands for
 abbrev pub IsTaskOf : Option (Text × List Row) → Task → Type 0

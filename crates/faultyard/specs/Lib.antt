@@ -6,4 +6,5 @@ pub mod Stops
 pub mod Commands
 pub use Rattle.fy_lines.specs.Fronts
 pub mod RunTexts
+pub mod CheckTexts
 pub mod Outputs

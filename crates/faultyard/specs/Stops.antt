@@ -4,6 +4,10 @@ use Rattle.fy_spelling.specs.declared.command.LineFault.{LineFault}
 use Rattle.fy_spelling.specs.declared.command.LineFault.TheVariants as line
 use Rattle.fy_audit.specs.declared.script.ScriptFault.{ScriptFault}
 use Rattle.fy_audit.specs.declared.script.ScriptFault.TheVariants as script
+use Rattle.fy_audit.specs.declared.audit.AuditLineFault.{AuditLineFault}
+use Rattle.fy_audit.specs.declared.audit.AuditLineFault.TheVariants as audit_line
+use Rattle.fy_audit.specs.declared.audit.AuditFault.{AuditFault}
+use Rattle.fy_audit.specs.declared.audit.AuditFault.TheVariants as audit
 use Rattle.fy_config.specs.declared.fault.Part.{Part}
 use Rattle.fy_config.specs.declared.fault.Part.TheVariants as part
 use Rattle.fy_config.specs.declared.fault.ConfigFault.{ConfigFault}
@@ -11,7 +15,7 @@ use Rattle.fy_config.specs.declared.fault.ConfigFault.TheVariants as config
 use Rattle.faultyard.specs.declared.stop.JudgeFault.{JudgeFault}
 use Rattle.faultyard.specs.declared.stop.JudgeFault.TheVariants.{Syntax, Policy, Twice, TooMany, Unknown, PolicyUnmet}
 use Rattle.faultyard.specs.declared.stop.Stop.{Stop}
-use Rattle.faultyard.specs.declared.stop.Stop.TheVariants.{JudgeTooLong, JudgeLine, Config, Script, JournalFull, Read, Write, NoMemory}
+use Rattle.faultyard.specs.declared.stop.Stop.TheVariants.{JudgeTooLong, JudgeLine, Config, Script, JournalFull, Audit, Read, Write, NoMemory}
 
 -- the word for a fault of a line of judge's input
 abbrev pub fault_word : JudgeFault → List ℕ
@@ -28,6 +32,12 @@ line_word line.TooLong = codes "TooLong"
 line_word line.Syntax = codes "Syntax"
 line_word line.Floor = codes "Floor"
 line_word line.NoMemory = codes "NoMemory"
+
+-- the word for a fault of a line of an audit
+abbrev pub audit_line_word : AuditLineFault → List ℕ
+audit_line_word audit_line.Header = codes "Header"
+audit_line_word audit_line.TooLong = codes "TooLong"
+audit_line_word audit_line.Syntax = codes "Syntax"
 
 -- the word for a part of a cluster file
 abbrev pub part_word : Part → List ℕ
@@ -65,6 +75,13 @@ script_text (script.Line number fault) =
     numbered (codes "script: line ") number (codes ": " ++ line_word fault ++ codes "\n")
 script_text script.NoMemory = codes "no memory\n"
 
+-- the line for an audit that is refused
+abbrev pub audit_fault_text : AuditFault → List ℕ
+audit_fault_text audit.TooLong = codes "audit: TooLong\n"
+audit_fault_text (audit.Line number fault) =
+    numbered (codes "audit: line ") number (codes ": " ++ audit_line_word fault ++ codes "\n")
+audit_fault_text audit.NoMemory = codes "no memory\n"
+
 -- the line that says why a command stops
 abbrev pub stop_text : Stop → List ℕ
 stop_text JudgeTooLong = codes "judge: TooLong\n"
@@ -73,6 +90,7 @@ stop_text (JudgeLine line fault) =
 stop_text (Config fault) = config_text fault
 stop_text (Script fault) = script_text fault
 stop_text JournalFull = codes "script: JournalFull\n"
+stop_text (Audit fault) = audit_fault_text fault
 stop_text Read = codes "read fault\n"
 stop_text Write = codes "write fault\n"
 stop_text NoMemory = codes "no memory\n"
@@ -86,6 +104,8 @@ stop_status (Config fault) = 1
 stop_status (Script script.NoMemory) = 4
 stop_status (Script fault) = 1
 stop_status JournalFull = 1
+stop_status (Audit audit.NoMemory) = 4
+stop_status (Audit fault) = 1
 stop_status Read = 3
 stop_status Write = 3
 stop_status NoMemory = 4
@@ -100,16 +120,27 @@ abbrev pub script_stop : ScriptFault → Stop
 script_stop script.NoMemory = NoMemory
 script_stop fault = Script fault
 
+-- the stop for an audit that is refused
+abbrev pub audit_stop : AuditFault → Stop
+audit_stop audit.NoMemory = NoMemory
+audit_stop fault = Audit fault
+
 -- a fact for the fault of a cluster file; none for other stops
 abbrev pub IfConfigFault : Stop → (ConfigFault → Type 0) → Type 0
 IfConfigFault (Config fault) P = P fault
 IfConfigFault _ P = Unit {0}
+
+-- a fact for the fault of an audit; none for other stops
+abbrev pub IfAuditFault : Stop → (AuditFault → Type 0) → Type 0
+IfAuditFault (Audit fault) P = P fault
+IfAuditFault _ P = Unit {0}
 
 -- a stop of judge's own, or of any command
 abbrev pub OfJudge : Stop → Type 0
 OfJudge (Config fault) = ⊥
 OfJudge (Script fault) = ⊥
 OfJudge JournalFull = ⊥
+OfJudge (Audit fault) = ⊥
 OfJudge _ = Unit {0}
 
 -- a stop of run's own once its cluster file is read, or of any command
@@ -117,7 +148,16 @@ abbrev pub OfRun : Stop → Type 0
 OfRun JudgeTooLong = ⊥
 OfRun (JudgeLine line fault) = ⊥
 OfRun (Config fault) = ⊥
+OfRun (Audit fault) = ⊥
 OfRun _ = Unit {0}
+
+-- a stop of check's own once its cluster file is read, or of any command
+abbrev pub OfCheck : Stop → Type 0
+OfCheck (Audit fault) = Unit {0}
+OfCheck Read = Unit {0}
+OfCheck Write = Unit {0}
+OfCheck NoMemory = Unit {0}
+OfCheck _ = ⊥
 
 -- a stop of a cluster file that is read
 abbrev pub OfConfig : Stop → Type 0

@@ -2,6 +2,7 @@
 #![tactic(auto)]
 
 mod audit;
+mod check;
 #[cfg(test)]
 mod ends;
 mod judge;
@@ -11,7 +12,11 @@ mod stop;
 mod task;
 #[cfg(test)]
 mod tests;
+#[cfg(test)]
+mod worked;
 
+use check::run_check;
+use fy_cluster::Config;
 use judge::run_judge;
 use load::load_config;
 use run::run_script;
@@ -24,6 +29,9 @@ use task::{Task, read_task};
 /// The status of a program whose words are no command.
 const USAGE: u8 = 2;
 
+/// The status of `check` where an entry isn't what the rules give.
+const REFUTED: u8 = 5;
+
 fn main(rt: HostRuntime) -> ExitCode {
     let words = match arguments(&rt) {
         Ok(words) => words,
@@ -32,25 +40,40 @@ fn main(rt: HostRuntime) -> ExitCode {
     let done = match read_task(rt.alloc(), words.as_slice()) {
         Ok(Task::Judge) => run_judge(rt.alloc(), &mut rt.stdin(), &mut rt.stdout()),
         Ok(Task::Run(path)) => run_file(&rt, path),
+        Ok(Task::Check(path)) => check_file(&rt, path),
         Err(error) => return answered(&rt, &error),
     };
     match done {
-        Ok(_) => ExitCode::SUCCESS,
+        Ok(true) => ExitCode::SUCCESS,
+        Ok(false) => ExitCode::from(REFUTED),
         Err(stop) => stopped(&rt, stop),
     }
 }
 
 /// Runs the script on standard input on the cluster of a file.
 fn run_file(rt: &HostRuntime, path: &str) -> Result<bool, Stop> {
+    match open_config(rt, path) {
+        Ok(config) => run_script(rt.alloc(), &config, &mut rt.stdin(), &mut rt.stdout()),
+        Err(stop) => Err(stop),
+    }
+}
+
+/// Checks the audit on standard input against the cluster of a file.
+fn check_file(rt: &HostRuntime, path: &str) -> Result<bool, Stop> {
+    match open_config(rt, path) {
+        Ok(config) => run_check(rt.alloc(), &config, &mut rt.stdin(), &mut rt.stdout()),
+        Err(stop) => Err(stop),
+    }
+}
+
+/// The configuration of a cluster file by its path.
+fn open_config(rt: &HostRuntime, path: &str) -> Result<Config, Stop> {
     let mut file = match fs::open(rt, path) {
         Ok(file) => file,
         Err(error) if error.kind() == ErrorKind::OutOfMemory => return Err(Stop::NoMemory),
         Err(_) => return Err(Stop::Read),
     };
-    match load_config(rt.alloc(), &mut file) {
-        Ok(config) => run_script(rt.alloc(), &config, &mut rt.stdin(), &mut rt.stdout()),
-        Err(stop) => Err(stop),
-    }
+    load_config(rt.alloc(), &mut file)
 }
 
 /// The words of the command line, the program's name first, or the status to end with.

@@ -3,10 +3,10 @@
 ghost use Rattle.std.specs.Prelude.{◌≡◌, ◌++◌, OnOk, OnErr, IfErr, codes};
 ghost use Rattle.std.specs.Io.KnownBytes.{Appends};
 ghost use Rattle.fy_lines.specs.Fronts.{StopsShort};
-ghost use Rattle.faultyard.specs.Stops.{fault_word, line_word, part_word, worded, numbered, config_text, script_text, stop_text, stop_status};
+ghost use Rattle.faultyard.specs.Stops.{fault_word, line_word, audit_line_word, part_word, worded, numbered, config_text, script_text, audit_fault_text, stop_text, stop_status};
 ghost use Rattle.faultyard.specs.declared.stop.Stop.TheVariants.{Write as write_fault};
 
-use fy_audit::{LineFault, ScriptFault};
+use fy_audit::{AuditFault, AuditLineFault, LineFault, ScriptFault};
 use fy_config::{ConfigFault, Part};
 use fy_lines::{OutputFault, write_bytes, write_parts};
 use std::alloc::AllocError;
@@ -43,6 +43,8 @@ pub enum Stop {
     Script { fault: ScriptFault },
     /// The script has more lines than the journal may have entries.
     JournalFull,
+    /// The audit is refused.
+    Audit { fault: AuditFault },
     /// A call of `read` failed, or the cluster file can't be opened.
     Read,
     /// A call of `write` failed, or took no byte.
@@ -99,9 +101,13 @@ impl Stop {
             Stop::Script {
                 fault: ScriptFault::NoMemory,
             } => 4,
+            Stop::Audit {
+                fault: AuditFault::NoMemory,
+            } => 4,
             Stop::Read | Stop::Write => 3,
             Stop::JudgeTooLong | Stop::JudgeLine { .. } => 1,
             Stop::Config { .. } | Stop::Script { .. } | Stop::JournalFull => 1,
+            Stop::Audit { .. } => 1,
         }
     }
 }
@@ -143,7 +149,7 @@ fn write_worded<W: Write>(writer: &mut W, head: &str, word: &str) -> Result<(), 
 }
 
 /// Writes a line with a number in it.
-fn write_numbered<W: Write>(
+pub fn write_numbered<W: Write>(
     writer: &mut W,
     head: &str,
     number: u64,
@@ -230,6 +236,38 @@ fn write_script_fault<W: Write>(fault: ScriptFault, writer: &mut W) -> Result<()
     }
 }
 
+/// What follows the line's number in the fault line: the fault's word, and the line feed.
+fn audit_line_ending(fault: AuditLineFault) -> &'static str
+    ensures { result.now ≡ codes ": " ++ audit_line_word fault ++ codes "\n" }
+{
+    match fault {
+        AuditLineFault::Header => ": Header\n",
+        AuditLineFault::TooLong => ": TooLong\n",
+        AuditLineFault::Syntax => ": Syntax\n",
+    }
+}
+
+/// Writes the line for an audit that is refused.
+fn write_audit_fault<W: Write>(fault: AuditFault, writer: &mut W) -> Result<(), OutputFault>
+    ensures ok { OnOk result
+        (Appends (W.contents writer.old) (W.contents writer.new) (audit_fault_text fault)) }
+    ensures err { OnErr result
+        (StopsShort (W.contents writer.old) (W.contents writer.new) (audit_fault_text fault)) }
+{
+    match fault {
+        AuditFault::TooLong => write_bytes(writer, b"audit: TooLong\n"),
+        AuditFault::Line { number, fault } => {
+            write_numbered(
+                writer,
+                "audit: line ",
+                number as u64,
+                audit_line_ending(fault),
+            )
+        }
+        AuditFault::NoMemory => write_bytes(writer, b"no memory\n"),
+    }
+}
+
 /// Writes the stop's fault line with its line feed. It takes no memory.
 ///
 /// # Errors
@@ -251,6 +289,7 @@ pub fn write_stop<W: Write>(stop: &Stop, writer: &mut W) -> Result<(), Stop>
         Stop::Config { fault } => write_config_fault(fault, writer)?,
         Stop::Script { fault } => write_script_fault(fault, writer)?,
         Stop::JournalFull => write_bytes(writer, b"script: JournalFull\n")?,
+        Stop::Audit { fault } => write_audit_fault(fault, writer)?,
         Stop::Read => write_bytes(writer, b"read fault\n")?,
         Stop::Write => write_bytes(writer, b"write fault\n")?,
         Stop::NoMemory => write_bytes(writer, b"no memory\n")?,

@@ -1,11 +1,12 @@
 //! The program's command line.
 
 ghost use Rattle.std.specs.Prelude.{◌≡◌, IfOk, Some, codes, is_some, map};
-ghost use Rattle.std.specs.Prelude.{string_bytes, true};
+ghost use Rattle.std.specs.Prelude.{string_bytes, true, false};
 ghost use Rattle.clap.specs.Words.{FailsBy, app_of, fault_of, first_of, found_of, rows_of};
 ghost use Rattle.clap.specs.Words.{subcommand_of};
+ghost use Rattle.clap.specs.Walk.{rule_of};
 ghost use Rattle.faultyard.specs.Commands.{IsTaskOf, faultyard_command, judge_command};
-ghost use Rattle.faultyard.specs.Commands.{run_command};
+ghost use Rattle.faultyard.specs.Commands.{config_rule, run_command, check_command};
 
 use clap::{Arg, ArgAction, ArgMatches, Command};
 use std::alloc::{AllocError, Global};
@@ -13,7 +14,8 @@ use std::alloc::{AllocError, Global};
 /// Lines to paste, which the help of the program ends with.
 const EXAMPLES: &str = "Examples:
   faultyard judge < examples/c6.judge
-  faultyard run examples/c6.toml < examples/two-zones.jsonl";
+  faultyard run examples/c6.toml < examples/two-zones.jsonl
+  faultyard check examples/c6.toml < examples/two-zones.audit";
 
 /// What the program is asked to do.
 #[derive(Clone, Copy, Debug, PartialEq, Eq)]
@@ -22,6 +24,8 @@ pub enum Task<'a> {
     Judge,
     /// `faultyard run CONFIG`: run the script on standard input on the cluster of a file.
     Run(&'a str),
+    /// `faultyard check CONFIG`: check the audit on standard input against the cluster of a file.
+    Check(&'a str),
 }
 
 /// The subcommand `judge`, with its help.
@@ -33,18 +37,35 @@ fn judge<'a>(alloc: Global) -> Command<'a>
         .after_help("Example:\n  faultyard judge < examples/c6.judge")
 }
 
+/// The word that names a cluster file.
+fn config<'a>(alloc: Global) -> Arg<'a>
+    ensures rule { rule_of result ≡ config_rule }
+    ensures own { result.global ≡ false }
+{
+    Arg::new(alloc, "CONFIG")
+        .required(true)
+        .action(ArgAction::Set)
+        .help("The cluster file")
+}
+
 /// The subcommand `run`, with its help.
 fn run<'a>(alloc: Global) -> Result<Command<'a>, AllocError>
     ensures { IfOk result (λ command. app_of command ≡ run_command) }
 {
-    let config = Arg::new(alloc, "CONFIG")
-        .required(true)
-        .action(ArgAction::Set)
-        .help("The cluster file");
     Command::new(alloc, "run")
         .about("Runs the script on standard input on the cluster of a file, and writes the audit")
         .after_help("Example:\n  faultyard run examples/c6.toml < examples/two-zones.jsonl")
-        .arg(config)
+        .arg(config(alloc))
+}
+
+/// The subcommand `check`, with its help.
+fn check<'a>(alloc: Global) -> Result<Command<'a>, AllocError>
+    ensures { IfOk result (λ command. app_of command ≡ check_command) }
+{
+    Command::new(alloc, "check")
+        .about("Checks the audit on standard input: is each reply what the rules give?")
+        .after_help("Example:\n  faultyard check examples/c6.toml < examples/two-zones.audit")
+        .arg(config(alloc))
 }
 
 /// The command line of `faultyard`: one subcommand is wanted, and each has help of its own.
@@ -59,7 +80,8 @@ fn faultyard<'a>(alloc: Global) -> Result<Command<'a>, AllocError>
         .version("0.1.0")
         .subcommand_required(true)
         .subcommand(judge(alloc))?
-        .subcommand(run(alloc)?)
+        .subcommand(run(alloc)?)?
+        .subcommand(check(alloc)?)
 }
 
 /// The task that the words ask for; the first word is the program's name.
@@ -80,6 +102,7 @@ pub fn read_task<'a>(alloc: Global, words: &'a [String]) -> Result<Task<'a>, cla
     match name {
         "judge" => Ok(Task::Judge),
         "run" => Ok(Task::Run(config_of(given))),
+        "check" => Ok(Task::Check(config_of(given))),
         _ => unreachable!(),
     }
 }

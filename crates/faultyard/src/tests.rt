@@ -2,7 +2,7 @@
 use crate::stop::{JudgeFault, Stop, write_stop};
 use crate::task::{Task, read_task};
 use clap::error::ErrorKind;
-use fy_audit::{LineFault, ScriptFault};
+use fy_audit::{AuditFault, AuditLineFault, LineFault, ScriptFault};
 use fy_config::{ConfigFault, Part};
 use std::alloc::Global;
 use std::test::Fail;
@@ -29,6 +29,14 @@ fn script(fault: ScriptFault) -> Stop {
 
 fn script_line(number: u32, fault: LineFault) -> Stop {
     script(ScriptFault::Line { number, fault })
+}
+
+fn audit(fault: AuditFault) -> Stop {
+    Stop::Audit { fault }
+}
+
+fn audit_line(number: u32, fault: AuditLineFault) -> Stop {
+    audit(AuditFault::Line { number, fault })
 }
 
 #[test]
@@ -118,6 +126,23 @@ fn writes_each_fault_line(rt: HostRuntime) -> Result<(), Fail> {
         ),
         (script(ScriptFault::NoMemory), "no memory\n", 4),
         (Stop::JournalFull, "script: JournalFull\n", 1),
+        (audit(AuditFault::TooLong), "audit: TooLong\n", 1),
+        (
+            audit_line(1, AuditLineFault::Header),
+            "audit: line 1: Header\n",
+            1,
+        ),
+        (
+            audit_line(2, AuditLineFault::TooLong),
+            "audit: line 2: TooLong\n",
+            1,
+        ),
+        (
+            audit_line(1048577, AuditLineFault::Syntax),
+            "audit: line 1048577: Syntax\n",
+            1,
+        ),
+        (audit(AuditFault::NoMemory), "no memory\n", 4),
         (Stop::Read, "read fault\n", 3),
         (Stop::Write, "write fault\n", 3),
         (Stop::NoMemory, "no memory\n", 4),
@@ -154,7 +179,15 @@ fn reads_the_task(rt: HostRuntime) -> Result<(), Fail> {
         ("faultyard", Err(ErrorKind::MissingSubcommand)),
         ("faultyard --", Err(ErrorKind::MissingSubcommand)),
         ("faultyard -- judge", Err(ErrorKind::UnknownArgument)),
-        ("faultyard check c6", Err(ErrorKind::InvalidSubcommand)),
+        ("faultyard check c6", Ok(Task::Check("c6"))),
+        ("faultyard check run", Ok(Task::Check("run"))),
+        ("faultyard check", Err(ErrorKind::MissingRequiredArgument)),
+        ("faultyard check a b", Err(ErrorKind::UnknownArgument)),
+        ("faultyard check --help", Err(ErrorKind::DisplayHelp)),
+        (
+            "faultyard swarm c6 --seed 7",
+            Err(ErrorKind::InvalidSubcommand),
+        ),
         ("faultyard judge c6", Err(ErrorKind::UnknownArgument)),
         ("faultyard judge a b c", Err(ErrorKind::UnknownArgument)),
         ("faultyard run", Err(ErrorKind::MissingRequiredArgument)),

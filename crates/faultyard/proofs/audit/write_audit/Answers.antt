@@ -1,4 +1,4 @@
-use Rattle.std.proofs.Common.{◌≡◌, ◌∙◌, ◌++◌, ◌+◌, ℕ, List, drop, sym, ap, subst}
+use Rattle.std.proofs.Common.{◌∙◌, ◌++◌, ◌+◌, drop, sym, ap, subst}
 use Rattle.std.specs.List.{flat_map}
 use Rattle.fy_lines.specs.Fronts.{StopsShort}
 use Rattle.fy_audit.specs.AuditText.{entry_line, audit_text}

@@ -1,7 +1,7 @@
-use Rattle.std.proofs.Common.{◌≡◌, Ok, Err, sym, subst}
+use Rattle.std.proofs.Common.{Ok, Err, sym, subst}
 use Rattle.std.specs.Prelude.{IfSome}
 use Rattle.fy_config.specs.Config.{ConfigOf, UnlessMemory}
-use Rattle.faultyard.specs.Stops.{config_stop, IfConfigFault}
+use Rattle.faultyard.specs.Stops.{IfConfigFault}
 use Rattle.faultyard.proofs.Loading.{if_known, fault_told}
 use Rattle.faultyard.proofs.load.load_config.Goals as goal
 

@@ -1,13 +1,8 @@
-use Rattle.std.proofs.Common.{◌≡◌, ◌≢◌, ◌⊎◌, ◌∙◌, ◌+◌, ◌≤◌, ◌<◌, inl, inr, ℕ, List, Err, length, arith, refl, sym, ap, subst, rules}
+use Rattle.std.proofs.Common.{inl, inr, Err, arith, sym, subst}
 use Rattle.std.specs.Prelude.{IfSome}
 use Rattle.std.specs.Io.KnownBytes.{Appends}
 use Rattle.fy_lines.specs.Fronts.{StopsShort}
-use Rattle.fy_audit.specs.AuditText.{audit_text}
-use Rattle.fy_audit.specs.declared.version.Version.TheVariants.{Second}
-use Rattle.fy_cluster.specs.Setup.{Setup}
 use Rattle.faultyard.specs.RunTexts.{Runs, IfRunRefusal}
-use Rattle.faultyard.specs.declared.stop.Stop.{Stop}
-use Rattle.faultyard.specs.declared.stop.Stop.TheVariants.{JournalFull, NoMemory}
 use Rattle.faultyard.proofs.Acting.{has_written, is_refused, is_full}
 use Rattle.faultyard.proofs.run.run_script.Goals as goal
 

@@ -1,4 +1,4 @@
-use Rattle.std.proofs.Common.{◌≡◌, ◌∙◌, ◌++◌, OnOk, OnErr, codes, sym, ap, subst}
+use Rattle.std.proofs.Common.{◌∙◌, OnOk, OnErr, codes, sym, ap, subst}
 use Rattle.std.specs.Io.KnownBytes.{Appends}
 use Rattle.fy_lines.specs.Fronts.{StopsShort}
 use Rattle.faultyard.specs.Stops.{worded, numbered, config_text}

@@ -1,6 +1,5 @@
-use Rattle.std.proofs.Common.{◌≡◌, ◌∙◌, ◌++◌, OnOk, OnErr, codes, sym, ap, subst}
+use Rattle.std.proofs.Common.{◌∙◌, OnOk, codes, sym, ap, subst}
 use Rattle.std.specs.Io.KnownBytes.{Appends}
-use Rattle.fy_lines.specs.Fronts.{StopsShort}
 use Rattle.faultyard.specs.Stops.{numbered, script_text}
 use Rattle.faultyard.proofs.stop.write_script_fault.Goals as goal
 

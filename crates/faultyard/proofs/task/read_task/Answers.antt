@@ -9,6 +9,14 @@ returns-in-judge-clause-refused c = faultless _ (map string_bytes c.args.words.n
 pub returns-in-run-clause-refused : goal.returns-in-run-clause-refused
 returns-in-run-clause-refused c = faultless _ (map string_bytes c.args.words.now) c.in_ok-faultyard.ensures c.in_ok-matches.ensures.kinds
 
+pub returns-in-check-clause-refused : goal.returns-in-check-clause-refused
+returns-in-check-clause-refused c = faultless _ (map string_bytes c.args.words.now) c.in_ok-faultyard.ensures c.in_ok-matches.ensures.kinds
+
+pub config_of-requires-in-check : goal.config_of-requires-in-check
+config_of-requires-in-check c = has_config c.in-Some.name.now c.in-Some.given.now c.in-check.not-judge
+    (met_task _ (map string_bytes c.args.words.now) c.in_ok-matches.matches c.in-Some.name.now c.in-Some.given.now c.in_ok-faultyard.ensures
+    c.in_ok-matches.ensures.kinds c.in_ok-matches.ensures.matches c.in-Some.ensures.name c.in-Some.ensures.rows)
+
 pub config_of-requires : goal.config_of-requires
 config_of-requires c = has_config c.in-Some.name.now c.in-Some.given.now c.in-run.not-judge
     (met_task _ (map string_bytes c.args.words.now) c.in_ok-matches.matches c.in-Some.name.now c.in-Some.given.now c.in_ok-faultyard.ensures
@@ -20,5 +28,8 @@ unreachable-requires-in_default-name c =
     c.in_ok-matches.ensures.kinds c.in_ok-matches.ensures.matches c.in-Some.ensures.name c.in-Some.ensures.rows in
     elim task [
       | inl judge ↦ absurd (c.in_default-name.not-judge judge)
-      | inr run ↦ absurd (c.in_default-name.not-run run.0)
+      | inr has ↦ elim has.0 [
+        | inl run ↦ absurd (c.in_default-name.not-run run)
+        | inr check ↦ absurd (c.in_default-name.not-check check)
+      ]
     ]
