@@ -4,7 +4,7 @@ use super::*;
 use fy_disk::Payload;
 use fy_locality::ProcId;
 use fy_team::Members;
-use std::alloc::Global;
+use std::alloc::{AllocError, Global};
 use std::test::Fail;
 
 const P0: ProcId = ProcId(0);
@@ -79,8 +79,8 @@ fn a_journal_keeps_its_version(rt: HostRuntime) -> Result<(), Fail> {
 fn entries_are_numbered_by_place(rt: HostRuntime) -> Result<(), Fail> {
     let alloc = rt.alloc();
     let mut journal = Journal::make(alloc);
-    let forming = form(alloc, &[P0, P2]).ok_or("no form")?;
-    let beginning = begin(alloc, b"hi").ok_or("no begin")?;
+    let forming = form(alloc, &[P0, P2]).ok_or(AllocError)?;
+    let beginning = begin(alloc, b"hi").ok_or(AllocError)?;
     journal.reserve(2)?;
     journal.push(0, forming, Reply::Formed { team: 4 });
     journal.push(1, beginning, Reply::Begun { rec: 0, first: 0 });
@@ -108,19 +108,28 @@ fn a_journal_takes_a_hundred_thousand_entries(rt: HostRuntime) -> Result<(), Fai
     Ok(())
 }
 
+/// The commands of a script that is one.
+fn commands_of(alloc: Global, script: &[u8]) -> Result<Vec<Command>, Fail> {
+    match read_script(alloc, script) {
+        Ok(commands) => Ok(commands),
+        Err(ScriptFault::NoMemory) => Err(Fail::from(AllocError)),
+        Err(_) => Err(Fail::from("no script")),
+    }
+}
+
 #[test]
 fn scripts_are_read_line_by_line(rt: HostRuntime) -> Result<(), Fail> {
     let alloc = rt.alloc();
     // The second line has blanks and members in another order, and lacks its line feed.
     let script = b"{\"by\":7,\"act\":{\"lose\":{\"message\":5}}}\n\
         { \"act\" : {\"up\": {\"process\": 2}}, \"by\" : 0 }";
-    let commands = read_script(alloc, script).map_err(|_| Fail::from("no script"))?;
+    let commands = commands_of(alloc, script)?;
     let [first, second] = commands.as_slice() else {
         return Err(Fail::from("two commands"));
     };
     assert!(rt; first.by == 7 && first.act == Act::Lose { message: 5 });
     assert!(rt; second.by == 0 && second.act == Act::Up { process: P2 });
-    let none = read_script(alloc, b"").map_err(|_| Fail::from("no script"))?;
+    let none = commands_of(alloc, b"")?;
     assert_eq!(rt; none.len(), 0);
     Ok(())
 }
