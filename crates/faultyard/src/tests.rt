@@ -148,7 +148,7 @@ fn writes_each_fault_line(rt: HostRuntime) -> Result<(), Fail> {
         (Stop::NoMemory, "no memory\n", 4),
     ];
     for (stop, want, status) in cases {
-        let mut written: Vec<u8> = Vec::new(rt.alloc());
+        let mut written: Vec<u8> = Vec::with_capacity(rt.alloc(), 1024)?;
         let done = write_stop(&stop, &mut written);
         assert_eq!(rt; done, Ok(()), "{want}");
         assert_eq!(rt; written.as_slice(), want.as_bytes(), "{want}");

@@ -1,7 +1,8 @@
 //! A cluster, a script and its audit, for tests of the engines.
 use crate::load::load_config;
+use crate::stop::Stop;
 use fy_cluster::Config;
-use std::alloc::Global;
+use std::alloc::{AllocError, Global};
 use std::test::Fail;
 
 /// Two copies in two of three zones; actor 0 stores, actor 1 has every grant.
@@ -36,5 +37,9 @@ pub const AUDIT: &str = r#"{"audit":2}
 
 /// The cluster of six.
 pub fn six(alloc: Global) -> Result<Config, Fail> {
-    load_config(alloc, &mut SIX.as_bytes()).map_err(|_| Fail::from("no configuration"))
+    match load_config(alloc, &mut SIX.as_bytes()) {
+        Ok(config) => Ok(config),
+        Err(Stop::NoMemory) => Err(Fail::from(AllocError)),
+        Err(_) => Err(Fail::from("no configuration")),
+    }
 }

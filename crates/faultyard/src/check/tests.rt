@@ -16,7 +16,7 @@ const REFUTED: &str = r#"{"audit":2}
 /// What is said of an audit, and how it ends.
 fn checked(alloc: Global, audit: &[u8]) -> Result<(Result<bool, Stop>, Vec<u8>), Fail> {
     let config = six(alloc)?;
-    let mut written: Vec<u8> = Vec::new(alloc);
+    let mut written: Vec<u8> = Vec::with_capacity(alloc, 1024)?;
     let mut reader = audit;
     let done = run_check(alloc, &config, &mut reader, &mut written);
     Ok((done, written))
@@ -86,7 +86,7 @@ fn stops_where_the_reader_or_the_writer_fails(rt: HostRuntime) -> Result<(), Fai
             calls: 0,
             fails_at,
         };
-        let mut written: Vec<u8> = Vec::new(rt.alloc());
+        let mut written: Vec<u8> = Vec::with_capacity(rt.alloc(), 1024)?;
         let done = run_check(rt.alloc(), &config, &mut reader, &mut written);
         assert_eq!(rt; done, Err(Stop::Read), "{fails_at}");
         assert_eq!(rt; reader.calls, fails_at + 1, "{fails_at}");

@@ -26,7 +26,7 @@ fn answers_the_worked_examples(rt: HostRuntime) -> Result<(), Fail> {
     for (cluster, asks, want) in cases {
         let mut input = String::from_str(rt.alloc(), cluster)?;
         input.push_str(asks)?;
-        let mut written: Vec<u8> = Vec::new(rt.alloc());
+        let mut written: Vec<u8> = Vec::with_capacity(rt.alloc(), 1024)?;
         let done = run_judge(rt.alloc(), &mut input.as_bytes(), &mut written);
         assert_eq!(rt; done, Ok(true), "{asks}");
         assert_eq!(rt; written.as_slice(), want.as_bytes(), "{asks}");
@@ -45,7 +45,7 @@ fn writes_nothing_for_a_refused_input(rt: HostRuntime) -> Result<(), Fail> {
     for (more, line, fault) in cases {
         let mut input = String::from_str(rt.alloc(), CLUSTER)?;
         input.push_str(more)?;
-        let mut written: Vec<u8> = Vec::new(rt.alloc());
+        let mut written: Vec<u8> = Vec::with_capacity(rt.alloc(), 1024)?;
         let done = run_judge(rt.alloc(), &mut input.as_bytes(), &mut written);
         assert_eq!(rt; done, Err(Stop::JudgeLine { line, fault }), "{more}");
         assert_eq!(rt; written.len(), 0, "{more}");
@@ -63,7 +63,7 @@ fn stops_where_the_reader_or_the_writer_fails(rt: HostRuntime) -> Result<(), Fai
             calls: 0,
             fails_at,
         };
-        let mut written: Vec<u8> = Vec::new(rt.alloc());
+        let mut written: Vec<u8> = Vec::with_capacity(rt.alloc(), 1024)?;
         let done = run_judge(rt.alloc(), &mut reader, &mut written);
         assert_eq!(rt; done, Err(Stop::Read), "{fails_at}");
         assert_eq!(rt; reader.calls, fails_at + 1, "{fails_at}");
@@ -102,7 +102,7 @@ fn reads_no_further_once_it_is_at_the_end(rt: HostRuntime) -> Result<(), Fail> {
             calls: 0,
             fails_at: usize::MAX,
         };
-        let mut written: Vec<u8> = Vec::new(rt.alloc());
+        let mut written: Vec<u8> = Vec::with_capacity(rt.alloc(), 1024)?;
         let done = run_judge(rt.alloc(), &mut reader, &mut written);
         assert_eq!(rt; done, want, "{asks}");
         // A call for each byte, and one that finds the end.

@@ -12,7 +12,7 @@ use std::test::Fail;
 /// What a script writes, and how it ends.
 fn ran(alloc: Global, script: &str) -> Result<(Result<bool, Stop>, Vec<u8>), Fail> {
     let config = six(alloc)?;
-    let mut written: Vec<u8> = Vec::new(alloc);
+    let mut written: Vec<u8> = Vec::with_capacity(alloc, 1024)?;
     let done = run_script(alloc, &config, &mut script.as_bytes(), &mut written);
     Ok((done, written))
 }
@@ -65,7 +65,7 @@ fn stops_where_the_reader_or_the_writer_fails(rt: HostRuntime) -> Result<(), Fai
             calls: 0,
             fails_at,
         };
-        let mut written: Vec<u8> = Vec::new(rt.alloc());
+        let mut written: Vec<u8> = Vec::with_capacity(rt.alloc(), 1024)?;
         let done = run_script(rt.alloc(), &config, &mut reader, &mut written);
         assert_eq!(rt; done, Err(Stop::Read), "{fails_at}");
         assert_eq!(rt; reader.calls, fails_at + 1, "{fails_at}");
