@@ -49,6 +49,7 @@ bench: build
 	bench/check.py --largest --rounds 1 bin/faultyard $(BESIDE)
 	bench/verdicts.sh
 	bench/acts.sh
+	bench/turns.sh
 	bench/needs.sh
 	bench/configs.sh
 
