@@ -4,8 +4,8 @@
 #   make run              builds the program without its proofs, asks it about examples/c6.judge (yes, yes, no, gone), has it kill two zones and check the audit
 #   make test             all that CI runs: every proof, test and must-fail edit, then the command-line cases
 #   make install          puts the program into $(PREFIX)/bin; by default PREFIX is /usr/local
-#   make bench            times the program on generated inputs, beside another if BESIDE is its path; and verdicts, acts
-#                         and cluster files by programs of their own
+#   make bench            times the program on generated inputs, beside another if BESIDE is its path; and verdicts, acts,
+#                         turns and cluster files by programs of their own
 #   make clean            removes what was built, and what earlier checks kept
 
 PREFIX ?= /usr/local
