@@ -608,6 +608,53 @@ module _ (processes : List Locality) (at : ℕ → ℕ) (s : ℕ → Bool) (p : 
             across-turned-by processes at g node wanted key places counts inner is (turned s p comes) count'
             (same _ _ _ _ _ (change (small-count _ _ _ now-count (passing-le processes key (tree_of_node inner.value) _) few) (room _ _ _ _ sum)) sum)
 
+    -- the count changes by one at most
+    pub out-of-reach-alone : ValuesDiffer → ValuesOccur → (comes ≡ true → count + 1 < wanted) → (comes ≡ false → wanted + 1 ≤ count)
+        → not comes ≡ satisfies processes (tree_of_node node) (within processes at g (turned s p comes))
+    out-of-reach-alone differ occur more less = go (is_some (value_of processes key p)) refl
+      where
+        tree : Tree
+        tree = tree_of_node inner.value
+
+        before : Bool
+        before = satisfies processes tree (within processes (place_in places.items) (place_in places.items p) s)
+
+        after : Bool
+        after = satisfies processes tree (within processes (place_in places.items) (place_in places.items p) (turned s p comes))
+
+        stays : (comes : Bool) (c w : ℕ) (b a : Bool) → (comes ≡ true → c + 1 < w) → (comes ≡ false → w + 1 ≤ c) → not comes ≡ leb w (c + cond a 1 0 - cond b 1 0)
+        stays true c w b a more less = low c w b a (more refl)
+          where
+            low : (c w : ℕ) (b a : Bool) → c + 1 < w → false ≡ leb w (c + cond a 1 0 - cond b 1 0)
+            low c w true true h = grind (arith, nat_tests)
+            low c w true false h = grind (arith, nat_tests)
+            low c w false true h = grind (arith, nat_tests)
+            low c w false false h = grind (arith, nat_tests)
+        stays false c w b a more less = high c w b a (less refl)
+          where
+            high : (c w : ℕ) (b a : Bool) → w + 1 ≤ c → true ≡ leb w (c + cond a 1 0 - cond b 1 0)
+            high c w true true h = grind (arith, nat_tests)
+            high c w true false h = grind (arith, nat_tests)
+            high c w false true h = grind (arith, nat_tests)
+            high c w false false h = grind (arith, nat_tests)
+
+        still : (comes : Bool) (c w : ℕ) → (comes ≡ true → c + 1 < w) → (comes ≡ false → w + 1 ≤ c) → not comes ≡ leb w c
+        still true c w more less = low c w (more refl)
+          where
+            low : (c w : ℕ) → c + 1 < w → false ≡ leb w c
+            low c w h = grind (arith, nat_tests)
+        still false c w more less = high c w (less refl)
+          where
+            high : (c w : ℕ) → w + 1 ≤ c → true ≡ leb w c
+            high c w h = grind (arith, nat_tests)
+
+        back : (c b a : ℕ) → b ≤ c + a → c + a - b + b ≡ c + a
+        back c b a h = omega arith
+
+        go : (some : Bool) → is_some (value_of processes key p) ≡ some → not comes ≡ satisfies processes (tree_of_node node) (within processes at g (turned s p comes))
+        go true some = stays comes count wanted before after more less ∙ keyed-alone differ occur some before after refl refl (count + cond after 1 0 - cond before 1 0) (λ _ room. back count (cond before 1 0) (cond after 1 0) room)
+        go false none = still comes count wanted more less ∙ keyless-alone none
+
 -- a set of one process
 pub only-one : (s : sets.FinSet nat_cmp) (p : ℕ) → sets.contains s p ≡ true → sets.len s ≡ 1 → (q : ℕ) → eqb q p ≡ sets.contains s q
 only-one s p there alone q = elim (cases_eq q p) [

@@ -126,7 +126,7 @@ fn met_turned(node: &Node, map: &Map, group: u32, those: &ProcSet, comes: bool) 
             laws::values_differ();
             laws::values_occur();
             let mut count = count_at(counts, group);
-            if is_out_of_reach(count, *wanted, those, comes) {
+            if is_out_of_reach(count, *wanted, those.len(), comes) {
                 return !comes;
             }
             let mut rest = *those;
@@ -166,6 +166,9 @@ fn met_alone(node: &Node, map: &Map, group: u32, p: ProcId, comes: bool) -> bool
             laws::values_differ();
             laws::values_occur();
             let count = count_at(counts, group);
+            if is_out_of_reach(count, *wanted, 1, comes) {
+                return !comes;
+            }
             let below = count_at(places, p.0);
             if has_key(map, p, *key) {
                 let before = met(inner, below);
@@ -200,16 +203,16 @@ fn some_after(count: u32, those: &ProcSet, comes: bool) -> bool
     }
 }
 
-/// Whether a count stays below what is wanted, however these come, or stays there, however they go:
-/// each of them changes the count by one at most.
-fn is_out_of_reach(count: u32, wanted: u32, those: &ProcSet, comes: bool) -> bool
-    ensures comes { IsTrue result → comes ≡ true → count + sets.len those.now < wanted }
-    ensures goes { IsTrue result → comes ≡ false → wanted + sets.len those.now ≤ count }
+/// Whether a count stays below what is wanted, however so many come, or stays there, however they
+/// go: each of them changes the count by one at most.
+fn is_out_of_reach(count: u32, wanted: u32, many: u32, comes: bool) -> bool
+    ensures comes { IsTrue result → comes ≡ true → count + many < wanted }
+    ensures goes { IsTrue result → comes ≡ false → wanted + many ≤ count }
 {
     if comes {
-        count.saturating_add(those.len()) < wanted
+        count.saturating_add(many) < wanted
     } else {
-        count >= those.len() && count - those.len() >= wanted
+        count >= many && count - many >= wanted
     }
 }
 

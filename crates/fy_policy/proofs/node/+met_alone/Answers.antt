@@ -2,7 +2,7 @@ use Rattle.std.proofs.Common.{◌≡◌, ◌≤◌, length, slice_index_or, sym,
 use Rattle.fy_policy.specs.Counted.{IsRight, tree_of_node, within, turned, place_in}
 use Rattle.fy_policy.specs.Sat.{satisfies}
 use Rattle.fy_policy.proofs.Standing.{both, and-yes, and-no, read-below, inner-right, place-fits}
-use Rattle.fy_policy.proofs.Turning.{one-alone, keyed-alone, keyless-alone, met-both-by}
+use Rattle.fy_policy.proofs.Turning.{one-alone, keyed-alone, keyless-alone, out-of-reach-alone, met-both-by}
 use Rattle.fy_policy.proofs.node.+met_alone.Goals as goal
 
 pub returns-in-One : goal.returns-in-One
@@ -44,3 +44,8 @@ returns-else-met_alone t c = λ at s few right small here inside was.
     and-no _ _ _
     (c.met_alone.ensures at s few (subst (IsRight c.args.map.now at s) (sym c.deref-in-Both.ensures) parts.0) small here inside was ∙ ap (λ n. satisfies c.args.map.now (tree_of_node n) (within c.args.map.now at c.args.group s')) c.deref-in-Both.ensures) c.if-met_alone.false
     ∙ sym (met-both-by c.args.map.now at c.args.group s' c.args.node.now c.in-Both.first c.in-Both.second c.in-Both.is)
+
+pub returns-then-is_out_of_reach : goal.returns-then-is_out_of_reach
+returns-then-is_out_of_reach t c = λ at s few right small here inside was.
+    out-of-reach-alone c.args.map.now at s c.args.p.0 c.args.comes c.args.group few small here inside was c.args.node.now c.in-Across.wanted c.in-Across.key c.in-Across.places c.in-Across.counts c.in-Across.inner c.in-Across.is right c.count_at-count.result (c.count_at-count.ensures ∙ ap (λ xs. slice_index_or xs c.args.group 0) c.deref-in-Across.ensures.value)
+    c.values_differ.ensures c.values_occur.ensures (c.is_out_of_reach.ensures.comes c.if-is_out_of_reach.true) (c.is_out_of_reach.ensures.goes c.if-is_out_of_reach.true)

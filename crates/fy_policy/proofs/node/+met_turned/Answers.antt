@@ -1,4 +1,4 @@
-use Rattle.std.proofs.Common.{◌<◌, slice_index_or, sym, ap, subst, ◌∙◌}
+use Rattle.std.proofs.Common.{◌+◌, ◌<◌, ◌≤◌, slice_index_or, sym, ap, subst, ◌∙◌}
 use Rattle.std.specs.FinSet as sets
 use Rattle.fy_policy.specs.Counted.{IsRight, tree_of_node, within, turned_by}
 use Rattle.fy_policy.specs.Sat.{satisfies}
@@ -72,4 +72,5 @@ pub returns-then-is_out_of_reach : goal.returns-then-is_out_of_reach
 returns-then-is_out_of_reach t c = λ at s few right inside can.
     out-of-reach c.args.map.now at s c.args.group c.args.node.now c.in-Across.wanted c.in-Across.key c.in-Across.places c.in-Across.counts c.in-Across.inner c.in-Across.is right c.values_differ.ensures c.values_occur.ensures inside
     c.args.those.now c.args.comes can c.count_at-count.result (c.count_at-count.ensures ∙ ap (λ xs. slice_index_or xs c.args.group 0) c.deref-in-Across.ensures.value)
-    (c.is_out_of_reach.ensures.comes c.if-is_out_of_reach.true) (c.is_out_of_reach.ensures.goes c.if-is_out_of_reach.true)
+    (λ e. subst (λ k. c.count_at-count.result + k < c.in-Across.wanted) c.len.ensures.count (c.is_out_of_reach.ensures.comes c.if-is_out_of_reach.true e))
+    (λ e. subst (λ k. c.in-Across.wanted + k ≤ c.count_at-count.result) c.len.ensures.count (c.is_out_of_reach.ensures.goes c.if-is_out_of_reach.true e))
