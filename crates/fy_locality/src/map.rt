@@ -196,14 +196,19 @@ impl Map {
     pub fn try_copy(&self, alloc: Global) -> Result<Map, AllocError>
         ensures { IfOk result (λ copy. copy ≡ self.now) }
     {
+        let processes = Vec::from_slice(alloc, &self.processes)?;
+        let places = Vec::from_slice(alloc, &self.places)?;
+        let centers = copied(&self.centers)?;
+        let ((ids, machines), (zones, halls)) =
+            four_copied(&self.ids, &self.machines, &self.zones, &self.halls)?;
         Ok(Map {
-            processes: Vec::from_slice(alloc, &self.processes)?,
-            ids: copied(&self.ids)?,
-            machines: copied(&self.machines)?,
-            zones: copied(&self.zones)?,
-            halls: copied(&self.halls)?,
-            centers: copied(&self.centers)?,
-            places: Vec::from_slice(alloc, &self.places)?,
+            processes,
+            ids,
+            machines,
+            zones,
+            halls,
+            centers,
+            places,
         })
     }
 
@@ -344,8 +349,46 @@ impl<T: Drop> From<AllocFailed<T>> for MapFault {
 fn copied(index: &IndexMap<Name, ProcSet>) -> Result<IndexMap<Name, ProcSet>, AllocError>
     ensures { IfOk result (λ copy. copy.entries ≡ index.now.entries) }
 {
-    let copy = index.clone()?;
-    Ok(copy)
+    index.clone()
+}
+
+/// Two copied indices.
+type Copies = (IndexMap<Name, ProcSet>, IndexMap<Name, ProcSet>);
+
+/// Two of them at once.
+///
+/// # Errors
+/// Want of memory.
+fn both_copied(
+    first: &IndexMap<Name, ProcSet>,
+    second: &IndexMap<Name, ProcSet>,
+) -> Result<Copies, AllocError>
+    ensures { IfOk result (λ copies. (copies.0.entries ≡ first.now.entries)
+        × (copies.1.entries ≡ second.now.entries)) }
+{
+    let first = copied(first)?;
+    let second = copied(second)?;
+    Ok((first, second))
+}
+
+/// Four of them at once, two by two.
+///
+/// # Errors
+/// Want of memory.
+fn four_copied(
+    first: &IndexMap<Name, ProcSet>,
+    second: &IndexMap<Name, ProcSet>,
+    third: &IndexMap<Name, ProcSet>,
+    fourth: &IndexMap<Name, ProcSet>,
+) -> Result<(Copies, Copies), AllocError>
+    ensures first { IfOk result (λ copies. (copies.0.0.entries ≡ first.now.entries)
+        × (copies.0.1.entries ≡ second.now.entries)) }
+    ensures second { IfOk result (λ copies. (copies.1.0.entries ≡ third.now.entries)
+        × (copies.1.1.entries ≡ fourth.now.entries)) }
+{
+    let first = both_copied(first, second)?;
+    let second = both_copied(third, fourth)?;
+    Ok((first, second))
 }
 
 /// The processes kept for a value.
