@@ -22,16 +22,16 @@ some_message = record { number = 0; body = Store 0 (record { 0 = 0 }) }
 
 -- ---- rising numbers
 
-rises_lower : (low lower : ℕ) (ms : List Message) → lower ≤ low → Rises low ms → Rises lower ms
+pub rises_lower : (low lower : ℕ) (ms : List Message) → lower ≤ low → Rises low ms → Rises lower ms
 rises_lower low lower [] le rising = tt
 rises_lower low lower (m ∷ ms) le rising = (omega arith, rising.1)
 
-rises_at : (low : ℕ) (ms : List Message) (k : ℕ) (d : Message) → Rises low ms → k < length ms → low ≤ (get_or ms k d).number
+pub rises_at : (low : ℕ) (ms : List Message) (k : ℕ) (d : Message) → Rises low ms → k < length ms → low ≤ (get_or ms k d).number
 rises_at low [] k d rising within = absurd (omega arith)
 rises_at low (m ∷ ms) zero d rising within = rising.0
 rises_at low (m ∷ ms) (suc k) d rising within = omega (arith, rising.0, rises_at (m.number + 1) ms k d rising.1 (omega arith))
 
-rises_between : (low : ℕ) (ms : List Message) (i j : ℕ) (d : Message) → Rises low ms → i < j → j < length ms → (get_or ms i d).number < (get_or ms j d).number
+pub rises_between : (low : ℕ) (ms : List Message) (i j : ℕ) (d : Message) → Rises low ms → i < j → j < length ms → (get_or ms i d).number < (get_or ms j d).number
 rises_between low [] i j d rising lt within = absurd (omega arith)
 rises_between low (m ∷ ms) i zero d rising lt within = absurd (omega arith)
 rises_between low (m ∷ ms) zero (suc j) d rising lt within = omega (arith, rises_at (m.number + 1) ms j d rising.1 (omega arith))
@@ -39,13 +39,13 @@ rises_between low (m ∷ ms) (suc i) (suc j) d rising lt within = rises_between 
 
 -- ---- where a message stands
 
-eqb_same : (a b : ℕ) → a ≡ b → eqb a b ≡ true
+pub eqb_same : (a b : ℕ) → a ≡ b → eqb a b ≡ true
 eqb_same a b e = grind (arith, nat_tests)
 
-eqb_other : (a b : ℕ) → a ≢ b → eqb a b ≡ false
+pub eqb_other : (a b : ℕ) → a ≢ b → eqb a b ≡ false
 eqb_other a b e = grind (arith, nat_tests)
 
-without_lower : (number low : ℕ) (ms : List Message) → number < low → Rises low ms → without number ms ≡ ms
+pub without_lower : (number low : ℕ) (ms : List Message) → number < low → Rises low ms → without number ms ≡ ms
 without_lower number low [] lt rising = refl
 without_lower number low (m ∷ ms) lt rising =
     let other : eqb m.number number ≡ false = eqb_other m.number number (λ same. omega (arith, rising.0)) in
@@ -110,7 +110,7 @@ first_free_is_least net up sound = first_is_least (is_free net up) 0 net.in_flig
 
 -- ---- messages that come and go
 
-rises_filtered : (p : Message → Bool) (low : ℕ) (ms : List Message) → Rises low ms → Rises low (filter p ms)
+pub rises_filtered : (p : Message → Bool) (low : ℕ) (ms : List Message) → Rises low ms → Rises low (filter p ms)
 rises_filtered p low [] rising = tt
 rises_filtered p low (m ∷ ms) rising =
     elim (p m) as (λ b. Rises low (cond b (m ∷ filter p ms) (filter p ms))) [
@@ -118,7 +118,7 @@ rises_filtered p low (m ∷ ms) rising =
       | false ↦ rises_lower (m.number + 1) low (filter p ms) (omega (arith, rising.0)) (rises_filtered p (m.number + 1) ms rising.1)
     ]
 
-rises_with_next : (low next : ℕ) (ms : List Message) (body : Body) → low ≤ next → Rises low ms → All (λ m. m.number < next) ms → Rises low (ms ++ record { number = next; body = body } ∷ [])
+pub rises_with_next : (low next : ℕ) (ms : List Message) (body : Body) → low ≤ next → Rises low ms → All (λ m. m.number < next) ms → Rises low (ms ++ record { number = next; body = body } ∷ [])
 rises_with_next low next [] body le rising past = (le, tt)
 rises_with_next low next (m ∷ ms) body le rising past =
     let here : m.number < next = All-head (λ (x : Message). x.number < next) m ms past in
@@ -155,3 +155,12 @@ sound_sent net body room known sound =
       countable = omega (arith, sound.countable);
       on_time = sound.on_time;
     }
+
+-- who is asked for by number is a process that is there
+pub known_by_number : (processes number : ℕ) (ms : List Message) → All (λ m. process_of m.body < processes) ms → IfSome (body_of ms number) (λ body. process_of body < processes)
+known_by_number processes number [] known = tt
+known_by_number processes number (m ∷ ms) known =
+    elim (eqb m.number number) as (λ b. IfSome (option_map (λ (x : Message). x.body) (cond b (Some m) (find (λ x. eqb x.number number) ms))) (λ body. process_of body < processes)) [
+      | true ↦ All-head (λ (x : Message). process_of x.body < processes) m ms known
+      | false ↦ known_by_number processes number ms (All-tail (λ (x : Message). process_of x.body < processes) m ms known)
+    ]

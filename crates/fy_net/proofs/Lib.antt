@@ -1,2 +1,4 @@
 pub mod Flights
+pub mod Keeping
 pub mod Numbers
+pub mod Slots

@@ -1,4 +1,6 @@
 pub mod Kept
 pub mod Net
 pub mod Numbers
+pub mod PlainlyKept
 pub mod Places
+pub mod Slots

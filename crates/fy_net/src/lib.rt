@@ -7,6 +7,8 @@ mod limits;
 mod message;
 mod net;
 mod places;
+pub mod plain;
+mod slot;
 #[cfg(test)]
 mod tests;
 

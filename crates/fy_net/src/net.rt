@@ -7,7 +7,8 @@ ghost use Rattle.fy_net.specs.declared.fault.NetFault.TheVariants.{NoMemory};
 ghost use Rattle.fy_net.specs.Net.{quiet, process_of, body_of, left_by, sent_on, voided, is_clogged, clogged_for, unclogged, is_free, first_free_of, reserve_refusal, take_refusal, lose_refusal, advance_refusal, NoneFreeBelow, IsTraffic};
 
 use crate::limits::{LAST_TICK, MOST_IN_FLIGHT};
-use crate::places::{first_free_among, lasts, place_of};
+use crate::places::lasts;
+use crate::slot::{Slot, first_free_there, place_there};
 use crate::{Body, Message, NetFault};
 use fy_locality::{ProcId, ProcSet};
 use std::alloc::Global;
@@ -17,7 +18,8 @@ use std::marker::Model;
 /// the time.
 #[derive(Drop)]
 pub struct Net {
-    messages: Vec<Message>,
+    slots: Vec<Slot>,
+    there: usize,
     sent: u64,
     clock: u64,
     until: Vec<u64>,
@@ -48,7 +50,8 @@ impl Net {
     {
         let until = vec![in alloc; 0; processes as usize]?;
         Ok(Net {
-            messages: Vec::new(alloc),
+            slots: Vec::new(alloc),
+            there: 0,
             sent: 0,
             clock: 0,
             until,
@@ -72,12 +75,22 @@ impl Net {
         ensures ok { OnOk result (self.new ≡ record self.old { room = max self.old.room count }) }
         ensures err { OnErr result (self.new ≡ self.old) }
     {
-        if count > MOST_IN_FLIGHT - self.messages.len() {
+        if count > MOST_IN_FLIGHT - self.there {
             return Err(NetFault::NetFull);
         }
-        self.messages.reserve(count)?;
+        if self.there < self.slots.len() / 2 {
+            self.clear_away();
+        }
+        self.slots.reserve(count)?;
         self.room = self.room.max(count);
         Ok(())
+    }
+
+    /// Clears away the slots of messages that have left.
+    fn clear_away(&mut self)
+        ensures { self.new ≡ self.old }
+    {
+        self.slots.retain(|slot| slot.there);
     }
 
     /// Sends a message and answers its number, which is beyond each number given out before. It
@@ -90,7 +103,11 @@ impl Net {
         ensures sent { self.new ≡ sent_on body self.old }
     {
         let number = self.sent;
-        self.messages.push_reserved(Message { number, body });
+        self.slots.push_reserved(Slot {
+            message: Message { number, body },
+            there: true,
+        });
+        self.there += 1;
         self.sent += 1;
         self.room -= 1;
         number
@@ -101,8 +118,8 @@ impl Net {
         ensures body { result ≡ body_of self.now.in_flight number }
         ensures process { IfSome result (λ body. process_of body < length self.now.until) }
     {
-        let place = place_of(&self.messages, number)?;
-        Some(self.messages[place].body)
+        let place = place_there(&self.slots, number)?;
+        Some(self.slots[place].message.body)
     }
 
     /// Takes a message out of the network, to be delivered, and answers what it says.
@@ -118,13 +135,16 @@ impl Net {
             IsOkAnd result (λ body. body_of self.old.in_flight number ≡ Some body)
             × (self.new ≡ left_by number self.old) }
     {
-        let Some(place) = place_of(&self.messages, number) else {
+        let Some(place) = place_there(&self.slots, number) else {
             return Err(NetFault::NoMessage);
         };
-        if lasts(&self.until, self.clock, self.messages[place].body.process()) {
+        let body = self.slots[place].message.body;
+        if lasts(&self.until, self.clock, body.process()) {
             return Err(NetFault::Clogged);
         }
-        Ok(self.messages.remove(place).body)
+        self.slots[place].there = false;
+        self.there -= 1;
+        Ok(body)
     }
 
     /// Takes a message out of the network, clogged or not, and forgets it.
@@ -138,10 +158,12 @@ impl Net {
         ensures lost { lose_refusal self.old number ≡ None →
             (IsOk result) × (self.new ≡ left_by number self.old) }
     {
-        let Some(place) = place_of(&self.messages, number) else {
+        let Some(place) = place_there(&self.slots, number) else {
             return Err(NetFault::NoMessage);
         };
-        self.messages.remove(place);
+        let slot = &mut self.slots[place];
+        slot.there = false;
+        self.there -= 1;
         Ok(())
     }
 
@@ -150,8 +172,9 @@ impl Net {
     pub fn void(&mut self, p: ProcId)
         ensures { self.new ≡ voided p.0 self.old }
     {
-        self.messages
-            .retain(|message| !message.body.is_word_from(p));
+        self.slots
+            .retain(|slot| slot.there && !slot.message.body.is_word_from(p));
+        self.there = self.slots.len();
     }
 
     /// Clogs a process for some ticks from now on, at most up to the clock's end. A longer clog
@@ -215,7 +238,7 @@ impl Net {
         ensures first { result ≡ first_free_of self.now (sets.contains up.now) }
         ensures least { IfSome result (NoneFreeBelow self.now (sets.contains up.now)) }
     {
-        first_free_among(&self.messages, &self.until, self.clock, up)
+        first_free_there(&self.slots, &self.until, self.clock, up)
     }
 
     /// How many messages were sent so far, which is the number of the next one.
@@ -230,6 +253,6 @@ impl Net {
     pub fn invariant(&self)
         ensures { IsTraffic self.now }
     {
-        let _messages = &self.messages;
+        let _slots = &self.slots;
     }
 }

@@ -1,0 +1,236 @@
+//! A network as plain as may be: a list of the messages in flight. What the network answers is
+//! compared with it.
+ghost use Rattle.std.specs.Prelude.{◌≡◌, ◌+◌, ◌^◌, ◌<◌, ◌≤◌, ℕ, max, length, Some, None, IfOk, IfErr, IfSome, OnOk, OnErr, IsOk, IsOkAnd, IsTrue};
+ghost use Rattle.std.specs.List.{All};
+ghost use Rattle.std.specs.FinSet as sets;
+ghost use Rattle.fy_net.specs.declared.fault.NetFault.{NetFault};
+ghost use Rattle.fy_net.specs.declared.fault.NetFault.TheVariants.{NoMemory};
+ghost use Rattle.fy_net.specs.Net.{quiet, process_of, body_of, left_by, sent_on, voided, is_clogged, clogged_for, unclogged, is_free, first_free_of, reserve_refusal, take_refusal, lose_refusal, advance_refusal, NoneFreeBelow, IsTraffic};
+
+use crate::limits::{LAST_TICK, MOST_IN_FLIGHT};
+use crate::places::{first_free_among, lasts, place_of};
+use crate::{Body, Message, NetFault};
+use fy_locality::{ProcId, ProcSet};
+use std::alloc::Global;
+use std::marker::Model;
+
+/// The messages in flight between the processes and the client, which processes are clogged, and
+/// the time.
+#[derive(Drop)]
+pub struct Net {
+    messages: Vec<Message>,
+    sent: u64,
+    clock: u64,
+    until: Vec<u64>,
+    room: usize,
+}
+
+impl Model for Net {
+    ghost use Rattle.fy_net.specs.Net.{Traffic};
+
+    ghost Value = { Traffic };
+
+    ghost use Rattle.fy_net.specs.PlainlyKept.{traffic, IsKept};
+
+    ghost view = { traffic };
+
+    ghost invariant = { IsKept };
+}
+
+impl Net {
+    /// A network of so many processes at time 0, with no clog and nothing in flight.
+    ///
+    /// # Errors
+    ///
+    /// `NoMemory` only where the memory for the processes is refused.
+    pub fn make(alloc: Global, processes: u32) -> Result<Net, NetFault>
+        ensures made { IfOk result (λ net. net ≡ quiet processes) }
+        ensures memory { IfErr result (λ fault. fault ≡ NoMemory) }
+    {
+        let until = vec![in alloc; 0; processes as usize]?;
+        Ok(Net {
+            messages: Vec::new(alloc),
+            sent: 0,
+            clock: 0,
+            until,
+            room: 0,
+        })
+    }
+
+    /// Makes room for `count` sends. Room that is there already counts.
+    ///
+    /// # Errors
+    ///
+    /// In order: `NetFull` where more than 65,536 messages would be in flight with them,
+    /// `NoMemory`.
+    pub fn reserve(&mut self, count: usize) -> Result<(), NetFault>
+        requires { self.old.sent < 2 ^ 63 }
+        ensures refused { (fault : NetFault) →
+            reserve_refusal self.old count ≡ Some fault → result ≡ Err fault }
+        ensures memory { reserve_refusal self.old count ≡ None →
+            IfErr result (λ fault. fault ≡ NoMemory) }
+        ensures there { count ≤ self.old.room → IsOk result }
+        ensures ok { OnOk result (self.new ≡ record self.old { room = max self.old.room count }) }
+        ensures err { OnErr result (self.new ≡ self.old) }
+    {
+        if count > MOST_IN_FLIGHT - self.messages.len() {
+            return Err(NetFault::NetFull);
+        }
+        self.messages.reserve(count)?;
+        self.room = self.room.max(count);
+        Ok(())
+    }
+
+    /// Sends a message and answers its number, which is beyond each number given out before. It
+    /// uses up one place of the room.
+    pub fn send(&mut self, body: Body) -> u64
+        requires room { 0 < self.old.room }
+        requires process { process_of body < length self.old.until }
+        ensures number { result ≡ self.old.sent }
+        ensures unused { All (λ message. message.number < result) self.old.in_flight }
+        ensures sent { self.new ≡ sent_on body self.old }
+    {
+        let number = self.sent;
+        self.messages.push_reserved(Message { number, body });
+        self.sent += 1;
+        self.room -= 1;
+        number
+    }
+
+    /// What the message in flight with a number says.
+    pub fn body(&self, number: u64) -> Option<Body>
+        ensures body { result ≡ body_of self.now.in_flight number }
+        ensures process { IfSome result (λ body. process_of body < length self.now.until) }
+    {
+        let place = place_of(&self.messages, number)?;
+        Some(self.messages[place].body)
+    }
+
+    /// Takes a message out of the network, to be delivered, and answers what it says.
+    ///
+    /// # Errors
+    ///
+    /// In order: `NoMessage` where none in flight has the number, `Clogged` where its process is
+    /// clogged.
+    pub fn take(&mut self, number: u64) -> Result<Body, NetFault>
+        ensures refused { (fault : NetFault) → take_refusal self.old number ≡ Some fault →
+            (result ≡ Err fault) × (self.new ≡ self.old) }
+        ensures taken { take_refusal self.old number ≡ None →
+            IsOkAnd result (λ body. body_of self.old.in_flight number ≡ Some body)
+            × (self.new ≡ left_by number self.old) }
+    {
+        let Some(place) = place_of(&self.messages, number) else {
+            return Err(NetFault::NoMessage);
+        };
+        if lasts(&self.until, self.clock, self.messages[place].body.process()) {
+            return Err(NetFault::Clogged);
+        }
+        Ok(self.messages.remove(place).body)
+    }
+
+    /// Takes a message out of the network, clogged or not, and forgets it.
+    ///
+    /// # Errors
+    ///
+    /// `NoMessage` where none in flight has the number.
+    pub fn lose(&mut self, number: u64) -> Result<(), NetFault>
+        ensures refused { (fault : NetFault) → lose_refusal self.old number ≡ Some fault →
+            (result ≡ Err fault) × (self.new ≡ self.old) }
+        ensures lost { lose_refusal self.old number ≡ None →
+            (IsOk result) × (self.new ≡ left_by number self.old) }
+    {
+        let Some(place) = place_of(&self.messages, number) else {
+            return Err(NetFault::NoMessage);
+        };
+        self.messages.remove(place);
+        Ok(())
+    }
+
+    /// Takes every word of a process out of the network, clogged or not, and forgets it. What goes
+    /// to the process stays. Takes no memory.
+    pub fn void(&mut self, p: ProcId)
+        ensures { self.new ≡ voided p.0 self.old }
+    {
+        self.messages
+            .retain(|message| !message.body.is_word_from(p));
+    }
+
+    /// Clogs a process for some ticks from now on, at most up to the clock's end. A longer clog
+    /// stays.
+    pub fn clog(&mut self, p: ProcId, ticks: u64)
+        requires { p.0 < length self.old.until }
+        ensures { self.new ≡ clogged_for p.0 ticks self.old }
+    {
+        let end = self.clock.saturating_add(ticks).min(LAST_TICK);
+        let until = &mut self.until[p.0 as usize];
+        *until = (*until).max(end);
+    }
+
+    /// Ends a process's clog now, where it has one.
+    pub fn unclog(&mut self, p: ProcId)
+        requires { p.0 < length self.old.until }
+        ensures { self.new ≡ unclogged p.0 self.old }
+    {
+        let until = &mut self.until[p.0 as usize];
+        *until = (*until).min(self.clock);
+    }
+
+    /// Whether a process is clogged.
+    pub fn clogged(&self, p: ProcId) -> bool
+        requires { p.0 < length self.now.until }
+        ensures { result ≡ is_clogged self.now p.0 }
+    {
+        lasts(&self.until, self.clock, p)
+    }
+
+    /// The time, in ticks from 0 to 2^40.
+    pub fn now(&self) -> u64
+        ensures time { result ≡ self.now.clock }
+        ensures within { result ≤ LAST_TICK }
+    {
+        self.clock
+    }
+
+    /// Lets some ticks pass and answers the new time.
+    ///
+    /// # Errors
+    ///
+    /// `ClockEnd` where that would be past 2^40.
+    pub fn advance(&mut self, ticks: u64) -> Result<u64, NetFault>
+        ensures refused { (fault : NetFault) → advance_refusal self.old ticks ≡ Some fault →
+            (result ≡ Err fault) × (self.new ≡ self.old) }
+        ensures passed { advance_refusal self.old ticks ≡ None →
+            (result ≡ Ok (self.old.clock + ticks))
+            × (self.new ≡ record self.old { clock = self.old.clock + ticks }) }
+    {
+        if ticks > LAST_TICK - self.clock {
+            return Err(NetFault::ClockEnd);
+        }
+        self.clock += ticks;
+        Ok(self.clock)
+    }
+
+    /// The least number of a message that isn't clogged and, if it is a store, goes to a process of
+    /// `up`.
+    pub fn first_free(&self, up: &ProcSet) -> Option<u64>
+        ensures first { result ≡ first_free_of self.now (sets.contains up.now) }
+        ensures least { IfSome result (NoneFreeBelow self.now (sets.contains up.now)) }
+    {
+        first_free_among(&self.messages, &self.until, self.clock, up)
+    }
+
+    /// How many messages were sent so far, which is the number of the next one.
+    pub fn sent(&self) -> u64
+        ensures { result ≡ self.now.sent }
+    {
+        self.sent
+    }
+
+    /// The messages in flight stand in order of their numbers, all below the next one, and each is
+    /// of a process that is there. With the room they are no more than may be in flight.
+    pub fn invariant(&self)
+        ensures { IsTraffic self.now }
+    {
+        let _messages = &self.messages;
+    }
+}
