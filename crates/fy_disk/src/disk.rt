@@ -7,24 +7,26 @@ use crate::Item;
 use std::alloc::Global;
 use std::marker::Model;
 
-/// The items of one process, each in order of writing: first those synced, then those not yet
+/// The items of one process in order of writing, and how many of them, from the first on, are
 /// synced.
 #[derive(Drop)]
 pub struct Disk {
-    synced: Vec<Item>,
-    unsynced: Vec<Item>,
+    items: Vec<Item>,
+    synced: usize,
 }
 
 impl Model for Disk {
-    ghost use Rattle.std.specs.Prelude.{◌≤◌, ◌+◌, vec_len};
-    ghost use Rattle.std.specs.Vec.{vec_capacity};
+    ghost use Rattle.std.specs.Prelude.{◌≤◌, length, take, drop};
     ghost use Rattle.fy_disk.specs.Disk.{Stored};
 
     ghost Value = { Stored };
 
-    ghost view = { λ d. record { synced = d.synced.items; unsynced = d.unsynced.items } };
+    ghost view = { λ d. record {
+      synced = take d.synced d.items.items;
+      unsynced = drop d.synced d.items.items;
+    } };
 
-    ghost invariant = { λ d. vec_len d.synced + vec_len d.unsynced ≤ vec_capacity d.synced };
+    ghost invariant = { λ d. d.synced ≤ length d.items.items };
 }
 
 impl Disk {
@@ -33,8 +35,8 @@ impl Disk {
         ensures { result ≡ blank }
     {
         Disk {
-            synced: Vec::new(alloc),
-            unsynced: Vec::new(alloc),
+            items: Vec::new(alloc),
+            synced: 0,
         }
     }
 
@@ -47,11 +49,7 @@ impl Disk {
         ensures written { OnOk result (self.new ≡ written item self.old) }
         ensures refused { IfErr result (λ back. (back ≡ item) × (self.new ≡ self.old)) }
     {
-        // A place among the synced items too, so that no later sync takes memory.
-        if self.synced.reserve(self.unsynced.len() + 1).is_err() {
-            return Err(item);
-        }
-        self.unsynced.push(item).map_err(|refused| refused.value)
+        self.items.push(item).map_err(|refused| refused.value)
     }
 
     /// Syncs every unsynced item, and says how many they were.
@@ -59,8 +57,8 @@ impl Disk {
         ensures count { result ≡ length self.old.unsynced }
         ensures moved { self.new ≡ all_synced self.old }
     {
-        let count = self.unsynced.len();
-        let _ = self.synced.append(&mut self.unsynced);
+        let count = self.unsynced_len();
+        self.synced = self.items.len();
         count
     }
 
@@ -69,44 +67,57 @@ impl Disk {
     pub fn crash(&mut self, tear: u64)
         ensures { self.new ≡ crashed tear self.old }
     {
-        keep_survivors(&mut self.unsynced, tear);
-        let _ = self.synced.append(&mut self.unsynced);
+        let kept = gather_survivors(&mut self.items[self.synced..], tear);
+        self.synced += kept;
+        self.items.truncate(self.synced);
     }
 
     /// Loses everything.
     pub fn wipe(&mut self)
         ensures { self.new ≡ blank }
     {
-        self.synced.clear();
-        self.unsynced.clear();
+        self.items.clear();
+        self.synced = 0;
     }
 
     /// A synced item by its place, from 0.
     pub fn durable(&self, place: usize) -> Option<&Item>
         ensures { option_copied result ≡ slice_get self.now.synced place }
     {
-        self.synced.get(place)
+        self.synced_items().get(place)
     }
 
     /// An unsynced item by its place among the unsynced ones, from 0.
     pub fn pending(&self, place: usize) -> Option<&Item>
         ensures { option_copied result ≡ slice_get self.now.unsynced place }
     {
-        self.unsynced.get(place)
+        self.unsynced_items().get(place)
     }
 
     /// How many items are synced.
     pub fn synced_len(&self) -> usize
         ensures { result ≡ length self.now.synced }
     {
-        self.synced.len()
+        self.synced_items().len()
     }
 
     /// How many items aren't synced yet.
     pub fn unsynced_len(&self) -> usize
         ensures { result ≡ length self.now.unsynced }
     {
-        self.unsynced.len()
+        self.unsynced_items().len()
+    }
+
+    fn synced_items(&self) -> &[Item]
+        ensures { result.now ≡ self.now.synced }
+    {
+        &self.items[..self.synced]
+    }
+
+    fn unsynced_items(&self) -> &[Item]
+        ensures { result.now ≡ self.now.unsynced }
+    {
+        &self.items[self.synced..]
     }
 }
 
@@ -117,17 +128,18 @@ fn outlives_crash(tear: u64, place: usize) -> bool
     place < 64 && (tear >> place) & 1 == 1
 }
 
-/// Drops those of the items that don't outlive a crash, and closes the gaps.
-fn keep_survivors(items: &mut Vec<Item>, tear: u64)
-    ensures kept { items.new.items ≡ survivors tear items.old.items }
-    ensures fewer { vec_len items.new ≤ vec_len items.old }
+/// Moves those of the items that outlive a crash to the front, over those that don't, and says how
+/// many they are. One that is in its place isn't moved.
+fn gather_survivors(items: &mut [Item], tear: u64) -> usize
+    ensures survivors { take result items.new ≡ survivors tear items.old }
+    ensures few { result ≤ length items.old }
 {
     let mut kept = 0;
-    for at in 0..items.len() {
+    for at in 0..items.len().min(64) {
         if outlives_crash(tear, at) {
             items.swap(kept, at);
             kept += 1;
         }
     }
-    items.truncate(kept);
+    kept
 }

@@ -1,6 +1,0 @@
-use Rattle.fy_disk.specs.Disk.{outlives}
-use Rattle.fy_disk.proofs.Survivors.{Works}
-use Rattle.fy_disk.proofs.disk.keep_survivors.Given as goal
-
-abbrev pub invariant-loop-at : goal.invariant-loop-at
-invariant-loop-at l = Works (outlives l.tear) l.initial.items.items l.items.items l.kept l.at
