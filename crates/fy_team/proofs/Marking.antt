@@ -1,5 +1,5 @@
 -- flags as a set of numbers, and who has marked a record
-use Rattle.std.proofs.Common.{◌≡◌, ◌↔◌, ◌≢◌, ℕ, zero, suc, ◌+◌, ◌-◌, ◌<◌, ◌≤◌, Bool, true, false, cond, ◌&&◌, ◌||◌, not, eqb, leb, List, [], ◌∷◌, ◌++◌, length, map, get_or, set, take, drop, replicate, refl, sym, ap, ◌∙◌, arith}
+use Rattle.std.proofs.Common.{◌≡◌, ◌↔◌, ◌≢◌, ℕ, zero, suc, ◌<◌, ◌≤◌, Bool, true, false, cond, ◌&&◌, ◌||◌, not, eqb, List, [], ◌∷◌, ◌++◌, length, map, get_or, set, take, drop, refl, sym, ap, ◌∙◌, arith}
 use Rattle.std.specs.Prelude.{Option, Some, None, option_map, slice_get}
 use Rattle.std.specs.List.{All, list_all}
 use Rattle.std.specs.Option.{option_map_or}
@@ -7,127 +7,16 @@ use Rattle.std.specs.Ordering.{nat_cmp}
 use Rattle.std.specs.FinSet as sets
 use Rattle.std.specs.Cmp.{nat_cmp_total, unsigned_tied}
 use Rattle.std.proofs.lemmas.Bool.Decides.{nat_tests}
-use Rattle.std.proofs.lemmas.List.{length-map}
-use Rattle.std.proofs.lemmas.List.Elements.{All-cons, All-head, All-tail, All-map, All-weaker}
+use Rattle.std.proofs.lemmas.List.Elements.{All-cons, All-head, All-tail}
 use Rattle.fy_locality.specs.declared.ProcId.{ProcId}
-use Rattle.fy_team.specs.Marks.{set_from, set_of}
-use Rattle.fy_team.specs.declared.limits.TheConstants.{MOST_BYTES}
 use Rattle.std.proofs.lemmas.Option.{slice_get-get_or, slice_get_within, slice_get-map}
-use Rattle.fy_team.specs.Teams.{Team, Roster, Record, unmarked, marked_by, begun_for, healed, unless_acked, is_marked, is_acked, is_complete, IsMarkedByAll, all_marked, team_number, payload_in, members_in, with_mark, IsRoster}
-
--- the flag of a number, where the first flag is that of the number given
-flag_at : ℕ → List Bool → ℕ → Bool
-flag_at at flags q = leb at q && get_or flags (q - at) false
-
-flag_first : (flag : Bool) (flags : List Bool) (at q : ℕ) → q ≡ at → flag_at at (flag ∷ flags) q ≡ flag
-unfolding flag_at
-flag_first flag flags at q same =
-    ap (λ k. leb at q && get_or (flag ∷ flags) k false) (let e : q - at ≡ 0 = omega arith in e)
-    ∙ ap (λ b. b && flag) (let e : leb at q ≡ true = grind (arith, nat_tests) in e)
-
-flag_before : (flags : List Bool) (at q : ℕ) → q ≡ at → flag_at (at + 1) flags q ≡ false
-unfolding flag_at
-flag_before flags at q same = ap (λ b. b && get_or flags (q - (at + 1)) false) (let e : leb (at + 1) q ≡ false = grind (arith, nat_tests) in e)
-
-flag_later : (flag : Bool) (flags : List Bool) (at q : ℕ) → q ≢ at → flag_at (at + 1) flags q ≡ flag_at at (flag ∷ flags) q
-unfolding flag_at
-flag_later flag flags at q other = go (leb (at + 1) q) refl
-  where
-    go : (b : Bool) → leb (at + 1) q ≡ b → (leb (at + 1) q && get_or flags (q - (at + 1)) false) ≡ (leb at q && get_or (flag ∷ flags) (q - at) false)
-    go true e =
-        let past : at + 1 ≤ q = grind (arith, nat_tests) in
-        let is : leb at q ≡ true = grind (arith, nat_tests) in
-        ap (λ b. b && get_or flags (q - (at + 1)) false) e ∙ ap (λ k. get_or (flag ∷ flags) k false) (let s : suc (q - (at + 1)) ≡ q - at = omega arith in s) ∙ ap (λ b. b && get_or (flag ∷ flags) (q - at) false) (sym is)
-    go false e =
-        let isnt : leb at q ≡ false = grind (arith, nat_tests) in
-        ap (λ b. b && get_or flags (q - (at + 1)) false) e ∙ ap (λ b. b && get_or (flag ∷ flags) (q - at) false) (sym isnt)
+use Rattle.fy_team.specs.Teams.{Team, Roster, Record, unmarked, marked_by, begun_for, healed, unless_acked, is_marked, is_acked, is_complete, IsMarkedByAll, all_marked, team_number, payload_in, members_in, with_mark}
 
 pub same_number : (q at : ℕ) → eqb q at ≡ true → q ≡ at
 same_number q at e = grind (arith, nat_tests)
 
 other_number : (q at : ℕ) → eqb q at ≡ false → q ≢ at
 other_number q at e = grind (arith, nat_tests)
-
-one_more : (flag : Bool) (flags : List Bool) (at q : ℕ) → sets.contains (set_from (at + 1) flags) q ≡ flag_at (at + 1) flags q → sets.contains (cond flag (sets.insert (set_from (at + 1) flags) at) (set_from (at + 1) flags)) q ≡ flag_at at (flag ∷ flags) q
-one_more true flags at q later =
-    sets.contains-insert nat_cmp_total (set_from (at + 1) flags) at q ∙ ap (λ b. b || sets.contains (set_from (at + 1) flags) q) (unsigned_tied q at) ∙ ap (λ b. eqb q at || b) later ∙ go (eqb q at) refl
-  where
-    go : (b : Bool) → eqb q at ≡ b → (eqb q at || flag_at (at + 1) flags q) ≡ flag_at at (true ∷ flags) q
-    go true e = ap (λ b. b || flag_at (at + 1) flags q) e ∙ sym (flag_first true flags at q (same_number q at e))
-    go false e = ap (λ b. b || flag_at (at + 1) flags q) e ∙ flag_later true flags at q (other_number q at e)
-one_more false flags at q later = later ∙ go (eqb q at) refl
-  where
-    go : (b : Bool) → eqb q at ≡ b → flag_at (at + 1) flags q ≡ flag_at at (false ∷ flags) q
-    go true e = flag_before flags at q (same_number q at e) ∙ sym (flag_first false flags at q (same_number q at e))
-    go false e = flag_later false flags at q (other_number q at e)
-
-contains-set_from : (at : ℕ) (flags : List Bool) (q : ℕ) → sets.contains (set_from at flags) q ≡ flag_at at flags q
-unfolding set_from flag_at
-contains-set_from at [] q = sets.contains-empty nat_cmp q ∙ none (leb at q)
-  where
-    none : (b : Bool) → false ≡ (b && false)
-    none true = refl
-    none false = refl
-contains-set_from at (flag ∷ flags) q = one_more flag flags at q (contains-set_from (at + 1) flags q)
-
--- a number is in the set where its flag is set
-pub contains-set_of : (flags : List Bool) (q : ℕ) → sets.contains (set_of flags) q ≡ get_or flags q false
-unfolding set_of flag_at
-contains-set_of flags q = contains-set_from 0 flags q ∙ ap (λ k. leb 0 q && get_or flags k false) (let e : q - 0 ≡ q = omega arith in e) ∙ ap (λ b. b && get_or flags q false) (let e : leb 0 q ≡ true = grind (arith, nat_tests) in e)
-
-get_or-falses : (n q : ℕ) → get_or (replicate n false) q false ≡ false
-get_or-falses zero q = refl
-get_or-falses (suc n) zero = refl
-get_or-falses (suc n) (suc q) = get_or-falses n q
-
--- no flag is set at first
-pub set_of-falses : (n : ℕ) → set_of (replicate n false) ≡ sets.empty
-set_of-falses n = sets.same_set nat_cmp_total sets.nat_cmp-IsAntisymmetric _ _ (λ q. contains-set_of (replicate n false) q ∙ get_or-falses n q ∙ sym (sets.contains-empty nat_cmp q))
-
-get_or-set_true : (flags : List Bool) (p q : ℕ) → p < length flags → get_or (set flags p true) q false ≡ (eqb q p || get_or flags q false)
-get_or-set_true [] p q within = absurd (omega arith)
-get_or-set_true (f ∷ fs) zero zero within = refl
-get_or-set_true (f ∷ fs) zero (suc q) within = ap (λ b. b || get_or fs q false) (let e : false ≡ eqb (suc q) 0 = grind (arith, nat_tests) in e)
-get_or-set_true (f ∷ fs) (suc p) zero within = ap (λ b. b || f) (let e : false ≡ eqb 0 (suc p) = grind (arith, nat_tests) in e)
-get_or-set_true (f ∷ fs) (suc p) (suc q) within = get_or-set_true fs p q (omega arith) ∙ ap (λ b. b || get_or fs q false) (let e : eqb q p ≡ eqb (suc q) (suc p) = grind (arith, nat_tests) in e)
-
--- a flag that is set puts its number in
-pub set_of-set : (flags : List Bool) (p : ℕ) → p < length flags → set_of (set flags p true) ≡ sets.insert (set_of flags) p
-set_of-set flags p within = sets.same_set nat_cmp_total sets.nat_cmp-IsAntisymmetric _ _ (λ q.
-    contains-set_of (set flags p true) q
-    ∙ get_or-set_true flags p q within
-    ∙ ap (λ b. eqb q p || b) (sym (contains-set_of flags q))
-    ∙ ap (λ b. b || sets.contains (set_of flags) q) (sym (unsigned_tied q p))
-    ∙ sym (sets.contains-insert nat_cmp_total (set_of flags) p q))
-
-get_or-set_false : (flags : List Bool) (p q : ℕ) → get_or (set flags p false) q false ≡ (not (eqb q p) && get_or flags q false)
-get_or-set_false [] p q = nowhere (not (eqb q p))
-  where
-    nowhere : (b : Bool) → false ≡ (b && false)
-    nowhere true = refl
-    nowhere false = refl
-get_or-set_false (f ∷ fs) zero zero = refl
-get_or-set_false (f ∷ fs) zero (suc q) = ap (λ b. not b && get_or fs q false) (let e : false ≡ eqb (suc q) 0 = grind (arith, nat_tests) in e)
-get_or-set_false (f ∷ fs) (suc p) zero = ap (λ b. not b && f) (let e : false ≡ eqb 0 (suc p) = grind (arith, nat_tests) in e)
-get_or-set_false (f ∷ fs) (suc p) (suc q) = get_or-set_false fs p q ∙ ap (λ b. not b && get_or fs q false) (let e : eqb q p ≡ eqb (suc q) (suc p) = grind (arith, nat_tests) in e)
-
--- a flag that is cleared takes its number out
-pub set_of-clear : (flags : List Bool) (p : ℕ) → set_of (set flags p false) ≡ sets.remove (set_of flags) p
-set_of-clear flags p = sets.same_set nat_cmp_total sets.nat_cmp-IsAntisymmetric _ _ (λ q.
-    contains-set_of (set flags p false) q
-    ∙ get_or-set_false flags p q
-    ∙ ap (λ b. not (eqb q p) && b) (sym (contains-set_of flags q))
-    ∙ ap (λ b. not b && sets.contains (set_of flags) q) (sym (unsigned_tied q p))
-    ∙ sym (sets.contains-remove nat_cmp_total (set_of flags) p q))
-
-set_beyond : (flags : List Bool) (p : ℕ) (flag : Bool) → length flags ≤ p → set flags p flag ≡ flags
-set_beyond [] p flag beyond = refl
-set_beyond (f ∷ fs) zero flag beyond = absurd (omega arith)
-set_beyond (f ∷ fs) (suc p) flag beyond = ap (λ rest. f ∷ rest) (set_beyond fs p flag (omega arith))
-
--- a number that has no flag isn't in
-pub set_of-beyond : (flags : List Bool) (p : ℕ) → length flags ≤ p → set_of flags ≡ sets.remove (set_of flags) p
-set_of-beyond flags p beyond = ap set_of (sym (set_beyond flags p false beyond)) ∙ set_of-clear flags p
 
 -- ---- who has marked a record
 
@@ -370,6 +259,12 @@ healed_leaves part stays p records r = ap (option_map part) (slice_get-map (unle
     go None = refl
     go (Some it) = ap Some (unless_acked_leaves part stays p it)
 
+pub unless_acked-team : (p : ℕ) (it : Record) → (unless_acked p it).team ≡ it.team
+unless_acked-team p it = unless_acked_leaves (λ it. it.team) (λ it marks. refl) p it
+
+pub unless_acked-payload : (p : ℕ) (it : Record) → (unless_acked p it).payload ≡ it.payload
+unless_acked-payload p it = unless_acked_leaves (λ it. it.payload) (λ it marks. refl) p it
+
 pub healed-teams : (roster : Roster) (p r : ℕ) → team_number (healed p roster) r ≡ team_number roster r
 healed-teams roster p r = healed_leaves (λ it. it.team) (λ it marks. refl) p roster.records r
 
@@ -385,17 +280,6 @@ healed-acked roster p r =
     acked_is : (found : Option Record) → acked_in found ≡ option_map_or (λ (b : Bool). b) (option_map (λ (it : Record). it.acked) found) false
     acked_is None = refl
     acked_is (Some it) = refl
-
-pub IsRoster-healed : (p : ℕ) (roster : Roster) → IsRoster roster → IsRoster (healed p roster)
-IsRoster-healed p roster sound = record {
-  rising = sound.rising;
-  few_teams = sound.few_teams;
-  named = All-map (λ (it : Record). it.team < length roster.teams) (unless_acked p) roster.records
-      (All-weaker (λ (it : Record). it.team < length roster.teams) (λ (it : Record). (unless_acked p it).team < length roster.teams) (λ it lt. omega (arith, unless_acked_leaves (λ (it : Record). it.team) (λ it marks. refl) p it)) roster.records sound.named);
-  small = All-map (λ (it : Record). length it.payload ≤ MOST_BYTES) (unless_acked p) roster.records
-      (All-weaker (λ (it : Record). length it.payload ≤ MOST_BYTES) (λ (it : Record). length (unless_acked p it).payload ≤ MOST_BYTES) (λ it le. omega (arith, ap length (unless_acked_leaves (λ (it : Record). it.payload) (λ it marks. refl) p it))) roster.records sound.small);
-  few_records = omega (arith, length-map roster.records (unless_acked p), sound.few_records);
-}
 
 -- a list of which the first i items are mapped, and the next one is
 mapped_next : {X : Type 0} (f : X → X) (xs : List X) (i : ℕ) (d : X) → i < length xs

@@ -1,4 +1,4 @@
-pub mod Marks
+pub mod Counts
 pub mod Members
 pub mod Standing
 pub mod Teams

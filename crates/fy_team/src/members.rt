@@ -83,7 +83,11 @@ impl Members {
     pub fn has(&self, p: ProcId) -> bool
         ensures { result ≡ is_among self.now p.0 }
     {
-        self.processes.iter().any(|member| member.0 == p.0)
+        let place = self.processes.partition_point(|member| member.0 < p.0);
+        match self.processes.get(place) {
+            Some(member) => member.0 == p.0,
+            None => false,
+        }
     }
 
     /// Lets a process stand for a member, in its place by number. Takes no memory.
@@ -98,6 +102,13 @@ impl Members {
         let place = self.processes.partition_point(|member| member.0 < into.0);
         // The one that left made room.
         let _ = self.processes.insert(place, into);
+    }
+
+    /// They rise, and are at most 1024.
+    pub(crate) fn invariant(&self)
+        ensures { AreMembers self.now }
+    {
+        let _processes = &self.processes;
     }
 
     /// Equal members in memory of their own.

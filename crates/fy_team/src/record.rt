@@ -1,44 +1,39 @@
 //! A record as it is kept.
-ghost use Rattle.std.specs.Prelude.{◌≡◌, ◌<◌, ◌||◌, false, replicate, IfOk};
+ghost use Rattle.std.specs.Prelude.{◌≡◌, ◌<◌, ◌&&◌, ◌||◌, not, length};
 ghost use Rattle.std.specs.FinSet as sets;
-ghost use Rattle.fy_team.specs.Teams.{unmarked, all_marked, unless_acked};
+ghost use Rattle.fy_team.specs.Teams.{unmarked, all_marked, unless_acked, is_among};
+ghost use Rattle.fy_team.specs.Counts.{IsCounted, missing_among, recounted};
 
+use crate::Members;
 use fy_disk::Payload;
-use fy_locality::{MOST_PROCESSES, ProcId};
-use std::alloc::{AllocError, Global};
+use fy_locality::{MOST_PROCESSES, ProcId, ProcSet};
 use std::marker::Model;
 
-/// The number of its team, its payload, for each process whether it has marked the record, and
-/// whether it is acknowledged.
+/// The number of its team, its payload, the processes that have marked it, how many members of its
+/// team haven't, and whether it is acknowledged. The number is right until it is acknowledged, and
+/// isn't looked at from then on.
 pub(crate) struct KeptRecord {
     team: u32,
     payload: Payload,
-    marks: Vec<bool>,
+    marks: ProcSet,
+    missing: usize,
     acked: bool,
 }
 
 impl Model for KeptRecord {
-    ghost use Rattle.std.specs.Prelude.{◌≡◌, length};
     ghost use Rattle.std.specs.Coded.{codes, coded_ℕ};
     ghost use Rattle.std.specs.FinSet as sets;
     ghost use Rattle.std.specs.Ordering.{nat_cmp};
-    ghost use Rattle.fy_team.specs.Marks.{set_of};
-    ghost use Rattle.fy_team.specs.Teams.{Record};
+    ghost use Rattle.fy_team.specs.Counts.{Counted};
 
-    ghost Value = { Record };
+    ghost Value = { Counted };
 
     ghost coded = { Prim.hlevel (codes, sets.code {R = nat_cmp} coded_ℕ) };
 
     ghost view = { λ r. record {
-      team = r.team;
-      payload = r.payload;
-      marks = set_of r.marks.items;
-      acked = r.acked;
+      held = record { team = r.team; payload = r.payload; marks = r.marks; acked = r.acked };
+      missing = r.missing;
     } };
-
-    ghost use Rattle.fy_locality.specs.declared.TheConstants.{MOST_PROCESSES};
-
-    ghost invariant = { λ r. length r.marks.items ≡ MOST_PROCESSES };
 }
 
 // Written out, so that whoever drops a record makes one call.
@@ -48,91 +43,114 @@ impl Drop for KeptRecord {
             team: _,
             payload: _,
             marks: _,
+            missing: _,
             acked: _,
         } = self;
     }
 }
 
 impl KeptRecord {
-    /// A record without marks, not acknowledged, and with the room for all marks.
-    pub(crate) fn make(alloc: Global, team: u32, payload: Payload) -> Result<KeptRecord, AllocError>
-        ensures { IfOk result (λ made. made ≡ unmarked team payload) }
+    /// A record without marks, not acknowledged, of a team with these members. Takes no memory.
+    pub(crate) fn make(team: u32, payload: Payload, members: &Members) -> KeptRecord
+        ensures held { result.held ≡ unmarked team payload }
+        ensures counted { IsCounted members.now result }
     {
-        let marks = no_marks(alloc)?;
-        Ok(KeptRecord {
+        KeptRecord {
             team,
             payload,
-            marks,
+            marks: ProcSet::empty(),
+            missing: members.as_slice().len(),
             acked: false,
-        })
+        }
     }
 
     /// The number of its team.
     pub(crate) fn team(&self) -> u32
-        ensures { result ≡ self.now.team }
+        ensures { result ≡ self.now.held.team }
     {
         self.team
     }
 
     /// What it holds.
     pub(crate) fn payload(&self) -> &Payload
-        ensures { result.now ≡ self.now.payload }
+        ensures { result.now ≡ self.now.held.payload }
     {
         &self.payload
     }
 
-    /// Takes down that a process has marked it. Where each of these members has marked it by then,
-    /// it is acknowledged from now on.
-    pub(crate) fn mark(&mut self, p: ProcId, members: &[ProcId])
-        requires { p.0 < MOST_PROCESSES }
-        ensures { let marks = sets.insert self.old.marks p.0 in
-            self.new ≡ record self.old {
+    /// Takes down that a process has marked it. Where each of these members, those of its team, has
+    /// marked it by then, it is acknowledged from now on.
+    pub(crate) fn mark(&mut self, p: ProcId, members: &Members)
+        requires small { p.0 < MOST_PROCESSES }
+        requires counted { IsCounted members.now self.old }
+        ensures held { let marks = sets.insert self.old.held.marks p.0 in
+            self.new.held ≡ record self.old.held {
               marks = marks;
-              acked = self.old.acked || all_marked marks members.now;
+              acked = self.old.held.acked || all_marked marks members.now;
             } }
+        ensures counted { IsCounted members.now self.new }
     {
-        self.marks[p.0 as usize] = true;
+        members.invariant();
+        let fewer = self.is_missing(p, members);
+        self.marks.put(p);
         if !self.acked {
-            self.acked = self.has_all_marks(members);
+            self.missing -= usize::from(fewer);
+            self.acked = self.missing == 0;
         }
     }
 
-    /// Takes a process's mark off, but where the record is acknowledged.
-    pub(crate) fn heal(&mut self, p: ProcId)
-        ensures { self.new ≡ unless_acked p.0 self.old }
+    /// Takes a process's mark off, but where the record is acknowledged. The members are those of
+    /// its team.
+    pub(crate) fn heal(&mut self, p: ProcId, members: &Members)
+        requires { IsCounted members.now self.old }
+        ensures held { self.new.held ≡ unless_acked p.0 self.old.held }
+        ensures counted { IsCounted members.now self.new }
     {
-        if !self.acked && p.0 < MOST_PROCESSES {
-            self.marks[p.0 as usize] = false;
+        if !self.acked && self.marks.contains(p) {
+            self.marks.invariant();
+            members.invariant();
+            self.marks.drop_one(p);
+            self.missing += usize::from(members.has(p));
+        }
+    }
+
+    /// Counts anew for these members where it is of the team with this number and isn't
+    /// acknowledged.
+    pub(crate) fn recount(&mut self, team: u32, members: &Members)
+        ensures { self.new ≡ recounted team members.now self.old }
+    {
+        if self.team == team && !self.acked {
+            self.missing = self.missing_among(members);
         }
     }
 
     /// Whether it is acknowledged.
     pub(crate) fn acked(&self) -> bool
-        ensures { result ≡ self.now.acked }
+        ensures { result ≡ self.now.held.acked }
     {
         self.acked
     }
 
     /// Whether a process has marked it.
     pub(crate) fn has_mark(&self, p: ProcId) -> bool
-        ensures { result ≡ sets.contains self.now.marks p.0 }
+        ensures { result ≡ sets.contains self.now.held.marks p.0 }
     {
-        match self.marks.get(p.0 as usize) {
-            Some(mark) => *mark,
-            None => false,
-        }
+        self.marks.contains(p)
     }
 
-    /// Whether each of these processes has marked it.
-    fn has_all_marks(&self, members: &[ProcId]) -> bool
-        ensures { result ≡ all_marked self.now.marks members.now }
+    /// Whether a process is one of the members that haven't marked it.
+    fn is_missing(&self, p: ProcId, members: &Members) -> bool
+        ensures { result ≡
+            (not (sets.contains self.now.held.marks p.0) && is_among members.now p.0) }
     {
-        members.iter().all(|p| self.has_mark(*p))
+        !self.has_mark(p) && members.has(p)
     }
-}
 
-fn no_marks(alloc: Global) -> Result<Vec<bool>, AllocError>
-    ensures { IfOk result (λ marks. marks.items ≡ replicate MOST_PROCESSES false) }
-{
-    vec![in alloc; false; MOST_PROCESSES as usize]
+    /// How many of the members haven't marked it.
+    fn missing_among(&self, members: &Members) -> usize
+        ensures { result ≡ missing_among self.now.held.marks members.now }
+    {
+        let members = members.as_slice();
+        members.iter().filter(|p| !self.has_mark(**p)).count()
+    }
 }

@@ -1,7 +1,8 @@
 //! The teams and their records.
-ghost use Rattle.std.specs.Prelude.{◌≡◌, ◌<◌, Some, None, length, slice_get, IfOk, IfErr, IsOk, OnOk, OnErr};
+ghost use Rattle.std.specs.Prelude.{◌≡◌, ◌<◌, Some, None, length, map, option_map, slice_get, IfOk, IfErr, IsOk, OnOk, OnErr};
 ghost use Rattle.std.specs.Option.{option_copied};
 ghost use Rattle.fy_team.specs.Teams.{nobody, IsFormed, AreFormed, unfit, form_refusal, formed_of, team_number, members_in, policy_in, payload_in, begin_refusal, begun_for, marked_by, is_marked, is_acked, replaced, MayReplace, healed, IsRoster};
+ghost use Rattle.fy_team.specs.Counts.{recounted};
 ghost use Rattle.fy_team.specs.declared.fault.TeamFault.{TeamFault};
 ghost use Rattle.fy_team.specs.declared.fault.TeamFault.TheVariants.{NoMemory};
 
@@ -19,7 +20,6 @@ use std::marker::Model;
 /// Teams, the records that were begun for them, and which processes have marked each record. Teams
 /// and records are known by their numbers, from 0 in the order in which they came.
 pub struct Teams {
-    alloc: Global,
     teams: Vec<KeptTeam>,
     records: Vec<KeptRecord>,
 }
@@ -28,23 +28,22 @@ impl Model for Teams {
     ghost use Rattle.std.specs.Coded.{codes, coded_ℕ};
     ghost use Rattle.std.specs.FinSet as sets;
     ghost use Rattle.std.specs.Ordering.{nat_cmp};
-    ghost use Rattle.fy_team.specs.Teams.{Roster, IsRoster};
+    ghost use Rattle.fy_team.specs.Teams.{Roster};
+    ghost use Rattle.fy_team.specs.Counts.{roster_of, AreKept};
 
     ghost Value = { Roster };
 
     ghost coded = { Prim.hlevel (codes, sets.code {R = nat_cmp} coded_ℕ) };
 
-    ghost view = { λ t. record { teams = t.teams.items; records = t.records.items } };
+    ghost view = { λ t. roster_of t.teams.items t.records.items };
 
-    ghost invariant = { λ t.
-        IsRoster (record { teams = t.teams.items; records = t.records.items }) };
+    ghost invariant = { λ t. AreKept t.teams.items t.records.items };
 }
 
 // Written out, so that whoever drops the teams makes one call.
 impl Drop for Teams {
     fn drop(self) {
         let Teams {
-            alloc: _,
             teams: _,
             records: _,
         } = self;
@@ -57,7 +56,6 @@ impl Teams {
         ensures { result ≡ nobody }
     {
         Teams {
-            alloc,
             teams: Vec::new(alloc),
             records: Vec::new(alloc),
         }
@@ -146,8 +144,8 @@ impl Teams {
     {
         self.may_begin(team, &payload)?;
         let number = self.records.len() as u32;
-        let record = KeptRecord::make(self.alloc, team, payload)?;
-        self.records.push(record)?;
+        let members = &self.teams[team as usize].members;
+        self.records.push(KeptRecord::make(team, payload, members))?;
         Ok(number)
     }
 
@@ -164,7 +162,7 @@ impl Teams {
     {
         let record = &mut self.records[rec as usize];
         let team = &self.teams[record.team() as usize];
-        record.mark(p, team.members.as_slice());
+        record.mark(p, &team.members);
         record.acked()
     }
 
@@ -192,6 +190,7 @@ impl Teams {
             AreFormed map.now policies.now self.new.teams }
     {
         self.teams[team as usize].replace(out, into);
+        recount(&mut self.records, team, &self.teams[team as usize].members);
     }
 
     /// Takes a process's mark off each record that isn't acknowledged. Takes no memory.
@@ -199,12 +198,15 @@ impl Teams {
         ensures { self.new ≡ healed p.0 self.old }
     {
         for rec in 0..self.records.len() {
-            self.records[rec].heal(p);
+            let record = &mut self.records[rec];
+            let team = &self.teams[record.team() as usize];
+            record.heal(p, &team.members);
         }
     }
 
     fn record(&self, rec: u32) -> Option<&KeptRecord>
-        ensures { option_copied result ≡ slice_get self.now.records rec }
+        ensures { option_map (λ it. it.held) (option_copied result)
+            ≡ slice_get self.now.records rec }
     {
         self.records.get(rec as usize)
     }
@@ -270,5 +272,15 @@ impl Teams {
         ensures { IsRoster self.now }
     {
         let _teams = &self.teams;
+    }
+}
+
+/// Counts anew for each record of a team that isn't acknowledged which of these members, now those
+/// of the team, haven't marked it.
+fn recount(records: &mut Vec<KeptRecord>, team: u32, members: &Members)
+    ensures { records.new.items ≡ map (recounted team members.now) records.old.items }
+{
+    for rec in 0..records.len() {
+        records[rec].recount(team, members);
     }
 }

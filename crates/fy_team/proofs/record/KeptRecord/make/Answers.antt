@@ -1,8 +1,12 @@
-use Rattle.std.proofs.Common.{false, ap, ◌∙◌}
-use Rattle.fy_team.specs.Marks.{set_of}
-use Rattle.fy_locality.specs.declared.TheConstants.{MOST_PROCESSES}
-use Rattle.fy_team.proofs.Marking.{set_of-falses}
+use Rattle.std.proofs.Common.{length, ap, sym, ◌∙◌}
+use Rattle.fy_team.specs.Counts.{missing_among}
+use Rattle.fy_team.proofs.Counting.{all_missing}
 use Rattle.fy_team.proofs.record.KeptRecord.make.Goals as goal
 
-pub returns : goal.returns
-returns c = ap (λ marks. record { team = c.args.team; payload = c.args.payload; marks = marks; acked = false }) (ap set_of c.in_ok-marks.ensures ∙ set_of-falses MOST_PROCESSES)
+pub returns-clause-counted : goal.returns-clause-counted
+returns-clause-counted c = record {
+  right = λ _. sym (
+      ap (λ marks. missing_among marks c.args.members.now) c.empty.ensures
+      ∙ all_missing c.args.members.now
+      ∙ ap length (sym c.as_slice.ensures.members));
+}

@@ -1,23 +1,57 @@
-use Rattle.std.proofs.Common.{◌≡◌, ◌<◌, ◌≤◌, ◌++◌, add-one, length, map, set, take, drop, ap, sym, subst, ◌∙◌, arith}
-use Rattle.fy_team.specs.Teams.{Roster, IsRoster, unless_acked}
-use Rattle.fy_team.proofs.Marking.{IsRoster-healed, mapped-next, mapped-all}
+use Rattle.std.proofs.Common.{◌≡◌, ◌<◌, ◌≤◌, ◌++◌, add-one, length, map, set, take, drop, ap, ap₂, sym, subst, ◌∙◌, arith}
+use Rattle.std.proofs.lemmas.List.{length-map, length-set, map-set, get_or-map}
+use Rattle.fy_team.specs.Teams.{Record, Team, healed, unless_acked}
+use Rattle.fy_team.specs.Counts.{Counted, IsCounted}
+use Rattle.fy_team.proofs.Marking.{unless_acked-team, unless_acked-payload, mapped-next, mapped-all}
+use Rattle.fy_team.proofs.Keeping.{held, team_read, counted_at, counted_for, AreKept-set}
 use Rattle.fy_team.proofs.teams.Teams.heal.Goals as goal
 
-pub invariant_of-self : goal.invariant_of-self
-invariant_of-self c =
-    let inside : Roster = record { teams = c.self.inside.teams.items; records = c.self.inside.records.items } in
-    let past : length inside.records ≤ c.loop-rec.rec = omega (arith, c.self.inside.records.ok.0) in
-    let healed : c.loop-rec.self-inside.records.items ≡ map (unless_acked c.args.p.0) inside.records = c.loop-rec.invariant.records ∙ mapped-all (unless_acked c.args.p.0) inside.records c.loop-rec.rec past in
-    subst (λ teams. IsRoster (record { teams = teams; records = c.loop-rec.self-inside.records.items })) (sym c.loop-rec.invariant.teams)
-    (subst (λ records. IsRoster (record { teams = inside.teams; records = records })) (sym healed) (IsRoster-healed c.args.p.0 inside c.self.invariant))
+pub index-team-requires : goal.index-team-requires
+index-team-requires c =
+    let now = c.loop-rec.self-inside in
+    let kept = c.loop-rec.invariant.kept in
+    let within : c.loop-rec.rec < length now.records.items = omega (arith, c.self.inside.records.ok.0, c.loop-rec.invariant.long) in
+    let lt : c.team.result < length now.teams.items = team_read now.teams.items now.records.items c.loop-rec.rec c.team.result c.index_mut-record.result.now kept within c.index_mut-record.ensures.value c.team.ensures in
+    omega (arith, now.teams.ok.0)
+
+pub heal-requires : goal.heal-requires
+heal-requires c =
+    let now = c.loop-rec.self-inside in
+    let kept = c.loop-rec.invariant.kept in
+    let within : c.loop-rec.rec < length now.records.items = omega (arith, c.self.inside.records.ok.0, c.loop-rec.invariant.long) in
+    subst (λ members. IsCounted members c.index_mut-record.result.now) (ap (λ (it : Team). it.members) (sym c.team-in-loop-rec.view_is))
+    (counted_at now.teams.items now.records.items c.loop-rec.rec c.index_mut-record.result.now c.team.result c.index-team.result.now kept within c.index_mut-record.ensures.value c.team.ensures c.index-team.ensures)
 
 pub loop-rec-preserved : goal.loop-rec-preserved
 loop-rec-preserved c =
-    let within : c.loop-rec.rec < length c.self.inside.records.items = omega (arith, c.self.inside.records.ok.0) in
+    let now = c.loop-rec.self-inside in
+    let was = map held c.self.inside.records.items in
+    let it = c.index_mut-record.result.now in
+    let x = c.heal.new.self in
+    let rec = c.loop-rec.rec in
+    let kept = c.loop-rec.invariant.kept in
+    let within : rec < length now.records.items = omega (arith, c.self.inside.records.ok.0, c.loop-rec.invariant.long) in
+    let lt : c.team.result < length now.teams.items = team_read now.teams.items now.records.items rec c.team.result it kept within c.index_mut-record.ensures.value c.team.ensures in
+    let same : x.held.team ≡ it.held.team = ap (λ (it : Record). it.team) c.heal.ensures.held ∙ unless_acked-team c.args.p.0 it.held in
+    let payload : x.held.payload ≡ it.held.payload = ap (λ (it : Record). it.payload) c.heal.ensures.held ∙ unless_acked-payload c.args.p.0 it.held in
     record {
       teams = c.loop-rec.invariant.teams;
+      kept = AreKept-set now.teams.items now.records.items rec x it within
+          (same ∙ ap (λ (x : Counted). x.held.team) c.index_mut-record.ensures.value)
+          (payload ∙ ap (λ (x : Counted). x.held.payload) c.index_mut-record.ensures.value)
+          (counted_for now.teams.items x c.team.result c.index-team.result.now c.team-in-loop-rec.inside.members lt (c.team.ensures ∙ sym same) c.index-team.ensures (ap (λ (it : Team). it.members) c.team-in-loop-rec.view_is) c.heal.ensures.counted)
+          kept;
+      long = length-set now.records.items rec x ∙ c.loop-rec.invariant.long;
       records =
-          ap (set c.loop-rec.self-inside.records.items c.loop-rec.rec) (c.heal.ensures ∙ ap (unless_acked c.args.p.0) c.index_mut.ensures.value)
-          ∙ mapped-next (unless_acked c.args.p.0) c.self.inside.records.items c.loop-rec.self-inside.records.items c.loop-rec.rec c.index_mut.result.now within c.loop-rec.invariant.records
-          ∙ ap (λ n. map (unless_acked c.args.p.0) (take n c.self.inside.records.items) ++ drop n c.self.inside.records.items) (sym (add-one c.loop-rec.rec));
+          map-set held now.records.items rec x
+          ∙ ap (set (map held now.records.items) rec) (c.heal.ensures.held ∙ ap (λ (it : Counted). unless_acked c.args.p.0 it.held) c.index_mut-record.ensures.value ∙ ap (unless_acked c.args.p.0) (sym (get_or-map held now.records.items rec it it.held within)))
+          ∙ mapped-next (unless_acked c.args.p.0) was (map held now.records.items) rec it.held (omega (arith, length-map c.self.inside.records.items held, c.loop-rec.invariant.long)) c.loop-rec.invariant.records
+          ∙ ap (λ n. map (unless_acked c.args.p.0) (take n was) ++ drop n was) (sym (add-one rec));
     }
+
+pub returns : goal.returns
+returns c =
+    let was = map held c.self.inside.records.items in
+    let past : length was ≤ c.loop-rec.rec = omega (arith, c.self.inside.records.ok.0, length-map c.self.inside.records.items held) in
+    ap₂ (λ teams records. record { teams = teams; records = records }) c.loop-rec.invariant.teams (c.loop-rec.invariant.records ∙ mapped-all (unless_acked c.args.p.0) was c.loop-rec.rec past)
+    ∙ ap (healed c.args.p.0) c.self.view_is

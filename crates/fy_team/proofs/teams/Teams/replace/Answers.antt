@@ -1,34 +1,52 @@
-use Rattle.std.proofs.Common.{◌≡◌, set, ap, sym, subst, ◌∙◌}
+use Rattle.std.proofs.Common.{◌≡◌, List, map, get_or-set_same, set, ap, sym, subst, ◌∙◌}
 use Rattle.std.specs.Prelude.{Some, slice_get}
-use Rattle.fy_team.specs.Teams.{Team, Roster, IsRoster, AreFormed, with_member, replaced}
-use Rattle.fy_team.proofs.Swapping.{IsRoster-replaced, AreFormed-replaced, replaced_there, read_there, team_there}
+use Rattle.std.proofs.lemmas.Option.{slice_get_within}
+use Rattle.fy_locality.specs.declared.ProcId.{ProcId}
+use Rattle.fy_team.specs.Teams.{Team, Roster, AreFormed, swapped, with_member, replaced}
+use Rattle.fy_team.specs.Counts.{AreKept, recounted, roster_of}
+use Rattle.fy_team.proofs.Swapping.{AreFormed-replaced, replaced_there, read_there, team_there}
+use Rattle.fy_team.proofs.Keeping.{held, records_recounted, AreKept-replaced}
 use Rattle.fy_team.proofs.teams.Teams.replace.Goals as goal
 
-abbrev held : goal.After-self-1 → Team
-held c = record { members = c.requires.members; policy = c.requires.policy }
+abbrev was : goal.After-recount → Team
+was c = record { members = c.requires.members; policy = c.requires.policy }
 
-there : (c : goal.After-self-1) → slice_get c.self.inside.teams.items c.args.team ≡ Some (held c)
+there : (c : goal.After-recount) → slice_get c.self.inside.teams.items c.args.team ≡ Some (was c)
 there c =
     ap (λ (roster : Roster). slice_get roster.teams c.args.team) c.self.view_is
     ∙ team_there c.args.self.now c.args.team c.requires.members c.requires.policy c.requires.there c.requires.names
 
-becomes : (c : goal.After-self-1) → c.replace.new.self ≡ with_member c.args.out c.args.into (held c)
-becomes c = c.replace.ensures ∙ ap (with_member c.args.out c.args.into) (read_there c.self.inside.teams.items c.args.team c.index_mut.result.now (held c) c.index_mut.ensures.value (there c))
+becomes : (c : goal.After-recount) → c.replace.new.self ≡ with_member c.args.out c.args.into (was c)
+becomes c = c.replace.ensures ∙ ap (with_member c.args.out c.args.into) (read_there c.self.inside.teams.items c.args.team c.index_mut.result.now (was c) c.index_mut.ensures.value (there c))
+
+-- the team as it is read to count anew
+read_back : (c : goal.After-recount) → c.behind-self.inside.members ≡ swapped c.args.out c.args.into c.requires.members
+read_back c =
+    ap (λ (team : Team). team.members)
+    (c.behind-self.view_is
+    ∙ c.index.ensures
+    ∙ get_or-set_same c.self.inside.teams.items c.args.team c.replace.new.self c.index.result.now (slice_get_within c.self.inside.teams.items c.args.team (was c) (there c))
+    ∙ becomes c)
+
+counts : (c : goal.After-recount) → c.recount.new.records.items ≡ map (recounted c.args.team (swapped c.args.out c.args.into c.requires.members)) c.self.inside.records.items
+counts c = c.recount.ensures ∙ ap (λ (members : List ProcId). map (recounted c.args.team members) c.self.inside.records.items) (read_back c)
 
 pub invariant_of-self : goal.invariant_of-self
 invariant_of-self c =
-    let inside : Roster = record { teams = c.self.inside.teams.items; records = c.self.inside.records.items } in
-    subst (λ it. IsRoster (record inside { teams = set inside.teams c.args.team it })) (sym (becomes c)) (IsRoster-replaced inside c.args.team c.args.out c.args.into (held c) (there c) c.requires.member c.self.invariant)
+    subst (λ it. AreKept (set c.self.inside.teams.items c.args.team it) c.recount.new.records.items) (sym (becomes c))
+    (subst (AreKept (set c.self.inside.teams.items c.args.team (with_member c.args.out c.args.into (was c)))) (sym (counts c))
+    (AreKept-replaced c.self.inside.teams.items c.self.inside.records.items c.args.team c.args.out c.args.into (was c) (there c) c.requires.member c.self.invariant))
 
 pub returns-clause-replaced : goal.returns-clause-replaced
 returns-clause-replaced c =
-    let inside : Roster = record { teams = c.self.inside.teams.items; records = c.self.inside.records.items } in
-    ap (λ it. record inside { teams = set inside.teams c.args.team it }) (becomes c)
-    ∙ ap (λ teams. record inside { teams = teams }) (sym (replaced_there inside c.args.team c.args.out c.args.into (held c) (there c)))
+    let inside : Roster = roster_of c.self.inside.teams.items c.self.inside.records.items in
+    ap (λ it. roster_of (set inside.teams c.args.team it) c.recount.new.records.items) (becomes c)
+    ∙ ap (λ records. record { teams = set inside.teams c.args.team (with_member c.args.out c.args.into (was c)); records = records }) (ap (map held) (counts c) ∙ records_recounted c.args.team (swapped c.args.out c.args.into c.requires.members) c.self.inside.records.items)
+    ∙ ap (λ teams. record inside { teams = teams }) (sym (replaced_there inside c.args.team c.args.out c.args.into (was c) (there c)))
     ∙ ap (replaced c.args.team c.args.out c.args.into) c.self.view_is
 
 pub returns-clause-kept : goal.returns-clause-kept
 returns-clause-kept c = λ before.
     subst (λ it. AreFormed c.args.map.now c.args.policies.now (set c.self.inside.teams.items c.args.team it)) (sym (becomes c))
-    (subst (λ (roster : Roster). AreFormed c.args.map.now c.args.policies.now (set roster.teams c.args.team (with_member c.args.out c.args.into (held c)))) (sym c.self.view_is)
+    (subst (λ (roster : Roster). AreFormed c.args.map.now c.args.policies.now (set roster.teams c.args.team (with_member c.args.out c.args.into (was c)))) (sym c.self.view_is)
     (AreFormed-replaced c.args.map.now c.args.policies.now c.args.self.now c.args.team c.args.out c.args.into c.requires before))

@@ -1,0 +1,46 @@
+-- records as they are kept: each with the number of members of its team that haven't marked it
+use Rattle.std.specs.Prelude.{◌≡◌, ◌&&◌, ◌==◌, ℕ, false, not, Some, List, [], length, map, filter, slice_get, if◌then◌else◌}
+use Rattle.std.specs.List.{All}
+use Rattle.std.specs.Option.{option_map_or}
+use Rattle.std.specs.Ordering.{nat_cmp}
+use Rattle.std.specs.FinSet as sets
+use Rattle.fy_locality.specs.declared.ProcId.{ProcId}
+use Rattle.fy_team.specs.Teams.{Team, Record, Roster, IsRoster}
+
+-- a record, and how many members of its team are said to have no mark
+pub record Counted : Type 0 where
+  pub held : Record
+  pub missing : ℕ
+
+-- how many of these members have no mark
+abbrev pub missing_among : sets.FinSet nat_cmp → List ProcId → ℕ
+missing_among marks members = length (filter (λ p. not (sets.contains marks p.0)) members)
+
+-- the number is right for these members; of an acknowledged record nothing is said
+pub record IsCounted (members : List ProcId) (it : Counted) : Type 0 where
+  pub right : it.held.acked ≡ false → it.missing ≡ missing_among it.held.marks members
+
+-- the number is right for the members of the record's team
+abbrev pub IsCountedIn : List Team → Counted → Type 0
+IsCountedIn teams it =
+    (team : Team) → slice_get teams it.held.team ≡ Some team → IsCounted team.members it
+
+-- the teams and the records without their numbers
+abbrev pub roster_of : List Team → List Counted → Roster
+roster_of teams records = record { teams = teams; records = map (λ it. it.held) records }
+
+-- what holds of teams and records as they are kept
+pub record AreKept (teams : List Team) (records : List Counted) : Type 0 where
+  pub roster : IsRoster (roster_of teams records)
+  pub counted : All (IsCountedIn teams) records
+
+-- a record counted anew for these members, where it is of the team with a number and isn't
+-- acknowledged
+abbrev pub recounted : ℕ → List ProcId → Counted → Counted
+recounted team members it =
+    if it.held.team == team && not it.held.acked
+    then record it { missing = missing_among it.held.marks members } else it
+
+-- the members of the team with a number, nobody where it isn't there
+abbrev pub members_of : List Team → ℕ → List ProcId
+members_of teams team = option_map_or (λ it. it.members) (slice_get teams team) []
