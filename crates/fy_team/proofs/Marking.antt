@@ -1,5 +1,5 @@
--- flags as a set of numbers, and who has marked a record
-use Rattle.std.proofs.Common.{◌≡◌, ◌↔◌, ◌≢◌, ℕ, zero, suc, ◌<◌, ◌≤◌, Bool, true, false, cond, ◌&&◌, ◌||◌, not, eqb, List, [], ◌∷◌, ◌++◌, length, map, get_or, set, take, drop, refl, sym, ap, ◌∙◌, arith}
+-- who has marked a record
+use Rattle.std.proofs.Common.{◌≡◌, ◌↔◌, ℕ, zero, suc, ◌<◌, ◌≤◌, Bool, true, false, cond, ◌&&◌, ◌||◌, not, eqb, List, [], ◌∷◌, ◌++◌, length, map, get_or, set, take, drop, refl, sym, ap, ◌∙◌, arith}
 use Rattle.std.specs.Prelude.{Option, Some, None, option_map, slice_get}
 use Rattle.std.specs.List.{All, list_all}
 use Rattle.std.specs.Option.{option_map_or}
@@ -14,9 +14,6 @@ use Rattle.fy_team.specs.Teams.{Team, Roster, Record, unmarked, marked_by, begun
 
 pub same_number : (q at : ℕ) → eqb q at ≡ true → q ≡ at
 same_number q at e = grind (arith, nat_tests)
-
-other_number : (q at : ℕ) → eqb q at ≡ false → q ≢ at
-other_number q at e = grind (arith, nat_tests)
 
 -- ---- who has marked a record
 

@@ -1,7 +1,6 @@
 -- records as they are kept: each with the number of members of its team that haven't marked it
-use Rattle.std.specs.Prelude.{◌≡◌, ◌&&◌, ◌==◌, ℕ, false, not, Some, List, [], length, map, filter, slice_get, if◌then◌else◌}
+use Rattle.std.specs.Prelude.{◌≡◌, ◌&&◌, ◌==◌, ℕ, false, not, Some, List, length, map, filter, slice_get, if◌then◌else◌}
 use Rattle.std.specs.List.{All}
-use Rattle.std.specs.Option.{option_map_or}
 use Rattle.std.specs.Ordering.{nat_cmp}
 use Rattle.std.specs.FinSet as sets
 use Rattle.fy_locality.specs.declared.ProcId.{ProcId}
@@ -40,7 +39,3 @@ abbrev pub recounted : ℕ → List ProcId → Counted → Counted
 recounted team members it =
     if it.held.team == team && not it.held.acked
     then record it { missing = missing_among it.held.marks members } else it
-
--- the members of the team with a number, nobody where it isn't there
-abbrev pub members_of : List Team → ℕ → List ProcId
-members_of teams team = option_map_or (λ it. it.members) (slice_get teams team) []
