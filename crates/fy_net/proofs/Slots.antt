@@ -1,5 +1,5 @@
 -- slots in order of number: which messages are there, and how marks change that
-use Rattle.std.proofs.Common.{◌≡◌, ◌≢◌, ℕ, zero, suc, ◌+◌, ◌<◌, ◌≤◌, Bool, true, false, cond, ◌&&◌, eqb, List, [], ◌∷◌, ◌++◌, length, get_or, set, map, find, filter, Some, None, option_map, refl, sym, ap, ◌∙◌, arith}
+use Rattle.std.proofs.Common.{◌≡◌, ◌≢◌, ℕ, zero, suc, ◌+◌, ◌<◌, ◌≤◌, Bool, true, false, cond, eqb, List, [], ◌∷◌, ◌++◌, length, get_or, set, map, find, filter, Some, None, option_map, refl, sym, ap, ◌∙◌, arith}
 use Rattle.std.specs.Prelude.{Ok, Err, IfSome, IfNone}
 use Rattle.std.proofs.lemmas.Bool.{false≢true}
 use Rattle.std.specs.Bool.{then_some}
@@ -25,7 +25,7 @@ abbrev first_there : Bool → Slot → List Message → List Message
 first_there b s ms = cond b (s.message ∷ ms) ms
 
 -- the list by its first slot
-there_first : (s : Slot) (ss : List Slot) → there_of (s ∷ ss) ≡ first_there s.there s (there_of ss)
+pub there_first : (s : Slot) (ss : List Slot) → there_of (s ∷ ss) ≡ first_there s.there s (there_of ss)
 there_first s ss = elim s.there as (λ b. map (λ (x : Slot). x.message) (cond b (s ∷ filter (λ x. x.there) ss) (filter (λ x. x.there) ss)) ≡ first_there b s (there_of ss)) [ true ↦ refl | false ↦ refl ]
 
 -- ---- numbers
@@ -99,16 +99,7 @@ one_fewer (s ∷ ss) (suc i) d within there =
     let rest : length (there_of ss) ≡ length (there_of (set ss i (marked (get_or ss i d)))) + 1 = one_fewer ss i d (omega arith) there in
     rw (there_first s (set ss i (marked (get_or ss i d))), there_first s ss) (elim s.there as (λ b. length (first_there b s (there_of ss)) ≡ length (first_there b s (there_of (set ss i (marked (get_or ss i d))))) + 1) [ true ↦ omega arith | false ↦ rest ])
 
-pub same_messages : (ss : List Slot) (i : ℕ) (d : Slot) → messages_of (set ss i (marked (get_or ss i d))) ≡ messages_of ss
-same_messages ss i d = map-set_same (λ (x : Slot). x.message) ss i (marked (get_or ss i d)) d refl
-
 -- what holds once slot i, which is s, is marked
-pub left_marked : (ss : List Slot) (number i : ℕ) (s : Slot) → IsThereAt ss number i → s ≡ get_or ss i s → there_of (set ss i (marked s)) ≡ without number (there_of ss)
-left_marked ss number i s place is = ap (λ x. there_of (set ss i (marked x))) is ∙ place.others s
-
-pub fewer_marked : (ss : List Slot) (number i : ℕ) (s : Slot) → IsThereAt ss number i → s ≡ get_or ss i s → length (there_of ss) ≡ length (there_of (set ss i (marked s))) + 1
-fewer_marked ss number i s place is = one_fewer ss i s place.within (place.there s) ∙ ap (λ x. length (there_of (set ss i (marked x))) + 1) (sym is)
-
 pub same_marked : (ss : List Slot) (i : ℕ) (s : Slot) → s ≡ get_or ss i s → messages_of (set ss i (marked s)) ≡ messages_of ss
 same_marked ss i s is = map-set_same (λ (x : Slot). x.message) ss i (marked s) s (ap (λ (x : Slot). x.message) is)
 
@@ -137,32 +128,6 @@ rises_kept stays low (s ∷ ss) rising =
       | false ↦ rises_lower (s.message.number + 1) low (messages_of (filter stays ss)) (omega (arith, rising.0)) (rises_kept stays (s.message.number + 1) ss rising.1)
     ]
 
--- those that are there and pass a test
-abbrev pub passing : (Message → Bool) → Slot → Bool
-passing p s = s.there && p s.message
-
-pub there_passing : (p : Message → Bool) (ss : List Slot) → there_of (filter (passing p) ss) ≡ filter p (there_of ss)
-there_passing p [] = refl
-there_passing p (s ∷ ss) =
-    rw (there_first s ss) (elim s.there as (λ b. s.there ≡ b → there_of (cond (b && p s.message) (s ∷ filter (passing p) ss) (filter (passing p) ss)) ≡ filter p (first_there b s (there_of ss))) [
-      | true ↦ λ e. elim (p s.message) as (λ b. there_of (cond b (s ∷ filter (passing p) ss) (filter (passing p) ss)) ≡ cond b (s.message ∷ filter p (there_of ss)) (filter p (there_of ss))) [
-        | true ↦ rw (there_first s (filter (passing p) ss), e) (ap (λ ms. s.message ∷ ms) (there_passing p ss))
-        | false ↦ there_passing p ss
-      ]
-      | false ↦ λ e. there_passing p ss
-    ] refl)
-
-pub count_passing : (p : Message → Bool) (ss : List Slot) → length (filter (passing p) ss) ≡ length (there_of (filter (passing p) ss))
-count_passing p [] = refl
-count_passing p (s ∷ ss) =
-    elim s.there as (λ b. s.there ≡ b → length (cond (b && p s.message) (s ∷ filter (passing p) ss) (filter (passing p) ss)) ≡ length (there_of (cond (b && p s.message) (s ∷ filter (passing p) ss) (filter (passing p) ss)))) [
-      | true ↦ λ e. elim (p s.message) as (λ b. length (cond b (s ∷ filter (passing p) ss) (filter (passing p) ss)) ≡ length (there_of (cond b (s ∷ filter (passing p) ss) (filter (passing p) ss)))) [
-        | true ↦ rw (there_first s (filter (passing p) ss), e) (ap suc (count_passing p ss))
-        | false ↦ count_passing p ss
-      ]
-      | false ↦ λ e. count_passing p ss
-    ] refl
-
 -- where all that are there stay
 pub there_kept : (ss : List Slot) → there_of (filter (λ s. s.there) ss) ≡ there_of ss
 there_kept [] = refl
@@ -171,18 +136,6 @@ there_kept (s ∷ ss) =
       | true ↦ λ e. rw (there_first s (filter (λ x. x.there) ss), e) (ap (λ ms. s.message ∷ ms) (there_kept ss))
       | false ↦ λ e. there_kept ss
     ] refl)
-
--- the first that is there and passes is the first of those that are there
-pub found_passing : (p : Message → Bool) (ss : List Slot) → option_map (λ s. s.message.number) (find (passing p) ss) ≡ option_map (λ m. m.number) (find p (there_of ss))
-found_passing p [] = refl
-found_passing p (s ∷ ss) =
-    rw (there_first s ss) (elim s.there as (λ b. option_map (λ x. x.message.number) (cond (b && p s.message) (Some s) (find (passing p) ss)) ≡ option_map (λ m. m.number) (find p (first_there b s (there_of ss)))) [
-      | true ↦ elim (p s.message) as (λ b. option_map (λ x. x.message.number) (cond b (Some s) (find (passing p) ss)) ≡ option_map (λ m. m.number) (cond b (Some s.message) (find p (there_of ss)))) [
-        | true ↦ refl
-        | false ↦ found_passing p ss
-      ]
-      | false ↦ found_passing p ss
-    ])
 
 -- ---- where a message is there
 
@@ -197,7 +150,7 @@ is_there_at ss number i rising within here there = record {
 pub is_not_there : (ss : List Slot) (number : ℕ) → ((k : ℕ) (d : Slot) → k < length ss → (get_or ss k d).there ≡ true → (get_or ss k d).message.number ≢ number) → body_of (there_of ss) number ≡ None
 is_not_there ss number other = ap (λ o. option_map (λ (m : Message). m.body) o) (found_none (λ m. eqb m.number number) ss (λ k d within there. eqb_other _ _ (other k d within there)))
 
-some_slot : Slot
+pub some_slot : Slot
 some_slot = record { message = record { number = 0; body = Store 0 (record { 0 = 0 }) }; there = false }
 
 module _ (ss : List Slot) (rising : Rises 0 (messages_of ss)) (number : ℕ) where

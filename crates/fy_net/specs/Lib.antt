@@ -2,5 +2,6 @@ pub mod Kept
 pub mod Net
 pub mod Numbers
 pub mod PlainlyKept
+pub mod Pool
 pub mod Places
 pub mod Slots

@@ -8,6 +8,7 @@ mod message;
 mod net;
 mod places;
 pub mod plain;
+mod pool;
 mod slot;
 #[cfg(test)]
 mod tests;

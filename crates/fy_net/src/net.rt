@@ -8,8 +8,8 @@ ghost use Rattle.fy_net.specs.Net.{quiet, process_of, body_of, left_by, sent_on,
 
 use crate::limits::{LAST_TICK, MOST_IN_FLIGHT};
 use crate::places::lasts;
-use crate::slot::{Slot, first_free_there, place_there};
-use crate::{Body, Message, NetFault};
+use crate::pool::Pool;
+use crate::{Body, NetFault};
 use fy_locality::{ProcId, ProcSet};
 use std::alloc::Global;
 use std::marker::Model;
@@ -18,9 +18,7 @@ use std::marker::Model;
 /// the time.
 #[derive(Drop)]
 pub struct Net {
-    slots: Vec<Slot>,
-    there: usize,
-    sent: u64,
+    pool: Pool,
     clock: u64,
     until: Vec<u64>,
     room: usize,
@@ -50,9 +48,7 @@ impl Net {
     {
         let until = vec![in alloc; 0; processes as usize]?;
         Ok(Net {
-            slots: Vec::new(alloc),
-            there: 0,
-            sent: 0,
+            pool: Pool::make(alloc, processes)?,
             clock: 0,
             until,
             room: 0,
@@ -75,22 +71,12 @@ impl Net {
         ensures ok { OnOk result (self.new ≡ record self.old { room = max self.old.room count }) }
         ensures err { OnErr result (self.new ≡ self.old) }
     {
-        if count > MOST_IN_FLIGHT - self.there {
+        if count > MOST_IN_FLIGHT - self.pool.len() {
             return Err(NetFault::NetFull);
         }
-        if self.there < self.slots.len() / 2 {
-            self.clear_away();
-        }
-        self.slots.reserve(count)?;
+        self.pool.reserve(count)?;
         self.room = self.room.max(count);
         Ok(())
-    }
-
-    /// Clears away the slots of messages that have left.
-    fn clear_away(&mut self)
-        ensures { self.new ≡ self.old }
-    {
-        self.slots.retain(|slot| slot.there);
     }
 
     /// Sends a message and answers its number, which is beyond each number given out before. It
@@ -102,13 +88,7 @@ impl Net {
         ensures unused { All (λ message. message.number < result) self.old.in_flight }
         ensures sent { self.new ≡ sent_on body self.old }
     {
-        let number = self.sent;
-        self.slots.push_reserved(Slot {
-            message: Message { number, body },
-            there: true,
-        });
-        self.there += 1;
-        self.sent += 1;
+        let number = self.pool.push(body);
         self.room -= 1;
         number
     }
@@ -118,8 +98,8 @@ impl Net {
         ensures body { result ≡ body_of self.now.in_flight number }
         ensures process { IfSome result (λ body. process_of body < length self.now.until) }
     {
-        let place = place_there(&self.slots, number)?;
-        Some(self.slots[place].message.body)
+        let place = self.pool.place_of(number)?;
+        Some(self.pool.body(place))
     }
 
     /// Takes a message out of the network, to be delivered, and answers what it says.
@@ -135,16 +115,13 @@ impl Net {
             IsOkAnd result (λ body. body_of self.old.in_flight number ≡ Some body)
             × (self.new ≡ left_by number self.old) }
     {
-        let Some(place) = place_there(&self.slots, number) else {
+        let Some(place) = self.pool.place_of(number) else {
             return Err(NetFault::NoMessage);
         };
-        let body = self.slots[place].message.body;
-        if lasts(&self.until, self.clock, body.process()) {
+        if lasts(&self.until, self.clock, self.pool.body(place).process()) {
             return Err(NetFault::Clogged);
         }
-        self.slots[place].there = false;
-        self.there -= 1;
-        Ok(body)
+        Ok(self.pool.leave(place))
     }
 
     /// Takes a message out of the network, clogged or not, and forgets it.
@@ -158,12 +135,10 @@ impl Net {
         ensures lost { lose_refusal self.old number ≡ None →
             (IsOk result) × (self.new ≡ left_by number self.old) }
     {
-        let Some(place) = place_there(&self.slots, number) else {
+        let Some(place) = self.pool.place_of(number) else {
             return Err(NetFault::NoMessage);
         };
-        let slot = &mut self.slots[place];
-        slot.there = false;
-        self.there -= 1;
+        self.pool.leave(place);
         Ok(())
     }
 
@@ -172,9 +147,7 @@ impl Net {
     pub fn void(&mut self, p: ProcId)
         ensures { self.new ≡ voided p.0 self.old }
     {
-        self.slots
-            .retain(|slot| slot.there && !slot.message.body.is_word_from(p));
-        self.there = self.slots.len();
+        self.pool.void(p);
     }
 
     /// Clogs a process for some ticks from now on, at most up to the clock's end. A longer clog
@@ -238,14 +211,14 @@ impl Net {
         ensures first { result ≡ first_free_of self.now (sets.contains up.now) }
         ensures least { IfSome result (NoneFreeBelow self.now (sets.contains up.now)) }
     {
-        first_free_there(&self.slots, &self.until, self.clock, up)
+        self.pool.first_free(&self.until, self.clock, up)
     }
 
     /// How many messages were sent so far, which is the number of the next one.
     pub fn sent(&self) -> u64
         ensures { result ≡ self.now.sent }
     {
-        self.sent
+        self.pool.sent()
     }
 
     /// The messages in flight stand in order of their numbers, all below the next one, and each is
@@ -253,6 +226,6 @@ impl Net {
     pub fn invariant(&self)
         ensures { IsTraffic self.now }
     {
-        let _slots = &self.slots;
+        let _pool = &self.pool;
     }
 }

@@ -39,7 +39,7 @@ pub(crate) fn reaches(up: &ProcSet, body: Body) -> bool
 }
 
 /// Whether a message isn't clogged and finds its process up.
-pub(crate) fn may_be_taken(until: &[u64], now: u64, up: &ProcSet, message: Message) -> bool
+fn may_be_taken(until: &[u64], now: u64, up: &ProcSet, message: Message) -> bool
     ensures { result ≡ may_be_taken until.now now (sets.contains up.now) message }
 {
     !lasts(until, now, message.body.process()) && reaches(up, message.body)

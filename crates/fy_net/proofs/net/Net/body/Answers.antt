@@ -1,14 +1,18 @@
-use Rattle.std.proofs.Common.{◌<◌, length, get_or, ap, arith}
-use Rattle.fy_net.specs.declared.slot.Slot.{Slot}
-use Rattle.fy_net.specs.Net.{Traffic, process_of}
+use Rattle.std.proofs.Common.{◌≡◌, ◌∙◌, ◌<◌, length, Some, sym, ap, arith}
+use Rattle.fy_net.specs.declared.message.Body.{Body}
+use Rattle.fy_net.specs.Net.{Traffic, process_of, body_of}
 use Rattle.fy_net.specs.Slots.{there_of}
 use Rattle.fy_net.proofs.Flights.{known_by_number}
+use Rattle.fy_net.proofs.Slots.{some_slot}
 use Rattle.fy_net.proofs.net.Net.body.Goals as goal
+
+pub returns-clause-body : goal.returns-clause-body
+returns-clause-body c =
+    let says : body_of (there_of c.self.inside.pool.slots.items) c.args.number ≡ Some c.body.result = c.in_ok-place.ensures.found.says some_slot ∙ ap (λ (b : Body). Some b) (sym (c.body.ensures some_slot)) in
+    sym says ∙ ap (λ (net : Traffic). body_of net.in_flight c.args.number) c.self.view_is
 
 pub returns-clause-process : goal.returns-clause-process
 returns-clause-process c =
-    let ss = c.self.inside.slots.items in
-    let place = rw c.deref.ensures.value at c.in_ok-place.ensures.found in
-    let until = ap (λ (net : Traffic). length net.until) c.self.view_is in
-    let known : process_of (get_or ss c.in_ok-place.place c.index.result.now).message.body < length c.self.inside.until.items = rw (place.says c.index.result.now) at (known_by_number (length c.self.inside.until.items) c.args.number (there_of ss) c.self.invariant.sound.known) in
-    omega (arith, ap (λ (s : Slot). process_of s.message.body) c.index.ensures)
+    let says : body_of (there_of c.self.inside.pool.slots.items) c.args.number ≡ Some c.body.result = c.in_ok-place.ensures.found.says some_slot ∙ ap (λ (b : Body). Some b) (sym (c.body.ensures some_slot)) in
+    let known : process_of c.body.result < length c.self.inside.until.items = rw says at (known_by_number (length c.self.inside.until.items) c.args.number (there_of c.self.inside.pool.slots.items) c.self.invariant.sound.known) in
+    omega (arith, known, ap (λ (net : Traffic). length net.until) c.self.view_is)

@@ -1,0 +1,320 @@
+//! The pool of the messages in flight, and the chains that lead through it.
+ghost use Rattle.std.specs.Prelude.{◌≡◌, ℕ, ◌+◌, ◌-◌, ◌^◌, ◌<◌, ◌≤◌, true, [], ◌∷◌, ◌++◌, length, slice_set, slice_index_or, filter, not, find, option_map, vec_len, IfOk, IfSome, IfNone, OnOk, IsOk, None};
+ghost use Rattle.std.specs.Vec.{vec_capacity};
+ghost use Rattle.std.specs.FinSet as sets;
+ghost use Rattle.fy_net.specs.Net.{body_of, process_of, is_word_from, without};
+ghost use Rattle.fy_net.specs.Places.{may_be_taken};
+ghost use Rattle.fy_net.specs.Slots.{there_of, marked, IsThereAt};
+ghost use Rattle.fy_net.specs.declared.pool.Pool.{Pool};
+ghost use Rattle.fy_net.specs.declared.slot.Slot.{Slot};
+ghost use Rattle.fy_net.specs.Pool.{chain_of, chain_at, is_there, healed, lower_of, IsFirst, IsThereOf, IsReachedOf, AreLinked, IsChained, IsPool, HasRoom, IsLike};
+
+use crate::places::lasts;
+use crate::slot::{Slot, place_there};
+use crate::{Body, Message};
+use fy_locality::{ProcId, ProcSet};
+use std::alloc::{AllocError, Global};
+
+/// The ends of a chain.
+#[derive(Clone, Copy)]
+pub(crate) struct Ends {
+    /// Its first slot whose message is there.
+    pub(crate) first: Option<usize>,
+    /// Its last slot.
+    pub(crate) last: Option<usize>,
+}
+
+/// Messages in slots in order of number. The slots of one process's stores are a chain, and so are
+/// those of its words.
+#[derive(Drop)]
+pub(crate) struct Pool {
+    pub(crate) slots: Vec<Slot>,
+    /// How many messages are there.
+    pub(crate) there: usize,
+    /// The number of the next message.
+    pub(crate) sent: u64,
+    /// For each slot the next one of its chain.
+    pub(crate) links: Vec<Option<usize>>,
+    /// Of each process's stores, and then of each process's words.
+    pub(crate) ends: Vec<Ends>,
+    pub(crate) processes: u32,
+}
+
+/// The number of a message's chain.
+fn chain(processes: u32, body: Body) -> usize
+    ensures { result ≡ chain_of processes body }
+{
+    match body {
+        Body::Store { to, .. } => to.0 as usize,
+        Body::Synced { from, .. } => processes as usize + from.0 as usize,
+    }
+}
+
+/// Links the last slot of a chain, where it has one, to the slot at a place.
+fn heal(links: &mut Vec<Option<usize>>, last: Option<usize>, place: usize)
+    requires { IfSome last (λ i. i < vec_len links.old) }
+    ensures items { links.new.items ≡ healed last place links.old.items }
+    ensures len { vec_len links.new ≡ vec_len links.old }
+    ensures capacity { vec_capacity links.new ≡ vec_capacity links.old }
+{
+    if let Some(last) = last {
+        links[last] = Some(place);
+    }
+}
+
+/// The lower of two places.
+fn lower(one: Option<usize>, other: Option<usize>) -> Option<usize>
+    ensures { result ≡ lower_of one other }
+{
+    match (one, other) {
+        (Some(one), Some(other)) => Some(one.min(other)),
+        (None, place) | (place, None) => place,
+    }
+}
+
+impl Pool {
+    /// A pool with no message and no room.
+    pub(crate) fn make(alloc: Global, processes: u32) -> Result<Pool, AllocError>
+        ensures { IfOk result (λ pool. IsPool pool × (pool.slots.items ≡ []) × (pool.sent ≡ 0)
+            × (pool.processes ≡ processes)) }
+    {
+        let none = Ends {
+            first: None,
+            last: None,
+        };
+        let ends = vec![in alloc; none; 2 * processes as usize]?;
+        Ok(Pool {
+            slots: Vec::new(alloc),
+            there: 0,
+            sent: 0,
+            links: Vec::new(alloc),
+            ends,
+            processes,
+        })
+    }
+
+    /// Makes room for `count` more messages.
+    pub(crate) fn reserve(&mut self, count: usize) -> Result<(), AllocError>
+        requires { IsPool self.old }
+        ensures pool { IsPool self.new }
+        ensures same { there_of self.new.slots.items ≡ there_of self.old.slots.items }
+        ensures like { IsLike self.old self.new }
+        ensures ok { OnOk result (HasRoom count self.new) }
+        ensures there { HasRoom count self.old → IsOk result }
+    {
+        self.tidy();
+        self.slots.reserve(count)?;
+        self.links.reserve(count)
+    }
+
+    /// Clears away the slots that were left, where they are so many that over many calls this costs
+    /// little for each of them.
+    fn tidy(&mut self)
+        requires { IsPool self.old }
+        ensures pool { IsPool self.new }
+        ensures same { there_of self.new.slots.items ≡ there_of self.old.slots.items }
+        ensures like { IsLike self.old self.new }
+    {
+        if self.slots.len() / 2 <= self.there.max(self.ends.len()) {
+            return;
+        }
+        self.clear_away();
+    }
+
+    /// Clears away the slots that were left.
+    fn clear_away(&mut self)
+        requires { IsPool self.old }
+        ensures pool { IsPool self.new }
+        ensures same { there_of self.new.slots.items ≡ there_of self.old.slots.items }
+        ensures like { IsLike self.old self.new }
+    {
+        self.slots.retain(|slot| slot.there);
+        self.links.clear();
+        self.ends.fill(Ends {
+            first: None,
+            last: None,
+        });
+        for _place in 0..self.slots.len() {
+            self.attach();
+        }
+    }
+
+    /// Attaches the first slot that isn't in its chain yet.
+    fn attach(&mut self)
+        requires chained { IsChained (vec_len self.old.links) self.old }
+        requires within { vec_len self.old.links < vec_len self.old.slots }
+        requires there { is_there self.old.slots.items (vec_len self.old.links) ≡ true }
+        requires known { chain_at self.old.processes self.old.slots.items (vec_len self.old.links)
+            < vec_len self.old.ends }
+        requires room { vec_len self.old.links < vec_capacity self.old.links }
+        ensures chained { IsChained (vec_len self.old.links + 1) self.new }
+        ensures rest { self.new
+            ≡ record self.old { links = self.new.links; ends = self.new.ends } }
+        ensures len { vec_len self.new.links ≡ vec_len self.old.links + 1 }
+        ensures capacity { vec_capacity self.new.links ≡ vec_capacity self.old.links }
+    {
+        let place = self.links.len();
+        let chain = chain(self.processes, self.slots[place].message.body);
+        let ends = self.ends[chain];
+        heal(&mut self.links, ends.last, place);
+        self.links.push_reserved(None);
+        self.ends[chain] = Ends {
+            first: ends.first.or(Some(place)),
+            last: Some(place),
+        };
+    }
+
+    /// Puts a message behind all others and answers its number.
+    pub(crate) fn push(&mut self, body: Body) -> u64
+        requires pool { IsPool self.old }
+        requires room { HasRoom 1 self.old }
+        requires process { process_of body < self.old.processes }
+        requires countable { self.old.sent + 1 < 2 ^ 64 }
+        ensures pool { IsPool self.new }
+        ensures number { result ≡ self.old.sent }
+        ensures sent { self.new.sent ≡ self.old.sent + 1 }
+        ensures processes { self.new.processes ≡ self.old.processes }
+        ensures there { there_of self.new.slots.items
+            ≡ there_of self.old.slots.items ++ record { number = self.old.sent; body = body } ∷ [] }
+        ensures room { (n : ℕ) → HasRoom (n + 1) self.old → HasRoom n self.new }
+    {
+        let number = self.sent;
+        self.slots.push_reserved(Slot {
+            message: Message { number, body },
+            there: true,
+        });
+        self.there += 1;
+        self.sent += 1;
+        self.attach();
+        number
+    }
+
+    /// How many messages are there.
+    pub(crate) fn len(&self) -> usize
+        requires { IsPool self.now }
+        ensures { result ≡ length (there_of self.now.slots.items) }
+    {
+        self.there
+    }
+
+    /// The number of the next message.
+    pub(crate) fn sent(&self) -> u64
+        ensures { result ≡ self.now.sent }
+    {
+        self.sent
+    }
+
+    /// What the message in the slot at a place says.
+    pub(crate) fn body(&self, place: usize) -> Body
+        requires { place < vec_len self.now.slots }
+        ensures { (other : Slot) →
+            result ≡ (slice_index_or self.now.slots.items place other).message.body }
+    {
+        self.slots[place].message.body
+    }
+
+    /// Where the message with a number is there.
+    pub(crate) fn place_of(&self, number: u64) -> Option<usize>
+        requires { IsPool self.now }
+        ensures found { IfSome result (λ i. IsThereAt self.now.slots.items number i) }
+        ensures missing { IfNone result (body_of (there_of self.now.slots.items) number ≡ None) }
+    {
+        place_there(&self.slots, number)
+    }
+
+    /// The next slot behind a place, of the same chain, whose message is there.
+    fn next_there(&self, place: usize) -> Option<usize>
+        requires within { place < vec_len self.now.slots }
+        requires many { vec_len self.now.links ≡ vec_len self.now.slots }
+        requires linked { AreLinked (vec_len self.now.slots) self.now.processes
+            self.now.slots.items self.now.links.items }
+        ensures { let chain = chain_at self.now.processes self.now.slots.items place in
+            IsFirst (IsThereOf self.now.processes self.now.slots.items chain) (place + 1)
+            (vec_len self.now.slots) result }
+    {
+        let mut at = self.links[place];
+        while let Some(next) = at {
+            if self.slots[next].there {
+                return at;
+            }
+            at = self.links[next];
+        }
+        None
+    }
+
+    /// Takes the message at a place out and answers what it says.
+    pub(crate) fn leave(&mut self, place: usize) -> Body
+        requires pool { IsPool self.old }
+        requires within { place < vec_len self.old.slots }
+        requires there { is_there self.old.slots.items place ≡ true }
+        ensures pool { IsPool self.new }
+        ensures left { (other : Slot) → self.new.slots.items
+            ≡ slice_set self.old.slots.items place
+            (marked (slice_index_or self.old.slots.items place other)) }
+        ensures body { (other : Slot) →
+            result ≡ (slice_index_or self.old.slots.items place other).message.body }
+        ensures like { IsLike self.old self.new }
+    {
+        let body = self.slots[place].message.body;
+        self.slots[place].there = false;
+        self.there -= 1;
+        let chain = chain(self.processes, body);
+        if self.ends[chain].first == Some(place) {
+            self.ends[chain].first = self.next_there(place);
+        }
+        body
+    }
+
+    /// Takes every word of a process out.
+    pub(crate) fn void(&mut self, p: ProcId)
+        requires { IsPool self.old }
+        ensures pool { IsPool self.new }
+        ensures there { there_of self.new.slots.items
+            ≡ filter (λ message. not (is_word_from p.0 message.body))
+            (there_of self.old.slots.items) }
+        ensures like { IsLike self.old self.new }
+    {
+        if p.0 < self.processes {
+            let words = self.processes as usize + p.0 as usize;
+            while let Some(place) = self.ends[words].first {
+                self.leave(place);
+            }
+        }
+    }
+
+    /// The first place of a message of a process that finds it up where it has to be.
+    fn first_of(&self, p: ProcId, up: bool) -> Option<usize>
+        requires pool { IsPool self.now }
+        requires process { p.0 < self.now.processes }
+        ensures { IsFirst (IsReachedOf self.now.processes self.now.slots.items p.0 up) 0
+            (vec_len self.now.slots) result }
+    {
+        let word = self.ends[self.processes as usize + p.0 as usize].first;
+        if up {
+            lower(word, self.ends[p.0 as usize].first)
+        } else {
+            word
+        }
+    }
+
+    /// The number of the first message that isn't clogged and finds its process up.
+    pub(crate) fn first_free(&self, until: &[u64], now: u64, up: &ProcSet) -> Option<u64>
+        requires pool { IsPool self.now }
+        requires clogs { length until.now ≡ self.now.processes }
+        ensures { result ≡ option_map (λ message. message.number)
+            (find (may_be_taken until.now now (sets.contains up.now))
+            (there_of self.now.slots.items)) }
+    {
+        let mut first = None;
+        for p in 0..self.processes {
+            let p = ProcId(p);
+            if !lasts(until, now, p) {
+                first = lower(first, self.first_of(p, up.contains(p)));
+            }
+        }
+        match first {
+            Some(place) => Some(self.slots[place].message.number),
+            None => None,
+        }
+    }
+}
