@@ -1,9 +1,8 @@
 -- whether an entry may come next
-use Rattle.std.proofs.Common.{◌≡◌, ◌↔◌, ℕ, zero, suc, ◌+◌, ◌<◌, ◌≤◌, inl, inr, Bool, true, false, List, [], ◌∷◌, ◌++◌, length, take, get_or, slice_get, Some, Ok, Err, Result, IsTrue, sym, ◌∙◌, ap, subst, arith, add-one}
+use Rattle.std.proofs.Common.{◌≡◌, ◌↔◌, ℕ, ◌+◌, ◌<◌, ◌≤◌, inl, inr, Bool, true, false, List, [], ◌∷◌, ◌++◌, length, take, get_or, slice_get, Some, Ok, Err, Result, IsTrue, sym, ◌∙◌, ap, subst, arith}
 use Rattle.std.specs.Bool.{Decides}
 use Rattle.std.proofs.lemmas.Bool.{false≢true, cases_lt}
 use Rattle.std.proofs.lemmas.List.{length-take-le}
-use Rattle.std.proofs.lemmas.Option.{slice_get-get_or}
 use Rattle.fy_spelling.specs.declared.act.Act.{Act}
 use Rattle.fy_spelling.specs.declared.reply.Reply.{Reply}
 use Rattle.fy_spelling.specs.declared.entry.Entry.{Entry}
@@ -16,6 +15,7 @@ use Rattle.fy_cluster.specs.History.{History, moment, after, history}
 use Rattle.fy_cluster.specs.Replies.{reply}
 use Rattle.fy_cluster.specs.Versions.{LegalUnder, NextLegalUnder, knows}
 use Rattle.fy_check.specs.Check.{IsFirstBad}
+use Rattle.fy_check.proofs.Lists.{there, one_more}
 
 length-after : (c : Setup) (h : History) (xs : List Entry) → length (after c h xs) ≡ length h + length xs
 length-after c h [] = omega arith
@@ -62,17 +62,6 @@ entered_is course new e act answered a place same right is =
     is ∙ ap (λ (x : Entry). let more : Course = record { setup = course.setup; journal = course.journal ++ x ∷ [] } in more) (of_parts e (length course.journal) act (replied course e.by act) place (sym a) (sym same ∙ right))
 
 -- ---- the entries one after another
-
-pub take-push : {X : Type 0} (xs : List X) (i : ℕ) (x : X) → slice_get xs i ≡ Some x → take (suc i) xs ≡ take i xs ++ x ∷ []
-take-push [] i x e = absurd (cc)
-take-push (y ∷ xs) zero x e = let same : y ≡ x = cc in ap (λ z. z ∷ []) same
-take-push (y ∷ xs) (suc i) x e = ap (λ ys. y ∷ ys) (take-push xs i x e)
-
-there : (entries : List Entry) (i : ℕ) (e : Entry) → i < length entries → e ≡ get_or entries i e → slice_get entries i ≡ Some e
-there entries i e l is = slice_get-get_or entries i e l ∙ ap Some (sym is)
-
-pub one_more : (entries : List Entry) (i : ℕ) (e : Entry) → i < length entries → e ≡ get_or entries i e → take (i + 1) entries ≡ take i entries ++ e ∷ []
-one_more entries i e l is = ap (λ n. take n entries) (add-one i) ∙ take-push entries i e (there entries i e l is)
 
 -- each entry is numbered by its place
 abbrev pub AreNumbered : List Entry → Type 0
