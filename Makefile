@@ -51,6 +51,7 @@ bench: build
 	bench/acts.sh
 	bench/turns.sh
 	bench/needs.sh
+	bench/bodies.sh
 	bench/configs.sh
 
 clean:
