@@ -9,8 +9,6 @@ mod limits;
 mod names;
 mod reading;
 mod tables;
-#[cfg(test)]
-mod tests;
 
 pub use fault::{ConfigFault, Part};
 pub use limits::{MOST_FILE_BYTES, MOST_PROTECTIONS};

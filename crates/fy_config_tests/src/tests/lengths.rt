@@ -1,7 +1,7 @@
 //! How long a file and its lists may be, and long files that mean harm.
 use crate::tests::{Parts, fault_in, fault_of, field, limit, name, of_two, read};
-use crate::{ConfigFault, MOST_FILE_BYTES, MOST_PROTECTIONS, Part};
 use fy_cluster::MOST_ACTORS;
+use fy_config::{ConfigFault, MOST_FILE_BYTES, MOST_PROTECTIONS, Part};
 use fy_grants::MOST_GRANTS;
 use fy_locality::MOST_PROCESSES;
 use std::alloc::{AllocError, Global};

@@ -1,8 +1,8 @@
 //! Whole files, and what they begin a cluster with.
 use crate::tests::described::described;
 use crate::tests::{Parts, fault_in, field, limit, name, of_two, read};
-use crate::{ConfigFault, Part};
 use fy_cluster::Cluster;
+use fy_config::{ConfigFault, Part};
 use std::test::Fail;
 
 const ACTORS: &str = "[{role = 'storage'}, \

@@ -1,7 +1,7 @@
 //! What is TOML, and in which spellings.
 use crate::tests::described::described;
 use crate::tests::{Parts, fault_in, fault_of, field, name, of_two, read};
-use crate::{ConfigFault, Part};
+use fy_config::{ConfigFault, Part};
 use std::test::Fail;
 
 /// The two processes of `of_two`, each thing in its other spelling.

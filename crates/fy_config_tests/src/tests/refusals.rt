@@ -1,6 +1,6 @@
 //! What is wrong with a part, and which wrong thing is told.
 use crate::tests::{P0, Parts, TWO, fault_in, field, limit, name, of_two};
-use crate::{ConfigFault, Part};
+use fy_config::{ConfigFault, Part};
 use std::test::Fail;
 
 #[test]

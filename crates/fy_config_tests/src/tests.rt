@@ -5,8 +5,8 @@ mod documents;
 mod lengths;
 mod refusals;
 
-use crate::{ConfigFault, Part, read_config};
 use fy_cluster::Config;
+use fy_config::{ConfigFault, Part, read_config};
 use std::alloc::{AllocError, Global};
 
 /// The parts of a file as they are written.
