@@ -199,8 +199,12 @@ impl Map {
         let processes = Vec::from_slice(alloc, &self.processes)?;
         let places = Vec::from_slice(alloc, &self.places)?;
         let centers = copied(&self.centers)?;
-        let ((ids, machines), (zones, halls)) =
-            four_copied(&self.ids, &self.machines, &self.zones, &self.halls)?;
+        let ((ids, machines), (zones, halls)) = four_copied(
+            &self.ids,
+            &self.machines,
+            &self.zones,
+            &self.halls,
+        )?;
         Ok(Map {
             processes,
             ids,
