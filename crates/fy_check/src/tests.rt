@@ -3,6 +3,7 @@ use crate::laws;
 
 mod journals;
 mod legal;
+mod random;
 mod wrong;
 
 #[test]

@@ -1,6 +1,6 @@
 //! Journals, written out entry by entry, for a cluster of six processes, two in each of three
 //! zones.
-use crate::{CheckFault, replay};
+use crate::{CheckFault, check, replay};
 use fy_audit::{Act, Journal, Refusal, Reply, Version};
 use fy_cluster::{Config, Role};
 use fy_disk::Payload;
@@ -87,7 +87,7 @@ pub(super) fn journal_of(
     Ok(journal)
 }
 
-/// What checking these lines answers, for six processes.
+/// What either body answers to these lines, for six processes.
 pub(super) fn answer_to(
     rt: &impl Abort,
     alloc: Global,
@@ -97,6 +97,7 @@ pub(super) fn answer_to(
 ) -> Result<(), Fail> {
     let config = six(alloc, 1000)?;
     let journal = journal_of(alloc, version, lines)?;
+    assert_eq!(rt; check(alloc, &config, &journal), answer);
     assert_eq!(rt; replay(alloc, &config, &journal), answer);
     Ok(())
 }

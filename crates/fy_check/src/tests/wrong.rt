@@ -1,6 +1,6 @@
 //! Wrong journals, each a legal one with one thing changed.
 use super::journals::*;
-use crate::replay;
+use crate::{check, replay};
 use fy_audit::{Act, Refusal, Reply, Version};
 use fy_kinds::{Kind, Rule};
 use fy_locality::ProcId;
@@ -99,6 +99,7 @@ fn journal_is_too_long(rt: HostRuntime) -> Result<(), Fail> {
     let alloc = rt.alloc();
     let config = six(alloc, 1)?;
     let journal = journal_of(alloc, Version::Second, two_zones(alloc)?)?;
+    assert_eq!(rt; check(alloc, &config, &journal), bad(1));
     assert_eq!(rt; replay(alloc, &config, &journal), bad(1));
     Ok(())
 }
