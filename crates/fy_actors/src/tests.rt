@@ -7,6 +7,7 @@ mod desks;
 mod drawn;
 mod played;
 mod stored;
+mod twins;
 
 #[test]
 fn laws_can_be_called() {
