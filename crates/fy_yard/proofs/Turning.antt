@@ -1,0 +1,334 @@
+-- what a turn does to a seat
+use Rattle.std.proofs.Common.{◌≡◌, ℕ, ◌+◌, ◌%◌, ◌^◌, List, [], ◌∷◌, ◌++◌, length, true, sym, refl, ap, ◌∙◌, subst, Option, Some, None}
+use mathlib.Core.Option.{none}
+use Rattle.atomic_table.specs.Table.{rest, step, Allows}
+use Rattle.atomic_table.specs.declared.shared.Seat.{Seat as Place}
+use Rattle.fy_spelling.specs.declared.entry.Entry.{Entry}
+use Rattle.fy_cluster.specs.Setup.{Setup, IsMet}
+use Rattle.fy_cluster.specs.Replies.{Legal}
+use Rattle.fy_cluster.specs.Survival.{JournalsSurvive}
+use Rattle.fy_spelling.specs.declared.act.Act.{Act}
+use Rattle.fy_spelling.specs.declared.reply.Reply.{Reply}
+use Rattle.fy_actors.specs.Desk.{Bench, entries_by, OnlyBy, Worked, acted, told, receipt}
+use Rattle.fy_yard.specs.declared.view.View.{View}
+use Rattle.fy_yard.specs.Yard.{StartsWith, Yard, Sitting, Sees, Ends, Turned, entry, actor_count}
+use Rattle.fy_yard.specs.Turns.{Sat, At, with_ticket, serving_at, after_count, without_ticket, journal_in, Kept, Drawn, Took, Looks, Counted, Advanced}
+use Rattle.fy_yard.specs.Places.{IsCalm, IsPlaceOf, IsWaiting, Waits, IsSameActor, IsServed, IsGrown, sitting}
+use Rattle.fy_yard.proofs.Journals.{by_more, begins_more}
+use Rattle.fy_yard.proofs.Moves.{counts, advances}
+
+ticket_only : (v : View) (t : ℕ) → IsSameActor v (with_ticket v t)
+ticket_only v t = record {
+  setup = refl;
+  all = refl;
+  parts = refl;
+  seated = refl;
+  actor = refl;
+  live = refl;
+  kept = refl;
+  opens = refl;
+  made = refl;
+  told = refl;
+}
+
+served_only : (v : View) (h : List Entry) → IsSameActor v (serving_at v h)
+served_only v h = record {
+  setup = refl;
+  all = refl;
+  parts = refl;
+  seated = refl;
+  actor = refl;
+  live = refl;
+  kept = refl;
+  opens = refl;
+  made = refl;
+  told = refl;
+}
+
+pub drawn : (st : At) (m m' : Sat) (n : ℕ) → IsCalm m → Drawn st m n m' → Waits m m' n
+drawn st m m' n calm d = subst (λ (x : Sat). Waits m x n) (sym d.2) record {
+  waiting = record {
+    empty = calm.empty;
+    waits = refl;
+    holds = calm.holds;
+    seated = calm.seated;
+    live = calm.live;
+    kept = calm.kept;
+    ticket = d.1;
+  };
+  same = ticket_only m.0 d.0;
+  seen = refl;
+  mine = refl;
+}
+
+-- the look found the seat's number, and the desk came with it
+pub record Came (m m' : Sat) : Type 0 where
+  pub desk : Bench
+  pub now : m' ≡ (serving_at m.0 desk.journal, (0, Some desk) ∷ [])
+  pub took : Took m m' desk
+
+pub came : (m m' : Sat) (n k : ℕ) → IsWaiting m n → k ≡ n → Looks m k m' → Came m m'
+came m m' n k waits is looked =
+    let found = looked.0 (is ∙ waits.ticket) in
+    let desk : Bench = found.0 in
+    record {
+      desk = desk;
+      now =
+          found.1.now
+          ∙ ap (λ (c : List (ℕ × Option Bench)). (serving_at m.0 desk.journal, (0, Some desk) ∷ c))
+          waits.empty;
+      took = found.1;
+    }
+
+pub in_hand : (m m' : Sat) → Came m m' → (o : Option Bench) × (m'.1 ≡ (0, o) ∷ rest m'.1)
+in_hand m m' t =
+    let e : m'.1 ≡ (0, Some t.desk) ∷ [] = ap (λ (x : Sat). x.1) t.now in (
+      Some t.desk,
+      e ∙ ap (λ (cs : List (ℕ × Option Bench)). (0, Some t.desk) ∷ rest cs) (sym e),
+    )
+
+abbrev first_of : List (ℕ × Option Bench) → Option Bench
+first_of [] = None
+first_of (x ∷ xs) = x.1
+
+pub is_desk : (m m' : Sat) (r : Option Bench) (t : Came m m') → m'.1 ≡ (0, r) ∷ rest m'.1
+    → r ≡ Some t.desk
+is_desk m m' r t e =
+    first_is ((0, r) ∷ rest m'.1) ((0, Some t.desk) ∷ [])
+    (sym e ∙ ap (λ (x : Sat). x.1) t.now)
+  where
+    first_is : (xs ys : List (ℕ × Option Bench)) → xs ≡ ys → first_of xs ≡ first_of ys
+    first_is xs ys p = ap first_of p
+
+abbrev bench_or : Bench → Option Bench → Bench
+bench_or d None = d
+bench_or d (Some b) = b
+
+pub served : (m l x : Sat) (n : ℕ) (r : Option Bench) (b : Bench) → IsWaiting m n → Came m l
+    → l.1 ≡ (0, r) ∷ rest l.1 → x ≡ (l.0, (0, None) ∷ rest l.1) → r ≡ Some b
+    → IsServed m.0 x b
+served m l x n r b waits t e new is =
+    let same : t.desk ≡ b = ap (bench_or b) (sym (is_desk m l r t e) ∙ is) in
+    let now : x ≡ (serving_at m.0 (t.desk).journal, (0, None) ∷ []) =
+    new ∙ ap (λ (z : Sat). (z.0, (0, None) ∷ rest z.1)) t.now in
+    subst (λ (z : Sat × Bench). IsServed m.0 z.0 z.1) (λ i. (sym now i, same i)) record {
+      slot = refl;
+      waits = waits.waits;
+      holds = refl;
+      seen = refl;
+      same = served_only m.0 (t.desk).journal;
+      mine = refl;
+      setup = (t.took).setup;
+      after = (t.took).after;
+      legal = (t.took).legal;
+      own = (t.took).own;
+    }
+
+-- the desk with more entries is counted
+pub stores : (slots id new : ℕ) (m x : Sat) (b : Bench) → x ≡ (m.0, (0, Some b) ∷ rest m.1)
+    → m.1 ≡ (0, None) ∷ [] → m.0.holds ≡ true → m.0.seated ≡ true → m.0.kept ≡ []
+    → IsGrown m.0 b → Legal b.setup b.journal → new ≡ length b.journal
+    → Allows Kept slots id x 0 (λ _. new) (λ _. Counted (step slots 0 new 0 none) x new)
+stores slots id new m x b is empty holds seated alone grown legal new_is =
+    let x₀ : Sat = (m.0, (0, Some b) ∷ []) in
+    let same : x ≡ x₀ =
+    is ∙ ap (λ (cs : List (ℕ × Option Bench)). (m.0, (0, Some b) ∷ rest cs)) empty in
+    let setup = grown.setup in
+    let journal = grown.journal in
+    subst
+    (λ (z : Sat).
+    Allows Kept slots id z 0 (λ _. new) (λ _. Counted (step slots 0 new 0 none) z new))
+    (sym same)
+    (counts slots id new x₀ b grown.new holds seated alone refl journal grown.own
+    (subst (λ (z : Setup × List Entry). Legal z.0 z.1) (λ i. (setup i, journal i)) legal)
+    (new_is ∙ ap (λ (l : List Entry). length l) journal))
+
+-- the seat after the count
+pub counted : (m x y : Sat) (b : Bench) → x ≡ (m.0, (0, Some b) ∷ rest m.1)
+    → m.1 ≡ (0, None) ∷ [] → y ≡ (after_count x.0 (journal_in x.1), x.1)
+    → y ≡ (after_count m.0 b.journal, (0, Some b) ∷ [])
+counted m x y b is empty did =
+    let same : x ≡ (m.0, (0, Some b) ∷ []) =
+    is ∙ ap (λ (cs : List (ℕ × Option Bench)). (m.0, (0, Some b) ∷ rest cs)) empty in
+    did ∙ ap (λ (z : Sat). (after_count z.0 (journal_in z.1), z.1)) same
+
+pub moves_on : (slots id : ℕ) (m y : Sat) (b : Bench)
+    → y ≡ (after_count m.0 b.journal, (0, Some b) ∷ []) → m.0.holds ≡ true → m.0.waits ≡ 1
+    → m.0.live ≡ true → b.setup ≡ m.0.setup
+    → Allows Kept slots id y 2 (λ n. (n + 1) % 2 ^ 64) (Advanced (step slots 2 1 0 none) y)
+moves_on slots id m y b is holds one live setup =
+    subst
+    (λ (z : Sat).
+    Allows Kept slots id z 2 (λ n. (n + 1) % 2 ^ 64) (Advanced (step slots 2 1 0 none) z))
+    (sym is)
+    (advances slots id (after_count m.0 b.journal, (0, Some b) ∷ []) b holds one live refl setup
+    refl)
+
+pub advanced : (m y z : Sat) (b : Bench) → y ≡ (after_count m.0 b.journal, (0, Some b) ∷ [])
+    → z ≡ (without_ticket y.0, []) → z ≡ (without_ticket (after_count m.0 b.journal), [])
+advanced m y z b is did = did ∙ ap (λ (u : Sat). (without_ticket u.0, [])) is
+
+-- entries of the actor that come last are its next receipts
+more_entries : (d : View) (m : Sat) (b : Bench) (j es : List Entry) → IsServed d m b
+    → j ≡ b.journal ++ es → OnlyBy d.actor es → entries_by m.0.actor j ≡ d.mine ++ es
+more_entries d m b j es s is only =
+    let actor = (s.same).actor in
+    ap (λ (x : ℕ × List Entry). entries_by x.0 x.1) (λ i. (actor i, is i))
+    ∙ (by_more d.actor b.journal es only ∙ ap (λ (l : List Entry). l ++ es) s.own)
+
+-- what a whole turn leaves: v before it, z after it; the desk came as b and went with the journal j
+pub record Done (v z : Sat) (b : Bench) (j : List Entry) (a : ℕ) (rs : List Entry)
+    : Type 0 where
+  pub calm : IsCalm z
+  pub actor : z.0.actor ≡ a
+  pub mine : z.0.mine ≡ rs
+  pub all : z.0.all ≡ actor_count z.0.setup
+  pub setup : z.0.setup ≡ v.0.setup
+  pub seen : z.0.seen ≡ j
+  pub after : StartsWith b.journal v.0.seen
+  pub before : StartsWith j v.0.seen
+  pub legal : Legal v.0.setup j
+  pub own : entries_by a j ≡ rs
+
+-- w with the ticket, m with the desk b in hand, which then has the journal j, with es more
+pub done : (p : Place (Option Bench) View) (w m z : Sat) (n : ℕ) (b : Bench) (c : Setup)
+    (j es : List Entry) (a : ℕ) (rs rs' : List Entry) → IsPlaceOf a rs p → Waits p.me w n
+    → IsServed w.0 m b → z ≡ (without_ticket (after_count m.0 j), []) → c ≡ b.setup
+    → Legal c j → j ≡ b.journal ++ es → OnlyBy a es → rs' ≡ rs ++ es → Done p.me z b j a rs'
+done p w m z n b c j es a rs rs' at waits served is same_setup legal grown only more =
+    let v : Sat = p.me in
+    let calm = at.calm in
+    let s = served.same in
+    let q = waits.same in
+    let setup : m.0.setup ≡ v.0.setup = s.setup ∙ q.setup in
+    let its : w.0.actor ≡ a = q.actor ∙ at.actor in
+    let actor : m.0.actor ≡ a = s.actor ∙ its in
+    let only' : OnlyBy w.0.actor es = subst (λ (k : ℕ). OnlyBy k es) (sym its) only in
+    let mine : entries_by m.0.actor j ≡ rs' =
+    more_entries w.0 m b j es served grown only'
+    ∙ (ap (λ (l : List Entry). l ++ es) (waits.mine ∙ at.mine) ∙ sym more) in
+    let far : StartsWith b.journal v.0.seen =
+    subst (StartsWith b.journal) waits.seen served.after in
+    subst (λ (x : Sat). Done v x b j a rs') (sym is) record {
+      calm = record {
+        empty = refl;
+        waits = refl;
+        holds = refl;
+        seated = s.seated ∙ (q.seated ∙ calm.seated);
+        parts = s.parts ∙ (q.parts ∙ calm.parts);
+        live = s.live ∙ (q.live ∙ calm.live);
+        kept = s.kept ∙ (q.kept ∙ calm.kept);
+        told = s.told ∙ (q.told ∙ calm.told);
+      };
+      actor = actor;
+      mine = mine;
+      all = s.all ∙ (q.all ∙ (at.all ∙ ap (λ (x : Setup). actor_count x) (sym setup)));
+      setup = setup;
+      seen = refl;
+      after = far;
+      before =
+          subst (λ (l : List Entry). StartsWith l v.0.seen) (sym grown)
+          (begins_more b.journal v.0.seen es far);
+      legal =
+          subst (λ (x : Setup). Legal x j) (same_setup ∙ (served.setup ∙ q.setup)) legal;
+      own = ap (λ (k : ℕ). entries_by k j) (sym actor) ∙ mine;
+    }
+
+-- the place that the seat has then
+pub placed : (a : ℕ) (rs : List Entry) (p : Place (Option Bench) View) (v : Sat) (b : Bench)
+    (j : List Entry) → Done v p.me b j a rs → IsPlaceOf a rs p
+placed a rs p v b j d =
+    record { calm = d.calm; actor = d.actor; mine = d.mine; all = d.all }
+
+abbrev yard_or : Yard → Option Yard → Yard
+yard_or d None = d
+yard_or d (Some y) = y
+
+pub of_yard : (y : Yard) (s : Sitting) (a : ℕ) (rs : List Entry)
+    (p : Place (Option Bench) View) → sitting a rs (Some p) ≡ s → s.of ≡ Some y
+    → record { id = p.table_id; setup = p.me.0.setup } ≡ y
+of_yard y s a rs p is of = ap (yard_or y) (ap (λ (x : Sitting). x.of) is ∙ of)
+
+pub sees : (y : Yard) (s : Sitting) (a : ℕ) (rs rs' : List Entry)
+    (p : Place (Option Bench) View) (o : Option Yard) (z : Sat) (b : Bench) (j : List Entry)
+    → JournalsSurvive → IsMet y.setup → sitting a rs (Some p) ≡ s → s.of ≡ Some y
+    → Done p.me z b j a rs'
+    → Sees y s (record { of = o; actor = a; receipts = rs'; seen = z.0.seen })
+sees y s a rs rs' p o z b j survive met is of d =
+    let seen = sym d.seen in
+    let yard = of_yard y s a rs p is of in
+    record {
+      survives =
+          survive y.setup z.0.seen met
+          (subst (λ (x : Setup × List Entry). Legal x.0 x.1) (λ i. ((yard i).setup, seen i))
+          d.legal);
+      before =
+          subst (λ (x : List Entry × List Entry). StartsWith x.0 x.1)
+          (λ i. (seen i, (is i).seen)) d.before;
+      own = ap (entries_by a) d.seen ∙ d.own;
+    }
+
+-- the entries that the turn left are the last that the seat has seen
+pub turned : (s : Sitting) (a : ℕ) (rs rs' : List Entry) (p : Place (Option Bench) View)
+    (o : Option Yard) (z : Sat) (b : Bench) (j es : List Entry) → sitting a rs (Some p) ≡ s
+    → Done p.me z b j a rs' → j ≡ b.journal ++ es → OnlyBy a es → rs' ≡ rs ++ es
+    → Turned s (record { of = o; actor = a; receipts = rs'; seen = z.0.seen })
+turned s a rs rs' p o z b j es is d grown only more = record {
+  log = b.journal;
+  new = es;
+  last = d.seen ∙ grown;
+  after = subst (StartsWith b.journal) (ap (λ (x : Sitting). x.seen) is) d.after;
+  only = subst (λ (k : ℕ). OnlyBy k es) (ap (λ (x : Sitting). x.actor) is) only;
+  receipts = more ∙ ap (λ (x : Sitting). x.receipts ++ es) is;
+}
+
+-- a desk that was worked at comes back with more entries
+pub grown : (v : View) (m : Sat) (b b₁ b₂ b₃ : Bench) (a a' : ℕ) (rs rs' : List Entry)
+    → IsServed v m b → m.0.actor ≡ a → b₁ ≡ record b { actor = a; receipts = rs }
+    → Worked b₁ b₂ → b₃ ≡ record b₂ { actor = a'; receipts = rs' } → IsGrown m.0 b₃
+grown v m b b₁ b₂ b₃ a a' rs rs' served actor sat worked left =
+    let same = (served.same).setup in
+    record {
+      setup =
+          ap (λ (x : Bench). x.setup) left
+          ∙ (worked.setup ∙ (ap (λ (x : Bench). x.setup) sat ∙ (served.setup ∙ sym same)));
+      new = worked.new;
+      journal =
+          ap (λ (x : Bench). x.journal) left
+          ∙ (worked.journal
+          ∙ ap (λ (l : List Entry). l ++ worked.new)
+          (ap (λ (x : Bench). x.journal) sat ∙ sym served.seen));
+      own =
+          subst (λ (k : ℕ). OnlyBy k worked.new)
+          (ap (λ (x : Bench). x.actor) sat ∙ sym actor) worked.own;
+    }
+
+-- the entry that an act left is the last that the seat has seen
+pub ordered : (s : Sitting) (a : ℕ) (rs rs' : List Entry) (p : Place (Option Bench) View)
+    (o : Option Yard) (z : Sat) (b b₁ b₂ : Bench) (j : List Entry) (at : ℕ) (act : Act)
+    (reply : Reply) → sitting a rs (Some p) ≡ s → Done p.me z b j a rs'
+    → b₁ ≡ record b { actor = a; receipts = rs } → b₂ ≡ acted b₁ act → reply ≡ told b₁ act
+    → j ≡ b₂.journal → rs' ≡ b₂.receipts → at ≡ length b.journal
+    → Ends s (record { of = o; actor = a; receipts = rs'; seen = z.0.seen }) act at reply
+ordered s a rs rs' p o z b b₁ b₂ j at act reply is d sat did said journal receipts place =
+    let before : b₁.journal ≡ b.journal = ap (λ (x : Bench). x.journal) sat in
+    let had : b₁.receipts ≡ s.receipts =
+    ap (λ (x : Bench). x.receipts) sat ∙ ap (λ (x : Sitting). x.receipts) is in
+    let by : b₁.actor ≡ s.actor =
+    ap (λ (x : Bench). x.actor) sat ∙ ap (λ (x : Sitting). x.actor) is in
+    let where_at : length b₁.journal ≡ at =
+    ap (λ (l : List Entry). length l) before ∙ sym place in
+    let same : receipt b₁ act ≡ entry at s.actor act reply =
+    λ i. entry (where_at i) (by i) act (sym said i) in
+    record {
+      log = b.journal;
+      last =
+          d.seen
+          ∙ (journal
+          ∙ (ap (λ (x : Bench). x.journal) did ∙ (λ i. before i ++ same i ∷ [])));
+      place = place;
+      after = subst (StartsWith b.journal) (ap (λ (x : Sitting). x.seen) is) d.after;
+      receipts =
+          receipts
+          ∙ (ap (λ (x : Bench). x.receipts) did ∙ (λ i. had i ++ same i ∷ []));
+    }

@@ -1,0 +1,40 @@
+use Rattle.std.proofs.Common.{rules, ◌≡◌, ◌∙◌, ◌++◌, ◌∷◌, [], ◌+◌, ◌-◌, suc, ℕ, sym, ap, arith, Some}
+use Rattle.fy_yard.specs.Turns.{Sat}
+use Rattle.fy_yard.specs.Yard.{Yard, new_seat, new_seats}
+use Rattle.fy_yard.proofs.Closing.{new_seats_more}
+use Rattle.fy_yard.proofs.yard.seat_all.Goals as goal
+
+pub loop-actor-preserved : goal.loop-actor-preserved
+loop-actor-preserved c =
+    let i = c.loop-actor.invariant in
+    let new = c.another-next.ensures.new in
+    let a : ℕ = c.loop-actor.actor in
+    let y : Yard = c.args.shared.now in
+    let id = new.0 ∙ i.0 in
+    let setup =
+    ap (λ (m : Sat). m.0.setup) new.1 ∙ ap (λ (m : Sat). m.0.setup) i.1 in
+    let seen = ap (λ (m : Sat). m.0.seen) new.1 in
+    let same : c.sit.result ≡ new_seat y a =
+    c.sit.ensures
+    ∙ (λ k. record {
+      of = Some (record { id = id k; setup = setup k });
+      actor = a;
+      receipts = [];
+      seen = seen k;
+    }) in
+    let low = i.2 in
+    let items = c.push_reserved.ensures.items ∙ (λ k. i.6 k ++ same k ∷ []) in
+    let next : a ≡ 1 + (a - 1) = omega arith in
+    let more : suc (a - 1) ≡ (a + 1) - 1 = omega arith in
+    let last =
+    items
+    ∙ (ap (λ (k : ℕ). new_seats y 1 (a - 1) ++ new_seat y k ∷ []) next
+    ∙ (sym (new_seats_more y 1 (a - 1)) ∙ ap (new_seats y 1) more)) in (
+      search rules,
+      search rules,
+      search rules,
+      search rules,
+      search rules,
+      search rules,
+      last,
+    )

@@ -1,0 +1,3 @@
+pub mod Yard
+pub mod Turns
+pub mod Places

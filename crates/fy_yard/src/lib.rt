@@ -1,0 +1,9 @@
+//! A cluster that many actors share, each in a thread of its own: seats, turns and the close.
+#![tactic(auto)]
+
+mod places;
+mod turns;
+mod view;
+mod yard;
+
+pub use yard::{CloseFault, Closed, NoMemory, Receipt, Seat, Shared};
