@@ -1,8 +1,19 @@
 -- what may go from thread to thread: each type from those that it is made of
 use denote.Param.Send.{IsSend, IsSync, sendable, view_send, view_sync}
 use denote.Hole.{as_row}
-use denote.Param.SendFields.{as_row_send, declared_send, declared_sync}
-use Rattle.std.proofs.Crossing.{crosses}
+use denote.Param.SendFields.{as_row_send, as_row_sync, declared_send, declared_sync}
+use mathlib.Core.List.{[], ◌∷◌}
+use mir.Syntax.{Dict, Slots, Sym}
+use denote.RattleType.{RattleType}
+use denote.Ref.{NamedLft}
+use denote.Param.{param}
+use denote.Param.Send.{param_sync, shr_sync}
+use denote.Param.Sent.{Sends, code_send}
+use denote.Param.Table.{Table, Lawful}
+use denote.Param.Object.{Ghosts, Vt, ghosts_of, table_of}
+use denote.Struct.Field.{row_field, shr_ref_field, u32-field}
+use denote.Struct.Tuple.{TupleAt, type_at}
+use Rattle.std.proofs.Crossing.{crosses, dyn_box_send}
 use Rattle.fy_locality.proofs.map.Map.TheSendSync as map
 use Rattle.fy_locality.proofs.process_set.ProcSet.TheSendSync as sets_cross
 use Rattle.fy_locality.specs.contracts.process_set.ProcSet as process_set
@@ -37,26 +48,31 @@ use Rattle.fy_yard.specs.contracts.yard.Seat as seat
 use Rattle.fy_yard.specs.contracts.yard.Seat.TheInside as in_seat
 use Rattle.fy_yard.specs.contracts.yard.Shared as shared
 use Rattle.fy_yard.specs.contracts.yard.Shared.TheInside as in_shared
+use Rattle.fy_yard.specs.contracts.posts.Post as post
+use Rattle.std.specs.contracts.dyn_box.DynBox as object
+use Rattle.std.specs.contracts.alloc.Global as heap
+use Rattle.std.specs.contracts.impls.GlobalAllocator.TheImpl.{ghosts as heap_ghosts}
+use Rattle.fy_yard.proofs.posts.End.TheSendSync as end
 
-shape_send : IsSend shape.the_row
+pub shape_send : IsSend shape.the_row
 shape_send = search (send-Shape, sendable, crosses) depth 20
 
-field_send : IsSend (as_row shape.the_field)
+pub field_send : IsSend (as_row shape.the_field)
 field_send = search (hole_send-Shape, send-Shape, as_row_send, sendable, crosses) depth 20
 
-inside_send : IsSend inside.the_row
+pub inside_send : IsSend inside.the_row
 inside_send = declared_send inside.the_type (field_send, tt)
 
-policy_send : IsSend policy.the_row
+pub policy_send : IsSend policy.the_row
 policy_send = search (inside_send, field_send, shape_send, declared_send, sendable, crosses) depth 20
 
-node_send : IsSend node.the_row
+pub node_send : IsSend node.the_row
 node_send = search (send-Node, sendable, crosses) depth 20
 
-node_field_send : IsSend (as_row node.the_field)
+pub node_field_send : IsSend (as_row node.the_field)
 node_field_send = search (hole_send-Node, send-Node, as_row_send, sendable, crosses) depth 20
 
-tally_send : IsSend tally.the_row
+pub tally_send : IsSend tally.the_row
 tally_send =
     let sets : IsSend (as_row process_set.the_field) =
     search (sets_cross.the_send, sendable, crosses) depth 20 in
@@ -65,7 +81,7 @@ tally_send =
     ((search (map.the_send, map.the_sync, sendable, crosses) depth 20), (sets, (policy_send, (node_field_send, (sets, tt))))) in
     search (inner, view_send)
 
-dead_book_send : IsSend dead_book.the_row
+pub dead_book_send : IsSend dead_book.the_row
 dead_book_send =
     let sets : IsSend (as_row process_set.the_field) =
     search (sets_cross.the_send, sendable, crosses) depth 20 in
@@ -88,10 +104,10 @@ dead_book_send =
     ) in
     search (inner, view_send)
 
-config_send : IsSend config.the_row
+pub config_send : IsSend config.the_row
 config_send = search (map.the_send, policy_send, grant.the_send, sendable, crosses) depth 20
 
-machine_send : IsSend machine.the_row
+pub machine_send : IsSend machine.the_row
 machine_send =
     search (
       dead_book_send,
@@ -103,7 +119,7 @@ machine_send =
       crosses,
     ) depth 20
 
-cluster_send : IsSend cluster.the_row
+pub cluster_send : IsSend cluster.the_row
 cluster_send =
     let inner : IsSend in_cluster.the_row =
     declared_send in_cluster.the_type (
@@ -112,7 +128,7 @@ cluster_send =
     ) in
     search (inner, view_send)
 
-desk_send : IsSend desk.the_row
+pub desk_send : IsSend desk.the_row
 desk_send =
     let inner : IsSend in_desk.the_row =
     declared_send in_desk.the_type (
@@ -147,3 +163,47 @@ shared_sync =
       ((search (parker.the_sync, sendable, crosses) depth 20), tt),
     ) in
     search (inner, view_sync)
+
+post_over : (D : RattleType) (g : Ghosts D.Denot) → Sends (table_of D.Denot g) → IsSend D
+    → IsSend (post.the_row D g)
+post_over D g s d =
+    let actor : IsSend (as_row (object.the_field D heap.the_row g heap_ghosts)) =
+    as_row_send (object.the_field D heap.the_row g heap_ghosts) (dyn_box_send D g s d) in
+    declared_send (post.the_type D g) (seat_send, (actor, (end.the_send, tt)))
+
+pub post_send : {G : Type 0 → Type 1} (slots : Dict → Slots) (T : Table G Dict) (L : Lawful T)
+    → Sends T → IsSend (post.the_row (Vt slots T) (ghosts_of slots T L))
+post_send slots T L s =
+    post_over (Vt slots T) (ghosts_of slots T L) s (code_send T.I T.coded _)
+
+-- what a post's work reads: the threads, the cluster, the gate and the limit
+pub work_sync : (ν : Sym) (R G : RattleType) (a b c d : NamedLft) → IsSync R → IsSync G
+    → IsSync (TupleAt ν (
+    (shr_ref_field a (param 0 R) tt).row
+    ∷ (shr_ref_field b shared.the_row tt).row
+    ∷ (shr_ref_field c (param 1 G) tt).row
+    ∷ (shr_ref_field d (u32-field).row tt).row
+    ∷ []))
+work_sync ν R G a b c d r s =
+    declared_sync (type_at ν (
+    (shr_ref_field a (param 0 R) tt).row
+    ∷ (shr_ref_field b shared.the_row tt).row
+    ∷ (shr_ref_field c (param 1 G) tt).row
+    ∷ (shr_ref_field d (u32-field).row tt).row
+    ∷ [])) (
+      as_row_sync (row_field (shr_ref_field a (param 0 R) tt).row)
+          (shr_sync a.mir a.lft (param 0 R) (param_sync 0 R r)),
+      (
+        as_row_sync (row_field (shr_ref_field b shared.the_row tt).row)
+            (shr_sync b.mir b.lft shared.the_row shared_sync),
+        (
+          as_row_sync (row_field (shr_ref_field c (param 1 G) tt).row)
+              (shr_sync c.mir c.lft (param 1 G) (param_sync 1 G s)),
+          (
+            as_row_sync (row_field (shr_ref_field d (u32-field).row tt).row)
+                (shr_sync d.mir d.lft (u32-field).row (search sendable depth 20)),
+            tt,
+          ),
+        ),
+      ),
+    )

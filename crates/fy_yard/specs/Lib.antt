@@ -1,3 +1,4 @@
 pub mod Yard
 pub mod Turns
 pub mod Places
+pub mod Posts

@@ -2,8 +2,12 @@
 #![tactic(auto)]
 
 mod places;
+mod posts;
+#[cfg(test)]
+mod tests;
 mod turns;
 mod view;
 mod yard;
 
+pub use posts::{End, Gate, Post, run_actors};
 pub use yard::{CloseFault, Closed, NoMemory, Receipt, Seat, Shared};

@@ -1,6 +1,6 @@
-use Rattle.std.proofs.Common.{rules, ◌≡◌, [], ◌∷◌, List, Option, Some, sym, subst}
+use Rattle.std.proofs.Common.{rules, ◌≡◌, [], ◌∷◌, List, Option, Some, sym, subst, ◌∙◌}
 use Rattle.atomic_table.specs.Table.{opening}
-use Rattle.fy_actors.specs.Desk.{Bench}
+use Rattle.fy_actors.specs.Desk.{Bench, course_of}
 use Rattle.fy_yard.specs.Turns.{Kept, newcomer}
 use Rattle.fy_yard.proofs.Moves.{starts}
 use Rattle.fy_yard.proofs.yard.begin.Goals as goal
@@ -14,3 +14,10 @@ new-requires c =
     (sym same)
     (starts c.of-setup.result.value c.make-desk.result (search rules) (search rules)
     (search rules) (search rules) (search rules))
+
+pub returns-in-Err-clause-err : goal.returns-in-Err-clause-err
+returns-in-Err-clause-err c =
+    let same : c.push_reserved.new.self.items ≡ Some c.make-desk.result ∷ [] = search rules in
+    let back : c.in-Err.field-0.slots.items ≡ Some c.make-desk.result ∷ [] = search rules in
+    let whole : course_of c.make-desk.result ≡ c.args.cluster = search rules in
+    c.cluster_in.ensures c.make-desk.result back ∙ whole

@@ -1,0 +1,16 @@
+use denote.Exit.{no}
+use denote.Param.Send.{IsSync, arg_send, arg_sync, param_send, param_sync}
+use Rattle.fy_yard.proofs.Sent.{post_send, work_sync}
+use Rattle.fy_yard.specs.contracts.posts.run_actors.dyn-1 as object
+use Rattle.fy_yard.proofs.posts.run_actors.Goals as goal
+
+pub for_each_mut-requires-send-T : goal.for_each_mut-requires-send-T
+for_each_mut-requires-send-T g c κs within =
+    param_send 1 _ (arg_send _ no _
+    (post_send (object.slots g.row.R g.row.G) g.dyn-1.0 g.dyn-1.1 g.dyn-1.2))
+
+pub for_each_mut-requires-sync-F : goal.for_each_mut-requires-sync-F
+for_each_mut-requires-sync-F g c κs within =
+    let threads : IsSync g.row.R = record { shared = c.type_bounds.sync-R.shared } in
+    let gate : IsSync g.row.G = record { shared = c.type_bounds.sync-G.shared } in
+    param_sync 2 _ (arg_sync _ no _ (work_sync _ g.row.R g.row.G _ _ _ _ threads gate))
