@@ -2,7 +2,9 @@
 #
 #   make                  proves and builds the program, and leaves it at bin/faultyard
 #   make run              builds the program without its proofs, asks it about examples/c6.judge (yes, yes, no, gone), has it kill two zones and check the audit
-#   make test             all that CI runs: every proof, test and must-fail edit, then the command-line cases
+#   make test             all that CI runs: every proof from nothing, the wrong bodies of crates that changed, each test, and the
+#                         command-line cases
+#   make wrong-bodies     tries every wrong body again, which the prover has to refuse, and records those crates whose are all refused
 #   make install          puts the program into $(PREFIX)/bin; by default PREFIX is /usr/local
 #   make bench            times the program on generated inputs, beside another if BESIDE is its path; and verdicts, acts,
 #                         turns and cluster files by programs of their own
@@ -11,7 +13,7 @@
 PREFIX ?= /usr/local
 BUILT := crates/faultyard/out/faultyard
 
-.PHONY: build run test install bench clean
+.PHONY: build run test wrong-bodies install bench clean
 
 # `rt run` proves what changed, builds the program beside its crate and runs it once.
 build:
@@ -19,21 +21,25 @@ build:
 	mkdir -p bin
 	cp $(BUILT) bin/faultyard
 
-# `rt try` builds the program before any proof, each time anew, so the commands are tried at once.
 run:
 	@echo "make run: this build is not proved yet; 'make' proves it and leaves bin/faultyard"
-	@cd crates/faultyard && audit=$$(mktemp) && said=$$(mktemp) && \
-	{ rt try -- run $(CURDIR)/examples/c6.toml < ../../examples/two-zones.jsonl > $$audit 2> /dev/null & } && ran=$$! && \
-	{ rt try -- check $(CURDIR)/examples/c6.toml < ../../examples/two-zones.audit > $$said 2> /dev/null & } && checked=$$! && \
-	rt try -- judge < ../../examples/c6.judge 2> /dev/null && wait $$ran && wait $$checked && cat $$audit $$said && rm $$audit $$said
+	@examples/first-answer
 
-# `rt ci` leaves the program that it proved beside its crate, so that nothing is proved again.
+# RT_JOBS has `rt ci` work on as many crates at once as there are processors: by its own guess of what a check may want of
+# memory, some four times what it takes, it would leave most of them idle. It leaves the program that it proved beside its
+# crate, so that nothing is proved again.
 test:
-	rt ci
+	RT_JOBS=$$(nproc) rt ci
 	mkdir -p bin
 	cp $(BUILT) bin/faultyard
 	tests/cli/run bin/faultyard
 	tests/examples/run
+	tests/run
+	tests/wrong-bodies
+
+wrong-bodies: build
+	cd crates && for crate in */; do (cd $$crate && rt check > /dev/null) || exit; done
+	tests/wrong-bodies --all --record
 
 install: build
 	mkdir -p $(DESTDIR)$(PREFIX)/bin

@@ -1,18 +1,18 @@
 -- what is entered for a list of acts
 use Rattle.std.proofs.Common.{◌≡◌, ◌∙◌, ℕ, ◌+◌, List, [], ◌∷◌, ◌++◌, map, length, refl, sym, ap, append_assoc, append-nil, length-append, subst}
 use Rattle.std.proofs.lemmas.List.{map-append}
-use Rattle.fy_spelling.specs.declared.act.Act.{Act}
+use Rattle.fy_acts.specs.declared.act.Act.{Act}
 use Rattle.fy_cluster.specs.Course.{Course, entered, after_acts}
 use Rattle.fy_cluster.specs.Survival.{by_and_act}
 use Rattle.fy_cluster.specs.Course.{opened}
 use Rattle.fy_cluster.specs.Setup.{Setup}
 use Rattle.fy_cluster.specs.Replies.{Legal}
 use Rattle.fy_spelling.specs.declared.command.Command.{Command}
-use Rattle.fy_spelling.specs.declared.entry.Entry.{Entry}
+use Rattle.fy_acts.specs.declared.entry.Entry.{Entry}
 use Rattle.fy_audit.specs.AuditText.{audit_text}
 use Rattle.fy_audit.specs.Script.{ScriptOf}
-use Rattle.fy_audit.specs.declared.version.Version.{Version}
-use Rattle.fy_audit.specs.declared.version.Version.TheVariants.{Second}
+use Rattle.fy_journal.specs.declared.version.Version.{Version}
+use Rattle.fy_journal.specs.declared.version.Version.TheVariants.{Second}
 use Rattle.std.specs.Prelude.{◌≢◌, ◌<◌, Option, Some, None, IfSome, Ok, Err}
 use Rattle.faultyard.specs.RunTexts.{asked, IsAuditOf, Runs, IfRefused, IfRunRefusal, HasAudit}
 use Rattle.faultyard.specs.declared.stop.Stop.{Stop}

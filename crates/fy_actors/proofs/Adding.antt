@@ -2,7 +2,7 @@
 use Rattle.std.proofs.Common.{◌≡◌, ◌≢◌, ℕ, ◌==◌, Bool, true, false, List, [], ◌∷◌, ◌++◌, refl, sym, ap, ap₂, ◌∙◌, subst, arith, append-nil, append_assoc, cond}
 use Rattle.std.proofs.lemmas.Bool.Decides.{nat_tests}
 use Rattle.std.proofs.lemmas.List.Elements.{filter-append}
-use Rattle.fy_spelling.specs.declared.entry.Entry.{Entry}
+use Rattle.fy_acts.specs.declared.entry.Entry.{Entry}
 use Rattle.fy_actors.specs.Desk.{entries_by, OnlyBy}
 use Rattle.fy_actors.specs.Work.{NoneIsWork, WorkAddsUp, ReceiptsStayWhole, OthersAddNothing}
 

@@ -7,8 +7,8 @@ use Rattle.fy_kinds.specs.declared.order.Target.{Target}
 use Rattle.fy_locality.specs.declared.key.Key.TheVariants.{Machine}
 use Rattle.fy_kinds.specs.Kinds.{rank}
 use Rattle.fy_kinds.specs.Orders.{Order}
-use Rattle.fy_spelling.specs.declared.act.Act.TheVariants.{Kill}
-use Rattle.fy_spelling.specs.declared.act.Act.{Act}
+use Rattle.fy_acts.specs.declared.act.Act.TheVariants.{Kill}
+use Rattle.fy_acts.specs.declared.act.Act.{Act}
 use Rattle.fy_cluster.specs.declared.fault.Fault.{Fault}
 use Rattle.fy_cluster.specs.declared.fault.Fault.TheVariants.{JournalFull}
 use Rattle.fy_actors.specs.Desk.{Bench, receipt, acted, Worked}

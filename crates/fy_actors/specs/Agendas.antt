@@ -7,9 +7,9 @@ use Rattle.fy_locality.specs.Locality.{value_of}
 use Rattle.fy_kinds.specs.declared.kind.Kind.{Kind}
 use Rattle.fy_kinds.specs.declared.order.Target.{Target}
 use Rattle.fy_kinds.specs.Kinds.{rank}
-use Rattle.fy_spelling.specs.declared.act.Act.{Act}
-use Rattle.fy_spelling.specs.declared.act.Act.TheVariants.{Kill, Clog, Unclog}
-use Rattle.fy_spelling.specs.declared.reply.Reply.{Reply}
+use Rattle.fy_acts.specs.declared.act.Act.{Act}
+use Rattle.fy_acts.specs.declared.act.Act.TheVariants.{Kill, Clog, Unclog}
+use Rattle.fy_acts.specs.declared.reply.Reply.{Reply}
 use Rattle.fy_cluster.specs.declared.fault.Fault.{Fault}
 use Rattle.fy_actors.specs.declared.plans.SwizzlePlan.{SwizzlePlan}
 use Rattle.fy_actors.specs.declared.desk.Turn.{Turn}

@@ -1,7 +1,7 @@
 -- turns that make an act each
 use Rattle.std.specs.Prelude.{◌≡◌, ◌↔◌, ◌≤◌, Bool, true, false, length, Option, Some, None, Result, Ok, MatchResult}
-use Rattle.fy_spelling.specs.declared.act.Act.{Act}
-use Rattle.fy_spelling.specs.declared.reply.Reply.{Reply}
+use Rattle.fy_acts.specs.declared.act.Act.{Act}
+use Rattle.fy_acts.specs.declared.reply.Reply.{Reply}
 use Rattle.fy_cluster.specs.declared.fault.Fault.{Fault}
 use Rattle.fy_cluster.specs.declared.fault.Fault.TheVariants.{JournalFull}
 use Rattle.fy_actors.specs.declared.desk.Turn.{Turn}

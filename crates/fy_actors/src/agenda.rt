@@ -4,7 +4,7 @@ ghost use Rattle.fy_actors.specs.Agendas.{begun, FollowsAgenda};
 ghost use Rattle.fy_actors.specs.Desk.{Worked};
 
 use crate::{Desk, Turn};
-use fy_audit::Act;
+use fy_journal::Act;
 use fy_cluster::Fault;
 use std::alloc::Global;
 use std::marker::Model;

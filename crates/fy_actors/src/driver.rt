@@ -5,7 +5,7 @@ ghost use Rattle.fy_actors.specs.Drives.{move_by, begin_or_move, next_act, team_
 ghost use Rattle.fy_actors.specs.declared.driver.Team.TheVariants.{Unformed};
 
 use crate::{Desk, FaultActor, Turn};
-use fy_audit::{Act, Reply};
+use fy_journal::{Act, Reply};
 use fy_cluster::{Fault, Sight};
 use fy_disk::Payload;
 use fy_team::Members;

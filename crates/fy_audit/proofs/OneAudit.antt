@@ -5,15 +5,15 @@ use Rattle.std.proofs.lemmas.Bool.{false≢true}
 use Rattle.fy_lines.specs.Lines.{lines_of}
 use Rattle.fy_spelling.specs.OneText.{OneEntryPerText, TextsAreLines}
 use Rattle.fy_spelling.specs.Values.{text_of}
-use Rattle.fy_spelling.specs.declared.entry.Entry.{Entry}
+use Rattle.fy_acts.specs.declared.entry.Entry.{Entry}
 use Rattle.fy_audit.specs.Audit.{Audit, MayStand, MayStandFrom, BeginsFaulty, FirstFaulty, HasNoHeader, AuditOf}
 use Rattle.fy_audit.specs.AuditText.{header, entry_line, audit_text}
 use Rattle.fy_audit.specs.declared.audit.AuditFault.{AuditFault}
 use Rattle.fy_audit.specs.declared.audit.AuditFault.TheVariants.{TooLong, Line, NoMemory}
 use Rattle.fy_audit.specs.declared.audit.AuditLineFault.{AuditLineFault}
 use Rattle.fy_audit.specs.declared.audit.AuditLineFault.TheVariants as of_line
-use Rattle.fy_audit.specs.declared.version.Version.{Version}
-use Rattle.fy_audit.specs.declared.version.Version.TheVariants.{First, Second}
+use Rattle.fy_journal.specs.declared.version.Version.{Version}
+use Rattle.fy_journal.specs.declared.version.Version.TheVariants.{First, Second}
 use Rattle.fy_audit.proofs.Ones.{line_once}
 use Rattle.fy_audit.proofs.Steps.{spread, first_is, shorter_after}
 

@@ -5,11 +5,11 @@ use Rattle.std.proofs.lemmas.Grind.{flat_map-append}
 use Rattle.fy_lines.specs.Lines.{onto_first, lines_of}
 use Rattle.fy_spelling.specs.OneText.{TextsAreLines, HasNoFeed}
 use Rattle.fy_spelling.specs.Values.{text_of}
-use Rattle.fy_spelling.specs.declared.entry.Entry.{Entry}
+use Rattle.fy_acts.specs.declared.entry.Entry.{Entry}
 use Rattle.fy_audit.specs.Audit.{MayStand, MayStandFrom, HasNoHeader}
 use Rattle.fy_audit.specs.AuditText.{header, entry_line, audit_text}
-use Rattle.fy_audit.specs.declared.version.Version.{Version}
-use Rattle.fy_audit.specs.declared.version.Version.TheVariants.{First, Second}
+use Rattle.fy_journal.specs.declared.version.Version.{Version}
+use Rattle.fy_journal.specs.declared.version.Version.TheVariants.{First, Second}
 
 -- a line, its line feed, and the rest
 ended : (line rest : List ℕ) → HasNoFeed line → lines_of (line ++ 10 ∷ rest) ≡ line ∷ lines_of rest

@@ -1,5 +1,3 @@
-pub mod Journal
-pub mod Kept
 pub mod AuditText
 pub mod Script
 pub mod Versions

@@ -3,13 +3,13 @@ use Rattle.std.specs.Prelude.{◌≡◌, ℕ, List, Result}
 use Rattle.std.specs.List.{AllByRecursion}
 use Rattle.fy_spelling.specs.Fits.{FitsEntry}
 use Rattle.fy_spelling.specs.declared.command.Command.{Command}
-use Rattle.fy_spelling.specs.declared.entry.Entry.{Entry}
+use Rattle.fy_acts.specs.declared.entry.Entry.{Entry}
 use Rattle.fy_audit.specs.Audit.{Audit, AuditOf}
 use Rattle.fy_audit.specs.AuditText.{audit_text}
 use Rattle.fy_audit.specs.Script.{ScriptOf}
 use Rattle.fy_audit.specs.declared.audit.AuditFault.{AuditFault}
 use Rattle.fy_audit.specs.declared.script.ScriptFault.{ScriptFault}
-use Rattle.fy_audit.specs.declared.version.Version.{Version}
+use Rattle.fy_journal.specs.declared.version.Version.{Version}
 
 -- bytes are one script, or have one first fault
 abbrev pub ScriptIsOne : Type 0

@@ -1,36 +1,57 @@
--- what each version of audits has: the first lacks three acts and four refusals
-use Rattle.std.specs.Prelude.{Bool, true, false, not, ◌||◌}
-use Rattle.fy_spelling.specs.declared.act.Act.{Act}
-use Rattle.fy_spelling.specs.declared.act.Act.TheVariants.{CopyTo, Replace, Heal}
-use Rattle.fy_spelling.specs.declared.reply.Refusal.{Refusal}
-use Rattle.fy_spelling.specs.declared.reply.Refusal.TheVariants.{NoCopy, IsMember, NotDestroyed, StillNeeds}
-use Rattle.fy_spelling.specs.declared.reply.Reply.{Reply}
-use Rattle.fy_spelling.specs.declared.reply.Reply.TheVariants.{No}
-use Rattle.fy_spelling.specs.declared.entry.Entry.{Entry}
-use Rattle.fy_audit.specs.declared.version.Version.{Version}
-use Rattle.fy_audit.specs.declared.version.Version.TheVariants.{First, Second}
+-- which entries audits of a version have: the first lacks three acts and four refusals
+use Rattle.std.specs.Prelude.{Bool, true, false, ◌&&◌}
+use Rattle.fy_acts.specs.declared.reply.Refusal.{Refusal}
+use Rattle.fy_acts.specs.declared.reply.Refusal.TheVariants.{Stranger, WrongRole, TooMany, NoPolicy, NoProcess, Gone, TeamShort, NoTeam, Payload, NetFull, NoMessage, Clogged, NotUp, NoRecord, NotMember, Acked, IsUp, ClockEnd, NoActor, Full, NoSuch, NoCopy, IsMember, NotDestroyed, StillNeeds}
+use Rattle.fy_acts.specs.declared.reply.Reply.{Reply}
+use Rattle.fy_acts.specs.declared.reply.Reply.TheVariants.{Verdict, Ruled, Formed, Begun, Stored, Marked, Sent, Synced, Time, Done, No}
+use Rattle.fy_acts.specs.declared.entry.Entry.{Entry}
+use Rattle.fy_journal.specs.declared.version.Version.{Version}
+use Rattle.fy_journal.specs.declared.version.Version.TheVariants.{First, Second}
+use Rattle.fy_journal.specs.Versions.{knows}
 
--- whether the act is one of the three that came with the second version
-abbrev pub is_new_act : Act → Bool
-is_new_act (CopyTo from rec to) = true
-is_new_act (Replace team out into) = true
-is_new_act (Heal process) = true
-is_new_act act = false
+-- whether there is such a refusal under the version
+abbrev pub knows_refusal : Version → Refusal → Bool
+knows_refusal Second refusal = true
+knows_refusal First Stranger = true
+knows_refusal First WrongRole = true
+knows_refusal First TooMany = true
+knows_refusal First NoPolicy = true
+knows_refusal First NoProcess = true
+knows_refusal First Gone = true
+knows_refusal First (TeamShort policy) = true
+knows_refusal First NoTeam = true
+knows_refusal First Payload = true
+knows_refusal First NetFull = true
+knows_refusal First NoMessage = true
+knows_refusal First Clogged = true
+knows_refusal First NotUp = true
+knows_refusal First NoRecord = true
+knows_refusal First NotMember = true
+knows_refusal First Acked = true
+knows_refusal First IsUp = true
+knows_refusal First ClockEnd = true
+knows_refusal First NoActor = true
+knows_refusal First Full = true
+knows_refusal First NoSuch = true
+knows_refusal First NoCopy = false
+knows_refusal First IsMember = false
+knows_refusal First NotDestroyed = false
+knows_refusal First (StillNeeds rec) = false
 
--- whether the refusal is one of the four that came with it
-abbrev pub is_new_refusal : Refusal → Bool
-is_new_refusal NoCopy = true
-is_new_refusal IsMember = true
-is_new_refusal NotDestroyed = true
-is_new_refusal (StillNeeds rec) = true
-is_new_refusal refusal = false
-
--- whether the reply names one of these refusals
-abbrev pub is_new_reply : Reply → Bool
-is_new_reply (No refusal) = is_new_refusal refusal
-is_new_reply reply = false
+-- whether there is such a reply under the version
+abbrev pub knows_reply : Version → Reply → Bool
+knows_reply version (Verdict verdict) = true
+knows_reply version (Ruled rule) = true
+knows_reply version (Formed team) = true
+knows_reply version (Begun rec first) = true
+knows_reply version Stored = true
+knows_reply version (Marked acked) = true
+knows_reply version (Sent message) = true
+knows_reply version (Synced first count) = true
+knows_reply version (Time now) = true
+knows_reply version Done = true
+knows_reply version (No refusal) = knows_refusal version refusal
 
 -- whether audits of the version have such an entry
 abbrev pub has_entry : Version → Entry → Bool
-has_entry Second entry = true
-has_entry First entry = not (is_new_act entry.act || is_new_reply entry.reply)
+has_entry version entry = knows version entry.act && knows_reply version entry.reply

@@ -2,10 +2,10 @@
 ghost use Rattle.std.specs.Prelude.{◌≡◌, ◌<◌, ◌++◌, ◌∷◌, [], ℕ, List, length, IfSome, IfNone, IfOk, IfErr, OnOk, Ok, Err};
 ghost use Rattle.fy_audit.specs.Audit.{AuditOf, AuditAnswers, HasNoHeader, BeginsWith, StopsAt, told_of};
 ghost use Rattle.fy_audit.specs.AuditText.{header};
-ghost use Rattle.fy_audit.specs.declared.version.Version.TheVariants.{First, Second};
-ghost use Rattle.fy_audit.specs.Versions.{is_new_act, is_new_reply, has_entry};
+ghost use Rattle.fy_journal.specs.declared.version.Version.TheVariants.{First, Second};
+ghost use Rattle.fy_audit.specs.Versions.{knows_refusal, knows_reply, has_entry};
 
-use crate::{Act, Entry, Journal, MOST_ENTRIES, MOST_LINE_BYTES, Refusal, Reply, Version};
+use crate::{Entry, Journal, MOST_ENTRIES, MOST_LINE_BYTES, Refusal, Reply, Version};
 use fy_lines::first_line;
 use fy_spelling::laws::{a_text_is_a_line, a_text_is_of_one_entry};
 use fy_spelling::{EntryFault, read_entry};
@@ -76,36 +76,56 @@ fn after_header(bytes: &[u8]) -> Option<(Version, &[u8])>
     }
 }
 
-/// Whether the act came with the second version.
-fn is_new_act(act: &Act) -> bool
-    ensures { result ≡ is_new_act act.now }
+/// Whether there is such a refusal under the version: the first lacks the four of copies, replaced
+/// members and healing.
+fn knows_refusal(version: Version, refusal: Refusal) -> bool
+    ensures { result ≡ knows_refusal version refusal }
 {
-    match act {
-        Act::CopyTo {
-            from: _,
-            rec: _,
-            to: _,
-        } => true,
-        Act::Replace {
-            team: _,
-            out: _,
-            into: _,
-        } => true,
-        Act::Heal { process: _ } => true,
-        _ => false,
+    match refusal {
+        Refusal::NoCopy
+        | Refusal::IsMember
+        | Refusal::NotDestroyed
+        | Refusal::StillNeeds { .. } => version == Version::Second,
+        Refusal::Stranger
+        | Refusal::WrongRole
+        | Refusal::TooMany
+        | Refusal::NoPolicy
+        | Refusal::NoProcess
+        | Refusal::Gone
+        | Refusal::TeamShort { .. }
+        | Refusal::NoTeam
+        | Refusal::Payload
+        | Refusal::NetFull
+        | Refusal::NoMessage
+        | Refusal::Clogged
+        | Refusal::NotUp
+        | Refusal::NoRecord
+        | Refusal::NotMember
+        | Refusal::Acked
+        | Refusal::IsUp
+        | Refusal::ClockEnd
+        | Refusal::NoActor
+        | Refusal::Full
+        | Refusal::NoSuch => true,
     }
 }
 
-/// Whether the reply names a refusal that came with the second version.
-fn is_new_reply(reply: Reply) -> bool
-    ensures { result ≡ is_new_reply reply }
+/// Whether there is such a reply under the version.
+fn knows_reply(version: Version, reply: Reply) -> bool
+    ensures { result ≡ knows_reply version reply }
 {
     match reply {
-        Reply::No(Refusal::NoCopy) => true,
-        Reply::No(Refusal::IsMember) => true,
-        Reply::No(Refusal::NotDestroyed) => true,
-        Reply::No(Refusal::StillNeeds { rec: _ }) => true,
-        _ => false,
+        Reply::No(refusal) => knows_refusal(version, refusal),
+        Reply::Verdict(_)
+        | Reply::Ruled { .. }
+        | Reply::Formed { .. }
+        | Reply::Begun { .. }
+        | Reply::Stored
+        | Reply::Marked { .. }
+        | Reply::Sent { .. }
+        | Reply::Synced { .. }
+        | Reply::Time { .. }
+        | Reply::Done => true,
     }
 }
 
@@ -113,10 +133,7 @@ fn is_new_reply(reply: Reply) -> bool
 fn has_entry(version: Version, entry: &Entry) -> bool
     ensures { result ≡ has_entry version entry.now }
 {
-    match version {
-        Version::First => !(is_new_act(&entry.act) || is_new_reply(entry.reply)),
-        Version::Second => true,
-    }
+    version.knows(&entry.act) && knows_reply(version, entry.reply)
 }
 
 /// The entry at the front of what is left of an audit, which has to stand at this place, and what

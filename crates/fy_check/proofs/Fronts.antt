@@ -2,11 +2,12 @@
 use Rattle.std.proofs.Common.{◌≡◌, ℕ, zero, suc, ◌+◌, ◌<◌, ◌≤◌, inl, inr, true, List, [], ◌∷◌, ◌++◌, take, drop, Ok, Err, refl, sym, ap, subst, arith}
 use Rattle.std.proofs.lemmas.Bool.{and_parts, and_from, cases_lt}
 use Rattle.std.proofs.lemmas.List.{take-append-drop}
-use Rattle.fy_spelling.specs.declared.entry.Entry.{Entry}
-use Rattle.fy_audit.specs.declared.version.Version.{Version}
+use Rattle.fy_acts.specs.declared.entry.Entry.{Entry}
+use Rattle.fy_journal.specs.declared.version.Version.{Version}
 use Rattle.fy_cluster.specs.Setup.{Setup}
 use Rattle.fy_cluster.specs.Survival.{FrontsLegal}
-use Rattle.fy_cluster.specs.Versions.{LegalUnder, knows, knows_all}
+use Rattle.fy_cluster.specs.Versions.{LegalUnder, knows_all}
+use Rattle.fy_journal.specs.Versions.{knows}
 use Rattle.fy_check.specs.declared.fault.CheckFault.TheVariants.{BadEntry, NoMemory}
 use Rattle.fy_check.specs.Check.{IsFirstBad, OneAnswer, LegalIsOk}
 

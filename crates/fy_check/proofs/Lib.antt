@@ -1,14 +1,3 @@
-pub mod Among
-pub mod Compared
-pub mod Following
-pub mod Formed
 pub mod Fronts
 pub mod Lists
-pub mod Marking
 pub mod Nexts
-pub mod Pasts
-pub mod Roles
-pub mod Ruling
-pub mod Sets
-pub mod Within
-pub mod Written

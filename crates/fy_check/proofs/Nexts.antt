@@ -3,17 +3,18 @@ use Rattle.std.proofs.Common.{◌≡◌, ◌↔◌, ℕ, ◌+◌, ◌<◌, ◌�
 use Rattle.std.specs.Bool.{Decides}
 use Rattle.std.proofs.lemmas.Bool.{false≢true, cases_lt}
 use Rattle.std.proofs.lemmas.List.{length-take-le}
-use Rattle.fy_spelling.specs.declared.act.Act.{Act}
-use Rattle.fy_spelling.specs.declared.reply.Reply.{Reply}
-use Rattle.fy_spelling.specs.declared.entry.Entry.{Entry}
-use Rattle.fy_audit.specs.declared.version.Version.{Version}
+use Rattle.fy_acts.specs.declared.act.Act.{Act}
+use Rattle.fy_acts.specs.declared.reply.Reply.{Reply}
+use Rattle.fy_acts.specs.declared.entry.Entry.{Entry}
+use Rattle.fy_journal.specs.declared.version.Version.{Version}
 use Rattle.fy_cluster.specs.declared.fault.Fault.{Fault}
 use Rattle.fy_cluster.specs.declared.fault.Fault.TheVariants.{JournalFull}
 use Rattle.fy_cluster.specs.Setup.{Setup}
 use Rattle.fy_cluster.specs.Course.{Course, replied, entered}
 use Rattle.fy_cluster.specs.History.{History, moment, after, history}
 use Rattle.fy_cluster.specs.Replies.{reply}
-use Rattle.fy_cluster.specs.Versions.{LegalUnder, NextLegalUnder, knows}
+use Rattle.fy_cluster.specs.Versions.{LegalUnder, NextLegalUnder}
+use Rattle.fy_journal.specs.Versions.{knows}
 use Rattle.fy_check.specs.Check.{IsFirstBad}
 use Rattle.fy_check.proofs.Lists.{there, one_more}
 
@@ -32,12 +33,6 @@ pub not_known : NextLegalUnder → (version : Version) (c : Setup) (journal : Li
 not_known law version c journal e l k = (
   λ f. absurd (false≢true f),
   λ more. absurd (false≢true (sym k ∙ ((law version c journal e l).0 more).2)),
-)
-
-pub no_place : NextLegalUnder → (version : Version) (c : Setup) (journal : List Entry) (e : Entry) → LegalUnder version c journal → c.limit ≤ length journal → Tells version c journal e false
-no_place law version c journal e l full = (
-  λ f. absurd (false≢true f),
-  λ more. let room = ((law version c journal e l).0 more).0 in absurd (omega (arith, room, full)),
 )
 
 pub by_reply : NextLegalUnder → (version : Version) (c : Setup) (journal : List Entry) (e : Entry) (answered : Reply) (same : Bool) → LegalUnder version c journal → knows version e.act ≡ true → length journal < c.limit → e.at ≡ length journal

@@ -1,7 +1,1 @@
 pub mod Check
-pub mod Deeds
-pub mod Formed
-pub mod Later
-pub mod Past
-pub mod Steps
-pub mod Told

@@ -4,8 +4,7 @@ ghost use Rattle.fy_cluster.specs.Versions.{LegalUnder};
 ghost use Rattle.fy_check.specs.Check.{CheckAnswers};
 
 use crate::CheckFault;
-use crate::versions::knows;
-use fy_audit::{Entry, Journal, Version};
+use fy_journal::{Entry, Journal, Version};
 use fy_cluster::{Cluster, Config, Fault, laws};
 use std::alloc::{AllocError, Global};
 
@@ -25,7 +24,8 @@ fn comes_next(
         ≡ record cluster.old { journal = cluster.old.journal ++ entry.now ∷ [] }) }
 {
     laws::versions();
-    if !knows(version, &entry.act) {
+    fy_acts::laws::equal_is_the_same();
+    if !version.knows(&entry.act) {
         return Ok(false);
     }
     let act = entry.act.try_copy(alloc)?;

@@ -6,9 +6,9 @@ use Rattle.fy_locality.specs.declared.locality.Locality.{Locality}
 use Rattle.fy_net.specs.declared.message.Body.TheVariants.{Store}
 use Rattle.fy_net.specs.Net.{Traffic, reserve_refusal, sent_on}
 use Rattle.fy_team.specs.Teams.{Record}
-use Rattle.fy_spelling.specs.declared.act.Act.TheVariants.{CopyTo}
-use Rattle.fy_spelling.specs.declared.reply.Reply.TheVariants.{Sent, No}
-use Rattle.fy_spelling.specs.declared.reply.Refusal.TheVariants.{NoRecord, NoProcess, Gone, NotUp, NoCopy, NetFull}
+use Rattle.fy_acts.specs.declared.act.Act.TheVariants.{CopyTo}
+use Rattle.fy_acts.specs.declared.reply.Reply.TheVariants.{Sent, No}
+use Rattle.fy_acts.specs.declared.reply.Refusal.TheVariants.{NoRecord, NoProcess, Gone, NotUp, NoCopy, NetFull}
 use Rattle.fy_cluster.specs.declared.machine.Machine.{Machine}
 use Rattle.fy_cluster.specs.Setup.{Setup}
 use Rattle.fy_cluster.specs.History.{History, Moment, gone, up, sent, records, has_synced}

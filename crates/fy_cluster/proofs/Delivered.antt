@@ -16,9 +16,9 @@ use Rattle.fy_net.specs.declared.message.Body.TheVariants.{Store, Synced}
 use Rattle.fy_net.specs.Net.{Traffic, process_of, body_of, is_clogged, left_by, take_refusal}
 use Rattle.fy_team.specs.Teams.{Team, Record, Roster, is_marked, is_acked, marked_by, with_mark}
 use Rattle.fy_team.specs.Standing.{MarkLeavesTeams, MarkIsOneMore, AckedByMark}
-use Rattle.fy_spelling.specs.declared.act.Act.TheVariants.{Deliver}
-use Rattle.fy_spelling.specs.declared.reply.Reply.TheVariants.{Stored, Marked, No}
-use Rattle.fy_spelling.specs.declared.reply.Refusal.TheVariants.{NoMessage, Clogged, NotUp}
+use Rattle.fy_acts.specs.declared.act.Act.TheVariants.{Deliver}
+use Rattle.fy_acts.specs.declared.reply.Reply.TheVariants.{Stored, Marked, No}
+use Rattle.fy_acts.specs.declared.reply.Refusal.TheVariants.{NoMessage, Clogged, NotUp}
 use Rattle.fy_cluster.specs.declared.machine.Machine.{Machine}
 use Rattle.fy_cluster.specs.Setup.{Setup}
 use Rattle.fy_cluster.specs.History.{History, Moment, BegunRecord, some_is, sent, in_flight, now, clogged, up, writes, store_to, word_of, marks, tells, marked, marked_after, acked, teams, records, members_for, payload_of, synced, unsynced}

@@ -5,9 +5,9 @@ use Rattle.std.proofs.lemmas.List.Folds.{list_any-append}
 use Rattle.std.specs.List.{list_any}
 use Rattle.fy_cluster.proofs.Disks.{not_any, no_destroyer, destroys_closes}
 use Rattle.std.specs.Prelude.{option_and_then}
-use Rattle.fy_spelling.specs.declared.act.Act.{Act}
-use Rattle.fy_spelling.specs.declared.act.Act.TheVariants.{Deliver}
-use Rattle.fy_spelling.specs.declared.reply.Reply.{Reply}
+use Rattle.fy_acts.specs.declared.act.Act.{Act}
+use Rattle.fy_acts.specs.declared.act.Act.TheVariants.{Deliver}
+use Rattle.fy_acts.specs.declared.reply.Reply.{Reply}
 use Rattle.fy_disk.specs.declared.item.Item.{Item}
 use Rattle.fy_disk.specs.Disk.{passing}
 use Rattle.fy_cluster.specs.History.{History, Moment, some_is, struck_by, syncs, destroys, is_closing, closes, close_keeps, is_open, is_kept, place, delivers, is_stored, store_to, writes, written, synced, unsynced, payload_of}

@@ -10,7 +10,7 @@ use Rattle.fy_disk.specs.declared.item.Item.{Item}
 use Rattle.fy_disk.specs.Disk.{Stored as OnDisk}
 use Rattle.fy_grants.specs.Least.{LeastWith, least_with}
 use Rattle.fy_team.specs.Teams.{Team, Record, Roster, IsRoster, is_among, is_acked, members_in}
-use Rattle.fy_spelling.specs.declared.entry.Entry.{Entry}
+use Rattle.fy_acts.specs.declared.entry.Entry.{Entry}
 use Rattle.fy_cluster.specs.declared.machine.Machine.{Machine}
 use Rattle.fy_cluster.specs.Setup.{Setup}
 use Rattle.fy_cluster.specs.History.{History, history, members_for, acked, keeps, keeper}

@@ -14,11 +14,11 @@ use Rattle.fy_policy.specs.Sat.{satisfies}
 use Rattle.fy_team.specs.declared.fault.TeamFault.{TeamFault}
 use Rattle.fy_team.specs.declared.fault.TeamFault.TheVariants.{TooMany as TooManyThere, NoPolicy as NoPolicyThere, NoProcess as NoProcessThere, Gone as GoneThere, TeamShort as ShortTeam, NoTeam as NoTeamThere, Payload as LongPayload, NoMemory as NoMemoryLeft}
 use Rattle.fy_team.specs.Teams.{Roster, is_among, form_refusal, formed_of}
-use Rattle.fy_spelling.specs.declared.act.Act.{Act}
-use Rattle.fy_spelling.specs.declared.act.Act.TheVariants.{Form}
-use Rattle.fy_spelling.specs.declared.reply.Reply.{Reply}
-use Rattle.fy_spelling.specs.declared.reply.Reply.TheVariants.{Formed}
-use Rattle.fy_spelling.specs.declared.reply.Refusal.TheVariants.{TooMany, NoPolicy, NoProcess, Gone, TeamShort, NoTeam, Payload}
+use Rattle.fy_acts.specs.declared.act.Act.{Act}
+use Rattle.fy_acts.specs.declared.act.Act.TheVariants.{Form}
+use Rattle.fy_acts.specs.declared.reply.Reply.{Reply}
+use Rattle.fy_acts.specs.declared.reply.Reply.TheVariants.{Formed}
+use Rattle.fy_acts.specs.declared.reply.Refusal.TheVariants.{TooMany, NoPolicy, NoProcess, Gone, TeamShort, NoTeam, Payload}
 use Rattle.fy_cluster.specs.declared.fault.Fault.{Fault}
 use Rattle.fy_cluster.specs.declared.machine.Machine.{Machine}
 use Rattle.fy_cluster.specs.Setup.{Setup}

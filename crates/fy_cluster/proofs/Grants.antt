@@ -10,9 +10,9 @@ use Rattle.fy_grants.specs.declared.grant.Grant.{Grant}
 use Rattle.fy_grants.specs.declared.book.BookFault.{BookFault}
 use Rattle.fy_grants.specs.declared.book.BookFault.TheVariants.{NoActor as NoActorThere, NoSuch as NoneThere, Full as FullBook, NoMemory as NoMemoryLeft}
 use Rattle.fy_grants.specs.Rights.{Rights, grants_of, protections_of, give_refusal, take_refusal, with_grant, without_grant, with_protection, grant_count as count_of}
-use Rattle.fy_spelling.specs.declared.act.Act.TheVariants.{Give, Take, Protect, Unprotect}
-use Rattle.fy_spelling.specs.declared.reply.Reply.TheVariants.{Done, No}
-use Rattle.fy_spelling.specs.declared.reply.Refusal.TheVariants.{NoProcess, NoActor, Full, NoSuch}
+use Rattle.fy_acts.specs.declared.act.Act.TheVariants.{Give, Take, Protect, Unprotect}
+use Rattle.fy_acts.specs.declared.reply.Reply.TheVariants.{Done, No}
+use Rattle.fy_acts.specs.declared.reply.Refusal.TheVariants.{NoProcess, NoActor, Full, NoSuch}
 use Rattle.fy_cluster.specs.declared.machine.Machine.{Machine}
 use Rattle.fy_cluster.specs.Setup.{Setup}
 use Rattle.fy_cluster.specs.History.{History, Moment}

@@ -11,9 +11,9 @@ use Rattle.fy_net.specs.declared.message.Message.{Message}
 use Rattle.fy_net.specs.Net.{Traffic, is_word_from, voided}
 use Rattle.fy_team.specs.Teams.{Record, Roster, is_among, unless_acked, healed as healed_roster}
 use Rattle.fy_team.specs.Standing.{HealedMarks, HealedAcked}
-use Rattle.fy_spelling.specs.declared.act.Act.TheVariants.{Heal}
-use Rattle.fy_spelling.specs.declared.reply.Reply.TheVariants.{Done, No}
-use Rattle.fy_spelling.specs.declared.reply.Refusal.TheVariants.{NoProcess, Gone, NotDestroyed, NotUp, StillNeeds}
+use Rattle.fy_acts.specs.declared.act.Act.TheVariants.{Heal}
+use Rattle.fy_acts.specs.declared.reply.Reply.TheVariants.{Done, No}
+use Rattle.fy_acts.specs.declared.reply.Refusal.TheVariants.{NoProcess, Gone, NotDestroyed, NotUp, StillNeeds}
 use Rattle.fy_cluster.specs.declared.machine.Machine.{Machine}
 use Rattle.fy_cluster.specs.Setup.{Setup}
 use Rattle.fy_cluster.specs.History.{History, Moment, BegunRecord, some_is, destroyed, gone, up, sent, is_taken, members_for, marked, acked, teams, records}

@@ -5,20 +5,21 @@ use Rattle.std.proofs.lemmas.Bool.{lt-leb, cases_lt, and_parts, and_from}
 use Rattle.fy_kinds.specs.Orders.{Order}
 use Rattle.fy_kinds.specs.declared.verdict.Verdict.{Verdict as VerdictOf}
 use Rattle.fy_decide.specs.Verdicts.{Situation, verdict}
-use Rattle.fy_spelling.specs.declared.act.Act.{Act}
-use Rattle.fy_spelling.specs.declared.act.Act.TheVariants.{Kill}
-use Rattle.fy_spelling.specs.declared.reply.Reply.{Reply}
-use Rattle.fy_spelling.specs.declared.reply.Reply.TheVariants.{Verdict, No}
-use Rattle.fy_spelling.specs.declared.reply.Refusal.TheVariants.{Stranger}
-use Rattle.fy_spelling.specs.declared.entry.Entry.{Entry}
-use Rattle.fy_audit.specs.declared.version.Version.{Version}
-use Rattle.fy_audit.specs.declared.version.Version.TheVariants.{Second}
+use Rattle.fy_acts.specs.declared.act.Act.{Act}
+use Rattle.fy_acts.specs.declared.act.Act.TheVariants.{Kill}
+use Rattle.fy_acts.specs.declared.reply.Reply.{Reply}
+use Rattle.fy_acts.specs.declared.reply.Reply.TheVariants.{Verdict, No}
+use Rattle.fy_acts.specs.declared.reply.Refusal.TheVariants.{Stranger}
+use Rattle.fy_acts.specs.declared.entry.Entry.{Entry}
+use Rattle.fy_journal.specs.declared.version.Version.{Version}
+use Rattle.fy_journal.specs.declared.version.Version.TheVariants.{Second}
 use Rattle.fy_cluster.specs.declared.role.Role.TheVariants.{Fault}
 use Rattle.fy_cluster.specs.Setup.{Setup}
 use Rattle.fy_cluster.specs.History.{History, moment, after, history}
 use Rattle.fy_cluster.specs.Rules.{situation}
 use Rattle.fy_cluster.specs.Replies.{refusals, reasons, answer, reply, IsNext, LegalAfter, Legal}
-use Rattle.fy_cluster.specs.Versions.{knows, knows_all, SecondKnowsAll, NextLegalUnder}
+use Rattle.fy_cluster.specs.Versions.{knows_all, SecondKnowsAll, NextLegalUnder}
+use Rattle.fy_journal.specs.Versions.{knows}
 use Rattle.fy_cluster.specs.Survival.{by_and_act, IsJudged, KillsJudged, RulesNamed, FrontsLegal, MomentsEntered, NextLegal, SameActsSameJournal}
 
 -- what each legal entry keeps, a legal journal keeps

@@ -18,9 +18,9 @@ use Rattle.fy_decide.specs.Verdicts.{situation_of, targets, bar, verdict}
 use Rattle.fy_disk.specs.declared.item.Item.{Item}
 use Rattle.fy_disk.specs.Disk.{Stored, outlives, passing}
 use Rattle.fy_net.specs.Net.{Traffic}
-use Rattle.fy_spelling.specs.declared.act.Act.{Act}
-use Rattle.fy_spelling.specs.declared.act.Act.TheVariants.{Kill, Clog, Unclog}
-use Rattle.fy_spelling.specs.declared.reply.Reply.TheVariants.{Ruled, Verdict}
+use Rattle.fy_acts.specs.declared.act.Act.{Act}
+use Rattle.fy_acts.specs.declared.act.Act.TheVariants.{Kill, Clog, Unclog}
+use Rattle.fy_acts.specs.declared.reply.Reply.TheVariants.{Ruled, Verdict}
 use Rattle.fy_cluster.specs.declared.machine.Machine.{Machine}
 use Rattle.fy_cluster.specs.Setup.{Setup}
 use Rattle.fy_cluster.specs.History.{History, Moment, some_is, strikes, destroys, closes, syncs, writes, tear_of, heals, destroyed, gone, left, up, synced, unsynced, sent, now, sends_of, clogged_at}

@@ -9,7 +9,7 @@ use Rattle.fy_policy.specs.Sat.{Sat}
 use Rattle.fy_decide.specs.Losses.{AreShort}
 use Rattle.fy_grants.specs.Least.{LeastWith, least_with}
 use Rattle.fy_team.specs.Teams.{Team, is_among, IsFormed}
-use Rattle.fy_spelling.specs.declared.entry.Entry.{Entry}
+use Rattle.fy_acts.specs.declared.entry.Entry.{Entry}
 use Rattle.fy_cluster.specs.Setup.{Setup, IsMet}
 use Rattle.fy_cluster.specs.History.{History, history, destroyed, teams, records, members_for, payload_of, synced, acked, keeps, keeper}
 use Rattle.fy_cluster.specs.Replies.{Legal}

@@ -6,10 +6,10 @@ use Rattle.fy_net.specs.declared.message.Body.{Body}
 use Rattle.fy_net.specs.declared.fault.NetFault.{NetFault}
 use Rattle.fy_net.specs.declared.fault.NetFault.TheVariants.{NoMessage as NoneInFlight}
 use Rattle.fy_net.specs.Net.{Traffic, body_of, without, left_by, lose_refusal, missing_refusal}
-use Rattle.fy_spelling.specs.declared.act.Act.TheVariants.{Lose}
-use Rattle.fy_spelling.specs.declared.reply.Reply.{Reply}
-use Rattle.fy_spelling.specs.declared.reply.Reply.TheVariants.{Done, No}
-use Rattle.fy_spelling.specs.declared.reply.Refusal.TheVariants.{NoMessage}
+use Rattle.fy_acts.specs.declared.act.Act.TheVariants.{Lose}
+use Rattle.fy_acts.specs.declared.reply.Reply.{Reply}
+use Rattle.fy_acts.specs.declared.reply.Reply.TheVariants.{Done, No}
+use Rattle.fy_acts.specs.declared.reply.Refusal.TheVariants.{NoMessage}
 use Rattle.fy_cluster.specs.declared.machine.Machine.{Machine}
 use Rattle.fy_cluster.specs.Setup.{Setup}
 use Rattle.fy_cluster.specs.History.{History, Moment, sent, in_flight, now, clogs, unclogs, ticks}

@@ -18,10 +18,10 @@ use Rattle.fy_locality.specs.declared.locality.Locality.{Locality}
 use Rattle.fy_net.specs.Net.{is_word_from}
 use Rattle.fy_kinds.specs.Kinds.{is_destroying}
 use Rattle.fy_team.specs.Teams.{Team, is_among, swapped, IsFormed, AreFormed}
-use Rattle.fy_spelling.specs.declared.act.Act.{Act}
-use Rattle.fy_spelling.specs.declared.act.Act.TheVariants.{Form, Begin, Deliver, Lose, Resend, Sync, CopyTo, Replace, Heal}
-use Rattle.fy_spelling.specs.declared.reply.Reply.{Reply}
-use Rattle.fy_spelling.specs.declared.entry.Entry.{Entry}
+use Rattle.fy_acts.specs.declared.act.Act.{Act}
+use Rattle.fy_acts.specs.declared.act.Act.TheVariants.{Form, Begin, Deliver, Lose, Resend, Sync, CopyTo, Replace, Heal}
+use Rattle.fy_acts.specs.declared.reply.Reply.{Reply}
+use Rattle.fy_acts.specs.declared.entry.Entry.{Entry}
 use Rattle.fy_cluster.specs.Setup.{Setup}
 use Rattle.fy_cluster.specs.History.{History, Moment, BegunRecord, moment, message_of, sends_of, is_accepted, if_accepted, some_is, forms, begins, delivers, destroys, destroyed, is_stored, store_to, writes, written, is_open, place, teams, records, members_of, members_for, payload_of, synced, unsynced, sent, in_flight, is_taken, takes_of, word_of, marks, marked, marked_after, tells, acked, has_synced, struck_by, heals, heals_at, Swap, replaces, with_swap, after_swap, is_kept}
 use Rattle.fy_cluster.specs.Replies.{meets, no_process, policy_of, is_of_team, needed_by, refusals, reasons, IsNext}

@@ -1,9 +1,9 @@
 -- a refused act changes nothing
 use Rattle.std.proofs.Common.{◌≡◌, refl, sym}
-use Rattle.fy_spelling.specs.declared.act.Act.{Act}
-use Rattle.fy_spelling.specs.declared.act.Act.TheVariants.{Kill}
-use Rattle.fy_spelling.specs.declared.reply.Reply.TheVariants.{No}
-use Rattle.fy_spelling.specs.declared.reply.Refusal.{Refusal}
+use Rattle.fy_acts.specs.declared.act.Act.{Act}
+use Rattle.fy_acts.specs.declared.act.Act.TheVariants.{Kill}
+use Rattle.fy_acts.specs.declared.reply.Reply.TheVariants.{No}
+use Rattle.fy_acts.specs.declared.reply.Refusal.{Refusal}
 use Rattle.fy_cluster.specs.declared.machine.Machine.{Machine}
 use Rattle.fy_cluster.specs.Replies.{refused, refusals, answer}
 use Rattle.fy_cluster.specs.Standing.{Stands, Turn, Follows, following}

@@ -7,9 +7,9 @@ use Rattle.fy_locality.specs.declared.ProcId.{ProcId}
 use Rattle.fy_policy.specs.Tree.{Tree}
 use Rattle.fy_policy.specs.Sat.{satisfies}
 use Rattle.fy_team.specs.Teams.{Team, Roster, is_among, swapped, members_in, policy_in, replaced, with_member, MayReplace}
-use Rattle.fy_spelling.specs.declared.act.Act.TheVariants.{Replace}
-use Rattle.fy_spelling.specs.declared.reply.Reply.TheVariants.{Done, No}
-use Rattle.fy_spelling.specs.declared.reply.Refusal.TheVariants.{NoTeam, NoProcess, NotMember, IsMember, Gone, TeamShort, StillNeeds}
+use Rattle.fy_acts.specs.declared.act.Act.TheVariants.{Replace}
+use Rattle.fy_acts.specs.declared.reply.Reply.TheVariants.{Done, No}
+use Rattle.fy_acts.specs.declared.reply.Refusal.TheVariants.{NoTeam, NoProcess, NotMember, IsMember, Gone, TeamShort, StillNeeds}
 use Rattle.fy_cluster.specs.declared.machine.Machine.{Machine}
 use Rattle.fy_cluster.specs.Setup.{Setup}
 use Rattle.fy_cluster.specs.History.{History, Moment, gone, teams, records, acked, members_of}

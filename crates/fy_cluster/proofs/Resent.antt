@@ -7,9 +7,9 @@ use Rattle.fy_locality.specs.declared.ProcId.{ProcId}
 use Rattle.fy_net.specs.declared.message.Body.TheVariants.{Store}
 use Rattle.fy_net.specs.Net.{Traffic, reserve_refusal, sent_on}
 use Rattle.fy_team.specs.Teams.{Team, Record, Roster, is_among, IsFormed, members_in}
-use Rattle.fy_spelling.specs.declared.act.Act.TheVariants.{Resend}
-use Rattle.fy_spelling.specs.declared.reply.Reply.TheVariants.{Sent, No}
-use Rattle.fy_spelling.specs.declared.reply.Refusal.TheVariants.{NoRecord, NotMember, Acked, NetFull}
+use Rattle.fy_acts.specs.declared.act.Act.TheVariants.{Resend}
+use Rattle.fy_acts.specs.declared.reply.Reply.TheVariants.{Sent, No}
+use Rattle.fy_acts.specs.declared.reply.Refusal.TheVariants.{NoRecord, NotMember, Acked, NetFull}
 use Rattle.fy_cluster.specs.declared.machine.Machine.{Machine}
 use Rattle.fy_cluster.specs.Setup.{Setup}
 use Rattle.fy_cluster.specs.History.{History, Moment, BegunRecord, sent, teams, records, members_for, acked}
@@ -23,9 +23,9 @@ use Rattle.fy_cluster.proofs.Formed.{past_policies, within_policies}
 use Rattle.fy_cluster.proofs.Records.{Tested, slice_get-each, slice_get-some}
 use Rattle.fy_cluster.proofs.Delivered.{sound_of, record_is}
 use Rattle.fy_cluster.proofs.Keepers.{among_is}
-use Rattle.fy_spelling.specs.declared.act.Act.TheVariants.{Begin}
-use Rattle.fy_spelling.specs.declared.reply.Reply.TheVariants.{Begun}
-use Rattle.fy_spelling.specs.declared.reply.Refusal.TheVariants.{NoTeam, Payload, TooMany}
+use Rattle.fy_acts.specs.declared.act.Act.TheVariants.{Begin}
+use Rattle.fy_acts.specs.declared.reply.Reply.TheVariants.{Begun}
+use Rattle.fy_acts.specs.declared.reply.Refusal.TheVariants.{NoTeam, Payload, TooMany}
 use Rattle.fy_team.specs.declared.fault.TeamFault.{TeamFault}
 use Rattle.fy_team.specs.declared.fault.TeamFault.TheVariants.{NoTeam as NoTeamThere, Payload as LongPayload, TooMany as TooManyThere}
 use Rattle.fy_team.specs.Teams.{begin_refusal, begun_for}

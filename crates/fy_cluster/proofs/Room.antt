@@ -7,9 +7,9 @@ use Rattle.fy_net.specs.declared.fault.NetFault.{NetFault}
 use Rattle.fy_net.specs.declared.fault.NetFault.TheVariants.{NetFull as FullNet, NoMemory as NoMemoryLeft}
 use Rattle.fy_net.specs.Net.{Traffic, reserve_refusal}
 use Rattle.fy_net.specs.declared.limits.TheConstants.{MOST_IN_FLIGHT}
-use Rattle.fy_spelling.specs.declared.act.Act.{Act}
-use Rattle.fy_spelling.specs.declared.reply.Refusal.TheVariants.{NetFull}
-use Rattle.fy_spelling.specs.declared.reply.Reply.TheVariants.{No}
+use Rattle.fy_acts.specs.declared.act.Act.{Act}
+use Rattle.fy_acts.specs.declared.reply.Refusal.TheVariants.{NetFull}
+use Rattle.fy_acts.specs.declared.reply.Reply.TheVariants.{No}
 use Rattle.fy_cluster.specs.declared.machine.Machine.{Machine}
 use Rattle.fy_cluster.specs.Setup.{Setup, is_between}
 use Rattle.fy_cluster.specs.History.{History, Moment, sent, now, clogs, unclogs, ticks}

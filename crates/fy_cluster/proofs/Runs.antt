@@ -1,7 +1,7 @@
 -- acts are applied one after another
 use Rattle.std.proofs.Common.{◌≡◌, ℕ, ◌+◌, ◌<◌, List, [], ◌∷◌, ◌++◌, length, take, get_or, Some, refl, sym, ◌∙◌, ap, add-one}
 use Rattle.std.proofs.lemmas.Option.{slice_get-get_or}
-use Rattle.fy_spelling.specs.declared.act.Act.{Act}
+use Rattle.fy_acts.specs.declared.act.Act.{Act}
 use Rattle.fy_cluster.specs.Course.{Course, entered, after_acts}
 use Rattle.fy_cluster.proofs.Sending.{take-push}
 

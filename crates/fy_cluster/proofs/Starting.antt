@@ -28,7 +28,7 @@ use Rattle.fy_cluster.specs.Setup.{Setup, IsMet, IsSetup}
 use Rattle.fy_cluster.specs.Rules.{grants_to, some_protects}
 use Rattle.fy_cluster.proofs.Grants.{GivesLists}
 use Rattle.fy_cluster.proofs.Records.{Tested}
-use Rattle.fy_spelling.specs.declared.entry.Entry.{Entry}
+use Rattle.fy_acts.specs.declared.entry.Entry.{Entry}
 use Rattle.fy_disk.specs.Disk.{blank}
 use Rattle.fy_cluster.specs.Standing.{Stands, KeepsRights, IsKept}
 

@@ -6,9 +6,9 @@ use Rattle.std.specs.Ordering.{nat_cmp}
 use Rattle.std.specs.Cmp.{nat_cmp_total, unsigned_tied}
 use Rattle.fy_locality.specs.declared.ProcId.{ProcId}
 use Rattle.fy_locality.specs.declared.locality.Locality.{Locality}
-use Rattle.fy_spelling.specs.declared.act.Act.TheVariants.{Up}
-use Rattle.fy_spelling.specs.declared.reply.Reply.TheVariants.{Done, No}
-use Rattle.fy_spelling.specs.declared.reply.Refusal.TheVariants.{NoProcess, Gone, IsUp}
+use Rattle.fy_acts.specs.declared.act.Act.TheVariants.{Up}
+use Rattle.fy_acts.specs.declared.reply.Reply.TheVariants.{Done, No}
+use Rattle.fy_acts.specs.declared.reply.Refusal.TheVariants.{NoProcess, Gone, IsUp}
 use Rattle.fy_cluster.specs.declared.machine.Machine.{Machine}
 use Rattle.fy_cluster.specs.Setup.{Setup}
 use Rattle.fy_cluster.specs.History.{History, Moment, gone, left, up}

@@ -14,9 +14,9 @@ use Rattle.fy_disk.specs.declared.item.Item.{Item}
 use Rattle.fy_disk.specs.Disk.{Stored}
 use Rattle.fy_net.specs.Net.{Traffic}
 use Rattle.fy_team.specs.Teams.{Roster, Team}
-use Rattle.fy_spelling.specs.declared.act.Act.{Act}
-use Rattle.fy_spelling.specs.declared.act.Act.TheVariants.{Deliver, Lose, Heal}
-use Rattle.fy_spelling.specs.declared.reply.Reply.{Reply}
+use Rattle.fy_acts.specs.declared.act.Act.{Act}
+use Rattle.fy_acts.specs.declared.act.Act.TheVariants.{Deliver, Lose, Heal}
+use Rattle.fy_acts.specs.declared.reply.Reply.{Reply}
 use Rattle.fy_cluster.specs.declared.machine.Machine.{Machine}
 use Rattle.std.specs.Ordering.{nat_cmp}
 use Rattle.std.specs.FinSet as sets

@@ -7,9 +7,9 @@ use Rattle.fy_disk.specs.declared.item.Item.{Item}
 use Rattle.fy_disk.specs.Disk.{Stored as OnDisk, passing}
 use Rattle.fy_net.specs.declared.message.Body.TheVariants.{Synced as Word}
 use Rattle.fy_net.specs.Net.{Traffic, reserve_refusal}
-use Rattle.fy_spelling.specs.declared.act.Act.TheVariants.{Sync}
-use Rattle.fy_spelling.specs.declared.reply.Reply.TheVariants.{Synced, No}
-use Rattle.fy_spelling.specs.declared.reply.Refusal.TheVariants.{NoProcess, NotUp, NetFull}
+use Rattle.fy_acts.specs.declared.act.Act.TheVariants.{Sync}
+use Rattle.fy_acts.specs.declared.reply.Reply.TheVariants.{Synced, No}
+use Rattle.fy_acts.specs.declared.reply.Refusal.TheVariants.{NoProcess, NotUp, NetFull}
 use Rattle.fy_cluster.specs.declared.machine.Machine.{Machine}
 use Rattle.fy_cluster.specs.Setup.{Setup}
 use Rattle.fy_cluster.specs.History.{History, Moment, up, sent, synced, unsynced, closes, close_keeps, words_of}

@@ -4,10 +4,10 @@ use Rattle.fy_net.specs.declared.fault.NetFault.{NetFault}
 use Rattle.fy_net.specs.declared.fault.NetFault.TheVariants.{ClockEnd as AtEnd}
 use Rattle.fy_net.specs.Net.{Traffic, advance_refusal}
 use Rattle.fy_net.specs.declared.limits.TheConstants.{LAST_TICK}
-use Rattle.fy_spelling.specs.declared.act.Act.TheVariants.{Tick}
-use Rattle.fy_spelling.specs.declared.reply.Reply.{Reply}
-use Rattle.fy_spelling.specs.declared.reply.Reply.TheVariants.{Time, No}
-use Rattle.fy_spelling.specs.declared.reply.Refusal.TheVariants.{ClockEnd}
+use Rattle.fy_acts.specs.declared.act.Act.TheVariants.{Tick}
+use Rattle.fy_acts.specs.declared.reply.Reply.{Reply}
+use Rattle.fy_acts.specs.declared.reply.Reply.TheVariants.{Time, No}
+use Rattle.fy_acts.specs.declared.reply.Refusal.TheVariants.{ClockEnd}
 use Rattle.fy_cluster.specs.declared.machine.Machine.{Machine}
 use Rattle.fy_cluster.specs.Setup.{Setup}
 use Rattle.fy_cluster.specs.History.{History, Moment, now}

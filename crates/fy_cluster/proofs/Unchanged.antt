@@ -9,15 +9,16 @@ use Rattle.fy_locality.specs.declared.locality.Locality.{Locality}
 use Rattle.fy_policy.specs.Tree.{Tree, IsPolicy}
 use Rattle.fy_policy.specs.Sat.{Sat}
 use Rattle.fy_team.specs.Teams.{Team, is_among, IsFormed}
-use Rattle.fy_spelling.specs.declared.act.Act.{Act}
-use Rattle.fy_spelling.specs.declared.act.Act.TheVariants.{Replace, Heal}
-use Rattle.fy_spelling.specs.declared.reply.Reply.{Reply}
-use Rattle.fy_spelling.specs.declared.entry.Entry.{Entry}
-use Rattle.fy_audit.specs.declared.version.Version.TheVariants.{First}
+use Rattle.fy_acts.specs.declared.act.Act.{Act}
+use Rattle.fy_acts.specs.declared.act.Act.TheVariants.{Replace, Heal}
+use Rattle.fy_acts.specs.declared.reply.Reply.{Reply}
+use Rattle.fy_acts.specs.declared.entry.Entry.{Entry}
+use Rattle.fy_journal.specs.declared.version.Version.TheVariants.{First}
 use Rattle.fy_cluster.specs.Setup.{Setup, IsMet}
 use Rattle.fy_cluster.specs.History.{History, Moment, moment, after, some_is, forms, delivers, destroys, destroyed, heals, heals_at, replaces, after_swap, teams, records, members_for, word_of, marks, marked, tells, acked}
 use Rattle.fy_cluster.specs.Replies.{IsNext, LegalAfter}
-use Rattle.fy_cluster.specs.Versions.{knows, knows_all}
+use Rattle.fy_cluster.specs.Versions.{knows_all}
+use Rattle.fy_journal.specs.Versions.{knows}
 use Rattle.fy_cluster.specs.Earlier.{once_destroyed, teams_formed, formed_for, once_marked, marked_by_all, IsAsEarlier, EarlierRulesHold}
 use Rattle.fy_cluster.proofs.Records.{Tested, Sound, Known, sound_start, sound_next, known_still, tells_known, team_known, records_still, slice_get-append, slice_get-each, slice_get-some}
 

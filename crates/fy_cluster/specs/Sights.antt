@@ -6,7 +6,7 @@ use Rattle.fy_locality.specs.declared.ProcId.{ProcId}
 use Rattle.fy_disk.specs.Disk.{Stored}
 use Rattle.fy_grants.specs.Least.{IsLeastWith}
 use Rattle.fy_team.specs.Teams.{is_among}
-use Rattle.fy_spelling.specs.declared.act.Act.TheVariants.{Deliver}
+use Rattle.fy_acts.specs.declared.act.Act.TheVariants.{Deliver}
 use Rattle.fy_cluster.specs.declared.machine.Machine.{Machine}
 use Rattle.fy_cluster.specs.declared.sight.Sight.{Sight}
 use Rattle.fy_cluster.specs.Setup.{Setup}

@@ -22,13 +22,13 @@ use Rattle.fy_net.specs.declared.limits.TheConstants.{LAST_TICK, MOST_IN_FLIGHT}
 use Rattle.fy_team.specs.declared.fault.TeamFault.{TeamFault}
 use Rattle.fy_team.specs.declared.fault.TeamFault.TheVariants.{TooMany as TeamTooMany, NoPolicy as TeamNoPolicy, NoProcess as TeamNoProcess, Gone as TeamGone, TeamShort as IsShort, NoTeam as TeamNoTeam, Payload as TeamPayload, NoMemory as TeamNoMemory}
 use Rattle.fy_team.specs.Teams.{Roster, Record, is_marked, is_acked}
-use Rattle.fy_spelling.specs.declared.act.Act.{Act}
-use Rattle.fy_spelling.specs.declared.reply.Reply.{Reply}
-use Rattle.fy_spelling.specs.declared.reply.Reply.TheVariants.{No}
-use Rattle.fy_spelling.specs.declared.reply.Refusal.TheVariants.{NoActor as Nobody, NoSuch as Nothing, Full as TooFull, TooMany, NoPolicy, NoProcess, Gone, TeamShort, NoTeam, Payload, NetFull, NoMessage, Clogged, ClockEnd}
-use Rattle.fy_spelling.specs.declared.entry.Entry.{Entry}
-use Rattle.fy_audit.specs.declared.version.Version.TheVariants.{Second}
-use Rattle.fy_audit.specs.Journal.{Log}
+use Rattle.fy_acts.specs.declared.act.Act.{Act}
+use Rattle.fy_acts.specs.declared.reply.Reply.{Reply}
+use Rattle.fy_acts.specs.declared.reply.Reply.TheVariants.{No}
+use Rattle.fy_acts.specs.declared.reply.Refusal.TheVariants.{NoActor as Nobody, NoSuch as Nothing, Full as TooFull, TooMany, NoPolicy, NoProcess, Gone, TeamShort, NoTeam, Payload, NetFull, NoMessage, Clogged, ClockEnd}
+use Rattle.fy_acts.specs.declared.entry.Entry.{Entry}
+use Rattle.fy_journal.specs.declared.version.Version.TheVariants.{Second}
+use Rattle.fy_journal.specs.Journal.{Log}
 use Rattle.fy_grants.specs.declared.book.BookFault.{BookFault}
 use Rattle.fy_grants.specs.declared.book.BookFault.TheVariants.{NoActor, NoSuch, Full, NoMemory as BookNoMemory}
 use Rattle.fy_cluster.specs.declared.fault.Fault.{Fault}

@@ -8,12 +8,12 @@ use Rattle.fy_grants.specs.Least.{LeastWith}
 use Rattle.fy_team.specs.Teams.{is_among}
 use Rattle.fy_decide.specs.Losses.{AreShort, AreSatisfied, first_unmet}
 use Rattle.fy_decide.specs.Verdicts.{verdict}
-use Rattle.fy_spelling.specs.declared.act.Act.{Act}
-use Rattle.fy_spelling.specs.declared.act.Act.TheVariants.{Kill}
-use Rattle.fy_spelling.specs.declared.reply.Reply.TheVariants.{Verdict as Verdicted, No}
-use Rattle.fy_spelling.specs.declared.reply.Refusal.TheVariants.{Stranger}
-use Rattle.fy_spelling.specs.declared.entry.Entry.{Entry}
-use Rattle.fy_audit.specs.declared.version.Version.{Version}
+use Rattle.fy_acts.specs.declared.act.Act.{Act}
+use Rattle.fy_acts.specs.declared.act.Act.TheVariants.{Kill}
+use Rattle.fy_acts.specs.declared.reply.Reply.TheVariants.{Verdict as Verdicted, No}
+use Rattle.fy_acts.specs.declared.reply.Refusal.TheVariants.{Stranger}
+use Rattle.fy_acts.specs.declared.entry.Entry.{Entry}
+use Rattle.fy_journal.specs.declared.version.Version.{Version}
 use Rattle.fy_cluster.specs.Setup.{Setup, IsMet}
 use Rattle.fy_cluster.specs.History.{History, moment, history, destroyed, left, synced, acked, keeps, keeper, members_for, payload_of}
 use Rattle.fy_cluster.specs.Rules.{situation}

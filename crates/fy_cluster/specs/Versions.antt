@@ -2,38 +2,15 @@
 -- that; a cluster makes journals of the second. Both give each act the same reply, so Legal speaks
 -- of the entries of either; but the first knows no CopyTo, Replace and Heal, so that a journal of
 -- it which has one of these is not legal.
-use Rattle.std.specs.Prelude.{◌<◌, ◌↔◌, Bool, true, false, List, [], ◌∷◌, ◌++◌, length, IsTrue}
+use Rattle.std.specs.Prelude.{◌<◌, ◌↔◌, Bool, List, [], ◌∷◌, ◌++◌, length, IsTrue}
 use Rattle.std.specs.List.{list_all}
-use Rattle.fy_spelling.specs.declared.act.Act.{Act}
-use Rattle.fy_spelling.specs.declared.act.Act.TheVariants.{Kill, Clog, Unclog, Form, Begin, Deliver, Lose, Resend, Sync, Up, Tick, Give, Take, Protect, Unprotect, CopyTo, Replace, Heal}
-use Rattle.fy_spelling.specs.declared.entry.Entry.{Entry}
-use Rattle.fy_audit.specs.declared.version.Version.{Version}
-use Rattle.fy_audit.specs.declared.version.Version.TheVariants.{First, Second}
+use Rattle.fy_acts.specs.declared.entry.Entry.{Entry}
+use Rattle.fy_journal.specs.declared.version.Version.{Version}
+use Rattle.fy_journal.specs.declared.version.Version.TheVariants.{Second}
+use Rattle.fy_journal.specs.Versions.{knows}
 use Rattle.fy_cluster.specs.Setup.{Setup}
 use Rattle.fy_cluster.specs.History.{history}
 use Rattle.fy_cluster.specs.Replies.{Legal, IsNext}
-
--- whether there is such an act under the version
-abbrev pub knows : Version → Act → Bool
-knows Second act = true
-knows First (Kill order) = true
-knows First (Clog target n) = true
-knows First (Unclog target) = true
-knows First (Form members policy) = true
-knows First (Begin team payload) = true
-knows First (Deliver n) = true
-knows First (Lose n) = true
-knows First (Resend rec process) = true
-knows First (Sync process) = true
-knows First (Up process) = true
-knows First (Tick n) = true
-knows First (Give grant) = true
-knows First (Take actor index) = true
-knows First (Protect process kinds) = true
-knows First (Unprotect process kinds) = true
-knows First (CopyTo from rec to) = false
-knows First (Replace team out into) = false
-knows First (Heal process) = false
 
 -- whether there is each act of the entries
 abbrev pub knows_all : Version → List Entry → Bool

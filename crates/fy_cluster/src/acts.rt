@@ -1,11 +1,11 @@
 //! One act of an actor that may make it.
 ghost use Rattle.std.specs.Prelude.{◌≡◌, ◌<◌, ◌++◌, ◌∷◌, [], length, IfOk, OnErr};
-ghost use Rattle.fy_audit.specs.Journal.{entered};
+ghost use Rattle.fy_journal.specs.Journal.{entered};
 ghost use Rattle.fy_cluster.specs.Standing.{Turn, Stands, Comes, Answers, IsLived};
 
 use crate::machine::Machine;
 use crate::{Config, Fault};
-use fy_audit::{Act, Journal, MOST_ENTRIES, Refusal, Reply};
+use fy_journal::{Act, Journal, MOST_ENTRIES, Refusal, Reply};
 use std::alloc::Global;
 
 impl Machine {

@@ -1,9 +1,9 @@
 //! Time.
-ghost use Rattle.fy_spelling.specs.declared.act.Act.TheVariants.{Tick};
+ghost use Rattle.fy_acts.specs.declared.act.Act.TheVariants.{Tick};
 ghost use Rattle.fy_cluster.specs.Standing.{Turn, Stands, Follows};
 
 use crate::machine::Machine;
-use fy_audit::{Refusal, Reply};
+use fy_journal::{Refusal, Reply};
 
 impl Machine {
     /// Lets some ticks pass.

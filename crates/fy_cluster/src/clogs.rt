@@ -2,11 +2,11 @@
 ghost use Rattle.std.specs.Prelude.{◌≡◌, ◌<◌, ℕ, true, length, IfOk};
 ghost use Rattle.std.specs.Result.{result_err};
 ghost use Rattle.std.specs.FinSet as sets;
-ghost use Rattle.fy_spelling.specs.declared.act.Act.TheVariants.{Clog, Unclog};
+ghost use Rattle.fy_acts.specs.declared.act.Act.TheVariants.{Clog, Unclog};
 ghost use Rattle.fy_cluster.specs.Standing.{Turn, Stands, Follows, ClogsChange, clog_end, unclog_end, targets_by, clog_bar};
 
 use crate::machine::Machine;
-use fy_audit::Reply;
+use fy_journal::Reply;
 use fy_decide::judge_clog;
 use fy_kinds::{Rule, Target};
 use fy_locality::{Map, ProcSet};

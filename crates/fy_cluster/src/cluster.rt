@@ -1,7 +1,7 @@
 //! A cluster: it replies to acts, and keeps them all in its journal.
 ghost use Rattle.std.specs.Prelude.{◌≡◌, ◌↔◌, ◌<◌, ◌≤◌, ℕ, length, IfOk, IfErr, IsTrue, OnOk, OnErr, Err, IsSome, IfSome};
 ghost use Rattle.std.specs.FinSet as sets;
-ghost use Rattle.fy_audit.specs.declared.version.Version.TheVariants.{Second};
+ghost use Rattle.fy_journal.specs.declared.version.Version.TheVariants.{Second};
 ghost use Rattle.fy_cluster.specs.History.{destroyed, acked, keeper};
 ghost use Rattle.fy_cluster.specs.declared.fault.Fault.TheVariants.{JournalFull};
 ghost use Rattle.fy_cluster.specs.Survival.{Survives};
@@ -10,7 +10,7 @@ ghost use Rattle.fy_cluster.specs.Sights.{IsLeastKeeper, Sees};
 
 use crate::machine::Machine;
 use crate::{Config, Fault, Sight, laws};
-use fy_audit::{Act, Journal, Reply};
+use fy_journal::{Act, Journal, Reply};
 use fy_locality::{ProcId, ProcSet};
 use std::alloc::{AllocError, Global};
 use std::marker::Model;

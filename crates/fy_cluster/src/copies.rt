@@ -1,12 +1,12 @@
 //! Records are copied.
 ghost use Rattle.std.specs.Prelude.{◌≡◌};
-ghost use Rattle.fy_spelling.specs.declared.act.Act.TheVariants.{CopyTo};
+ghost use Rattle.fy_acts.specs.declared.act.Act.TheVariants.{CopyTo};
 ghost use Rattle.fy_cluster.specs.Standing.{Turn, Stands, Comes, IsLived};
 
 use crate::Fault;
 use crate::machine::Machine;
 use crate::messages::no_room;
-use fy_audit::{Refusal, Reply};
+use fy_journal::{Refusal, Reply};
 use fy_locality::{Map, ProcId};
 use fy_net::Body;
 

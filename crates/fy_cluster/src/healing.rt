@@ -1,10 +1,10 @@
 //! Processes are healed.
 ghost use Rattle.std.specs.Prelude.{◌≡◌};
-ghost use Rattle.fy_spelling.specs.declared.act.Act.TheVariants.{Heal};
+ghost use Rattle.fy_acts.specs.declared.act.Act.TheVariants.{Heal};
 ghost use Rattle.fy_cluster.specs.Standing.{Turn, Stands, Follows};
 
 use crate::machine::Machine;
-use fy_audit::{Refusal, Reply};
+use fy_journal::{Refusal, Reply};
 use fy_locality::{Map, ProcId};
 
 impl Machine {

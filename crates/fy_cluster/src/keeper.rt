@@ -1,7 +1,7 @@
 //! Who keeps a record.
 ghost use Rattle.std.specs.Prelude.{◌≡◌, ◌==◌, List, find};
 ghost use Rattle.std.specs.List.{list_any};
-ghost use Rattle.fy_spelling.specs.declared.entry.Entry.{Entry};
+ghost use Rattle.fy_acts.specs.declared.entry.Entry.{Entry};
 ghost use Rattle.fy_cluster.specs.Setup.{Setup};
 ghost use Rattle.fy_cluster.specs.History.{history, keeper};
 ghost use Rattle.fy_cluster.specs.Standing.{IsKept};

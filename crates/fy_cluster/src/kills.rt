@@ -3,13 +3,13 @@ ghost use Rattle.std.specs.Prelude.{◌≡◌, ◌<◌, ℕ, true, [], length, S
 ghost use Rattle.std.specs.FinSet as sets;
 ghost use Rattle.fy_decide.specs.declared.dead_book.Loss.{Loss};
 ghost use Rattle.fy_decide.specs.Verdicts.{loss_of};
-ghost use Rattle.fy_spelling.specs.declared.act.Act.TheVariants.{Kill};
+ghost use Rattle.fy_acts.specs.declared.act.Act.TheVariants.{Kill};
 ghost use Rattle.fy_decide.specs.DeadBook.{MayLose};
 ghost use Rattle.fy_disk.specs.Disk.{blank};
 ghost use Rattle.fy_cluster.specs.Standing.{Turn, Stands, Follows, buried, ChangesAt, left_on};
 
 use crate::machine::Machine;
-use fy_audit::Reply;
+use fy_journal::Reply;
 use fy_decide::{DeadBook, Loss, judge};
 use fy_disk::Disk;
 use fy_kinds::{KillOrder, Kind};

@@ -2,7 +2,7 @@
 ghost use Rattle.std.specs.Prelude.{◌≡◌, ◌≤◌, ◌<◌, ◌+◌, ◌++◌, Some, None, map, length, slice_set, slice_index_or, OnOk, OnErr, IfErr};
 ghost use Rattle.fy_net.specs.Net.{body_of, take_refusal, left_by};
 ghost use Rattle.fy_net.specs.declared.message.Body.TheVariants.{Store, Synced};
-ghost use Rattle.fy_spelling.specs.declared.act.Act.TheVariants.{Deliver, Lose, Sync};
+ghost use Rattle.fy_acts.specs.declared.act.Act.TheVariants.{Deliver, Lose, Sync};
 ghost use Rattle.fy_cluster.specs.History.{words_of};
 ghost use Rattle.fy_disk.specs.Disk.{written, blank};
 ghost use Rattle.fy_cluster.specs.Standing.{Turn, Stands, Follows, Comes, IsLived, Sends, no_room};
@@ -10,7 +10,7 @@ ghost use Rattle.fy_cluster.specs.declared.fault.Fault.TheVariants.{NoMemory};
 
 use crate::Fault;
 use crate::machine::Machine;
-use fy_audit::{Refusal, Reply};
+use fy_journal::{Refusal, Reply};
 use fy_disk::{Disk, Item};
 use fy_locality::{Map, ProcId};
 use fy_net::{Body, Net, NetFault};

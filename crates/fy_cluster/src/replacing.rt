@@ -2,13 +2,13 @@
 ghost use Rattle.std.specs.Prelude.{◌≡◌, ◌<◌, ◌≤◌, ℕ, length, All};
 ghost use Rattle.std.specs.FinSet as sets;
 ghost use Rattle.fy_team.specs.Teams.{is_among, swapped};
-ghost use Rattle.fy_spelling.specs.declared.act.Act.TheVariants.{Replace};
+ghost use Rattle.fy_acts.specs.declared.act.Act.TheVariants.{Replace};
 ghost use Rattle.fy_cluster.specs.Replies.{meets};
 ghost use Rattle.fy_cluster.specs.Standing.{Turn, Stands, Follows, IsLived};
 
 use crate::Config;
 use crate::machine::Machine;
-use fy_audit::{Refusal, Reply};
+use fy_journal::{Refusal, Reply};
 use fy_locality::{MOST_PROCESSES, ProcId, ProcSet};
 use fy_policy::satisfied;
 

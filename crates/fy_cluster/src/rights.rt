@@ -1,11 +1,11 @@
 //! Grants and protections are given and taken.
 ghost use Rattle.std.specs.Prelude.{◌≡◌};
-ghost use Rattle.fy_spelling.specs.declared.act.Act.TheVariants.{Give, Take, Protect, Unprotect};
+ghost use Rattle.fy_acts.specs.declared.act.Act.TheVariants.{Give, Take, Protect, Unprotect};
 ghost use Rattle.fy_cluster.specs.Standing.{Turn, Stands, Follows, Comes, replied_to};
 
 use crate::Fault;
 use crate::machine::Machine;
-use fy_audit::{Refusal, Reply};
+use fy_journal::{Refusal, Reply};
 use fy_grants::{BookFault, Grant, laws};
 use fy_kinds::KindSet;
 use fy_locality::ProcId;

@@ -2,14 +2,14 @@
 ghost use Rattle.std.specs.Prelude.{◌≡◌, ◌≤◌, ◌<◌, ◌+◌, ◌++◌, map, length};
 ghost use Rattle.std.specs.List.{All};
 ghost use Rattle.fy_net.specs.declared.message.Body.TheVariants.{Store};
-ghost use Rattle.fy_spelling.specs.declared.act.Act.TheVariants.{Form, Begin, Resend};
+ghost use Rattle.fy_acts.specs.declared.act.Act.TheVariants.{Form, Begin, Resend};
 ghost use Rattle.fy_cluster.specs.History.{stores_of};
 ghost use Rattle.fy_cluster.specs.Standing.{Turn, Stands, Comes, IsLived, Sends, replied_to_team};
 
 use crate::machine::Machine;
 use crate::messages::no_room;
 use crate::{Config, Fault};
-use fy_audit::{Refusal, Reply};
+use fy_journal::{Refusal, Reply};
 use fy_disk::Payload;
 use fy_locality::ProcId;
 use fy_net::{Body, Net};

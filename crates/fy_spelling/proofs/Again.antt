@@ -21,8 +21,8 @@ use Rattle.fy_spelling.specs.Candidate.{long_from, short_from, process_from, pro
 use Rattle.fy_spelling.specs.Command.{gathered, asking}
 use Rattle.fy_spelling.specs.Fits.{IsShort, IsLong, IsByte, IsProcess, FitsTarget, FitsScope, FitsMembers, FitsAct}
 use Rattle.fy_spelling.specs.Values.{under, whole, processes_value, deeds_value, order_value, scope_value, act_listing, kinds_in}
-use Rattle.fy_spelling.specs.declared.act.Act.{Act}
-use Rattle.fy_spelling.specs.declared.act.Act.TheVariants.{Kill, Clog, Unclog, Form, Begin, Deliver, Lose, Resend, Sync, Up, Tick, Give, Take, Protect, Unprotect, CopyTo, Replace, Heal}
+use Rattle.fy_acts.specs.declared.act.Act.{Act}
+use Rattle.fy_acts.specs.declared.act.Act.TheVariants.{Kill, Clog, Unclog, Form, Begin, Deliver, Lose, Resend, Sync, Up, Tick, Give, Take, Protect, Unprotect, CopyTo, Replace, Heal}
 use Rattle.fy_spelling.specs.declared.reading.Asked.{Asked}
 use Rattle.fy_spelling.specs.declared.reading.Asked.TheVariants.{Order, Other}
 use Rattle.fy_spelling.proofs.Found.{members_pass}

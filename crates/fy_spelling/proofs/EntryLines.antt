@@ -7,9 +7,9 @@ use Rattle.fy_spelling.specs.Command.{IsJson}
 use Rattle.fy_spelling.specs.EntryLine.{IsTextOf}
 use Rattle.fy_spelling.specs.Replied.{entry_from}
 use Rattle.fy_spelling.specs.Values.{entry_data}
-use Rattle.fy_spelling.specs.declared.entry.Entry.{Entry}
+use Rattle.fy_acts.specs.declared.entry.Entry.{Entry}
 use Rattle.fy_spelling.specs.declared.reading.Asked.{Asked}
-use Rattle.fy_spelling.specs.declared.reply.Reply.{Reply}
+use Rattle.fy_acts.specs.declared.reply.Reply.{Reply}
 use Rattle.fy_spelling.proofs.Again.{found_as}
 use Rattle.fy_spelling.proofs.Lines.{one_value}
 use Rattle.fy_spelling.proofs.Replied.{entry-again}

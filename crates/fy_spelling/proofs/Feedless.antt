@@ -11,7 +11,7 @@ use Rattle.fy_spelling.specs.OneText.{HasNoFeed}
 use Rattle.fy_spelling.specs.Tame.{IsTame, ItemsTame, MembersTame}
 use Rattle.fy_spelling.specs.Fits.{FitsEntry}
 use Rattle.fy_spelling.specs.Values.{text_of, entry_data}
-use Rattle.fy_spelling.specs.declared.entry.Entry.{Entry}
+use Rattle.fy_acts.specs.declared.entry.Entry.{Entry}
 use Rattle.fy_spelling.proofs.Shapes.{tame_entry, held_entry}
 
 feedless_both : (xs ys : List ℕ) → HasNoFeed xs → HasNoFeed ys → HasNoFeed (xs ++ ys)

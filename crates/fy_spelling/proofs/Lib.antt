@@ -1,4 +1,4 @@
-pub mod Compared
+pub mod Orders
 pub mod Found
 pub mod Told
 pub mod Listing

@@ -5,7 +5,7 @@ use Rattle.fy_spelling.specs.Candidate.{command_from, IsMeant}
 use Rattle.fy_spelling.specs.Command.{asking, IsJson, Spells, LineOf, LineAnswers}
 use Rattle.fy_spelling.specs.Fits.{FitsTarget, IsLong}
 use Rattle.fy_spelling.specs.Values.{under, order_value}
-use Rattle.fy_spelling.specs.declared.act.Act.{Act}
+use Rattle.fy_acts.specs.declared.act.Act.{Act}
 use Rattle.fy_spelling.specs.declared.command.Command.{Command}
 use Rattle.fy_spelling.specs.declared.command.LineFault.{LineFault}
 use Rattle.fy_spelling.specs.declared.command.LineFault.TheVariants.{TooLong, Syntax, Floor, NoMemory}

@@ -10,8 +10,8 @@ use Rattle.fy_spelling.specs.Candidate.{sole, one, two, three, five, long_from, 
 use Rattle.fy_spelling.specs.Command.{gathered, asking}
 use Rattle.fy_spelling.specs.Fits.{IsShort, IsLong, IsProcess, FitsTarget, FitsAct}
 use Rattle.fy_spelling.specs.Values.{with_fields, under, whole, order_value, protection_value, process_value, act_listing, kinds_in}
-use Rattle.fy_spelling.specs.declared.act.Act.{Act}
-use Rattle.fy_spelling.specs.declared.act.Act.TheVariants as act
+use Rattle.fy_acts.specs.declared.act.Act.{Act}
+use Rattle.fy_acts.specs.declared.act.Act.TheVariants as act
 use Rattle.fy_spelling.specs.declared.reading.Asked.{Asked}
 use Rattle.fy_spelling.specs.declared.reading.Asked.TheVariants.{Order, Other}
 use Rattle.fy_spelling.proofs.Told.{came, mapped, same_some, told_one, told_sole, told_two, told_three, told_five, told_long, told_short, told_process, told_members, told_kind, told_target, told_target_in, told_scope, told_kinds, told_payload}

@@ -7,16 +7,16 @@ use Rattle.fy_spelling.specs.Fits.{FitsRule, FitsRefusal, FitsReply, FitsEntry}
 use Rattle.fy_spelling.specs.Values.{in_order, kinds_in, rule_data, struck_data, refusal_data, reply_data, entry_data}
 use Rattle.fy_spelling.specs.Candidate.{kind_from, IsMeant}
 use Rattle.fy_spelling.specs.Replied.{rule_from, refusal_from, reply_from, entry_from}
-use Rattle.fy_spelling.specs.declared.act.Act.{Act}
-use Rattle.fy_spelling.specs.declared.act.Act.TheVariants.{Kill, Clog, Unclog, Form, Begin, Deliver, Lose, Resend, Sync, Up, Tick, Give, Take, Protect, Unprotect, CopyTo, Replace, Heal}
+use Rattle.fy_acts.specs.declared.act.Act.{Act}
+use Rattle.fy_acts.specs.declared.act.Act.TheVariants.{Kill, Clog, Unclog, Form, Begin, Deliver, Lose, Resend, Sync, Up, Tick, Give, Take, Protect, Unprotect, CopyTo, Replace, Heal}
 use Rattle.fy_spelling.specs.declared.command.LineFault.{LineFault}
-use Rattle.fy_spelling.specs.declared.reply.Refusal.{Refusal}
-use Rattle.fy_spelling.specs.declared.reply.Refusal.TheVariants.{Stranger, WrongRole, TooMany, NoPolicy, NoProcess, Gone, TeamShort, NoTeam, Payload, NetFull, NoMessage, Clogged, NotUp, NoRecord, NotMember, Acked, IsUp, ClockEnd, NoActor, Full, NoSuch, NoCopy, IsMember, NotDestroyed, StillNeeds}
-use Rattle.fy_spelling.specs.declared.reply.Reply.{Reply}
-use Rattle.fy_spelling.specs.declared.reply.Reply.TheVariants.{Verdict, Ruled, Formed, Begun, Stored, Marked, Sent, Synced, Time, Done, No}
-use Rattle.fy_spelling.specs.declared.entry.Entry.{Entry}
+use Rattle.fy_acts.specs.declared.reply.Refusal.{Refusal}
+use Rattle.fy_acts.specs.declared.reply.Refusal.TheVariants.{Stranger, WrongRole, TooMany, NoPolicy, NoProcess, Gone, TeamShort, NoTeam, Payload, NetFull, NoMessage, Clogged, NotUp, NoRecord, NotMember, Acked, IsUp, ClockEnd, NoActor, Full, NoSuch, NoCopy, IsMember, NotDestroyed, StillNeeds}
+use Rattle.fy_acts.specs.declared.reply.Reply.{Reply}
+use Rattle.fy_acts.specs.declared.reply.Reply.TheVariants.{Verdict, Ruled, Formed, Begun, Stored, Marked, Sent, Synced, Time, Done, No}
+use Rattle.fy_acts.specs.declared.entry.Entry.{Entry}
 use Rattle.fy_spelling.proofs.Again.{found_as, long-again, short-again, process-again, kind-again, act-again}
-use Rattle.fy_spelling.proofs.Compared.{same_parts}
+use Rattle.fy_spelling.proofs.Orders.{same_parts}
 use Rattle.fy_spelling.proofs.Plain.{gathered_in_order}
 
 -- ---- replies

@@ -8,14 +8,14 @@ use Rattle.fy_spelling.specs.Values.{whole, in_order, kinds_in, act_data, reply_
 use Rattle.fy_spelling.specs.Command.{asking}
 use Rattle.fy_spelling.specs.Candidate.{short_from, command_from}
 use Rattle.fy_spelling.specs.Replied.{reply_from}
-use Rattle.fy_spelling.specs.declared.act.Act.{Act}
-use Rattle.fy_spelling.specs.declared.act.Act.TheVariants.{Kill, Clog, Unclog, Form, Begin, Deliver, Lose, Resend, Sync, Up, Tick, Give, Take, Protect, Unprotect, CopyTo, Replace, Heal}
+use Rattle.fy_acts.specs.declared.act.Act.{Act}
+use Rattle.fy_acts.specs.declared.act.Act.TheVariants.{Kill, Clog, Unclog, Form, Begin, Deliver, Lose, Resend, Sync, Up, Tick, Give, Take, Protect, Unprotect, CopyTo, Replace, Heal}
 use Rattle.fy_spelling.specs.declared.reading.Asked.{Asked}
 use Rattle.fy_spelling.specs.declared.reading.Asked.TheVariants.{Other}
-use Rattle.fy_spelling.specs.declared.reply.Reply.{Reply}
-use Rattle.fy_spelling.specs.declared.entry.Entry.{Entry}
+use Rattle.fy_acts.specs.declared.reply.Reply.{Reply}
+use Rattle.fy_acts.specs.declared.entry.Entry.{Entry}
 use Rattle.fy_spelling.proofs.Again.{found_as, command-again, short-again}
-use Rattle.fy_spelling.proofs.Compared.{same_parts}
+use Rattle.fy_spelling.proofs.Orders.{same_parts}
 use Rattle.fy_spelling.proofs.Plain.{gathered_in_order}
 use Rattle.fy_spelling.proofs.Replied.{reply-again}
 use Rattle.fy_spelling.proofs.Shapes.{read_text_of}

@@ -21,8 +21,8 @@ use Rattle.fy_grants.specs.declared.grant.Scope.TheVariants.{All, Where}
 use Rattle.fy_team.proofs.Rising.{rises_from}
 use Rattle.fy_team.specs.declared.limits.TheConstants.{MOST_MEMBERS}
 use Rattle.fy_spelling.specs.Command.{gathered}
-use Rattle.fy_spelling.specs.declared.act.Act.{Act}
-use Rattle.fy_spelling.specs.declared.act.Act.TheVariants as act
+use Rattle.fy_acts.specs.declared.act.Act.{Act}
+use Rattle.fy_acts.specs.declared.act.Act.TheVariants as act
 use Rattle.fy_spelling.specs.declared.command.LineFault.{LineFault}
 use Rattle.fy_spelling.specs.declared.command.LineFault.TheVariants.{Floor}
 use Rattle.fy_spelling.specs.declared.reading.Asked.{Asked}

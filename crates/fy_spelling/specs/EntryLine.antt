@@ -2,9 +2,9 @@
 use Rattle.std.specs.Prelude.{◌≡◌, ℕ, List, Result, Ok, Err, ⊤}
 use Rattle.fy_spelling.specs.Fits.{FitsEntry}
 use Rattle.fy_spelling.specs.Values.{text_of}
-use Rattle.fy_spelling.specs.declared.entry.Entry.{Entry}
-use Rattle.fy_spelling.specs.declared.entry.EntryFault.{EntryFault}
-use Rattle.fy_spelling.specs.declared.entry.EntryFault.TheVariants.{Syntax, NoMemory}
+use Rattle.fy_acts.specs.declared.entry.Entry.{Entry}
+use Rattle.fy_spelling.specs.declared.entry_line.EntryFault.{EntryFault}
+use Rattle.fy_spelling.specs.declared.entry_line.EntryFault.TheVariants.{Syntax, NoMemory}
 
 -- the line is the text of the entry, whose numbers and names fit
 pub record IsTextOf (line : List ℕ) (entry : Entry) : Type 0 where

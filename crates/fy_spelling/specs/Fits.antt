@@ -9,13 +9,13 @@ use Rattle.fy_kinds.specs.declared.verdict.Rule.TheVariants.{NoTarget, NoGrant, 
 use Rattle.fy_grants.specs.declared.grant.Scope.{Scope}
 use Rattle.fy_grants.specs.declared.grant.Scope.TheVariants.{All, Where}
 use Rattle.fy_team.specs.Teams.{AreMembers}
-use Rattle.fy_spelling.specs.declared.act.Act.{Act}
-use Rattle.fy_spelling.specs.declared.act.Act.TheVariants.{Kill, Clog, Unclog, Form, Begin, Deliver, Lose, Resend, Sync, Up, Tick, Give, Take, Protect, Unprotect, CopyTo, Replace, Heal}
-use Rattle.fy_spelling.specs.declared.reply.Refusal.{Refusal}
-use Rattle.fy_spelling.specs.declared.reply.Refusal.TheVariants as refusal
-use Rattle.fy_spelling.specs.declared.reply.Reply.{Reply}
-use Rattle.fy_spelling.specs.declared.reply.Reply.TheVariants.{Verdict, Ruled, Formed, Begun, Stored, Marked, Sent, Synced, Time, Done, No}
-use Rattle.fy_spelling.specs.declared.entry.Entry.{Entry}
+use Rattle.fy_acts.specs.declared.act.Act.{Act}
+use Rattle.fy_acts.specs.declared.act.Act.TheVariants.{Kill, Clog, Unclog, Form, Begin, Deliver, Lose, Resend, Sync, Up, Tick, Give, Take, Protect, Unprotect, CopyTo, Replace, Heal}
+use Rattle.fy_acts.specs.declared.reply.Refusal.{Refusal}
+use Rattle.fy_acts.specs.declared.reply.Refusal.TheVariants as refusal
+use Rattle.fy_acts.specs.declared.reply.Reply.{Reply}
+use Rattle.fy_acts.specs.declared.reply.Reply.TheVariants.{Verdict, Ruled, Formed, Begun, Stored, Marked, Sent, Synced, Time, Done, No}
+use Rattle.fy_acts.specs.declared.entry.Entry.{Entry}
 
 -- a number of 32 bits
 abbrev pub IsShort : ℕ → Type 0

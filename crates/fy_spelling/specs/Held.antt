@@ -3,9 +3,9 @@ use Rattle.std.specs.Prelude.{⊤, Option, Some, None}
 use Rattle.fy_kinds.specs.declared.verdict.Rule.{Rule}
 use Rattle.fy_kinds.specs.declared.verdict.Rule.TheVariants.{NoTarget, NoGrant, Protected, TooManyDestroyed, TooFewLeft}
 use Rattle.fy_spelling.specs.Fits.{IsShort, IsLong, IsProcess, FitsAct, FitsReply}
-use Rattle.fy_spelling.specs.declared.reply.Reply.{Reply}
-use Rattle.fy_spelling.specs.declared.reply.Reply.TheVariants.{Verdict, Ruled}
-use Rattle.fy_spelling.specs.declared.entry.Entry.{Entry}
+use Rattle.fy_acts.specs.declared.reply.Reply.{Reply}
+use Rattle.fy_acts.specs.declared.reply.Reply.TheVariants.{Verdict, Ruled}
+use Rattle.fy_acts.specs.declared.entry.Entry.{Entry}
 
 -- a rule whose process is a number of 32 bits, and whose policy one of 64
 abbrev pub IsHeldRule : Option Rule → Type 0

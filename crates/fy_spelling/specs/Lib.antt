@@ -1,4 +1,3 @@
-pub mod Acts
 pub mod Values
 pub mod Fits
 pub mod Command

@@ -6,7 +6,7 @@ use Rattle.fy_spelling.specs.Values.{text_of}
 use Rattle.fy_spelling.specs.Command.{LineOf}
 use Rattle.fy_spelling.specs.declared.command.Command.{Command}
 use Rattle.fy_spelling.specs.declared.command.LineFault.{LineFault}
-use Rattle.fy_spelling.specs.declared.entry.Entry.{Entry}
+use Rattle.fy_acts.specs.declared.entry.Entry.{Entry}
 
 -- two entries with one text are equal
 abbrev pub OneEntryPerText : Type 0

@@ -9,11 +9,11 @@ use Rattle.fy_kinds.specs.declared.verdict.Rule.TheVariants.{NoTarget, TooManyDe
 use Rattle.fy_grants.specs.declared.grant.Scope.TheVariants.{All, Where}
 use Rattle.fy_spelling.specs.Values.{act_data, reply_data, text_of}
 use Rattle.fy_spelling.specs.Plain.{command_text}
-use Rattle.fy_spelling.specs.declared.act.Act.{Act}
-use Rattle.fy_spelling.specs.declared.act.Act.TheVariants.{Kill, Form, Begin, Give, Protect, CopyTo, Replace}
-use Rattle.fy_spelling.specs.declared.reply.Refusal.TheVariants.{Clogged, TeamShort, StillNeeds}
-use Rattle.fy_spelling.specs.declared.reply.Reply.{Reply}
-use Rattle.fy_spelling.specs.declared.reply.Reply.TheVariants.{Verdict, Ruled, Formed, Begun, Stored, Marked, Sent, Synced, Time, Done, No}
+use Rattle.fy_acts.specs.declared.act.Act.{Act}
+use Rattle.fy_acts.specs.declared.act.Act.TheVariants.{Kill, Form, Begin, Give, Protect, CopyTo, Replace}
+use Rattle.fy_acts.specs.declared.reply.Refusal.TheVariants.{Clogged, TeamShort, StillNeeds}
+use Rattle.fy_acts.specs.declared.reply.Reply.{Reply}
+use Rattle.fy_acts.specs.declared.reply.Reply.TheVariants.{Verdict, Ruled, Formed, Begun, Stored, Marked, Sent, Synced, Time, Done, No}
 
 -- an order to kill a zone for good, or else to reboot it
 abbrev zone_order : List ℕ → rank Reboot ≤ rank KillInstantly → Act

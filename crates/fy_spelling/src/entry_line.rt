@@ -7,8 +7,17 @@ use crate::fits::{entry_is_held, reply_fits};
 use crate::reading::entry_by_value;
 use crate::scan::guess_entry;
 use crate::writing::put_entry;
-use crate::{Entry, EntryFault};
+use crate::Entry;
 use std::alloc::{AllocError, Global};
+
+/// Why no entry is read of a line of an audit.
+#[derive(Clone, Copy, PartialEq, Eq, Debug)]
+pub enum EntryFault {
+    /// It is the text of no entry.
+    Syntax,
+    /// There is no memory to read it.
+    NoMemory,
+}
 
 /// Whether the line is the text of the entry. What the room has is written over.
 fn is_text_of(line: &[u8], entry: &Entry, room: &mut Vec<u8>) -> Result<bool, AllocError>

@@ -1,18 +1,9 @@
-//! Laws of acts and entries, for the crates above.
-ghost use Rattle.std.specs.Prelude.{◌≡◌, ◌↔◌, IsTrue};
-ghost use Rattle.fy_spelling.specs.declared.act.Act.{Act};
-ghost use Rattle.fy_spelling.specs.declared.entry.Entry.{Entry};
+//! Laws of texts, for the crates above.
+ghost use Rattle.std.specs.Prelude.{◌≡◌};
 ghost use Rattle.fy_spelling.specs.OneText.{OneEntryPerText, LineComesToOne, TextsAreLines};
 ghost use Rattle.fy_spelling.specs.Plain.{PlainTextSpells};
 ghost use Rattle.fy_spelling.specs.Rows.{EntryTexts, ReplyTexts, ActTexts, CommandText};
 
-use crate::{Act, Entry};
-
-/// Acts are equal where they are the same, and so are entries.
-pub fn equal_is_the_same()
-    ensures acts { (a b : Act) → IsTrue (⟦<Act as PartialEq>⟧.eq a b) ↔ (a ≡ b) }
-    ensures entries { (a b : Entry) → IsTrue (⟦<Entry as PartialEq>⟧.eq a b) ↔ (a ≡ b) }
-{}
 
 /// Two entries with one text, whose numbers and names fit, are equal.
 pub fn a_text_is_of_one_entry()

@@ -5,10 +5,10 @@ use Rattle.fy_kinds.specs.declared.verdict.Rule.TheVariants.{TooManyDestroyed}
 use Rattle.fy_kinds.specs.declared.verdict.Verdict.{Verdict}
 use Rattle.fy_decide.specs.Losses.{AreShort, AreSatisfied}
 use Rattle.fy_decide.specs.Verdicts.{verdict}
-use Rattle.fy_spelling.specs.declared.reply.Reply.TheVariants.{Verdict as Verdicted}
+use Rattle.fy_acts.specs.declared.reply.Reply.TheVariants.{Verdict as Verdicted}
 use Rattle.std.specs.Prelude.{ℕ, List, map, IsTrue, is_some}
-use Rattle.fy_spelling.specs.declared.entry.Entry.{Entry}
-use Rattle.fy_audit.specs.declared.version.Version.TheVariants.{First, Second}
+use Rattle.fy_acts.specs.declared.entry.Entry.{Entry}
+use Rattle.fy_journal.specs.declared.version.Version.TheVariants.{First, Second}
 use Rattle.fy_cluster.specs.Setup.{IsMet}
 use Rattle.fy_cluster.specs.History.{history, destroyed, left, acked, keeper}
 use Rattle.fy_cluster.specs.Rules.{situation}

@@ -3,9 +3,9 @@ use Rattle.std.proofs.Common.{◌≡◌, ℕ, ◌≤◌, arith, true, false, Opt
 use Rattle.fy_kinds.specs.declared.kind.Kind.TheVariants.{Reboot, RebootAndDelete, KillInstantly}
 use Rattle.fy_kinds.specs.declared.verdict.Rule.{Rule}
 use Rattle.fy_kinds.specs.declared.verdict.Rule.TheVariants.{NoGrant, Protected, TooManyDestroyed, TooFewLeft}
-use Rattle.fy_spelling.specs.declared.reply.Refusal.TheVariants.{TeamShort, NoMessage, NotUp, Acked, NoCopy, IsMember, StillNeeds}
-use Rattle.fy_spelling.specs.declared.reply.Reply.{Reply}
-use Rattle.fy_spelling.specs.declared.reply.Reply.TheVariants.{Verdict, Begun, Stored, Marked, Sent, Done, No}
+use Rattle.fy_acts.specs.declared.reply.Refusal.TheVariants.{TeamShort, NoMessage, NotUp, Acked, NoCopy, IsMember, StillNeeds}
+use Rattle.fy_acts.specs.declared.reply.Reply.{Reply}
+use Rattle.fy_acts.specs.declared.reply.Reply.TheVariants.{Verdict, Begun, Stored, Marked, Sent, Done, No}
 use Rattle.fy_cluster.specs.Replies.{Legal}
 use Rattle.fy_worked.specs.Clusters.{six, four, process, struck, weakened, barred}
 use Rattle.fy_worked.specs.Wrong as wrong

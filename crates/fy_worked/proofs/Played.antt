@@ -4,8 +4,8 @@ use Rattle.std.proofs.Common.{◌≡◌, ℕ, List, [], ◌∷◌, length, map, 
 use Rattle.fy_locality.specs.Locality.{values_of}
 use Rattle.fy_policy.specs.Sat.{satisfies, all_satisfy}
 use Rattle.fy_decide.specs.Verdicts.{bar, verdict}
-use Rattle.fy_spelling.specs.declared.act.Act.{Act}
-use Rattle.fy_spelling.specs.declared.entry.Entry.{Entry}
+use Rattle.fy_acts.specs.declared.act.Act.{Act}
+use Rattle.fy_acts.specs.declared.entry.Entry.{Entry}
 use Rattle.fy_cluster.specs.Setup.{Setup}
 use Rattle.fy_cluster.specs.History.{History, moment}
 use Rattle.fy_cluster.specs.Replies.{reply, reasons, refusals, answer, LegalAfter, Legal}

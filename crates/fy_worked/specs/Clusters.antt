@@ -14,11 +14,11 @@ use Rattle.fy_kinds.specs.declared.verdict.Rule.{Rule}
 use Rattle.fy_kinds.specs.Orders.{Order}
 use Rattle.fy_kinds.specs.Kinds.{rank}
 use Rattle.fy_grants.specs.declared.grant.Scope.TheVariants.{All}
-use Rattle.fy_spelling.specs.declared.act.Act.{Act}
-use Rattle.fy_spelling.specs.declared.act.Act.TheVariants.{Kill, CopyTo, Replace, Heal}
-use Rattle.fy_spelling.specs.declared.reply.Reply.{Reply}
-use Rattle.fy_spelling.specs.declared.reply.Reply.TheVariants.{Verdict}
-use Rattle.fy_spelling.specs.declared.entry.Entry.{Entry}
+use Rattle.fy_acts.specs.declared.act.Act.{Act}
+use Rattle.fy_acts.specs.declared.act.Act.TheVariants.{Kill, CopyTo, Replace, Heal}
+use Rattle.fy_acts.specs.declared.reply.Reply.{Reply}
+use Rattle.fy_acts.specs.declared.reply.Reply.TheVariants.{Verdict}
+use Rattle.fy_acts.specs.declared.entry.Entry.{Entry}
 use Rattle.fy_cluster.specs.declared.config.Protection.{Protection}
 use Rattle.fy_cluster.specs.declared.role.Role.TheVariants.{Fault, Storage, Operator}
 use Rattle.fy_cluster.specs.Setup.{Setup}

@@ -8,10 +8,10 @@ use Rattle.fy_kinds.specs.Kinds.{Striking, Clogging, only, no_deed}
 use Rattle.fy_grants.specs.declared.grant.Grant.{Grant}
 use Rattle.fy_grants.specs.declared.grant.Scope.{Scope}
 use Rattle.fy_grants.specs.declared.grant.Scope.TheVariants.{All, Where}
-use Rattle.fy_spelling.specs.declared.act.Act.TheVariants.{Clog, Give, Take, Protect, Unprotect}
-use Rattle.fy_spelling.specs.declared.reply.Refusal.TheVariants.{NoSuch, Full}
-use Rattle.fy_spelling.specs.declared.reply.Reply.TheVariants.{Ruled, Done, No}
-use Rattle.fy_spelling.specs.declared.entry.Entry.{Entry}
+use Rattle.fy_acts.specs.declared.act.Act.TheVariants.{Clog, Give, Take, Protect, Unprotect}
+use Rattle.fy_acts.specs.declared.reply.Refusal.TheVariants.{NoSuch, Full}
+use Rattle.fy_acts.specs.declared.reply.Reply.TheVariants.{Ruled, Done, No}
+use Rattle.fy_acts.specs.declared.entry.Entry.{Entry}
 use Rattle.fy_cluster.specs.Setup.{Setup}
 use Rattle.fy_worked.specs.Clusters.{six, guarded_six, entry, process, zone_named, process_named, kill, reboot, reboot_or_restart, struck, weakened, barred}
 

@@ -2,10 +2,10 @@
 use Rattle.std.specs.Prelude.{false, List, [], ◌∷◌, ◌++◌, Some, None, codes, replicate}
 use Rattle.fy_kinds.specs.declared.kind.Kind.TheVariants.{Reboot, KillInstantly}
 use Rattle.fy_kinds.specs.declared.verdict.Rule.TheVariants.{NoTarget, NoGrant}
-use Rattle.fy_spelling.specs.declared.act.Act.TheVariants.{Clog, Unclog, Form, Begin, Deliver, Lose, Resend, Sync, Up, Tick}
-use Rattle.fy_spelling.specs.declared.reply.Refusal.TheVariants.{NoMessage, Clogged, NotUp, NoRecord, NotMember, Payload}
-use Rattle.fy_spelling.specs.declared.reply.Reply.TheVariants.{Ruled, Formed, Begun, Stored, Marked, Sent, Synced, Time, Done, No}
-use Rattle.fy_spelling.specs.declared.entry.Entry.{Entry}
+use Rattle.fy_acts.specs.declared.act.Act.TheVariants.{Clog, Unclog, Form, Begin, Deliver, Lose, Resend, Sync, Up, Tick}
+use Rattle.fy_acts.specs.declared.reply.Refusal.TheVariants.{NoMessage, Clogged, NotUp, NoRecord, NotMember, Payload}
+use Rattle.fy_acts.specs.declared.reply.Reply.TheVariants.{Ruled, Formed, Begun, Stored, Marked, Sent, Synced, Time, Done, No}
+use Rattle.fy_acts.specs.declared.entry.Entry.{Entry}
 use Rattle.fy_worked.specs.Clusters.{entry, process, zone_named, process_named, kill, reboot, struck}
 use Rattle.fy_worked.specs.Records.{pair, hi}
 

@@ -4,10 +4,10 @@ use Rattle.fy_locality.specs.declared.ProcId.{ProcId}
 use Rattle.fy_kinds.specs.declared.kind.Kind.TheVariants.{RebootProcess, Reboot, RebootAndDelete, KillInstantly}
 use Rattle.fy_kinds.specs.declared.verdict.Rule.TheVariants.{TooManyDestroyed}
 use Rattle.fy_disk.specs.declared.item.Item.{Item}
-use Rattle.fy_spelling.specs.declared.act.Act.TheVariants.{Form, Begin, Deliver, Resend, Sync, Up}
-use Rattle.fy_spelling.specs.declared.reply.Refusal.TheVariants.{Acked, NotUp, NotMember}
-use Rattle.fy_spelling.specs.declared.reply.Reply.TheVariants.{Formed, Begun, Stored, Marked, Sent, Synced, Done, No}
-use Rattle.fy_spelling.specs.declared.entry.Entry.{Entry}
+use Rattle.fy_acts.specs.declared.act.Act.TheVariants.{Form, Begin, Deliver, Resend, Sync, Up}
+use Rattle.fy_acts.specs.declared.reply.Refusal.TheVariants.{Acked, NotUp, NotMember}
+use Rattle.fy_acts.specs.declared.reply.Reply.TheVariants.{Formed, Begun, Stored, Marked, Sent, Synced, Done, No}
+use Rattle.fy_acts.specs.declared.entry.Entry.{Entry}
 use Rattle.fy_worked.specs.Clusters.{entry, process, process_named, kill, empty, empty_or_tear, reboot, restart, struck, weakened}
 
 -- the members of the one team of these journals

@@ -4,10 +4,10 @@ use Rattle.fy_kinds.specs.declared.kind.Kind.TheVariants.{KillInstantly}
 use Rattle.fy_kinds.specs.declared.verdict.Rule.TheVariants.{NoGrant}
 use Rattle.fy_kinds.specs.Kinds.{no_deed}
 use Rattle.fy_grants.specs.declared.grant.Scope.TheVariants.{All}
-use Rattle.fy_spelling.specs.declared.act.Act.TheVariants.{Clog, Unclog, Form, Begin, Deliver, Lose, Resend, Sync, Up, Tick, Give, Take, Protect, Unprotect}
-use Rattle.fy_spelling.specs.declared.reply.Refusal.TheVariants.{Stranger, WrongRole, NoPolicy, NoProcess, Gone, TeamShort, NoTeam, NotUp, IsUp, ClockEnd, NoActor, Payload, NoRecord, NotMember}
-use Rattle.fy_spelling.specs.declared.reply.Reply.TheVariants.{Ruled, Formed, Begun, Time, Done, No}
-use Rattle.fy_spelling.specs.declared.entry.Entry.{Entry}
+use Rattle.fy_acts.specs.declared.act.Act.TheVariants.{Clog, Unclog, Form, Begin, Deliver, Lose, Resend, Sync, Up, Tick, Give, Take, Protect, Unprotect}
+use Rattle.fy_acts.specs.declared.reply.Refusal.TheVariants.{Stranger, WrongRole, NoPolicy, NoProcess, Gone, TeamShort, NoTeam, NotUp, IsUp, ClockEnd, NoActor, Payload, NoRecord, NotMember}
+use Rattle.fy_acts.specs.declared.reply.Reply.TheVariants.{Ruled, Formed, Begun, Time, Done, No}
+use Rattle.fy_acts.specs.declared.entry.Entry.{Entry}
 use Rattle.fy_worked.specs.Clusters.{every_kind, entry, process, zone_named, process_named, kill, struck, barred}
 use Rattle.fy_worked.specs.Records.{pair, hi, written_and_synced}
 

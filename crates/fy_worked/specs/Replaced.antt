@@ -3,10 +3,10 @@ use Rattle.std.specs.Prelude.{true, false, List, [], ◌∷◌, ◌++◌, codes}
 use Rattle.fy_locality.specs.declared.ProcId.{ProcId}
 use Rattle.fy_kinds.specs.declared.kind.Kind.TheVariants.{Reboot, RebootAndDelete, KillInstantly}
 use Rattle.fy_kinds.specs.declared.verdict.Rule.TheVariants.{TooManyDestroyed}
-use Rattle.fy_spelling.specs.declared.act.Act.TheVariants.{Form, Begin, Deliver, Resend, Sync, Up}
-use Rattle.fy_spelling.specs.declared.reply.Refusal.TheVariants.{WrongRole, NoProcess, Gone, TeamShort, NoTeam, NotUp, NoRecord, NotMember, Acked, NoCopy, IsMember, NotDestroyed, StillNeeds}
-use Rattle.fy_spelling.specs.declared.reply.Reply.TheVariants.{Formed, Begun, Stored, Marked, Sent, Synced, Done, No}
-use Rattle.fy_spelling.specs.declared.entry.Entry.{Entry}
+use Rattle.fy_acts.specs.declared.act.Act.TheVariants.{Form, Begin, Deliver, Resend, Sync, Up}
+use Rattle.fy_acts.specs.declared.reply.Refusal.TheVariants.{WrongRole, NoProcess, Gone, TeamShort, NoTeam, NotUp, NoRecord, NotMember, Acked, NoCopy, IsMember, NotDestroyed, StillNeeds}
+use Rattle.fy_acts.specs.declared.reply.Reply.TheVariants.{Formed, Begun, Stored, Marked, Sent, Synced, Done, No}
+use Rattle.fy_acts.specs.declared.entry.Entry.{Entry}
 use Rattle.fy_worked.specs.Clusters.{entry, process, zone_named, process_named, kill, empty, copy, replace, heal, struck, weakened}
 use Rattle.fy_worked.specs.Records.{pair, hi, forgotten, acknowledged}
 

@@ -6,9 +6,9 @@ use Rattle.fy_policy.specs.Tree.{one, across, every, none, part}
 use Rattle.fy_kinds.specs.declared.kind.Kind.TheVariants.{Reboot, RebootAndDelete, KillInstantly}
 use Rattle.fy_kinds.specs.declared.verdict.Rule.TheVariants.{NoTarget, TooManyDestroyed, TooFewLeft}
 use Rattle.fy_kinds.specs.Orders.{Order}
-use Rattle.fy_spelling.specs.declared.act.Act.TheVariants.{Up}
-use Rattle.fy_spelling.specs.declared.reply.Reply.TheVariants.{Done}
-use Rattle.fy_spelling.specs.declared.entry.Entry.{Entry}
+use Rattle.fy_acts.specs.declared.act.Act.TheVariants.{Up}
+use Rattle.fy_acts.specs.declared.reply.Reply.TheVariants.{Done}
+use Rattle.fy_acts.specs.declared.entry.Entry.{Entry}
 use Rattle.fy_cluster.specs.Setup.{Setup}
 use Rattle.fy_worked.specs.Clusters.{six, six_under, entry, process, zone_named, process_named, kill_order, kill, kill_or_nothing, empty, reboot, struck, weakened, barred}
 

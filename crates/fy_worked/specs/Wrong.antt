@@ -2,10 +2,10 @@
 use Rattle.std.specs.Prelude.{true, false, List, [], ◌∷◌, ◌++◌, codes}
 use Rattle.fy_kinds.specs.declared.kind.Kind.TheVariants.{Reboot, RebootAndDelete, KillInstantly}
 use Rattle.fy_kinds.specs.declared.verdict.Rule.TheVariants.{NoGrant, Protected, TooManyDestroyed}
-use Rattle.fy_spelling.specs.declared.act.Act.TheVariants.{Form, Begin, Deliver, Resend, Up, Tick, Protect}
-use Rattle.fy_spelling.specs.declared.reply.Refusal.TheVariants.{Acked}
-use Rattle.fy_spelling.specs.declared.reply.Reply.TheVariants.{Formed, Begun, Stored, Marked, Sent, Time, Done, No}
-use Rattle.fy_spelling.specs.declared.entry.Entry.{Entry}
+use Rattle.fy_acts.specs.declared.act.Act.TheVariants.{Form, Begin, Deliver, Resend, Up, Tick, Protect}
+use Rattle.fy_acts.specs.declared.reply.Refusal.TheVariants.{Acked}
+use Rattle.fy_acts.specs.declared.reply.Reply.TheVariants.{Formed, Begun, Stored, Marked, Sent, Time, Done, No}
+use Rattle.fy_acts.specs.declared.entry.Entry.{Entry}
 use Rattle.fy_cluster.specs.Setup.{Setup}
 use Rattle.fy_worked.specs.Clusters.{entry, process, zone_named, process_named, kill, empty, reboot, copy, replace, heal, struck, weakened, barred, cluster, six_processes, in_two_zones}
 use Rattle.fy_worked.specs.Leave.{destroying}

@@ -6,7 +6,7 @@ use lib.ListN.{get_elem?, length-map}
 use Rattle.atomic_table.specs.Table.{Final, Seen}
 use Rattle.atomic_table.specs.declared.shared.Seat.{Seat as Place}
 use Rattle.atomic_table.proofs.Lists.{at_map}
-use Rattle.fy_spelling.specs.declared.entry.Entry.{Entry}
+use Rattle.fy_acts.specs.declared.entry.Entry.{Entry}
 use Rattle.fy_cluster.specs.Setup.{Setup}
 use Rattle.fy_cluster.specs.Replies.{Legal}
 use Rattle.fy_actors.specs.Desk.{Bench, entries_by}

@@ -1,7 +1,7 @@
 -- what a longer journal has
 use Rattle.std.proofs.Common.{◌≡◌, ◌≢◌, ℕ, List, [], ◌∷◌, ◌++◌, Bool, cond, ◌==◌, sym, refl, ap, ◌∙◌, arith, eq-eqb, ne_eqb, length, length-append, ◌≤◌, append-nil, append_assoc}
 use Rattle.std.proofs.lemmas.List.Elements.{filter-append}
-use Rattle.fy_spelling.specs.declared.entry.Entry.{Entry}
+use Rattle.fy_acts.specs.declared.entry.Entry.{Entry}
 use Rattle.fy_actors.specs.Desk.{entries_by, OnlyBy}
 use Rattle.fy_yard.specs.Yard.{StartsWith}
 

@@ -32,8 +32,8 @@ use Rattle.fy_grants.proofs.book.Book.TheSendSync as book
 use Rattle.fy_disk.proofs.disk.Disk.TheSendSync as disk
 use Rattle.fy_net.proofs.net.Net.TheSendSync as net
 use Rattle.fy_team.proofs.teams.Teams.TheSendSync as teams
-use Rattle.fy_spelling.proofs.entry.Entry.TheSendSync as entry
-use Rattle.fy_audit.proofs.journal.Journal.TheSendSync as journal
+use Rattle.fy_acts.proofs.entry.Entry.TheSendSync as entry
+use Rattle.fy_journal.proofs.journal.Journal.TheSendSync as journal
 use Rattle.fy_cluster.specs.contracts.config.Config as config
 use Rattle.fy_cluster.specs.contracts.machine.Machine as machine
 use Rattle.fy_cluster.specs.contracts.cluster.Cluster as cluster

@@ -3,12 +3,12 @@ use Rattle.std.proofs.Common.{◌≡◌, ℕ, ◌+◌, ◌%◌, ◌^◌, List, [
 use mathlib.Core.Option.{none}
 use Rattle.atomic_table.specs.Table.{rest, step, Allows}
 use Rattle.atomic_table.specs.declared.shared.Seat.{Seat as Place}
-use Rattle.fy_spelling.specs.declared.entry.Entry.{Entry}
+use Rattle.fy_acts.specs.declared.entry.Entry.{Entry}
 use Rattle.fy_cluster.specs.Setup.{Setup, IsMet}
 use Rattle.fy_cluster.specs.Replies.{Legal}
 use Rattle.fy_cluster.specs.Survival.{JournalsSurvive}
-use Rattle.fy_spelling.specs.declared.act.Act.{Act}
-use Rattle.fy_spelling.specs.declared.reply.Reply.{Reply}
+use Rattle.fy_acts.specs.declared.act.Act.{Act}
+use Rattle.fy_acts.specs.declared.reply.Reply.{Reply}
 use Rattle.fy_actors.specs.Desk.{Bench, entries_by, OnlyBy, Worked, acted, told, receipt}
 use Rattle.fy_yard.specs.declared.view.View.{View}
 use Rattle.fy_yard.specs.Yard.{StartsWith, Yard, Sitting, Sees, Ends, Turned, entry, actor_count}

@@ -1,5 +1,5 @@
 //! What a seat knows.
-use fy_audit::Entry;
+use fy_journal::Entry;
 use fy_cluster::Config;
 use std::collections::LinkedList;
 

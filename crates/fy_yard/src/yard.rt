@@ -14,7 +14,7 @@ use crate::places::{another, draw, finish, hang, inform, wait_for};
 use crate::turns::{Ends, Place, Turnstile};
 use atomic_table::Refused;
 use fy_actors::{Desk, FaultActor, Turn};
-use fy_audit::{Act, Entry, Reply};
+use fy_journal::{Act, Entry, Reply};
 use fy_cluster::{Cluster, Fault, laws};
 use std::alloc::Global;
 use std::boxed::Box;

@@ -4,8 +4,8 @@ ghost use Rattle.serde_json.specs.View.{view};
 ghost use Rattle.fy_spelling.specs.EntryLine.{IsTextOf};
 ghost use Rattle.fy_spelling.specs.Replied.{entry_from};
 ghost use Rattle.fy_spelling.specs.declared.command.LineFault.TheVariants as line;
-ghost use Rattle.fy_spelling.specs.declared.entry.Entry.{Entry};
-ghost use Rattle.fy_spelling.specs.declared.entry.EntryFault.TheVariants.{NoMemory};
+ghost use Rattle.fy_acts.specs.declared.entry.Entry.{Entry};
+ghost use Rattle.fy_spelling.specs.declared.entry_line.EntryFault.TheVariants.{NoMemory};
 
 use super::replies::reply_of;
 use super::{Asked, act_of, meant, value_of};

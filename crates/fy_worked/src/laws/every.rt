@@ -6,7 +6,7 @@ ghost use Rattle.fy_grants.specs.Least.{LeastWith};
 ghost use Rattle.fy_kinds.specs.declared.verdict.Rule.TheVariants.{TooManyDestroyed};
 ghost use Rattle.fy_decide.specs.Losses.{AreShort, AreSatisfied};
 ghost use Rattle.fy_decide.specs.Verdicts.{verdict};
-ghost use Rattle.fy_spelling.specs.declared.entry.Entry.{Entry};
+ghost use Rattle.fy_acts.specs.declared.entry.Entry.{Entry};
 ghost use Rattle.fy_cluster.specs.Setup.{IsMet};
 ghost use Rattle.fy_cluster.specs.History.{history, destroyed, left, members_for, acked, keeps, keeper};
 ghost use Rattle.fy_cluster.specs.Rules.{situation};

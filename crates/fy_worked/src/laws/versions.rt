@@ -1,7 +1,7 @@
 //! The two versions of the rules: what is legal under which, and that the second changes nothing
 //! where its acts aren't used.
 ghost use Rattle.std.specs.Prelude.{◌≡◌, true, [], ◌∷◌};
-ghost use Rattle.fy_audit.specs.declared.version.Version.TheVariants.{First, Second};
+ghost use Rattle.fy_journal.specs.declared.version.Version.TheVariants.{First, Second};
 ghost use Rattle.fy_cluster.specs.History.{history};
 ghost use Rattle.fy_cluster.specs.Versions.{LegalUnder};
 ghost use Rattle.fy_cluster.specs.Earlier.{once_destroyed, formed_for, once_marked, marked_by_all, IsAsEarlier};

@@ -1,5 +1,5 @@
 use Rattle.std.proofs.Common.{◌≡◌, ◌++◌, map, take}
-use Rattle.fy_spelling.specs.declared.act.Act.TheVariants.{Clog, Unclog}
+use Rattle.fy_acts.specs.declared.act.Act.TheVariants.{Clog, Unclog}
 use Rattle.fy_actors.specs.Agendas.{process_target}
 use Rattle.fy_actors.proofs.swizzle.swizzle_acts.Given as goal
 

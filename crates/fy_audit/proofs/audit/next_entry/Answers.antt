@@ -3,8 +3,8 @@ use Rattle.std.proofs.lemmas.Bool.{false≢true}
 use Rattle.fy_lines.specs.Lines.{lines_of}
 use Rattle.fy_spelling.specs.declared.command.TheConstants.{MOST_LINE_BYTES}
 use Rattle.fy_spelling.specs.EntryLine.{EntryAnswers}
-use Rattle.fy_spelling.specs.declared.entry.Entry.{Entry}
-use Rattle.fy_spelling.specs.declared.entry.EntryFault.TheVariants.{Syntax}
+use Rattle.fy_acts.specs.declared.entry.Entry.{Entry}
+use Rattle.fy_spelling.specs.declared.entry_line.EntryFault.TheVariants.{Syntax}
 use Rattle.fy_audit.specs.Versions.{has_entry}
 use Rattle.fy_audit.proofs.Steps.{first_is, longer_than}
 use Rattle.fy_audit.proofs.audit.next_entry.Goals as goal

@@ -1,6 +1,6 @@
 use Rattle.std.proofs.Common.{Ok, refl, sym, subst}
 use Rattle.fy_spelling.specs.Candidate.{IsMeant}
-use Rattle.fy_spelling.specs.declared.act.Act.TheVariants.{Kill}
+use Rattle.fy_acts.specs.declared.act.Act.TheVariants.{Kill}
 use Rattle.fy_spelling.proofs.reading.meant.Goals as goal
 
 pub returns-in-Ok : goal.returns-in-Ok

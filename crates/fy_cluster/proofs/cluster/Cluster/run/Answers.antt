@@ -1,5 +1,5 @@
 use Rattle.std.proofs.Common.{ap₂, sym, ◌∙◌}
-use Rattle.fy_spelling.specs.declared.act.Act.{Act}
+use Rattle.fy_acts.specs.declared.act.Act.{Act}
 use Rattle.fy_cluster.specs.Course.{Course, entered}
 use Rattle.fy_cluster.proofs.Runs.{after_next}
 use Rattle.fy_cluster.proofs.cluster.Cluster.run.Goals as goal

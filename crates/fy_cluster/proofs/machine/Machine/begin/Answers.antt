@@ -2,7 +2,7 @@ use Rattle.std.proofs.Common.{◌≡◌, Ok, Err, length, ◌∙◌, sym, ap, su
 use Rattle.fy_net.specs.declared.fault.NetFault.TheVariants.{NoMemory}
 use Rattle.fy_net.specs.Net.{Traffic}
 use Rattle.fy_team.specs.Teams.{Roster, members_in}
-use Rattle.fy_spelling.specs.declared.act.Act.TheVariants.{Begin}
+use Rattle.fy_acts.specs.declared.act.Act.TheVariants.{Begin}
 use Rattle.fy_cluster.specs.History.{stores_of}
 use Rattle.fy_cluster.specs.Standing.{Sends}
 use Rattle.fy_cluster.proofs.Results.{told, told_all}

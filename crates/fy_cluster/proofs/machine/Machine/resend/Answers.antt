@@ -1,6 +1,6 @@
 use Rattle.std.proofs.Common.{Ok, Err, ◌∙◌, sym}
 use Rattle.fy_net.specs.declared.fault.NetFault.TheVariants.{NoMemory}
-use Rattle.fy_spelling.specs.declared.act.Act.TheVariants.{Resend}
+use Rattle.fy_acts.specs.declared.act.Act.TheVariants.{Resend}
 use Rattle.fy_cluster.proofs.Results.{told}
 use Rattle.fy_cluster.proofs.Room.{few_sent, no_room_left, reserved_is}
 use Rattle.fy_cluster.proofs.Resent.{IsOf, no_record, is_of, member_known, team_missing, not_member, is_acked_already, resend_full, resends}

@@ -2,7 +2,7 @@ use Rattle.std.proofs.Common.{◌≡◌, arith, Ok, Err, ◌∙◌, sym, ap, sub
 use Rattle.fy_disk.specs.Disk.{Stored}
 use Rattle.fy_net.specs.declared.fault.NetFault.TheVariants.{NoMemory}
 use Rattle.fy_net.specs.Net.{reserve_refusal}
-use Rattle.fy_spelling.specs.declared.act.Act.TheVariants.{Sync}
+use Rattle.fy_acts.specs.declared.act.Act.TheVariants.{Sync}
 use Rattle.fy_cluster.specs.History.{words_of}
 use Rattle.fy_cluster.specs.Standing.{stored, Sends}
 use Rattle.fy_cluster.proofs.Starts.{past_processes, within_processes}

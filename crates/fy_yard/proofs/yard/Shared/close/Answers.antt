@@ -1,5 +1,5 @@
 use Rattle.std.proofs.Common.{rules, ◌≡◌, ◌∙◌, length, sym, ap, subst, refl, All, List}
-use Rattle.fy_spelling.specs.declared.entry.Entry.{Entry}
+use Rattle.fy_acts.specs.declared.entry.Entry.{Entry}
 use Rattle.fy_cluster.specs.Course.{Course}
 use Rattle.fy_cluster.specs.Replies.{Legal}
 use Rattle.fy_actors.specs.Desk.{Bench, entries_by, course_of}

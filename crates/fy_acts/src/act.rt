@@ -1,0 +1,189 @@
+//! What an actor may ask of the cluster.
+ghost use Rattle.std.specs.Prelude.{◌≡◌, false, IfOk, IsOk};
+ghost use Rattle.fy_acts.specs.Acts.{holds_list};
+
+use fy_disk::Payload;
+use fy_grants::Grant;
+use fy_kinds::{KillOrder, KindSet, Target};
+use fy_locality::ProcId;
+use fy_team::Members;
+use std::alloc::{AllocError, Global};
+
+/// What an actor asks of the cluster. Its numbers need not be of anything that is there: an act
+/// that names what isn't there is refused by its reply.
+#[derive(PartialEq, Eq)]
+pub enum Act {
+    /// Kill the processes of a target.
+    Kill {
+        order: KillOrder,
+    },
+    /// Clog the processes of a target for some ticks from now on, at most up to the clock's end.
+    Clog {
+        target: Target,
+        ticks: u64,
+    },
+    /// End the clogs of a target's processes now.
+    Unclog {
+        target: Target,
+    },
+    /// Form a team that satisfies the policy with this number.
+    Form {
+        members: Members,
+        policy: u32,
+    },
+    /// Begin a record for a team: a store is sent to each member. A payload has any length here;
+    /// the reply refuses one of more than 256 bytes.
+    Begin {
+        team: u32,
+        payload: Payload,
+    },
+    /// Deliver the message in flight with this number.
+    Deliver {
+        message: u64,
+    },
+    /// Lose the message in flight with this number.
+    Lose {
+        message: u64,
+    },
+    /// Send a record to a member of its team once more.
+    Resend {
+        rec: u32,
+        process: ProcId,
+    },
+    /// Sync what a process has written.
+    Sync {
+        process: ProcId,
+    },
+    /// Start a process that is down.
+    Up {
+        process: ProcId,
+    },
+    /// Let some ticks pass.
+    Tick {
+        ticks: u64,
+    },
+    /// Give a grant, last in its actor's list.
+    Give {
+        grant: Grant,
+    },
+    /// Take the grant at a place, from 0, of an actor's list away.
+    Take {
+        actor: u32,
+        index: u32,
+    },
+    /// Add to the kinds from which a process is protected.
+    Protect {
+        process: ProcId,
+        kinds: KindSet,
+    },
+    /// Take out of the kinds from which a process is protected.
+    Unprotect {
+        process: ProcId,
+        kinds: KindSet,
+    },
+    /// Send a record that one process has synced to another, a member of its team or not.
+    CopyTo {
+        from: ProcId,
+        rec: u32,
+        to: ProcId,
+    },
+    /// Put a process into a team in the place of a member.
+    Replace {
+        team: u32,
+        out: ProcId,
+        into: ProcId,
+    },
+    /// Count a process that was destroyed, and has its records again, as destroyed no longer.
+    Heal {
+        process: ProcId,
+    },
+}
+
+// Written out, so that whoever drops an act makes one call.
+impl Drop for Act {
+    fn drop(self) {
+        match self {
+            Act::Form {
+                members: _,
+                policy: _,
+            } => {}
+            Act::Begin {
+                team: _,
+                payload: _,
+            } => {}
+            Act::Clog {
+                target: _,
+                ticks: _,
+            } => {}
+            Act::Protect {
+                process: _,
+                kinds: _,
+            }
+            | Act::Unprotect {
+                process: _,
+                kinds: _,
+            } => {}
+            Act::Kill { order: _ } | Act::Unclog { target: _ } => {}
+            Act::Deliver { message: _ } | Act::Lose { message: _ } => {}
+            Act::Resend { rec: _, process: _ } => {}
+            Act::Sync { process: _ } | Act::Up { process: _ } => {}
+            Act::Tick { ticks: _ } => {}
+            Act::Give { grant: _ } | Act::Take { actor: _, index: _ } => {}
+            Act::CopyTo {
+                from: _,
+                rec: _,
+                to: _,
+            } => {}
+            Act::Replace {
+                team: _,
+                out: _,
+                into: _,
+            } => {}
+            Act::Heal { process: _ } => {}
+        }
+    }
+}
+
+impl Act {
+    /// An equal act in memory of its own. Only the members of a `Form` and the payload of a `Begin`
+    /// take memory.
+    ///
+    /// # Errors
+    ///
+    /// `AllocError` only where that memory is refused.
+    pub fn try_copy(&self, alloc: Global) -> Result<Act, AllocError>
+        ensures equal { IfOk result (λ copy. copy ≡ self.now) }
+        ensures plain { holds_list self.now ≡ false → IsOk result }
+    {
+        let copy = match *self {
+            Act::Kill { order } => Act::Kill { order },
+            Act::Clog { target, ticks } => Act::Clog { target, ticks },
+            Act::Unclog { target } => Act::Unclog { target },
+            Act::Form {
+                ref members,
+                policy,
+            } => {
+                let members = members.try_copy(alloc)?;
+                Act::Form { members, policy }
+            }
+            Act::Begin { team, ref payload } => {
+                let payload = payload.try_copy(alloc)?;
+                Act::Begin { team, payload }
+            }
+            Act::Deliver { message } => Act::Deliver { message },
+            Act::Lose { message } => Act::Lose { message },
+            Act::Resend { rec, process } => Act::Resend { rec, process },
+            Act::Sync { process } => Act::Sync { process },
+            Act::Up { process } => Act::Up { process },
+            Act::Tick { ticks } => Act::Tick { ticks },
+            Act::Give { grant } => Act::Give { grant },
+            Act::Take { actor, index } => Act::Take { actor, index },
+            Act::Protect { process, kinds } => Act::Protect { process, kinds },
+            Act::Unprotect { process, kinds } => Act::Unprotect { process, kinds },
+            Act::CopyTo { from, rec, to } => Act::CopyTo { from, rec, to },
+            Act::Replace { team, out, into } => Act::Replace { team, out, into },
+            Act::Heal { process } => Act::Heal { process },
+        };
+        Ok(copy)
+    }
+}

@@ -1,0 +1,37 @@
+//! The entries of a journal.
+ghost use Rattle.std.specs.Prelude.{◌≡◌};
+
+use crate::{Act, Reply};
+
+/// One act and its reply.
+#[derive(PartialEq, Eq)]
+pub struct Entry {
+    /// Its place in the journal, from 0.
+    pub at: u32,
+    /// The number of whoever acted, an actor or not.
+    pub by: u32,
+    pub act: Act,
+    pub reply: Reply,
+}
+
+// Written out, so that whoever drops an entry makes one call.
+impl Drop for Entry {
+    fn drop(self) {
+        let Entry {
+            at: _,
+            by: _,
+            act: _,
+            reply: _,
+        } = self;
+    }
+}
+
+impl Entry {
+    /// Its place, who acted, the act, and the reply.
+    pub fn into_parts(self) -> (u32, u32, Act, Reply)
+        ensures { result ≡ (self.at, self.by, self.act, self.reply) }
+    {
+        let Entry { at, by, act, reply } = self;
+        (at, by, act, reply)
+    }
+}

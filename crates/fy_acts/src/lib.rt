@@ -1,0 +1,11 @@
+//! What actors ask of a cluster and what it replies.
+#![tactic(auto)]
+
+mod act;
+mod entry;
+pub mod laws;
+mod reply;
+
+pub use act::Act;
+pub use entry::Entry;
+pub use reply::{Refusal, Reply};

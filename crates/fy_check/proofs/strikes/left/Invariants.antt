@@ -1,8 +1,0 @@
-use Rattle.std.proofs.Common.{◌≡◌, ℕ, take}
-use Rattle.std.specs.FinSet as sets
-use Rattle.fy_cluster.specs.History.{left}
-use Rattle.fy_check.specs.Past.{past}
-use Rattle.fy_check.proofs.strikes.left.Given as goal
-
-abbrev pub invariant-loop-step : goal.invariant-loop-step
-invariant-loop-step l = (p : ℕ) → sets.contains l.left p ≡ left l.config (past (take l.step-index l.steps)) p

@@ -1,8 +1,0 @@
-use Rattle.std.proofs.Common.{◌≡◌, take, map}
-use Rattle.fy_cluster.specs.History.{teams}
-use Rattle.fy_check.specs.Past.{past}
-use Rattle.fy_check.specs.Formed.{team_of}
-use Rattle.fy_check.proofs.teams.teams.Given as goal
-
-abbrev pub invariant-loop-step : goal.invariant-loop-step
-invariant-loop-step l = map team_of l.list.items ≡ teams (past (take l.step-index l.steps))

@@ -1,6 +1,0 @@
-use Rattle.std.proofs.Common.{not, sym, ◌∙◌, ap}
-use Rattle.fy_check.proofs.Written.{closes-later}
-use Rattle.fy_check.proofs.writes.is_open.Goals as goal
-
-pub returns : goal.returns
-returns c = λ h place. ap not c.some_closes.ensures ∙ sym (closes-later h c.args.p.0 c.args.later.now)

@@ -1,7 +1,0 @@
-use Rattle.std.proofs.Common.{◌≡◌, ◌≤◌, take}
-use Rattle.fy_cluster.specs.History.{place}
-use Rattle.fy_check.specs.Past.{past}
-use Rattle.fy_check.proofs.writes.place.Given as goal
-
-abbrev pub invariant-loop-step : goal.invariant-loop-step
-invariant-loop-step l = (l.place ≡ place (past (take l.step-index l.steps)) l.p.0) × (l.place ≤ l.step-index)

@@ -1,0 +1,12 @@
+pub mod Among
+pub mod Following
+pub mod Formed
+pub mod Lists
+pub mod Marking
+pub mod Nexts
+pub mod Pasts
+pub mod Roles
+pub mod Ruling
+pub mod Sets
+pub mod Within
+pub mod Written

@@ -1,0 +1,11 @@
+use Rattle.std.proofs.Common.{◌≡◌, ℕ, take}
+use Rattle.fy_team.specs.Teams.{is_among}
+use Rattle.fy_cluster.specs.History.{acked, marked}
+use Rattle.fy_check_by_rules.specs.Past.{past}
+use Rattle.fy_check_by_rules.proofs.marks.marks_of.Given as goal
+
+abbrev pub invariant-loop-i : goal.invariant-loop-i
+invariant-loop-i l = record {
+  acked : l.acked ≡ acked (past (take l.i l.steps)) l.rec;
+  marked : (p : ℕ) → is_among l.marked.items p ≡ marked (past (take l.i l.steps)) l.rec p;
+}

@@ -1,0 +1,8 @@
+use Rattle.std.proofs.Common.{◌≡◌, take}
+use Rattle.fy_cluster.specs.History.{is_kept, written}
+use Rattle.fy_check_by_rules.specs.Past.{past}
+use Rattle.fy_check_by_rules.proofs.Written.{later_at, recs}
+use Rattle.fy_check_by_rules.proofs.writes.synced.Given as goal
+
+abbrev pub invariant-loop-i : goal.invariant-loop-i
+invariant-loop-i l = l.list.items ≡ recs (written l.p.0 (is_kept l.p.0) (later_at l.steps l.i) (past (take l.i l.steps)))

@@ -1,0 +1,6 @@
+pub mod Deeds
+pub mod Formed
+pub mod Later
+pub mod Past
+pub mod Steps
+pub mod Told

@@ -1,0 +1,24 @@
+-- what checked entries have done, as the history of their journal
+use Rattle.std.specs.Prelude.{List, [], ◌∷◌, false, if◌then◌else◌}
+use Rattle.std.specs.FinSet as sets
+use Rattle.fy_cluster.specs.History.{History, Moment, is_accepted, takes_of}
+use Rattle.fy_check_by_rules.specs.declared.step.Step.{Step}
+
+-- a step as a moment after this history
+abbrev pub moment_of : History → Step → Moment
+moment_of h s = record {
+  entry = s.entry;
+  targets = sets.contains s.targets;
+  message = s.message;
+  sends = s.sends.items;
+  takes_out = λ n. if is_accepted s.entry.reply then takes_of h s.entry.act n else false;
+}
+
+-- the history after more steps, the oldest first
+abbrev pub past_after : History → List Step → History
+past_after h [] = h
+past_after h (s ∷ later) = past_after (moment_of h s ∷ h) later
+
+-- the history of these steps
+unfoldable pub past : List Step → History
+past steps = past_after [] steps

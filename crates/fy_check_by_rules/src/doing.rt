@@ -1,0 +1,159 @@
+//! What an entry did, from what the entries before say.
+ghost use Rattle.std.specs.Prelude.{◌≡◌, ◌≤◌, ℕ, false, length, map, slice_get, IfOk};
+ghost use Rattle.std.specs.FinSet as sets;
+ghost use Rattle.std.specs.Option.{option_map_or};
+ghost use Rattle.fy_decide.specs.Verdicts.{targets};
+ghost use Rattle.fy_cluster.specs.Setup.{Setup};
+ghost use Rattle.fy_net.specs.declared.message.Body.TheVariants.{Synced};
+ghost use Rattle.fy_cluster.specs.declared.config.TheConstants.{MOST_JOURNAL_ENTRIES};
+ghost use Rattle.fy_cluster.specs.History.{History, left, targets_of, message_of, sends_of, stores_of, words_of, members_of, records, unsynced, sent, moment};
+ghost use Rattle.fy_check_by_rules.specs.Past.{moment_of, past};
+
+use crate::network::sent;
+use crate::step::Step;
+use crate::strikes::targets;
+use crate::teams::{members_of, records};
+use crate::views::is_accepted;
+use crate::writes::unsynced;
+use fy_journal::{Act, Entry};
+use fy_cluster::Config;
+use fy_kinds::Target;
+use fy_locality::{ProcId, ProcSet};
+use fy_net::Body;
+use std::alloc::{AllocError, Global};
+
+/// The target of an act, if it has one.
+fn target_in(act: &Act) -> Option<Target>
+    ensures { (c : Setup) (h : History) (p : ℕ) → targets_of c h act.now p
+        ≡ option_map_or (λ target. targets c.processes (left c h) target p) result false }
+{
+    match *act {
+        Act::Kill { order } => Some(order.target()),
+        Act::Clog { target, .. } => Some(target),
+        Act::Unclog { target } => Some(target),
+        _ => None,
+    }
+}
+
+/// Whom the act's target names.
+fn targets_of(config: &Config, steps: &[Step], act: &Act) -> ProcSet
+    ensures { (p : ℕ) → sets.contains result p
+        ≡ targets_of config.now (past steps.now) act.now p }
+{
+    match target_in(act) {
+        Some(target) => targets(config, steps, &target),
+        None => ProcSet::empty(),
+    }
+}
+
+/// The message that the act names.
+fn message_of(alloc: Global, steps: &[Step], act: &Act) -> Result<Option<Body>, AllocError>
+    ensures { IfOk result (λ message. message ≡ message_of (past steps.now) act.now) }
+{
+    match *act {
+        Act::Deliver { message } => message_at(alloc, steps, message),
+        Act::Lose { message } => message_at(alloc, steps, message),
+        _ => Ok(None),
+    }
+}
+
+/// The message with a number.
+fn message_at(alloc: Global, steps: &[Step], message: u64) -> Result<Option<Body>, AllocError>
+    ensures { IfOk result (λ body. body ≡ slice_get (sent (past steps.now)) message) }
+{
+    let bodies = sent(alloc, steps)?;
+    Ok(bodies.get(message as usize).copied())
+}
+
+/// A store of the record to each of these processes.
+fn stores_of(alloc: Global, rec: u32, processes: &[ProcId]) -> Result<Vec<Body>, AllocError>
+    ensures { IfOk result (λ stores. stores.items ≡ stores_of rec processes.now) }
+{
+    processes
+        .iter()
+        .map(|p| Body::Store { rec, to: *p })
+        .collect(alloc)
+}
+
+/// The process's word of each of these records.
+fn words_of(alloc: Global, process: ProcId, records: &[u32]) -> Result<Vec<Body>, AllocError>
+    ensures { IfOk result (λ words. words.items ≡ map (λ rec. Synced rec process) records.now) }
+{
+    records
+        .iter()
+        .map(|rec| Body::Synced {
+            rec: *rec,
+            from: process,
+        })
+        .collect(alloc)
+}
+
+/// What a Begin sends: a store of the next record to each member of the team.
+fn begin_sends(alloc: Global, steps: &[Step], team: u32) -> Result<Vec<Body>, AllocError>
+    requires few { length steps.now ≤ MOST_JOURNAL_ENTRIES }
+    ensures { IfOk result (λ stores. stores.items
+        ≡ stores_of (length (records (past steps.now))) (members_of (past steps.now) team)) }
+{
+    let rec = records(alloc, steps)?.len() as u32;
+    let members = members_of(alloc, steps, team)?;
+    stores_of(alloc, rec, &members)
+}
+
+/// What a Sync sends: a word of each unsynced write.
+fn sync_sends(alloc: Global, steps: &[Step], process: ProcId) -> Result<Vec<Body>, AllocError>
+    ensures { IfOk result (λ words. words.items
+        ≡ words_of process (unsynced (past steps.now) process.0)) }
+{
+    let records = unsynced(alloc, steps, process)?;
+    let words = words_of(alloc, process, &records)?;
+    Ok(words)
+}
+
+/// What the act sends where it is accepted.
+fn sends_of(alloc: Global, steps: &[Step], act: &Act) -> Result<Vec<Body>, AllocError>
+    requires few { length steps.now ≤ MOST_JOURNAL_ENTRIES }
+    ensures { IfOk result (λ sends. sends.items ≡ sends_of (past steps.now) act.now) }
+{
+    match *act {
+        Act::Begin { team, .. } => begin_sends(alloc, steps, team),
+        Act::Resend { rec, process } => Ok(Vec::from_slice(
+            alloc,
+            &[Body::Store { rec, to: process }],
+        )?),
+        Act::CopyTo { rec, to, .. } => Ok(Vec::from_slice(alloc, &[Body::Store { rec, to }])?),
+        Act::Sync { process } => sync_sends(alloc, steps, process),
+        _ => Ok(Vec::new(alloc)),
+    }
+}
+
+/// The entry with what it did.
+pub(crate) fn step_of(
+    alloc: Global,
+    config: &Config,
+    steps: &[Step],
+    entry: &Entry,
+) -> Result<Step, AllocError>
+    requires few { length steps.now ≤ MOST_JOURNAL_ENTRIES }
+    ensures { IfOk result (λ step. moment_of (past steps.now) step
+        ≡ moment config.now (past steps.now) entry.now) }
+{
+    let targets = targets_of(config, steps, &entry.act);
+    let message = message_of(alloc, steps, &entry.act)?;
+    let sends = if is_accepted(entry.reply) {
+        sends_of(alloc, steps, &entry.act)?
+    } else {
+        Vec::new(alloc)
+    };
+    let entry = Entry {
+        at: entry.at,
+        by: entry.by,
+        act: entry.act.try_copy(alloc)?,
+        reply: entry.reply,
+    };
+    Ok(Step {
+        entry,
+        targets,
+        message,
+        sends,
+    })
+}

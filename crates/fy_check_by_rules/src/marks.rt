@@ -1,0 +1,161 @@
+//! What the entries before say of marks: who has marked a record, and whether it is acknowledged.
+#![tactic(auto, using(crate::proofs::Pasts::past_next, crate::proofs::Pasts::past_none, crate::proofs::Among::among))]
+
+ghost use Rattle.std.specs.Prelude.{◌≡◌, ◌==◌, ◌&&◌, ◌||◌, not, ℕ, [], IfOk};
+ghost use Rattle.std.specs.List.{list_all};
+ghost use Rattle.fy_team.specs.Teams.{is_among};
+ghost use Rattle.fy_cluster.specs.History.{some_is, marks, tells, heals_at, marked_after, marked, acked};
+ghost use Rattle.fy_cluster.specs.Replies.{is_acked_with};
+ghost use Rattle.fy_check_by_rules.specs.Past.{moment_of, past};
+
+use crate::step::Step;
+use crate::teams::{members_for, without};
+use crate::views::{delivers, heals};
+use fy_locality::ProcId;
+use fy_net::Body;
+use std::alloc::{AllocError, Global};
+
+/// Whether the step delivered a Synced of the record, whoever sent it.
+fn tells(step: &Step, rec: u32) -> bool
+    ensures { result ≡ tells (moment_of [] step.now) rec }
+{
+    if delivers(&step.entry).is_none() {
+        return false;
+    }
+    match step.message {
+        Some(Body::Synced { rec: synced, .. }) => synced == rec,
+        Some(Body::Store { .. }) | None => false,
+    }
+}
+
+/// Who has marked a record, and whether it is acknowledged.
+#[derive(Drop)]
+pub(crate) struct Marks {
+    marked: Vec<ProcId>,
+    pub(crate) acked: bool,
+}
+
+/// Whether the process is one of these.
+pub(crate) fn is_among(processes: &[ProcId], p: ProcId) -> bool
+    ensures { result ≡ is_among processes.now p.0 }
+{
+    processes.iter().any(|q| q.0 == p.0)
+}
+
+/// The process from which the step delivered a Synced of the record.
+fn teller(step: &Step, rec: u32) -> Option<ProcId>
+    ensures { (p : ℕ) → marks (moment_of [] step.now) rec p ≡ some_is (λ q. q.0 == p) result }
+{
+    if delivers(&step.entry).is_none() {
+        return None;
+    }
+    match step.message {
+        Some(Body::Synced { rec: synced, from }) => if synced == rec { Some(from) } else { None },
+        Some(Body::Store { .. }) | None => None,
+    }
+}
+
+/// Those that keep their mark through the step: a healed process loses it, but of an acknowledged
+/// record.
+fn still_marked(
+    alloc: Global,
+    step: &Step,
+    was_acked: bool,
+    marked: &[ProcId],
+) -> Result<Vec<ProcId>, AllocError>
+    ensures { IfOk result (λ list. (p : ℕ) → is_among list.items p
+        ≡ (not (heals_at (moment_of [] step.now) p && not was_acked) && is_among marked.now p)) }
+{
+    match heals(&step.entry) {
+        Some(healed) if !was_acked => {
+            let list = without(alloc, marked, healed)?;
+            Ok(list)
+        }
+        _ => Ok(Vec::from_slice(alloc, marked)?),
+    }
+}
+
+/// Those that have a mark after the step.
+fn marked_then(
+    alloc: Global,
+    step: &Step,
+    rec: u32,
+    was_acked: bool,
+    marked: &[ProcId],
+) -> Result<Vec<ProcId>, AllocError>
+    ensures { IfOk result (λ list. (p : ℕ) → is_among list.items p
+        ≡ marked_after (moment_of [] step.now) rec p was_acked (is_among marked.now p)) }
+{
+    let mut list = still_marked(alloc, step, was_acked, marked)?;
+    match teller(step, rec) {
+        Some(from) => {
+            list.extend_from_slice(&[from])?;
+            Ok(list)
+        }
+        None => Ok(list),
+    }
+}
+
+/// Whether each of the members has a mark.
+fn all_marked(members: &[ProcId], marked: &[ProcId]) -> bool
+    ensures { result ≡ list_all (λ p. is_among marked.now p.0) members.now }
+{
+    members.iter().all(|p| is_among(marked, *p))
+}
+
+/// Whether the record is acknowledged after the step: it was, or a Synced of it was delivered and
+/// every member of its team has a mark now.
+fn acked_then(step: &Step, rec: u32, was_acked: bool, members: &[ProcId], marked: &[ProcId]) -> bool
+    ensures { result ≡ (was_acked || tells (moment_of [] step.now) rec
+        && list_all (λ p. is_among marked.now p.0) members.now) }
+{
+    was_acked || tells(step, rec) && all_marked(members, marked)
+}
+
+/// Who has marked the record, and whether it is acknowledged: a Synced of it was delivered after
+/// which every member of its team had a mark.
+pub(crate) fn marks_of(alloc: Global, steps: &[Step], rec: u32) -> Result<Marks, AllocError>
+    ensures acked { IfOk result (λ it. it.acked ≡ acked (past steps.now) rec) }
+    ensures marked { IfOk result (λ it. (p : ℕ)
+        → is_among it.marked.items p ≡ marked (past steps.now) rec p) }
+{
+    let mut marked = Vec::new(alloc);
+    let mut acked = false;
+    for (i, step) in steps.iter().enumerate() {
+        let members = members_for(alloc, &steps[..i], rec)?;
+        marked = marked_then(alloc, step, rec, acked, &marked)?;
+        acked = acked_then(step, rec, acked, &members, &marked);
+    }
+    Ok(Marks { marked, acked })
+}
+
+/// Whether the record was acknowledged, or each of the members has a mark or is the process.
+fn acked_or_marked(acked: bool, members: &[ProcId], marked: &[ProcId], p: ProcId) -> bool
+    ensures { result ≡ (acked
+        || list_all (λ q. is_among marked.now q.0 || q.0 == p.0) members.now) }
+{
+    acked || are_marked_with(members, marked, p)
+}
+
+/// Whether each of the members has a mark or is the process.
+fn are_marked_with(members: &[ProcId], marked: &[ProcId], p: ProcId) -> bool
+    ensures { result ≡ list_all (λ q. is_among marked.now q.0 || q.0 == p.0) members.now }
+{
+    members.iter().all(|q| is_among(marked, *q) || q.0 == p.0)
+}
+
+/// Whether the record is acknowledged, or every member of its team has a mark once the process has
+/// one.
+pub(crate) fn is_acked_with(
+    alloc: Global,
+    steps: &[Step],
+    rec: u32,
+    p: ProcId,
+) -> Result<bool, AllocError>
+    ensures { IfOk result (λ acked. acked ≡ is_acked_with (past steps.now) rec p.0) }
+{
+    let marks = marks_of(alloc, steps, rec)?;
+    let members = members_for(alloc, steps, rec)?;
+    let acked = acked_or_marked(marks.acked, &members, &marks.marked, p);
+    Ok(acked)
+}

@@ -1,0 +1,100 @@
+//! What the entries before say of messages: which were sent, and which are in flight.
+#![tactic(auto, using(crate::proofs::Pasts::past_next, crate::proofs::Pasts::past_none))]
+
+ghost use Rattle.std.specs.Prelude.{◌≡◌, IfOk};
+ghost use Rattle.fy_net.specs.Net.{is_word_from};
+ghost use Rattle.fy_cluster.specs.History.{History, some_is, sent, is_taken, in_flight, in_flight_count};
+ghost use Rattle.fy_cluster.specs.Replies.{is_full};
+ghost use Rattle.fy_check_by_rules.specs.Past.{moment_of, past};
+
+use crate::step::Step;
+use crate::views::is_accepted;
+use fy_journal::Act;
+use fy_locality::ProcId;
+use fy_net::{Body, MOST_IN_FLIGHT};
+use std::alloc::{AllocError, Global};
+
+/// The messages, by number.
+pub(crate) fn sent(alloc: Global, steps: &[Step]) -> Result<Vec<Body>, AllocError>
+    ensures { IfOk result (λ bodies. bodies.items ≡ sent (past steps.now)) }
+{
+    let mut sent = Vec::new(alloc);
+    for step in steps {
+        sent.extend_from_slice(&step.sends)?;
+    }
+    Ok(sent)
+}
+
+/// Whether there is such a message and the process says it: it has synced a record.
+fn is_word_from(body: Option<Body>, p: ProcId) -> bool
+    ensures { result ≡ some_is (is_word_from p.0) body }
+{
+    match body {
+        Some(Body::Synced { from, .. }) => from.0 == p.0,
+        Some(Body::Store { .. }) | None => false,
+    }
+}
+
+/// Whether the step took the message out of the network: a Deliver or Lose the one that it names, a
+/// Heal each word that its process had sent. The messages sent before the step are given.
+fn takes_out(bodies: &[Body], step: &Step, message: u64) -> bool
+    ensures { (h : History) → sent h ≡ bodies.now
+        → result ≡ (moment_of h step.now).takes_out message }
+{
+    if !is_accepted(step.entry.reply) {
+        return false;
+    }
+    match step.entry.act {
+        Act::Deliver { message: taken } => taken == message,
+        Act::Lose { message: taken } => taken == message,
+        Act::Heal { process } => is_word_from(bodies.get(message as usize).copied(), process),
+        _ => false,
+    }
+}
+
+/// Whether some step took the message out of the network.
+fn is_taken(alloc: Global, steps: &[Step], message: u64) -> Result<bool, AllocError>
+    ensures { IfOk result (λ taken. taken ≡ is_taken (past steps.now) message) }
+{
+    let mut sent = Vec::new(alloc);
+    let mut taken = false;
+    for step in steps {
+        taken = takes_out(&sent, step, message) || taken;
+        sent.extend_from_slice(&step.sends)?;
+    }
+    Ok(taken)
+}
+
+/// Whether the message was sent, and nothing took it out.
+pub(crate) fn in_flight(alloc: Global, steps: &[Step], message: u64) -> Result<bool, AllocError>
+    ensures { IfOk result (λ flies. flies ≡ in_flight (past steps.now) message) }
+{
+    let count = sent(alloc, steps)?.len();
+    if message as usize >= count {
+        return Ok(false);
+    }
+    Ok(!is_taken(alloc, steps, message)?)
+}
+
+/// How many messages are in flight.
+#[tactic(auto, using(crate::proofs::Lists::count_next))]
+fn in_flight_count(alloc: Global, steps: &[Step]) -> Result<usize, AllocError>
+    ensures { IfOk result (λ count. count ≡ in_flight_count (past steps.now)) }
+{
+    let sent = sent(alloc, steps)?.len();
+    let mut count = 0;
+    for message in 0..sent {
+        if in_flight(alloc, steps, message as u64)? {
+            count += 1;
+        }
+    }
+    Ok(count)
+}
+
+/// Whether so many messages more would be more than may be in flight.
+pub(crate) fn is_full(alloc: Global, steps: &[Step], more: usize) -> Result<bool, AllocError>
+    ensures { IfOk result (λ full. full ≡ is_full (past steps.now) more) }
+{
+    let count = in_flight_count(alloc, steps)?;
+    Ok(count > MOST_IN_FLIGHT || more > MOST_IN_FLIGHT - count)
+}

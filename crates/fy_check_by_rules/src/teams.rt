@@ -1,0 +1,210 @@
+//! What the entries before say of teams and records.
+#![tactic(auto, using(crate::proofs::Pasts::past_next, crate::proofs::Pasts::past_none))]
+
+ghost use Rattle.std.specs.Prelude.{◌≡◌, ◌==◌, ◌≤◌, ◌+◌, ◌++◌, ◌∷◌, length, map, filter, not, nat_lt, option_map, option_to_list, IfOk, OnOk};
+ghost use Rattle.fy_team.specs.Teams.{swapped};
+ghost use Rattle.fy_cluster.specs.History.{begins, forms, replaces, after_swap, records, teams, members_of, members_for};
+ghost use Rattle.fy_check_by_rules.specs.Past.{past};
+ghost use Rattle.fy_check_by_rules.specs.Formed.{team_of};
+
+use crate::step::Step;
+use crate::views::is_accepted;
+use fy_journal::{Act, Entry};
+use fy_locality::ProcId;
+use std::alloc::{AllocError, Global};
+
+/// A team: its members by rising number, and the number of its policy.
+#[derive(Drop)]
+pub(crate) struct Team {
+    pub(crate) members: Vec<ProcId>,
+    pub(crate) policy: u32,
+}
+
+/// All but one.
+pub(crate) fn without(
+    alloc: Global,
+    members: &[ProcId],
+    out: ProcId,
+) -> Result<Vec<ProcId>, AllocError>
+    ensures { IfOk result (λ list. list.items ≡ filter (λ p. not (p.0 == out.0)) members.now) }
+{
+    members
+        .iter()
+        .copied()
+        .filter(|p| p.0 != out.0)
+        .collect(alloc)
+}
+
+/// Those below a number.
+fn below(alloc: Global, members: &[ProcId], p: ProcId) -> Result<Vec<ProcId>, AllocError>
+    ensures { IfOk result (λ list. list.items ≡ filter (λ q. nat_lt q.0 p.0) members.now) }
+{
+    members.iter().copied().filter(|q| q.0 < p.0).collect(alloc)
+}
+
+/// Those above a number.
+fn above(alloc: Global, members: &[ProcId], p: ProcId) -> Result<Vec<ProcId>, AllocError>
+    ensures { IfOk result (λ list. list.items ≡ filter (λ q. nat_lt p.0 q.0) members.now) }
+{
+    members.iter().copied().filter(|q| q.0 > p.0).collect(alloc)
+}
+
+/// One list, a process, and another list.
+fn joined(low: Vec<ProcId>, p: ProcId, high: &[ProcId]) -> Result<Vec<ProcId>, AllocError>
+    ensures { IfOk result (λ list. list.items ≡ low.items ++ p ∷ high.now) }
+{
+    let mut list = low;
+    list.extend_from_slice(&[p])?;
+    list.extend_from_slice(high)?;
+    Ok(list)
+}
+
+/// The members once one comes in for another.
+pub(crate) fn swapped(
+    alloc: Global,
+    members: &[ProcId],
+    out: ProcId,
+    into: ProcId,
+) -> Result<Vec<ProcId>, AllocError>
+    ensures { IfOk result (λ list. list.items ≡ swapped out into members.now) }
+{
+    let staying = without(alloc, members, out)?;
+    let low = below(alloc, &staying, into)?;
+    let high = above(alloc, &staying, into)?;
+    joined(low, into, &high)
+}
+
+/// The team of the record that the entry begins.
+fn begins(entry: &Entry) -> Option<u32>
+    ensures { result ≡ option_map (λ b. b.team) (begins entry.now.act entry.now.reply) }
+{
+    if let Act::Begin { team, .. } = entry.act
+        && is_accepted(entry.reply)
+    {
+        Some(team)
+    } else {
+        None
+    }
+}
+
+/// Puts the team of the record that the entry begins last.
+fn put_record(list: &mut Vec<u32>, entry: &Entry) -> Result<(), AllocError>
+    ensures put { OnOk result (list.new.items ≡ list.old.items
+        ++ option_to_list (option_map (λ b. b.team) (begins entry.now.act entry.now.reply))) }
+    ensures one { OnOk result (length list.new.items ≤ length list.old.items + 1) }
+{
+    match begins(entry) {
+        Some(team) => {
+            list.push(team)?;
+            Ok(())
+        }
+        None => Ok(()),
+    }
+}
+
+/// The team of each record, by the record's number.
+#[tactic(auto, using(crate::proofs::Pasts::past_next, crate::proofs::Pasts::past_none, crate::proofs::Lists::map_begun))]
+pub(crate) fn records(alloc: Global, steps: &[Step]) -> Result<Vec<u32>, AllocError>
+    ensures teams { IfOk result (λ list. list.items
+        ≡ map (λ b. b.team) (records (past steps.now))) }
+    ensures few { IfOk result (λ list. length list.items ≤ length steps.now) }
+{
+    let mut list = Vec::new(alloc);
+    for step in steps {
+        put_record(&mut list, &step.entry)?;
+    }
+    Ok(list)
+}
+
+/// A process comes in for a member of a team, if the team is there.
+fn swap_in(
+    alloc: Global,
+    list: &mut Vec<Team>,
+    team: u32,
+    out: ProcId,
+    into: ProcId,
+) -> Result<(), AllocError>
+    ensures { OnOk result (map team_of list.new.items
+        ≡ after_swap (Some (record { team = team; out = out; into = into }))
+        (map team_of list.old.items)) }
+{
+    let team = team as usize;
+    if team >= list.len() {
+        return Ok(());
+    }
+    let kept = &mut list[team];
+    kept.members = swapped(alloc, &kept.members, out, into)?;
+    Ok(())
+}
+
+/// Puts the team that the entry forms last, or swaps a member of a team.
+fn put_team(alloc: Global, list: &mut Vec<Team>, entry: &Entry) -> Result<(), AllocError>
+    ensures { OnOk result (map team_of list.new.items
+        ≡ after_swap (replaces entry.now.act entry.now.reply) (map team_of list.old.items)
+        ++ option_to_list (forms entry.now.act entry.now.reply)) }
+{
+    if !is_accepted(entry.reply) {
+        return Ok(());
+    }
+    match entry.act {
+        Act::Form {
+            ref members,
+            policy,
+        } => {
+            let members = Vec::from_slice(alloc, members.as_slice())?;
+            list.push(Team { members, policy })?;
+            Ok(())
+        }
+        Act::Replace { team, out, into } => swap_in(alloc, list, team, out, into),
+        _ => Ok(()),
+    }
+}
+
+/// The teams, by number.
+pub(crate) fn teams(alloc: Global, steps: &[Step]) -> Result<Vec<Team>, AllocError>
+    ensures { IfOk result (λ list. map team_of list.items ≡ teams (past steps.now)) }
+{
+    let mut list = Vec::new(alloc);
+    for step in steps {
+        put_team(alloc, &mut list, &step.entry)?;
+    }
+    Ok(list)
+}
+
+/// How many teams there are.
+pub(crate) fn team_count(alloc: Global, steps: &[Step]) -> Result<usize, AllocError>
+    ensures { IfOk result (λ count. count ≡ length (teams (past steps.now))) }
+{
+    let list = teams(alloc, steps)?;
+    Ok(list.len())
+}
+
+/// The members of the team with a number.
+pub(crate) fn members_of(
+    alloc: Global,
+    steps: &[Step],
+    team: u32,
+) -> Result<Vec<ProcId>, AllocError>
+    ensures { IfOk result (λ list. list.items ≡ members_of (past steps.now) team) }
+{
+    let teams = teams(alloc, steps)?;
+    match teams.get(team as usize) {
+        Some(team) => Ok(Vec::from_slice(alloc, &team.members)?),
+        None => Ok(Vec::new(alloc)),
+    }
+}
+
+/// The members of the record's team.
+pub(crate) fn members_for(
+    alloc: Global,
+    steps: &[Step],
+    rec: u32,
+) -> Result<Vec<ProcId>, AllocError>
+    ensures { IfOk result (λ list. list.items ≡ members_for (past steps.now) rec) }
+{
+    let records = records(alloc, steps)?;
+    match records.get(rec as usize) {
+        Some(team) => members_of(alloc, steps, *team),
+        None => Ok(Vec::new(alloc)),
+    }
+}

@@ -1,8 +1,0 @@
-use Rattle.fy_spelling.proofs.Compared.{same_act, same_entry}
-use Rattle.fy_spelling.proofs.laws.equal_is_the_same.Goals as goal
-
-pub returns-clause-acts : goal.returns-clause-acts
-returns-clause-acts c = same_act
-
-pub returns-clause-entries : goal.returns-clause-entries
-returns-clause-entries c = same_entry
