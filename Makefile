@@ -30,6 +30,7 @@ run:
 # `rt ci` leaves the program that it proved beside its crate, so that nothing is proved again.
 test:
 	rt ci
+	tests/run
 	mkdir -p bin
 	cp $(BUILT) bin/faultyard
 	tests/cli/run bin/faultyard

@@ -7,8 +7,6 @@ mod journal;
 pub mod laws;
 mod limits;
 mod script;
-#[cfg(test)]
-mod tests;
 mod version;
 
 pub use audit::{AuditFault, AuditLineFault, MOST_AUDIT_BYTES, read_audit};

@@ -24,8 +24,6 @@ mod rulings;
 mod step;
 mod strikes;
 mod teams;
-#[cfg(test)]
-mod tests;
 mod versions;
 mod views;
 mod writes;

@@ -12,8 +12,6 @@ mod reading;
 mod reply;
 mod scan;
 mod shortcut;
-#[cfg(test)]
-mod tests;
 mod writing;
 
 pub use act::Act;
