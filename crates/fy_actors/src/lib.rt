@@ -9,8 +9,6 @@ pub mod laws;
 mod plans;
 mod seeded;
 mod swizzle;
-#[cfg(test)]
-mod tests;
 
 pub use attrition::{Attrition, AttritionFault};
 pub use desk::{Desk, FaultActor, Turn};

@@ -4,8 +4,6 @@
 mod audit;
 pub mod laws;
 mod script;
-#[cfg(test)]
-mod tests;
 
 pub use audit::{AuditFault, AuditLineFault, MOST_AUDIT_BYTES, read_audit};
 pub use fy_journal::{Journal, MOST_ENTRIES, Version};

@@ -5,8 +5,6 @@
 mod fault;
 pub mod laws;
 mod replaying;
-#[cfg(test)]
-mod tests;
 
 pub use fault::CheckFault;
 pub use replaying::replay;

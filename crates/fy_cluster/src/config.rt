@@ -244,6 +244,3 @@ impl Config {
         let _policies = &self.policies;
     }
 }
-
-#[cfg(test)]
-mod tests;

@@ -22,8 +22,6 @@ mod rights;
 mod role;
 mod sight;
 mod teams;
-#[cfg(test)]
-mod tests;
 
 pub use cluster::Cluster;
 pub use config::{Config, MOST_ACTORS, MOST_JOURNAL_ENTRIES, MakeFault, Protection};

@@ -269,6 +269,3 @@ impl DeadBook {
         self.left
     }
 }
-
-#[cfg(test)]
-mod tests;

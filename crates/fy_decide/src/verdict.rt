@@ -152,6 +152,3 @@ pub fn judge_clog(
     };
     case.leave_bar(KindSet::of_clog(), &targets)
 }
-
-#[cfg(test)]
-mod tests;

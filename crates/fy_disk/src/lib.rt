@@ -4,8 +4,6 @@
 mod disk;
 mod item;
 mod payload;
-#[cfg(test)]
-mod tests;
 
 pub use disk::Disk;
 pub use item::Item;

@@ -5,8 +5,6 @@ mod book;
 mod grant;
 pub mod laws;
 mod scopes;
-#[cfg(test)]
-mod tests;
 
 pub use book::{Book, BookFault, MOST_GRANTS};
 pub use grant::{Grant, Scope};

@@ -5,8 +5,6 @@ mod kind;
 mod kind_set;
 pub mod laws;
 mod order;
-#[cfg(test)]
-mod tests;
 mod verdict;
 
 pub use kind::Kind;

@@ -6,8 +6,6 @@ mod input;
 pub mod laws;
 mod output;
 mod split;
-#[cfg(test)]
-mod tests;
 
 pub use input::{InputFault, read_limited};
 pub use output::{OutputFault, write_bytes, write_parts};

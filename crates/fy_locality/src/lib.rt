@@ -8,8 +8,6 @@ mod map;
 mod name;
 mod process_set;
 mod processes;
-#[cfg(test)]
-mod tests;
 
 pub use key::Key;
 pub use locality::Locality;

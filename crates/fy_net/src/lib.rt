@@ -10,8 +10,6 @@ mod places;
 pub mod plain;
 mod pool;
 mod slot;
-#[cfg(test)]
-mod tests;
 
 pub use fault::NetFault;
 pub use limits::{LAST_TICK, MOST_IN_FLIGHT};

@@ -67,6 +67,3 @@ pub fn satisfied(policy: &Policy, map: &Map, set: &ProcSet) -> bool
     laws::test_is_satisfaction();
     shape_satisfied(policy.shape(), map, set)
 }
-
-#[cfg(test)]
-mod tests;

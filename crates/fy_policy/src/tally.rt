@@ -125,6 +125,3 @@ impl Tally {
         met_after(&self.node, &self.map, 0, &goers, false)
     }
 }
-
-#[cfg(test)]
-mod tests;

@@ -9,8 +9,6 @@ mod parts;
 mod reading;
 mod scan;
 mod shortcut;
-#[cfg(test)]
-mod tests;
 mod writing;
 
 pub use command::{Command, LineFault, MOST_LINE_BYTES};

@@ -10,8 +10,6 @@ mod members;
 mod record;
 mod team;
 mod teams;
-#[cfg(test)]
-mod tests;
 
 pub use fault::{MembersFault, TeamFault};
 pub use limits::{MOST_BYTES, MOST_MEMBERS, MOST_RECORDS, MOST_TEAMS};

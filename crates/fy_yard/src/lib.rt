@@ -3,8 +3,6 @@
 
 mod places;
 mod posts;
-#[cfg(test)]
-mod tests;
 mod turns;
 mod view;
 mod yard;
