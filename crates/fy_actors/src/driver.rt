@@ -5,9 +5,9 @@ ghost use Rattle.fy_actors.specs.Drives.{move_by, begin_or_move, next_act, team_
 ghost use Rattle.fy_actors.specs.declared.driver.Team.TheVariants.{Unformed};
 
 use crate::{Desk, FaultActor, Turn};
-use fy_journal::{Act, Reply};
 use fy_cluster::{Fault, Sight};
 use fy_disk::Payload;
+use fy_journal::{Act, Reply};
 use fy_team::Members;
 use std::alloc::{AllocError, Global};
 use std::marker::Model;

@@ -5,8 +5,8 @@ ghost use Rattle.fy_actors.specs.Desk.{Worked};
 
 use crate::agenda::Agenda;
 use crate::{Desk, FaultActor, SwizzlePlan, Turn};
-use fy_journal::Act;
 use fy_cluster::Fault;
+use fy_journal::Act;
 use fy_kinds::Target;
 use fy_locality::{Key, Map, ProcId};
 use std::alloc::{AllocError, Global};

@@ -82,10 +82,8 @@ fn knows_refusal(version: Version, refusal: Refusal) -> bool
     ensures { result ≡ knows_refusal version refusal }
 {
     match refusal {
-        Refusal::NoCopy
-        | Refusal::IsMember
-        | Refusal::NotDestroyed
-        | Refusal::StillNeeds { .. } => version == Version::Second,
+        Refusal::NoCopy | Refusal::IsMember | Refusal::NotDestroyed | Refusal::StillNeeds { .. } =>
+            version == Version::Second,
         Refusal::Stranger
         | Refusal::WrongRole
         | Refusal::TooMany

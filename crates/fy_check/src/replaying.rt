@@ -4,8 +4,8 @@ ghost use Rattle.fy_cluster.specs.Versions.{LegalUnder};
 ghost use Rattle.fy_check.specs.Check.{CheckAnswers};
 
 use crate::CheckFault;
-use fy_journal::{Entry, Journal, Version};
 use fy_cluster::{Cluster, Config, Fault, laws};
+use fy_journal::{Entry, Journal, Version};
 use std::alloc::{AllocError, Global};
 
 /// Whether the entry may come next in the cluster's journal, which is a legal one of the version.

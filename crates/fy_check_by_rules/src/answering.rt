@@ -11,8 +11,8 @@ use crate::replies::{
 };
 use crate::rulings::{clog, kill, unclog};
 use crate::step::Step;
-use fy_journal::{Act, Refusal, Reply};
 use fy_cluster::{Config, Role};
+use fy_journal::{Act, Refusal, Reply};
 use std::alloc::{AllocError, Global};
 
 /// Whether an actor of the role may make the act.

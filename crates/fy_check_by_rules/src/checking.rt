@@ -5,12 +5,12 @@ ghost use Rattle.fy_cluster.specs.Versions.{LegalUnder};
 ghost use Rattle.fy_check.specs.Check.{CheckAnswers};
 ghost use Rattle.fy_check_by_rules.specs.Steps.{AreStepsOf};
 
-use fy_check::CheckFault;
 use crate::answering::reply;
 use crate::doing::step_of;
 use crate::step::Step;
-use fy_journal::{Entry, Journal, Version};
+use fy_check::CheckFault;
 use fy_cluster::{Config, laws};
+use fy_journal::{Entry, Journal, Version};
 use std::alloc::{AllocError, Global};
 
 /// Whether the entry may come after a legal journal, whose entries did these steps.

@@ -8,8 +8,8 @@ ghost use Rattle.fy_check_by_rules.specs.Told.{told};
 
 use crate::rules::{clog_bar, verdict};
 use crate::step::Step;
-use fy_journal::Reply;
 use fy_cluster::Config;
+use fy_journal::Reply;
 use fy_kinds::{KillOrder, Target};
 use std::alloc::{AllocError, Global};
 

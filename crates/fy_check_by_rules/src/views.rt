@@ -2,8 +2,8 @@
 ghost use Rattle.std.specs.Prelude.{◌≡◌, option_map, IfSome};
 ghost use Rattle.fy_cluster.specs.History.{is_accepted, is_stored, struck_by, tear_of, clogs, unclogs, delivers, syncs, ups, ticks, gives, takes, protects, unprotects, heals};
 
-use fy_journal::{Act, Entry, Reply};
 use fy_grants::Grant;
+use fy_journal::{Act, Entry, Reply};
 use fy_kinds::{Kind, KindSet, Target};
 use fy_locality::ProcId;
 

@@ -6,8 +6,8 @@ ghost use Rattle.fy_acts.specs.declared.act.Act.TheVariants.{Clog, Unclog};
 ghost use Rattle.fy_cluster.specs.Standing.{Turn, Stands, Follows, ClogsChange, clog_end, unclog_end, targets_by, clog_bar};
 
 use crate::machine::Machine;
-use fy_journal::Reply;
 use fy_decide::judge_clog;
+use fy_journal::Reply;
 use fy_kinds::{Rule, Target};
 use fy_locality::{Map, ProcSet};
 use fy_net::Net;

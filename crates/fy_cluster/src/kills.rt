@@ -9,9 +9,9 @@ ghost use Rattle.fy_disk.specs.Disk.{blank};
 ghost use Rattle.fy_cluster.specs.Standing.{Turn, Stands, Follows, buried, ChangesAt, left_on};
 
 use crate::machine::Machine;
-use fy_journal::Reply;
 use fy_decide::{DeadBook, Loss, judge};
 use fy_disk::Disk;
+use fy_journal::Reply;
 use fy_kinds::{KillOrder, Kind};
 use fy_locality::{Map, ProcSet};
 

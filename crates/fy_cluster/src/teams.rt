@@ -9,8 +9,8 @@ ghost use Rattle.fy_cluster.specs.Standing.{Turn, Stands, Comes, IsLived, Sends,
 use crate::machine::Machine;
 use crate::messages::no_room;
 use crate::{Config, Fault};
-use fy_journal::{Refusal, Reply};
 use fy_disk::Payload;
+use fy_journal::{Refusal, Reply};
 use fy_locality::ProcId;
 use fy_net::{Body, Net};
 use fy_team::{Members, TeamFault};

@@ -3,11 +3,11 @@
 ghost use Rattle.std.specs.Prelude.{◌≡◌, ◌↔◌, IfOk, IsTrue};
 ghost use Rattle.fy_spelling.specs.EntryLine.{IsTextOf, EntryAnswers};
 
+use crate::Entry;
 use crate::fits::{entry_is_held, reply_fits};
 use crate::reading::entry_by_value;
 use crate::scan::guess_entry;
 use crate::writing::put_entry;
-use crate::Entry;
 use std::alloc::{AllocError, Global};
 
 /// Why no entry is read of a line of an audit.

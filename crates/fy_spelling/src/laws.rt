@@ -4,7 +4,6 @@ ghost use Rattle.fy_spelling.specs.OneText.{OneEntryPerText, LineComesToOne, Tex
 ghost use Rattle.fy_spelling.specs.Plain.{PlainTextSpells};
 ghost use Rattle.fy_spelling.specs.Rows.{EntryTexts, ReplyTexts, ActTexts, CommandText};
 
-
 /// Two entries with one text, whose numbers and names fit, are equal.
 pub fn a_text_is_of_one_entry()
     ensures { OneEntryPerText }

@@ -1,6 +1,6 @@
 //! What a seat knows.
-use fy_journal::Entry;
 use fy_cluster::Config;
+use fy_journal::Entry;
 use std::collections::LinkedList;
 
 /// What a seat at the table knows. No value of it is made.
