@@ -1,6 +1,6 @@
 //! The example of the README: a cluster of six, as somebody makes and asks it who has only read
 //! that page.
-use fy_audit::{Act, Reply};
+use fy_acts::{Act, Reply};
 use fy_cluster::{Cluster, Config, Role};
 use fy_disk::Payload;
 use fy_grants::{Grant, Scope};
