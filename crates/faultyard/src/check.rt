@@ -8,9 +8,6 @@ ghost use Rattle.fy_audit.specs.declared.audit.TheConstants.{MOST_AUDIT_BYTES};
 ghost use Rattle.faultyard.specs.CheckTexts.{HasVerdict};
 ghost use Rattle.faultyard.specs.Stops.{numbered, audit_stop, IfAuditFault, OfCheck};
 
-#[cfg(test)]
-mod tests;
-
 use crate::stop::{Stop, write_numbered};
 use fy_audit::{AuditFault, Journal, MOST_AUDIT_BYTES, read_audit};
 use fy_check::{CheckFault, replay};

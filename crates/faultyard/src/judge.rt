@@ -11,8 +11,6 @@ mod answer;
 mod input;
 mod laws;
 mod line;
-#[cfg(test)]
-mod tests;
 
 use crate::stop::{JudgeFault, Stop};
 use answer::answer_asks;

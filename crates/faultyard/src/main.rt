@@ -3,17 +3,11 @@
 
 mod audit;
 mod check;
-#[cfg(test)]
-mod ends;
 mod judge;
 mod load;
 mod run;
 mod stop;
 mod task;
-#[cfg(test)]
-mod tests;
-#[cfg(test)]
-mod worked;
 
 use check::run_check;
 use fy_cluster::Config;

@@ -10,9 +10,6 @@ ghost use Rattle.fy_cluster.specs.declared.fault.Fault.TheVariants.{NoMemory as 
 ghost use Rattle.faultyard.specs.RunTexts.{asked, HasAudit, Runs, IfRefused, IfRunRefusal};
 ghost use Rattle.faultyard.specs.Stops.{script_stop, OfRun};
 
-#[cfg(test)]
-mod tests;
-
 use crate::audit::write_audit;
 use crate::stop::Stop;
 use fy_audit::{Command, MOST_SCRIPT_BYTES, ScriptFault, read_script};
