@@ -37,8 +37,7 @@ test:
 	tests/run
 	tests/wrong-bodies
 
-wrong-bodies: build
-	cd crates && for crate in */; do (cd $$crate && rt check > /dev/null) || exit; done
+wrong-bodies:
 	tests/wrong-bodies --all --record
 
 install: build
