@@ -15,7 +15,7 @@ trap 'rm -rf "$folder"' EXIT
 cp -a crates "$folder/crates"
 mkdir -p "$folder/crates/configs/src"
 cp bench/configs.rt.in "$folder/crates/configs/src/main.rt"
-cp crates/fy_config_tests/src/tests/described.rt "$folder/crates/configs/src/described.rt"
+cp tests/crates/fy_tests/src/config/described.rt.in "$folder/crates/configs/src/described.rt"
 cp HANDLES crates.txt "$folder"
 echo "configs: fy_config fy_cluster fy_grants fy_kinds fy_policy fy_locality" >> "$folder/crates.txt"
 six=$PWD/examples/c6.toml
