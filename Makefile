@@ -25,9 +25,8 @@ run:
 	@echo "make run: this build is not proved yet; 'make' proves it and leaves bin/faultyard"
 	@examples/first-answer
 
-# RT_JOBS has `rt ci` work on as many crates at once as there are processors: by its own guess of what a check may want of
-# memory, some four times what it takes, it would leave most of them idle. It leaves the program that it proved beside its
-# crate, so that nothing is proved again.
+# RT_JOBS has `rt ci` work on as many crates at once as there are processors, whatever it guesses of the memory that a check
+# may want. It leaves the program that it proved beside its crate, so that nothing is proved again.
 test:
 	RT_JOBS=$$(nproc) rt ci
 	mkdir -p bin
