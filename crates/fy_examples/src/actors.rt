@@ -1,0 +1,31 @@
+//! A swizzle that clogs a process and frees it.
+use crate::single::config_of_one;
+use fy_actors::{Desk, FaultActor, Swizzle, SwizzlePlan, Turn};
+use fy_acts::Reply;
+use fy_cluster::Cluster;
+use fy_kinds::Rule;
+use fy_locality::{Map, ProcId};
+use std::test::Fail;
+
+#[test]
+fn a_swizzle_takes_its_turns(rt: HostRuntime) -> Result<(), Fail> {
+    let alloc = rt.alloc();
+    let mut map = Map::make(alloc);
+    let p0 = map.add("p0", "m0", "z0", None, None)?;
+    let clogs = [p0].to_vec(alloc)?;
+    let frees = [p0].to_vec(alloc)?;
+    let plan = SwizzlePlan { clogs, frees };
+    let mut swizzle = Swizzle::make(alloc, &map, &plan, 10)?;
+    let cluster = Cluster::make(alloc, config_of_one(alloc)?)?;
+    let mut desk = Desk::make(alloc, cluster);
+    let mut receipts = Vec::new(alloc);
+    desk.sit(0, &mut receipts);
+    assert_eq!(rt; swizzle.turn(&mut desk), Ok(Turn::More));
+    desk.sit(0, &mut receipts);
+    let barred = Reply::Ruled {
+        rule: Some(Rule::NoGrant { process: ProcId(0) }),
+    };
+    assert_eq!(rt; receipts.first().map(|entry| entry.reply), Some(barred));
+    assert_eq!(rt; desk.journal_len(), 1);
+    Ok(())
+}

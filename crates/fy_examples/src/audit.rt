@@ -1,0 +1,19 @@
+//! A script of one act, and its audit.
+use fy_acts::Reply;
+use fy_audit::{read_audit, read_script};
+use std::test::Fail;
+
+#[test]
+fn a_script_and_its_audit_are_read(rt: HostRuntime) -> Result<(), Fail> {
+    let alloc = rt.alloc();
+    let commands = read_script(alloc, b"{\"by\":0,\"act\":{\"tick\":{\"ticks\":1}}}\n")?;
+    assert_eq!(rt; commands.len(), 1);
+    let journal = read_audit(
+        alloc,
+        b"{\"audit\":2}\n\
+        {\"act\":{\"tick\":{\"ticks\":1}},\"at\":0,\"by\":0,\"reply\":{\"time\":1}}\n",
+    )?;
+    let entry = journal.entry(0).ok_or("no entry")?;
+    assert_eq!(rt; (journal.len(), entry.reply), (1, Reply::Time { now: 1 }));
+    Ok(())
+}

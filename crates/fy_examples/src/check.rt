@@ -1,0 +1,16 @@
+//! A legal journal, whose acts are made once more.
+use crate::single::config_of_one;
+use fy_acts::{Act, Reply};
+use fy_check::replay;
+use fy_journal::Journal;
+use std::test::Fail;
+
+#[test]
+fn a_tick_is_replayed(rt: HostRuntime) -> Result<(), Fail> {
+    let config = config_of_one(rt.alloc())?;
+    let mut journal = Journal::make(rt.alloc());
+    journal.reserve(1)?;
+    journal.push(0, Act::Tick { ticks: 1 }, Reply::Time { now: 1 });
+    assert_eq!(rt; replay(rt.alloc(), &config, &journal), Ok(()));
+    Ok(())
+}

@@ -1,0 +1,25 @@
+//! A policy that asks for two zones, of a set and of a tally.
+use fy_locality::{Map, ProcSet};
+use fy_policy::{Tally, read_policy, satisfied};
+use std::sync::Arc;
+use std::test::Fail;
+
+#[test]
+fn two_zones_are_asked_for(rt: HostRuntime) -> Result<(), Fail> {
+    let alloc = rt.alloc();
+    let mut map = Map::make(alloc);
+    let p0 = map.add("p0", "m0", "z0", None, None)?;
+    let p1 = map.add("p1", "m1", "z1", None, None)?;
+    let policy = read_policy(alloc, "Across(2,zoneid,One())")?;
+    assert_eq!(rt; satisfied(&policy, &map, &ProcSet::empty()), false);
+    assert_eq!(rt; satisfied(&policy, &map, &map.everyone()), true);
+    assert_eq!(rt; map.len(), 2);
+    let map = Arc::new(alloc, map)?;
+    let mut tally = Tally::make(alloc, &policy, &map)?;
+    tally.add(p0);
+    tally.add(p1);
+    assert_eq!(rt; tally.satisfied(), true);
+    tally.remove(p0);
+    assert_eq!(rt; tally.satisfied(), false);
+    Ok(())
+}
