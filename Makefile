@@ -26,16 +26,17 @@ run:
 	@echo "make run: this build is not proved yet; 'make' proves it and leaves bin/faultyard"
 	@examples/first-answer
 
-# RT_JOBS has `rt ci` work on as many crates at once as there are processors, whatever it guesses of the memory that a check
-# may want. It leaves the program that it proved beside its crate, so that nothing is proved again.
+# `rt ci` leaves the program that it proved beside its crate, so that nothing is proved again.
 test:
-	RT_JOBS=$$(nproc) rt ci
+	rt ci
 	mkdir -p bin
 	cp $(BUILT) bin/faultyard
 	tests/cli/run bin/faultyard
+	tests/pipes/run bin/faultyard
 	tests/swarm/run bin/faultyard
 	tests/examples/run
 	tests/run
+	tests/refused-memory faultyard/short::
 	tests/wrong-bodies
 
 swarm-seeds: build
