@@ -1,13 +1,15 @@
 //! The cluster that actors share, and their seats.
 ghost use Rattle.std.specs.Prelude.{◌≡◌, ◌↔◌, ◌<◌, ◌≤◌, [], ◌∷◌, length, map, All, IfOk, IfErr, IfSome, Some, Ok, vec_len};
 ghost use Rattle.std.specs.Vec.{vec_capacity};
-ghost use Rattle.fy_actors.specs.Desk.{Bench, course_of};
+ghost use Rattle.fy_actors.specs.Desk.{Bench, Worked, course_of};
+ghost use Rattle.fy_actors.specs.Parts.{PlaysTurn};
 ghost use Rattle.fy_cluster.specs.Setup.{IsMet};
 ghost use Rattle.fy_cluster.specs.Replies.{Legal};
 ghost use Rattle.fy_cluster.specs.declared.fault.Fault.TheVariants.{JournalFull};
 ghost use Rattle.fy_yard.specs.Turns.{newcomer};
 ghost use Rattle.fy_yard.specs.Places.{IsPlaceOf, Gathered, sitting};
 ghost use Rattle.fy_yard.specs.Yard.{Yard, actor_count, Keeps, Stays, Sees, Ends as EndsWith, Turned, Together, leftover, new_seats, Settled, Missing};
+ghost use Rattle.fy_yard.specs.Parts.{PlaysAt};
 ghost use Rattle.fy_yard.specs.declared.yard.CloseFault.TheVariants.{SeatsMissing};
 
 use crate::places::{another, draw, finish, hang, inform, wait_for};
@@ -226,6 +228,14 @@ fn gather(shared: &Shared, seats: &mut Vec<Seat>) -> Place
     place
 }
 
+/// Asks the boxed actor for a turn.
+fn ask(actor: &mut Box<dyn FaultActor + Send>, desk: &mut Desk) -> Result<Turn, Fault>
+    ensures plays { PlaysTurn (part actor.old, desk.old) (part actor.new, desk.new) result }
+    ensures worked { Worked desk.old desk.new }
+{
+    actor.turn(desk)
+}
+
 impl Seat {
     /// The number of its actor.
     pub fn actor(&self) -> u32
@@ -324,6 +334,7 @@ impl Shared {
     ///
     /// Whatever is answered, the seat has then seen a legal journal that begins with all that it
     /// had seen, in which its actor's entries are its receipts, and which ends with the new ones.
+    /// The turn is one of the part that the boxed actor plays.
     ///
     /// # Errors
     /// The actor's. What the turn did before it stands.
@@ -337,6 +348,8 @@ impl Shared {
         ensures same { Keeps seat.old seat.new }
         ensures sees { Sees self.now seat.old seat.new }
         ensures turned { Turned seat.old seat.new }
+        ensures plays { PlaysAt self.now seat.old seat.new (part actor.old) (part actor.new)
+            result }
     {
         let Some(mut place) = seat.place.take() else {
             unreachable!()
@@ -344,7 +357,7 @@ impl Shared {
         let ticket = draw(&self.table, &mut place);
         let mut desk = wait_for(rt, &self.table, &self.bells, &mut place, ticket);
         desk.sit(seat.actor, &mut seat.receipts);
-        let answer = actor.turn(&mut desk);
+        let answer = ask(actor, &mut desk);
         desk.sit(0, &mut seat.receipts);
         finish(&self.table, &self.bells, &mut place, desk, ticket);
         seat.place = Some(place);
