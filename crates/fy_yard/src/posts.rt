@@ -1,9 +1,7 @@
 //! Actors that take their turns in threads.
-ghost use Rattle.std.specs.Prelude.{◌≡◌, ◌≢◌, ◌<◌, All, Some, length};
+ghost use Rattle.std.specs.Prelude.{◌≡◌, ◌<◌, All, Some, length};
 ghost use Rattle.fy_yard.specs.Posts.{Ran, AllRan};
-ghost use Rattle.fy_yard.specs.Yard.{StartsWith, Keeps};
 ghost use denote.Param.Send.{IsSync};
-ghost use Rattle.fy_yard.specs.declared.posts.End.TheVariants.{NotRun};
 
 use crate::yard::{Seat, Shared};
 use fy_actors::{FaultActor, Turn};
@@ -46,7 +44,7 @@ pub struct Post {
 /// Runs a post to its end.
 fn run_post<R: Wait, G: Gate>(rt: &R, shared: &Shared, post: &mut Post, gate: &G, max: u32)
     requires { post.old.seat.of ≡ Some shared.now }
-    ensures { Ran post.old.seat post.new.seat post.new.end }
+    ensures { Ran shared.now post.old.seat post.new.seat post.new.end }
 {
     let Post { seat, actor, end } = post;
     *end = take_turns(rt, shared, seat, actor, gate, max);
@@ -62,9 +60,7 @@ fn take_turns<R: Wait, G: Gate>(
     max: u32,
 ) -> End
     requires { seat.old.of ≡ Some shared.now }
-    ensures same { Keeps seat.old seat.new }
-    ensures receipts { StartsWith seat.new.receipts seat.old.receipts }
-    ensures ended { result ≢ NotRun }
+    ensures { Ran shared.now seat.old seat.new result }
 {
     let number = seat.actor();
     for turn in 0..max {
@@ -85,7 +81,9 @@ fn take_turns<R: Wait, G: Gate>(
 /// `max` turns, and with a `max` of 0 no gate is asked. Each seat has to be one of this cluster's.
 ///
 /// Each post keeps its seat, with all receipts that it had and those of its turns behind them, and
-/// its end says how it ended, whatever stood there.
+/// its end says how it ended, whatever stood there. Where it took a turn, its seat has then seen a
+/// legal journal that begins with all that it had seen, in which its actor's entries are its
+/// receipts; else the seat is as it was, and the end is `Shut` or `Limit`.
 pub fn run_actors<R: Threads + Wait + Sync, G: Gate>(
     rt: &R,
     shared: &Shared,
@@ -94,7 +92,7 @@ pub fn run_actors<R: Threads + Wait + Sync, G: Gate>(
     max: u32,
 )
     requires { All (λ post. post.seat.of ≡ Some shared.now) posts.old }
-    ensures { AllRan (λ post. post.seat) (λ post. post.end) posts.old posts.new }
+    ensures { AllRan shared.now (λ post. post.seat) (λ post. post.end) posts.old posts.new }
 {
     if posts.is_empty() {
         return;
@@ -102,7 +100,7 @@ pub fn run_actors<R: Threads + Wait + Sync, G: Gate>(
     let threads = posts.len();
     let work = |_: usize, post: &mut Post|
         requires { IsSync R.row × IsSync G.row × (post.now.seat.of ≡ Some shared.now) }
-        ensures { Ran post.entry.now.seat post.exit.now.seat post.exit.now.end }
+        ensures { Ran shared.entry.now post.entry.now.seat post.exit.now.seat post.exit.now.end }
     { run_post(rt, shared, post, gate, max) };
     thread::for_each_mut(rt, posts, threads, &work);
 }
