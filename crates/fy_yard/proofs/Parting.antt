@@ -1,5 +1,5 @@
 -- what turns make of seats whose actors play a part
-use Rattle.std.proofs.Common.{◌≡◌, ◌≢◌, ◌≤◌, ℕ, suc, ◌+◌, false, List, [], ◌∷◌, ◌++◌, length, Option, Some, Result, Ok, Err, refl, sym, ap, ◌∙◌, subst, arith, add-one, length-append}
+use Rattle.std.proofs.Common.{◌≡◌, ◌≢◌, ◌⊎◌, ⊎_elim, append_assoc, ◌≤◌, ℕ, suc, ◌+◌, false, List, [], ◌∷◌, ◌++◌, length, Option, Some, Result, Ok, Err, refl, sym, ap, ◌∙◌, subst, arith, add-one, length-append}
 use Rattle.fy_acts.specs.declared.entry.Entry.{Entry}
 use Rattle.fy_cluster.specs.declared.fault.Fault.{Fault}
 use Rattle.fy_cluster.specs.declared.fault.Fault.TheVariants.{JournalFull}
@@ -208,3 +208,22 @@ pub later : (old now' now more : List Entry) → StartsWith now old
     → now' ≡ now ++ more → StartsWith now' old
 later old now' now more begins is =
     subst (λ (l : List Entry). StartsWith l old) (sym is) (begins_more now old more begins)
+
+-- what begins with a beginning of another's begins with that
+further : (long mid front : List Entry) → StartsWith long mid → StartsWith mid front
+    → StartsWith long front
+further long mid front far near = (
+  near.0 ++ far.0,
+  far.1 ∙ (ap (λ (l : List Entry). l ++ far.0) near.1 ∙ append_assoc front near.0 far.0),
+)
+
+-- what a seat sees that had seen nothing yet, or the like before
+pub sees_on : (y : Yard) (s t u : Sitting) → (t ≡ s) ⊎ Sees y s t → Sees y t u → Sees y s u
+sees_on y s t u so_far then =
+    ⊎_elim (λ (is : t ≡ s). subst (λ (x : Sitting). Sees y x u) is then)
+    (λ (sees : Sees y s t). record {
+      survives = then.survives;
+      before = further u.seen t.seen s.seen then.before sees.before;
+      own = then.own;
+    })
+    so_far
