@@ -1,3 +1,4 @@
 pub mod Adding
 pub mod Drawing
+pub mod Playing
 pub mod Working

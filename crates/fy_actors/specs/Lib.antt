@@ -5,4 +5,5 @@ pub mod Work
 pub mod Turns
 pub mod Agendas
 pub mod Drives
+pub mod Parts
 pub use Rattle.fy_locality.specs.Locality

@@ -3,6 +3,8 @@ ghost use Rattle.std.specs.Prelude.{◌≡◌, ◌↔◌, ◌<◌, ◌≤◌, Er
 ghost use Rattle.fy_kinds.specs.Kinds.{rank};
 ghost use Rattle.fy_actors.specs.Agendas.{begun, attrition_acts, FollowsAgenda};
 ghost use Rattle.fy_actors.specs.Desk.{Worked};
+ghost use Rattle.fy_actors.specs.Parts.{PlaysTurn};
+ghost use Rattle.fy_actors.specs.Parts.Part.{Acts};
 
 use crate::agenda::Agenda;
 use crate::{AttritionPlan, Desk, FaultActor, Turn};
@@ -108,9 +110,14 @@ impl Attrition {
 }
 
 impl FaultActor for Attrition {
+    ghost use Rattle.fy_actors.specs.Parts.Part.{Acts as Playing};
+
+    ghost part = { λ agenda. Playing agenda };
+
     /// Makes the act that comes next. After a fault it is still the next one.
     fn turn(&mut self, desk: &mut Desk) -> Result<Turn, Fault>
         ensures turn { FollowsAgenda (self.old, desk.old) (self.new, desk.new) result }
+        ensures plays { PlaysTurn (Acts self.old, desk.old) (Acts self.new, desk.new) result }
         ensures worked { Worked desk.old desk.new }
     {
         self.agenda.turn(desk)

@@ -22,17 +22,23 @@ pub enum Turn {
 }
 
 /// What takes turns at a desk, whoever wrote it: an actor is asked for one turn after another, and
-/// acts at the desk alone.
+/// acts at the desk alone. Which part it plays is known of it in a box too; an actor that says
+/// nothing of it goes its own way.
 pub trait FaultActor: Drop {
     ghost use Rattle.fy_actors.specs.Desk.{Worked};
+    ghost use Rattle.fy_actors.specs.Parts.{Part, PlaysTurn};
+    ghost use Rattle.fy_actors.specs.Parts.Part.{Own};
+
+    ghost part: { Self → Part } = { λ _. Own };
 
     /// Takes a turn. Whatever it does, the cluster began with the same configuration, the same
     /// actor sits at the desk, and all new entries of the journal are this actor's and its new
-    /// receipts.
+    /// receipts. A turn makes the act that comes next in the actor's part, if one is left.
     ///
     /// # Errors
     /// The fault of an act.
     fn turn(&mut self, desk: &mut Desk) -> Result<Turn, Fault>
+        ensures plays { PlaysTurn (part self.old, desk.old) (part self.new, desk.new) result }
         ensures worked { Worked desk.old desk.new };
 }
 

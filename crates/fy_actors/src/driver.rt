@@ -2,6 +2,8 @@
 ghost use Rattle.std.specs.Prelude.{◌≡◌, ◌-◌, ◌^◌, ◌<◌, Some, IfOk, IsTrue};
 ghost use Rattle.fy_actors.specs.Desk.{Worked};
 ghost use Rattle.fy_actors.specs.Drives.{move_by, begin_or_move, next_act, team_after, is_refused, goes_on, Drives};
+ghost use Rattle.fy_actors.specs.Parts.{PlaysTurn};
+ghost use Rattle.fy_actors.specs.Parts.Part.{Stores};
 ghost use Rattle.fy_actors.specs.declared.driver.Team.TheVariants.{Unformed};
 
 use crate::{Desk, FaultActor, Turn};
@@ -167,13 +169,10 @@ impl StorageDriver {
     {
         !self.team.is_refused() && self.made < self.acts
     }
-}
 
-impl FaultActor for StorageDriver {
-    /// Makes the act that comes next by what the desk shows. After a fault it is still the next
-    /// one.
+    /// Makes the act that comes next by what the desk shows.
     #[tactic(auto, using(crate::proofs::Working::none_left, crate::proofs::Working::held_up))]
-    fn turn(&mut self, desk: &mut Desk) -> Result<Turn, Fault>
+    fn drive(&mut self, desk: &mut Desk) -> Result<Turn, Fault>
         ensures turn { Drives (self.old, desk.old) (self.new, desk.new) result }
         ensures worked { Worked desk.old desk.new }
     {
@@ -195,5 +194,21 @@ impl FaultActor for StorageDriver {
         } else {
             Turn::Ended
         })
+    }
+}
+
+impl FaultActor for StorageDriver {
+    ghost use Rattle.fy_actors.specs.Parts.Part.{Stores as Playing};
+
+    ghost part = { λ drive. Playing drive };
+
+    /// Makes the act that comes next by what the desk shows. After a fault it is still the next
+    /// one.
+    fn turn(&mut self, desk: &mut Desk) -> Result<Turn, Fault>
+        ensures turn { Drives (self.old, desk.old) (self.new, desk.new) result }
+        ensures plays { PlaysTurn (Stores self.old, desk.old) (Stores self.new, desk.new) result }
+        ensures worked { Worked desk.old desk.new }
+    {
+        self.drive(desk)
     }
 }

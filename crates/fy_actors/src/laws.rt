@@ -1,5 +1,6 @@
-//! What work at a desk comes to, over the definitions alone.
+//! What work at a desk and turns of a part come to, over the definitions alone.
 ghost use Rattle.fy_actors.specs.Work.{NoneIsWork, WorkAddsUp, ReceiptsStayWhole, OthersAddNothing};
+ghost use Rattle.fy_actors.specs.Parts.{TurnsKeepTo, OthersChangeNoPart, AnswersTell};
 
 /// To do nothing is work, and so is work after work: for actors of one's own that make no act in a
 /// turn, or several.
@@ -18,4 +19,16 @@ pub fn receipts_stay_whole()
 #[tactic(auto, using(crate::proofs::Adding::others_add_nothing))]
 pub fn others_add_nothing()
     ensures { OthersAddNothing }
+{}
+
+/// Who keeps to a part still does after a turn of it, and after entries of others.
+pub fn parts_are_kept()
+    ensures turns { TurnsKeepTo }
+    ensures others { OthersChangeNoPart }
+{}
+
+/// The answer of a turn tells whether an act was made, whether one is left, and whether the
+/// journal is full.
+pub fn answers_tell()
+    ensures { AnswersTell }
 {}

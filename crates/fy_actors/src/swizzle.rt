@@ -2,6 +2,8 @@
 ghost use Rattle.std.specs.Prelude.{◌≡◌, ◌<◌, length, All, IfOk};
 ghost use Rattle.fy_actors.specs.Agendas.{begun, process_target, swizzle_acts, FollowsAgenda};
 ghost use Rattle.fy_actors.specs.Desk.{Worked};
+ghost use Rattle.fy_actors.specs.Parts.{PlaysTurn};
+ghost use Rattle.fy_actors.specs.Parts.Part.{Acts};
 
 use crate::agenda::Agenda;
 use crate::{Desk, FaultActor, SwizzlePlan, Turn};
@@ -95,9 +97,14 @@ impl Swizzle {
 }
 
 impl FaultActor for Swizzle {
+    ghost use Rattle.fy_actors.specs.Parts.Part.{Acts as Playing};
+
+    ghost part = { λ agenda. Playing agenda };
+
     /// Makes the act that comes next. After a fault it is still the next one.
     fn turn(&mut self, desk: &mut Desk) -> Result<Turn, Fault>
         ensures turn { FollowsAgenda (self.old, desk.old) (self.new, desk.new) result }
+        ensures plays { PlaysTurn (Acts self.old, desk.old) (Acts self.new, desk.new) result }
         ensures worked { Worked desk.old desk.new }
     {
         self.agenda.turn(desk)

@@ -857,15 +857,15 @@ meets slots id me idle seated s r _ at _ =
       },
     )
 
-pub starts : (setup : Setup) (d : Bench) → d.setup ≡ setup → d.journal ≡ [] → Legal setup []
+pub starts : (setup : Setup) (d : Bench) → d.setup ≡ setup → d.journal ≡ []
     → 1 ≤ actor_count setup → actor_count setup < 2 ^ 64
     → Kept (opening (0 ∷ 0 ∷ 0 ∷ []) (Some d ∷ []) (newcomer setup))
-starts setup d is empty blank some_actor few = record {
+starts setup d is empty some_actor few = record {
   plan = p;
   legal = blank;
+  blank = blank;
   words = refl;
   each = one;
-  blank = blank;
   most = some_actor;
   unmade = λ _ _. refl;
   counted = refl;
@@ -876,6 +876,9 @@ starts setup d is empty blank some_actor few = record {
   busy = λ o. absurd (off o);
 }
   where
+    blank : Legal setup []
+    blank = (omega arith, tt)
+
     p : Plan
     p = record {
       log = [];

@@ -160,7 +160,10 @@ shared_sync =
     let inner : IsSync in_shared.the_row =
     declared_sync in_shared.the_type (
       (search (desk_send, table.the_sync, steps.the_sync, sendable, crosses) depth 20),
-      ((search (parker.the_sync, sendable, crosses) depth 20), tt),
+      (
+        (search (parker.the_sync, sendable, crosses) depth 20),
+        ((search (sendable, crosses) depth 20), tt),
+      ),
     ) in
     search (inner, view_sync)
 

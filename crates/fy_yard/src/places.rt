@@ -1,10 +1,10 @@
 //! Steps of a place at the turnstile.
-ghost use Rattle.std.specs.Prelude.{◌≡◌, [], ◌∷◌, ◌<◌, None, true, IfSome, length, vec_len};
+ghost use Rattle.std.specs.Prelude.{◌≡◌, [], ◌∷◌, None, true, IfSome, length, vec_len};
 ghost use Rattle.fy_cluster.specs.Replies.{Legal};
 ghost use Rattle.fy_actors.specs.Desk.{entries_by};
 ghost use Rattle.fy_yard.specs.Yard.{StartsWith};
 ghost use Rattle.fy_yard.specs.Turns.{without_ticket, after_count, less_one, next_seat, after_meeting, told_by};
-ghost use Rattle.fy_yard.specs.Places.{IsTurnstile, IsCalm, IsWaiting, Waits, IsServed, IsGrown, IsOpener};
+ghost use Rattle.fy_yard.specs.Places.{IsPowerOfTwo, AreBells, IsTurnstile, IsCalm, IsWaiting, Waits, IsServed, IsGrown, IsOpener};
 
 use crate::turns::{Advance, Another, Count, Draw, Look, Meet, Note, Place, Turnstile};
 use fy_actors::Desk;
@@ -23,23 +23,31 @@ pub(crate) fn draw(table: &Turnstile, place: &mut Place) -> u64
     table.shared.fetch_add::<Draw>(place, 1, 1)
 }
 
+/// The bell of a ticket. There is a power of two of them, so that of the tickets that are out, at most
+/// one for each actor, each has a bell of its own: also where tickets begin again at 0.
+fn bell_of(bells: &[Parker], ticket: u64) -> &Parker
+    requires { IsPowerOfTwo (length bells.now) }
+{
+    &bells[ticket as usize % bells.len()]
+}
+
 /// Looks until the ticket is served, and takes the desk. Between two looks it sleeps at the bell of
 /// its ticket.
 pub(crate) fn wait_for<R: Wait>(
     rt: &R,
     table: &Turnstile,
-    bells: &Vec<Parker>,
+    bells: &[Parker],
     place: &mut Place,
     ticket: u64,
 ) -> Desk
     requires table { (place.old.table_id ≡ table.now.shared.table_id)
         × IsTurnstile table.now.shared.table_id }
-    requires bells { 0 < vec_len bells.now }
+    requires bells { IsPowerOfTwo (length bells.now) }
     requires waits { IsWaiting place.old.me ticket }
     ensures place { place.new.table_id ≡ place.old.table_id }
     ensures served { IsServed place.old.me.0 place.new.me result }
 {
-    let bell = ticket as usize % bells.len();
+    let bell = bell_of(bells, ticket);
     for _ in rt.forever() {
         if table.shared.load::<Look>(place, 2) == ticket {
             let Some(desk) = table.shared.exchange(place, 0, None) else {
@@ -47,7 +55,7 @@ pub(crate) fn wait_for<R: Wait>(
             };
             return desk;
         }
-        bells[bell].park(rt);
+        bell.park(rt);
     }
     unreachable!()
 }
@@ -55,14 +63,14 @@ pub(crate) fn wait_for<R: Wait>(
 /// Gives the desk back, counts its entries, lets the next ticket be served and rings its bell.
 pub(crate) fn finish(
     table: &Turnstile,
-    bells: &Vec<Parker>,
+    bells: &[Parker],
     place: &mut Place,
     desk: Desk,
     ticket: u64,
 )
     requires table { (place.old.table_id ≡ table.now.shared.table_id)
         × IsTurnstile table.now.shared.table_id }
-    requires bells { 0 < vec_len bells.now }
+    requires bells { IsPowerOfTwo (length bells.now) }
     requires served { (place.old.me.1 ≡ (0, None) ∷ []) × (place.old.me.0.waits ≡ 1)
         × (place.old.me.0.holds ≡ true) × (place.old.me.0.seated ≡ true)
         × (place.old.me.0.live ≡ true) × (place.old.me.0.kept ≡ []) }
@@ -75,7 +83,7 @@ pub(crate) fn finish(
     table.shared.exchange(place, 0, Some(desk));
     table.shared.store::<Count>(place, 0, count);
     table.shared.fetch_add::<Advance>(place, 2, 1);
-    bells[ticket.wrapping_add(1) as usize % bells.len()].unpark();
+    bell_of(bells, ticket.wrapping_add(1)).unpark();
 }
 
 /// Makes the next actor's place.
@@ -111,16 +119,13 @@ pub(crate) fn inform(table: &Turnstile, place: &mut Place, other: &mut Place)
     table.shared.load::<Meet>(place, 0);
 }
 
-/// As many bells.
-pub(crate) fn hang(alloc: Global, count: usize) -> Option<Vec<Parker>>
-    ensures { IfSome result (λ bells. vec_len bells ≡ count) }
+/// Bells for so many actors.
+pub(crate) fn hang(alloc: Global, actors: u32) -> Option<Vec<Parker>>
+    ensures { IfSome result (λ bells. AreBells (vec_len bells) actors) }
 {
-    let mut bells = Vec::new(alloc);
-    if bells.reserve(count).is_err() {
-        return None;
-    }
-    for hung in 0..count {
-        let _ = hung;
+    let count = (actors as usize).next_power_of_two();
+    let mut bells = Vec::with_capacity(alloc, count).ok()?;
+    for _ in 0..count {
         bells.push_reserved(Parker::new());
     }
     Some(bells)

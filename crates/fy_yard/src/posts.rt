@@ -1,11 +1,11 @@
 //! Actors that take their turns in threads.
-ghost use Rattle.std.specs.Prelude.{◌≡◌, ◌≢◌, ◌<◌, All, Some, length};
+ghost use Rattle.std.specs.Prelude.{◌≡◌, ◌<◌, All, Some, length};
 ghost use Rattle.fy_yard.specs.Posts.{Ran, AllRan};
-ghost use Rattle.fy_yard.specs.Yard.{StartsWith, Keeps};
+ghost use Rattle.fy_yard.specs.Parts.{Played, AllPlayed};
 ghost use denote.Param.Send.{IsSync};
-ghost use Rattle.fy_yard.specs.declared.posts.End.TheVariants.{NotRun};
 
 use crate::yard::{Seat, Shared};
+use fy_actors::laws::{answers_tell, parts_are_kept};
 use fy_actors::{FaultActor, Turn};
 use fy_cluster::Fault;
 use std::boxed::Box;
@@ -13,11 +13,17 @@ use std::sync::Wait;
 use std::thread;
 use std::thread::Threads;
 
-/// Who decides whether a post goes on.
+/// Who decides whether a post goes on. What holds where it shuts is known of it; a gate that says
+/// nothing of it may always shut.
 pub trait Gate: Sync {
+    ghost use Rattle.std.specs.Prelude.{IsFalse};
+
+    ghost shuts: { Self → Type 0 } = { λ _. Unit {0} };
+
     /// Whether the actor may take its turn with this number, from 0. It is asked before each turn
     /// and while no turn is held, so it may take its time without holding up others.
-    fn before(&self, actor: u32, turn: u32) -> bool;
+    fn before(&self, actor: u32, turn: u32) -> bool
+        ensures { IsFalse result → shuts self.now };
 }
 
 /// How a post ended.
@@ -46,7 +52,9 @@ pub struct Post {
 /// Runs a post to its end.
 fn run_post<R: Wait, G: Gate>(rt: &R, shared: &Shared, post: &mut Post, gate: &G, max: u32)
     requires { post.old.seat.of ≡ Some shared.now }
-    ensures { Ran post.old.seat post.new.seat post.new.end }
+    ensures ran { Ran shared.now post.old.seat post.new.seat post.new.end }
+    ensures played { Played shared.now (G.shuts gate.now) max post.old.seat post.new.seat
+        (part post.old.actor) (part post.new.actor) post.new.end }
 {
     let Post { seat, actor, end } = post;
     *end = take_turns(rt, shared, seat, actor, gate, max);
@@ -62,10 +70,12 @@ fn take_turns<R: Wait, G: Gate>(
     max: u32,
 ) -> End
     requires { seat.old.of ≡ Some shared.now }
-    ensures same { Keeps seat.old seat.new }
-    ensures receipts { StartsWith seat.new.receipts seat.old.receipts }
-    ensures ended { result ≢ NotRun }
+    ensures ran { Ran shared.now seat.old seat.new result }
+    ensures played { Played shared.now (G.shuts gate.now) max seat.old seat.new (part actor.old)
+        (part actor.new) result }
 {
+    parts_are_kept();
+    answers_tell();
     let number = seat.actor();
     for turn in 0..max {
         if !gate.before(number, turn) {
@@ -85,7 +95,14 @@ fn take_turns<R: Wait, G: Gate>(
 /// `max` turns, and with a `max` of 0 no gate is asked. Each seat has to be one of this cluster's.
 ///
 /// Each post keeps its seat, with all receipts that it had and those of its turns behind them, and
-/// its end says how it ended, whatever stood there.
+/// its end says how it ended, whatever stood there. Where it took a turn, its seat has then seen a
+/// legal journal that begins with all that it had seen, in which its actor's entries are its
+/// receipts; else the seat is as it was, and the end is `Shut` or `Limit`.
+///
+/// Whose actor is known to play a part has kept to it: each of its acts is the one that came next,
+/// by the journal before it. It ended as `Ended` where no act is left, as `Limit` where it made
+/// `max` acts more, and failed by `JournalFull` where the journal is full; and only a gate that may
+/// shut shuts a post.
 pub fn run_actors<R: Threads + Wait + Sync, G: Gate>(
     rt: &R,
     shared: &Shared,
@@ -94,7 +111,9 @@ pub fn run_actors<R: Threads + Wait + Sync, G: Gate>(
     max: u32,
 )
     requires { All (λ post. post.seat.of ≡ Some shared.now) posts.old }
-    ensures { AllRan (λ post. post.seat) (λ post. post.end) posts.old posts.new }
+    ensures ran { AllRan shared.now (λ post. post.seat) (λ post. post.end) posts.old posts.new }
+    ensures played { AllPlayed shared.now (G.shuts gate.now) max (λ post. post.seat)
+        (λ post. part post.actor) (λ post. post.end) posts.old posts.new }
 {
     if posts.is_empty() {
         return;
@@ -102,7 +121,11 @@ pub fn run_actors<R: Threads + Wait + Sync, G: Gate>(
     let threads = posts.len();
     let work = |_: usize, post: &mut Post|
         requires { IsSync R.row × IsSync G.row × (post.now.seat.of ≡ Some shared.now) }
-        ensures { Ran post.entry.now.seat post.exit.now.seat post.exit.now.end }
+        ensures ran {
+            Ran shared.entry.now post.entry.now.seat post.exit.now.seat post.exit.now.end }
+        ensures played { Played shared.entry.now (G.shuts gate.entry.now) max post.entry.now.seat
+            post.exit.now.seat (part post.entry.now.actor) (part post.exit.now.actor)
+            post.exit.now.end }
     { run_post(rt, shared, post, gate, max) };
     thread::for_each_mut(rt, posts, threads, &work);
 }

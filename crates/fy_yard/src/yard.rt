@@ -1,13 +1,15 @@
 //! The cluster that actors share, and their seats.
 ghost use Rattle.std.specs.Prelude.{◌≡◌, ◌↔◌, ◌<◌, ◌≤◌, [], ◌∷◌, length, map, All, IfOk, IfErr, IfSome, Some, Ok, vec_len};
 ghost use Rattle.std.specs.Vec.{vec_capacity};
-ghost use Rattle.fy_actors.specs.Desk.{Bench, course_of};
+ghost use Rattle.fy_actors.specs.Desk.{Bench, Worked, course_of};
+ghost use Rattle.fy_actors.specs.Parts.{PlaysTurn};
 ghost use Rattle.fy_cluster.specs.Setup.{IsMet};
 ghost use Rattle.fy_cluster.specs.Replies.{Legal};
 ghost use Rattle.fy_cluster.specs.declared.fault.Fault.TheVariants.{JournalFull};
 ghost use Rattle.fy_yard.specs.Turns.{newcomer};
-ghost use Rattle.fy_yard.specs.Places.{IsPlaceOf, Gathered, sitting};
+ghost use Rattle.fy_yard.specs.Places.{AreBells, IsPlaceOf, Gathered, sitting};
 ghost use Rattle.fy_yard.specs.Yard.{Yard, actor_count, Keeps, Stays, Sees, Ends as EndsWith, Turned, Together, leftover, new_seats, Settled, Missing};
+ghost use Rattle.fy_yard.specs.Parts.{PlaysAt};
 ghost use Rattle.fy_yard.specs.declared.yard.CloseFault.TheVariants.{SeatsMissing};
 
 use crate::places::{another, draw, finish, hang, inform, wait_for};
@@ -28,18 +30,19 @@ use std::thread::Parker;
 #[derive(Drop)]
 pub struct Shared {
     table: Turnstile,
-    /// One for each actor. Who waits with a ticket sleeps at the one of its number.
+    /// Who waits with a ticket sleeps at the one of its number.
     bells: Vec<Parker>,
+    actors: u32,
 }
 
 impl Model for Shared {
     ghost use Rattle.std.specs.Coded.{codes};
-    ghost use Rattle.std.specs.Prelude.{◌≡◌, ◌<◌, vec_len};
+    ghost use Rattle.std.specs.Prelude.{◌≡◌, ◌≤◌, vec_len};
     ghost use Rattle.fy_locality.specs.contracts.locality.Locality as e;
     ghost use Rattle.fy_policy.specs.TreeCode.{tree_code};
     ghost use Rattle.fy_cluster.specs.Setup.{IsMet};
     ghost use Rattle.fy_yard.specs.Yard.{Yard, actor_count};
-    ghost use Rattle.fy_yard.specs.Places.{IsTurnstile};
+    ghost use Rattle.fy_yard.specs.Places.{AreBells, IsTurnstile};
     ghost use Rattle.atomic_table.specs.Seated.{table_id_coded};
 
     ghost Value = { Yard };
@@ -50,8 +53,8 @@ impl Model for Shared {
         record { id = s.table.shared.table_id; setup = s.table.shared.key.value } };
 
     ghost invariant = { λ s. IsTurnstile s.table.shared.table_id
-        × (vec_len s.bells ≡ actor_count s.table.shared.key.value) × (0 < vec_len s.bells)
-        × IsMet s.table.shared.key.value };
+        × AreBells (vec_len s.bells) s.actors × (s.actors ≡ actor_count s.table.shared.key.value)
+        × (1 ≤ s.actors) × IsMet s.table.shared.key.value };
 }
 
 /// An actor's seat at a shared cluster, with its receipts: the entries of all its acts, in order.
@@ -116,17 +119,6 @@ fn count_actors(cluster: &Cluster) -> u32
     config.actors()
 }
 
-/// Slots with room for one.
-fn shelf(alloc: Global) -> Option<Vec<Option<Desk>>>
-    ensures { IfSome result (λ slots. (slots.items ≡ []) × (1 ≤ vec_capacity slots)) }
-{
-    let mut slots = Vec::new(alloc);
-    if slots.reserve(1).is_err() {
-        return None;
-    }
-    Some(slots)
-}
-
 /// The cluster of the desk in the one slot.
 fn cluster_in(mut slots: Vec<Option<Desk>>) -> Cluster
     requires { (desk : Bench) × (slots.items ≡ Some desk ∷ []) }
@@ -139,23 +131,34 @@ fn cluster_in(mut slots: Vec<Option<Desk>>) -> Cluster
 }
 
 /// The first place, from which the others are split.
-fn begin(alloc: Global, cluster: Cluster, bells: Vec<Parker>) -> Result<(Shared, Place), Cluster>
+fn begin(
+    alloc: Global,
+    cluster: Cluster,
+    actors: u32,
+    bells: Vec<Parker>,
+) -> Result<(Shared, Place), Cluster>
     requires empty { cluster.journal ≡ [] }
-    requires bells { (vec_len bells ≡ actor_count cluster.setup) × (0 < vec_len bells) }
+    requires actors { (actors ≡ actor_count cluster.setup) × (1 ≤ actors) }
+    requires bells { AreBells (vec_len bells) actors }
     ensures ok { IfOk result (λ made. (made.0.setup ≡ cluster.setup)
         × (made.1.table_id ≡ made.0.id) × (made.1.me ≡ (newcomer cluster.setup, []))) }
     ensures err { IfErr result (λ back. back ≡ cluster) }
 {
-    let Some(mut slots) = shelf(alloc) else {
+    let Ok(mut slots) = Vec::with_capacity(alloc, 1) else {
         return Err(cluster);
     };
     cluster.config().invariant();
     let setup = Snapshot::of(cluster.config());
-    let desk = Desk::make(alloc, cluster);
-    let _ = desk.journal_len();
-    slots.push_reserved(Some(desk));
+    slots.push_reserved(Some(Desk::make(alloc, cluster)));
     match Turnstile::new(alloc, &[0, 0, 0], slots, &setup) {
-        Ok((table, place)) => Ok((Shared { table, bells }, place)),
+        Ok((table, place)) => {
+            let shared = Shared {
+                table,
+                bells,
+                actors,
+            };
+            Ok((shared, place))
+        }
         Err(Refused { slots }) => Err(cluster_in(slots)),
     }
 }
@@ -170,17 +173,6 @@ fn sit(alloc: Global, place: Place, actor: u32) -> Seat
         receipts: Vec::new(alloc),
         place: Some(place),
     }
-}
-
-/// Room for so many seats.
-fn benches(alloc: Global, count: u32) -> Option<Vec<Seat>>
-    ensures { IfSome result (λ seats. (seats.items ≡ []) × (count ≤ vec_capacity seats)) }
-{
-    let mut seats = Vec::new(alloc);
-    if seats.reserve(count as usize).is_err() {
-        return None;
-    }
-    Some(seats)
 }
 
 /// Seats all actors by number, the first at this place.
@@ -224,6 +216,14 @@ fn gather(shared: &Shared, seats: &mut Vec<Seat>) -> Place
         shared.table.shared.join_seat::<Ends>(&mut place, other);
     }
     place
+}
+
+/// Asks the boxed actor for a turn.
+fn ask(actor: &mut Box<dyn FaultActor + Send>, desk: &mut Desk) -> Result<Turn, Fault>
+    ensures plays { PlaysTurn (part actor.old, desk.old) (part actor.new, desk.new) result }
+    ensures worked { Worked desk.old desk.new }
+{
+    actor.turn(desk)
 }
 
 impl Seat {
@@ -270,13 +270,13 @@ impl Shared {
         ensures err { IfErr result (λ back. back ≡ cluster) }
     {
         let actors = count_actors(&cluster);
-        let Some(seats) = benches(alloc, actors) else {
+        let Ok(seats) = Vec::with_capacity(alloc, actors as usize) else {
             return Err(cluster);
         };
-        let Some(bells) = hang(alloc, actors as usize) else {
+        let Some(bells) = hang(alloc, actors) else {
             return Err(cluster);
         };
-        let (shared, place) = begin(alloc, cluster, bells)?;
+        let (shared, place) = begin(alloc, cluster, actors, bells)?;
         let seats = seat_all(alloc, &shared, place, seats, actors);
         Ok((shared, seats))
     }
@@ -324,6 +324,7 @@ impl Shared {
     ///
     /// Whatever is answered, the seat has then seen a legal journal that begins with all that it
     /// had seen, in which its actor's entries are its receipts, and which ends with the new ones.
+    /// The turn is one of the part that the boxed actor plays.
     ///
     /// # Errors
     /// The actor's. What the turn did before it stands.
@@ -337,6 +338,8 @@ impl Shared {
         ensures same { Keeps seat.old seat.new }
         ensures sees { Sees self.now seat.old seat.new }
         ensures turned { Turned seat.old seat.new }
+        ensures plays { PlaysAt self.now seat.old seat.new (part actor.old) (part actor.new)
+            result }
     {
         let Some(mut place) = seat.place.take() else {
             unreachable!()
@@ -344,7 +347,7 @@ impl Shared {
         let ticket = draw(&self.table, &mut place);
         let mut desk = wait_for(rt, &self.table, &self.bells, &mut place, ticket);
         desk.sit(seat.actor, &mut seat.receipts);
-        let answer = actor.turn(&mut desk);
+        let answer = ask(actor, &mut desk);
         desk.sit(0, &mut seat.receipts);
         finish(&self.table, &self.bells, &mut place, desk, ticket);
         seat.place = Some(place);
@@ -390,12 +393,16 @@ impl Shared {
         ensures err { IfErr result (λ fault. (fault ≡ SeatsMissing self seats)
             × Missing (actor_count self.setup) seats.items) }
     {
-        if seats.len() < self.bells.len() {
+        if seats.len() < self.actors as usize {
             return Err(CloseFault::SeatsMissing(self, seats));
         }
         let place = gather(&self, &mut seats);
         laws::journals_survive();
-        let Shared { table, bells: _ } = self;
+        let Shared {
+            table,
+            bells: _,
+            actors: _,
+        } = self;
         let mut closed = table.close_with(place);
         let desk = closed.take(0);
         closed.free();

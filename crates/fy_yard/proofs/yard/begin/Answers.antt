@@ -1,23 +1,28 @@
-use Rattle.std.proofs.Common.{rules, ◌≡◌, [], ◌∷◌, List, Option, Some, sym, subst, ◌∙◌}
+use Rattle.std.proofs.Common.{rules, ◌≡◌, [], ◌∷◌, List, Option, Some, sym, subst, ◌∙◌, arith, ◌<◌, ◌^◌}
 use Rattle.atomic_table.specs.Table.{opening}
 use Rattle.fy_actors.specs.Desk.{Bench, course_of}
+use Rattle.std.specs.Vec.{vec_len}
+use Rattle.fy_yard.specs.Yard.{actor_count}
 use Rattle.fy_yard.specs.Turns.{Kept, newcomer}
 use Rattle.fy_yard.proofs.Moves.{starts}
 use Rattle.fy_yard.proofs.yard.begin.Goals as goal
 
 pub new-requires : goal.new-requires
 new-requires c =
-    let same : c.push_reserved.new.self.items ≡ Some c.make-desk.result ∷ [] = search rules in
+    let room : vec_len c.args.bells < 2 ^ 64 = search rules in
+    let few : actor_count c.args.cluster.setup < 2 ^ 64 =
+    omega (arith, room, c.requires.bells.1, c.requires.actors.0) in
+    let same : c.push_reserved.new.self.items ≡ Some c.make.result ∷ [] = search rules in
     subst
     (λ (xs : List (Option Bench)).
     Kept (opening (0 ∷ 0 ∷ 0 ∷ []) xs (newcomer c.of-setup.result.value)))
     (sym same)
-    (starts c.of-setup.result.value c.make-desk.result (search rules) (search rules)
-    (search rules) (search rules) (search rules))
+    (starts c.of-setup.result.value c.make.result (search rules) (search rules)
+    (search rules) (search rules))
 
 pub returns-in-Err-clause-err : goal.returns-in-Err-clause-err
 returns-in-Err-clause-err c =
-    let same : c.push_reserved.new.self.items ≡ Some c.make-desk.result ∷ [] = search rules in
-    let back : c.in-Err.field-0.slots.items ≡ Some c.make-desk.result ∷ [] = search rules in
-    let whole : course_of c.make-desk.result ≡ c.args.cluster = search rules in
-    c.cluster_in.ensures c.make-desk.result back ∙ whole
+    let same : c.push_reserved.new.self.items ≡ Some c.make.result ∷ [] = search rules in
+    let back : c.in-Err.field-0.slots.items ≡ Some c.make.result ∷ [] = search rules in
+    let whole : course_of c.make.result ≡ c.args.cluster = search rules in
+    c.cluster_in.ensures c.make.result back ∙ whole

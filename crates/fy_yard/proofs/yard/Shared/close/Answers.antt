@@ -7,8 +7,8 @@ use Rattle.fy_yard.specs.Yard.{Sitting, IsOf, actor_count}
 use Rattle.fy_yard.proofs.Closing.{missing, found}
 use Rattle.fy_yard.proofs.yard.Shared.close.Goals as goal
 
-pub returns-then-len-clause-err : goal.returns-then-len-clause-err
-returns-then-len-clause-err c =
+pub returns-then-len-self-clause-err : goal.returns-then-len-self-clause-err
+returns-then-len-self-clause-err c =
     (refl, missing (actor_count c.args.self.setup) c.args.seats.items (search rules))
 
 pub unreachable-requires : goal.unreachable-requires
