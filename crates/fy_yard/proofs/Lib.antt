@@ -1,7 +1,6 @@
 pub mod Journals
 pub mod Moves
 pub mod Turning
-pub mod Running
 pub mod Counting
 pub mod Closing
 pub mod Sent
