@@ -3,7 +3,8 @@
 #   make                  proves and builds the program, and leaves it at bin/faultyard
 #   make run              builds the program without its proofs, asks it about examples/c6.judge (yes, yes, no, gone), has it kill two zones and check the audit
 #   make test             all that CI runs: every proof from nothing, the wrong bodies of crates that changed, each test, and the
-#                         command-line cases
+#                         command-line cases, and swarms of a few seeds
+#   make swarm-seeds      holds the swarms of 200 seeds on each cluster file of examples/ against the rules
 #   make wrong-bodies     tries every wrong body again, which the prover has to refuse, and records those crates whose are all refused
 #   make install          puts the program into $(PREFIX)/bin; by default PREFIX is /usr/local
 #   make bench            times the program on generated inputs, beside another if BESIDE is its path; and verdicts, acts,
@@ -13,7 +14,7 @@
 PREFIX ?= /usr/local
 BUILT := crates/faultyard/out/faultyard
 
-.PHONY: build run test wrong-bodies install bench clean
+.PHONY: build run test swarm-seeds wrong-bodies install bench clean
 
 # `rt run` proves what changed, builds the program beside its crate and runs it once.
 build:
@@ -25,16 +26,21 @@ run:
 	@echo "make run: this build is not proved yet; 'make' proves it and leaves bin/faultyard"
 	@examples/first-answer
 
-# RT_JOBS has `rt ci` work on as many crates at once as there are processors, whatever it guesses of the memory that a check
-# may want. It leaves the program that it proved beside its crate, so that nothing is proved again.
+# `rt ci` leaves the program that it proved beside its crate, so that nothing is proved again.
 test:
-	RT_JOBS=$$(nproc) rt ci
+	rt ci
 	mkdir -p bin
 	cp $(BUILT) bin/faultyard
 	tests/cli/run bin/faultyard
+	tests/pipes/run bin/faultyard
+	tests/swarm/run bin/faultyard
 	tests/examples/run
 	tests/run
+	tests/refused-memory faultyard/short::
 	tests/wrong-bodies
+
+swarm-seeds: build
+	tests/swarm/run bin/faultyard --seeds 200
 
 wrong-bodies:
 	tests/wrong-bodies --all --record
@@ -44,13 +50,14 @@ install: build
 	cp bin/faultyard $(DESTDIR)$(PREFIX)/bin/faultyard
 
 # Beside the same command in plain Rust, where there is a rustc; and where BESIDE is the path of
-# another program of this command line, `run` and `check` beside its own.
+# another program of this command line, `run`, `check` and `swarm` beside its own.
 bench: build
 	if command -v rustc > /dev/null; then rustc --edition 2024 -C opt-level=3 -o bin/judge_by_hand bench/judge_by_hand.rs; fi
 	bench/judge.py bin/faultyard $$(ls bin/judge_by_hand 2> /dev/null)
 	bench/run.py bin/faultyard $(BESIDE)
 	bench/check.py bin/faultyard $(BESIDE)
 	bench/check.py --largest --rounds 1 bin/faultyard $(BESIDE)
+	bench/swarm.py bin/faultyard $(BESIDE)
 	bench/verdicts.sh
 	bench/acts.sh
 	bench/turns.sh

@@ -4,10 +4,12 @@
 // A run has to pass, or to end for want of memory of its own (an Err that says so), or to stop where it compares an answer and
 // finds want of memory in its place. Any other end is told on standard error, and fails the test. Beyond the 2,000th request,
 // or of slow tests the 100th or the 10th, only some are refused, each further on than the last by a twentieth, or of the
-// slowest by half. What came of a test is written behind the file TOLD, a line each.
+// slowest by half; of tests whose names hold ONLY none is passed over, and no other test is run so. What came of a test is
+// written behind the file TOLD, a line each.
 #define _GNU_SOURCE
 #include <errno.h>
 #include <fcntl.h>
+#include <limits.h>
 #include <signal.h>
 #include <stdio.h>
 #include <stdlib.h>
@@ -19,6 +21,10 @@
 
 #ifndef TOLD
 #error "TOLD names the file for what came of each test"
+#endif
+
+#ifndef ONLY
+#define ONLY ""
 #endif
 
 enum { SECONDS = 120, MOST_SAID = 1 << 16 };
@@ -97,7 +103,7 @@ static double seconds(void) {
 }
 
 __attribute__((constructor)) static void refuse(int count, char **words) {
-    if (count != 2 || words[1][0] == '-') {
+    if (count != 2 || words[1][0] == '-' || !strstr(words[1], ONLY)) {
         return;
     }
     static char said[MOST_SAID + 1];
@@ -108,7 +114,7 @@ __attribute__((constructor)) static void refuse(int count, char **words) {
         return;
     }
     double took = seconds() - begun;
-    unsigned long each = took < 0.05 ? 2000 : took < 1 ? 100 : 10, part = took < 1 ? 20 : 2;
+    unsigned long each = ONLY[0] ? ULONG_MAX : took < 0.05 ? 2000 : took < 1 ? 100 : 10, part = took < 1 ? 20 : 2;
     unsigned long number = 1, passed = 0, stopped = 0, failed = 0;
     for (;; number += number < each ? 1 : number / part) {
         if (run(number, &status, said)) {

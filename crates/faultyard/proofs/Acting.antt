@@ -16,7 +16,7 @@ use Rattle.fy_journal.specs.declared.version.Version.TheVariants.{Second}
 use Rattle.std.specs.Prelude.{◌≢◌, ◌<◌, Option, Some, None, IfSome, Ok, Err}
 use Rattle.faultyard.specs.RunTexts.{asked, IsAuditOf, Runs, IfRefused, IfRunRefusal, HasAudit}
 use Rattle.faultyard.specs.declared.stop.Stop.{Stop}
-use Rattle.faultyard.specs.declared.stop.Stop.TheVariants.{JudgeTooLong, JudgeLine, Config, Script, JournalFull, Audit, Read, Write, NoMemory}
+use Rattle.faultyard.specs.declared.stop.Stop.TheVariants.{JudgeTooLong, JudgeLine, Config, Script, JournalFull, Audit, SwarmClose, Read, Write, NoMemory}
 
 entered_acts : (course : Course) (by : ℕ) (act : Act) →
     map by_and_act (entered course by act).journal
@@ -79,6 +79,7 @@ is_refused setup known JudgeTooLong faulty other = tt
 is_refused setup known (JudgeLine line fault) faulty other = tt
 is_refused setup known (Config fault) faulty other = tt
 is_refused setup known (Audit fault) faulty other = tt
+is_refused setup known SwarmClose faulty other = tt
 is_refused setup known Read faulty other = tt
 is_refused setup known Write faulty other = tt
 is_refused setup known NoMemory faulty other = tt

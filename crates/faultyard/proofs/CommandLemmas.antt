@@ -1,10 +1,12 @@
 -- The words of the program that have no fault name one of its subcommands, with the cluster file
 -- where the subcommand takes one; and the matches of a parse hold both.
-use Rattle.std.proofs.Common.{rules, ◌≡◌, ◌∙◌, ◌⊎◌, ◌&&◌, not, inl, inr, Bool, true, false, List, [], Option, None, Some, codes, refl, sym, ap, subst, is_some, option_map}
-use Rattle.std.specs.Prelude.{IsSomeAnd}
+use Rattle.std.proofs.Common.{rules, arith, ◌≡◌, ◌∙◌, ◌⊎◌, ◌&&◌, not, inl, inr, ℕ, Bool, true, false, List, [], ◌∷◌, Option, None, Some, codes, refl, sym, ap, subst, is_some, option_map}
+use Rattle.std.specs.Prelude.{IsSomeAnd, Result, Ok, Err}
+use Rattle.std.specs.Str.Parse.{ParsesUnsigned}
 use Rattle.std.specs.Box.{box_value}
-use Rattle.clap.specs.Words.{App, Row, Shape, Text, app_of, built, fault_of, first_of, found_of, is_simple, is_simple_and_free, matches_of, rows_of, subcommand_name_of, subcommand_of, subcommand_rows, subcommand_rows_of}
+use Rattle.clap.specs.Words.{App, Row, Shape, Text, app_of, built, fault_of, first_of, found_of, is_simple, is_simple_and_free, matches_of, one_of, rows_of, subcommand_name_of, subcommand_of, subcommand_rows, subcommand_rows_of}
 use Rattle.clap.specs.Walk.{is_empty, nothing_held}
+use Rattle.clap.specs.Words.{ReadsOne}
 use Rattle.clap.specs.Simple.{rows_at}
 use Rattle.clap.specs.Faults.{level_fault}
 use Rattle.clap.specs.declared.builder.command.Command.{Command}
@@ -12,8 +14,10 @@ use Rattle.clap.specs.declared.builder.command.Command.TheViews.{out-Command}
 use Rattle.clap.specs.declared.parser.matches.ArgMatches.{ArgMatches}
 use Rattle.clap.specs.declared.parser.matches.ArgMatches.TheViews.{out-ArgMatches, out-SubCommand}
 use Rattle.clap.proofs.OnLiterals.{clap_on_literals}
-use Rattle.faultyard.specs.Commands.{faultyard_command}
-use Rattle.faultyard.proofs.RowLemmas.{AreFilling, Requires, required_first}
+use Rattle.clap.specs.declared.builder.value_parser.ValueParser.TheVariants.{Unsigned}
+use Rattle.clap.proofs.ValueTestLemmas.{accepts-Accepts}
+use Rattle.faultyard.specs.Commands.{faultyard_command, IsSeed, largest_seed, seed_in}
+use Rattle.faultyard.proofs.RowLemmas.{AreFilling, HasValue, Requires, required_value}
 use Rattle.faultyard.proofs.EnterLemmas.{IsIn, words_enter}
 
 -- ---- the command
@@ -40,30 +44,70 @@ plain_is_local c plain = by (is_empty (out-Command c).groups.items) (out-Command
 
 -- the subcommand takes a cluster file
 abbrev TakesConfig : Text → Type 0
-TakesConfig name = (name ≡ codes "run") ⊎ (name ≡ codes "check")
+TakesConfig name = (name ≡ codes "run") ⊎ ((name ≡ codes "check") ⊎ (name ≡ codes "swarm"))
 
 abbrev HasConfig : List Row → Type 0
 HasConfig rows = is_some (first_of (codes "CONFIG") rows) ≡ true
 
+-- the rows have a seed
+abbrev HasSeed : List Row → Type 0
+HasSeed rows = IsSomeAnd (one_of (codes "seed") rows) IsSeed
+
 -- the subcommand's name and its rows are those of a task
 abbrev pub IsTask : Text × List Row → Type 0
-IsTask met = (met.0 ≡ codes "judge") ⊎ (TakesConfig met.0 × HasConfig met.1)
+IsTask met =
+    (met.0 ≡ codes "judge")
+    ⊎ (TakesConfig met.0 × HasConfig met.1 × (met.0 ≡ codes "swarm" → HasSeed met.1))
+
+some_is_some : {A : Type 0} (o : Option A) (x : A) → o ≡ Some x → is_some o ≡ true
+some_is_some o x is = ap is_some is
 
 config_given : (s t : Shape) (words : List Text) → s ≡ t → AreFilling t.rules → Requires (codes "CONFIG") t.rules → t.subcommand_negates_reqs ≡ false
     → level_fault s [] nothing_held words false [] ≡ [] → HasConfig (rows_at s words).1
 config_given s t words is fills wanted negates none =
-    subst (λ u. HasConfig (rows_at u words).1) (sym is)
-    (required_first t [] words [] (codes "CONFIG") fills wanted negates (subst (λ u. level_fault u [] nothing_held words false [] ≡ []) is none))
+    let value = required_value t [] words [] (codes "CONFIG") fills wanted negates (subst (λ u. level_fault u [] nothing_held words false [] ≡ []) is none) in
+    subst (λ u. HasConfig (rows_at u words).1) (sym is) (some_is_some _ _ value.1)
+
+seed_of_value : (rows : List Row) → HasValue (codes "seed") rows → HasSeed rows
+seed_of_value rows value =
+    subst (λ o. IsSomeAnd o IsSeed) (sym value.2) (accepts-Accepts false (Unsigned 0 largest_seed) value.0 value.3)
+
+seed_given : (s t : Shape) (words : List Text) → s ≡ t → AreFilling t.rules → Requires (codes "seed") t.rules → t.subcommand_negates_reqs ≡ false
+    → level_fault s [] nothing_held words false [] ≡ [] → HasSeed (rows_at s words).1
+seed_given s t words is fills wanted negates none =
+    let value = required_value t [] words [] (codes "seed") fills wanted negates (subst (λ u. level_fault u [] nothing_held words false [] ≡ []) is none) in
+    subst (λ u. HasSeed (rows_at u words).1) (sym is) (seed_of_value (rows_at t words).1 value)
+
+-- the first letter of a name
+abbrev first_letter : Text → ℕ
+first_letter [] = 0
+first_letter (x ∷ xs) = x
+
+no_swarm : (name other : Text) → name ≡ other → (first_letter other ≡ 115 → ⊥) → name ≡ codes "swarm" → ⊥
+no_swarm name other is differs swarm = differs (ap first_letter (sym is) ∙ ap first_letter swarm)
 
 known_task : (s : Shape) (words : List Text) → IsIn s (built faultyard_command).subs → (s.name ≡ codes "help" → s.aliases ≡ [] → ⊥) → level_fault s [] nothing_held words false [] ≡ []
     → IsTask (rows_at s words)
 known_task s words known other none =
     elim known [
       | inl judge ↦ inl (ap (λ t. t.name) judge)
-      | inr (inl run) ↦ inr (inl (ap (λ t. t.name) run), config_given s _ words run refl (inl (refl, refl)) refl none)
-      | inr (inr (inl check)) ↦ inr (inr (ap (λ t. t.name) check), config_given s _ words check refl (inl (refl, refl)) refl none)
-      | inr (inr (inr (inl help))) ↦ absurd (other (ap (λ t. t.name) help) (ap (λ t. t.aliases) help))
-      | inr (inr (inr (inr none))) ↦ absurd none
+      | inr (inl run) ↦ inr (
+        inl (ap (λ t. t.name) run),
+        config_given s _ words run ((refl, refl, refl), ((refl, refl, refl), tt)) (inl (refl, refl)) refl none,
+        λ swarm. absurd (no_swarm s.name (codes "run") (ap (λ t. t.name) run) (λ e. omega arith) swarm),
+      )
+      | inr (inr (inl check)) ↦ inr (
+        inr (inl (ap (λ t. t.name) check)),
+        config_given s _ words check ((refl, refl, refl), ((refl, refl, refl), tt)) (inl (refl, refl)) refl none,
+        λ swarm. absurd (no_swarm s.name (codes "check") (ap (λ t. t.name) check) (λ e. omega arith) swarm),
+      )
+      | inr (inr (inr (inl swarm))) ↦ inr (
+        inr (inr (ap (λ t. t.name) swarm)),
+        config_given s _ words swarm ((refl, refl, refl), ((refl, refl, refl), ((refl, refl, refl), tt))) (inl (refl, refl)) refl none,
+        λ is. seed_given s _ words swarm ((refl, refl, refl), ((refl, refl, refl), ((refl, refl, refl), tt))) (inr (inl (refl, refl))) refl none,
+      )
+      | inr (inr (inr (inr (inl help)))) ↦ absurd (other (ap (λ t. t.name) help) (ap (λ t. t.aliases) help))
+      | inr (inr (inr (inr (inr none)))) ↦ absurd none
     ]
 
 meets_task : (words : List Text) → fault_of faultyard_command words ≡ [] → IsSomeAnd (subcommand_of faultyard_command words) IsTask
@@ -99,3 +143,16 @@ met_task command words m name given is none rows named held =
 -- and so one that is not `judge` has its cluster file
 pub has_config : (name : Text) (given : ArgMatches) → (name ≡ codes "judge" → ⊥) → IsTask (name, rows_of (found_of given)) → is_some (first_of (codes "CONFIG") (rows_of (found_of given))) ≡ true
 has_config name given other task = elim task [ inl judge ↦ absurd (other judge) | inr has ↦ has.1 ]
+
+-- and `swarm` has its seed
+pub has_seed : (name : Text) (given : ArgMatches) → name ≡ codes "swarm" → IsTask (name, rows_of (found_of given)) → IsSomeAnd (one_of (codes "seed") (rows_of (found_of given))) IsSeed
+has_seed name given is task = elim task [ inl judge ↦ absurd (no_swarm name (codes "judge") judge (λ e. omega arith) is) | inr has ↦ has.2 is ]
+
+-- what `u64` makes of a text that is a seed, by how its reader reads
+pub seed_read : {E : Type 0} (gives : List ℕ → Result ℕ E → Type 0) (o : Option Text) (r : Option ℕ) → IsSomeAnd o IsSeed → ((t : Text) → o ≡ Some t → ReadsOne gives t r)
+    → ((t : Text) (x : Result ℕ E) → gives t x → ParsesUnsigned 64 10 t x) → (seed : ℕ) × (r ≡ Some seed) × (option_map seed_in o ≡ Some seed)
+seed_read gives None r is reads parses = absurd is
+seed_read gives (Some t) None is reads parses =
+    let refused = reads t refl in
+    absurd (parses t (Err refused.0) refused.1 (is.0, is.1))
+seed_read gives (Some t) (Some seed) is reads parses = (seed, refl, ap Some (sym (parses t (Ok seed) (reads t refl)).1))

@@ -8,6 +8,9 @@ pub mod InputLemmas
 pub mod LineLemmas
 pub mod Loading
 pub mod Moving
+pub mod Playing
+pub mod Casting
+pub mod Swarming
 pub mod WordLemmas
 pub mod StepOnce
 pub mod JudgeOnce

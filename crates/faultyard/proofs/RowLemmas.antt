@@ -1,25 +1,30 @@
--- What the words of a command leave where they have no fault, for any command: each row of the
--- matches has a value, and so has each argument that is required.
-use Rattle.std.proofs.Common.{rules, arith, length, ◌≡◌, ◌⊎◌, ◌&&◌, ◌||◌, not, inl, inr, ℕ, zero, suc, Bool, true, false, List, [], ◌∷◌, ◌++◌, Option, None, Some, refl, sym, ap, subst, is_some, fold, drop}
-use Rattle.std.specs.Prelude.{if◌then◌else◌, find, nat_lt, option_and_then, encode_utf8, slice_get}
+-- What the words of a command leave where they have no fault: each row of the matches has a value
+-- that its parser passes, and so has each argument that is required.
+use Rattle.std.proofs.Common.{rules, arith, length, ◌≡◌, ◌∙◌, ◌⊎◌, ◌&&◌, ◌||◌, not, inl, inr, ℕ, zero, suc, Bool, true, false, List, [], ◌∷◌, ◌++◌, Option, None, Some, codes, refl, sym, ap, subst, ne_eqb, is_some, fold, drop}
+use Rattle.std.specs.Prelude.{if◌then◌else◌, find, nat_lt, option_and_then, option_map, encode_utf8, slice_get}
 use Rattle.std.specs.Option.{option_map_or}
 use Rattle.std.specs.List.{list_all, list_any}
 use Rattle.std.specs.Str.{bytes_eq, chars}
-use Rattle.clap.specs.Words.{Row, Rule, Text, Shape, first_of}
-use Rattle.clap.specs.Walk.{Held, Names, Outcome, Step, Waiting, Walk, action_of, after_flag, after_step, arg_by_id, arg_by_index, arg_by_long, arg_by_short, at_row, attached_value, bundle, bundle_met, bundle_step, default_rows, done, finished, flag_met, has_row, idle, is_empty, is_pending, long_met, long_or_other, more_values, most_values, next, nothing_held, option, option_met, option_word, plain, plain_word, positional, positional_held, reacted, reading_by, refused, settled, settled_rows, short_met, short_or_plain, subcommand, subcommand_met, subcommand_or_other, takes_several, takes_values, to_positional, trailing, used, used_as, used_by_id, value, values_or_missing, waits, walk, walk_from, walked, walked_from, with_default, with_values, without, word_met}
+use Rattle.std.proofs.lemmas.Slice.Eq.{bytes_eq-Decides}
+use Rattle.clap.specs.Words.{Row, Rule, Text, Shape, first_of, one_of}
+use Rattle.clap.specs.Walk.{Held, Names, Outcome, Step, Waiting, Walk, action_of, after_flag, after_step, arg_by_id, arg_by_index, arg_by_long, arg_by_short, at_row, attached_value, bundle, bundle_met, bundle_step, default_rows, done, finished, flag_met, has_row, idle, is_empty, is_pending, long_met, long_or_other, more_values, most_values, next, nothing_held, option, option_met, option_word, plain, plain_word, positional, positional_held, reacted, reading_by, refused, row_text, settled, settled_rows, short_met, short_or_plain, subcommand, subcommand_met, subcommand_or_other, takes_several, takes_values, to_positional, trailing, used, used_as, used_by_id, value, values_or_missing, waits, walk, walk_from, walked, walked_from, with_default, with_values, without, word_met}
 use Rattle.clap.specs.Lexer.{long_of, short_of}
-use Rattle.clap.specs.Facts.{explicit_source, unwrap_or_range}
+use Rattle.clap.specs.Facts.{explicit_source, parser_of_value, unwrap_or_range}
 use Rattle.clap.specs.Takes.{is_given}
-use Rattle.clap.specs.Values.{is_request}
-use Rattle.clap.specs.Kinds.{Kinds, check_kinds, or_else, range_kinds}
-use Rattle.clap.specs.Faults.{bundle_fault, bundle_step_fault, check_fault, defaults_fault, flag_word_fault, flags_fault, level_fault, long_fault, option_fault, other_fault, positional_fault, react_fault, settle_fault, short_fault, step_fault, stray_fault, turn_fault, use_fault, walk_fault, word_fault}
+use Rattle.clap.specs.Values.{is_request, read_as, reading_of, refused_kind}
+use Rattle.clap.specs.ValueTests.{accepts}
+use Rattle.clap.specs.Kinds.{Kinds, check_kinds, or_else, range_kinds, request_kinds, values_kinds}
+use Rattle.clap.specs.Faults.{action_fault, bundle_fault, bundle_step_fault, check_fault, default_fault, defaults_fault, flag_word_fault, flags_fault, level_fault, long_fault, option_fault, other_fault, positional_fault, react_fault, repeat_fault, settle_fault, short_fault, step_fault, stray_fault, turn_fault, use_fault, walk_fault, word_fault}
 use Rattle.clap.specs.declared.builder.action.ArgAction.{ArgAction}
 use Rattle.clap.specs.declared.builder.action.ArgAction.TheVariants as action
 use Rattle.clap.specs.declared.builder.value_parser.Reading.{Reading}
+use Rattle.clap.specs.declared.builder.value_parser.ValueParser.{ValueParser}
+use Rattle.clap.specs.declared.builder.value_parser.ValueParser.TheVariants.{String, Unsigned}
 use Rattle.clap.specs.declared.parser.matches.ValueSource.{ValueSource}
 use Rattle.clap.specs.declared.parser.matches.ValueSource.TheVariants.{DefaultValue, CommandLine}
 use Rattle.clap.specs.declared.error.kind.ErrorKind.{ErrorKind}
 use Rattle.clap.specs.declared.error.kind.ErrorKind.TheVariants.{InvalidValue, TooManyValues}
+use Rattle.faultyard.specs.Commands.{largest_seed}
 
 pub some_kinds : (k : ErrorKind) (ks : Kinds) → k ∷ ks ≡ [] → ⊥
 some_kinds k ks none = let bad : length (k ∷ ks) ≡ 0 = ap length none in omega arith
@@ -34,38 +39,65 @@ abbrev HasText : List Text → Type 0
 HasText [] = ⊥
 HasText (v ∷ vs) = Unit {0}
 
+-- the parser of an argument, by its id
+abbrev pub parser_for : Text → ValueParser
+parser_for id = if bytes_eq id (codes "seed") then Unsigned 0 largest_seed else String
+
+-- the parser passes each of these
+abbrev pub PassAll : ValueParser → List Text → Type 0
+PassAll p [] = Unit {0}
+PassAll p (v ∷ vs) = (accepts false p v ≡ true) × PassAll p vs
+
+-- a row with a value, whose values its parser passes and reads
+abbrev pub IsFilled : Row → Type 0
+IsFilled r =
+    HasText r.values × PassAll (parser_for r.id) r.values
+    × (r.reading ≡ reading_of (parser_for r.id))
+
 abbrev pub AreFilled : List Row → Type 0
 AreFilled [] = Unit {0}
-AreFilled (r ∷ rs) = HasText r.values × AreFilled rs
+AreFilled (r ∷ rs) = IsFilled r × AreFilled rs
 
 filled_append : (xs ys : List Row) → AreFilled xs → AreFilled ys → AreFilled (xs ++ ys)
 filled_append [] ys here there = there
 filled_append (x ∷ xs) ys here there = (here.0, filled_append xs ys here.1 there)
 
-filled_at : (id : Text) (change : Row → List Row) (missing rows : List Row) → ((r : Row) → HasText r.values → AreFilled (change r)) → AreFilled missing → AreFilled rows
+filled_at : (id : Text) (change : Row → List Row) (missing rows : List Row) → ((r : Row) → r.id ≡ id → IsFilled r → AreFilled (change r)) → AreFilled missing → AreFilled rows
     → AreFilled (at_row id change missing rows)
 filled_at id change missing [] changed none filled = none
-filled_at id change missing (r ∷ rs) changed none filled = by (bytes_eq r.id id) (filled_at id change missing rs changed none filled.1)
+filled_at id change missing (r ∷ rs) changed none filled = by (bytes_eq r.id id) refl (filled_at id change missing rs changed none filled.1)
   where
-    by : (b : Bool) → AreFilled (at_row id change missing rs) → AreFilled (if b then change r ++ rs else r ∷ at_row id change missing rs)
-    by true rest = filled_append (change r) rs (changed r filled.0) filled.1
-    by false rest = (filled.0, rest)
+    by : (b : Bool) → bytes_eq r.id id ≡ b → AreFilled (at_row id change missing rs) → AreFilled (if b then change r ++ rs else r ∷ at_row id change missing rs)
+    by true is rest = filled_append (change r) rs (changed r ((bytes_eq-Decides r.id id).0 is) filled.0) filled.1
+    by false is rest = (filled.0, rest)
 
 append_some : (xs : List Text) (v : Text) (vs : List Text) → HasText (xs ++ v ∷ vs)
 append_some [] v vs = tt
 append_some (x ∷ xs) v vs = tt
 
-with_values_filled : (id : Text) (how : Reading) (s : ValueSource) (v : Text) (vs : List Text) (rows : List Row) → AreFilled rows → AreFilled (with_values id how s (v ∷ vs) rows)
-with_values_filled id how s v vs rows filled = filled_at id (more_values s (v ∷ vs)) _ rows (λ r has. (append_some r.values v vs, tt)) (tt, tt) filled
+append_pass : (p : ValueParser) (xs ys : List Text) → PassAll p xs → PassAll p ys → PassAll p (xs ++ ys)
+append_pass p [] ys here there = there
+append_pass p (x ∷ xs) ys here there = (here.0, append_pass p xs ys here.1 there)
+
+with_values_filled : (id : Text) (how : Reading) (s : ValueSource) (v : Text) (vs : List Text) (rows : List Row) → how ≡ reading_of (parser_for id) → PassAll (parser_for id) (v ∷ vs) → AreFilled rows
+    → AreFilled (with_values id how s (v ∷ vs) rows)
+with_values_filled id how s v vs rows reads passed filled =
+    filled_at id (more_values s (v ∷ vs)) _ rows
+    (λ r is has. ((append_some r.values v vs, append_pass (parser_for r.id) r.values (v ∷ vs) has.1 (subst (λ (t : Text). PassAll (parser_for t) (v ∷ vs)) (sym is) passed), has.2), tt))
+    ((tt, passed, reads), tt) filled
 
 without_filled : (id : Text) (rows : List Row) → AreFilled rows → AreFilled (without id rows)
-without_filled id rows filled = filled_at id (λ r. []) [] rows (λ r has. tt) tt filled
+without_filled id rows filled = filled_at id (λ r. []) [] rows (λ r is has. tt) tt filled
 
 -- ---- one use of an argument
 
 -- a use of the argument has a value, or asks for help or the version
 abbrev pub is_filling : Rule → Bool
 is_filling a = is_request (action_of a) || (nat_lt 0 (unwrap_or_range a.range).start_inclusive || not (is_empty a.missing))
+
+-- it is so, and the argument has the parser of its id
+abbrev pub Fills : Rule → Type 0
+Fills a = (is_filling a ≡ true) × (a.ignore_case ≡ false) × (parser_of_value a.parser ≡ parser_for a.id)
 
 no_values : (least most : ℕ) → nat_lt 0 least ≡ true → range_kinds least most 0 ≡ [] → ⊥
 no_values least most wants none = some_kinds InvalidValue [] (rw wants at none)
@@ -80,20 +112,44 @@ given_values a [] fills none = by (nat_lt 0 (unwrap_or_range a.range).start_incl
     by false (v ∷ vs) wants fills = tt
     by false [] wants fills = let bad : false ≡ true = fills in absurd (search rules)
 
-used_given : (x : ArgAction) (id : Text) (how : Reading) (v : Text) (vs : List Text) (rows : List Row) → AreFilled rows → AreFilled (used_as x id how (v ∷ vs) rows)
-used_given action.Set id how v vs rows filled = with_values_filled id how CommandLine v vs (without id rows) (without_filled id rows filled)
-used_given action.SetTrue id how v vs rows filled = with_values_filled id how CommandLine v vs (without id rows) (without_filled id rows filled)
-used_given action.SetFalse id how v vs rows filled = with_values_filled id how CommandLine v vs (without id rows) (without_filled id rows filled)
-used_given action.Append id how v vs rows filled = with_values_filled id how CommandLine v vs rows filled
-used_given action.Count id how v vs rows filled = with_values_filled id how CommandLine v vs (without id rows) (without_filled id rows filled)
-used_given action.Help id how v vs rows filled = filled
-used_given action.HelpShort id how v vs rows filled = filled
-used_given action.HelpLong id how v vs rows filled = filled
-used_given action.Version id how v vs rows filled = filled
+-- values that have no fault pass
+all_pass : (p : ValueParser) (values : List Text) → values_kinds false p values ≡ [] → PassAll p values
+all_pass p [] none = tt
+all_pass p (v ∷ vs) none =
+    let parts = or_else_none _ (values_kinds false p vs) none in
+    (by (accepts false p v) (refused_kind p) parts.0, all_pass p vs parts.1)
+  where
+    by : (b : Bool) (k : ErrorKind) → (if b then [] else k ∷ []) ≡ [] → b ≡ true
+    by true k none = refl
+    by false k none = absurd (some_kinds k [] none)
 
-used_some : (x : ArgAction) (id : Text) (how : Reading) (values : List Text) (rows : List Row) → HasText values → AreFilled rows → AreFilled (used_as x id how values rows)
-used_some x id how (v ∷ vs) rows some filled = used_given x id how v vs rows filled
-used_some x id how [] rows some filled = absurd some
+rule_passes : (a : Rule) (values : List Text) → a.ignore_case ≡ false → parser_of_value a.parser ≡ parser_for a.id → values_kinds a.ignore_case (parser_of_value a.parser) values ≡ []
+    → PassAll (parser_for a.id) values
+rule_passes a values case parser none =
+    all_pass (parser_for a.id) values
+    (subst (λ (b : Bool). values_kinds b (parser_for a.id) values ≡ []) case (subst (λ (p : ValueParser). values_kinds a.ignore_case p values ≡ []) parser none))
+
+set_filled : (again : Bool) (a : Rule) (v : Text) (vs : List Text) (rows : List Row) → Fills a → values_kinds a.ignore_case (parser_of_value a.parser) (v ∷ vs) ≡ [] → AreFilled rows
+    → AreFilled (with_values a.id (reading_by a) CommandLine (v ∷ vs) rows)
+set_filled again a v vs rows fills none filled =
+    with_values_filled a.id (reading_by a) CommandLine v vs rows (ap reading_of fills.2) (rule_passes a (v ∷ vs) fills.1 fills.2 none) filled
+
+used_given : (x : ArgAction) (again : Bool) (a : Rule) (v : Text) (vs : List Text) (rows : List Row) → Fills a → action_fault x again a (v ∷ vs) rows ≡ [] → AreFilled rows
+    → AreFilled (used_as x a.id (reading_by a) (v ∷ vs) rows)
+used_given action.Set again a v vs rows fills none filled = set_filled again a v vs (without a.id rows) fills (or_else_none (repeat_fault again a.id rows) _ none).1 (without_filled a.id rows filled)
+used_given action.SetTrue again a v vs rows fills none filled = set_filled again a v vs (without a.id rows) fills (or_else_none (repeat_fault again a.id rows) _ none).1 (without_filled a.id rows filled)
+used_given action.SetFalse again a v vs rows fills none filled = set_filled again a v vs (without a.id rows) fills (or_else_none (repeat_fault again a.id rows) _ none).1 (without_filled a.id rows filled)
+used_given action.Append again a v vs rows fills none filled = set_filled again a v vs rows fills none filled
+used_given action.Count again a v vs rows fills none filled = set_filled again a v vs (without a.id rows) fills none (without_filled a.id rows filled)
+used_given action.Help again a v vs rows fills none filled = filled
+used_given action.HelpShort again a v vs rows fills none filled = filled
+used_given action.HelpLong again a v vs rows fills none filled = filled
+used_given action.Version again a v vs rows fills none filled = filled
+
+used_some : (x : ArgAction) (again : Bool) (a : Rule) (values : List Text) (rows : List Row) → Fills a → action_fault x again a values rows ≡ [] → HasText values → AreFilled rows
+    → AreFilled (used_as x a.id (reading_by a) values rows)
+used_some x again a (v ∷ vs) rows fills none some filled = used_given x again a v vs rows fills none filled
+used_some x again a [] rows fills none some filled = absurd some
 
 asked : (x : ArgAction) (id : Text) (how : Reading) (values : List Text) (rows : List Row) → is_request x ≡ true → used_as x id how values rows ≡ rows
 asked action.Help id how values rows is = refl
@@ -106,33 +162,30 @@ asked action.SetFalse id how values rows is = let bad : false ≡ true = is in a
 asked action.Append id how values rows is = let bad : false ≡ true = is in absurd (search rules)
 asked action.Count id how values rows is = let bad : false ≡ true = is in absurd (search rules)
 
-used_filled : (again : Bool) (a : Rule) (values : List Text) (rows : List Row) → is_filling a ≡ true → use_fault again a values rows ≡ [] → AreFilled rows → AreFilled (used a values rows)
-used_filled again a values rows fills none filled = by (is_request (action_of a)) refl fills
+used_filled : (again : Bool) (a : Rule) (values : List Text) (rows : List Row) → Fills a → use_fault again a values rows ≡ [] → AreFilled rows → AreFilled (used a values rows)
+used_filled again a values rows fills none filled = by (is_request (action_of a)) refl fills.0
   where
     by : (b : Bool) → is_request (action_of a) ≡ b → (b || (nat_lt 0 (unwrap_or_range a.range).start_inclusive || not (is_empty a.missing))) ≡ true → AreFilled (used a values rows)
     by true is fills = subst AreFilled (sym (asked (action_of a) a.id (reading_by a) (values_or_missing a values) rows is)) filled
-    by false is fills = used_some (action_of a) a.id (reading_by a) (values_or_missing a values) rows (given_values a values fills (or_else_none _ _ none).0) filled
+    by false is wants =
+        let parts = or_else_none (range_kinds (unwrap_or_range a.range).start_inclusive (most_values a) (length values)) _ none in
+        used_some (action_of a) again a (values_or_missing a values) rows fills parts.1 (given_values a values wants parts.0) filled
 
 -- ---- the walk
 
 abbrev pub AreFilling : List Rule → Type 0
-AreFilling c = list_all is_filling c ≡ true
+AreFilling [] = Unit {0}
+AreFilling (a ∷ rest) = Fills a × AreFilling rest
 
 abbrev FillsIf : Option Rule → Type 0
 FillsIf None = Unit {0}
-FillsIf (Some a) = is_filling a ≡ true
-
-both_true : (p q : Bool) → (p && q) ≡ true → (p ≡ true) × (q ≡ true)
-both_true true q both = (refl, both)
-both_true false q both = let bad : false ≡ true = both in absurd (search rules)
+FillsIf (Some a) = Fills a
 
 found_fills : (p : Rule → Bool) (c : List Rule) → AreFilling c → FillsIf (find p c)
 found_fills p [] fills = tt
-found_fills p (a ∷ rest) fills =
-    let parts = both_true (is_filling a) (list_all is_filling rest) fills in
-    by (p a) (found_fills p rest parts.1) parts.0
+found_fills p (a ∷ rest) fills = by (p a) (found_fills p rest fills.1) fills.0
   where
-    by : (b : Bool) → FillsIf (find p rest) → is_filling a ≡ true → FillsIf (if b then Some a else find p rest)
+    by : (b : Bool) → FillsIf (find p rest) → Fills a → FillsIf (if b then Some a else find p rest)
     by true there here = here
     by false there here = there
 
@@ -148,13 +201,13 @@ settled_filled c again h fills none filled = by h.pending none
     by None none = filled
     by (Some p) none = by_id_filled again (arg_by_id c p.0) p.1 h.rows (found_fills _ c fills) none filled
 
-reacted_filled : (c : List Rule) (again : Bool) (a : Rule) (values : List Text) (h : Held) → AreFilling c → is_filling a ≡ true → react_fault c again a values h ≡ [] → AreFilled h.rows
+reacted_filled : (c : List Rule) (again : Bool) (a : Rule) (values : List Text) (h : Held) → AreFilling c → Fills a → react_fault c again a values h ≡ [] → AreFilled h.rows
     → AreFilled (reacted c a values h).rows
 reacted_filled c again a values h fills here none filled =
     let parts = or_else_none (settle_fault c again h) _ none in
     used_filled again a values (settled c h).rows here parts.1 (settled_filled c again h fills parts.0 filled)
 
-option_filled : (c : List Rule) (again : Bool) (a : Rule) (given : Option Text) (h : Held) → AreFilling c → is_filling a ≡ true → option_fault c again a given h ≡ [] → AreFilled h.rows
+option_filled : (c : List Rule) (again : Bool) (a : Rule) (given : Option Text) (h : Held) → AreFilling c → Fills a → option_fault c again a given h ≡ [] → AreFilled h.rows
     → AreFilled (option_met c a given h).0.rows
 option_filled c again a (Some v) h fills here none filled = reacted_filled c again a (v ∷ []) h fills here none filled
 option_filled c again a None h fills here none filled = settled_filled c again h fills none filled
@@ -277,17 +330,28 @@ walk_filled s names fills (word ∷ rest) w none filled =
 
 -- ---- after the walk
 
-default_filled : (a : Rule) (rows : List Row) → AreFilled rows → AreFilled (with_default rows a)
-default_filled a rows filled = by (has_row a.id rows) a.defaults
-  where
-    by : (b : Bool) (values : List Text) → AreFilled (if b then rows else default_rows a.id (reading_by a) values rows)
-    by true values = filled
-    by false [] = filled
-    by false (v ∷ vs) = with_values_filled a.id (reading_by a) DefaultValue v vs rows filled
+not_empty : (v : Text) (vs : List Text) → is_empty (v ∷ vs) ≡ false
+not_empty v vs = ne_eqb (length (v ∷ vs)) 0 (λ e. omega (arith, e))
 
-defaults_filled : (c : List Rule) (rows : List Row) → AreFilled rows → AreFilled (fold with_default rows c)
-defaults_filled [] rows filled = filled
-defaults_filled (a ∷ rest) rows filled = defaults_filled rest (with_default rows a) (default_filled a rows filled)
+default_filled : (a : Rule) (rows : List Row) → Fills a → default_fault rows a ≡ [] → AreFilled rows → AreFilled (with_default rows a)
+default_filled a rows fills none filled = by (has_row a.id rows) a.defaults none
+  where
+    by : (b : Bool) (values : List Text) → (if b || is_empty values then [] else or_else (request_kinds (action_of a)) (values_kinds a.ignore_case (parser_of_value a.parser) values)) ≡ []
+        → AreFilled (if b then rows else default_rows a.id (reading_by a) values rows)
+    by true values none = filled
+    by false [] none = filled
+    by false (v ∷ vs) none =
+        let some : or_else (request_kinds (action_of a)) (values_kinds a.ignore_case (parser_of_value a.parser) (v ∷ vs)) ≡ [] =
+        subst (λ (b : Bool). (if b then [] else or_else (request_kinds (action_of a)) (values_kinds a.ignore_case (parser_of_value a.parser) (v ∷ vs))) ≡ []) (not_empty v vs) none in
+        with_values_filled a.id (reading_by a) DefaultValue v vs rows (ap reading_of fills.2)
+        (rule_passes a (v ∷ vs) fills.1 fills.2 (or_else_none (request_kinds (action_of a)) _ some).1) filled
+
+defaults_filled : (c : List Rule) (rows : List Row) → AreFilling c → defaults_fault rows c ≡ [] → AreFilled rows → AreFilled (fold with_default rows c)
+unfolding defaults_fault
+defaults_filled [] rows fills none filled = filled
+defaults_filled (a ∷ rest) rows fills none filled =
+    let parts = or_else_none (default_fault rows a) _ none in
+    defaults_filled rest (with_default rows a) fills.1 parts.1 (default_filled a rows fills.0 parts.0 filled)
 
 -- the rows of a level whose words have no fault have a value each, and pass the last check
 pub level_filled : (s : Shape) (names : Names) (words : List Text) (has_subcommand : Bool) (below : Kinds) → AreFilling s.rules → level_fault s names nothing_held words has_subcommand below ≡ []
@@ -300,7 +364,7 @@ level_filled s names words has_subcommand below fills none =
     let settling = or_else_none (settle_fault s.rules s.args_override_self ended.held) _ entering.1 in
     let filling = or_else_none (defaults_fault (settled s.rules ended.held).rows s.rules) _ settling.1 in
     let rows = walk_filled s names fills words (walk_from nothing_held) walking.0 tt in
-    (defaults_filled s.rules (settled s.rules ended.held).rows (settled_filled s.rules s.args_override_self ended.held fills settling.0 rows), filling.1)
+    (defaults_filled s.rules (settled s.rules ended.held).rows fills filling.0 (settled_filled s.rules s.args_override_self ended.held fills settling.0 rows), filling.1)
 
 -- ---- what is required
 
@@ -333,25 +397,39 @@ given_if rows (a ∷ rest) id wanted none =
     by true false is none = let bad : true ≡ false = none in absurd (search rules)
     by false false is none = is
 
-has_first : (id : Text) (rows : List Row) → AreFilled rows → is_given id rows ≡ true → is_some (first_of id rows) ≡ true
-has_first id [] filled given = let bad : false ≡ true = given in absurd (search rules)
-has_first id (r ∷ rs) filled given = by (bytes_eq r.id id) (has_first id rs filled.1) given
-  where
-    some : (values : List Text) → HasText values → is_some (slice_get values 0) ≡ true
-    some [] has = absurd has
-    some (v ∷ vs) has = refl
+-- the rows have a value of the id, which its parser passes and reads
+abbrev pub HasValue : Text → List Row → Type 0
+HasValue id rows =
+    (v : Text) × (first_of id rows ≡ Some v)
+    × (one_of id rows ≡ Some (read_as (reading_of (parser_for id)) v))
+    × (accepts false (parser_for id) v ≡ true)
 
-    by : (b : Bool) → (is_given id rs ≡ true → is_some (first_of id rs) ≡ true) → option_map_or (λ q. explicit_source q.source) (if b then Some r else find (λ q. bytes_eq q.id id) rs) false ≡ true
-        → is_some (option_and_then (λ q. slice_get q.values 0) (if b then Some r else find (λ q. bytes_eq q.id id) rs)) ≡ true
-    by true rest given = some r.values filled.0
-    by false rest given = rest given
+has_value : (id : Text) (rows : List Row) → AreFilled rows → is_given id rows ≡ true → HasValue id rows
+has_value id [] filled given = let bad : false ≡ true = given in absurd (search rules)
+has_value id (r ∷ rs) filled given = by (bytes_eq r.id id) refl (has_value id rs filled.1) given
+  where
+    first : (r : Row) → IsFilled r → r.id ≡ id
+        → (v : Text) × (slice_get r.values 0 ≡ Some v) × (row_text r ≡ Some (read_as (reading_of (parser_for id)) v)) × (accepts false (parser_for id) v ≡ true)
+    first r has same = of r.values refl has.0 (subst (λ (t : Text). PassAll (parser_for t) r.values) same has.1) (has.2 ∙ ap (λ (t : Text). reading_of (parser_for t)) same)
+      where
+        of : (values : List Text) → r.values ≡ values → HasText values → PassAll (parser_for id) values → r.reading ≡ reading_of (parser_for id)
+            → (v : Text) × (slice_get values 0 ≡ Some v) × (option_map (read_as r.reading) (slice_get values 0) ≡ Some (read_as (reading_of (parser_for id)) v)) × (accepts false (parser_for id) v ≡ true)
+        of [] is some passed reads = absurd some
+        of (v ∷ vs) is some passed reads = (v, refl, ap (λ (how : Reading). Some (read_as how v)) reads, passed.0)
+
+    by : (b : Bool) → bytes_eq r.id id ≡ b → (is_given id rs ≡ true → HasValue id rs)
+        → option_map_or (λ q. explicit_source q.source) (if b then Some r else find (λ q. bytes_eq q.id id) rs) false ≡ true
+        → (v : Text) × (option_and_then (λ q. slice_get q.values 0) (if b then Some r else find (λ q. bytes_eq q.id id) rs) ≡ Some v)
+        × (option_and_then row_text (if b then Some r else find (λ q. bytes_eq q.id id) rs) ≡ Some (read_as (reading_of (parser_for id)) v)) × (accepts false (parser_for id) v ≡ true)
+    by true is rest given = first r filled.0 ((bytes_eq-Decides r.id id).0 is)
+    by false is rest given = rest given
 
 -- a required argument of a command without a subcommand, whose words have no fault, has a value
-pub required_first : (s : Shape) (names : Names) (words : List Text) (below : Kinds) (id : Text) → AreFilling s.rules → Requires id s.rules → s.subcommand_negates_reqs ≡ false
-    → level_fault s names nothing_held words false below ≡ [] → is_some (first_of id (finished s.rules (walk s.rules names nothing_held words).held)) ≡ true
-required_first s names words below id fills wanted negates none =
+pub required_value : (s : Shape) (names : Names) (words : List Text) (below : Kinds) (id : Text) → AreFilling s.rules → Requires id s.rules → s.subcommand_negates_reqs ≡ false
+    → level_fault s names nothing_held words false below ≡ [] → HasValue id (finished s.rules (walk s.rules names nothing_held words).held)
+required_value s names words below id fills wanted negates none =
     let rows = finished s.rules (walk s.rules names nothing_held words).held in
     let level = level_filled s names words false below fills none in
     let all : list_any (λ a. a.required && not (is_given a.id rows)) s.rules ≡ false =
     subst (λ b. (not (b && false) && list_any (λ a. a.required && not (is_given a.id rows)) s.rules) ≡ false) negates (no_argument_wanted _ _ _ level.1) in
-    has_first id rows level.0 (given_if rows s.rules id wanted all)
+    has_value id rows level.0 (given_if rows s.rules id wanted all)

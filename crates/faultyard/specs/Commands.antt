@@ -1,10 +1,12 @@
 -- The program's command line: one level of subcommands, of which one is wanted.
-use Rattle.std.specs.Prelude.{◌≡◌, true, List, Option, Some, IsSomeAnd, codes}
-use Rattle.clap.specs.Words.{App, Row, Rule, Text, first_of, new_app, new_rule, with_rule}
-use Rattle.clap.specs.Words.{with_subcommand}
+use Rattle.std.specs.Prelude.{◌≡◌, ℕ, true, List, Option, Some, IsSomeAnd, codes, option_map}
+use Rattle.std.specs.Str.Parse.{digits_value, without_leading_plus}
+use Rattle.clap.specs.Words.{App, IsUnsignedIn, Row, Rule, Text, first_of, one_of, new_app}
+use Rattle.clap.specs.Words.{new_rule, with_rule, with_subcommand}
 use Rattle.clap.specs.declared.builder.action.ArgAction.TheVariants.{Set}
+use Rattle.clap.specs.declared.builder.value_parser.ValueParser.TheVariants.{Unsigned}
 use Rattle.faultyard.specs.declared.task.Task.{Task}
-use Rattle.faultyard.specs.declared.task.Task.TheVariants.{Judge, Run, Check}
+use Rattle.faultyard.specs.declared.task.Task.TheVariants.{Judge, Run, Check, Swarm}
 
 -- `faultyard` without its subcommands, of which it wants one; it has a version
 abbrev pub bare_command : App
@@ -15,6 +17,20 @@ bare_command =
 -- the word that names a cluster file, which has to be there
 abbrev pub config_rule : Rule
 config_rule = record (new_rule (codes "CONFIG")) { action = Some Set; required = true }
+
+-- the largest number of 64 bits
+abbrev pub largest_seed : ℕ
+largest_seed = 18446744073709551615
+
+-- the option `--seed`, which has to be there and has a whole number of 64 bits
+abbrev pub seed_rule : Rule
+seed_rule = record (new_rule (codes "seed")) {
+  long = Some (codes "seed");
+  action = Some Set;
+  required = true;
+  value_names = 1;
+  parser = Some (Unsigned 0 largest_seed);
+}
 
 -- the subcommand `judge`, which takes no word more
 abbrev pub judge_command : App
@@ -28,12 +44,26 @@ run_command = with_rule (new_app (codes "run")) config_rule
 abbrev pub check_command : App
 check_command = with_rule (new_app (codes "check")) config_rule
 
+-- the subcommand `swarm`, which takes a cluster file and a seed
+abbrev pub swarm_command : App
+swarm_command = with_rule (with_rule (new_app (codes "swarm")) config_rule) seed_rule
+
 -- the command line of `faultyard`
 abbrev pub faultyard_command : App
 faultyard_command =
     with_subcommand
+    (with_subcommand
     (with_subcommand (with_subcommand bare_command judge_command.top) run_command.top)
-    check_command.top
+    check_command.top)
+    swarm_command.top
+
+-- the text of a seed: a whole number of 64 bits
+abbrev pub IsSeed : Text → Type 0
+IsSeed text = IsUnsignedIn 0 largest_seed text
+
+-- the number that such a text writes
+abbrev pub seed_in : Text → ℕ
+seed_in text = digits_value 10 (without_leading_plus text)
 
 -- a subcommand's name and its rows, as the matches hold them, stand for the task
 abbrev pub StandsFor : Text × List Row → Task → Type 0
@@ -42,6 +72,9 @@ StandsFor met (Run config) =
     (met.0 ≡ codes "run") × (first_of (codes "CONFIG") met.1 ≡ Some config.now)
 StandsFor met (Check config) =
     (met.0 ≡ codes "check") × (first_of (codes "CONFIG") met.1 ≡ Some config.now)
+StandsFor met (Swarm config seed) =
+    (met.0 ≡ codes "swarm") × (first_of (codes "CONFIG") met.1 ≡ Some config.now)
+    × (option_map seed_in (one_of (codes "seed") met.1) ≡ Some seed)
 
 -- the task is the one that the matches' subcommand stands for
 abbrev pub IsTaskOf : Option (Text × List Row) → Task → Type 0

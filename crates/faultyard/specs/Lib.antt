@@ -8,3 +8,4 @@ pub use Rattle.fy_lines.specs.Fronts
 pub mod RunTexts
 pub mod CheckTexts
 pub mod Outputs
+pub mod Swarm

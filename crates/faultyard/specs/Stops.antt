@@ -15,7 +15,7 @@ use Rattle.fy_config.specs.declared.fault.ConfigFault.TheVariants as config
 use Rattle.faultyard.specs.declared.stop.JudgeFault.{JudgeFault}
 use Rattle.faultyard.specs.declared.stop.JudgeFault.TheVariants.{Syntax, Policy, Twice, TooMany, Unknown, PolicyUnmet}
 use Rattle.faultyard.specs.declared.stop.Stop.{Stop}
-use Rattle.faultyard.specs.declared.stop.Stop.TheVariants.{JudgeTooLong, JudgeLine, Config, Script, JournalFull, Audit, Read, Write, NoMemory}
+use Rattle.faultyard.specs.declared.stop.Stop.TheVariants.{JudgeTooLong, JudgeLine, Config, Script, JournalFull, Audit, SwarmClose, Read, Write, NoMemory}
 
 -- the word for a fault of a line of judge's input
 abbrev pub fault_word : JudgeFault → List ℕ
@@ -91,11 +91,12 @@ stop_text (Config fault) = config_text fault
 stop_text (Script fault) = script_text fault
 stop_text JournalFull = codes "script: JournalFull\n"
 stop_text (Audit fault) = audit_fault_text fault
+stop_text SwarmClose = codes "swarm: close\n"
 stop_text Read = codes "read fault\n"
 stop_text Write = codes "write fault\n"
 stop_text NoMemory = codes "no memory\n"
 
--- the status: 1 refused input, 3 read or write fault, 4 memory
+-- the status: 1 refused input, or a swarm that isn't closed, 3 read or write fault, 4 memory
 abbrev pub stop_status : Stop → ℕ
 stop_status JudgeTooLong = 1
 stop_status (JudgeLine line fault) = 1
@@ -106,6 +107,7 @@ stop_status (Script fault) = 1
 stop_status JournalFull = 1
 stop_status (Audit audit.NoMemory) = 4
 stop_status (Audit fault) = 1
+stop_status SwarmClose = 1
 stop_status Read = 3
 stop_status Write = 3
 stop_status NoMemory = 4
@@ -141,6 +143,7 @@ OfJudge (Config fault) = ⊥
 OfJudge (Script fault) = ⊥
 OfJudge JournalFull = ⊥
 OfJudge (Audit fault) = ⊥
+OfJudge SwarmClose = ⊥
 OfJudge _ = Unit {0}
 
 -- a stop of run's own once its cluster file is read, or of any command
@@ -149,6 +152,7 @@ OfRun JudgeTooLong = ⊥
 OfRun (JudgeLine line fault) = ⊥
 OfRun (Config fault) = ⊥
 OfRun (Audit fault) = ⊥
+OfRun SwarmClose = ⊥
 OfRun _ = Unit {0}
 
 -- a stop of check's own once its cluster file is read, or of any command
@@ -158,6 +162,13 @@ OfCheck Read = Unit {0}
 OfCheck Write = Unit {0}
 OfCheck NoMemory = Unit {0}
 OfCheck _ = ⊥
+
+-- a stop of swarm's own once its cluster file is read, or of any command that writes
+abbrev pub OfSwarm : Stop → Type 0
+OfSwarm SwarmClose = Unit {0}
+OfSwarm Write = Unit {0}
+OfSwarm NoMemory = Unit {0}
+OfSwarm _ = ⊥
 
 -- a stop of a cluster file that is read
 abbrev pub OfConfig : Stop → Type 0

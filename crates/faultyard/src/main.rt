@@ -7,6 +7,7 @@ mod judge;
 mod load;
 mod run;
 mod stop;
+mod swarm;
 mod task;
 
 use check::run_check;
@@ -18,6 +19,7 @@ use std::io::ErrorKind;
 use std::process::ExitCode;
 use std::{env, fs};
 use stop::{Stop, write_stop};
+use swarm::run_swarm;
 use task::{Task, read_task};
 
 /// The status of a program whose words are no command.
@@ -35,6 +37,11 @@ fn main(rt: HostRuntime) -> ExitCode {
         Ok(Task::Judge) => run_judge(rt.alloc(), &mut rt.stdin(), &mut rt.stdout()),
         Ok(Task::Run(path)) => run_file(&rt, path),
         Ok(Task::Check(path)) => check_file(&rt, path),
+        // Threads are main's to give.
+        Ok(Task::Swarm(path, seed)) => match open_config(&rt, path) {
+            Ok(config) => run_swarm(&rt, rt.alloc(), &config, seed, &mut rt.stdout()),
+            Err(stop) => Err(stop),
+        },
         Err(error) => return answered(&rt, &error),
     };
     match done {

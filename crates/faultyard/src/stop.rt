@@ -45,6 +45,8 @@ pub enum Stop {
     JournalFull,
     /// The audit is refused.
     Audit { fault: AuditFault },
+    /// The cluster that a swarm shared can't be closed: a seat is missing.
+    SwarmClose,
     /// A call of `read` failed, or the cluster file can't be opened.
     Read,
     /// A call of `write` failed, or took no byte.
@@ -88,8 +90,8 @@ impl JudgeFault {
 }
 
 impl Stop {
-    /// The status with which the program exits: 1 for a refused input, 3 for a read or write fault,
-    /// 4 for want of memory.
+    /// The status with which the program exits: 1 for a refused input and for a swarm that can't be
+    /// closed, 3 for a read or write fault, 4 for want of memory.
     pub fn status(&self) -> u8
         ensures { result ≡ stop_status self.now }
     {
@@ -107,7 +109,7 @@ impl Stop {
             Stop::Read | Stop::Write => 3,
             Stop::JudgeTooLong | Stop::JudgeLine { .. } => 1,
             Stop::Config { .. } | Stop::Script { .. } | Stop::JournalFull => 1,
-            Stop::Audit { .. } => 1,
+            Stop::Audit { .. } | Stop::SwarmClose => 1,
         }
     }
 }
@@ -290,6 +292,7 @@ pub fn write_stop<W: Write>(stop: &Stop, writer: &mut W) -> Result<(), Stop>
         Stop::Script { fault } => write_script_fault(fault, writer)?,
         Stop::JournalFull => write_bytes(writer, b"script: JournalFull\n")?,
         Stop::Audit { fault } => write_audit_fault(fault, writer)?,
+        Stop::SwarmClose => write_bytes(writer, b"swarm: close\n")?,
         Stop::Read => write_bytes(writer, b"read fault\n")?,
         Stop::Write => write_bytes(writer, b"write fault\n")?,
         Stop::NoMemory => write_bytes(writer, b"no memory\n")?,

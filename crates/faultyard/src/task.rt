@@ -1,21 +1,23 @@
 //! The program's command line.
 
-ghost use Rattle.std.specs.Prelude.{◌≡◌, IfOk, Some, codes, is_some, map};
-ghost use Rattle.std.specs.Prelude.{string_bytes, true, false};
+ghost use Rattle.std.specs.Prelude.{◌≡◌, IfOk, IsSomeAnd, Some, codes, is_some, map};
+ghost use Rattle.std.specs.Prelude.{option_map, string_bytes, true, false};
 ghost use Rattle.clap.specs.Words.{FailsBy, app_of, fault_of, first_of, found_of, rows_of};
-ghost use Rattle.clap.specs.Words.{subcommand_of};
+ghost use Rattle.clap.specs.Words.{one_of, subcommand_of};
 ghost use Rattle.clap.specs.Walk.{rule_of};
 ghost use Rattle.faultyard.specs.Commands.{IsTaskOf, faultyard_command, judge_command};
 ghost use Rattle.faultyard.specs.Commands.{config_rule, run_command, check_command};
+ghost use Rattle.faultyard.specs.Commands.{seed_rule, swarm_command, IsSeed, seed_in};
 
-use clap::{Arg, ArgAction, ArgMatches, Command};
+use clap::{Arg, ArgAction, ArgMatches, Command, value_parser};
 use std::alloc::{AllocError, Global};
 
 /// Lines to paste, which the help of the program ends with.
 const EXAMPLES: &str = "Examples:
   faultyard judge < examples/c6.judge
   faultyard run examples/c6.toml < examples/two-zones.jsonl
-  faultyard check examples/c6.toml < examples/two-zones.audit";
+  faultyard check examples/c6.toml < examples/two-zones.audit
+  faultyard swarm examples/c6.toml --seed 7";
 
 /// What the program is asked to do.
 #[derive(Clone, Copy, Debug, PartialEq, Eq)]
@@ -26,6 +28,9 @@ pub enum Task<'a> {
     Run(&'a str),
     /// `faultyard check CONFIG`: check the audit on standard input against the cluster of a file.
     Check(&'a str),
+    /// `faultyard swarm CONFIG --seed N`: let every actor of the cluster of a file loose, each by
+    /// a plan that is drawn from the seed.
+    Swarm(&'a str, u64),
 }
 
 /// The subcommand `judge`, with its help.
@@ -68,6 +73,31 @@ fn check<'a>(alloc: Global) -> Result<Command<'a>, AllocError>
         .arg(config(alloc))
 }
 
+/// The option with the seed.
+fn seed<'a>(alloc: Global) -> Arg<'a>
+    ensures rule { rule_of result ≡ seed_rule }
+    ensures own { result.global ≡ false }
+{
+    Arg::new(alloc, "seed")
+        .long("seed")
+        .value_name("N")
+        .required(true)
+        .action(ArgAction::Set)
+        .value_parser(value_parser!(u64))
+        .help("What the plans of the actors are drawn from, from 0 to 2^64 - 1")
+}
+
+/// The subcommand `swarm`, with its help.
+fn swarm<'a>(alloc: Global) -> Result<Command<'a>, AllocError>
+    ensures { IfOk result (λ command. app_of command ≡ swarm_command) }
+{
+    Command::new(alloc, "swarm")
+        .about("Lets every actor of a cluster file loose, each on a thread, and writes the audit")
+        .after_help("Example:\n  faultyard swarm examples/c6.toml --seed 7")
+        .arg(config(alloc))?
+        .arg(seed(alloc))
+}
+
 /// The command line of `faultyard`: one subcommand is wanted, and each has help of its own.
 fn faultyard<'a>(alloc: Global) -> Result<Command<'a>, AllocError>
     ensures { IfOk result (λ command. app_of command ≡ faultyard_command) }
@@ -81,7 +111,8 @@ fn faultyard<'a>(alloc: Global) -> Result<Command<'a>, AllocError>
         .subcommand_required(true)
         .subcommand(judge(alloc))?
         .subcommand(run(alloc)?)?
-        .subcommand(check(alloc)?)
+        .subcommand(check(alloc)?)?
+        .subcommand(swarm(alloc)?)
 }
 
 /// The task that the words ask for; the first word is the program's name.
@@ -103,6 +134,7 @@ pub fn read_task<'a>(alloc: Global, words: &'a [String]) -> Result<Task<'a>, cla
         "judge" => Ok(Task::Judge),
         "run" => Ok(Task::Run(config_of(given))),
         "check" => Ok(Task::Check(config_of(given))),
+        "swarm" => Ok(Task::Swarm(config_of(given), seed_of(given))),
         _ => unreachable!(),
     }
 }
@@ -114,6 +146,18 @@ fn config_of<'a>(given: &ArgMatches<'a>) -> &'a str
 {
     match given.get_str("CONFIG") {
         Some(config) => config,
+        None => unreachable!(),
+    }
+}
+
+/// The seed among the words of a subcommand that takes one.
+fn seed_of(given: &ArgMatches<'_>) -> u64
+    requires { IsSomeAnd (one_of (codes "seed") (rows_of (found_of given.now))) IsSeed }
+    ensures { option_map seed_in (one_of (codes "seed") (rows_of (found_of given.now)))
+        ≡ Some result }
+{
+    match given.get_one::<u64>("seed") {
+        Some(seed) => seed,
         None => unreachable!(),
     }
 }

@@ -1,6 +1,6 @@
 use Rattle.std.proofs.Common.{inl, inr, map}
 use Rattle.std.specs.Prelude.{string_bytes}
-use Rattle.faultyard.proofs.CommandLemmas.{faultless, has_config, met_task}
+use Rattle.faultyard.proofs.CommandLemmas.{faultless, has_config, has_seed, met_task}
 use Rattle.faultyard.proofs.task.read_task.Goals as goal
 
 pub returns-in-judge-clause-refused : goal.returns-in-judge-clause-refused
@@ -12,8 +12,21 @@ returns-in-run-clause-refused c = faultless _ (map string_bytes c.args.words.now
 pub returns-in-check-clause-refused : goal.returns-in-check-clause-refused
 returns-in-check-clause-refused c = faultless _ (map string_bytes c.args.words.now) c.in_ok-faultyard.ensures c.in_ok-matches.ensures.kinds
 
+pub returns-in-swarm-clause-refused : goal.returns-in-swarm-clause-refused
+returns-in-swarm-clause-refused c = faultless _ (map string_bytes c.args.words.now) c.in_ok-faultyard.ensures c.in_ok-matches.ensures.kinds
+
 pub config_of-requires-in-check : goal.config_of-requires-in-check
 config_of-requires-in-check c = has_config c.in-Some.name.now c.in-Some.given.now c.in-check.not-judge
+    (met_task _ (map string_bytes c.args.words.now) c.in_ok-matches.matches c.in-Some.name.now c.in-Some.given.now c.in_ok-faultyard.ensures
+    c.in_ok-matches.ensures.kinds c.in_ok-matches.ensures.matches c.in-Some.ensures.name c.in-Some.ensures.rows)
+
+pub config_of-requires-in-swarm : goal.config_of-requires-in-swarm
+config_of-requires-in-swarm c = has_config c.in-Some.name.now c.in-Some.given.now c.in-swarm.not-judge
+    (met_task _ (map string_bytes c.args.words.now) c.in_ok-matches.matches c.in-Some.name.now c.in-Some.given.now c.in_ok-faultyard.ensures
+    c.in_ok-matches.ensures.kinds c.in_ok-matches.ensures.matches c.in-Some.ensures.name c.in-Some.ensures.rows)
+
+pub seed_of-requires : goal.seed_of-requires
+seed_of-requires c = has_seed c.in-Some.name.now c.in-Some.given.now c.in-swarm.is
     (met_task _ (map string_bytes c.args.words.now) c.in_ok-matches.matches c.in-Some.name.now c.in-Some.given.now c.in_ok-faultyard.ensures
     c.in_ok-matches.ensures.kinds c.in_ok-matches.ensures.matches c.in-Some.ensures.name c.in-Some.ensures.rows)
 
@@ -30,6 +43,7 @@ unreachable-requires-in_default-name c =
       | inl judge ↦ absurd (c.in_default-name.not-judge judge)
       | inr has ↦ elim has.0 [
         | inl run ↦ absurd (c.in_default-name.not-run run)
-        | inr check ↦ absurd (c.in_default-name.not-check check)
+        | inr (inl check) ↦ absurd (c.in_default-name.not-check check)
+        | inr (inr swarm) ↦ absurd (c.in_default-name.not-swarm swarm)
       ]
     ]

@@ -1,0 +1,14 @@
+use Rattle.std.proofs.Common.{◌≡◌, ◌+◌, ℕ, length}
+use Rattle.std.specs.Prelude.{Some}
+use Rattle.std.specs.List.{All}
+use Rattle.fy_yard.specs.Yard.{new_seats}
+use Rattle.faultyard.proofs.Swarming.{AreBack}
+use Rattle.faultyard.proofs.swarm.let_loose.Given as goal
+
+abbrev pub invariant-loop-seat : goal.invariant-loop-seat
+invariant-loop-seat g l =
+    (i : ℕ) × (left : ℕ) × (i + left ≡ length l.config.roles)
+    × (l.seat-iterator.rest.items ≡ new_seats l.shared i left)
+    × AreBack l.config.roles l.shared i l.back.items
+    × All (λ seat. seat.of ≡ Some l.shared) l.back.items
+    × All (λ post. post.seat.of ≡ Some l.shared) l.posts.items

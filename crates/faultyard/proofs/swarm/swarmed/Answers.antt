@@ -1,0 +1,10 @@
+use Rattle.std.proofs.lemmas.Result.{IfOk-weaker}
+use Rattle.faultyard.proofs.Swarming.{is_swarm}
+use Rattle.faultyard.proofs.swarm.swarmed.Goals as goal
+
+pub returns-clause-swarm : goal.returns-clause-swarm
+returns-clause-swarm g c =
+    IfOk-weaker c.close.result _ _
+    (λ cluster settled. is_swarm c.in-Ok.shared c.args.config.now c.in-Ok-let_loose.seats.items
+    cluster settled.0 c.in-Ok.ensures.setup c.in-Ok-let_loose.ensures.rested settled.1)
+    c.close.ensures.settled

@@ -1,0 +1,89 @@
+-- who plays which actor of a swarm, and what is written of it
+use Rattle.std.specs.Prelude.{◌≡◌, ◌≤◌, ℕ, ◌*◌, ◌%◌, ◌==◌, Bool, true, false, List, [], ◌∷◌, length, map, take, Option, Some, None, slice_get}
+use Rattle.std.specs.List.{range_with_len, count_by}
+use Rattle.fy_locality.specs.declared.ProcId.{ProcId}
+use Rattle.fy_locality.specs.declared.locality.Locality.{Locality}
+use Rattle.fy_kinds.specs.declared.kind.Kind.TheVariants.{Reboot, KillInstantly}
+use Rattle.fy_kinds.specs.Kinds.{rank}
+use Rattle.fy_acts.specs.declared.entry.Entry.{Entry}
+use Rattle.fy_audit.specs.AuditText.{audit_text}
+use Rattle.fy_journal.specs.declared.version.Version.TheVariants.{Second}
+use Rattle.fy_cluster.specs.Setup.{Setup}
+use Rattle.fy_cluster.specs.Survival.{Survives}
+use Rattle.fy_cluster.specs.declared.role.Role.{Role}
+use Rattle.fy_cluster.specs.declared.role.Role.TheVariants.{Fault, Storage, Operator}
+use Rattle.fy_actors.specs.Words.{words_of}
+use Rattle.fy_actors.specs.Plans.{IsSwizzle, doomed}
+use Rattle.fy_actors.specs.Agendas.{begun, swizzle_acts, attrition_acts}
+use Rattle.fy_actors.specs.Drives.{Drive}
+use Rattle.fy_actors.specs.Desk.{entries_by}
+use Rattle.fy_actors.specs.declared.plans.SwizzlePlan.{SwizzlePlan}
+use Rattle.fy_actors.specs.declared.driver.Team.TheVariants.{Unformed}
+use Rattle.faultyard.specs.declared.swarm.cast.Player.{Player}
+use Rattle.faultyard.specs.declared.swarm.cast.Player.TheVariants.{Stores, Swizzles, Kills}
+
+-- every process, by number
+abbrev pub everybody : List Locality → List ProcId
+everybody processes = map (λ p. record { 0 = p }) (range_with_len 0 (length processes))
+
+-- four payloads of a byte each, 0 to 3
+abbrev pub payloads : List (List ℕ)
+payloads = map (λ byte. byte ∷ []) (range_with_len 0 4)
+
+-- who stores these in a team of all processes, under the first policy, by 200 acts in all
+abbrev pub storing : List Locality → Drive
+storing processes = record {
+  members = everybody processes;
+  policy = 0;
+  payloads = payloads;
+  acts = 200;
+  team = Unformed;
+  made = 0;
+}
+
+-- an actor's words: two for each process, from the actor's own stream of the seed
+abbrev pub words_for : List Locality → ℕ → ℕ → List ℕ
+words_for processes seed actor = words_of seed actor (2 * length processes)
+
+abbrev pub is_fault : Role → Bool
+is_fault Fault = true
+is_fault _ = false
+
+-- how many of the actors before this one are fault actors
+abbrev pub faults_before : List Role → ℕ → ℕ
+faults_before roles actor = count_by is_fault (take actor roles)
+
+-- who plays an actor, by its role and number. The first, third, .. fault actor clogs processes for
+-- ten ticks and frees them; the second, fourth, .. kills two machines, but not the last one; nobody
+-- plays an operator
+pub data Plays (setup : Setup) (seed actor : ℕ) : Option Player → Type 0 where
+  stores : slice_get setup.roles actor ≡ Some Storage →
+      Plays setup seed actor (Some (Stores (storing setup.processes)))
+  swizzles : (plan : SwizzlePlan) → slice_get setup.roles actor ≡ Some Fault →
+      faults_before setup.roles actor % 2 ≡ 0 →
+      IsSwizzle (words_for setup.processes seed actor) (everybody setup.processes) plan →
+      Plays setup seed actor (Some (Swizzles (begun (swizzle_acts setup.processes plan 10))))
+  kills : (ordered : rank Reboot ≤ rank KillInstantly) → slice_get setup.roles actor ≡ Some Fault →
+      faults_before setup.roles actor % 2 ≡ 1 →
+      Plays setup seed actor (Some (Kills (begun (attrition_acts KillInstantly Reboot 0 ordered
+      (doomed (words_for setup.processes seed actor) setup.processes 2 1)))))
+  rests : slice_get setup.roles actor ≡ Some Operator → Plays setup seed actor None
+
+-- whether a swarm lets an actor of the role act; nobody has a number beyond the actors
+abbrev pub is_let_loose : Option Role → Bool
+is_let_loose (Some Storage) = true
+is_let_loose (Some Fault) = true
+is_let_loose (Some Operator) = false
+is_let_loose None = false
+
+-- the journal that a swarm leaves: it keeps what every legal journal keeps, and has no entry of who
+-- isn't let loose
+pub record IsSwarm (setup : Setup) (journal : List Entry) : Type 0 where
+  pub survives : Survives setup journal
+  pub quiet : (a : ℕ) → is_let_loose (slice_get setup.roles a) ≡ false →
+      entries_by a journal ≡ []
+
+-- what holds of the audit of such a journal
+abbrev pub HasSwarmAudit : Setup → (List ℕ → Type 0) → Type 0
+HasSwarmAudit setup P =
+    (journal : List Entry) × IsSwarm setup journal × P (audit_text Second journal)

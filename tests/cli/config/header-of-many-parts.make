@@ -1,0 +1,1 @@
+printf '['; repeated 250000 a.; printf 'a]\n'

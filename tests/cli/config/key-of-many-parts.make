@@ -1,0 +1,1 @@
+printf a; repeated 250000 .a; printf ' = 1'

@@ -1,0 +1,1 @@
+printf 'policies = '; repeated 500000 '['; repeated 500000 ']'

@@ -1,0 +1,1 @@
+printf 'policies = '; repeated 120000 '{a='; printf 1; repeated 120000 '}'

@@ -1,0 +1,1 @@
+printf 'policy '; repeated 100000 'And('; printf '\n'

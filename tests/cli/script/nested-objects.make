@@ -1,0 +1,1 @@
+repeated 10000 '{"a":'; printf 1; repeated 10000 '}'
