@@ -94,7 +94,7 @@ played_is_loose c seed a _ (Plays.kills ordered role odd) = ap is_let_loose role
 -- ---- the posts
 
 -- after a run the seats are of the same cluster
-all_keep : {A : Type 0} (seat : A → Sitting) (end : A → End) (y : Yard) (before after : List A) → AllRan seat end before after → length after ≤ length before
+all_keep : {A : Type 0} (seat : A → Sitting) (end : A → End) (y : Yard) (before after : List A) → AllRan y seat end before after → length after ≤ length before
     → All (λ p. (seat p).of ≡ Some y) before → All (λ p. (seat p).of ≡ Some y) after
 all_keep seat end y before after ran few all k d lt =
     let within : k < length before = omega arith in
@@ -107,7 +107,7 @@ take_within (suc n) (x ∷ xs) zero lt = omega arith
 take_within (suc n) (x ∷ xs) (suc k) lt = let less = take_within n xs k (omega arith) in omega arith
 
 -- so it is of a list into whose place those that ran are put back
-pub all_put_back : {A : Type 0} (seat : A → Sitting) (end : A → End) (y : Yard) (before after : List A) (n : ℕ) → n ≡ length before → AllRan seat end before after
+pub all_put_back : {A : Type 0} (seat : A → Sitting) (end : A → End) (y : Yard) (before after : List A) (n : ℕ) → n ≡ length before → AllRan y seat end before after
     → All (λ p. (seat p).of ≡ Some y) before → All (λ p. (seat p).of ≡ Some y) (take n (after ++ drop (length after) before))
 all_put_back seat end y before after n count ran all =
     elim (cases_lt (length before) (length after)) [

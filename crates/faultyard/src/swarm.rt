@@ -28,6 +28,8 @@ const MOST_TURNS: u32 = 1000;
 struct OpenGate;
 
 impl Gate for OpenGate {
+    ghost shuts = { λ _. ⊥ };
+
     fn before(&self, _actor: u32, _turn: u32) -> bool {
         true
     }
