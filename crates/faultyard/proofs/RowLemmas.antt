@@ -3,7 +3,7 @@
 use Rattle.std.proofs.Common.{rules, arith, length, ◌≡◌, ◌∙◌, ◌⊎◌, ◌&&◌, ◌||◌, not, inl, inr, ℕ, zero, suc, Bool, true, false, List, [], ◌∷◌, ◌++◌, Option, None, Some, codes, refl, sym, ap, subst, ne_eqb, is_some, fold, drop}
 use Rattle.std.specs.Prelude.{if◌then◌else◌, find, nat_lt, option_and_then, option_map, encode_utf8, slice_get}
 use Rattle.std.specs.Option.{option_map_or}
-use Rattle.std.specs.List.{list_all, list_any}
+use Rattle.std.specs.List.{list_any}
 use Rattle.std.specs.Str.{bytes_eq, chars}
 use Rattle.std.proofs.lemmas.Slice.Eq.{bytes_eq-Decides}
 use Rattle.clap.specs.Words.{Row, Rule, Text, Shape, first_of, one_of}

@@ -1,6 +1,5 @@
-use Rattle.std.proofs.Common.{◌≡◌, ◌≤◌, ℕ, List, map, length}
+use Rattle.std.proofs.Common.{◌≡◌, ◌≤◌, map, length}
 use Rattle.std.specs.List.{range_with_len}
-use Rattle.fy_locality.specs.declared.ProcId.{ProcId}
 use Rattle.faultyard.proofs.swarm.cast.everybody.Given as goal
 
 abbrev pub invariant-loop-p : goal.invariant-loop-p

@@ -1,4 +1,4 @@
-use Rattle.std.proofs.Common.{arith, ◌≡◌, ◌∙◌, ◌+◌, ◌<◌, ap₂, length, sym}
+use Rattle.std.proofs.Common.{arith, ◌∙◌, ◌+◌, ◌<◌, ap₂, length, sym}
 use Rattle.faultyard.proofs.Playing.{fault_step}
 use Rattle.faultyard.proofs.swarm.cast.faults_before.Goals as goal
 

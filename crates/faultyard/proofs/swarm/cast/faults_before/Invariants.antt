@@ -1,4 +1,4 @@
-use Rattle.std.proofs.Common.{◌≡◌, ◌≤◌, ℕ, length}
+use Rattle.std.proofs.Common.{◌≡◌, ◌≤◌}
 use Rattle.faultyard.specs.Swarm.{faults_before}
 use Rattle.faultyard.proofs.swarm.cast.faults_before.Given as goal
 

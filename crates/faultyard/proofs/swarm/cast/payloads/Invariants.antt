@@ -1,4 +1,4 @@
-use Rattle.std.proofs.Common.{◌≡◌, ◌∷◌, [], ◌≤◌, ℕ, List, map}
+use Rattle.std.proofs.Common.{◌≡◌, ◌∷◌, [], ◌≤◌, map}
 use Rattle.std.specs.List.{range_with_len}
 use Rattle.faultyard.proofs.swarm.cast.payloads.Given as goal
 

@@ -1,4 +1,4 @@
-use Rattle.std.proofs.Common.{rules, ◌≡◌, ◌∙◌, sym, subst, ap}
+use Rattle.std.proofs.Common.{rules, ◌≡◌, ◌∙◌, sym, subst}
 use Rattle.std.proofs.lemmas.Result.{IfOk-weaker}
 use Rattle.fy_actors.specs.declared.plans.PlanFault.TheVariants.{NoMemory, WordsShort}
 use Rattle.fy_actors.specs.Plans.{IsSwizzle}
