@@ -1,7 +1,5 @@
 //! A shared cluster: an order from a seat, a post with an actor of its own, and the close.
-ghost use Rattle.std.specs.Prelude.{◌≡◌, [], ◌∷◌, All, IfOk, Some};
-ghost use Rattle.fy_actors.specs.Parts.Part.{Stores};
-ghost use Rattle.fy_actors.specs.declared.driver.Team.TheVariants.{Unformed};
+ghost use Rattle.std.specs.Prelude.{◌≡◌, All, IfOk, Some};
 
 use crate::single::config_of_one;
 use fy_actors::{FaultActor, StorageDriver};
@@ -45,16 +43,7 @@ impl Gate for Open {
 /// A post at this seat, of an actor that forms a team of the one process.
 fn posted(alloc: Global, shared: &Shared, seat: Seat) -> Result<Vec<Post>, Fail>
     requires { seat.of ≡ Some shared.now }
-    ensures theirs {
-        IfOk result (λ posts. All (λ post. post.seat.of ≡ Some shared.now) posts.items) }
-    ensures forms { let drive = record {
-          members = record { 0 = 0 } ∷ [];
-          policy = 0;
-          payloads = [];
-          acts = 1;
-          team = Unformed;
-          made = 0;
-        } in IfOk result (λ posts. All (λ post. part post.actor ≡ Stores drive) posts.items) }
+    ensures { IfOk result (λ posts. All (λ post. post.seat.of ≡ Some shared.now) posts.items) }
 {
     let members = Members::make(alloc, &[ProcId(0)])?;
     let driver = StorageDriver::make(alloc, members, 0, Vec::new(alloc), 1);
