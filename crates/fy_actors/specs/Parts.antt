@@ -71,8 +71,8 @@ pub record KeepsTo (setup : Setup) (actor : ℕ) (first : Part) (journal : List 
   pub now_at : now ≡ played first (entries_by actor journal)
   pub obeys : Obeys setup actor first journal
 
--- what the answer of a turn tells: one that ended has no act left that is known of; and of a known
--- part, which stays known, one that wants more has made an act, and where the journal was full it is
+-- what the answer of a turn tells: one that ended has no act left that is known of; and a known
+-- part stays known, one that wants more has made an act, and where the journal was full it still is
 pub record Tells (was now : Part × Bench) (result : Result Turn Fault) : Type 0 where
   pub known : was.0 ≢ Own → now.0 ≢ Own
   pub ended : result ≡ Ok Ended → is_left now.0 ≡ false

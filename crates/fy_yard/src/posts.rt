@@ -121,8 +121,7 @@ pub fn run_actors<R: Threads + Wait + Sync, G: Gate>(
     let threads = posts.len();
     let work = |_: usize, post: &mut Post|
         requires { IsSync R.row × IsSync G.row × (post.now.seat.of ≡ Some shared.now) }
-        ensures ran {
-            Ran shared.entry.now post.entry.now.seat post.exit.now.seat post.exit.now.end }
+        ensures ran { Ran shared.entry.now post.entry.now.seat post.exit.now.seat post.exit.now.end }
         ensures played { Played shared.entry.now (G.shuts gate.entry.now) max post.entry.now.seat
             post.exit.now.seat (part post.entry.now.actor) (part post.exit.now.actor)
             post.exit.now.end }
