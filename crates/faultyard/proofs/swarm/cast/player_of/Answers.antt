@@ -17,7 +17,7 @@ returns-in-Operator c =
 
 pub swizzle-requires : goal.swizzle-requires
 swizzle-requires c =
-    enough_words c.args.seed c.args.actor c.map-map.result.now c.deref.result.now c.len.result
+    enough_words _ _ c.map-map.result.now c.deref.result.now c.len.result
     c.len.ensures.count (c.deref.ensures.value ∙ c.in_ok-words-in-Fault.ensures)
 
 pub returns-then-faults_before-eq0 : goal.returns-then-faults_before-eq0
@@ -31,7 +31,7 @@ returns-then-faults_before-eq0 c =
 
 pub attrition-requires : goal.attrition-requires
 attrition-requires c =
-    enough_words c.args.seed c.args.actor c.map-map.result.now
+    enough_words _ _ c.map-map.result.now
     c.deref-else-faults_before-eq0.result.now c.len.result c.len.ensures.count
     (c.deref-else-faults_before-eq0.ensures.value ∙ c.in_ok-words-in-Fault.ensures)
 
