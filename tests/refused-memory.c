@@ -2,10 +2,10 @@
 // for memory refused, until a run meets no refusal.
 //
 // A run has to pass, or to end for want of memory of its own (an Err that says so), or to stop where it compares an answer and
-// finds want of memory in its place. Any other end is told on standard error, and fails the test. Beyond the 2,000th request,
-// or of slow tests the 100th or the 10th, only some are refused, each further on than the last by a twentieth, or of the
-// slowest by half; of tests whose names hold ONLY none is passed over, and no other test is run so. What came of a test is
-// written behind the file TOLD, a line each.
+// finds want of memory in its place; or the sanitizer ends it for want of its own. Any other end is told on standard error, and
+// fails the test. Beyond the 2,000th request, or of slow tests the 100th or the 10th, only some are refused, each further on
+// than the last by a twentieth, or of the slowest by half; of tests whose names hold ONLY none is passed over, and no other test
+// is run so. What came of a test is written behind the file TOLD, a line each.
 #define _GNU_SOURCE
 #include <errno.h>
 #include <fcntl.h>
@@ -54,6 +54,10 @@ void *__interceptor_realloc(void *old, size_t bytes) {
 
 // Whether a run ended for want of memory.
 static int has_stopped(int status, const char *said) {
+    // The sanitizer asks the C library where the stack of a thread lies that starts, and gives up where that has no memory.
+    if (strstr(said, "CHECK failed: sanitizer") && strstr(said, "pthread_getattr_np(pthread_self(), &attr))) == ((0))")) {
+        return 1;
+    }
     if (WIFEXITED(status) && WEXITSTATUS(status) == 101) {
         return strstr(said, "AllocError") || strstr(said, "AllocFailed") || strstr(said, "NoMemory");
     }
