@@ -1,6 +1,7 @@
 -- How much a reader has given, where its bytes are known.
-use Rattle.std.specs.Prelude.{◌≡◌, ℕ, ◌≤◌, List, length, Option}
+use Rattle.std.specs.Prelude.{◌≡◌, ℕ, ◌≤◌, ◌<◌, ◌⊎◌, List, [], ◌∷◌, ◌++◌, length, Option, Some, IfSome}
 use Rattle.std.specs.Io.KnownBytes.{Consumes}
+use Rattle.fy_lines.specs.Lines.{lines_of, IsLine}
 
 -- just so many bytes were read
 abbrev pub Takes : Option (List ℕ) → Option (List ℕ) → ℕ → Type 0
@@ -9,3 +10,21 @@ Takes old new count = (front : List ℕ) × Consumes old new front × (length fr
 -- so many bytes at most were read
 abbrev pub TakesUpTo : Option (List ℕ) → Option (List ℕ) → ℕ → Type 0
 TakesUpTo old new most = (front : List ℕ) × Consumes old new front × (length front ≤ most)
+
+-- the next line was read, with its line feed, and no byte behind it
+abbrev pub GivesLine : Option (List ℕ) → Option (List ℕ) → List ℕ → Type 0
+GivesLine old new line =
+    IfSome old (λ bytes. (rest : List ℕ) × (new ≡ Some rest)
+    × (lines_of bytes ≡ line ∷ lines_of rest))
+
+-- the next line has more bytes than so many
+abbrev pub HasLongLine : Option (List ℕ) → ℕ → Type 0
+HasLongLine known most =
+    IfSome known (λ bytes. (line : List ℕ) × (more : List (List ℕ))
+    × (lines_of bytes ≡ line ∷ more) × (most < length line))
+
+-- some of the next line was read, or all of it with its line feed, and no byte behind it
+abbrev pub ReadsWithinLine : Option (List ℕ) → Option (List ℕ) → Type 0
+ReadsWithinLine old new =
+    (front : List ℕ) × Consumes old new front
+    × (IsLine front ⊎ ((line : List ℕ) × (front ≡ line ++ 10 ∷ []) × IsLine line))
