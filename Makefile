@@ -5,6 +5,7 @@
 #   make test             all that CI runs: every proof from nothing, the wrong bodies of crates that changed, each test, and the
 #                         command-line cases, and swarms of a few seeds
 #   make swarm-seeds      holds the swarms of 200 seeds on each cluster file of examples/ against the rules
+#   make refused-memory   refuses each request for memory of the short tests of commands and of shared clusters in turn
 #   make wrong-bodies     tries every wrong body again, which the prover has to refuse, and records those crates whose are all refused
 #   make install          puts the program into $(PREFIX)/bin; by default PREFIX is /usr/local
 #   make bench            times the program on generated inputs, beside another if BESIDE is its path; and verdicts, acts,
@@ -14,7 +15,7 @@
 PREFIX ?= /usr/local
 BUILT := crates/faultyard/out/faultyard
 
-.PHONY: build run test swarm-seeds wrong-bodies install bench clean
+.PHONY: build run test swarm-seeds refused-memory wrong-bodies install bench clean
 
 # `rt run` proves what changed, builds the program beside its crate and runs it once.
 build:
@@ -41,6 +42,9 @@ test:
 
 swarm-seeds: build
 	tests/swarm/run bin/faultyard --seeds 200
+
+refused-memory:
+	tests/refused-memory faultyard/short:: fy_cluster_tests/short::
 
 wrong-bodies:
 	tests/wrong-bodies --all --record
