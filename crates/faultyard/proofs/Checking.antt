@@ -1,12 +1,24 @@
 -- what is said of an audit that was read
 use Rattle.std.proofs.Common.{rules, ◌≡◌, ℕ, List, Option, Some, None, Result, Ok, Err, IfOk, IfErr, Bool, true, false, length, subst, sym}
 use Rattle.std.specs.Prelude.{IfSome}
+use Rattle.fy_audit.specs.Audit.{AuditOf, AuditAnswers}
+use Rattle.fy_audit.specs.declared.audit.AuditFault.{AuditFault}
+use Rattle.fy_audit.specs.declared.audit.AuditFault.TheVariants.{TooLong, Line, NoMemory}
 use Rattle.fy_cluster.specs.Setup.{Setup}
 use Rattle.fy_check.specs.Replayed.{HasFirstBad}
 use Rattle.faultyard.specs.declared.check.Finding.{Finding}
 use Rattle.faultyard.specs.declared.stop.Stop.{Stop}
 use Rattle.faultyard.specs.declared.stop.Stop.TheVariants.{Write}
+use Rattle.faultyard.specs.Stops.{audit_stop, IfAuditFault}
 use Rattle.faultyard.specs.CheckTexts.{legal_line, bad_line, Finds, HasVerdict, IsFound}
+
+-- the stop for what a reader of an audit answers
+pub stop_is_told : (bytes : List ℕ) (fault : AuditFault) (stop : Stop) →
+    AuditAnswers bytes (Err fault) → stop ≡ audit_stop fault →
+    IfAuditFault stop (λ told. AuditOf bytes (Err told))
+stop_is_told bytes TooLong stop told is = subst (λ s. IfAuditFault s (λ f. AuditOf bytes (Err f))) (sym is) told
+stop_is_told bytes (Line number fault) stop told is = subst (λ s. IfAuditFault s (λ f. AuditOf bytes (Err f))) (sym is) told
+stop_is_told bytes NoMemory stop told is = subst (λ s. IfAuditFault s (λ f. AuditOf bytes (Err f))) (sym is) tt
 
 -- what is found of bytes that are those of a reader
 pub of_known : (setup : Setup) (known : Option (List ℕ)) (bytes : List ℕ) (finding : Finding) →

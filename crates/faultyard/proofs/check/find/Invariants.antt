@@ -5,12 +5,12 @@ use Rattle.fy_check.specs.Replayed.{HasReplayed}
 use Rattle.faultyard.proofs.check.find.Given as goal
 
 -- the entries that were read are those that were replayed
-abbrev pub invariant-loop : goal.invariant-loop
-invariant-loop l =
+abbrev pub invariant-loop-reader : goal.invariant-loop-reader
+invariant-loop-reader l =
     (entries : List Entry)
     × HasRead l.bytes entries l.reader
     × HasReplayed l.config entries l.replayer
     × (l.replayer.version ≡ l.reader.version)
 
-abbrev pub decreases-loop : goal.decreases-loop
-decreases-loop l = length l.reader.rest
+abbrev pub decreases-loop-reader : goal.decreases-loop-reader
+decreases-loop-reader l = length l.reader.rest
