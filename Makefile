@@ -3,7 +3,7 @@
 #   make                  proves and builds the program, and leaves it at bin/faultyard
 #   make run              builds the program without its proofs, asks it about examples/c6.judge (yes, yes, no, gone), has it kill two zones and check the audit
 #   make test             all that CI runs: every proof from nothing, the wrong bodies of crates that changed, each test, and the
-#                         command-line cases, and swarms of a few seeds
+#                         command-line cases, swarms of a few seeds, and talks with a guard
 #   make swarm-seeds      holds the swarms of 200 seeds on each cluster file of examples/ against the rules
 #   make refused-memory   refuses each request for memory of the short tests of commands and of shared clusters in turn
 #   make wrong-bodies     tries every wrong body again, which the prover has to refuse, and records those crates whose are all refused
@@ -35,6 +35,7 @@ test:
 	tests/cli/run bin/faultyard
 	tests/pipes/run bin/faultyard
 	tests/swarm/run bin/faultyard
+	tests/guard/run bin/faultyard
 	tests/examples/run
 	tests/run
 	tests/refused-memory faultyard/short::
