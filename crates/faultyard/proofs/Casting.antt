@@ -12,7 +12,7 @@ use Rattle.fy_actors.specs.Plans.{IsSwizzle, doomed}
 use Rattle.fy_actors.specs.Words.{words_of}
 use Rattle.fy_actors.specs.declared.plans.SwizzlePlan.{SwizzlePlan}
 use Rattle.faultyard.specs.Swarm.{everybody, storing, words_for, faults_before, Plays}
-use Rattle.faultyard.specs.declared.swarm.cast.Player.TheVariants.{Stores, Swizzles, Kills}
+use Rattle.faultyard.specs.declared.swarm.player.Player.TheVariants.{Stores, Swizzles, Kills}
 use Rattle.faultyard.proofs.Playing.{word_count}
 
 pub enough_words : (seed actor : ℕ) (processes : List Locality) (words : List ℕ) (count : ℕ) → count ≡ length processes → words ≡ words_of seed actor (2 * count) → 2 * length processes ≤ length words

@@ -1,24 +1,30 @@
 -- seats of a swarm: whose they are, and whose come back as they were
-use Rattle.std.proofs.Common.{rules, arith, ◌≡◌, ◌∙◌, ◌⊎◌, inl, inr, ◌<◌, ◌≤◌, ◌+◌, ℕ, zero, suc, Bool, true, false, List, [], ◌∷◌, ◌++◌, length, take, drop, get_or, refl, sym, ap, subst}
+use Rattle.std.proofs.Common.{rules, arith, ◌≡◌, ◌∙◌, ◌⊎◌, inl, inr, ◌<◌, ◌≤◌, ◌+◌, ℕ, zero, suc, true, false, List, [], ◌∷◌, ◌++◌, length, take, drop, get_or, map, ◌==◌, ◌≢◌, length-append, refl, sym, ap, subst}
 use Rattle.std.specs.Prelude.{slice_get, Option, Some, None}
 use Rattle.std.specs.List.{All, Contains}
 use Rattle.std.proofs.lemmas.Bool.{cases_lt}
-use Rattle.std.proofs.lemmas.List.{get_or-take, get_or_append_left}
-use Rattle.std.proofs.lemmas.List.Elements.{All-append, All-contains, All-drop, All-take, Contains-append_left, Contains-push}
+use Rattle.std.proofs.lemmas.List.{get_or-take, get_or_append_left, get_or_push, length-take-le, length-drop}
+use Rattle.std.proofs.lemmas.List.Elements.{All-append, All-contains, All-drop, All-take, Contains-append_left, Contains-append_right, Contains-push, filter-append}
 use Rattle.fy_cluster.specs.Setup.{Setup}
 use Rattle.fy_cluster.specs.Course.{Course}
 use Rattle.fy_cluster.specs.Survival.{Survives}
 use Rattle.fy_cluster.specs.declared.role.Role.{Role}
 use Rattle.fy_actors.specs.Desk.{entries_by}
 use Rattle.fy_yard.specs.Yard.{Yard, Sitting, new_seat, new_seats, IsOf, Settled}
-use Rattle.faultyard.specs.declared.swarm.cast.Player.{Player}
-use Rattle.fy_yard.specs.Posts.{AllRan}
+use Rattle.faultyard.specs.declared.swarm.player.Player.{Player}
+use Rattle.fy_yard.specs.Posts.{Ran, AllRan}
+use Rattle.fy_yard.specs.Parts.{Follows, Played, AllPlayed}
+use Rattle.fy_yard.specs.declared.posts.End.TheVariants.{NotRun, Ended, Limit, Shut, Failed}
+use Rattle.fy_cluster.specs.declared.fault.Fault.TheVariants.{JournalFull, NoMemory}
+use Rattle.fy_actors.specs.Parts.{Part, is_left, KeepsTo, OthersChangeNoPart}
+use Rattle.fy_actors.specs.Parts.Part.{Own}
+use Rattle.faultyard.specs.declared.swarm.player.Player.TheVariants.{Stores, Swizzles, Kills}
 use Rattle.fy_yard.specs.declared.posts.End.{End}
 use Rattle.fy_acts.specs.declared.entry.Entry.{Entry}
 use Rattle.fy_audit.specs.AuditText.{audit_text}
 use Rattle.fy_journal.specs.declared.version.Version.{Version}
 use Rattle.fy_journal.specs.declared.version.Version.TheVariants.{Second}
-use Rattle.faultyard.specs.Swarm.{IsSwarm, HasSwarmAudit, Plays, is_let_loose}
+use Rattle.faultyard.specs.Swarm.{IsSwarm, HasSwarmAudit, HasPlayed, Finished, AllFinished, Plays, is_let_loose, part_of, most_turns}
 
 -- ---- new seats
 
@@ -91,6 +97,12 @@ played_is_loose c seed a _ (Plays.stores role) = ap is_let_loose role
 played_is_loose c seed a _ (Plays.swizzles plan role even is) = ap is_let_loose role
 played_is_loose c seed a _ (Plays.kills ordered role odd) = ap is_let_loose role
 
+-- who is let loose is one of the actors
+loose_below : (roles : List Role) (a : ℕ) → is_let_loose (slice_get roles a) ≡ true → a < length roles
+loose_below [] a loose = absurd (let bad : ⊥ = search rules in bad)
+loose_below (role ∷ roles) zero loose = omega arith
+loose_below (role ∷ roles) (suc a) loose = let less = loose_below roles a loose in omega arith
+
 -- ---- the posts
 
 -- after a run the seats are of the same cluster
@@ -124,14 +136,217 @@ all_put_back seat end y before after n count ran all =
           (All-drop (λ p. (seat p).of ≡ Some y) (length after) before all))
     ]
 
+any_default : {A : Type 0} (xs : List A) (k : ℕ) (d e : A) → k < length xs → get_or xs k d ≡ get_or xs k e
+any_default [] k d e within = absurd (let none : ⊥ = omega arith in none)
+any_default (x ∷ xs) zero d e within = refl
+any_default (x ∷ xs) (suc k) d e within = any_default xs k d e (omega arith)
+
+past_end : {A : Type 0} (xs : List A) (k : ℕ) (d : A) → length xs ≤ k → get_or xs k d ≡ d
+past_end [] k d past = refl
+past_end (x ∷ xs) zero d past = absurd (let none : ⊥ = omega arith in none)
+past_end (x ∷ xs) (suc k) d past = past_end xs k d (omega arith)
+
+-- what holds of each beside the one at its place holds once they are put back
+pub put_back : {A : Type 0} (P : A → A → Type 0) (before after : List A) (n : ℕ) → n ≡ length before
+    → ((i : ℕ) (d : A) → i < length before → P (get_or before i d) (get_or after i d))
+    → (i : ℕ) (d : A) → i < length before → P (get_or before i d) (get_or (take n (after ++ drop (length after) before)) i d)
+put_back P before after n count all i d within =
+    let first : i < n = omega arith in
+    elim (cases_lt i (length after)) [
+      | inl inside ↦
+          subst (λ x. P (get_or before i d) x)
+          (sym (get_or-take n (after ++ drop (length after) before) i d first ∙ get_or_append_left after (drop (length after) before) d i inside))
+          (all i d within)
+      | inr outside ↦
+          let e = get_or (take n (after ++ drop (length after) before)) i d in
+          subst (λ x. P (get_or before i d) x) (past_end after i e outside)
+          (subst (λ x. P x (get_or after i e)) (any_default before i e d within) (all i e within))
+    ]
+
+pub played_back : {A : Type 0} (seat : A → Sitting) (part : A → Part) (end : A → End) (y : Yard) (before after : List A) (n : ℕ) → n ≡ length before
+    → AllPlayed y ⊥ most_turns seat part end before after → AllPlayed y ⊥ most_turns seat part end before (take n (after ++ drop (length after) before))
+played_back seat part end y before after n count played =
+    put_back (λ p q. Played y ⊥ most_turns (seat p) (seat q) (part p) (part q) (end q)) before after n count played
+
+-- as many are put back
+pub put_back_count : {A : Type 0} (before after : List A) (n : ℕ) → n ≡ length before → length (take n (after ++ drop (length after) before)) ≡ length before
+put_back_count before after n count =
+    let whole = length-append after (drop (length after) before) in
+    let rest = length-drop (length after) before in
+    length-take-le n (after ++ drop (length after) before) (omega arith) ∙ count
+
+-- ---- who plays
+
+-- each actor below a number that is let loose has a post: its new seat, and the part that is its player's
+abbrev pub AreCast : {A : Type 0} → (A → Sitting) → (A → Part) → Setup → ℕ → Yard → ℕ → List A → Type 0
+AreCast {A} seat part c seed y i posts =
+    (a : ℕ) → a < i → is_let_loose (slice_get c.roles a) ≡ true →
+    (player : Player) × Plays c seed a (Some player) × (k : ℕ) × (k < length posts)
+    × ((d : A) → (seat (get_or posts k d) ≡ new_seat y a) × (part (get_or posts k d) ≡ part_of player))
+
+pub none_cast : {A : Type 0} (seat : A → Sitting) (part : A → Part) (c : Setup) (seed : ℕ) (y : Yard) (posts : List A) → AreCast seat part c seed y 0 posts
+none_cast seat part c seed y posts a below = absurd (let none : ⊥ = omega arith in none)
+
+rests_isnt_loose : (c : Setup) (seed a : ℕ) → Plays c seed a None → is_let_loose (slice_get c.roles a) ≡ false
+rests_isnt_loose c seed a (Plays.rests role) = ap is_let_loose role
+
+-- whom nobody plays rests
+pub nobody_plays : (c : Setup) (seed a : ℕ) (who : Option Player) → ((player : Player) → who ≡ Some player → ⊥) → Plays c seed a who → Plays c seed a None
+nobody_plays c seed a None none plays = plays
+nobody_plays c seed a (Some player) none plays = absurd (none player refl)
+
+-- who rests needs no post
+pub rests_cast : {A : Type 0} (seat : A → Sitting) (part : A → Part) (c : Setup) (seed : ℕ) (y : Yard) (i : ℕ) (posts : List A) → Plays c seed i None
+    → AreCast seat part c seed y i posts → AreCast seat part c seed y (i + 1) posts
+rests_cast seat part c seed y i posts idle are a below loose =
+    elim (cases_lt a i) [
+      | inl before ↦ are a before loose
+      | inr past ↦
+          let bad : true ≡ false = sym loose ∙ (ap (λ n. is_let_loose (slice_get c.roles n)) (same_number i a below past) ∙ rests_isnt_loose c seed i idle) in
+          absurd (search rules)
+    ]
+
+-- who is given a post has it
+pub loose_cast : {A : Type 0} (seat : A → Sitting) (part : A → Part) (c : Setup) (seed : ℕ) (y : Yard) (i : ℕ) (posts : List A) (player : Player) (post : A) → Plays c seed i (Some player)
+    → seat post ≡ new_seat y i → part post ≡ part_of player → AreCast seat part c seed y i posts → AreCast seat part c seed y (i + 1) (posts ++ post ∷ [])
+loose_cast seat part c seed y i posts player post plays at is are a below loose =
+    elim (cases_lt a i) [
+      | inl before ↦
+          let had = are a before loose in
+          let within = had.3 in
+          let long = length-append posts (post ∷ []) in
+          (had.0, had.1, had.2, omega arith, λ d. subst (λ p. (seat p ≡ new_seat y a) × (part p ≡ part_of had.0)) (sym (get_or_append_left posts (post ∷ []) d had.2 within)) (had.4 d))
+      | inr past ↦
+          let same : a ≡ i = same_number i a below past in
+          let long = length-append posts (post ∷ []) in (
+            player,
+            subst (λ n. Plays c seed n (Some player)) (sym same) plays,
+            length posts,
+            omega arith,
+            λ d. subst (λ p. (seat p ≡ new_seat y a) × (part p ≡ part_of player)) (sym (get_or_push posts post d (length posts) refl)) (at ∙ ap (new_seat y) (sym same), is),
+          )
+    ]
+
+part_is_known : (player : Player) → part_of player ≢ Own
+part_is_known (Stores drive) e = let bad : ⊥ = search rules in bad
+part_is_known (Swizzles agenda) e = let bad : ⊥ = search rules in bad
+part_is_known (Kills agenda) e = let bad : ⊥ = search rules in bad
+
+-- a seat that has seen nothing follows any part
+new_follows : (y : Yard) (a : ℕ) (first : Part) → Follows y first (new_seat y a) first
+new_follows y a first = record {
+  own = refl;
+  keeps = record { now_at = refl; obeys = λ front rest entry is. absurd (nothing_split front rest entry is) };
+}
+  where
+    nothing_split : (front rest : List Entry) (entry : Entry) → [] ≡ front ++ entry ∷ rest → ⊥
+    nothing_split front rest entry is =
+        let long = length-append front (entry ∷ rest) in
+        let none : 0 ≡ length (front ++ entry ∷ rest) = ap length is in
+        omega arith
+
+-- what a run leaves of a new seat whose actor plays
+finished : (y : Yard) (a : ℕ) (player : Player) (t : Sitting) (now : Part) (end : End)
+    → Ran y (new_seat y a) t end → Played y ⊥ most_turns (new_seat y a) t (part_of player) now end → end ≢ Failed NoMemory
+    → Finished y a player t
+finished y a player t now end ran played remembered = record {
+  number = ran.seat.1;
+  now = now;
+  follows = played.follows (part_of player) (new_follows y a (part_of player));
+  through = ends end ran.ended played.over (λ e. played.limit e (part_is_known player)) (λ e. played.full e (part_is_known player)) played.shut remembered;
+}
+  where
+    ends : (end : End) → end ≢ NotRun → (end ≡ Ended → is_left now ≡ false) → (end ≡ Limit → length t.receipts ≡ 0 + most_turns)
+        → (end ≡ Failed JournalFull → y.setup.limit ≤ length t.seen) → (end ≡ Shut → ⊥) → end ≢ Failed NoMemory
+        → (is_left now ≡ false) ⊎ ((length t.receipts ≡ most_turns) ⊎ (y.setup.limit ≤ length t.seen))
+    ends NotRun run over limit full shut remembered = absurd (run refl)
+    ends Ended run over limit full shut remembered = inl (over refl)
+    ends Limit run over limit full shut remembered = inr (inl (limit refl))
+    ends Shut run over limit full shut remembered = absurd (shut refl)
+    ends (Failed JournalFull) run over limit full shut remembered = inr (inr (full refl))
+    ends (Failed NoMemory) run over limit full shut remembered = absurd (remembered refl)
+
+-- all have finished, at the seats of their posts
+pub all_finished : {A : Type 0} (seat : A → Sitting) (part : A → Part) (end : A → End) (c : Setup) (seed : ℕ) (y : Yard) (before after : List A) (back : List Sitting)
+    → AreCast seat part c seed y (length c.roles) before → length after ≡ length before
+    → AllRan y seat end before after → AllPlayed y ⊥ most_turns seat part end before after
+    → All (λ p. end p ≢ Failed NoMemory) after → AllFinished c seed y (back ++ map seat after)
+all_finished {A} seat part end c seed y before after back cast same ran played remembered a below loose =
+    let had = cast a below loose in
+    let k = had.2 in
+    let within = had.3 in
+    let inside : k < length after = omega arith in
+    let d = first_post before k within in
+    let e = get_or after k d in
+    let here = had.4 d in (
+      had.0,
+      had.1,
+      seat e,
+      Contains-append_right back (map seat after) (seat e) (contains_mapped after k d inside),
+      finished y a had.0 (seat e) (part e) (end e)
+          (subst (λ s. Ran y s (seat e) (end e)) here.0 (ran k d within))
+          (subst (λ q. Played y ⊥ most_turns (new_seat y a) (seat e) q (part e) (end e)) here.1
+          (subst (λ s. Played y ⊥ most_turns s (seat e) (part (get_or before k d)) (part e) (end e)) here.0 (played k d within)))
+          (remembered k d inside),
+    )
+  where
+    first_post : (xs : List A) (k : ℕ) → k < length xs → A
+    first_post [] k within = absurd (let none : ⊥ = omega arith in none)
+    first_post (x ∷ xs) k within = x
+
+    contains_mapped : (xs : List A) (k : ℕ) (d : A) → k < length xs → Contains (map seat xs) (seat (get_or xs k d))
+    contains_mapped [] k d within = absurd (let none : ⊥ = omega arith in none)
+    contains_mapped (x ∷ xs) zero d within = (0, omega arith, refl)
+    contains_mapped (x ∷ xs) (suc k) d within =
+        let next = contains_mapped xs k d (omega arith) in
+        let less = next.1 in
+        (suc next.0, omega arith, next.2)
+
 -- ---- the close
 
+no_entries : (xs : List Entry) → length xs ≡ 0 → xs ≡ []
+no_entries [] e = refl
+no_entries (x ∷ xs) e = absurd (let none : ⊥ = omega arith in none)
+
+-- who has finished has played, in the journal of the close
+has_played : OthersChangeNoPart → (y : Yard) (a : ℕ) (player : Player) (s : Sitting) (journal : List Entry) → Finished y a player s → IsOf journal s → HasPlayed y.setup a player journal
+has_played others y a player s journal done is =
+    let rest = is.0.0 in
+    let own : entries_by s.actor s.seen ≡ s.receipts = done.follows.own in
+    let split : entries_by s.actor journal ≡ entries_by s.actor s.seen ++ entries_by s.actor rest =
+    ap (entries_by s.actor) is.0.1 ∙ filter-append (λ (e : Entry). e.by == s.actor) s.seen rest in
+    let long : length (entries_by s.actor s.seen ++ entries_by s.actor rest) ≡ length (entries_by s.actor s.seen) + length (entries_by s.actor rest) =
+    length-append (entries_by s.actor s.seen) (entries_by s.actor rest) in
+    let same : length (entries_by s.actor s.seen ++ entries_by s.actor rest) ≡ length (entries_by s.actor s.seen) =
+    ap length (sym split ∙ (is.1 ∙ sym own)) in
+    let none : entries_by s.actor rest ≡ [] = no_entries (entries_by s.actor rest) (omega (arith, long, same)) in
+    let keeps : KeepsTo y.setup s.actor (part_of player) journal done.now =
+    subst (λ (l : List Entry). KeepsTo y.setup s.actor (part_of player) l done.now) (sym is.0.1)
+    (others y.setup s.actor (part_of player) done.now s.seen rest none done.follows.keeps) in
+    let grown : length journal ≡ length s.seen + length rest = ap length is.0.1 ∙ length-append s.seen rest in
+    record {
+      now = done.now;
+      keeps = subst (λ n. KeepsTo y.setup n (part_of player) journal done.now) done.number keeps;
+      through = elim done.through [
+        | inl over ↦ inl over
+        | inr (inl many) ↦ inr (inl (ap (λ n. length (entries_by n journal)) (sym done.number) ∙ (ap length is.1 ∙ many)))
+        | inr (inr full) ↦ inr (inr (omega (arith, grown, full)))
+      ];
+    }
+
 -- what a swarm leaves, once all seats are handed in
-pub is_swarm : (y : Yard) (c : Setup) (seats : List Sitting) (course : Course) (left : List Sitting) → y.setup ≡ c → AreBack c.roles y (length c.roles) seats → Settled y seats course left
-    → IsSwarm c course.journal
-is_swarm y c seats course left same back settled =
+pub is_swarm : OthersChangeNoPart → (y : Yard) (c : Setup) (seed : ℕ) (seats : List Sitting) (course : Course) (left : List Sitting) → y.setup ≡ c → AreBack c.roles y (length c.roles) seats
+    → AllFinished c seed y seats → Settled y seats course left → IsSwarm c seed course.journal
+is_swarm others y c seed seats course left same back done settled =
     record {
       survives = subst (λ d. Survives d course.journal) same settled.survives;
+      played = λ a loose.
+          let had = done a (loose_below c.roles a loose) loose in (
+            had.0,
+            had.1,
+            subst (λ d. HasPlayed d a had.0 course.journal) same
+                (has_played others y a had.0 had.2 course.journal had.4 (All-contains (IsOf course.journal) seats had.2 settled.each had.3)),
+          );
       quiet = λ a rests. elim (cases_lt a (length c.roles)) [
         | inl below ↦ (All-contains (IsOf course.journal) seats (new_seat y a) settled.each (back a below rests)).1
         | inr past ↦ settled.strangers a (subst (λ (d : Setup). length d.roles ≤ a) (sym same) past)
@@ -139,7 +354,7 @@ is_swarm y c seats course left same back settled =
     }
 
 -- the audit of the journal that a swarm leaves
-pub has_swarm_audit : (c : Setup) (journal : List Entry) (version : Version) (entries : List Entry) (P : List ℕ → Type 0) → IsSwarm c journal → entries ≡ journal → version ≡ Second
-    → P (audit_text version entries) → HasSwarmAudit c P
-has_swarm_audit c journal version entries P is same second holds =
+pub has_swarm_audit : (c : Setup) (seed : ℕ) (journal : List Entry) (version : Version) (entries : List Entry) (P : List ℕ → Type 0) → IsSwarm c seed journal → entries ≡ journal → version ≡ Second
+    → P (audit_text version entries) → HasSwarmAudit c seed P
+has_swarm_audit c seed journal version entries P is same second holds =
     (journal, is, subst P (ap (audit_text version) same ∙ ap (λ v. audit_text v journal) second) holds)

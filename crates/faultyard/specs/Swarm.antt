@@ -1,5 +1,5 @@
 -- who plays which actor of a swarm, and what is written of it
-use Rattle.std.specs.Prelude.{◌≡◌, ◌≤◌, ℕ, ◌*◌, ◌%◌, ◌==◌, Bool, true, false, List, [], ◌∷◌, length, map, take, Option, Some, None, slice_get}
+use Rattle.std.specs.Prelude.{◌≡◌, ◌≤◌, ◌⊎◌, ℕ, ◌*◌, ◌%◌, Bool, true, false, List, [], ◌∷◌, length, map, take, Contains, ◌<◌, Option, Some, None, slice_get}
 use Rattle.std.specs.List.{range_with_len, count_by}
 use Rattle.fy_locality.specs.declared.ProcId.{ProcId}
 use Rattle.fy_locality.specs.declared.locality.Locality.{Locality}
@@ -17,10 +17,14 @@ use Rattle.fy_actors.specs.Plans.{IsSwizzle, doomed}
 use Rattle.fy_actors.specs.Agendas.{begun, swizzle_acts, attrition_acts}
 use Rattle.fy_actors.specs.Drives.{Drive}
 use Rattle.fy_actors.specs.Desk.{entries_by}
+use Rattle.fy_actors.specs.Parts.{Part, is_left, KeepsTo}
+use Rattle.fy_actors.specs.Parts.Part.{Acts, Stores as StoresPart}
 use Rattle.fy_actors.specs.declared.plans.SwizzlePlan.{SwizzlePlan}
 use Rattle.fy_actors.specs.declared.driver.Team.TheVariants.{Unformed}
-use Rattle.faultyard.specs.declared.swarm.cast.Player.{Player}
-use Rattle.faultyard.specs.declared.swarm.cast.Player.TheVariants.{Stores, Swizzles, Kills}
+use Rattle.fy_yard.specs.Yard.{Yard, Sitting}
+use Rattle.fy_yard.specs.Parts.{Follows}
+use Rattle.faultyard.specs.declared.swarm.player.Player.{Player}
+use Rattle.faultyard.specs.declared.swarm.player.Player.TheVariants.{Stores, Swizzles, Kills}
 
 -- every process, by number
 abbrev pub everybody : List Locality → List ProcId
@@ -76,14 +80,52 @@ is_let_loose (Some Fault) = true
 is_let_loose (Some Operator) = false
 is_let_loose None = false
 
--- the journal that a swarm leaves: it keeps what every legal journal keeps, and has no entry of who
--- isn't let loose
-pub record IsSwarm (setup : Setup) (journal : List Entry) : Type 0 where
+-- the part that a player plays
+abbrev pub part_of : Player → Part
+part_of (Stores drive) = StoresPart drive
+part_of (Swizzles agenda) = Acts agenda
+part_of (Kills agenda) = Acts agenda
+
+-- how many turns an actor takes at most
+abbrev pub most_turns : ℕ
+most_turns = 1000
+
+-- an actor has played: each of its entries has the act that came next in its part. And no act is
+-- left, or it has as many entries as it may take turns, or the journal is full
+pub record HasPlayed (setup : Setup) (actor : ℕ) (player : Player) (journal : List Entry)
+    : Type 0 where
+  pub now : Part
+  pub keeps : KeepsTo setup actor (part_of player) journal now
+  pub through : (is_left now ≡ false) ⊎ ((length (entries_by actor journal) ≡ most_turns)
+      ⊎ (setup.limit ≤ length journal))
+
+-- the journal that a swarm leaves: it keeps what every legal journal keeps, who is let loose has
+-- played what the actor's role and words say, and it has no entry of anybody else
+pub record IsSwarm (setup : Setup) (seed : ℕ) (journal : List Entry) : Type 0 where
   pub survives : Survives setup journal
+  pub played : (a : ℕ) → is_let_loose (slice_get setup.roles a) ≡ true →
+      (player : Player) × Plays setup seed a (Some player) × HasPlayed setup a player journal
   pub quiet : (a : ℕ) → is_let_loose (slice_get setup.roles a) ≡ false →
       entries_by a journal ≡ []
 
 -- what holds of the audit of such a journal
-abbrev pub HasSwarmAudit : Setup → (List ℕ → Type 0) → Type 0
-HasSwarmAudit setup P =
-    (journal : List Entry) × IsSwarm setup journal × P (audit_text Second journal)
+abbrev pub HasSwarmAudit : Setup → ℕ → (List ℕ → Type 0) → Type 0
+HasSwarmAudit setup seed P =
+    (journal : List Entry) × IsSwarm setup seed journal × P (audit_text Second journal)
+
+-- ---- seats whose actors have played
+
+-- the seat of an actor that has played, in all that the seat has seen
+pub record Finished (y : Yard) (actor : ℕ) (player : Player) (s : Sitting) : Type 0 where
+  pub number : s.actor ≡ actor
+  pub now : Part
+  pub follows : Follows y (part_of player) s now
+  pub through : (is_left now ≡ false) ⊎ ((length s.receipts ≡ most_turns)
+      ⊎ (y.setup.limit ≤ length s.seen))
+
+-- each actor that is let loose has played what its role and words say, at one of these seats
+abbrev pub AllFinished : Setup → ℕ → Yard → List Sitting → Type 0
+AllFinished setup seed y seats =
+    (a : ℕ) → a < length setup.roles → is_let_loose (slice_get setup.roles a) ≡ true →
+    (player : Player) × Plays setup seed a (Some player)
+    × (s : Sitting) × Contains seats s × Finished y a player s

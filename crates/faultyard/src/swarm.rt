@@ -1,18 +1,24 @@
 //! The engine behind `faultyard swarm`: every actor of a cluster is let loose on a thread of its
 //! own, and the audit of what came of it goes out.
-ghost use Rattle.std.specs.Prelude.{◌≡◌, ◌≢◌, ◌<◌, ◌⊎◌, ◌++◌, ℕ, List, length, map, true, false, All, Contains, IfOk, IfErr, Some, Err, slice_get};
+ghost use Rattle.std.specs.Prelude.{◌≡◌, ◌≢◌, ◌<◌, ◌⊎◌, ◌++◌, ℕ, List, length, map, true, false, All, Contains, IfOk, IfErr, OnOk, Some, Err, slice_get};
 ghost use Rattle.std.specs.Io.KnownBytes.{Appends};
 ghost use Rattle.fy_lines.specs.Fronts.{StopsShort};
 ghost use Rattle.fy_yard.specs.Yard.{Sitting, new_seat, new_seats, Settled};
-ghost use Rattle.faultyard.specs.Swarm.{IsSwarm, HasSwarmAudit, is_let_loose};
+ghost use Rattle.fy_yard.specs.Posts.{AllRan};
+ghost use Rattle.fy_yard.specs.Parts.{AllPlayed};
+ghost use Rattle.fy_yard.specs.declared.posts.End.TheVariants.{Failed};
+ghost use Rattle.fy_cluster.specs.declared.fault.Fault.TheVariants.{NoMemory};
+ghost use Rattle.faultyard.specs.Swarm.{IsSwarm, HasSwarmAudit, AllFinished, is_let_loose, most_turns};
 ghost use Rattle.faultyard.specs.Stops.{OfSwarm};
 
 mod cast;
+mod player;
 
 use crate::audit::write_audit;
 use crate::stop::Stop;
-use cast::{Player, player_of};
+use cast::player_of;
 use fy_actors::FaultActor;
+use fy_actors::laws::parts_are_kept;
 use fy_cluster::{Cluster, Config, Fault};
 use fy_yard::{CloseFault, Closed, End, Gate, Post, Seat, Shared, run_actors};
 use std::alloc::{AllocError, Global};
@@ -52,7 +58,13 @@ fn open(alloc: Global, config: &Config) -> Result<(Shared, Vec<Seat>), AllocErro
 /// Runs each post until it has ended.
 fn run_posts<R: Threads + Wait + Sync>(rt: &R, shared: &Shared, posts: &mut Vec<Post>)
     requires { All (λ post. post.seat.of ≡ Some shared.now) posts.old.items }
-    ensures { All (λ post. post.seat.of ≡ Some shared.now) posts.new.items }
+    ensures theirs { All (λ post. post.seat.of ≡ Some shared.now) posts.new.items }
+    ensures ran { AllRan shared.now (λ post. post.seat) (λ post. post.end) posts.old.items
+        posts.new.items }
+    ensures played { AllPlayed shared.now ⊥ most_turns (λ post. post.seat)
+        (λ post. part (post.actor.vtable, post.actor.value)) (λ post. post.end)
+        posts.old.items posts.new.items }
+    ensures same { length posts.new.items ≡ length posts.old.items }
 {
     run_actors(rt, shared, posts.as_mut_slice(), &OpenGate, MOST_TURNS);
 }
@@ -64,7 +76,8 @@ fn run_posts<R: Threads + Wait + Sync>(rt: &R, shared: &Shared, posts: &mut Vec<
 /// `AllocError` where memory is refused, or was refused to a post.
 fn take_back(posts: Vec<Post>, back: Vec<Seat>) -> Result<Vec<Seat>, AllocError>
     ensures { IfOk result (λ seats.
-        seats.items ≡ back.items ++ map (λ post. post.seat) posts.items) }
+        (seats.items ≡ back.items ++ map (λ post. post.seat) posts.items)
+        × All (λ post. post.end ≢ Failed NoMemory) posts.items) }
 {
     let mut seats = back;
     for post in posts {
@@ -82,7 +95,8 @@ fn take_back(posts: Vec<Post>, back: Vec<Seat>) -> Result<Vec<Seat>, AllocError>
 }
 
 /// Lets each actor loose at its seat, on a thread of its own, and gives the seats back once all
-/// have ended; who isn't let loose keeps its seat as it is. A full journal ends an actor.
+/// have ended; who isn't let loose keeps its seat as it is. A full journal ends an actor, as do a
+/// thousand turns.
 ///
 /// # Errors
 ///
@@ -101,6 +115,8 @@ fn let_loose<R: Threads + Wait + Sync>(
     ensures rested { IfOk result (λ back. (a : ℕ) → a < length config.now.roles →
         is_let_loose (slice_get config.now.roles a) ≡ false →
         Contains back.items (new_seat shared.now a)) }
+    ensures played { IfOk result (λ back.
+        AllFinished config.now seed shared.now back.items) }
 {
     let mut posts = Vec::new(alloc);
     let mut back = Vec::with_capacity(alloc, seats.len())?;
@@ -109,11 +125,7 @@ fn let_loose<R: Threads + Wait + Sync>(
             back.push(seat)?;
             continue;
         };
-        let actor: Box<dyn FaultActor + Send> = match player {
-            Player::Stores(driver) => Box::new(alloc, driver)?,
-            Player::Swizzles(swizzle) => Box::new(alloc, swizzle)?,
-            Player::Kills(attrition) => Box::new(alloc, attrition)?,
-        };
+        let actor: Box<dyn FaultActor + Send> = Box::new(alloc, player)?;
         let end = End::NotRun;
         posts.push(Post { seat, actor, end })?;
     }
@@ -143,7 +155,7 @@ fn swarmed<R: Threads + Wait + Sync>(
     config: &Config,
     seed: u64,
 ) -> Result<Cluster, Stop>
-    ensures swarm { IfOk result (λ cluster. IsSwarm config.now cluster.journal) }
+    ensures swarm { IfOk result (λ cluster. IsSwarm config.now seed cluster.journal) }
     ensures no_other { IfErr result (λ stop.
         (stop ≡ Stop.SwarmClose) ⊎ (stop ≡ Stop.NoMemory)) }
 {
@@ -153,6 +165,7 @@ fn swarmed<R: Threads + Wait + Sync>(
     let Ok(seats) = let_loose(rt, alloc, config, seed, &shared, seats) else {
         return Err(Stop::NoMemory);
     };
+    parts_are_kept();
     close(shared, seats)
 }
 
@@ -165,7 +178,8 @@ fn swarmed<R: Threads + Wait + Sync>(
 /// `KillInstantly`, or where that is barred by a milder kind down to `Reboot`. Whom they clog and
 /// kill is drawn from the seed, for each actor from a stream of its own. Operators do nothing.
 ///
-/// All have ended before the first byte is written. A full journal ends an actor and is no error.
+/// All have ended before the first byte is written: each has made the acts of its plan or its rule,
+/// in order and to their end, unless it made a thousand or the journal is full, which is no error.
 ///
 /// # Errors
 ///
@@ -179,15 +193,15 @@ pub fn run_swarm<R: Threads + Wait + Sync, W: Write>(
     seed: u64,
     writer: &mut W,
 ) -> Result<bool, Stop>
-    ensures done { IfOk result (λ done. (done ≡ true) × HasSwarmAudit config.now
+    ensures done { IfOk result (λ done. (done ≡ true) × HasSwarmAudit config.now seed
         (Appends (W.contents writer.old) (W.contents writer.new))) }
     ensures nothing_out { IfErr result (λ stop. stop ≢ Stop.Write → stop ≢ Stop.NoMemory →
         W.contents writer.new ≡ W.contents writer.old) }
-    ensures front_out { result ≡ Err Stop.Write → HasSwarmAudit config.now
+    ensures front_out { result ≡ Err Stop.Write → HasSwarmAudit config.now seed
         (StopsShort (W.contents writer.old) (W.contents writer.new)) }
     ensures no_memory { result ≡ Err Stop.NoMemory →
         (W.contents writer.new ≡ W.contents writer.old)
-        ⊎ HasSwarmAudit config.now
+        ⊎ HasSwarmAudit config.now seed
         (StopsShort (W.contents writer.old) (W.contents writer.new)) }
     ensures no_other { IfErr result OfSwarm }
 {

@@ -5,11 +5,11 @@ ghost use Rattle.fy_audit.specs.AuditText.{header};
 ghost use Rattle.fy_journal.specs.declared.version.Version.TheVariants.{First, Second};
 ghost use Rattle.fy_audit.specs.Versions.{knows_refusal, knows_reply, has_entry};
 
-use crate::{Entry, Journal, MOST_ENTRIES, MOST_LINE_BYTES, Refusal, Reply, Version};
+use crate::{Entry, Journal, JournalFault, MOST_ENTRIES, MOST_LINE_BYTES, Refusal, Reply, Version};
 use fy_lines::first_line;
 use fy_spelling::laws::{a_text_is_a_line, a_text_is_of_one_entry};
 use fy_spelling::{EntryFault, read_entry};
-use std::alloc::{AllocError, Global};
+use std::alloc::Global;
 
 /// How many bytes an audit may have: 268,435,456.
 pub const MOST_AUDIT_BYTES: usize = 268_435_456;
@@ -175,8 +175,8 @@ fn next_entry<'b>(
 ///
 /// # Errors
 ///
-/// `AllocError` where there is no memory for it.
-fn enter(journal: &mut Journal, entry: Entry) -> Result<(), AllocError>
+/// `NoMemory` where there is no memory for it.
+fn enter(journal: &mut Journal, entry: Entry) -> Result<(), JournalFault>
     requires place { entry.at ≡ length journal.old.entries }
     requires few { length journal.old.entries < MOST_ENTRIES }
     ensures entries { OnOk result (journal.new.entries ≡ journal.old.entries ++ entry ∷ []) }
@@ -223,7 +223,7 @@ pub fn read_audit(alloc: Global, bytes: &[u8]) -> Result<Journal, AuditFault>
             }
             Err(Stop::NoMemory) => return Err(AuditFault::NoMemory),
         };
-        if let Err(AllocError) = enter(&mut journal, entry) {
+        if let Err(_) = enter(&mut journal, entry) {
             return Err(AuditFault::NoMemory);
         }
         place += 1;

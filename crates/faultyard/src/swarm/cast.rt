@@ -7,6 +7,7 @@ ghost use Rattle.fy_kinds.specs.Kinds.{rank};
 ghost use Rattle.fy_kinds.specs.declared.kind.Kind.TheVariants as kind;
 ghost use Rattle.faultyard.specs.Swarm.{everybody, payloads, storing, words_for, is_fault, faults_before, Plays};
 
+use crate::swarm::player::Player;
 use fy_actors::{
     Attrition, AttritionFault, PlanFault, StorageDriver, Swizzle, attrition_plan, swizzle_plan,
     words,
@@ -28,17 +29,6 @@ const CLOG_TICKS: u64 = 10;
 const TO_KILL: u32 = 2;
 
 const TO_LEAVE: u32 = 1;
-
-/// Who plays an actor.
-#[derive(Drop)]
-pub enum Player {
-    /// Forms a team of all processes, stores four payloads there and moves data.
-    Stores(StorageDriver),
-    /// Clogs processes and frees them again.
-    Swizzles(Swizzle),
-    /// Kills machines.
-    Kills(Attrition),
-}
 
 /// Every process, by number.
 #[tactic(auto, using(crate::proofs::Playing::one_process_more))]

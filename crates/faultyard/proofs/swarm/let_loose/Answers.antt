@@ -1,10 +1,13 @@
-use Rattle.std.proofs.Common.{arith, ◌≡◌, ◌∙◌, ◌++◌, [], ◌∷◌, ◌+◌, ◌<◌, true, length, map, sym, ap, subst}
-use Rattle.std.specs.Prelude.{Some, slice_get}
+use Rattle.std.proofs.Common.{arith, inl, refl, ◌≡◌, ◌∙◌, ◌++◌, [], ◌∷◌, ◌+◌, true, length, sym, ap, subst}
+use Rattle.std.specs.Prelude.{Some, None, slice_get}
 use Rattle.std.specs.List.{All}
 use Rattle.std.proofs.lemmas.List.Elements.{All-append, All-map, All-push}
 use Rattle.std.proofs.lemmas.Result.{IfOk-weaker}
-use Rattle.faultyard.specs.Swarm.{Plays, is_let_loose}
-use Rattle.faultyard.proofs.Swarming.{AreBack, next_seat, none_left, rests_back, loose_back, more_back, played_is_loose}
+use denote.Param.Object.{read_made}
+use Rattle.fy_actors.specs.Parts.{Part}
+use Rattle.faultyard.specs.Swarm.{Plays, AllFinished, is_let_loose, part_of}
+use Rattle.faultyard.proofs.Swarming.{AreBack, AreCast, next_seat, none_left, rests_back, loose_back, more_back, played_is_loose, nobody_plays, rests_cast, loose_cast, all_finished}
+use Rattle.faultyard.proofs.swarm.let_loose.OwnLists.{own-1}
 use Rattle.faultyard.proofs.swarm.let_loose.Goals as goal
 
 pub player_of-requires : goal.player_of-requires
@@ -37,6 +40,13 @@ loop-seat-preserved-in_default g c =
           (All-push (λ seat. seat.of ≡ Some c.args.shared.now) c.loop-seat.back.items
           c.in-Some.seat inv.5 (ap (λ s. s.of) here.2)),
       inv.6,
+      rests_cast (λ post. post.seat)
+          (λ post. (own-1.entry post.actor.vtable).1.part post.actor.value)
+          c.args.config.now c.args.seed c.args.shared.now inv.0 c.loop-seat.posts.items
+          (subst (λ a. Plays c.args.config.now c.args.seed a None)
+          (c.actor.ensures ∙ ap (λ s. s.actor) here.2)
+          (nobody_plays c.args.config.now c.args.seed c.actor.result _ c.in_default.not-Some
+          c.in_ok-player.ensures)) inv.7,
     )
 
 pub loop-seat-preserved : goal.loop-seat-preserved
@@ -61,15 +71,26 @@ loop-seat-preserved g c =
           (sym c.in_ok-push-2.ensures.items)
           (All-push (λ post. post.seat.of ≡ Some c.args.shared.now) c.loop-seat.posts.items _
           inv.6 (ap (λ s. s.of) here.2)),
+      subst (AreCast (λ post. post.seat)
+          (λ post. (own-1.entry post.actor.vtable).1.part post.actor.value)
+          c.args.config.now c.args.seed c.args.shared.now (inv.0 + 1)) (sym c.in_ok-push-2.ensures.items)
+          (loose_cast (λ post. post.seat)
+          (λ post. (own-1.entry post.actor.vtable).1.part post.actor.value)
+          c.args.config.now c.args.seed c.args.shared.now inv.0 c.loop-seat.posts.items c.in-Some-2.player _
+          (subst (λ a. Plays c.args.config.now c.args.seed a (Some c.in-Some-2.player)) at plays) here.2
+          (read_made own-1 (own-1.entry (inl tt)) (inl tt) refl Part (λ entry x. entry.1.part x)
+          c.into_dyn_box.result.vtable c.into_dyn_box.result.value c.in_ok-new.field-0.value
+          c.into_dyn_box.ensures.1
+          ∙ ap part_of c.in_ok-new.ensures.ok) inv.7),
     )
 
 pub returns-clause-theirs : goal.returns-clause-theirs
 returns-clause-theirs g c =
     let inv = c.loop-seat.invariant in
     IfOk-weaker c.take_back.result _ _
-    (λ seats is. subst (All (λ seat. seat.of ≡ Some c.args.shared.now)) (sym is)
+    (λ seats is. subst (All (λ seat. seat.of ≡ Some c.args.shared.now)) (sym is.0)
     (All-append (λ seat. seat.of ≡ Some c.args.shared.now) c.loop-seat.back.items _ inv.5
-    (All-map (λ seat. seat.of ≡ Some c.args.shared.now) (λ post. post.seat) _ c.run_posts.ensures)))
+    (All-map (λ seat. seat.of ≡ Some c.args.shared.now) (λ post. post.seat) _ c.run_posts.ensures.theirs)))
     c.take_back.ensures
 
 pub returns-clause-rested : goal.returns-clause-rested
@@ -84,7 +105,27 @@ returns-clause-rested g c =
     all inv.4 in
     IfOk-weaker c.take_back.result _ _
     (λ seats is. subst
-    (AreBack c.args.config.now.roles c.args.shared.now (length c.args.config.now.roles)) (sym is)
+    (AreBack c.args.config.now.roles c.args.shared.now (length c.args.config.now.roles)) (sym is.0)
     (more_back c.args.config.now.roles c.args.shared.now (length c.args.config.now.roles)
     c.loop-seat.back.items _ are))
+    c.take_back.ensures
+
+pub returns-clause-played : goal.returns-clause-played
+returns-clause-played g c =
+    let inv = c.loop-seat.invariant in
+    let none : inv.1 ≡ 0 = none_left c.args.shared.now inv.0 inv.1
+    c.loop-seat.seat-iterator.rest.items
+    (sym c.loop-seat.seat-iterator.rest.ok.0 ∙ c.in-None.ensures.steps.0) inv.3 in
+    let sum = inv.2 in
+    let all : inv.0 ≡ length c.args.config.now.roles = omega arith in
+    let cast = subst (λ n. AreCast (λ post. post.seat)
+    (λ post. (own-1.entry post.actor.vtable).1.part post.actor.value)
+    c.args.config.now c.args.seed c.args.shared.now n c.loop-seat.posts.items) all inv.7 in
+    IfOk-weaker c.take_back.result _ _
+    (λ seats is. subst (AllFinished c.args.config.now c.args.seed c.args.shared.now) (sym is.0)
+    (all_finished (λ post. post.seat)
+    (λ post. (own-1.entry post.actor.vtable).1.part post.actor.value)
+    (λ post. post.end) c.args.config.now c.args.seed c.args.shared.now c.loop-seat.posts.items
+    c.run_posts.new.posts.items c.loop-seat.back.items cast c.run_posts.ensures.same
+    c.run_posts.ensures.ran c.run_posts.ensures.played is.1))
     c.take_back.ensures

@@ -2,7 +2,8 @@ use Rattle.std.proofs.Common.{◌≡◌, ◌+◌, ℕ, length}
 use Rattle.std.specs.Prelude.{Some}
 use Rattle.std.specs.List.{All}
 use Rattle.fy_yard.specs.Yard.{new_seats}
-use Rattle.faultyard.proofs.Swarming.{AreBack}
+use Rattle.faultyard.proofs.Swarming.{AreBack, AreCast}
+use Rattle.faultyard.proofs.swarm.let_loose.OwnLists.{own-1}
 use Rattle.faultyard.proofs.swarm.let_loose.Given as goal
 
 abbrev pub invariant-loop-seat : goal.invariant-loop-seat
@@ -12,3 +13,6 @@ invariant-loop-seat g l =
     × AreBack l.config.roles l.shared i l.back.items
     × All (λ seat. seat.of ≡ Some l.shared) l.back.items
     × All (λ post. post.seat.of ≡ Some l.shared) l.posts.items
+    × AreCast (λ post. post.seat)
+    (λ post. (own-1.entry post.actor.vtable).1.part post.actor.value)
+    l.config l.seed l.shared i l.posts.items

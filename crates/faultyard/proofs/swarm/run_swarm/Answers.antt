@@ -7,7 +7,7 @@ use Rattle.faultyard.proofs.swarm.run_swarm.Goals as goal
 pub returns-in-Ok-write_audit-clause-done : goal.returns-in-Ok-write_audit-clause-done
 returns-in-Ok-write_audit-clause-done g c =
     let out =
-    has_swarm_audit c.args.config.now c.in-Ok.cluster.journal c.journal.result.now.version
+    has_swarm_audit c.args.config.now c.args.seed c.in-Ok.cluster.journal c.journal.result.now.version
     c.journal.result.now.entries
     (Appends (g.W.Write.contents c.args.writer.now) (g.W.Write.contents c.write_audit.new.writer))
     c.in-Ok.ensures.swarm c.journal.ensures.journal c.journal.ensures.version
@@ -16,7 +16,7 @@ returns-in-Ok-write_audit-clause-done g c =
 
 pub returns-clause-front_out : goal.returns-clause-front_out
 returns-clause-front_out g c _ =
-    has_swarm_audit c.args.config.now c.in-Ok.cluster.journal c.journal.result.now.version
+    has_swarm_audit c.args.config.now c.args.seed c.in-Ok.cluster.journal c.journal.result.now.version
     c.journal.result.now.entries
     (StopsShort (g.W.Write.contents c.args.writer.now)
     (g.W.Write.contents c.write_audit.new.writer))
@@ -26,7 +26,7 @@ returns-clause-front_out g c _ =
 pub returns-clause-no_memory : goal.returns-clause-no_memory
 returns-clause-no_memory g c _ =
     let out =
-    has_swarm_audit c.args.config.now c.in-Ok.cluster.journal c.journal.result.now.version
+    has_swarm_audit c.args.config.now c.args.seed c.in-Ok.cluster.journal c.journal.result.now.version
     c.journal.result.now.entries
     (StopsShort (g.W.Write.contents c.args.writer.now)
     (g.W.Write.contents c.write_audit.new.writer))

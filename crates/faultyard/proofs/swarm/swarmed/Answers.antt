@@ -5,6 +5,7 @@ use Rattle.faultyard.proofs.swarm.swarmed.Goals as goal
 pub returns-clause-swarm : goal.returns-clause-swarm
 returns-clause-swarm g c =
     IfOk-weaker c.close.result _ _
-    (λ cluster settled. is_swarm c.in-Ok.shared c.args.config.now c.in-Ok-let_loose.seats.items
-    cluster settled.0 c.in-Ok.ensures.setup c.in-Ok-let_loose.ensures.rested settled.1)
+    (λ cluster settled. is_swarm c.parts_are_kept.ensures.others c.in-Ok.shared c.args.config.now c.args.seed c.in-Ok-let_loose.seats.items
+    cluster settled.0 c.in-Ok.ensures.setup c.in-Ok-let_loose.ensures.rested
+    c.in-Ok-let_loose.ensures.played settled.1)
     c.close.ensures.settled

@@ -1,5 +1,5 @@
 use Rattle.fy_cluster.proofs.Finding.{synced_here, not_synced_yet}
-use Rattle.fy_cluster.proofs.keeper.has_synced.Goals as goal
+use Rattle.fy_cluster.proofs.keeper.disk_has.Goals as goal
 
 pub returns-then-item-rec : goal.returns-then-item-rec
 returns-then-item-rec c = synced_here c.args.disk.now.synced c.args.rec c.loop-place.place c.in-Some.item.now c.in-Some.ensures c.if-item-rec.true

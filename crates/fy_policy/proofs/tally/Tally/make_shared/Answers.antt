@@ -4,7 +4,7 @@ use Rattle.fy_policy.specs.Counted.{IsPlanted, place_in}
 use Rattle.fy_policy.specs.Tree.{IsWellFormed}
 use Rattle.fy_policy.specs.Shape.{tree_of}
 use Rattle.fy_policy.proofs.Standing.{tallied-first}
-use Rattle.fy_policy.proofs.tally.Tally.make.Goals as goal
+use Rattle.fy_policy.proofs.tally.Tally.make_shared.Goals as goal
 
 pub invariant_of-result : goal.invariant_of-result
 invariant_of-result c =
