@@ -7,6 +7,8 @@
 #   make swarm-seeds      holds the swarms of 200 seeds on each cluster file of examples/ against the rules
 #   make refused-memory   refuses each request for memory of the short tests of commands and of shared clusters in turn
 #   make wrong-bodies     tries every wrong body again, which the prover has to refuse, and records those crates whose are all refused
+#   make try-redis        kills redis servers at random for a minute as a guard answers, and for a minute as was ordered, and counts
+#                         the records that were lost; it needs redis-server
 #   make install          puts the program into $(PREFIX)/bin; by default PREFIX is /usr/local
 #   make bench            times the program on generated inputs, beside another if BESIDE is its path; and verdicts, acts,
 #                         turns and cluster files by programs of their own
@@ -15,7 +17,7 @@
 PREFIX ?= /usr/local
 BUILT := crates/faultyard/out/faultyard
 
-.PHONY: build run test swarm-seeds refused-memory wrong-bodies install bench clean
+.PHONY: build run test swarm-seeds refused-memory wrong-bodies try-redis install bench clean
 
 # `rt run` proves what changed, builds the program beside its crate and runs it once.
 build:
@@ -50,6 +52,11 @@ refused-memory:
 wrong-bodies:
 	tests/wrong-bodies --all --record
 
+# Guarded none may be lost, and unguarded some are.
+try-redis: build
+	examples/redis/chaos bin/faultyard
+	! examples/redis/chaos --unguarded bin/faultyard
+
 install: build
 	mkdir -p $(DESTDIR)$(PREFIX)/bin
 	cp bin/faultyard $(DESTDIR)$(PREFIX)/bin/faultyard
@@ -63,6 +70,7 @@ bench: build
 	bench/check.py bin/faultyard $(BESIDE)
 	bench/check.py --largest --rounds 1 bin/faultyard $(BESIDE)
 	bench/swarm.py bin/faultyard $(BESIDE)
+	bench/guard.py bin/faultyard
 	bench/verdicts.sh
 	bench/acts.sh
 	bench/turns.sh

@@ -110,9 +110,9 @@ fn answer<W: Write>(
 ///
 /// `Script` at the first line that is no command, and `JournalFull` at the first command for which
 /// the journal has no place: what is out is then the audit of the lines before. `Read` where the
-/// reader fails: it is then the audit of all lines that were read whole. `NoMemory` where memory is
-/// refused: nothing is out, or the audit of the lines before. `Write` where the writer fails or
-/// takes no byte: a front of such an audit is out, and never all of it.
+/// reader fails: it is then that of the lines before the one that was being read. `NoMemory` where
+/// memory is refused: nothing is out, or the audit of the lines before. `Write` where the writer
+/// fails or takes no byte: a front of such an audit is out, and never all of it.
 pub fn run_guard<R: BufRead, W: Write>(
     alloc: Global,
     config: &Config,
