@@ -9,7 +9,7 @@
 #   make wrong-bodies     tries every wrong body again, which the prover has to refuse, and records those crates whose are all refused
 #   make install          puts the program into $(PREFIX)/bin; by default PREFIX is /usr/local
 #   make bench            times the program on generated inputs, beside another if BESIDE is its path; and verdicts, acts,
-#                         turns and cluster files by programs of their own
+#                         turns, orders and cluster files by programs of their own
 #   make clean            removes what was built, and what earlier checks kept
 
 PREFIX ?= /usr/local
@@ -65,6 +65,7 @@ bench: build
 	bench/verdicts.sh
 	bench/acts.sh
 	bench/turns.sh
+	bench/orders.sh
 	bench/needs.sh
 	bench/bodies.sh
 	bench/configs.sh
