@@ -130,7 +130,9 @@ fn guard<'a>(alloc: Global) -> Result<Command<'a>, AllocError>
 {
     Command::new(alloc, "guard")
         .about("Answers each line of a script at once: what may be done to real processes?")
-        .after_help("Example:\n  faultyard guard examples/c6.toml < examples/two-zones.jsonl")
+        .after_help(with_statuses!(
+            "Example:\n  faultyard guard examples/c6.toml < examples/two-zones.jsonl"
+        ))
         .arg(config(alloc))
 }
 
