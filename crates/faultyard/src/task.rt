@@ -20,6 +20,24 @@ const EXAMPLES: &str = "Examples:
   faultyard swarm examples/c6.toml --seed 7
   faultyard guard examples/c6.toml < examples/two-zones.jsonl";
 
+/// An example, and behind it the exit statuses, which the help of each command ends with.
+macro_rules! with_statuses {
+    ($example:literal) => {
+        concat!(
+            $example,
+            "
+
+Exit status:
+  0  the work is done
+  1  the input or the cluster file is refused; standard error says what and where
+  2  the command line is refused
+  3  a read or a write failed, or the cluster file can't be opened
+  4  memory was refused
+  5  check: an entry of the audit isn't what the rules give"
+        )
+    };
+}
+
 /// What the program is asked to do.
 #[derive(Clone, Copy, Debug, PartialEq, Eq)]
 pub enum Task<'a> {
@@ -43,7 +61,7 @@ fn judge<'a>(alloc: Global) -> Command<'a>
 {
     Command::new(alloc, "judge")
         .about("Reads policies, processes and asks from standard input, and answers each ask")
-        .after_help("Example:\n  faultyard judge < examples/c6.judge")
+        .after_help(with_statuses!("Example:\n  faultyard judge < examples/c6.judge"))
 }
 
 /// The word that names a cluster file.
@@ -63,7 +81,9 @@ fn run<'a>(alloc: Global) -> Result<Command<'a>, AllocError>
 {
     Command::new(alloc, "run")
         .about("Runs the script on standard input on the cluster of a file, and writes the audit")
-        .after_help("Example:\n  faultyard run examples/c6.toml < examples/two-zones.jsonl")
+        .after_help(with_statuses!(
+            "Example:\n  faultyard run examples/c6.toml < examples/two-zones.jsonl"
+        ))
         .arg(config(alloc))
 }
 
@@ -73,7 +93,9 @@ fn check<'a>(alloc: Global) -> Result<Command<'a>, AllocError>
 {
     Command::new(alloc, "check")
         .about("Checks the audit on standard input: is each reply what the rules give?")
-        .after_help("Example:\n  faultyard check examples/c6.toml < examples/two-zones.audit")
+        .after_help(with_statuses!(
+            "Example:\n  faultyard check examples/c6.toml < examples/two-zones.audit"
+        ))
         .arg(config(alloc))
 }
 
@@ -97,7 +119,7 @@ fn swarm<'a>(alloc: Global) -> Result<Command<'a>, AllocError>
 {
     Command::new(alloc, "swarm")
         .about("Lets every actor of a cluster file loose, each on a thread, and writes the audit")
-        .after_help("Example:\n  faultyard swarm examples/c6.toml --seed 7")
+        .after_help(with_statuses!("Example:\n  faultyard swarm examples/c6.toml --seed 7"))
         .arg(config(alloc))?
         .arg(seed(alloc))
 }
@@ -108,7 +130,9 @@ fn guard<'a>(alloc: Global) -> Result<Command<'a>, AllocError>
 {
     Command::new(alloc, "guard")
         .about("Answers each line of a script at once: what may be done to real processes?")
-        .after_help("Example:\n  faultyard guard examples/c6.toml < examples/two-zones.jsonl")
+        .after_help(with_statuses!(
+            "Example:\n  faultyard guard examples/c6.toml < examples/two-zones.jsonl"
+        ))
         .arg(config(alloc))
 }
 

@@ -1,22 +1,13 @@
 -- A front after what was written before.
-use Rattle.std.proofs.Common.{arith, ◌≡◌, ◌<◌, ◌∙◌, ℕ, suc, List, ◌++◌, Option, length, take, drop, get_or, refl, sym, ap, append_assoc, length-append, take-append-drop, drop-cons}
+use Rattle.std.proofs.Common.{arith, ◌≡◌, ◌<◌, ◌∙◌, ℕ, suc, List, ◌++◌, Option, length, take, drop, get_or, sym, ap, append_assoc, length-append, take-append-drop, drop-cons}
 use Rattle.std.specs.List.{flat_map}
 use Rattle.std.specs.Io.KnownBytes.{Appends}
 use Rattle.std.proofs.KnownBytes.{Appends-trans}
 use Rattle.std.proofs.lemmas.Grind.{flat_map-append}
-use Rattle.fy_lines.specs.Fronts.{AppendsFront, StopsShort}
+use Rattle.fy_lines.specs.Fronts.{StopsShort}
 
 regroup : (done front rest more : List ℕ) → done ++ ((front ++ rest) ++ more) ≡ (done ++ front) ++ (rest ++ more)
 regroup done front rest more = simp append_assoc
-
-pub AppendsFront-after : (first second third : Option (List ℕ)) → (done piece more : List ℕ) → Appends first second done → AppendsFront second third piece
-    → AppendsFront first third (done ++ (piece ++ more))
-AppendsFront-after first second third done piece more whole part =
-    let (front, rest, split, appended) = part in
-    (done ++ front, rest ++ more, ap (λ l. done ++ (l ++ more)) split ∙ regroup done front rest more, Appends-trans first second third done front whole appended)
-
-pub AppendsFront-whole : (old new : Option (List ℕ)) → (done more : List ℕ) → Appends old new done → AppendsFront old new (done ++ more)
-AppendsFront-whole old new done more whole = (done, more, refl, whole)
 
 still_some : (rest more : List ℕ) → 0 < length rest → 0 < length (rest ++ more)
 still_some rest more some = rw (length-append rest more) (omega arith)
@@ -38,6 +29,3 @@ pub StopsShort-part : {X : Type 0} (f : X → List ℕ) (xs : List X) (i : ℕ) 
     → Appends first second (flat_map f (take i xs)) → StopsShort second third (f (get_or xs i d)) → StopsShort first third (flat_map f xs)
 StopsShort-part f xs i d first second third within whole part =
     rw (cut_at f xs i d within) (StopsShort-after first second third (flat_map f (take i xs)) (f (get_or xs i d)) (flat_map f (drop (suc i) xs)) whole part)
-
-pub AppendsFront-short : (old new : Option (List ℕ)) → (text : List ℕ) → StopsShort old new text → AppendsFront old new text
-AppendsFront-short old new text short = (short.0, short.1, short.2, short.3)
