@@ -3,10 +3,12 @@
 #   make                  proves and builds the program, and leaves it at bin/faultyard
 #   make run              builds the program without its proofs, asks it about examples/c6.judge (yes, yes, no, gone), has it kill two zones and check the audit
 #   make test             all that CI runs: every proof from nothing, the wrong bodies of crates that changed, each test, and the
-#                         command-line cases, and swarms of a few seeds
+#                         command-line cases, swarms of a few seeds, and talks with a guard
 #   make swarm-seeds      holds the swarms of 200 seeds on each cluster file of examples/ against the rules
 #   make refused-memory   refuses each request for memory of the short tests of commands and of shared clusters in turn
 #   make wrong-bodies     tries every wrong body again, which the prover has to refuse, and records those crates whose are all refused
+#   make try-redis        kills redis servers at random for a minute as a guard answers, and for a minute as was ordered, and counts
+#                         the records that were lost; it needs redis-server
 #   make install          puts the program into $(PREFIX)/bin; by default PREFIX is /usr/local
 #   make bench            times the program on generated inputs, beside another if BESIDE is its path; and verdicts, acts,
 #                         turns, orders and cluster files by programs of their own
@@ -15,7 +17,7 @@
 PREFIX ?= /usr/local
 BUILT := crates/faultyard/out/faultyard
 
-.PHONY: build run test swarm-seeds refused-memory wrong-bodies install bench clean
+.PHONY: build run test swarm-seeds refused-memory wrong-bodies try-redis install bench clean
 
 # `rt run` proves what changed, builds the program beside its crate and runs it once.
 build:
@@ -35,6 +37,7 @@ test:
 	tests/cli/run bin/faultyard
 	tests/pipes/run bin/faultyard
 	tests/swarm/run bin/faultyard
+	tests/guard/run bin/faultyard
 	tests/examples/run
 	tests/run
 	tests/refused-memory faultyard/short::
@@ -49,6 +52,11 @@ refused-memory:
 wrong-bodies:
 	tests/wrong-bodies --all --record
 
+# Guarded none may be lost, and unguarded some are.
+try-redis: build
+	examples/redis/chaos bin/faultyard
+	! examples/redis/chaos --unguarded bin/faultyard
+
 install: build
 	mkdir -p $(DESTDIR)$(PREFIX)/bin
 	cp bin/faultyard $(DESTDIR)$(PREFIX)/bin/faultyard
@@ -62,6 +70,7 @@ bench: build
 	bench/check.py bin/faultyard $(BESIDE)
 	bench/check.py --largest --rounds 1 bin/faultyard $(BESIDE)
 	bench/swarm.py bin/faultyard $(BESIDE)
+	bench/guard.py bin/faultyard
 	bench/verdicts.sh
 	bench/acts.sh
 	bench/turns.sh

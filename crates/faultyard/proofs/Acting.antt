@@ -44,7 +44,7 @@ pub one_longer : (course : Course) (by : ℕ) (act : Act) →
 one_longer course by act = length-append course.journal _
 
 -- the journal of a cluster to which the commands were applied is audited
-audit_of : (setup : Setup) (commands : List Command) (course : Course) →
+pub audit_of : (setup : Setup) (commands : List Command) (course : Course) →
     course ≡ after_acts (opened setup) (map asked commands) →
     Legal course.setup course.journal →
     IsAuditOf setup commands (audit_text Second course.journal)

@@ -16,7 +16,7 @@ use Rattle.faultyard.specs.declared.judge.answer.Answer.{Answer}
 use Rattle.faultyard.specs.declared.judge.answer.Answer.TheVariants.{Yes, No, WasGone}
 use Rattle.faultyard.specs.JudgeLines.{Input}
 use Rattle.faultyard.specs.JudgeTexts.{destroys_for_good, destroyed_by, gone_by, left_by, answer_of, answers_of, answer_line, granted_after}
-use Rattle.faultyard.specs.JudgeBooks.{Stands}
+use Rattle.faultyard.specs.JudgeBooks.{HasLosses}
 
 any-push : (f : Ask → Bool) (xs : List Ask) (a : Ask) → list_any f (xs ++ a ∷ []) ≡ (list_any f xs || f a)
 any-push f [] a = last (f a)
@@ -33,7 +33,7 @@ any-push f (x ∷ xs) a = ap (λ b. f x || b) (any-push f xs a) ∙ shift (f x) 
 turned : (a b : ℕ) → eqb a b ≡ eqb b a
 turned a b = grind (arith, nat_tests)
 
-module _ (i : Input) (granted : List Ask) (book : Casualties) (a : Ask) (stands : Stands i granted book) (here : a.process.0 < length i.processes) where
+module _ (i : Input) (granted : List Ask) (book : Casualties) (a : Ask) (stands : HasLosses i granted book) (here : a.process.0 < length i.processes) where
   there : everyone i.processes a.process.0 ≡ true
   there = grind (arith, nat_tests)
 
@@ -92,7 +92,7 @@ module _ (i : Input) (granted : List Ask) (book : Casualties) (a : Ask) (stands 
     gone_after : (loss : Loss) → a.loss ≡ loss → (q : ℕ) → gone_by (granted ++ a ∷ []) q ≡ (gone_by granted q || (destroys_for_good loss && eqb a.process.0 q))
     gone_after loss is q = any-push (λ b. destroys_for_good b.loss && eqb b.process.0 q) granted a ∙ ap (λ l. gone_by granted q || (destroys_for_good l && eqb a.process.0 q)) is
 
-    pub stands_after : Stands i (granted ++ a ∷ []) (struck book set a.loss)
+    pub stands_after : HasLosses i (granted ++ a ∷ []) (struck book set a.loss)
     stands_after = go a.loss refl
       where
         keep : (e g : Bool) → (e && not g) ≡ (e && not (g || false))
@@ -106,7 +106,7 @@ module _ (i : Input) (granted : List Ask) (book : Casualties) (a : Ask) (stands 
         take_out true false false = refl
         take_out false g b = refl
 
-        go : (loss : Loss) → a.loss ≡ loss → Stands i (granted ++ a ∷ []) (struck book set loss)
+        go : (loss : Loss) → a.loss ≡ loss → HasLosses i (granted ++ a ∷ []) (struck book set loss)
         go Emptied is = record {
           processes = stands.processes;
           policies = stands.policies;
@@ -126,7 +126,7 @@ module _ (i : Input) (granted : List Ask) (book : Casualties) (a : Ask) (stands 
         }
 
 -- nobody lost
-pub stands_first : (i : Input) (book : Casualties) → IsFresh i.processes i.policies book → Stands i [] book
+pub stands_first : (i : Input) (book : Casualties) → IsFresh i.processes i.policies book → HasLosses i [] book
 stands_first i book fresh = record {
   processes = fresh.processes_are;
   policies = fresh.policies_are;

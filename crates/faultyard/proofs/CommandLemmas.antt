@@ -44,7 +44,8 @@ plain_is_local c plain = by (is_empty (out-Command c).groups.items) (out-Command
 
 -- the subcommand takes a cluster file
 abbrev TakesConfig : Text → Type 0
-TakesConfig name = (name ≡ codes "run") ⊎ ((name ≡ codes "check") ⊎ (name ≡ codes "swarm"))
+TakesConfig name =
+    (name ≡ codes "run") ⊎ ((name ≡ codes "check") ⊎ ((name ≡ codes "swarm") ⊎ (name ≡ codes "guard")))
 
 abbrev HasConfig : List Row → Type 0
 HasConfig rows = is_some (first_of (codes "CONFIG") rows) ≡ true
@@ -102,12 +103,17 @@ known_task s words known other none =
         λ swarm. absurd (no_swarm s.name (codes "check") (ap (λ t. t.name) check) (λ e. omega arith) swarm),
       )
       | inr (inr (inr (inl swarm))) ↦ inr (
-        inr (inr (ap (λ t. t.name) swarm)),
+        inr (inr (inl (ap (λ t. t.name) swarm))),
         config_given s _ words swarm ((refl, refl, refl), ((refl, refl, refl), ((refl, refl, refl), tt))) (inl (refl, refl)) refl none,
         λ is. seed_given s _ words swarm ((refl, refl, refl), ((refl, refl, refl), ((refl, refl, refl), tt))) (inr (inl (refl, refl))) refl none,
       )
-      | inr (inr (inr (inr (inl help)))) ↦ absurd (other (ap (λ t. t.name) help) (ap (λ t. t.aliases) help))
-      | inr (inr (inr (inr (inr none)))) ↦ absurd none
+      | inr (inr (inr (inr (inl guard)))) ↦ inr (
+        inr (inr (inr (ap (λ t. t.name) guard))),
+        config_given s _ words guard ((refl, refl, refl), ((refl, refl, refl), tt)) (inl (refl, refl)) refl none,
+        λ swarm. absurd (no_swarm s.name (codes "guard") (ap (λ t. t.name) guard) (λ e. omega arith) swarm),
+      )
+      | inr (inr (inr (inr (inr (inl help))))) ↦ absurd (other (ap (λ t. t.name) help) (ap (λ t. t.aliases) help))
+      | inr (inr (inr (inr (inr (inr none))))) ↦ absurd none
     ]
 
 meets_task : (words : List Text) → fault_of faultyard_command words ≡ [] → IsSomeAnd (subcommand_of faultyard_command words) IsTask

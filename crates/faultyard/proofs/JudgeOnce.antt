@@ -8,7 +8,8 @@ use Rattle.faultyard.specs.declared.stop.JudgeFault.TheVariants.{PolicyUnmet}
 use Rattle.faultyard.specs.declared.stop.Stop.{Stop}
 use Rattle.faultyard.specs.declared.stop.Stop.TheVariants.{JudgeTooLong, JudgeLine}
 use Rattle.faultyard.specs.JudgeLines.{Input, nothing, said_of, Step, Says}
-use Rattle.faultyard.specs.JudgeTexts.{FirstFault, IsFaultless, Judges, too_long, line_fault, policy_unmet, answered, answers_text, most_bytes, TextIsOne}
+use Rattle.faultyard.specs.declared.judge.TheConstants.{MOST_JUDGE_BYTES}
+use Rattle.faultyard.specs.JudgeTexts.{FirstFault, IsFaultless, Judges, too_long, line_fault, policy_unmet, answered, answers_text, TextIsOne}
 use Rattle.faultyard.proofs.StepOnce.{NamesOccur, ReadingSettled, Differ, Step-once, Differ-Step}
 
 -- of these lines, so many are faultless, and the next has the fault
@@ -85,8 +86,8 @@ module _ (occur : NamesOccur) (settled : ReadingSettled) where
 
   -- bytes are too long, or have a first fault, or are faultless
   data JudgedBy (bytes : List ℕ) (x : Result (List ℕ) Stop) : Type 0 where
-    long : most_bytes < length bytes → x ≡ Err JudgeTooLong → JudgedBy bytes x
-    faulty : (line : ℕ) (fault : JudgeFault) → length bytes ≤ most_bytes → FirstFault bytes line fault → x ≡ Err (JudgeLine line fault) → JudgedBy bytes x
+    long : MOST_JUDGE_BYTES < length bytes → x ≡ Err JudgeTooLong → JudgedBy bytes x
+    faulty : (line : ℕ) (fault : JudgeFault) → length bytes ≤ MOST_JUDGE_BYTES → FirstFault bytes line fault → x ≡ Err (JudgeLine line fault) → JudgedBy bytes x
     faultless : (i : Input) → IsFaultless bytes i → x ≡ answer_by (first_unmet i.processes i.policies) (answers_text i) → JudgedBy bytes x
 
   judged_by : (bytes : List ℕ) (x : Result (List ℕ) Stop) → Judges bytes x → JudgedBy bytes x
@@ -99,13 +100,13 @@ module _ (occur : NamesOccur) (settled : ReadingSettled) where
   once : (bytes : List ℕ) (x y : Result (List ℕ) Stop) → JudgedBy bytes x → JudgedBy bytes y → x ≡ y
   once bytes x y (long much e) (long also f) = e ∙ sym f
   once bytes x y (long much e) (faulty line fault short first f) = absurd (omega arith)
-  once bytes x y (long much e) (faultless i good f) = absurd (let short : length bytes ≤ most_bytes = good.short in omega arith)
+  once bytes x y (long much e) (faultless i good f) = absurd (let short : length bytes ≤ MOST_JUDGE_BYTES = good.short in omega arith)
   once bytes x y (faulty line fault short first e) (long much f) = absurd (omega arith)
   once bytes x y (faulty line fault short first e) (faulty other another also second f) =
       let one = one_fault bytes line other fault another first second in
       e ∙ (λ k. Err (JudgeLine (one.0 k) (one.1 k))) ∙ sym f
   once bytes x y (faulty line fault short first e) (faultless i good f) = absurd (faulty_or_not bytes line fault i first good)
-  once bytes x y (faultless i good e) (long much f) = absurd (let short : length bytes ≤ most_bytes = good.short in omega arith)
+  once bytes x y (faultless i good e) (long much f) = absurd (let short : length bytes ≤ MOST_JUDGE_BYTES = good.short in omega arith)
   once bytes x y (faultless i good e) (faulty line fault short first f) = absurd (faulty_or_not bytes line fault i first good)
   once bytes x y (faultless i good e) (faultless j also f) =
       e ∙ ap (λ (k : Input). answer_by (first_unmet k.processes k.policies) (answers_text k)) (one_input bytes i j good also) ∙ sym f

@@ -1,4 +1,5 @@
 pub mod Acting
+pub mod Guarding
 pub mod Checking
 pub mod AnswerLemmas
 pub mod CommandLemmas

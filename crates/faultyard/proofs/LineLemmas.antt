@@ -13,7 +13,8 @@ use Rattle.faultyard.specs.declared.judge.input.LineFault.TheVariants.{Fault, No
 use Rattle.faultyard.specs.JudgeViews.{IfFault, line_stop_of}
 use Rattle.fy_decide.specs.Losses.{first_unmet}
 use Rattle.faultyard.specs.JudgeLines.{Input, nothing, said_of, Step, Says}
-use Rattle.faultyard.specs.JudgeTexts.{most_bytes, IsFaultless, Judges, too_long, line_fault, policy_unmet, IfRefusal, unmet_stop}
+use Rattle.faultyard.specs.declared.judge.TheConstants.{MOST_JUDGE_BYTES}
+use Rattle.faultyard.specs.JudgeTexts.{IsFaultless, Judges, too_long, line_fault, policy_unmet, IfRefusal, unmet_stop}
 
 -- one line more
 pub Says-push : (i : Input) (lines : List (List ℕ)) (j : Input) (line : List ℕ) (k : Input) → Says i lines j → Step j (said_of line) (Ok k) → Says i (lines ++ line ∷ []) k
@@ -24,7 +25,7 @@ pub split-push : (bytes : List ℕ) (good : List (List ℕ)) (rest line next : L
 split-push bytes good rest line next split first = split ∙ ap (λ ls. good ++ ls) first ∙ sym (append_assoc good (line ∷ []) (lines_of next))
 
 -- the first faulty line
-pub first_fault : (bytes : List ℕ) (good : List (List ℕ)) (input : Input) (rest line next : List ℕ) (n : ℕ) (fault : JudgeFault) → length bytes ≤ most_bytes → lines_of bytes ≡ good ++ lines_of rest → lines_of rest ≡ line ∷ lines_of next → Says nothing good input
+pub first_fault : (bytes : List ℕ) (good : List (List ℕ)) (input : Input) (rest line next : List ℕ) (n : ℕ) (fault : JudgeFault) → length bytes ≤ MOST_JUDGE_BYTES → lines_of bytes ≡ good ++ lines_of rest → lines_of rest ≡ line ∷ lines_of next → Says nothing good input
     → n ≡ length good → Step input (said_of line) (Err fault) → Judges bytes (Err (JudgeLine (n + 1) fault))
 first_fault bytes good input rest line next n fault short split first said count step = line_fault (n + 1) fault short (record {
   good = good;
@@ -38,7 +39,7 @@ first_fault bytes good input rest line next n fault short split first said count
 })
 
 -- the end of the lines
-pub faultless : (bytes : List ℕ) (good : List (List ℕ)) (rest : List ℕ) (input : Input) → length bytes ≤ most_bytes → lines_of bytes ≡ good ++ lines_of rest → rest ≡ [] → Says nothing good input → IsFaultless bytes input
+pub faultless : (bytes : List ℕ) (good : List (List ℕ)) (rest : List ℕ) (input : Input) → length bytes ≤ MOST_JUDGE_BYTES → lines_of bytes ≡ good ++ lines_of rest → rest ≡ [] → Says nothing good input → IsFaultless bytes input
 faultless bytes good rest input short split done said = record {
   short = short;
   said = subst (λ ls. Says nothing ls input) (sym (split ∙ ap (λ r. good ++ lines_of r) done ∙ append-nil good)) said;
@@ -61,7 +62,7 @@ module _ (o : Option ℕ) (r : Result Casualties MakeFault) (refused : (k : ℕ)
       go (Some j) is = let e : r ≡ Err (Unmet j) = refused j is in is ∙ ap Some (let same : j ≡ k = cc in same)
 
 -- the stop for a line that is not taken is the refusal of the bytes
-pub line_refused : (bytes : List ℕ) (good : List (List ℕ)) (input : Input) (rest line next : List ℕ) (n : ℕ) (f : LineFault) → length bytes ≤ most_bytes → lines_of bytes ≡ good ++ lines_of rest → lines_of rest ≡ line ∷ lines_of next → Says nothing good input
+pub line_refused : (bytes : List ℕ) (good : List (List ℕ)) (input : Input) (rest line next : List ℕ) (n : ℕ) (f : LineFault) → length bytes ≤ MOST_JUDGE_BYTES → lines_of bytes ≡ good ++ lines_of rest → lines_of rest ≡ line ∷ lines_of next → Says nothing good input
     → n ≡ length good → IfFault f (λ fault. Step input (said_of line) (Err fault)) → IfRefusal (line_stop_of (n + 1) f) (Judges bytes (Err (line_stop_of (n + 1) f)))
 line_refused bytes good input rest line next n (Fault fault) short split first said count step = first_fault bytes good input rest line next n fault short split first said count step
 line_refused bytes good input rest line next n LineNoMemory short split first said count step = tt
@@ -78,6 +79,6 @@ unmet_refused (Unmet k) i r refused memory is bytes faultless = policy_unmet i k
 unmet_refused NoMemory i r refused memory is bytes faultless = tt
 
 -- too many known bytes are refused
-pub known_long : (o : Option (List ℕ)) → IfSome o (λ xs. most_bytes < length xs) → IfSome o (λ xs. Judges xs (Err JudgeTooLong))
+pub known_long : (o : Option (List ℕ)) → IfSome o (λ xs. MOST_JUDGE_BYTES < length xs) → IfSome o (λ xs. Judges xs (Err JudgeTooLong))
 known_long None h = tt
 known_long (Some xs) h = too_long h

@@ -1,5 +1,5 @@
 -- plans of swarms: who is in them, and how many words they take
-use Rattle.std.proofs.Common.{arith, ◌≡◌, ◌∙◌, ◌≤◌, ◌<◌, ◌+◌, ◌-◌, ◌*◌, ◌%◌, ◌==◌, ℕ, zero, suc, Bool, true, false, List, [], ◌∷◌, ◌++◌, length, map, filter, get_or, set, refl, sym, ap, subst, not}
+use Rattle.std.proofs.Common.{arith, ◌≡◌, ◌∙◌, ◌≤◌, ◌<◌, ◌+◌, ◌-◌, ◌*◌, ◌%◌, ◌==◌, ℕ, zero, suc, Bool, true, false, List, [], ◌∷◌, ◌++◌, length, map, get_or, refl, sym, ap, subst, not}
 use Rattle.std.specs.Prelude.{if◌then◌else◌, nat_lt, slice_get, Some}
 use Rattle.std.specs.List.{All, AllPairs, range_with_len, filter_map, swap}
 use Rattle.std.proofs.lemmas.List.Elements.{All-nil, All-cons, All-head, All-tail, All-set}

@@ -6,7 +6,7 @@ use Rattle.clap.specs.Words.{new_rule, with_rule, with_subcommand}
 use Rattle.clap.specs.declared.builder.action.ArgAction.TheVariants.{Set}
 use Rattle.clap.specs.declared.builder.value_parser.ValueParser.TheVariants.{Unsigned}
 use Rattle.faultyard.specs.declared.task.Task.{Task}
-use Rattle.faultyard.specs.declared.task.Task.TheVariants.{Judge, Run, Check, Swarm}
+use Rattle.faultyard.specs.declared.task.Task.TheVariants.{Judge, Run, Check, Swarm, Guard}
 
 -- `faultyard` without its subcommands, of which it wants one; it has a version
 abbrev pub bare_command : App
@@ -48,14 +48,20 @@ check_command = with_rule (new_app (codes "check")) config_rule
 abbrev pub swarm_command : App
 swarm_command = with_rule (with_rule (new_app (codes "swarm")) config_rule) seed_rule
 
+-- the subcommand `guard`, which takes a cluster file
+abbrev pub guard_command : App
+guard_command = with_rule (new_app (codes "guard")) config_rule
+
 -- the command line of `faultyard`
 abbrev pub faultyard_command : App
 faultyard_command =
     with_subcommand
     (with_subcommand
+    (with_subcommand
     (with_subcommand (with_subcommand bare_command judge_command.top) run_command.top)
     check_command.top)
-    swarm_command.top
+    swarm_command.top)
+    guard_command.top
 
 -- the text of a seed: a whole number of 64 bits
 abbrev pub IsSeed : Text → Type 0
@@ -75,6 +81,8 @@ StandsFor met (Check config) =
 StandsFor met (Swarm config seed) =
     (met.0 ≡ codes "swarm") × (first_of (codes "CONFIG") met.1 ≡ Some config.now)
     × (option_map seed_in (one_of (codes "seed") met.1) ≡ Some seed)
+StandsFor met (Guard config) =
+    (met.0 ≡ codes "guard") × (first_of (codes "CONFIG") met.1 ≡ Some config.now)
 
 -- the task is the one that the matches' subcommand stands for
 abbrev pub IsTaskOf : Option (Text × List Row) → Task → Type 0

@@ -7,7 +7,7 @@ use Rattle.faultyard.specs.JudgeLines.{Input}
 use Rattle.faultyard.specs.JudgeTexts.{destroyed_by, left_by}
 
 -- the book has the losses of the asks that were answered yes
-pub record Stands (i : Input) (granted : List Ask) (book : Casualties) : Type 0 where
+pub record HasLosses (i : Input) (granted : List Ask) (book : Casualties) : Type 0 where
   pub processes : book.processes ≡ i.processes
   pub policies : book.policies ≡ i.policies
   pub destroyed : (p : ℕ) → sets.contains book.destroyed p ≡ destroyed_by granted p

@@ -5,6 +5,7 @@ use Rattle.fy_decide.specs.declared.dead_book.Loss.{Loss}
 use Rattle.fy_decide.specs.declared.dead_book.Loss.TheVariants.{Emptied, Gone}
 use Rattle.fy_decide.specs.Losses.{everyone, may_destroy, first_unmet}
 use Rattle.fy_lines.specs.Lines.{lines_of}
+use Rattle.faultyard.specs.declared.judge.TheConstants.{MOST_JUDGE_BYTES}
 use Rattle.faultyard.specs.declared.judge.line.Ask.{Ask}
 use Rattle.faultyard.specs.declared.judge.answer.Answer.{Answer}
 use Rattle.faultyard.specs.declared.judge.answer.Answer.TheVariants.{Yes, No, WasGone}
@@ -59,10 +60,6 @@ answer_line WasGone = codes "gone\n"
 abbrev pub answers_text : Input → List ℕ
 answers_text i = flat_map answer_line (answers_of i [] i.asks)
 
--- how many bytes judge reads
-abbrev pub most_bytes : ℕ
-most_bytes = 1048576
-
 -- the first faulty line and its fault: the lines before it have none
 pub record FirstFault (bytes : List ℕ) (line : ℕ) (fault : JudgeFault) : Type 0 where
   pub good : List (List ℕ)
@@ -76,13 +73,13 @@ pub record FirstFault (bytes : List ℕ) (line : ℕ) (fault : JudgeFault) : Typ
 
 -- every line is faultless, and this is what they say
 pub record IsFaultless (bytes : List ℕ) (input : Input) : Type 0 where
-  pub short : length bytes ≤ most_bytes
+  pub short : length bytes ≤ MOST_JUDGE_BYTES
   pub said : Says nothing (lines_of bytes) input
 
 -- JUDGE: the text that answers the bytes, or why they are refused; nothing is said of other stops
 pub data Judges (bytes : List ℕ) : Result (List ℕ) Stop → Type 0 where
-  too_long : most_bytes < length bytes → Judges bytes (Err JudgeTooLong)
-  line_fault : (line : ℕ) (fault : JudgeFault) → length bytes ≤ most_bytes →
+  too_long : MOST_JUDGE_BYTES < length bytes → Judges bytes (Err JudgeTooLong)
+  line_fault : (line : ℕ) (fault : JudgeFault) → length bytes ≤ MOST_JUDGE_BYTES →
       FirstFault bytes line fault → Judges bytes (Err (JudgeLine line fault))
   policy_unmet : (i : Input) (k : ℕ) → IsFaultless bytes i →
       first_unmet i.processes i.policies ≡ Some k →

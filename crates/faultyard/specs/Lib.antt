@@ -6,6 +6,7 @@ pub mod Stops
 pub mod Commands
 pub use Rattle.fy_lines.specs.Fronts
 pub mod RunTexts
+pub mod GuardTexts
 pub mod CheckTexts
 pub mod Outputs
 pub mod Swarm

@@ -16,7 +16,7 @@ use std::io::Write;
 const BUFFER_BYTES: usize = 65_536;
 
 /// The line that an audit of a version begins with.
-fn header_text(version: Version) -> &'static str
+pub fn header_text(version: Version) -> &'static str
     ensures { result.now ≡ header version }
 {
     match version {
@@ -26,7 +26,7 @@ fn header_text(version: Version) -> &'static str
 }
 
 /// Puts an entry's line behind what is gathered.
-fn put_line(gathered: &mut Vec<u8>, entry: &Entry) -> Result<(), AllocError>
+pub fn put_line(gathered: &mut Vec<u8>, entry: &Entry) -> Result<(), AllocError>
     ensures { OnOk result (gathered.new.items ≡ gathered.old.items ++ entry_line entry.now) }
 {
     put_entry(gathered, entry)?;

@@ -3,9 +3,10 @@ ghost use Rattle.std.specs.Prelude.{◌≡◌, ◌≤◌, ◌≢◌, ◌+◌, �
 ghost use Rattle.std.specs.Io.KnownBytes.{Appends};
 ghost use Rattle.fy_lines.specs.Fronts.{StopsShort};
 ghost use Rattle.fy_lines.specs.Readings.{TakesUpTo};
-ghost use Rattle.faultyard.specs.JudgeTexts.{most_bytes, IsFaultless, Judges, IfRefusal, IfUnmet, unmet_stop};
+ghost use Rattle.faultyard.specs.JudgeTexts.{IsFaultless, Judges, IfRefusal, IfUnmet, unmet_stop};
 ghost use Rattle.faultyard.specs.JudgeViews.{line_stop_of};
 ghost use Rattle.faultyard.specs.Stops.{OfJudge};
+ghost use Rattle.faultyard.specs.declared.judge.TheConstants.{MOST_JUDGE_BYTES};
 
 mod answer;
 mod input;
@@ -20,8 +21,8 @@ use input::{Input, LineFault};
 use std::alloc::Global;
 use std::io::{Read, Write};
 
-/// The most bytes that an input has.
-const MOST_BYTES: usize = 1_048_576;
+/// The most bytes that an input of `judge` has.
+pub const MOST_JUDGE_BYTES: usize = 1_048_576;
 
 /// The stop for a line that is not taken.
 fn line_stop(line: u32, fault: LineFault) -> Stop
@@ -36,7 +37,7 @@ fn line_stop(line: u32, fault: LineFault) -> Stop
 
 /// What all lines say, or the first fault of the first faulty one.
 fn read_lines(alloc: Global, bytes: &[u8]) -> Result<Input, Stop>
-    requires { length bytes.now ≤ most_bytes }
+    requires { length bytes.now ≤ MOST_JUDGE_BYTES }
     ensures read { IfOk result (IsFaultless bytes.now) }
     ensures refused { IfErr result (λ stop. IfRefusal stop (Judges bytes.now (Err stop))) }
     ensures no_other { IfErr result (λ stop. (stop ≢ Stop.Read) × (stop ≢ Stop.Write)) }
@@ -92,7 +93,7 @@ fn answers(alloc: Global, input: &Input) -> Result<Vec<u8>, Stop>
 
 /// The answers to the bytes of an input.
 fn answer_bytes(alloc: Global, bytes: &[u8]) -> Result<Vec<u8>, Stop>
-    requires { length bytes.now ≤ most_bytes }
+    requires { length bytes.now ≤ MOST_JUDGE_BYTES }
     ensures answered { IfOk result (λ text. Judges bytes.now (Ok text.items)) }
     ensures refused { IfErr result (λ stop. IfRefusal stop (Judges bytes.now (Err stop))) }
     ensures no_other { IfErr result (λ stop. (stop ≢ Stop.Read) × (stop ≢ Stop.Write)) }
@@ -139,11 +140,11 @@ pub fn run_judge<R: Read, W: Write>(
         × StopsShort (W.contents writer.old) (W.contents writer.new) text) }
     ensures no_other { IfErr result OfJudge }
     ensures read_fault { result ≡ Err Stop.Read →
-        TakesUpTo (R.remaining reader.old) (R.remaining reader.new) most_bytes }
+        TakesUpTo (R.remaining reader.old) (R.remaining reader.new) MOST_JUDGE_BYTES }
     ensures no_further { TakesUpTo (R.remaining reader.old) (R.remaining reader.new)
-        (most_bytes + 1) }
+        (MOST_JUDGE_BYTES + 1) }
 {
-    let bytes = match read_limited(alloc, reader, MOST_BYTES) {
+    let bytes = match read_limited(alloc, reader, MOST_JUDGE_BYTES) {
         Ok(bytes) => bytes,
         Err(InputFault::TooLong) => return Err(Stop::JudgeTooLong),
         Err(InputFault::Reader) => return Err(Stop::Read),

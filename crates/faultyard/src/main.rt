@@ -3,6 +3,7 @@
 
 mod audit;
 mod check;
+mod guard;
 mod judge;
 mod load;
 mod run;
@@ -12,10 +13,11 @@ mod task;
 
 use check::run_check;
 use fy_cluster::Config;
+use guard::run_guard;
 use judge::run_judge;
 use load::load_config;
 use run::run_script;
-use std::io::ErrorKind;
+use std::io::{BufReader, ErrorKind};
 use std::process::ExitCode;
 use std::{env, fs};
 use stop::{Stop, write_stop};
@@ -37,6 +39,7 @@ fn main(rt: HostRuntime) -> ExitCode {
         Ok(Task::Judge) => run_judge(rt.alloc(), &mut rt.stdin(), &mut rt.stdout()),
         Ok(Task::Run(path)) => run_file(&rt, path),
         Ok(Task::Check(path)) => check_file(&rt, path),
+        Ok(Task::Guard(path)) => guard_file(&rt, path),
         // Threads are main's to give.
         Ok(Task::Swarm(path, seed)) => match open_config(&rt, path) {
             Ok(config) => run_swarm(&rt, rt.alloc(), &config, seed, &mut rt.stdout()),
@@ -65,6 +68,19 @@ fn check_file(rt: &HostRuntime, path: &str) -> Result<bool, Stop> {
         Ok(config) => run_check(rt.alloc(), &config, &mut rt.stdin(), &mut rt.stdout()),
         Err(stop) => Err(stop),
     }
+}
+
+/// Answers the script on standard input, line by line, on the cluster of a file.
+fn guard_file(rt: &HostRuntime, path: &str) -> Result<bool, Stop> {
+    let config = match open_config(rt, path) {
+        Ok(config) => config,
+        Err(stop) => return Err(stop),
+    };
+    // It holds what `read` gave beyond a line, and waits for no more than there is.
+    let Ok(mut lines) = BufReader::new(rt.alloc(), rt.stdin()) else {
+        return Err(Stop::NoMemory);
+    };
+    run_guard(rt.alloc(), &config, &mut lines, &mut rt.stdout())
 }
 
 /// The configuration of a cluster file by its path.

@@ -7,7 +7,7 @@ ghost use Rattle.clap.specs.Words.{one_of, subcommand_of};
 ghost use Rattle.clap.specs.Walk.{rule_of};
 ghost use Rattle.faultyard.specs.Commands.{IsTaskOf, faultyard_command, judge_command};
 ghost use Rattle.faultyard.specs.Commands.{config_rule, run_command, check_command};
-ghost use Rattle.faultyard.specs.Commands.{seed_rule, swarm_command, IsSeed, seed_in};
+ghost use Rattle.faultyard.specs.Commands.{seed_rule, swarm_command, guard_command, IsSeed, seed_in};
 
 use clap::{Arg, ArgAction, ArgMatches, Command, value_parser};
 use std::alloc::{AllocError, Global};
@@ -17,7 +17,8 @@ const EXAMPLES: &str = "Examples:
   faultyard judge < examples/c6.judge
   faultyard run examples/c6.toml < examples/two-zones.jsonl
   faultyard check examples/c6.toml < examples/two-zones.audit
-  faultyard swarm examples/c6.toml --seed 7";
+  faultyard swarm examples/c6.toml --seed 7
+  faultyard guard examples/c6.toml < examples/two-zones.jsonl";
 
 /// What the program is asked to do.
 #[derive(Clone, Copy, Debug, PartialEq, Eq)]
@@ -31,6 +32,9 @@ pub enum Task<'a> {
     /// `faultyard swarm CONFIG --seed N`: let every actor of the cluster of a file loose, each by
     /// a plan that is drawn from the seed.
     Swarm(&'a str, u64),
+    /// `faultyard guard CONFIG`: answer each line of the script on standard input at once, on the
+    /// cluster of a file.
+    Guard(&'a str),
 }
 
 /// The subcommand `judge`, with its help.
@@ -98,6 +102,16 @@ fn swarm<'a>(alloc: Global) -> Result<Command<'a>, AllocError>
         .arg(seed(alloc))
 }
 
+/// The subcommand `guard`, with its help.
+fn guard<'a>(alloc: Global) -> Result<Command<'a>, AllocError>
+    ensures { IfOk result (λ command. app_of command ≡ guard_command) }
+{
+    Command::new(alloc, "guard")
+        .about("Answers each line of a script at once: what may be done to real processes?")
+        .after_help("Example:\n  faultyard guard examples/c6.toml < examples/two-zones.jsonl")
+        .arg(config(alloc))
+}
+
 /// The command line of `faultyard`: one subcommand is wanted, and each has help of its own.
 fn faultyard<'a>(alloc: Global) -> Result<Command<'a>, AllocError>
     ensures { IfOk result (λ command. app_of command ≡ faultyard_command) }
@@ -112,7 +126,8 @@ fn faultyard<'a>(alloc: Global) -> Result<Command<'a>, AllocError>
         .subcommand(judge(alloc))?
         .subcommand(run(alloc)?)?
         .subcommand(check(alloc)?)?
-        .subcommand(swarm(alloc)?)
+        .subcommand(swarm(alloc)?)?
+        .subcommand(guard(alloc)?)
 }
 
 /// The task that the words ask for; the first word is the program's name.
@@ -135,6 +150,7 @@ pub fn read_task<'a>(alloc: Global, words: &'a [String]) -> Result<Task<'a>, cla
         "run" => Ok(Task::Run(config_of(given))),
         "check" => Ok(Task::Check(config_of(given))),
         "swarm" => Ok(Task::Swarm(config_of(given), seed_of(given))),
+        "guard" => Ok(Task::Guard(config_of(given))),
         _ => unreachable!(),
     }
 }

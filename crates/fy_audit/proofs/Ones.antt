@@ -4,8 +4,8 @@ use Rattle.std.specs.List.{AllByRecursion, flat_map}
 use Rattle.std.proofs.lemmas.Bool.{false≢true}
 use Rattle.fy_lines.specs.Lines.{lines_of}
 use Rattle.fy_spelling.specs.Command.{LineOf}
-use Rattle.fy_spelling.specs.Fits.{FitsEntry}
-use Rattle.fy_spelling.specs.OneText.{LineComesToOne, OneEntryPerText, TextsAreLines, HasNoFeed}
+use Rattle.fy_spelling.specs.Held.{IsHeld}
+use Rattle.fy_spelling.specs.OneText.{LineComesToOne, OneHeldEntryPerText, HeldTextsAreLines, HasNoFeed}
 use Rattle.fy_spelling.specs.Values.{text_of}
 use Rattle.fy_spelling.specs.declared.command.Command.{Command}
 use Rattle.fy_spelling.specs.declared.command.LineFault.{LineFault}
@@ -121,8 +121,8 @@ line_once (a ∷ x) (b ∷ y) more rest p q same =
     ap₂' e f i = e i ∷ f i
 
 -- entries have one text together
-entries_once : OneEntryPerText → TextsAreLines → (xs ys : List Entry) →
-    AllByRecursion FitsEntry xs → AllByRecursion FitsEntry ys →
+entries_once : OneHeldEntryPerText → HeldTextsAreLines → (xs ys : List Entry) →
+    AllByRecursion IsHeld xs → AllByRecursion IsHeld ys →
     flat_map entry_line xs ≡ flat_map entry_line ys → xs ≡ ys
 entries_once one lines [] [] p q same = refl
 entries_once one lines [] (y ∷ ys) p q same =
@@ -146,8 +146,8 @@ entries_once one lines (x ∷ xs) (y ∷ ys) p q same =
     let rest = entries_once one lines xs ys p.1 q.1 found.1 in
     λ i. first i ∷ rest i
 
-pub audit_once : OneEntryPerText → TextsAreLines → (v w : Version) (xs ys : List Entry) →
-    AllByRecursion FitsEntry xs → AllByRecursion FitsEntry ys →
+pub audit_once : OneHeldEntryPerText → HeldTextsAreLines → (v w : Version) (xs ys : List Entry) →
+    AllByRecursion IsHeld xs → AllByRecursion IsHeld ys →
     audit_text v xs ≡ audit_text w ys → (v ≡ w) × (xs ≡ ys)
 audit_once one lines First First xs ys p q same =
     (refl, entries_once one lines xs ys p q (let e : flat_map entry_line xs ≡ flat_map entry_line ys = cc in e))

@@ -1,7 +1,7 @@
 -- bytes that are of one thing each
 use Rattle.std.specs.Prelude.{◌≡◌, ℕ, List, Result}
 use Rattle.std.specs.List.{AllByRecursion}
-use Rattle.fy_spelling.specs.Fits.{FitsEntry}
+use Rattle.fy_spelling.specs.Held.{IsHeld}
 use Rattle.fy_spelling.specs.declared.command.Command.{Command}
 use Rattle.fy_acts.specs.declared.entry.Entry.{Entry}
 use Rattle.fy_audit.specs.Audit.{Audit, AuditOf}
@@ -22,8 +22,9 @@ abbrev pub AuditComesToOne : Type 0
 AuditComesToOne =
     (bytes : List ℕ) (x y : Result Audit AuditFault) → AuditOf bytes x → AuditOf bytes y → x ≡ y
 
--- two journals with one text are of one version and have the same entries
+-- two journals with one text are of one version and have the same entries, whatever entries a
+-- program can hold
 abbrev pub AuditIsOne : Type 0
 AuditIsOne =
-    (v w : Version) (xs ys : List Entry) → AllByRecursion FitsEntry xs →
-    AllByRecursion FitsEntry ys → audit_text v xs ≡ audit_text w ys → (v ≡ w) × (xs ≡ ys)
+    (v w : Version) (xs ys : List Entry) → AllByRecursion IsHeld xs →
+    AllByRecursion IsHeld ys → audit_text v xs ≡ audit_text w ys → (v ≡ w) × (xs ≡ ys)

@@ -44,7 +44,8 @@ fault_at number line.Syntax = Line number line.Syntax
 fault_at number line.Floor = Line number line.Floor
 fault_at number line.NoMemory = NoMemory
 
--- what a reader may answer: what the bytes are, or that there was no memory
+-- what a reader may answer: what the bytes are, or that there was no memory, which takes the place
+-- of any answer but TooLong
 abbrev pub ScriptAnswers : List ℕ → Result (List Command) ScriptFault → Type 0
-ScriptAnswers bytes (Err NoMemory) = ⊤
+ScriptAnswers bytes (Err NoMemory) = length bytes ≤ MOST_SCRIPT_BYTES
 ScriptAnswers bytes answer = ScriptOf bytes answer

@@ -142,8 +142,11 @@ inside : (v w : VerdictOf) → Verdict v ≡ Verdict w → v ≡ w
 inside v w e = cc
 
 pub rules_named : Named → RulesNamed
-rules_named named c before later e order v l a r = at (cases_lt e.by (length c.roles))
+rules_named named c journal legal before later e order v is a r = at (cases_lt e.by (length c.roles))
   where
+    l : Legal c (before ++ e ∷ later)
+    l = subst (Legal c) is legal
+
     at : (e.by < length c.roles) ⊎ (length c.roles ≤ e.by) → (v.rule ≡ None) ↔ (v.struck ≡ Some order.kind)
     at (inl known) =
         let same : v ≡ verdict (situation c (history c before) e.by) order = inside v _ (sym r ∙ (judged c before later e order l a).known known) in

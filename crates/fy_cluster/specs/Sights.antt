@@ -1,5 +1,5 @@
 -- what a cluster shows without an act: who keeps a record, and what may come next
-use Rattle.std.specs.Prelude.{◌≡◌, ℕ, ◌<◌, Bool, true, false, ◌&&◌, not, List, length, nat_lt, ◌==◌, Option, option_map, MatchOption, slice_index_or}
+use Rattle.std.specs.Prelude.{◌≡◌, ℕ, ◌<◌, Bool, true, false, ◌&&◌, not, List, length, nat_lt, Option, option_map, MatchOption, slice_index_or}
 use Rattle.std.specs.List.{list_any}
 use Rattle.std.specs.FinSet as sets
 use Rattle.fy_locality.specs.declared.ProcId.{ProcId}
@@ -10,6 +10,7 @@ use Rattle.fy_acts.specs.declared.act.Act.TheVariants.{Deliver}
 use Rattle.fy_cluster.specs.declared.machine.Machine.{Machine}
 use Rattle.fy_cluster.specs.declared.sight.Sight.{Sight}
 use Rattle.fy_cluster.specs.Setup.{Setup}
+use Rattle.fy_cluster.specs.Needs.{has_on}
 use Rattle.fy_cluster.specs.History.{History, left, up, unsynced, now, members_for, keeps}
 use Rattle.fy_cluster.specs.Replies.{refusals}
 use Rattle.fy_disk.specs.Disk.{blank}
@@ -22,9 +23,7 @@ IsLeastKeeper h rec p = IsLeastWith (is_among (members_for h rec)) (keeps h rec)
 
 -- the machine's parts say that the process isn't destroyed and has the record synced
 abbrev pub keeps_on : Machine → ℕ → ℕ → Bool
-keeps_on m rec p =
-    not (sets.contains m.dead.destroyed p)
-    && list_any (λ item. item.rec == rec) (slice_index_or m.disks.items p blank).synced
+keeps_on m rec p = not (sets.contains m.dead.destroyed p) && has_on m rec p
 
 -- ---- what may come next
 

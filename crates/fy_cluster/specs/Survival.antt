@@ -57,12 +57,16 @@ AreJudged c journal =
 abbrev pub KillsJudged : Type 0
 KillsJudged = (c : Setup) (journal : List Entry) → Legal c journal → AreJudged c journal
 
--- no rule is named exactly where the ordered kind struck
-abbrev pub RulesNamed : Type 0
-RulesNamed =
-    (c : Setup) (before later : List Entry) (e : Entry) (order : Order) (verdict : Verdict) →
-    Legal c (before ++ e ∷ later) → e.act ≡ Kill order → e.reply ≡ Verdicted verdict →
+-- each verdict of a journal names no rule exactly where the ordered kind struck
+abbrev pub AreNamed : List Entry → Type 0
+AreNamed journal =
+    (before later : List Entry) (e : Entry) (order : Order) (verdict : Verdict) →
+    journal ≡ before ++ e ∷ later → e.act ≡ Kill order → e.reply ≡ Verdicted verdict →
     (verdict.rule ≡ None) ↔ (verdict.struck ≡ Some order.kind)
+
+-- each verdict of a legal journal does
+abbrev pub RulesNamed : Type 0
+RulesNamed = (c : Setup) (journal : List Entry) → Legal c journal → AreNamed journal
 
 -- every acknowledged record is kept
 abbrev pub RecordsKept : Type 0
@@ -106,13 +110,14 @@ SameActsSameJournal =
     LegalUnder version c ys → map by_and_act xs ≡ map by_and_act ys → xs ≡ ys
 
 -- what a journal keeps, whatever was ordered: it is legal, the destroyed are short of every policy,
--- those left satisfy each, every kill is judged, and every acknowledged record has a synced copy on
--- an undestroyed member
+-- those left satisfy each, every kill is judged, no rule is named exactly where the ordered kind
+-- struck, and every acknowledged record has a synced copy on an undestroyed member
 pub record Survives (c : Setup) (journal : List Entry) : Type 0 where
   pub legal : Legal c journal
   pub short : AreShort c.processes c.policies (destroyed (history c journal))
   pub satisfied : AreSatisfied c.processes c.policies (left c (history c journal))
   pub judged : AreJudged c journal
+  pub named : AreNamed journal
   pub kept : (r : ℕ) → IsTrue (acked (history c journal) r) → Kept (history c journal) r
 
 -- every legal journal keeps all this

@@ -25,7 +25,7 @@ impl Machine {
         requires lived { IsLived turn.setup turn.before }
         ensures { Comes turn (CopyTo from rec to) result self.new }
     {
-        let Some(_team) = self.teams.team_number(rec) else {
+        let Some(_team) = self.teams.team_of(rec) else {
             return Ok(Reply::No(Refusal::NoRecord));
         };
         if from.0.max(to.0) >= map.len() {

@@ -12,7 +12,7 @@ use fy_disk::Disk;
 use fy_locality::ProcId;
 
 /// Whether a disk has a record synced.
-pub(crate) fn has_synced(disk: &Disk, rec: u32) -> bool
+pub(crate) fn disk_has(disk: &Disk, rec: u32) -> bool
     ensures { result ≡ list_any (λ item. item.rec == rec) disk.now.synced }
 {
     for place in 0..disk.synced_len() {
@@ -31,10 +31,7 @@ impl Machine {
     fn keeps(&self, rec: u32, p: ProcId) -> bool
         ensures { result ≡ keeps_on self.now rec p.0 }
     {
-        match self.disks.get(p.0 as usize) {
-            Some(disk) => !self.dead.destroyed().contains(p) && has_synced(disk, rec),
-            None => false,
-        }
+        !self.dead.destroyed().contains(p) && self.has_synced(rec, p)
     }
 
     /// The first of these processes that isn't destroyed and has a record synced.
@@ -56,7 +53,7 @@ impl Machine {
             return None;
         }
         self.teams.invariant();
-        let Some(team) = self.teams.team_number(rec) else {
+        let Some(team) = self.teams.team_of(rec) else {
             unreachable!();
         };
         let Some(members) = self.teams.members(team) else {

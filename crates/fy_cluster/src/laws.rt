@@ -57,13 +57,15 @@ pub fn keepers_found()
 }
 
 /// Whatever was ordered: the destroyed are short of every policy, those left satisfy each, every
-/// kill is judged, and every acknowledged record keeps a synced copy on an undestroyed member.
+/// kill is judged, no rule is named exactly where the ordered kind struck, and every acknowledged
+/// record keeps a synced copy on an undestroyed member.
 pub fn journals_survive()
     ensures { JournalsSurvive }
 {
     destroyed_short();
     left_satisfy();
     kills_judged();
+    rules_named();
     records_kept();
 }
 

@@ -50,7 +50,8 @@ fn take_out(net: &mut Net, message: u64)
     requires { take_refusal net.old message ≡ None }
     ensures { net.new ≡ left_by message net.old }
 {
-    let _ = net.take(message);
+    let taken = net.take(message);
+    prove!(taken.is_ok());
 }
 
 /// Writes an item to the disk of a process, or leaves all disks as they were where there is no

@@ -3,7 +3,7 @@ ghost use Rattle.std.specs.Prelude.{◌≡◌, ◌&&◌};
 ghost use Rattle.fy_team.specs.Teams.{is_acked};
 ghost use Rattle.fy_cluster.specs.Needs.{has_on, is_of_team_on, is_member_on, needed_on};
 
-use crate::keeper::has_synced;
+use crate::keeper::disk_has;
 use crate::machine::Machine;
 use fy_locality::ProcId;
 
@@ -13,7 +13,7 @@ impl Machine {
         ensures { result ≡ has_on self.now rec p.0 }
     {
         match self.disks.get(p.0 as usize) {
-            Some(disk) => has_synced(disk, rec),
+            Some(disk) => disk_has(disk, rec),
             None => false,
         }
     }
@@ -22,7 +22,7 @@ impl Machine {
     fn is_of_team(&self, team: u32, rec: u32) -> bool
         ensures { result ≡ is_of_team_on self.now team rec }
     {
-        match self.teams.team_number(rec) {
+        match self.teams.team_of(rec) {
             Some(number) => number == team,
             None => false,
         }
@@ -32,7 +32,7 @@ impl Machine {
     fn is_member_for(&self, p: ProcId, rec: u32) -> bool
         ensures { result ≡ is_member_on self.now p.0 rec }
     {
-        let Some(team) = self.teams.team_number(rec) else {
+        let Some(team) = self.teams.team_of(rec) else {
             return false;
         };
         match self.teams.members(team) {

@@ -105,7 +105,7 @@ impl Machine {
         ensures { Comes turn (Resend rec process) result self.new }
     {
         fy_policy::laws::test_is_satisfaction();
-        let Some(team) = self.teams.team_number(rec) else {
+        let Some(team) = self.teams.team_of(rec) else {
             return Ok(Reply::No(Refusal::NoRecord));
         };
         let Some(members) = self.teams.members(team) else {

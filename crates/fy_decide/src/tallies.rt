@@ -26,7 +26,7 @@ pub(crate) fn tallies_of(
 {
     let mut tallies = Vec::new(alloc);
     for policy in policies {
-        let mut tally = Tally::make(alloc, policy, map)?;
+        let mut tally = Tally::make_shared(alloc, policy, map)?;
         put_all(&mut tally, set);
         tallies.push(tally)?;
     }

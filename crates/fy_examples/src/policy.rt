@@ -1,7 +1,6 @@
 //! A policy that asks for two zones, of a set and of a tally.
 use fy_locality::{Map, ProcSet};
 use fy_policy::{Tally, read_policy, satisfied};
-use std::sync::Arc;
 use std::test::Fail;
 
 #[test]
@@ -14,7 +13,6 @@ fn two_zones_are_asked_for(rt: HostRuntime) -> Result<(), Fail> {
     assert_eq!(rt; satisfied(&policy, &map, &ProcSet::empty()), false);
     assert_eq!(rt; satisfied(&policy, &map, &map.everyone()), true);
     assert_eq!(rt; map.len(), 2);
-    let map = Arc::new(alloc, map)?;
     let mut tally = Tally::make(alloc, &policy, &map)?;
     tally.add(p0);
     tally.add(p1);

@@ -1,11 +1,12 @@
 //! The journal of a cluster.
-ghost use Rattle.std.specs.Prelude.{◌≡◌, ◌+◌, ◌<◌, ◌≤◌, max, length, slice_get, IsOk, IfSome, OnOk, OnErr};
+ghost use Rattle.std.specs.Prelude.{◌≡◌, ◌+◌, ◌<◌, ◌≤◌, Err, max, length, slice_get, IsOk, IfErr, IfSome, OnOk, OnErr};
 ghost use Rattle.std.specs.Option.{option_copied};
 ghost use Rattle.fy_journal.specs.Journal.{blank, entered, IsLog};
+ghost use Rattle.fy_journal.specs.declared.fault.JournalFault.TheVariants.{TooMany, NoMemory};
 ghost use Rattle.fy_journal.specs.declared.version.Version.TheVariants.{First, Second};
 
-use crate::{Act, Entry, MOST_ENTRIES, Reply, Version};
-use std::alloc::{AllocError, Global};
+use crate::{Act, Entry, JournalFault, MOST_ENTRIES, Reply, Version};
+use std::alloc::Global;
 use std::marker::Model;
 
 /// All that was asked of a cluster and replied, the oldest first. Each entry is numbered by its
@@ -72,18 +73,23 @@ impl Journal {
         self.version
     }
 
-    /// Makes room for `count` pushes. Room that is there already counts. With them there may be no
-    /// more than 2^32 entries.
+    /// Makes room for `count` pushes. Room that is there already counts.
     ///
     /// # Errors
     ///
-    /// `AllocError` only where the memory for them is refused.
-    pub fn reserve(&mut self, count: usize) -> Result<(), AllocError>
-        requires { length self.old.entries + count ≤ MOST_ENTRIES }
+    /// In order: `TooMany` where with them there would be more than 2^32 entries; `NoMemory`. The
+    /// journal is then as it was.
+    pub fn reserve(&mut self, count: usize) -> Result<(), JournalFault>
+        ensures refused { MOST_ENTRIES < length self.old.entries + count → result ≡ Err TooMany }
+        ensures memory { length self.old.entries + count ≤ MOST_ENTRIES →
+            IfErr result (λ fault. fault ≡ NoMemory) }
         ensures there { count ≤ self.old.room → IsOk result }
         ensures ok { OnOk result (self.new ≡ record self.old { room = max self.old.room count }) }
         ensures err { OnErr result (self.new ≡ self.old) }
     {
+        if count > MOST_ENTRIES - self.entries.len() {
+            return Err(JournalFault::TooMany);
+        }
         self.entries.reserve(count)?;
         self.room = self.room.max(count);
         Ok(())

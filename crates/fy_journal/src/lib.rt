@@ -1,10 +1,12 @@
 //! The journal of a cluster: every act with its reply, the oldest first.
 #![tactic(auto)]
 
+mod fault;
 mod journal;
 mod limits;
 mod version;
 
+pub use fault::JournalFault;
 pub use fy_acts::{Act, Entry, Refusal, Reply};
 pub use journal::Journal;
 pub use limits::MOST_ENTRIES;

@@ -56,11 +56,23 @@ impl Drop for Tally {
 }
 
 impl Tally {
-    /// The empty set, of the processes of a map and by a policy.
+    /// The empty set, of the processes of a map and by a policy. It keeps a copy of the map.
     ///
     /// # Errors
     /// Want of memory.
-    pub fn make(alloc: Global, policy: &Policy, map: &Arc<Map>) -> Result<Tally, AllocError>
+    pub fn make(alloc: Global, policy: &Policy, map: &Map) -> Result<Tally, AllocError>
+        ensures { IfOk result (λ t. (t.processes ≡ map.now)
+            × (t.policy ≡ policy.now) × (t.set ≡ sets.empty)) }
+    {
+        let map = Arc::new(alloc, map.try_copy(alloc)?)?;
+        Tally::make_shared(alloc, policy, &map)
+    }
+
+    /// The same over a map that others share, of which no copy is made.
+    ///
+    /// # Errors
+    /// Want of memory.
+    pub fn make_shared(alloc: Global, policy: &Policy, map: &Arc<Map>) -> Result<Tally, AllocError>
         ensures { IfOk result (λ t. (t.processes ≡ arc_value map.now)
             × (t.policy ≡ policy.now) × (t.set ≡ sets.empty)) }
     {

@@ -25,7 +25,6 @@ use Rattle.fy_acts.specs.declared.act.Act.{Act}
 use Rattle.fy_acts.specs.declared.act.Act.TheVariants.{Kill, Clog, Unclog, Form, Begin, Deliver, Lose, Resend, Sync, Up, Tick, Give, Take, Protect, Unprotect, CopyTo, Replace, Heal}
 use Rattle.fy_spelling.specs.declared.reading.Asked.{Asked}
 use Rattle.fy_spelling.specs.declared.reading.Asked.TheVariants.{Order, Other}
-use Rattle.fy_spelling.proofs.Found.{members_pass}
 
 -- ---- parts
 
@@ -46,7 +45,7 @@ processes-again [] h = refl
 processes-again (p ∷ ps) h = rw (process-again p h.0, processes-again ps h.1) refl
 
 members-again : (ps : List ProcId) → FitsMembers ps → members_from (processes_value ps) ≡ Some ps
-members-again ps h = rw (processes-again ps h.1) (rw (members_pass ps h.0) refl)
+members-again ps h = rw (processes-again ps h.1) (rw h.0 refl)
 
 pub kind-again : (k : Kind) → kind_from (string (kind_text k)) ≡ Some k
 kind-again RebootProcess = refl

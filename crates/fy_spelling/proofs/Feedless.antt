@@ -10,6 +10,7 @@ use Rattle.serde_json.specs.Written.{compact_text, items_text, members_text, com
 use Rattle.fy_spelling.specs.OneText.{HasNoFeed}
 use Rattle.fy_spelling.specs.Tame.{IsTame, ItemsTame, MembersTame}
 use Rattle.fy_spelling.specs.Fits.{FitsEntry}
+use Rattle.fy_spelling.specs.Held.{IsHeld}
 use Rattle.fy_spelling.specs.Values.{text_of, entry_data}
 use Rattle.fy_acts.specs.declared.entry.Entry.{Entry}
 use Rattle.fy_spelling.proofs.Shapes.{tame_entry, held_entry}
@@ -84,6 +85,9 @@ mutual
   line_members later (member k d ms) h =
       comma later _ (feedless_both (quoted k) _ (quotes k) (λ e. omega arith, feedless_both _ _ (line d h.1) (line_members true ms h.2)))
 
-pub text_feedless : (e : Entry) → FitsEntry e → HasNoFeed (text_of e)
+pub held_feedless : (e : Entry) → IsHeld e → HasNoFeed (text_of e)
 unfolding text_of
-text_feedless e h = line (entry_data e) (tame_entry e (held_entry e h))
+held_feedless e h = line (entry_data e) (tame_entry e h)
+
+pub text_feedless : (e : Entry) → FitsEntry e → HasNoFeed (text_of e)
+text_feedless e h = held_feedless e (held_entry e h)

@@ -1,8 +1,7 @@
 -- the parts of acts are found as they are defined
-use Rattle.std.proofs.Common.{◌≡◌, ◌≢◌, ℕ, ◌+◌, ◌<◌, ◌≤◌, suc, Bool, true, false, cond, ◌||◌, leb, List, ◌∷◌, length, drop, get_or, Option, Some, None, option_map, MatchOption, nat_eq, inl, inr, refl, sym, ap, subst, ◌∙◌, arith}
+use Rattle.std.proofs.Common.{◌≡◌, ◌≢◌, ℕ, ◌+◌, ◌<◌, suc, Bool, true, false, cond, ◌||◌, List, ◌∷◌, length, drop, get_or, Option, Some, None, option_map, MatchOption, nat_eq, inl, inr, refl, sym, ap, subst, ◌∙◌, arith}
 use Rattle.std.proofs.Math.Seq.{drop-cons}
-use Rattle.std.proofs.lemmas.Bool.{cases_Bool, and_parts}
-use Rattle.std.proofs.lemmas.Bool.Decides.{nat_tests}
+use Rattle.std.proofs.lemmas.Bool.{cases_Bool}
 use Rattle.std.specs.Cmp.Lexicographic.{pointwise, same_text}
 use Rattle.serde_json.specs.View.{view, items_view}
 use Rattle.serde_json.specs.declared.value.Value.{Value}
@@ -12,10 +11,10 @@ use Rattle.fy_locality.specs.declared.key.Key.{Key}
 use Rattle.fy_locality.specs.declared.key.Key.TheVariants.{Process, Machine, Zone, DataHall, DataCenter}
 use Rattle.fy_kinds.specs.Kinds.{Deed, only, with_all}
 use Rattle.fy_kinds.specs.Members.{Members}
-use Rattle.fy_team.proofs.Rising.{rises_from, rises-AllPairs}
+use Rattle.fy_team.specs.Members.{are_members}
+use Rattle.fy_team.specs.Standing.{MembersTested}
 use Rattle.fy_team.specs.Teams.{AreMembers}
-use Rattle.fy_team.specs.declared.limits.TheConstants.{MOST_MEMBERS}
-use Rattle.fy_spelling.specs.Candidate.{◌>>=◌, key_named, are_members, deed_from, deeds_from}
+use Rattle.fy_spelling.specs.Candidate.{◌>>=◌, key_named, deed_from, deeds_from}
 use Rattle.fy_spelling.specs.Command.{gathered}
 
 -- ---- keys
@@ -51,37 +50,18 @@ key_found None word differ =
 
 -- ---- members
 
-few_tested : (n m : ℕ) → n ≤ m → leb n m ≡ true
-few_tested n m le = grind (arith, nat_tests)
-
-few_meant : (n m : ℕ) → leb n m ≡ true → n ≤ m
-few_meant n m e = grind (arith, nat_tests)
-
--- the test is what it means
-pub members_pass : (ps : List ProcId) → AreMembers ps → are_members ps ≡ true
-members_pass ps are =
-    rw (few_tested (length ps) MOST_MEMBERS are.few, (rises-AllPairs ps).1 are.rising) refl
-
-pub members_meant : (ps : List ProcId) → are_members ps ≡ true → AreMembers ps
-members_meant ps e =
-    let both = and_parts (leb (length ps) MOST_MEMBERS) (rises_from 0 ps) e in
-    record {
-      few = few_meant (length ps) MOST_MEMBERS both.0;
-      rising = (rises-AllPairs ps).0 both.1;
-    }
-
 pub members_kept :
-    (ps m : List ProcId) (b : Bool) → are_members ps ≡ b → ((AreMembers ps → ⊥) → ⊥) → m ≡ ps
-    → Some m ≡ cond b (Some ps) None
-members_kept ps m true e h is = ap Some is
-members_kept ps m false e h is =
-    absurd (h (λ are. let t : are_members ps ≡ true = members_pass ps are in let no : ⊥ = cc in no))
+    MembersTested → (ps m : List ProcId) (b : Bool) → are_members ps ≡ b
+    → ((AreMembers ps → ⊥) → ⊥) → m ≡ ps → Some m ≡ cond b (Some ps) None
+members_kept law ps m true e h is = ap Some is
+members_kept law ps m false e h is =
+    absurd (h (λ are. let t : are_members ps ≡ true = (law ps).1 are in let no : ⊥ = cc in no))
 
 pub members_refused :
-    (ps : List ProcId) (b : Bool) → are_members ps ≡ b → (AreMembers ps → ⊥)
+    MembersTested → (ps : List ProcId) (b : Bool) → are_members ps ≡ b → (AreMembers ps → ⊥)
     → None ≡ cond b (Some ps) None
-members_refused ps true e h = absurd (h (members_meant ps e))
-members_refused ps false e h = refl
+members_refused law ps true e h = absurd (h ((law ps).0 e))
+members_refused law ps false e h = refl
 
 -- ---- kinds
 

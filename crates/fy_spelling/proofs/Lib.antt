@@ -14,3 +14,4 @@ pub mod Tame
 pub mod OneLine
 pub mod Feedless
 pub mod EntryLines
+pub mod HeldOnce

@@ -94,4 +94,4 @@ answered line (Ok command) is = is
 answered line (Err TooLong) is = is
 answered line (Err Syntax) is = is
 answered line (Err Floor) is = is
-answered line (Err NoMemory) is = tt
+answered line (Err NoMemory) is = absurd is

@@ -29,11 +29,11 @@ rule-again (Some (Protected p)) h = rw (process-again p h) refl
 rule-again (Some (TooManyDestroyed i)) h = rw (short-again i h) refl
 rule-again (Some (TooFewLeft i)) h = rw (short-again i h) refl
 
-struck-again : (k : Option Kind) → kind_from (struck_data k) ≡ k
+pub struck-again : (k : Option Kind) → kind_from (struck_data k) ≡ k
 struck-again None = refl
 struck-again (Some k) = kind-again k
 
-refusal-again : (r : Refusal) → FitsRefusal r → refusal_from (refusal_data r) ≡ Some r
+pub refusal-again : (r : Refusal) → FitsRefusal r → refusal_from (refusal_data r) ≡ Some r
 refusal-again Stranger h = refl
 refusal-again WrongRole h = refl
 refusal-again TooMany h = refl

@@ -104,7 +104,7 @@ act_once a b fits_a fits_b same =
 
 -- ---- replies
 
-some_reply : (a b : Reply) → Some a ≡ Some b → a ≡ b
+pub some_reply : (a b : Reply) → Some a ≡ Some b → a ≡ b
 some_reply a b e = cc
 
 pub reply_once : (a b : Reply) → FitsReply a → FitsReply b → reply_data a ≡ reply_data b → a ≡ b
@@ -113,7 +113,7 @@ reply_once a b fits_a fits_b same =
 
 -- ---- entries
 
-some_value : (d e : Data) → Some d ≡ Some e → d ≡ e
+pub some_value : (d e : Data) → Some d ≡ Some e → d ≡ e
 some_value d e same = cc
 
 -- what stands at a key of both
@@ -126,16 +126,18 @@ whole_once m n short_m short_n same =
     let both : Some m ≡ Some n = sym (short-again m short_m) ∙ ap short_from same ∙ short-again n short_n in
     cc
 
-entry_once : (a b : Entry) → FitsEntry a → FitsEntry b → entry_data a ≡ entry_data b → a ≡ b
-entry_once a b fits_a fits_b same =
-    let acts = act_once a.act b.act fits_a.act fits_b.act (at_key (codes "act") a b (act_data a.act) (act_data b.act) same refl refl) in
-    let places = whole_once a.at b.at fits_a.at fits_b.at (at_key (codes "at") a b (whole a.at) (whole b.at) same refl refl) in
-    let actors = whole_once a.by b.by fits_a.by fits_b.by (at_key (codes "by") a b (whole a.by) (whole b.by) same refl refl) in
-    let replies = reply_once a.reply b.reply fits_a.reply fits_b.reply (at_key (codes "reply") a b (reply_data a.reply) (reply_data b.reply) same refl refl) in
+-- entries of one value are equal where their replies are
+pub entry_once : (a b : Entry) → FitsAct a.act × IsShort a.at × IsShort a.by → FitsAct b.act × IsShort b.at × IsShort b.by
+    → (reply_data a.reply ≡ reply_data b.reply → a.reply ≡ b.reply) → entry_data a ≡ entry_data b → a ≡ b
+entry_once a b (act_a, at_a, by_a) (act_b, at_b, by_b) replied same =
+    let acts = act_once a.act b.act act_a act_b (at_key (codes "act") a b (act_data a.act) (act_data b.act) same refl refl) in
+    let places = whole_once a.at b.at at_a at_b (at_key (codes "at") a b (whole a.at) (whole b.at) same refl refl) in
+    let actors = whole_once a.by b.by by_a by_b (at_key (codes "by") a b (whole a.by) (whole b.by) same refl refl) in
+    let replies = replied (at_key (codes "reply") a b (reply_data a.reply) (reply_data b.reply) same refl refl) in
     λ i. record { at = places i; by = actors i; act = acts i; reply = replies i }
 
 -- two entries with one text are equal
 pub one_entry : (a b : Entry) → FitsEntry a → FitsEntry b → text_of a ≡ text_of b → a ≡ b
 one_entry a b fits_a fits_b same =
     let values : Some (entry_data a) ≡ Some (entry_data b) = sym (read_text_of a fits_a) ∙ ap read same ∙ read_text_of b fits_b in
-    entry_once a b fits_a fits_b (some_value (entry_data a) (entry_data b) values)
+    entry_once a b (fits_a.act, fits_a.at, fits_a.by) (fits_b.act, fits_b.at, fits_b.by) (reply_once a.reply b.reply fits_a.reply fits_b.reply) (some_value (entry_data a) (entry_data b) values)

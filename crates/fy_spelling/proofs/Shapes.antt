@@ -312,9 +312,12 @@ held_entry e h = record { act = h.act; at = h.at; by = h.by; reply = held_reply 
 
 -- ---- the text of an entry reads as its value, and is UTF-8
 
-pub read_text_of : (e : Entry) → FitsEntry e → read (text_of e) ≡ Some (entry_data e)
+pub read_held_text : (e : Entry) → IsHeld e → read (text_of e) ≡ Some (entry_data e)
 unfolding text_of
-read_text_of e h = reads_back (entry_data e) (tame_entry e (held_entry e h)) (depth_entry e)
+read_held_text e h = reads_back (entry_data e) (tame_entry e h) (depth_entry e)
+
+pub read_text_of : (e : Entry) → FitsEntry e → read (text_of e) ≡ Some (entry_data e)
+read_text_of e h = read_held_text e (held_entry e h)
 
 pub utf8_text_of : (e : Entry) → IsHeld e → IsUtf8 (text_of e)
 unfolding text_of

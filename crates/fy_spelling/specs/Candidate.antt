@@ -1,5 +1,5 @@
 -- what a value asks for, if anything: each act is told by the one member of its object
-use Rattle.std.specs.Prelude.{◌≡◌, ◌<◌, ℕ, ◌^◌, nat_lt, nat_le, nat_eq, List, [], ◌∷◌, length, codes, Bool, ◌&&◌, if◌then◌else◌, bytes_eq, Option, Some, None, option_map, Result, Ok, Err}
+use Rattle.std.specs.Prelude.{◌≡◌, ◌<◌, ℕ, ◌^◌, nat_lt, nat_eq, List, [], ◌∷◌, codes, if◌then◌else◌, bytes_eq, Option, Some, None, option_map, Result, Ok, Err}
 use Rattle.std.specs.Cmp.Lexicographic.{pointwise}
 use Rattle.std.specs.List.{find}
 use Rattle.serde_json.specs.Data.{Data, Items, no_items, item, Members as Fields, no_members, member}
@@ -18,8 +18,7 @@ use Rattle.fy_kinds.specs.declared.kind.Kind.{Kind}
 use Rattle.fy_kinds.specs.declared.order.Target.{Target}
 use Rattle.fy_grants.specs.declared.grant.Scope.{Scope}
 use Rattle.fy_grants.specs.declared.grant.Scope.TheVariants.{All, Where}
-use Rattle.fy_team.proofs.Rising.{rises_from}
-use Rattle.fy_team.specs.declared.limits.TheConstants.{MOST_MEMBERS}
+use Rattle.fy_team.specs.Members.{are_members}
 use Rattle.fy_spelling.specs.Command.{gathered}
 use Rattle.fy_acts.specs.declared.act.Act.{Act}
 use Rattle.fy_acts.specs.declared.act.Act.TheVariants as act
@@ -121,10 +120,6 @@ abbrev pub processes_from : Items → Option (List ProcId)
 processes_from no_items = Some []
 processes_from (item d ds) =
     process_from d >>= λ p. option_map (λ ps. p ∷ ps) (processes_from ds)
-
--- whether these are members of a team: few enough, and rising
-abbrev pub are_members : List ProcId → Bool
-are_members ps = nat_le (length ps) MOST_MEMBERS && rises_from 0 ps
 
 -- the members of a team
 abbrev pub members_from : Data → Option (List ProcId)

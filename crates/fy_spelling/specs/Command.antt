@@ -1,5 +1,5 @@
 -- a line of a script: which actor's act it asks for, or its first fault
-use Rattle.std.specs.Prelude.{◌≡◌, ◌<◌, ◌≤◌, ℕ, List, [], ◌∷◌, codes, length, IsUtf8, Result, Ok, Err, Some, ⊤}
+use Rattle.std.specs.Prelude.{◌≡◌, ◌<◌, ◌≤◌, ℕ, List, [], ◌∷◌, codes, length, IsUtf8, Result, Ok, Err, Some}
 use Rattle.serde_json.specs.Data.{Data}
 use Rattle.serde_json.specs.Read.{read}
 use Rattle.fy_kinds.specs.Kinds.{Deed, no_deed, only, with_all, rank}
@@ -58,7 +58,8 @@ LineOf line (Err Syntax) =
 LineOf line (Err Floor) = (length line ≤ MOST_LINE_BYTES) × SpellsInverted line
 LineOf line (Err NoMemory) = ⊥
 
--- what a reader may answer: what the line comes to, or that there was no memory
+-- what a reader may answer: what the line comes to, or that there was no memory, which takes the
+-- place of any answer but TooLong
 abbrev pub LineAnswers : List ℕ → Result Command LineFault → Type 0
-LineAnswers line (Err NoMemory) = ⊤
+LineAnswers line (Err NoMemory) = length line ≤ MOST_LINE_BYTES
 LineAnswers line answer = LineOf line answer

@@ -1,5 +1,5 @@
 -- the acts and entries that a program can hold: their numbers and lists are within their types
-use Rattle.std.specs.Prelude.{◌≡◌, ◌<◌, ◌^◌, ℕ, List, true, Option, Some, None, ⊤}
+use Rattle.std.specs.Prelude.{◌≡◌, ◌<◌, ◌^◌, ℕ, List, true, Option, Some, None, ⊤, IsTrue}
 use Rattle.std.specs.List.{AllByRecursion}
 use Rattle.fy_locality.specs.Name.{is_name}
 use Rattle.fy_locality.specs.declared.ProcId.{ProcId}
@@ -8,7 +8,7 @@ use Rattle.fy_kinds.specs.declared.verdict.Rule.{Rule}
 use Rattle.fy_kinds.specs.declared.verdict.Rule.TheVariants.{NoTarget, NoGrant, Protected, TooManyDestroyed, TooFewLeft}
 use Rattle.fy_grants.specs.declared.grant.Scope.{Scope}
 use Rattle.fy_grants.specs.declared.grant.Scope.TheVariants.{All, Where}
-use Rattle.fy_team.specs.Teams.{AreMembers}
+use Rattle.fy_team.specs.Members.{are_members}
 use Rattle.fy_acts.specs.declared.act.Act.{Act}
 use Rattle.fy_acts.specs.declared.act.Act.TheVariants.{Kill, Clog, Unclog, Form, Begin, Deliver, Lose, Resend, Sync, Up, Tick, Give, Take, Protect, Unprotect, CopyTo, Replace, Heal}
 use Rattle.fy_acts.specs.declared.reply.Refusal.{Refusal}
@@ -44,7 +44,7 @@ FitsScope (Where target) = FitsTarget target
 
 -- the members of a team: few enough, rising, and numbers of processes
 abbrev pub FitsMembers : List ProcId → Type 0
-FitsMembers members = AreMembers members × AllByRecursion IsProcess members
+FitsMembers members = IsTrue (are_members members) × AllByRecursion IsProcess members
 
 -- an act whose numbers are below their bounds, whose names are names, whose members are members
 abbrev pub FitsAct : Act → Type 0

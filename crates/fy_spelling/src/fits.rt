@@ -52,6 +52,7 @@ fn processes_fit(processes: &[ProcId])
 fn members_fit(members: &Members)
     ensures { FitsMembers members.now }
 {
+    fy_team::laws::members_are_tested();
     processes_fit(members.as_slice());
 }
 

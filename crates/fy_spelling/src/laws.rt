@@ -1,6 +1,6 @@
 //! Laws of texts, for the crates above.
 ghost use Rattle.std.specs.Prelude.{◌≡◌};
-ghost use Rattle.fy_spelling.specs.OneText.{OneEntryPerText, LineComesToOne, TextsAreLines};
+ghost use Rattle.fy_spelling.specs.OneText.{OneEntryPerText, OneHeldEntryPerText, LineComesToOne, TextsAreLines, HeldTextsAreLines};
 ghost use Rattle.fy_spelling.specs.Plain.{PlainTextSpells};
 ghost use Rattle.fy_spelling.specs.Rows.{EntryTexts, ReplyTexts, ActTexts, CommandText};
 
@@ -12,6 +12,14 @@ pub fn a_text_is_of_one_entry()
 /// The text of an entry, whose numbers and names fit, has no line feed.
 pub fn a_text_is_a_line()
     ensures { TextsAreLines }
+{}
+
+/// Two entries that a program can hold and that have one text are equal, and their text has no line
+/// feed: also where a rule names its policy by a number of more than 32 bits, of which no line is
+/// read.
+pub fn a_held_text_is_of_one_entry()
+    ensures one { OneHeldEntryPerText }
+    ensures lines { HeldTextsAreLines }
 {}
 
 /// A line of a script asks for one command, or has one first fault.

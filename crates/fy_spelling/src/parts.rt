@@ -2,7 +2,8 @@
 ghost use Rattle.std.specs.Prelude.{◌≡◌, Some, None, if◌then◌else◌, [], ◌++◌, ◌∷◌, IfOk, OnOk, option_map};
 ghost use Rattle.std.specs.Option.{option_copied};
 ghost use Rattle.serde_json.specs.View.{view, items_view, members_view};
-ghost use Rattle.fy_spelling.specs.Candidate.{next_at, sole, one, two, three, five, long_from, short_from, process_from, processes_from, are_members, members_from, key_named, kind_from, key_from, name_from, target_from, kinds_from, payload_from, deeds_from, deed_from, scope_from, target_in};
+ghost use Rattle.fy_team.specs.Members.{are_members};
+ghost use Rattle.fy_spelling.specs.Candidate.{next_at, sole, one, two, three, five, long_from, short_from, process_from, processes_from, members_from, key_named, kind_from, key_from, name_from, target_from, kinds_from, payload_from, deeds_from, deed_from, scope_from, target_in};
 ghost use Rattle.fy_spelling.specs.Replied.{four};
 ghost use Rattle.fy_kinds.specs.Kinds.{only};
 ghost use Rattle.fy_spelling.specs.Command.{gathered};
@@ -185,6 +186,7 @@ fn processes_of(alloc: Global, values: &[Value]) -> Result<Option<Vec<ProcId>>, 
 fn as_members(processes: Vec<ProcId>) -> Option<Members>
     ensures { result ≡ (if are_members processes.items then Some processes.items else None) }
 {
+    fy_team::laws::members_are_tested();
     match Members::from_vec(processes) {
         Ok(members) => Some(members),
         Err(_) => None,

@@ -11,7 +11,10 @@ use Rattle.fy_locality.specs.declared.ProcId.{ProcId}
 use Rattle.fy_locality.specs.declared.locality.Locality.{Locality}
 use Rattle.fy_policy.specs.Tree.{Tree}
 use Rattle.fy_policy.specs.Sat.{Sat, satisfies}
+use Rattle.fy_team.specs.Members.{rises_from}
+use Rattle.fy_team.specs.Standing.{MembersTested}
 use Rattle.fy_team.specs.Teams.{Team, is_among, IsFormed, AreFormed, unfit}
+use Rattle.fy_team.specs.declared.limits.TheConstants.{MOST_MEMBERS}
 use Rattle.fy_team.specs.declared.fault.TeamFault.TheVariants.{NoProcess, Gone, TeamShort}
 
 -- ---- rising numbers
@@ -22,11 +25,6 @@ both false b e = absurd (let x : ⊥ = cc in x)
 
 no_less : (low q : ℕ) → leb low q ≡ true → low ≤ q
 no_less low q e = grind (arith, nat_tests)
-
--- the numbers rise, the first being no less than low
-abbrev pub rises_from : ℕ → List ProcId → Bool
-rises_from low [] = true
-rises_from low (p ∷ ps) = leb low p.0 && rises_from (p.0 + 1) ps
 
 -- what is left of the test from a place on
 pub rises-at : (low : ℕ) (ps : List ProcId) (k : ℕ) (d : ProcId) → k < length ps → rises_from low (drop k ps) ≡ (leb low (get_or ps k d).0 && rises_from ((get_or ps k d).0 + 1) (drop (suc k) ps))
@@ -67,6 +65,15 @@ from_pairs low (p ∷ ps) first rising =
 -- the test is the relation
 pub rises-AllPairs : (ps : List ProcId) → (rises_from 0 ps ≡ true) ↔ AllPairs (λ p q. p.0 < q.0) ps
 rises-AllPairs ps = (rises-between 0 ps, from_pairs 0 ps (λ d within. omega arith))
+
+-- so is that of members
+pub members_tested : MembersTested
+members_tested ps = (
+  λ e.
+      let few : (leb (length ps) MOST_MEMBERS ≡ true) × (rises_from 0 ps ≡ true) = both (leb (length ps) MOST_MEMBERS) (rises_from 0 ps) e in
+      record { few = no_less (length ps) MOST_MEMBERS few.0; rising = (rises-AllPairs ps).0 few.1 },
+  λ are. rw (tested (length ps) MOST_MEMBERS are.few, (rises-AllPairs ps).1 are.rising) refl,
+)
 
 -- ---- teams
 

@@ -6,7 +6,12 @@ use Rattle.std.specs.FinSet as sets
 use Rattle.fy_locality.specs.declared.ProcId.{ProcId}
 use Rattle.fy_locality.specs.declared.locality.Locality.{Locality}
 use Rattle.fy_policy.specs.Tree.{Tree}
-use Rattle.fy_team.specs.Teams.{Roster, IsFormed, unfit, team_number, payload_in, members_in, policy_in, is_among, swapped, replaced, healed, is_acked, IsMarkedByAll, is_marked, marked_by, begun_for}
+use Rattle.fy_team.specs.Members.{are_members}
+use Rattle.fy_team.specs.Teams.{Roster, AreMembers, IsFormed, unfit, team_number, payload_in, members_in, policy_in, is_among, swapped, replaced, healed, is_acked, IsMarkedByAll, is_marked, marked_by, begun_for}
+
+-- the test of members is what it means
+abbrev pub MembersTested : Type 0
+MembersTested = (ps : List ProcId) → (are_members ps ≡ true) ↔ AreMembers ps
 
 -- members against whom nothing speaks satisfy the policy that the team names
 abbrev pub FitIsFormed : Type 0

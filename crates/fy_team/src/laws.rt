@@ -1,5 +1,11 @@
 //! Laws of teams, for the crates above.
-ghost use Rattle.fy_team.specs.Standing.{FitIsFormed, SwappedMembers, ReplacedMembers, ReplacedPolicies, MarkAcknowledges, AckedByMark, AckedStays, MarkLeavesTeams, MarkIsOneMore, MarkTwice, BegunUnmarked, BegunUnacked, HealedMarks, HealedAcked, HealedTeams, HealedPayloads};
+ghost use Rattle.fy_team.specs.Standing.{MembersTested, FitIsFormed, SwappedMembers, ReplacedMembers, ReplacedPolicies, MarkAcknowledges, AckedByMark, AckedStays, MarkLeavesTeams, MarkIsOneMore, MarkTwice, BegunUnmarked, BegunUnacked, HealedMarks, HealedAcked, HealedTeams, HealedPayloads};
+
+/// Numbers are members exactly where they are few enough and each is more than the one before it.
+#[tactic(auto, using(crate::proofs::Rising::members_tested))]
+pub fn members_are_tested()
+    ensures { MembersTested }
+{}
 
 /// Members against whom nothing speaks satisfy the policy that the team names.
 pub fn fit_is_formed()

@@ -100,8 +100,9 @@ impl Members {
     {
         self.processes.retain(|member| member.0 != out.0);
         let place = self.processes.partition_point(|member| member.0 < into.0);
+        let inserted = self.processes.insert(place, into);
         // The one that left made room.
-        let _ = self.processes.insert(place, into);
+        prove!(inserted.is_ok());
     }
 
     /// They rise, and are at most 1024.

@@ -222,7 +222,7 @@ impl Teams {
     }
 
     /// The number of a record's team, where there is such a record.
-    pub fn team_number(&self, rec: u32) -> Option<u32>
+    pub fn team_of(&self, rec: u32) -> Option<u32>
         ensures { result ≡ team_number self.now rec }
     {
         match self.record(rec) {

@@ -4,7 +4,7 @@ ghost use Rattle.std.specs.FinSet as sets;
 ghost use Rattle.faultyard.specs.declared.judge.line.Ask.{Ask};
 ghost use Rattle.faultyard.specs.JudgeLines.{Input};
 ghost use Rattle.faultyard.specs.JudgeTexts.{answer_of, answer_line, answers_text, granted_after};
-ghost use Rattle.faultyard.specs.JudgeBooks.{Stands};
+ghost use Rattle.faultyard.specs.JudgeBooks.{HasLosses};
 ghost use Rattle.fy_decide.specs.DeadBook.{IsFresh};
 
 use super::input::Input as JudgeInput;
@@ -36,9 +36,9 @@ impl Answer {
 /// The answer to one ask, whose loss is taken down where it is yes.
 fn answer_ask(dead: &mut DeadBook, ask: JudgeAsk) -> Answer
     requires { ask.process.0 < MOST_PROCESSES }
-    ensures { (i : Input) (granted : List Ask) → Stands i granted dead.old →
+    ensures { (i : Input) (granted : List Ask) → HasLosses i granted dead.old →
         ask.process.0 < length i.processes → (result ≡ answer_of i granted ask)
-        × Stands i (granted_after granted ask result) dead.new }
+        × HasLosses i (granted_after granted ask result) dead.new }
 {
     if !dead.left().has(ask.process) {
         return Answer::WasGone;

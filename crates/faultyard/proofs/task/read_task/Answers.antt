@@ -15,6 +15,9 @@ returns-in-check-clause-refused c = faultless _ (map string_bytes c.args.words.n
 pub returns-in-swarm-clause-refused : goal.returns-in-swarm-clause-refused
 returns-in-swarm-clause-refused c = faultless _ (map string_bytes c.args.words.now) c.in_ok-faultyard.ensures c.in_ok-matches.ensures.kinds
 
+pub returns-in-guard-clause-refused : goal.returns-in-guard-clause-refused
+returns-in-guard-clause-refused c = faultless _ (map string_bytes c.args.words.now) c.in_ok-faultyard.ensures c.in_ok-matches.ensures.kinds
+
 pub config_of-requires-in-check : goal.config_of-requires-in-check
 config_of-requires-in-check c = has_config c.in-Some.name.now c.in-Some.given.now c.in-check.not-judge
     (met_task _ (map string_bytes c.args.words.now) c.in_ok-matches.matches c.in-Some.name.now c.in-Some.given.now c.in_ok-faultyard.ensures
@@ -22,6 +25,11 @@ config_of-requires-in-check c = has_config c.in-Some.name.now c.in-Some.given.no
 
 pub config_of-requires-in-swarm : goal.config_of-requires-in-swarm
 config_of-requires-in-swarm c = has_config c.in-Some.name.now c.in-Some.given.now c.in-swarm.not-judge
+    (met_task _ (map string_bytes c.args.words.now) c.in_ok-matches.matches c.in-Some.name.now c.in-Some.given.now c.in_ok-faultyard.ensures
+    c.in_ok-matches.ensures.kinds c.in_ok-matches.ensures.matches c.in-Some.ensures.name c.in-Some.ensures.rows)
+
+pub config_of-requires-in-guard : goal.config_of-requires-in-guard
+config_of-requires-in-guard c = has_config c.in-Some.name.now c.in-Some.given.now c.in-guard.not-judge
     (met_task _ (map string_bytes c.args.words.now) c.in_ok-matches.matches c.in-Some.name.now c.in-Some.given.now c.in_ok-faultyard.ensures
     c.in_ok-matches.ensures.kinds c.in_ok-matches.ensures.matches c.in-Some.ensures.name c.in-Some.ensures.rows)
 
@@ -44,6 +52,7 @@ unreachable-requires-in_default-name c =
       | inr has ↦ elim has.0 [
         | inl run ↦ absurd (c.in_default-name.not-run run)
         | inr (inl check) ↦ absurd (c.in_default-name.not-check check)
-        | inr (inr swarm) ↦ absurd (c.in_default-name.not-swarm swarm)
+        | inr (inr (inl swarm)) ↦ absurd (c.in_default-name.not-swarm swarm)
+        | inr (inr (inr guard)) ↦ absurd (c.in_default-name.not-guard guard)
       ]
     ]

@@ -2,7 +2,8 @@ use Rattle.std.proofs.Common.{◌≡◌, ◌↔◌, ◌<◌, ◌&&◌, ◌+◌, 
 use Rattle.std.specs.List.{AllPairs}
 use Rattle.std.proofs.lemmas.List.{drop_all}
 use Rattle.fy_locality.specs.declared.ProcId.{ProcId}
-use Rattle.fy_team.proofs.Rising.{rises_from, rises-at, rises-AllPairs, untested}
+use Rattle.fy_team.specs.Members.{rises_from}
+use Rattle.fy_team.proofs.Rising.{rises-at, rises-AllPairs, untested}
 use Rattle.fy_team.proofs.members.rise.Goals as goal
 
 pub returns-then-number-low : goal.returns-then-number-low

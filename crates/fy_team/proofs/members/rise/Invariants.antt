@@ -1,5 +1,5 @@
 use Rattle.std.proofs.Common.{◌≡◌, drop}
-use Rattle.fy_team.proofs.Rising.{rises_from}
+use Rattle.fy_team.specs.Members.{rises_from}
 use Rattle.fy_team.proofs.members.rise.Given as goal
 
 abbrev pub invariant-loop-p : goal.invariant-loop-p

@@ -1,6 +1,6 @@
 use Rattle.std.proofs.Common.{◌≡◌, ◌∙◌, ◌∷◌, ◌++◌, [], true, ap, sym, subst}
 use Rattle.std.specs.FinSet as sets
-use Rattle.faultyard.specs.JudgeBooks.{Stands}
+use Rattle.faultyard.specs.JudgeBooks.{HasLosses}
 use Rattle.faultyard.proofs.AnswerLemmas.{answer_no, answer_yes, stands_after}
 use Rattle.faultyard.proofs.judge.answer.answer_ask.Goals as goal
 
@@ -14,5 +14,5 @@ returns c = λ i granted stands here.
     let left : sets.contains c.args.dead.now.left c.args.ask.process.0 ≡ true = sym (c.has.ensures ∙ ap (λ s. sets.contains s c.args.ask.process.0) c.left.ensures.left) ∙ c.if-not-has.false in
     let one = c.put.ensures ∙ ap (λ s. sets.insert s c.args.ask.process.0) c.empty-set.ensures in (
       answer_yes i granted c.args.dead.now c.args.ask stands here c.put.new.self one _ left c.may_destroy.ensures.test c.if-not-may_destroy.false,
-      subst (λ dead. Stands i (granted ++ c.args.ask ∷ []) dead) (sym c.strike.ensures) (stands_after i granted c.args.dead.now c.args.ask stands here c.put.new.self one),
+      subst (λ dead. HasLosses i (granted ++ c.args.ask ∷ []) dead) (sym c.strike.ensures) (stands_after i granted c.args.dead.now c.args.ask stands here c.put.new.self one),
     )

@@ -1,7 +1,7 @@
 use Rattle.std.proofs.Common.{◌≡◌, ◌∙◌, ◌<◌, ◌++◌, ◌+◌, [], List, length, drop, slice_index_or, refl, ap, sym, subst}
 use Rattle.std.specs.List.{flat_map, AllByRecursion}
 use Rattle.fy_decide.specs.declared.dead_book.Loss.TheVariants.{Emptied}
-use Rattle.faultyard.specs.JudgeBooks.{Stands}
+use Rattle.faultyard.specs.JudgeBooks.{HasLosses}
 use Rattle.faultyard.specs.declared.judge.line.Ask.{Ask}
 use Rattle.faultyard.specs.JudgeTexts.{answer_line, answer_of, answers_of, granted_after}
 use Rattle.faultyard.proofs.AnswerLemmas.{stands_first, next_answer, all_answered, each_there, nil-append}
@@ -22,7 +22,7 @@ loop-ask-preserved c =
     let here : a.process.0 < length c.args.input.now.processes =
     each_there (length c.args.input.now.processes) asks c.loop-ask.ask-index d
     (subst (λ xs. AllByRecursion (λ b. b.process.0 < length c.args.input.now.processes) xs) (sym c.asks-ask-items.ensures.asks) c.asks-ask-items.ensures.input.there) c.loop-ask-test.true in
-    let step : (c.answer_ask-answer.result ≡ answer_of c.args.input.now c.loop-ask.invariant.granted a) × Stands c.args.input.now (granted_after c.loop-ask.invariant.granted a c.answer_ask-answer.result) c.answer_ask-answer.new.dead =
+    let step : (c.answer_ask-answer.result ≡ answer_of c.args.input.now c.loop-ask.invariant.granted a) × HasLosses c.args.input.now (granted_after c.loop-ask.invariant.granted a c.answer_ask-answer.result) c.answer_ask-answer.new.dead =
     c.answer_ask-answer.ensures c.args.input.now c.loop-ask.invariant.granted c.loop-ask.invariant.stands here in
     record {
       granted = granted_after c.loop-ask.invariant.granted a c.answer_ask-answer.result;

@@ -1,0 +1,437 @@
+-- the lines of a script that is still being written, and what was answered to them
+use Rattle.std.proofs.Common.{arith, Bool, true, ◌&&◌, nat_le, ◌≡◌, ◌∙◌, ◌≤◌, ◌+◌, ℕ, List, [], ◌∷◌, ◌++◌, map, length, refl, sym, ap, ap₂, subst, suc, ◌-◌, length-append, slice_get, append_assoc, append-nil, Option, Some, None}
+use Rattle.std.proofs.lemmas.Bool.{and_parts}
+use Rattle.std.proofs.lemmas.Bool.Decides.{nat_tests}
+use Rattle.std.specs.Prelude.{IfSome, Result, Ok, Err}
+use Rattle.std.specs.List.{flat_map}
+use Rattle.std.specs.Io.KnownBytes.{Appends, IsAtEnd}
+use Rattle.std.proofs.KnownBytes.{Appends-trans, Appends-kept}
+use Rattle.fy_lines.specs.Lines.{lines_of}
+use Rattle.fy_lines.specs.Fronts.{StopsShort}
+use Rattle.fy_lines.specs.Readings.{GivesLine, ReadsWithinLine}
+use Rattle.fy_acts.specs.declared.act.Act.{Act}
+use Rattle.fy_acts.specs.declared.entry.Entry.{Entry}
+use Rattle.fy_spelling.specs.Command.{LineOf, LineAnswers}
+use Rattle.fy_spelling.specs.declared.command.Command.{Command}
+use Rattle.fy_spelling.specs.declared.command.LineFault.{LineFault}
+use Rattle.fy_spelling.specs.declared.command.LineFault.TheVariants as line_fault
+use Rattle.fy_journal.specs.declared.version.Version.TheVariants.{Second}
+use Rattle.fy_audit.specs.AuditText.{header, entry_line, audit_text}
+use Rattle.fy_audit.specs.Script.{AreCommands, fault_at}
+use Rattle.fy_audit.specs.declared.script.ScriptFault.TheVariants.{Line}
+use Rattle.fy_cluster.specs.Setup.{Setup, is_between, is_in_range}
+use Rattle.fy_cluster.specs.Replies.{Legal}
+use Rattle.fy_cluster.specs.Survival.{by_and_act}
+use Rattle.fy_cluster.specs.Course.{Course, opened, entered, after_acts}
+use Rattle.faultyard.specs.RunTexts.{asked, IfRunRefusal}
+use Rattle.faultyard.specs.GuardTexts.{Answered, StopsAtLine, AnswersAll, AnswersBefore, AnswersSome, AnswersInTurn, AppendsAtLeast, entry_of, GivesCommand, NoCommand, NoAnswer}
+use Rattle.faultyard.specs.Stops.{script_stop, OfRun}
+use Rattle.faultyard.specs.declared.stop.Stop.{Stop}
+use Rattle.faultyard.specs.declared.stop.Stop.TheVariants.{Script, JournalFull, Read, Write, NoMemory}
+use Rattle.faultyard.proofs.Acting.{acts_after, audit_of}
+
+-- some first lines were read and no byte behind them, and the cluster is the one after their acts
+abbrev pub HasRead : Setup → Option (List ℕ) → Option (List ℕ) → Course → Type 0
+HasRead setup old left course =
+    IfSome old (λ bytes. (front : List (List ℕ)) × (rest : List ℕ) × (commands : List Command)
+    × (left ≡ Some rest) × (lines_of bytes ≡ front ++ lines_of rest) × AreCommands front commands
+    × (course ≡ after_acts (opened setup) (map asked commands)))
+
+-- and the audit of its journal is out
+pub record HasAnswered (setup : Setup) (old left : Option (List ℕ)) (before out : Option (List ℕ))
+    (course : Course) : Type 0 where
+  pub same : course.setup ≡ setup
+  pub legal : Legal course.setup course.journal
+  pub read : HasRead setup old left course
+  pub written : Appends before out (audit_text Second course.journal)
+
+unread : (setup : Setup) (known : Option (List ℕ)) → HasRead setup known known (opened setup)
+unread setup None = tt
+unread setup (Some bytes) = ([], bytes, [], refl, refl, tt, refl)
+
+-- nothing is read yet, and the header is out
+pub opens : (setup : Setup) (known : Option (List ℕ)) (before out : Option (List ℕ)) →
+    Appends before out (header Second) → HasAnswered setup known known before out (opened setup)
+opens setup known before out written = record {
+  same = refl;
+  legal = (omega arith, tt);
+  read = unread setup known;
+  written = subst (Appends before out) (sym (append-nil (header Second))) written;
+}
+
+after_one_more : (course : Course) (acts : List (ℕ × Act)) (one : ℕ × Act) →
+    after_acts course (acts ++ one ∷ []) ≡ entered (after_acts course acts) one.0 one.1
+after_one_more course [] one = refl
+after_one_more course (a ∷ acts) one = after_one_more (entered course a.0 a.1) acts one
+
+asked_one_more : (commands : List Command) (command : Command) →
+    map asked (commands ++ command ∷ []) ≡ map asked commands ++ asked command ∷ []
+asked_one_more [] command = refl
+asked_one_more (c ∷ commands) command = ap (λ l. asked c ∷ l) (asked_one_more commands command)
+
+one_command_more : (lines : List (List ℕ)) (commands : List Command) (line : List ℕ)
+    (command : Command) → AreCommands lines commands → LineOf line (Ok command) →
+    AreCommands (lines ++ line ∷ []) (commands ++ command ∷ [])
+one_command_more [] [] line command each is = (is, tt)
+one_command_more [] (c ∷ cs) line command each is = absurd each
+one_command_more (l ∷ ls) [] line command each is = absurd each
+one_command_more (l ∷ ls) (c ∷ cs) line command each is =
+    (each.0, one_command_more ls cs line command each.1 is)
+
+lines_one_more : (entries : List Entry) (entry : Entry) →
+    flat_map entry_line (entries ++ entry ∷ []) ≡ flat_map entry_line entries ++ entry_line entry
+lines_one_more [] entry = append-nil (entry_line entry)
+lines_one_more (e ∷ es) entry =
+    ap (λ l. entry_line e ++ l) (lines_one_more es entry)
+    ∙ sym (append_assoc (entry_line e) (flat_map entry_line es) (entry_line entry))
+
+text_one_more : (entries : List Entry) (entry : Entry) →
+    audit_text Second (entries ++ entry ∷ []) ≡ audit_text Second entries ++ entry_line entry
+text_one_more entries entry =
+    ap (λ l. header Second ++ l) (lines_one_more entries entry)
+    ∙ sym (append_assoc (header Second) (flat_map entry_line entries) (entry_line entry))
+
+read_one_more : (setup : Setup) (old left next : Option (List ℕ)) (course now : Course)
+    (command : Command) → HasRead setup old left course → GivesCommand left next command →
+    now ≡ entered course command.by command.act → HasRead setup old next now
+read_one_more setup None left next course now command read gives enters = tt
+read_one_more setup (Some bytes) left next course now command read gives enters =
+    let (front, rest, commands, is, split, each, same) = read in
+    let given = subst (λ o. GivesCommand o next command) is gives in
+    let (line, more, left_is, first, spelled) = given in (
+      front ++ line ∷ [],
+      more,
+      commands ++ command ∷ [],
+      left_is,
+      split ∙ ap (λ ls. front ++ ls) first ∙ sym (append_assoc front (line ∷ []) (lines_of more)),
+      one_command_more front commands line command each spelled,
+      enters ∙ ap (λ c. entered c command.by command.act) same
+          ∙ sym (after_one_more (opened setup) (map asked commands) (asked command))
+          ∙ ap (after_acts (opened setup)) (sym (asked_one_more commands command)),
+    )
+
+-- one line more is read and answered
+pub goes_on : (setup : Setup) (old left next before out longer : Option (List ℕ)) (course now : Course)
+    (command : Command) → HasAnswered setup old left before out course →
+    GivesCommand left next command → now ≡ entered course command.by command.act →
+    Legal now.setup now.journal → Appends out longer (entry_line (entry_of course command)) →
+    HasAnswered setup old next before longer now
+goes_on setup old left next before out longer course now command has gives enters legal written =
+    record {
+      same = ap (λ (c : Course). c.setup) enters ∙ has.same;
+      legal = legal;
+      read = read_one_more setup old left next course now command has.read gives enters;
+      written = subst (Appends before longer)
+          (sym (ap (λ (c : Course). audit_text Second c.journal) enters
+          ∙ text_one_more course.journal (entry_of course command)))
+          (Appends-trans before out longer (audit_text Second course.journal)
+          (entry_line (entry_of course command)) has.written written);
+    }
+
+-- the lines that were read are answered by the audit of the cluster's journal
+answered_by : (setup : Setup) (front : List (List ℕ)) (commands : List Command) (course : Course) →
+    AreCommands front commands → course ≡ after_acts (opened setup) (map asked commands) →
+    Legal course.setup course.journal → Answered setup front (audit_text Second course.journal)
+answered_by setup front commands course each is legal = record {
+  commands = commands;
+  each = each;
+  audit = audit_of setup commands course is legal;
+}
+
+-- all lines are answered
+pub answers_all : (setup : Setup) (old left before out : Option (List ℕ)) (course : Course)
+    (P : List ℕ → Type 0) → HasAnswered setup old left before out course → IsAtEnd left →
+    P (audit_text Second course.journal) → AnswersAll setup old P
+answers_all setup None left before out course P has ends holds = tt
+answers_all setup (Some bytes) left before out course P has ends holds =
+    let (front, rest, commands, is, split, each, same) = has.read in
+    let none : rest ≡ [] = subst IsAtEnd is ends in
+    let whole : lines_of bytes ≡ front =
+    split ∙ ap (λ r. front ++ lines_of r) none ∙ append-nil front in (
+      audit_text Second course.journal,
+      subst (λ ls. Answered setup ls (audit_text Second course.journal)) (sym whole)
+          (answered_by setup front commands course each same has.legal),
+      holds,
+    )
+
+-- the lines that were read are answered, and of the next no more was read than the line
+pub in_turn : (setup : Setup) (old left next before out : Option (List ℕ)) (course : Course)
+    (P : List ℕ → Type 0) → HasAnswered setup old left before out course →
+    ReadsWithinLine left next → P (audit_text Second course.journal) →
+    AnswersInTurn setup old next P
+in_turn setup None left next before out course P has within holds = tt
+in_turn setup (Some bytes) left next before out course P has within holds =
+    let (front, rest, commands, is, split, each, same) = has.read in (
+      front,
+      rest,
+      audit_text Second course.journal,
+      split,
+      subst (λ o. ReadsWithinLine o next) is within,
+      answered_by setup front commands course each same has.legal,
+      holds,
+    )
+
+slice_get_last : (xs : List Entry) (x : Entry) → slice_get (xs ++ x ∷ []) (length xs) ≡ Some x
+slice_get_last [] x = refl
+slice_get_last (y ∷ ys) x = slice_get_last ys x
+
+same_some : (x y : Entry) → Some x ≡ Some y → x ≡ y
+same_some x y is = cc
+
+-- the last entry of a journal with one entry more
+pub last_is : (entries journal : List Entry) (e entry : Entry) → entries ≡ journal ++ e ∷ [] →
+    Some entry ≡ slice_get entries (length entries - 1) → entry ≡ e
+last_is entries journal e entry is found =
+    let longer : length entries ≡ length journal + 1 =
+    ap length is ∙ length-append journal (e ∷ []) in
+    let count : length entries - 1 ≡ length journal = omega (arith, longer) in
+    same_some entry e (found ∙ ap₂ slice_get is count ∙ slice_get_last journal e)
+
+-- ---- how long all of it is
+
+-- a journal has at most 2^20 entries
+pub limit_is_small : (setup : Setup) → is_in_range setup ≡ true → setup.limit ≤ 1048576
+limit_is_small setup range =
+    let between : (nat_le 1 setup.limit && nat_le setup.limit 1048576) ≡ true =
+    (and_parts _ (is_between 1 1048576 setup.limit) range).1 in
+    let most : nat_le setup.limit 1048576 ≡ true =
+    (and_parts (nat_le 1 setup.limit) (nat_le setup.limit 1048576) between).1 in
+    grind (arith, nat_tests)
+
+as_many : (lines : List (List ℕ)) (commands : List Command) → AreCommands lines commands →
+    length lines ≡ length commands
+as_many [] [] each = refl
+as_many [] (c ∷ cs) each = absurd each
+as_many (l ∷ ls) [] each = absurd each
+as_many (l ∷ ls) (c ∷ cs) each = ap suc (as_many ls cs each.1)
+
+mapped_length : {A B : Type 0} (f : A → B) (xs : List A) → length (map f xs) ≡ length xs
+mapped_length f [] = refl
+mapped_length f (x ∷ xs) = ap suc (mapped_length f xs)
+
+as_many_entries : (setup : Setup) (front : List (List ℕ)) (commands : List Command)
+    (course : Course) → AreCommands front commands →
+    course ≡ after_acts (opened setup) (map asked commands) →
+    length front ≡ length course.journal
+as_many_entries setup front commands course each is =
+    as_many front commands each ∙ sym (mapped_length asked commands)
+    ∙ ap length (sym (acts_after (opened setup) (map asked commands)))
+    ∙ mapped_length by_and_act (after_acts (opened setup) (map asked commands)).journal
+    ∙ ap (λ (c : Course). length c.journal) (sym is)
+
+-- ---- where it stops
+
+at_line : (known next : Option (List ℕ)) (line : List ℕ) (fault : LineFault) →
+    GivesLine known next line → LineOf line (Err fault) →
+    IfSome known (λ bytes. (line : List ℕ) × (more : List (List ℕ)) × (lines_of bytes ≡ line ∷ more)
+    × LineOf line (Err fault))
+at_line None next line fault gives faulty = tt
+at_line (Some bytes) next line fault (rest, is, first) faulty = (line, lines_of rest, first, faulty)
+
+-- the next line is no command, by what its reader answers
+pub by_fault : (known next : Option (List ℕ)) (line : List ℕ) (number : ℕ) (fault : LineFault)
+    (stop : Stop) → GivesLine known next line → LineAnswers line (Err fault) →
+    stop ≡ script_stop (fault_at number fault) → NoCommand known number stop
+by_fault known next line number line_fault.TooLong stop gives answers is =
+    NoCommand.faulty line_fault.TooLong is (at_line known next line line_fault.TooLong gives answers)
+by_fault known next line number line_fault.Syntax stop gives answers is =
+    NoCommand.faulty line_fault.Syntax is (at_line known next line line_fault.Syntax gives answers)
+by_fault known next line number line_fault.Floor stop gives answers is =
+    NoCommand.faulty line_fault.Floor is (at_line known next line line_fault.Floor gives answers)
+by_fault known next line number line_fault.NoMemory stop gives answers is = NoCommand.no_memory is
+
+-- the line behind those that were answered has no answer
+stops_before : (setup : Setup) (old left before out : Option (List ℕ)) (course : Course) (stop : Stop)
+    (P : List ℕ → Type 0) → HasAnswered setup old left before out course →
+    IfSome left (λ bytes. (line : List ℕ) × (more : List (List ℕ)) × (lines_of bytes ≡ line ∷ more)
+    × StopsAtLine setup (length course.journal) line stop) →
+    P (audit_text Second course.journal) → AnswersBefore setup old stop P
+stops_before setup None left before out course stop P has at_line holds = tt
+stops_before setup (Some bytes) left before out course stop P has at_line holds =
+    let (front, rest, commands, is, split, each, same) = has.read in
+    let here = subst
+    (λ o. IfSome o (λ bytes. (line : List ℕ) × (more : List (List ℕ)) × (lines_of bytes ≡ line ∷ more)
+    × StopsAtLine setup (length course.journal) line stop)) is at_line in
+    let (line, more, first, stops) = here in (
+      front,
+      line,
+      more,
+      audit_text Second course.journal,
+      split ∙ ap (λ ls. front ++ ls) first,
+      answered_by setup front commands course each same has.legal,
+      subst (λ n. StopsAtLine setup n line stop)
+          (sym (as_many_entries setup front commands course each same)) stops,
+      holds,
+    )
+
+is_faulty : (setup : Setup) (known : Option (List ℕ)) (answered number : ℕ) (fault : LineFault) →
+    number ≡ answered + 1 → IfSome known (λ bytes. (line : List ℕ) × (more : List (List ℕ))
+    × (lines_of bytes ≡ line ∷ more) × LineOf line (Err fault)) →
+    IfSome known (λ bytes. (line : List ℕ) × (more : List (List ℕ)) × (lines_of bytes ≡ line ∷ more)
+    × StopsAtLine setup answered line (Script (Line number fault)))
+is_faulty setup None answered number fault is line = tt
+is_faulty setup (Some bytes) answered number fault is (line, more, first, faulty) = (
+  line,
+  more,
+  first,
+  subst (λ n. StopsAtLine setup answered line (Script (Line n fault))) (sym is)
+      (StopsAtLine.faulty fault faulty),
+)
+
+-- the next line is no command
+pub refused_line : (setup : Setup) (old left before out : Option (List ℕ)) (course : Course)
+    (number : ℕ) (stop : Stop) (P : List ℕ → Type 0) → HasAnswered setup old left before out course →
+    number ≡ length course.journal + 1 → NoCommand left number stop →
+    P (audit_text Second course.journal) → IfRunRefusal stop (AnswersBefore setup old stop P)
+refused_line setup old left before out course number stop P has is (NoCommand.faulty fault told line) holds =
+    subst (λ s. IfRunRefusal s (AnswersBefore setup old s P)) (sym told)
+    (stops_before setup old left before out course (Script (Line number fault)) P has
+    (is_faulty setup left (length course.journal) number fault is line) holds)
+refused_line setup old left before out course number stop P has is (NoCommand.read told) holds =
+    subst (λ s. IfRunRefusal s (AnswersBefore setup old s P)) (sym told) tt
+refused_line setup old left before out course number stop P has is (NoCommand.no_memory told) holds =
+    subst (λ s. IfRunRefusal s (AnswersBefore setup old s P)) (sym told) tt
+
+is_full : (setup : Setup) (known next : Option (List ℕ)) (answered : ℕ) (command : Command) →
+    GivesCommand known next command → setup.limit ≤ answered →
+    IfSome known (λ bytes. (line : List ℕ) × (more : List (List ℕ)) × (lines_of bytes ≡ line ∷ more)
+    × StopsAtLine setup answered line JournalFull)
+is_full setup None next answered command gives full = tt
+is_full setup (Some bytes) next answered command (line, rest, is, first, spelled) full =
+    (line, lines_of rest, first, StopsAtLine.full command spelled full)
+
+-- the command of the next line has no answer
+pub refused_command : (setup : Setup) (old left next before out short : Option (List ℕ))
+    (course now : Course) (command : Command) (stop : Stop) →
+    HasAnswered setup old left before out course → GivesCommand left next command →
+    NoAnswer course command now out short stop →
+    IfRunRefusal stop (AnswersBefore setup old stop (Appends before short))
+refused_command setup old left next before out short course now command stop has gives (NoAnswer.full told full keeps) =
+    let limit : setup.limit ≤ length course.journal =
+    subst (λ (s : Setup). s.limit ≤ length course.journal) has.same full in
+    subst (λ s. IfRunRefusal s (AnswersBefore setup old s (Appends before short))) (sym told)
+    (stops_before setup old left before out course JournalFull (Appends before short) has
+    (is_full setup left next (length course.journal) command gives limit)
+    (Appends-kept before out short (audit_text Second course.journal) has.written keeps))
+refused_command setup old left next before out short course now command stop has gives (NoAnswer.no_memory told keeps) =
+    subst (λ s. IfRunRefusal s (AnswersBefore setup old s (Appends before short))) (sym told) tt
+refused_command setup old left next before out short course now command stop has gives (NoAnswer.short told enters legal stops) =
+    subst (λ s. IfRunRefusal s (AnswersBefore setup old s (Appends before short))) (sym told) tt
+
+pub at_least : (old new : Option (List ℕ)) (text : List ℕ) → Appends old new text →
+    AppendsAtLeast old new text
+at_least old new text written = ([], subst (Appends old new) (sym (append-nil text)) written)
+
+-- what is out where an answer isn't whole: all answers before it
+pub still_out : (setup : Setup) (old left before out short : Option (List ℕ)) (course now : Course)
+    (command : Command) (stop : Stop) → HasAnswered setup old left before out course →
+    NoAnswer course command now out short stop →
+    AppendsAtLeast before short (audit_text Second course.journal)
+still_out setup old left before out short course now command stop has (NoAnswer.full told full keeps) =
+    at_least before short (audit_text Second course.journal)
+    (Appends-kept before out short (audit_text Second course.journal) has.written keeps)
+still_out setup old left before out short course now command stop has (NoAnswer.no_memory told keeps) =
+    at_least before short (audit_text Second course.journal)
+    (Appends-kept before out short (audit_text Second course.journal) has.written keeps)
+still_out setup old left before out short course now command stop has (NoAnswer.short told enters legal stops) =
+    let (front, rest, is, grown, some) = stops in
+    (front, Appends-trans before out short (audit_text Second course.journal) front has.written grown)
+
+-- and where there was no memory, nothing more
+pub none_out : (setup : Setup) (old left before out short : Option (List ℕ)) (course now : Course)
+    (command : Command) (stop : Stop) → HasAnswered setup old left before out course →
+    NoAnswer course command now out short stop → stop ≡ NoMemory →
+    Appends before short (audit_text Second course.journal)
+none_out setup old left before out short course now command stop has (NoAnswer.full told full keeps) is =
+    Appends-kept before out short (audit_text Second course.journal) has.written keeps
+none_out setup old left before out short course now command stop has (NoAnswer.no_memory told keeps) is =
+    Appends-kept before out short (audit_text Second course.journal) has.written keeps
+none_out setup old left before out short course now command stop has (NoAnswer.short told enters legal stops) is =
+    let bad : ⊥ = cc in absurd bad
+
+short_behind : (first second third : Option (List ℕ)) (done piece : List ℕ) →
+    Appends first second done → StopsShort second third piece →
+    StopsShort first third (done ++ piece)
+short_behind first second third done piece written (front, rest, is, grown, some) = (
+  done ++ front,
+  rest,
+  ap (λ l. done ++ l) is ∙ sym (append_assoc done front rest),
+  Appends-trans first second third done front written grown,
+  some,
+)
+
+some_answered : (setup : Setup) (old left : Option (List ℕ)) (course : Course)
+    (P : List ℕ → Type 0) → HasRead setup old left course → Legal course.setup course.journal →
+    P (audit_text Second course.journal) → AnswersSome setup old P
+some_answered setup None left course P read legal holds = tt
+some_answered setup (Some bytes) left course P read legal holds =
+    let (front, rest, commands, is, split, each, same) = read in (
+      front,
+      lines_of rest,
+      audit_text Second course.journal,
+      split,
+      answered_by setup front commands course each same legal,
+      holds,
+    )
+
+-- the header isn't out whole
+pub header_short : (setup : Setup) (known before short : Option (List ℕ)) →
+    StopsShort before short (header Second) → AnswersSome setup known (StopsShort before short)
+header_short setup known before short stops =
+    some_answered setup known known (opened setup) (StopsShort before short)
+    (unread setup known) (omega arith, tt)
+    (subst (StopsShort before short) (sym (append-nil (header Second))) stops)
+
+-- an answer isn't out whole
+pub answer_short : (setup : Setup) (old left next before out short : Option (List ℕ))
+    (course now : Course) (command : Command) (stop : Stop) →
+    HasAnswered setup old left before out course → GivesCommand left next command →
+    NoAnswer course command now out short stop → stop ≡ Write →
+    AnswersSome setup old (StopsShort before short)
+answer_short setup old left next before out short course now command stop has gives (NoAnswer.full told full keeps) is =
+    let bad : ⊥ = cc in absurd bad
+answer_short setup old left next before out short course now command stop has gives (NoAnswer.no_memory told keeps) is =
+    let bad : ⊥ = cc in absurd bad
+answer_short setup old left next before out short course now command stop has gives (NoAnswer.short told enters legal stops) is =
+    some_answered setup old next now (StopsShort before short)
+    (read_one_more setup old left next course now command has.read gives enters) legal
+    (subst (StopsShort before short)
+    (sym (ap (λ (c : Course). audit_text Second c.journal) enters
+    ∙ text_one_more course.journal (entry_of course command)))
+    (short_behind before out short (audit_text Second course.journal)
+    (entry_line (entry_of course command)) has.written stops))
+
+pub no_command_write : (known : Option (List ℕ)) (number : ℕ) (stop : Stop) →
+    NoCommand known number stop → stop ≡ Write → ⊥
+no_command_write known number stop (NoCommand.faulty fault told line) is = let bad : ⊥ = cc in bad
+no_command_write known number stop (NoCommand.read told) is = let bad : ⊥ = cc in bad
+no_command_write known number stop (NoCommand.no_memory told) is = let bad : ⊥ = cc in bad
+
+pub no_answer_read : (course now : Course) (command : Command) (out short : Option (List ℕ))
+    (stop : Stop) → NoAnswer course command now out short stop → stop ≡ Read → ⊥
+no_answer_read course now command out short stop (NoAnswer.full told full keeps) is =
+    let bad : ⊥ = cc in bad
+no_answer_read course now command out short stop (NoAnswer.no_memory told keeps) is =
+    let bad : ⊥ = cc in bad
+no_answer_read course now command out short stop (NoAnswer.short told enters legal stops) is =
+    let bad : ⊥ = cc in bad
+
+pub no_command_own : (known : Option (List ℕ)) (number : ℕ) (stop : Stop) →
+    NoCommand known number stop → OfRun stop
+no_command_own known number stop (NoCommand.faulty fault told line) = subst OfRun (sym told) tt
+no_command_own known number stop (NoCommand.read told) = subst OfRun (sym told) tt
+no_command_own known number stop (NoCommand.no_memory told) = subst OfRun (sym told) tt
+
+pub no_answer_own : (course now : Course) (command : Command) (out short : Option (List ℕ))
+    (stop : Stop) → NoAnswer course command now out short stop → OfRun stop
+no_answer_own course now command out short stop (NoAnswer.full told full keeps) =
+    subst OfRun (sym told) tt
+no_answer_own course now command out short stop (NoAnswer.no_memory told keeps) =
+    subst OfRun (sym told) tt
+no_answer_own course now command out short stop (NoAnswer.short told enters legal stops) =
+    subst OfRun (sym told) tt
+
+-- one result has one stop
+pub same_stop : (result : Result Bool Stop) (stop other : Stop) → result ≡ Err stop →
+    result ≡ Err other → stop ≡ other
+same_stop result stop other is also = cc

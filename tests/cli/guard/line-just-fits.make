@@ -1,0 +1,1 @@
+repeated 65534 ' '; printf '{}\n'

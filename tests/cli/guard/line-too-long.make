@@ -1,0 +1,1 @@
+repeated 65535 ' '; printf '{}\n'
