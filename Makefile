@@ -11,7 +11,7 @@
 #                         the records that were lost; it needs redis-server
 #   make install          puts the program into $(PREFIX)/bin; by default PREFIX is /usr/local
 #   make bench            times the program on generated inputs, beside another if BESIDE is its path; and verdicts, acts,
-#                         turns and cluster files by programs of their own
+#                         turns, orders and cluster files by programs of their own
 #   make clean            removes what was built, and what earlier checks kept
 
 PREFIX ?= /usr/local
@@ -74,6 +74,7 @@ bench: build
 	bench/verdicts.sh
 	bench/acts.sh
 	bench/turns.sh
+	bench/orders.sh
 	bench/needs.sh
 	bench/bodies.sh
 	bench/configs.sh

@@ -1,11 +1,13 @@
 -- what is said of an audit under a configuration
-use Rattle.std.specs.Prelude.{ℕ, Bool, true, false, List, length, codes, Option, IfSome, Result, Ok, Err}
+use Rattle.std.specs.Prelude.{◌≡◌, ℕ, Bool, true, false, List, length, codes, Option, IfSome, Result, Ok, Err}
 use Rattle.fy_audit.specs.Audit.{Audit, AuditOf}
 use Rattle.fy_audit.specs.declared.audit.AuditFault.{AuditFault}
 use Rattle.fy_cluster.specs.Setup.{Setup}
 use Rattle.fy_check.specs.Check.{Checks}
 use Rattle.fy_check.specs.declared.fault.CheckFault.TheVariants.{BadEntry}
+use Rattle.fy_check.specs.Replayed.{HasFirstBad}
 use Rattle.faultyard.specs.Stops.{numbered}
+use Rattle.faultyard.specs.declared.check.Finding.{Finding}
 use Rattle.faultyard.specs.declared.stop.Stop.{Stop}
 use Rattle.faultyard.specs.declared.stop.Stop.TheVariants.{Audit as audit_stopped}
 
@@ -16,6 +18,13 @@ legal_line count = numbered (codes "legal ") count (codes "\n")
 -- the line that names an entry which isn't what the rules give
 abbrev pub bad_line : ℕ → List ℕ
 bad_line at = numbered (codes "bad entry ") at (codes "\n")
+
+-- bytes are an audit of so many entries, with this first bad one or none
+pub record IsFound (setup : Setup) (bytes : List ℕ) (finding : Finding) : Type 0 where
+  pub audit : Audit
+  pub read : AuditOf bytes (Ok audit)
+  pub count : finding.count ≡ length audit.entries
+  pub first : HasFirstBad audit.version setup audit.entries finding.first_bad
 
 -- CHECK: whether an audit is legal and the line that says so, or why it is refused
 pub data Finds (setup : Setup) (bytes : List ℕ) : Result (Bool × List ℕ) Stop → Type 0 where

@@ -1,16 +1,17 @@
 //! The engine behind `faultyard check`: an audit in, a line out that confirms or refutes it.
-ghost use Rattle.std.specs.Prelude.{◌≡◌, ◌≢◌, ◌+◌, Bool, IfOk, IfErr, IfSome, Ok, Err, codes};
+ghost use Rattle.std.specs.Prelude.{◌≡◌, ◌≢◌, ◌+◌, Bool, IfOk, IfErr, IfSome, Err, codes};
 ghost use Rattle.std.specs.Io.KnownBytes.{Appends};
 ghost use Rattle.fy_lines.specs.Fronts.{StopsShort};
 ghost use Rattle.fy_lines.specs.Readings.{TakesUpTo};
-ghost use Rattle.fy_audit.specs.Audit.{AuditOf, told_of};
+ghost use Rattle.fy_audit.specs.Audit.{AuditOf};
 ghost use Rattle.fy_audit.specs.declared.audit.TheConstants.{MOST_AUDIT_BYTES};
-ghost use Rattle.faultyard.specs.CheckTexts.{HasVerdict};
+ghost use Rattle.faultyard.specs.CheckTexts.{HasVerdict, IsFound};
 ghost use Rattle.faultyard.specs.Stops.{numbered, audit_stop, IfAuditFault, OfCheck};
 
 use crate::stop::{Stop, write_numbered};
-use fy_audit::{AuditFault, Journal, MOST_AUDIT_BYTES, read_audit};
-use fy_check::{CheckFault, replay};
+use fy_audit::laws::an_audit_is_read_entry_by_entry;
+use fy_audit::{AuditFault, AuditReader, MOST_AUDIT_BYTES};
+use fy_check::Replayer;
 use fy_cluster::Config;
 use fy_lines::{InputFault, OutputFault, read_limited};
 use std::alloc::Global;
@@ -28,10 +29,10 @@ fn audit_stop(fault: AuditFault) -> Stop
     }
 }
 
-/// The journal of the audit that a reader gives.
-fn load_audit<R: Read>(alloc: Global, reader: &mut R) -> Result<Journal, Stop>
-    ensures read { IfOk result (λ journal. IfSome (R.remaining reader.old)
-        (λ bytes. AuditOf bytes (Ok (told_of journal)))) }
+/// The bytes of the audit that a reader gives.
+fn load_bytes<R: Read>(alloc: Global, reader: &mut R) -> Result<Vec<u8>, Stop>
+    ensures read { IfOk result (λ read. IfSome (R.remaining reader.old)
+        (λ bytes. read.items ≡ bytes)) }
     ensures refused { IfErr result (λ stop. IfAuditFault stop
         (λ fault. IfSome (R.remaining reader.old) (λ bytes. AuditOf bytes (Err fault)))) }
     ensures no_write { IfErr result (λ stop. stop ≢ Stop.Write) }
@@ -41,20 +42,57 @@ fn load_audit<R: Read>(alloc: Global, reader: &mut R) -> Result<Journal, Stop>
     ensures no_further { TakesUpTo (R.remaining reader.old) (R.remaining reader.new)
         (MOST_AUDIT_BYTES + 1) }
 {
-    let bytes = match read_limited(alloc, reader, MOST_AUDIT_BYTES) {
-        Ok(bytes) => bytes,
-        Err(InputFault::TooLong) => {
-            return Err(Stop::Audit {
-                fault: AuditFault::TooLong,
-            });
-        }
-        Err(InputFault::Reader) => return Err(Stop::Read),
-        Err(InputFault::NoMemory) => return Err(Stop::NoMemory),
-    };
-    match read_audit(alloc, &bytes) {
-        Ok(journal) => Ok(journal),
-        Err(fault) => Err(audit_stop(fault)),
+    match read_limited(alloc, reader, MOST_AUDIT_BYTES) {
+        Ok(bytes) => Ok(bytes),
+        Err(InputFault::TooLong) => Err(Stop::Audit {
+            fault: AuditFault::TooLong,
+        }),
+        Err(InputFault::Reader) => Err(Stop::Read),
+        Err(InputFault::NoMemory) => Err(Stop::NoMemory),
     }
+}
+
+/// What is found of an audit.
+struct Finding {
+    /// How many entries it has.
+    count: u32,
+    /// The place of the first bad one; `None` where all are what the rules give.
+    first_bad: Option<u32>,
+}
+
+/// Reads an audit entry by entry, and has each checked as it is read. Behind a bad entry the rest
+/// is read for its faults.
+fn find(alloc: Global, config: &Config, bytes: &[u8]) -> Result<Finding, Stop>
+    ensures found { IfOk result (IsFound config.now bytes.now) }
+    ensures refused { IfErr result (λ stop. IfAuditFault stop
+        (λ fault. AuditOf bytes.now (Err fault))) }
+    ensures own { IfErr result OfCheck }
+    ensures no_output { IfErr result (λ stop. stop ≢ Stop.Read × stop ≢ Stop.Write) }
+{
+    an_audit_is_read_entry_by_entry();
+    let mut reader = match AuditReader::begin(alloc, bytes) {
+        Ok(reader) => reader,
+        Err(fault) => return Err(audit_stop(fault)),
+    };
+    let Ok(config) = config.try_copy(alloc) else {
+        return Err(Stop::NoMemory);
+    };
+    let Ok(mut replayer) = Replayer::begin(alloc, config, reader.version()) else {
+        return Err(Stop::NoMemory);
+    };
+    while !reader.is_at_end() {
+        let entry = match reader.next_entry() {
+            Ok(entry) => entry,
+            Err(fault) => return Err(audit_stop(fault)),
+        };
+        let Ok(()) = replayer.enter(entry) else {
+            return Err(Stop::NoMemory);
+        };
+    }
+    Ok(Finding {
+        count: reader.place(),
+        first_bad: replayer.first_bad(),
+    })
 }
 
 /// Writes the line that says whether an audit is legal: its head, and a number.
@@ -76,8 +114,9 @@ fn say<W: Write>(legal: bool, head: &str, number: u64, writer: &mut W) -> Result
 /// entries has the reply that the rules give under this configuration, else `bad entry N` with the
 /// place of the first that hasn't. The answer is whether it is legal.
 ///
-/// The whole audit is read before the first entry is checked, and all of it is checked before the
-/// first byte is written. At most one byte past its limit is read.
+/// All bytes are read before the first entry is checked, and all entries are checked before the
+/// first byte is written. A faulty line is told in place of a bad entry, wherever they stand. At
+/// most one byte past the audit's limit is read.
 ///
 /// # Errors
 ///
@@ -105,13 +144,16 @@ pub fn run_check<R: Read, W: Write>(
     ensures no_further { TakesUpTo (R.remaining reader.old) (R.remaining reader.new)
         (MOST_AUDIT_BYTES + 1) }
 {
-    let journal = match load_audit(alloc, reader) {
-        Ok(journal) => journal,
+    let bytes = match load_bytes(alloc, reader) {
+        Ok(bytes) => bytes,
         Err(stop) => return Err(stop),
     };
-    match replay(alloc, config, &journal) {
-        Ok(()) => say(true, "legal ", journal.len() as u64, writer),
-        Err(CheckFault::BadEntry { at }) => say(false, "bad entry ", at as u64, writer),
-        Err(CheckFault::NoMemory) => Err(Stop::NoMemory),
+    let Finding { count, first_bad } = match find(alloc, config, &bytes) {
+        Ok(finding) => finding,
+        Err(stop) => return Err(stop),
+    };
+    match first_bad {
+        None => say(true, "legal ", count as u64, writer),
+        Some(at) => say(false, "bad entry ", at as u64, writer),
     }
 }

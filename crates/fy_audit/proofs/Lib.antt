@@ -2,3 +2,4 @@ pub mod AllCommands
 pub mod Ones
 pub mod Steps
 pub mod OneAudit
+pub mod Reading

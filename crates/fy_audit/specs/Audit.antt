@@ -13,9 +13,9 @@ use Rattle.fy_audit.specs.declared.audit.AuditFault.{AuditFault}
 use Rattle.fy_audit.specs.declared.audit.AuditFault.TheVariants.{TooLong, Line, NoMemory}
 use Rattle.fy_audit.specs.declared.audit.AuditLineFault.{AuditLineFault}
 use Rattle.fy_audit.specs.declared.audit.AuditLineFault.TheVariants as of_line
-use Rattle.fy_audit.specs.declared.audit.Stop.{Stop}
-use Rattle.fy_audit.specs.declared.audit.Stop.TheVariants as stop
-use Rattle.fy_audit.specs.declared.audit.Stop.TheVariants.{Faulty}
+use Rattle.fy_audit.specs.declared.reader.Stop.{Stop}
+use Rattle.fy_audit.specs.declared.reader.Stop.TheVariants as stop
+use Rattle.fy_audit.specs.declared.reader.Stop.TheVariants.{Faulty}
 use Rattle.fy_journal.specs.declared.version.Version.{Version}
 
 -- what an audit tells: a version and the entries of a journal, the oldest first

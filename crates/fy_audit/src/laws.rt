@@ -1,5 +1,6 @@
 //! Laws of scripts and audits, for the crates above.
 ghost use Rattle.fy_audit.specs.One.{AuditComesToOne, AuditIsOne, ScriptIsOne};
+ghost use Rattle.fy_audit.specs.Reading.{EntriesMount, StopsAreFaults, EndsAsAudit};
 
 use fy_spelling::laws::{
     a_held_text_is_of_one_entry, a_line_comes_to_one, a_text_is_a_line, a_text_is_of_one_entry,
@@ -28,3 +29,11 @@ pub fn an_audit_comes_to_one()
     a_text_is_a_line();
     a_text_is_of_one_entry()
 }
+
+/// An audit is read by its entries one after another: an entry more was read, a stop is the
+/// audit's first fault, and what was read to the end is the audit.
+pub fn an_audit_is_read_entry_by_entry()
+    ensures more { EntriesMount }
+    ensures stopped { StopsAreFaults }
+    ensures end { EndsAsAudit }
+{}

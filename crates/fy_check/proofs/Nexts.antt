@@ -1,5 +1,5 @@
 -- whether an entry may come next
-use Rattle.std.proofs.Common.{◌≡◌, ◌↔◌, ℕ, ◌+◌, ◌<◌, ◌≤◌, inl, inr, Bool, true, false, List, [], ◌∷◌, ◌++◌, length, take, get_or, slice_get, Some, Ok, Err, Result, IsTrue, sym, ◌∙◌, ap, subst, arith}
+use Rattle.std.proofs.Common.{◌≡◌, ◌↔◌, ℕ, ◌+◌, ◌<◌, ◌≤◌, inl, inr, Bool, true, false, List, [], ◌∷◌, ◌++◌, length, take, get_or, slice_get, Some, Ok, Err, Result, IsTrue, sym, ◌∙◌, ap, arith}
 use Rattle.std.specs.Bool.{Decides}
 use Rattle.std.proofs.lemmas.Bool.{false≢true, cases_lt}
 use Rattle.std.proofs.lemmas.List.{length-take-le}
@@ -15,8 +15,7 @@ use Rattle.fy_cluster.specs.History.{History, moment, after, history}
 use Rattle.fy_cluster.specs.Replies.{reply}
 use Rattle.fy_cluster.specs.Versions.{LegalUnder, NextLegalUnder}
 use Rattle.fy_journal.specs.Versions.{knows}
-use Rattle.fy_check.specs.Check.{IsFirstBad}
-use Rattle.fy_check.proofs.Lists.{there, one_more}
+use Rattle.fy_check.proofs.Lists.{there}
 
 length-after : (c : Setup) (h : History) (xs : List Entry) → length (after c h xs) ≡ length h + length xs
 length-after c h [] = omega arith
@@ -47,7 +46,7 @@ pub had_place : (n limit : ℕ) (answered : Reply) → ((limit ≤ n) ↔ (let r
 had_place n limit answered full = elim (cases_lt n limit) [ inl room ↦ room | inr none ↦ absurd (let wrong = full.0 none in let no : ⊥ = cc in no) ]
 
 -- the entry of these parts
-of_parts : (e : Entry) (at : ℕ) (act : Act) (reply : Reply) → e.at ≡ at → e.act ≡ act → e.reply ≡ reply → record { at = at; by = e.by; act = act; reply = reply } ≡ e
+pub of_parts : (e : Entry) (at : ℕ) (act : Act) (reply : Reply) → e.at ≡ at → e.act ≡ act → e.reply ≡ reply → record { at = at; by = e.by; act = act; reply = reply } ≡ e
 of_parts e at act reply p a r = λ i. record { at = sym p i; by = e.by; act = sym a i; reply = sym r i }
 
 -- the course has the entry then
@@ -69,15 +68,3 @@ course_at c entries i = record { setup = c; journal = take i entries }
 pub place_is : (c : Setup) (entries : List Entry) (i : ℕ) (e : Entry) (course : Course) → i < length entries → e ≡ get_or entries i e → AreNumbered entries → course ≡ course_at c entries i → e.at ≡ length course.journal
 place_is c entries i e course l is numbered same =
     numbered i e (there entries i e l is) ∙ sym (length-take-le i entries (omega arith)) ∙ ap (λ (x : Course). length x.journal) (sym same)
-
-pub first_bad : (version : Version) (c : Setup) (entries : List Entry) (i : ℕ) (e : Entry) (course : Course) (next : Bool) → i < length entries → e ≡ get_or entries i e → AreNumbered entries → course ≡ course_at c entries i
-    → LegalUnder version c (take i entries) → (IsTrue next ↔ LegalUnder version course.setup (course.journal ++ e ∷ [])) → next ≡ false → IsFirstBad version c entries e.at
-first_bad version c entries i e course next l is numbered same legal told no_more =
-    let at_i : i ≡ e.at = sym (numbered i e (there entries i e l is)) in
-    let good : LegalUnder version c (take i entries) = legal in
-    let against : LegalUnder version c (take (i + 1) entries) → ⊥ =
-    (λ more.
-    let pushed : LegalUnder version c (take i entries ++ e ∷ []) = subst (LegalUnder version c) (one_more entries i e l is) more in
-    let known : LegalUnder version course.setup (course.journal ++ e ∷ []) = subst (λ (x : Course). LegalUnder version x.setup (x.journal ++ e ∷ [])) (sym same) pushed in
-    false≢true (sym no_more ∙ told.1 known)) in
-    subst (IsFirstBad version c entries) at_i (record { good = good; bad = against })

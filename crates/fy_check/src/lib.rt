@@ -7,4 +7,4 @@ pub mod laws;
 mod replaying;
 
 pub use fault::CheckFault;
-pub use replaying::replay;
+pub use replaying::{Replayer, replay};

@@ -1,38 +1,112 @@
 //! A journal checked at full size: its acts are made once more, and the replies compared.
-ghost use Rattle.std.specs.Prelude.{◌≡◌, ◌↔◌, List, [], ◌∷◌, ◌++◌, length, IfOk, IsTrue};
+ghost use Rattle.std.specs.Prelude.{◌≡◌, ◌↔◌, [], ◌∷◌, ◌++◌, length, None, IfOk, OnOk, OnErr, IsTrue};
 ghost use Rattle.fy_cluster.specs.Versions.{LegalUnder};
 ghost use Rattle.fy_check.specs.Check.{CheckAnswers};
+ghost use Rattle.fy_check.specs.Replayed.{HasReplayed, Enters};
 
 use crate::CheckFault;
 use fy_cluster::{Cluster, Config, Fault, laws};
 use fy_journal::{Entry, Journal, Version};
 use std::alloc::{AllocError, Global};
+use std::marker::Model;
 
 /// Whether the entry may come next in the cluster's journal, which is a legal one of the version.
 /// If it may, it is then in it.
-fn comes_next(
-    alloc: Global,
-    cluster: &mut Cluster,
-    version: Version,
-    entry: &Entry,
-) -> Result<bool, AllocError>
+fn comes_next(cluster: &mut Cluster, version: Version, entry: Entry) -> Result<bool, AllocError>
     requires legal { LegalUnder version cluster.old.setup cluster.old.journal }
-    requires place { entry.now.at ≡ length cluster.old.journal }
+    requires place { entry.at ≡ length cluster.old.journal }
     ensures next { IfOk result (λ next. IsTrue next
-        ↔ LegalUnder version cluster.old.setup (cluster.old.journal ++ entry.now ∷ [])) }
+        ↔ LegalUnder version cluster.old.setup (cluster.old.journal ++ entry ∷ [])) }
     ensures entered { IfOk result (λ next. IsTrue next → cluster.new
-        ≡ record cluster.old { journal = cluster.old.journal ++ entry.now ∷ [] }) }
+        ≡ record cluster.old { journal = cluster.old.journal ++ entry ∷ [] }) }
+    ensures none { OnErr result (cluster.new ≡ cluster.old) }
 {
     laws::versions();
     fy_acts::laws::equal_is_the_same();
     if !version.knows(&entry.act) {
         return Ok(false);
     }
-    let act = entry.act.try_copy(alloc)?;
-    match cluster.apply(entry.by, act) {
-        Ok(reply) => Ok(reply == entry.reply),
+    let (_, by, act, told) = entry.into_parts();
+    match cluster.apply(by, act) {
+        Ok(reply) => Ok(reply == told),
         Err(Fault::JournalFull) => Ok(false),
         Err(Fault::NoMemory) => Err(AllocError),
+    }
+}
+
+/// A journal that is checked entry by entry: a cluster makes the acts once more, and what was
+/// compared is dropped.
+#[derive(Drop)]
+pub struct Replayer {
+    cluster: Cluster,
+    version: Version,
+    first_bad: Option<u32>,
+}
+
+impl Model for Replayer {
+    ghost use Rattle.std.specs.Coded.{codes};
+    ghost use Rattle.fy_locality.specs.contracts.locality.Locality as e;
+    ghost use Rattle.fy_policy.specs.TreeCode.{tree_code};
+    ghost use Rattle.fy_check.specs.Replayed.{Replayed};
+
+    ghost Value = { Replayed };
+
+    ghost coded = { Prim.hlevel (codes, tree_code, e.the_row.coded) };
+
+    ghost use Rattle.fy_check.specs.Replayer.{replayed, IsSound};
+
+    ghost view = { replayed };
+
+    ghost invariant = { IsSound };
+}
+
+impl Replayer {
+    /// Begins with a cluster of this configuration, for a journal of the version.
+    ///
+    /// # Errors
+    /// `AllocError` where there is no memory for the cluster.
+    pub fn begin(alloc: Global, config: Config, version: Version) -> Result<Replayer, AllocError>
+        ensures begun { IfOk result (HasReplayed config []) }
+        ensures none { IfOk result (λ replayer. replayer.first_bad ≡ None) }
+        ensures version { IfOk result (λ replayer. replayer.version ≡ version) }
+    {
+        laws::versions();
+        Ok(Replayer {
+            cluster: Cluster::make(alloc, config)?,
+            version,
+            first_bad: None,
+        })
+    }
+
+    /// The place of the first bad entry so far; `None` where the entries are a legal journal.
+    pub fn first_bad(&self) -> Option<u32>
+        ensures { result ≡ self.now.first_bad }
+    {
+        self.first_bad
+    }
+
+    /// Takes the next entry. Behind the first bad one nothing is done.
+    ///
+    /// # Errors
+    /// `AllocError` where there is no memory for its act: it was not taken then.
+    pub fn enter(&mut self, entry: Entry) -> Result<(), AllocError>
+        requires { self.old.first_bad ≡ None → entry.at ≡ length self.old.course.journal }
+        ensures entered { OnOk result (Enters entry self.old self.new) }
+        ensures version { self.new.version ≡ self.old.version }
+        ensures same { OnErr result (self.new ≡ self.old) }
+    {
+        if self.first_bad.is_some() {
+            return Ok(());
+        }
+        let at = entry.at;
+        match comes_next(&mut self.cluster, self.version, entry) {
+            Ok(true) => Ok(()),
+            Ok(false) => {
+                self.first_bad = Some(at);
+                Ok(())
+            }
+            Err(AllocError) => Err(AllocError),
+        }
     }
 }
 
@@ -46,13 +120,17 @@ fn comes_next(
 pub fn replay(alloc: Global, config: &Config, journal: &Journal) -> Result<(), CheckFault>
     ensures { CheckAnswers journal.now.version config.now journal.now.entries result }
 {
-    laws::versions();
     journal.invariant();
-    let mut cluster = Cluster::make(alloc, config.try_copy(alloc)?)?;
-    let version = journal.version();
+    let mut replayer = Replayer::begin(alloc, config.try_copy(alloc)?, journal.version())?;
     for entry in journal.entries() {
-        if !comes_next(alloc, &mut cluster, version, entry)? {
-            return Err(CheckFault::BadEntry { at: entry.at });
+        replayer.enter(Entry {
+            at: entry.at,
+            by: entry.by,
+            act: entry.act.try_copy(alloc)?,
+            reply: entry.reply,
+        })?;
+        if let Some(at) = replayer.first_bad() {
+            return Err(CheckFault::BadEntry { at });
         }
     }
     Ok(())

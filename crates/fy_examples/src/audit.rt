@@ -1,6 +1,6 @@
 //! A script of one act, and its audit.
 use fy_acts::Reply;
-use fy_audit::{read_audit, read_script};
+use fy_audit::{AuditReader, read_audit, read_script};
 use std::test::Fail;
 
 #[test]
@@ -15,5 +15,21 @@ fn a_script_and_its_audit_are_read(rt: HostRuntime) -> Result<(), Fail> {
     )?;
     let entry = journal.entry(0).ok_or("no entry")?;
     assert_eq!(rt; (journal.len(), entry.reply), (1, Reply::Time { now: 1 }));
+    Ok(())
+}
+
+#[test]
+fn an_audit_is_read_entry_by_entry(rt: HostRuntime) -> Result<(), Fail> {
+    let mut reader = AuditReader::begin(
+        rt.alloc(),
+        b"{\"audit\":2}\n\
+        {\"act\":{\"tick\":{\"ticks\":1}},\"at\":0,\"by\":0,\"reply\":{\"time\":1}}\n",
+    )?;
+    if reader.is_at_end() {
+        return Err(Fail::from("no entry"));
+    }
+    let entry = reader.next_entry()?;
+    assert_eq!(rt; entry.reply, Reply::Time { now: 1 });
+    assert!(rt; reader.is_at_end() && reader.place() == 1);
     Ok(())
 }

@@ -43,7 +43,6 @@ use Rattle.fy_actors.specs.contracts.desk.Desk.TheInside as in_desk
 use Rattle.atomic_table.proofs.shared.Seat.TheSendSync as place
 use Rattle.atomic_table.proofs.shared.Shared.TheSendSync as steps
 use Rattle.atomic_table.proofs.owned.Table.TheSendSync as table
-use Rattle.std.proofs.timed.Parker.TheSendSync as parker
 use Rattle.fy_yard.specs.contracts.yard.Seat as seat
 use Rattle.fy_yard.specs.contracts.yard.Seat.TheInside as in_seat
 use Rattle.fy_yard.specs.contracts.yard.Shared as shared
@@ -161,7 +160,7 @@ shared_sync =
     declared_sync in_shared.the_type (
       (search (desk_send, table.the_sync, steps.the_sync, sendable, crosses) depth 20),
       (
-        (search (parker.the_sync, sendable, crosses) depth 20),
+        (search (sendable, crosses) depth 20),
         ((search (sendable, crosses) depth 20), tt),
       ),
     ) in

@@ -1,5 +1,5 @@
 -- what the steps of a place at the turnstile ask for and leave
-use Rattle.std.specs.Prelude.{◌≡◌, ℕ, ◌<◌, ◌≤◌, ◌%◌, ◌^◌, List, [], ◌∷◌, ◌++◌, length, map, true, false, Option, Some, None}
+use Rattle.std.specs.Prelude.{◌≡◌, ℕ, ◌<◌, ◌%◌, ◌^◌, List, [], ◌∷◌, ◌++◌, length, map, true, false, Option, Some, None}
 use Rattle.atomic_table.specs.Seated.{TableId}
 use Rattle.atomic_table.specs.declared.shared.Seat.{Seat as Place}
 use Rattle.fy_acts.specs.declared.entry.Entry.{Entry}
@@ -12,15 +12,6 @@ use Rattle.fy_yard.specs.Turns.{Sat, Joined}
 -- a table of three words and one slot
 abbrev pub IsTurnstile : TableId → Type 0
 IsTurnstile id = (id.words ≡ 3) × (id.slots ≡ 1)
-
--- a power of two
-abbrev pub IsPowerOfTwo : ℕ → Type 0
-IsPowerOfTwo n = (k : ℕ) × (n ≡ 2 ^ k)
-
--- so many bells for so many actors: at least one for each, and a power of two of them, so that
--- tickets that are out have bells of their own also where their numbers begin again at 0
-abbrev pub AreBells : ℕ → ℕ → Type 0
-AreBells bells actors = IsPowerOfTwo bells × (actors ≤ bells)
 
 -- what a seat is seen as: its actor, its receipts, and its place while it has one
 abbrev pub sitting : ℕ → List Entry → Option (Place (Option Bench) View) → Sitting

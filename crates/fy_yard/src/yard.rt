@@ -7,12 +7,12 @@ ghost use Rattle.fy_cluster.specs.Setup.{IsMet};
 ghost use Rattle.fy_cluster.specs.Replies.{Legal};
 ghost use Rattle.fy_cluster.specs.declared.fault.Fault.TheVariants.{JournalFull};
 ghost use Rattle.fy_yard.specs.Turns.{newcomer};
-ghost use Rattle.fy_yard.specs.Places.{AreBells, IsPlaceOf, Gathered, sitting};
+ghost use Rattle.fy_yard.specs.Places.{IsPlaceOf, Gathered, sitting};
 ghost use Rattle.fy_yard.specs.Yard.{Yard, actor_count, Keeps, Stays, Sees, Ends as EndsWith, Turned, Together, leftover, new_seats, Settled, Missing};
 ghost use Rattle.fy_yard.specs.Parts.{PlaysAt};
 ghost use Rattle.fy_yard.specs.declared.yard.CloseFault.TheVariants.{SeatsMissing};
 
-use crate::places::{another, draw, finish, hang, inform, wait_for};
+use crate::places::{another, draw, finish, inform, wait_for};
 use crate::turns::{Ends, Place, Turnstile};
 use atomic_table::Refused;
 use fy_actors::{Desk, FaultActor, Turn};
@@ -22,27 +22,26 @@ use std::alloc::Global;
 use std::boxed::Box;
 use std::marker::Model;
 use std::snapshot::Snapshot;
-use std::sync::Wait;
-use std::thread::Parker;
+use std::sync::{Mutex, Wait};
 
 /// A cluster that actors share. Each order and each turn has the cluster alone, in the order of the
 /// tickets that are drawn for them; whoever holds no ticket holds up nobody.
 #[derive(Drop)]
 pub struct Shared {
     table: Turnstile,
-    /// Who waits with a ticket sleeps at the one of its number.
-    bells: Vec<Parker>,
+    /// One at a time comes in, draws a ticket and goes out once it was served.
+    door: Mutex<()>,
     actors: u32,
 }
 
 impl Model for Shared {
     ghost use Rattle.std.specs.Coded.{codes};
-    ghost use Rattle.std.specs.Prelude.{◌≡◌, ◌≤◌, vec_len};
+    ghost use Rattle.std.specs.Prelude.{◌≡◌, ◌≤◌};
     ghost use Rattle.fy_locality.specs.contracts.locality.Locality as e;
     ghost use Rattle.fy_policy.specs.TreeCode.{tree_code};
     ghost use Rattle.fy_cluster.specs.Setup.{IsMet};
     ghost use Rattle.fy_yard.specs.Yard.{Yard, actor_count};
-    ghost use Rattle.fy_yard.specs.Places.{AreBells, IsTurnstile};
+    ghost use Rattle.fy_yard.specs.Places.{IsTurnstile};
     ghost use Rattle.atomic_table.specs.Seated.{table_id_coded};
 
     ghost Value = { Yard };
@@ -53,7 +52,7 @@ impl Model for Shared {
         record { id = s.table.shared.table_id; setup = s.table.shared.key.value } };
 
     ghost invariant = { λ s. IsTurnstile s.table.shared.table_id
-        × AreBells (vec_len s.bells) s.actors × (s.actors ≡ actor_count s.table.shared.key.value)
+        × (s.actors ≡ actor_count s.table.shared.key.value)
         × (1 ≤ s.actors) × IsMet s.table.shared.key.value };
 }
 
@@ -131,15 +130,9 @@ fn cluster_in(mut slots: Vec<Option<Desk>>) -> Cluster
 }
 
 /// The first place, from which the others are split.
-fn begin(
-    alloc: Global,
-    cluster: Cluster,
-    actors: u32,
-    bells: Vec<Parker>,
-) -> Result<(Shared, Place), Cluster>
+fn begin(alloc: Global, cluster: Cluster, actors: u32) -> Result<(Shared, Place), Cluster>
     requires empty { cluster.journal ≡ [] }
     requires actors { (actors ≡ actor_count cluster.setup) × (1 ≤ actors) }
-    requires bells { AreBells (vec_len bells) actors }
     ensures ok { IfOk result (λ made. (made.0.setup ≡ cluster.setup)
         × (made.1.table_id ≡ made.0.id) × (made.1.me ≡ (newcomer cluster.setup, []))) }
     ensures err { IfErr result (λ back. back ≡ cluster) }
@@ -150,17 +143,17 @@ fn begin(
     cluster.config().invariant();
     let setup = Snapshot::of(cluster.config());
     slots.push_reserved(Some(Desk::make(alloc, cluster)));
-    match Turnstile::new(alloc, &[0, 0, 0], slots, &setup) {
-        Ok((table, place)) => {
-            let shared = Shared {
-                table,
-                bells,
-                actors,
-            };
-            Ok((shared, place))
-        }
-        Err(Refused { slots }) => Err(cluster_in(slots)),
-    }
+    let (table, place) = match Turnstile::new(alloc, &[0, 0, 0], slots, &setup) {
+        Ok(made) => made,
+        Err(Refused { slots }) => return Err(cluster_in(slots)),
+    };
+    let door = Mutex::new(());
+    let shared = Shared {
+        table,
+        door,
+        actors,
+    };
+    Ok((shared, place))
 }
 
 /// A seat at its place.
@@ -273,10 +266,7 @@ impl Shared {
         let Ok(seats) = Vec::with_capacity(alloc, actors as usize) else {
             return Err(cluster);
         };
-        let Some(bells) = hang(alloc, actors) else {
-            return Err(cluster);
-        };
-        let (shared, place) = begin(alloc, cluster, actors, bells)?;
+        let (shared, place) = begin(alloc, cluster, actors)?;
         let seats = seat_all(alloc, &shared, place, seats, actors);
         Ok((shared, seats))
     }
@@ -303,13 +293,15 @@ impl Shared {
         let Some(mut place) = seat.place.take() else {
             unreachable!()
         };
+        let inside = self.door.lock(rt);
         let ticket = draw(&self.table, &mut place);
-        let mut desk = wait_for(rt, &self.table, &self.bells, &mut place, ticket);
+        let mut desk = wait_for(rt, &self.table, &mut place, ticket);
         let at = desk.journal_len() as u32;
         desk.sit(seat.actor, &mut seat.receipts);
         let answer = desk.act(act);
         desk.sit(0, &mut seat.receipts);
-        finish(&self.table, &self.bells, &mut place, desk, ticket);
+        finish(&self.table, &mut place, desk);
+        drop(inside);
         seat.place = Some(place);
         laws::journals_survive();
         let reply = match answer {
@@ -344,12 +336,14 @@ impl Shared {
         let Some(mut place) = seat.place.take() else {
             unreachable!()
         };
+        let inside = self.door.lock(rt);
         let ticket = draw(&self.table, &mut place);
-        let mut desk = wait_for(rt, &self.table, &self.bells, &mut place, ticket);
+        let mut desk = wait_for(rt, &self.table, &mut place, ticket);
         desk.sit(seat.actor, &mut seat.receipts);
         let answer = ask(actor, &mut desk);
         desk.sit(0, &mut seat.receipts);
-        finish(&self.table, &self.bells, &mut place, desk, ticket);
+        finish(&self.table, &mut place, desk);
+        drop(inside);
         seat.place = Some(place);
         laws::journals_survive();
         answer
@@ -400,7 +394,7 @@ impl Shared {
         laws::journals_survive();
         let Shared {
             table,
-            bells: _,
+            door: _,
             actors: _,
         } = self;
         let mut closed = table.close_with(place);

@@ -1,16 +1,10 @@
-use Rattle.std.proofs.Common.{◌≡◌, ◌≤◌, ◌+◌, ◌++◌, length}
-use Rattle.fy_audit.specs.Audit.{MayStandFrom}
-use Rattle.fy_audit.specs.AuditText.{audit_text}
+use Rattle.std.proofs.Common.{◌≡◌, length}
+use Rattle.fy_audit.specs.Reading.{HasRead}
 use Rattle.fy_audit.proofs.audit.read_audit.Given as goal
 
--- what was read is the text of the journal so far, whose entries may stand where they do
-abbrev pub invariant-loop-rest : goal.invariant-loop-rest
-invariant-loop-rest l =
-    (l.place + length l.rest ≤ 268435456)
-    × (l.bytes ≡ audit_text l.version l.journal.entries ++ l.rest)
-    × MayStandFrom l.version 0 l.journal.entries
-    × (l.place ≡ length l.journal.entries)
-    × (l.journal.version ≡ l.version)
+-- what was read are the entries of the journal so far
+abbrev pub invariant-loop-reader : goal.invariant-loop-reader
+invariant-loop-reader l = HasRead l.bytes l.journal.entries l.reader × (l.journal.version ≡ l.reader.version)
 
-abbrev pub decreases-loop-rest : goal.decreases-loop-rest
-decreases-loop-rest l = length l.rest
+abbrev pub decreases-loop-reader : goal.decreases-loop-reader
+decreases-loop-reader l = length l.reader.rest

@@ -1,13 +1,45 @@
-use Rattle.std.proofs.Common.{subst, rules}
-use Rattle.fy_check.specs.Check.{IsFirstBad}
-use Rattle.fy_check.proofs.Nexts.{place_is, first_bad}
+use Rattle.std.proofs.Common.{rules, ◌+◌, ◌∙◌, [], refl, sym, subst}
+use Rattle.fy_check.specs.Replayed.{HasReplayed}
+use Rattle.fy_check.proofs.Nexts.{place_is, of_parts}
+use Rattle.fy_check.proofs.Entering.{one_more_entered, all_are_legal, bad_of_all}
 use Rattle.fy_check.proofs.replaying.replay.Goals as goal
 
-pub comes_next-requires-clause-place : goal.comes_next-requires-clause-place
-comes_next-requires-clause-place c =
-    place_is c.args.config.now c.args.journal.now.entries c.loop-entry.entry-index c.entry-item.result c.loop-entry.cluster (search rules) (search rules) c.invariant.ensures.numbered c.loop-entry.invariant.course
+pub loop-entry-init : goal.loop-entry-init
+loop-entry-init c = (
+  subst (λ setup. HasReplayed setup [] c.in_ok-replayer.replayer) c.in_ok-try_copy.ensures
+      c.in_ok-replayer.ensures.begun,
+  c.in_ok-replayer.ensures.none,
+  c.in_ok-replayer.ensures.version ∙ c.version.ensures,
+)
 
-pub returns-then-not-branch : goal.returns-then-not-branch
-returns-then-not-branch c =
-    subst (λ version. IsFirstBad version c.args.config.now c.args.journal.now.entries c.entry-item.result.at) c.version-version.ensures
-    (first_bad c.version-version.result c.args.config.now c.args.journal.now.entries c.loop-entry.entry-index c.entry-item.result c.loop-entry.cluster c.in_ok-comes_next.field-0 (search rules) (search rules) c.invariant.ensures.numbered c.loop-entry.invariant.course c.loop-entry.invariant.legal c.in_ok-comes_next.ensures.next (search rules))
+pub enter-requires : goal.enter-requires
+enter-requires c = λ none.
+    place_is c.args.config.now c.args.journal.now.entries c.loop-entry.entry-index c.entry-item.result
+    c.loop-entry.replayer.course (search rules) (search rules) c.invariant.ensures.numbered
+    (c.loop-entry.invariant.0.course none)
+
+pub loop-entry-preserved : goal.loop-entry-preserved
+loop-entry-preserved c = (
+  one_more_entered c.args.config.now c.args.journal.now.entries c.loop-entry.entry-index
+      c.entry-item.result _ c.loop-entry.replayer c.enter.new.self (search rules) (search rules)
+      (of_parts c.entry-item.result _ _ _ refl (sym c.in_ok-try_copy-2.ensures.equal) refl)
+      c.in_ok-enter.ensures.entered c.loop-entry.invariant.0,
+  sym c.first_bad.ensures ∙ c.in_default.is,
+  c.enter.ensures.version ∙ c.loop-entry.invariant.2,
+)
+
+pub returns-in-Some : goal.returns-in-Some
+returns-in-Some c =
+    bad_of_all c.args.journal.now.version c.args.config.now c.args.journal.now.entries
+    (c.loop-entry.entry-index + 1) c.in-Some.at c.enter.new.self
+    (one_more_entered c.args.config.now c.args.journal.now.entries c.loop-entry.entry-index
+    c.entry-item.result _ c.loop-entry.replayer c.enter.new.self (search rules) (search rules)
+    (of_parts c.entry-item.result _ _ _ refl (sym c.in_ok-try_copy-2.ensures.equal) refl)
+    c.in_ok-enter.ensures.entered c.loop-entry.invariant.0)
+    (sym c.first_bad.ensures ∙ c.in-Some.is) (c.enter.ensures.version ∙ c.loop-entry.invariant.2)
+
+pub returns : goal.returns
+returns c =
+    all_are_legal c.args.journal.now.version c.args.config.now c.args.journal.now.entries
+    c.loop-entry.entry-index c.loop-entry.replayer (search rules) c.loop-entry.invariant.0
+    c.loop-entry.invariant.1 c.loop-entry.invariant.2

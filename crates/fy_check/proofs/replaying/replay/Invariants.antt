@@ -1,9 +1,10 @@
-use Rattle.std.proofs.Common.{◌≡◌, take}
-use Rattle.fy_cluster.specs.Versions.{LegalUnder}
+use Rattle.std.proofs.Common.{◌≡◌, None, take}
+use Rattle.fy_check.specs.Replayed.{HasReplayed}
 use Rattle.fy_check.proofs.replaying.replay.Given as goal
 
+-- the entries so far were replayed, and none is bad
 abbrev pub invariant-loop-entry : goal.invariant-loop-entry
-invariant-loop-entry l = record {
-  course : l.cluster ≡ record { setup = l.config; journal = take l.entry-index l.journal.entries };
-  legal : LegalUnder l.version l.config (take l.entry-index l.journal.entries);
-}
+invariant-loop-entry l =
+    HasReplayed l.config (take l.entry-index l.journal.entries) l.replayer
+    × (l.replayer.first_bad ≡ None)
+    × (l.replayer.version ≡ l.journal.version)

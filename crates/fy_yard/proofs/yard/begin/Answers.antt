@@ -1,7 +1,6 @@
 use Rattle.std.proofs.Common.{rules, ◌≡◌, [], ◌∷◌, List, Option, Some, sym, subst, ◌∙◌, arith, ◌<◌, ◌^◌}
 use Rattle.atomic_table.specs.Table.{opening}
 use Rattle.fy_actors.specs.Desk.{Bench, course_of}
-use Rattle.std.specs.Vec.{vec_len}
 use Rattle.fy_yard.specs.Yard.{actor_count}
 use Rattle.fy_yard.specs.Turns.{Kept, newcomer}
 use Rattle.fy_yard.proofs.Moves.{starts}
@@ -9,9 +8,7 @@ use Rattle.fy_yard.proofs.yard.begin.Goals as goal
 
 pub new-requires : goal.new-requires
 new-requires c =
-    let room : vec_len c.args.bells < 2 ^ 64 = search rules in
-    let few : actor_count c.args.cluster.setup < 2 ^ 64 =
-    omega (arith, room, c.requires.bells.1, c.requires.actors.0) in
+    let few : actor_count c.args.cluster.setup < 2 ^ 64 = omega (arith, c.requires.actors.0) in
     let same : c.push_reserved.new.self.items ≡ Some c.make.result ∷ [] = search rules in
     subst
     (λ (xs : List (Option Bench)).

@@ -7,8 +7,8 @@ use Rattle.fy_acts.specs.declared.entry.Entry.{Entry}
 use Rattle.fy_spelling.specs.declared.entry_line.EntryFault.TheVariants.{Syntax}
 use Rattle.fy_audit.specs.Versions.{has_entry}
 use Rattle.fy_audit.proofs.Steps.{first_is, longer_than}
-use Rattle.fy_audit.proofs.audit.next_entry.Goals as goal
-use Rattle.fy_audit.proofs.audit.next_entry.Goals.{else-entry-place-via-then-entry-place+else-has_entry, else-entry-place-via-else-entry-place}
+use Rattle.fy_audit.proofs.reader.first_entry.Goals as goal
+use Rattle.fy_audit.proofs.reader.first_entry.Goals.{else-entry-place-via-then-entry-place+else-has_entry, else-entry-place-via-else-entry-place}
 
 pub returns-then-line-rest-clause-fault : goal.returns-then-line-rest-clause-fault
 returns-then-line-rest-clause-fault c =

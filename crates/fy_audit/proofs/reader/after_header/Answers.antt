@@ -1,5 +1,5 @@
 use Rattle.fy_audit.proofs.Steps.{no_header}
-use Rattle.fy_audit.proofs.audit.after_header.Goals as goal
+use Rattle.fy_audit.proofs.reader.after_header.Goals as goal
 
 pub returns-in-None-clause-none : goal.returns-in-None-clause-none
 returns-in-None-clause-none c =

@@ -1,0 +1,55 @@
+-- reading an audit entry by entry
+use Rattle.std.specs.Prelude.{◌≡◌, ◌≤◌, ◌+◌, ℕ, List, [], ◌∷◌, ◌++◌, length, Ok, Err, ⊤}
+use Rattle.fy_acts.specs.declared.entry.Entry.{Entry}
+use Rattle.fy_audit.specs.Audit.{MayStandFrom, BeginsWith, BeginsFaulty, AuditOf, AuditAnswers}
+use Rattle.fy_audit.specs.AuditText.{audit_text}
+use Rattle.fy_audit.specs.declared.audit.TheConstants.{MOST_AUDIT_BYTES}
+use Rattle.fy_audit.specs.declared.audit.AuditFault.{AuditFault}
+use Rattle.fy_audit.specs.declared.audit.AuditFault.TheVariants.{TooLong, Line, NoMemory}
+use Rattle.fy_journal.specs.declared.version.Version.{Version}
+
+-- an audit that is being read: its version, the place of the next entry, from 0, and what is left
+pub record Unread : Type 0 where
+  pub version : Version
+  pub place : ℕ
+  pub rest : List ℕ
+
+-- of an audit these entries were read, each of which may stand at its place
+pub record HasRead (bytes : List ℕ) (entries : List Entry) (unread : Unread) : Type 0 where
+  pub bound : length bytes ≤ MOST_AUDIT_BYTES
+  pub split : bytes ≡ audit_text unread.version entries ++ unread.rest
+  pub faultless : MayStandFrom unread.version 0 entries
+  pub place : unread.place ≡ length entries
+
+-- the entry at the front of what was left is read
+pub record Reads (entry : Entry) (old new : Unread) : Type 0 where
+  pub front : BeginsWith old.version old.place old.rest entry new.rest
+  pub version : new.version ≡ old.version
+  pub place : new.place ≡ old.place + 1
+
+-- why no entry is read of what is left: its first line, which has number place + 2, is faulty, or
+-- there is no memory
+abbrev pub Stops : Unread → AuditFault → Type 0
+Stops unread TooLong = ⊥
+Stops unread (Line number fault) =
+    (number ≡ unread.place + 2) × BeginsFaulty unread.version unread.place unread.rest fault
+Stops unread NoMemory = ⊤
+
+-- the entries that were read, and one more
+abbrev pub EntriesMount : Type 0
+EntriesMount =
+    (bytes : List ℕ) (entries : List Entry) (entry : Entry) (old new : Unread) →
+    HasRead bytes entries old → Reads entry old new → HasRead bytes (entries ++ entry ∷ []) new
+
+-- whatever was read before, the fault at which reading stops is the audit's
+abbrev pub StopsAreFaults : Type 0
+StopsAreFaults =
+    (bytes : List ℕ) (entries : List Entry) (unread : Unread) (fault : AuditFault) →
+    HasRead bytes entries unread → Stops unread fault → AuditAnswers bytes (Err fault)
+
+-- where nothing is left, what was read is the audit
+abbrev pub EndsAsAudit : Type 0
+EndsAsAudit =
+    (bytes : List ℕ) (entries : List Entry) (unread : Unread) → HasRead bytes entries unread →
+    unread.rest ≡ [] →
+    AuditOf bytes (Ok (record { version = unread.version; entries = entries }))

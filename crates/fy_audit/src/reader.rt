@@ -1,0 +1,257 @@
+//! Audits read entry by entry.
+ghost use Rattle.std.specs.Prelude.{◌≡◌, ◌↔◌, ◌<◌, ◌++◌, [], ℕ, List, length, IsTrue, IfSome, IfNone, IfOk, IfErr, Err};
+ghost use Rattle.fy_audit.specs.Audit.{AuditOf, HasNoHeader, BeginsWith, StopsAt};
+ghost use Rattle.fy_audit.specs.AuditText.{header};
+ghost use Rattle.fy_audit.specs.Reading.{HasRead, Reads, Stops};
+ghost use Rattle.fy_audit.specs.declared.audit.TheConstants.{MOST_AUDIT_BYTES};
+ghost use Rattle.fy_audit.specs.declared.audit.AuditFault.TheVariants.{TooLong};
+ghost use Rattle.fy_audit.specs.Versions.{knows_refusal, knows_reply, has_entry};
+ghost use Rattle.fy_journal.specs.declared.version.Version.TheVariants.{First, Second};
+
+use crate::{
+    AuditFault, AuditLineFault, Entry, MOST_AUDIT_BYTES, MOST_LINE_BYTES, Refusal, Reply, Version,
+};
+use fy_lines::first_line;
+use fy_spelling::laws::{a_text_is_a_line, a_text_is_of_one_entry};
+use fy_spelling::{EntryFault, read_entry};
+use std::alloc::Global;
+use std::marker::Model;
+
+/// An audit that is read entry by entry: nothing is kept but what is left of it.
+#[derive(Drop)]
+pub struct AuditReader<'b> {
+    alloc: Global,
+    version: Version,
+    place: u32,
+    rest: &'b [u8],
+    /// A buffer for each line's own use, which grows but once.
+    room: Vec<u8>,
+}
+
+impl<'b> Model for AuditReader<'b> {
+    ghost use Rattle.fy_audit.specs.Reading.{Unread};
+
+    ghost Value = { Unread };
+
+    ghost use Rattle.fy_audit.specs.Reader.{unread, IsWithin};
+
+    ghost view = { unread };
+
+    ghost invariant = { IsWithin };
+}
+
+/// Why no entry is had of what is left of an audit.
+#[derive(Clone, Copy)]
+enum Stop {
+    /// Its first line is faulty.
+    Faulty(AuditLineFault),
+    /// There is no memory for it.
+    NoMemory,
+}
+
+/// All that follows the header of the first version, where an audit begins with it.
+fn behind_first(bytes: &[u8]) -> Option<&[u8]>
+    ensures some { IfSome result (λ rest. bytes.now ≡ header First ++ rest.now) }
+    ensures none { IfNone result ((rest : List ℕ) → bytes.now ≡ header First ++ rest → ⊥) }
+{
+    bytes.strip_prefix(b"{\"audit\":1}\n")
+}
+
+/// All that follows the header of the second.
+fn behind_second(bytes: &[u8]) -> Option<&[u8]>
+    ensures some { IfSome result (λ rest. bytes.now ≡ header Second ++ rest.now) }
+    ensures none { IfNone result ((rest : List ℕ) → bytes.now ≡ header Second ++ rest → ⊥) }
+{
+    bytes.strip_prefix(b"{\"audit\":2}\n")
+}
+
+/// The version by whose header an audit begins, and all that follows it.
+fn after_header(bytes: &[u8]) -> Option<(Version, &[u8])>
+    ensures some { IfSome result (λ found. bytes.now ≡ header found.0 ++ found.1.now) }
+    ensures none { IfNone result (HasNoHeader bytes.now) }
+{
+    if let Some(rest) = behind_second(bytes) {
+        return Some((Version::Second, rest));
+    }
+    match behind_first(bytes) {
+        Some(rest) => Some((Version::First, rest)),
+        None => None,
+    }
+}
+
+/// Whether there is such a refusal under the version: the first lacks the four of copies, replaced
+/// members and healing.
+fn knows_refusal(version: Version, refusal: Refusal) -> bool
+    ensures { result ≡ knows_refusal version refusal }
+{
+    match refusal {
+        Refusal::NoCopy | Refusal::IsMember | Refusal::NotDestroyed | Refusal::StillNeeds { .. } =>
+            version == Version::Second,
+        Refusal::Stranger
+        | Refusal::WrongRole
+        | Refusal::TooMany
+        | Refusal::NoPolicy
+        | Refusal::NoProcess
+        | Refusal::Gone
+        | Refusal::TeamShort { .. }
+        | Refusal::NoTeam
+        | Refusal::Payload
+        | Refusal::NetFull
+        | Refusal::NoMessage
+        | Refusal::Clogged
+        | Refusal::NotUp
+        | Refusal::NoRecord
+        | Refusal::NotMember
+        | Refusal::Acked
+        | Refusal::IsUp
+        | Refusal::ClockEnd
+        | Refusal::NoActor
+        | Refusal::Full
+        | Refusal::NoSuch => true,
+    }
+}
+
+/// Whether there is such a reply under the version.
+fn knows_reply(version: Version, reply: Reply) -> bool
+    ensures { result ≡ knows_reply version reply }
+{
+    match reply {
+        Reply::No(refusal) => knows_refusal(version, refusal),
+        Reply::Verdict(_)
+        | Reply::Ruled { .. }
+        | Reply::Formed { .. }
+        | Reply::Begun { .. }
+        | Reply::Stored
+        | Reply::Marked { .. }
+        | Reply::Sent { .. }
+        | Reply::Synced { .. }
+        | Reply::Time { .. }
+        | Reply::Done => true,
+    }
+}
+
+/// Whether audits of the version have such an entry.
+fn has_entry(version: Version, entry: &Entry) -> bool
+    ensures { result ≡ has_entry version entry.now }
+{
+    version.knows(&entry.act) && knows_reply(version, entry.reply)
+}
+
+/// The entry at the front of what is left of an audit, which has to stand at this place, and what
+/// follows its line.
+fn first_entry<'b>(
+    alloc: Global,
+    rest: &'b [u8],
+    version: Version,
+    place: u32,
+    room: &mut Vec<u8>,
+) -> Result<(Entry, &'b [u8]), Stop>
+    requires { 0 < length rest.now }
+    ensures found { IfOk result (λ found. BeginsWith version place rest.now found.0 found.1.now) }
+    ensures fault { IfErr result (λ fault. StopsAt version place rest.now fault) }
+{
+    // Laws that tell which line an entry has.
+    a_text_is_a_line();
+    a_text_is_of_one_entry();
+    let (line, after) = first_line(rest);
+    if line.len() > MOST_LINE_BYTES {
+        return Err(Stop::Faulty(AuditLineFault::TooLong));
+    }
+    // A last line without its line feed is all that is left.
+    if line.len() == rest.len() {
+        return Err(Stop::Faulty(AuditLineFault::Syntax));
+    }
+    match read_entry(alloc, line, room) {
+        Ok(entry) => {
+            if entry.at == place && has_entry(version, &entry) {
+                Ok((entry, after))
+            } else {
+                Err(Stop::Faulty(AuditLineFault::Syntax))
+            }
+        }
+        Err(EntryFault::Syntax) => Err(Stop::Faulty(AuditLineFault::Syntax)),
+        Err(EntryFault::NoMemory) => Err(Stop::NoMemory),
+    }
+}
+
+impl<'b> AuditReader<'b> {
+    /// Begins with the header.
+    ///
+    /// # Errors
+    ///
+    /// In this order: `TooLong`; `Line` for the first line, where it isn't a header.
+    pub fn begin(alloc: Global, bytes: &'b [u8]) -> Result<AuditReader<'b>, AuditFault>
+        ensures begun { IfOk result (λ reader. HasRead bytes.now [] reader) }
+        ensures refused { IfErr result (λ fault. AuditOf bytes.now (Err fault)) }
+        ensures too_long { (result ≡ Err TooLong) ↔ (MOST_AUDIT_BYTES < length bytes.now) }
+    {
+        if bytes.len() > MOST_AUDIT_BYTES {
+            return Err(AuditFault::TooLong);
+        }
+        match after_header(bytes) {
+            Some((version, rest)) => Ok(AuditReader {
+                alloc,
+                version,
+                place: 0,
+                rest,
+                room: Vec::new(alloc),
+            }),
+            None => Err(AuditFault::Line {
+                number: 1,
+                fault: AuditLineFault::Header,
+            }),
+        }
+    }
+
+    /// The version that the header names.
+    pub fn version(&self) -> Version
+        ensures { result ≡ self.now.version }
+    {
+        self.version
+    }
+
+    /// The place of the next entry, from 0: how many were read.
+    pub fn place(&self) -> u32
+        ensures { result ≡ self.now.place }
+    {
+        self.place
+    }
+
+    /// Whether nothing is left.
+    pub fn is_at_end(&self) -> bool
+        ensures { IsTrue result ↔ (self.now.rest ≡ []) }
+    {
+        self.rest.is_empty()
+    }
+
+    /// Reads the next entry. What is left is the same where there is none.
+    ///
+    /// # Errors
+    ///
+    /// `Line` for the next line, where it is faulty; `NoMemory` where memory is refused before.
+    pub fn next_entry(&mut self) -> Result<Entry, AuditFault>
+        requires { 0 < length self.old.rest }
+        ensures read { IfOk result (λ entry. Reads entry self.old self.new) }
+        ensures stopped { IfErr result (Stops self.old) }
+        ensures same { IfErr result (λ _. self.new ≡ self.old) }
+    {
+        match first_entry(
+            self.alloc,
+            self.rest,
+            self.version,
+            self.place,
+            &mut self.room,
+        ) {
+            Ok((entry, after)) => {
+                self.place += 1;
+                self.rest = after;
+                Ok(entry)
+            }
+            Err(Stop::Faulty(fault)) => Err(AuditFault::Line {
+                number: self.place + 2,
+                fault,
+            }),
+            Err(Stop::NoMemory) => Err(AuditFault::NoMemory),
+        }
+    }
+}
