@@ -65,6 +65,7 @@ install: build
 # another program of this command line, `run`, `check` and `swarm` beside its own.
 bench: build
 	if command -v rustc > /dev/null; then rustc --edition 2024 -C opt-level=3 -o bin/judge_by_hand bench/judge_by_hand.rs; fi
+	if command -v rustc > /dev/null; then rustc --edition 2024 -C opt-level=3 -o bin/door bench/door.rs && bin/door; fi
 	bench/judge.py bin/faultyard $$(ls bin/judge_by_hand 2> /dev/null)
 	bench/run.py bin/faultyard $(BESIDE)
 	bench/check.py bin/faultyard $(BESIDE)
