@@ -18,7 +18,9 @@ const LOOKS: [usize; 4] = [0, 100, 1_000, 10_000];
 /// The work of a turn.
 fn turn(state: &mut u64) {
     for _ in 0..150 {
-        *state = black_box(*state).wrapping_mul(6_364_136_223_846_793_005).rotate_left(17);
+        *state = black_box(*state)
+            .wrapping_mul(6_364_136_223_846_793_005)
+            .rotate_left(17);
     }
 }
 
