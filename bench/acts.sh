@@ -3,20 +3,16 @@
 #
 #     bench/acts.sh [ACTS]
 #
-# The program bench/acts.rt.in is no crate of this repository, so the tests don't wait for it: it is proved and built in a
-# folder of its own, beside copies of the crates. For each cluster it prints the acts a second (the best of ten rounds), the
-# peak of memory of a run that keeps no list of acts, the replies of that run, and for each kind of act what one act takes
-# in runs of 1,000 acts and in one of ACTS (100,000 if left out).
+# The crate bench/crates/acts is proved and built in a folder of its own, beside copies of the crates that it calls. For
+# each cluster it prints the acts a second (the best of ten rounds), the peak of memory of a run that keeps no list of
+# acts, the replies of that run, and for each kind of act what one act takes in runs of 1,000 acts and in one of ACTS
+# (100,000 if left out).
 set -euo pipefail
 cd "$(dirname "$0")/.."
 acts=${1:-100000}
 folder=$(mktemp -d)
 trap 'rm -rf "$folder"' EXIT
-cp -a crates "$folder/crates"
-mkdir -p "$folder/crates/acts/src"
-cp bench/acts.rt.in "$folder/crates/acts/src/main.rt"
-cp crates.txt "$folder/crates.txt"
-echo "acts: fy_cluster fy_audit fy_team fy_disk fy_grants fy_kinds fy_policy fy_locality" >> "$folder/crates.txt"
+tests/layout "$folder" bench/crates
 cd "$folder/crates/acts"
 rt run -- list 6 0 1 > /dev/null
 

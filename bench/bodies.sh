@@ -3,22 +3,20 @@
 #
 #     bench/bodies.sh [TREE..]
 #
-# The program bench/bodies.rt.in is no crate of this repository, so the tests don't wait for it: it is proved and built in
-# a folder of its own for each tree, beside copies of the crates, and the programs are run in turn.
+# The crate bench/crates/bodies is proved and built in a folder of its own, beside copies of the crates that it calls. The
+# programs of the trees are run in turn.
 set -euo pipefail
 cd "$(dirname "$0")/.."
 folder=$(mktemp -d)
 trap 'rm -rf "$folder"' EXIT
 trees=("$PWD" "$@")
 for k in "${!trees[@]}"; do
-    mkdir -p "$folder/$k/crates/bodies/src"
-    for name in fy_locality fy_policy fy_disk fy_team; do
-        cp -a "${trees[$k]}/crates/$name" "$folder/$k/crates/$name"
-    done
-    cp bench/bodies.rt.in "$folder/$k/crates/bodies/src/main.rt"
-    cp HANDLES "$folder/$k"
-    grep -E '^fy_(locality|policy|disk|team):' crates.txt > "$folder/$k/crates.txt"
-    echo "bodies: fy_team fy_disk fy_policy fy_locality" >> "$folder/$k/crates.txt"
+    mkdir -p "$folder/$k"
+    tests/layout "$folder/$k" bench/crates
+    if [ "$k" != 0 ]; then
+        rm -rf "$folder/$k"/crates/fy_*
+        cp -a "${trees[$k]}"/crates/fy_* "$folder/$k/crates"
+    fi
     (cd "$folder/$k/crates/bodies" && rt run -- 1 > /dev/null)
 done
 for _round in 1 2 3; do

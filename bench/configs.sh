@@ -4,23 +4,17 @@
 #
 #     bench/configs.sh [ROUNDS]
 #
-# The program bench/configs.rt.in is no crate of this repository, so the tests don't wait for it: it
-# is proved and built in a folder of its own, beside copies of the crates. For each file it prints
-# its length, the best time of ROUNDS (10 if left out), and what was answered.
+# The crate bench/crates/configs is proved and built in a folder of its own, beside copies of the crates that it calls.
+# For each file it prints its length, the best time of ROUNDS (10 if left out), and what was answered.
 set -euo pipefail
 cd "$(dirname "$0")/.."
 rounds=${1:-10}
 folder=$(mktemp -d)
 trap 'rm -rf "$folder"' EXIT
-cp -a crates "$folder/crates"
-mkdir -p "$folder/crates/configs/src"
-cp bench/configs.rt.in "$folder/crates/configs/src/main.rt"
-cp tests/crates/fy_tests/src/config/described.rt.in "$folder/crates/configs/src/described.rt"
-cp HANDLES crates.txt "$folder"
-echo "configs: fy_config fy_cluster fy_grants fy_kinds fy_policy fy_locality" >> "$folder/crates.txt"
+tests/layout "$folder" bench/crates
 six=$PWD/examples/c6.toml
 cd "$folder/crates/configs"
-rt run -- show < "$six" > /dev/null
+rt run -- 1 < "$six" > /dev/null
 
 # So many processes, four times as many grants of four actors, and as many protections.
 cluster() {
@@ -45,7 +39,7 @@ filled() {
 
 tell() {
     local nanos told
-    read -r nanos told < <(out/configs time "$rounds" < file)
+    read -r nanos told < <(out/configs "$rounds" < file)
     printf '%-18s %8d bytes %9d us  %s\n' "$1" "$(wc -c < file)" "$((nanos / 1000))" "$told"
 }
 

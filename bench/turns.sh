@@ -3,20 +3,15 @@
 #
 #     bench/turns.sh [ACTS]
 #
-# The program bench/turns.rt.in is no crate of this repository, so the tests don't wait for it: it is
-# proved and built in a folder of its own, beside copies of the crates. The driver stores on six
-# processes, four payloads once and a thousand once, and takes 1,000 turns and then ACTS (100,000 if
+# The crate bench/crates/turns is proved and built in a folder of its own, beside copies of the crates that it calls. The
+# driver stores on six processes, four payloads once and a thousand once, and takes 1,000 turns and then ACTS (100,000 if
 # left out).
 set -euo pipefail
 cd "$(dirname "$0")/.."
 acts=${1:-100000}
 folder=$(mktemp -d)
 trap 'rm -rf "$folder"' EXIT
-cp -a crates "$folder/crates"
-mkdir -p "$folder/crates/turns/src"
-cp bench/turns.rt.in "$folder/crates/turns/src/main.rt"
-cp crates.txt "$folder/crates.txt"
-echo "turns: fy_actors fy_config fy_cluster fy_team fy_disk fy_locality" >> "$folder/crates.txt"
+tests/layout "$folder" bench/crates
 cd "$folder/crates/turns"
 
 # A cluster of so many processes, two to a zone.

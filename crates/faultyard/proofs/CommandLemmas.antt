@@ -1,6 +1,6 @@
 -- The words of the program that have no fault name one of its subcommands, with the cluster file
 -- where the subcommand takes one; and the matches of a parse hold both.
-use Rattle.std.proofs.Common.{rules, arith, ◌≡◌, ◌∙◌, ◌⊎◌, ◌&&◌, not, inl, inr, ℕ, Bool, true, false, List, [], ◌∷◌, Option, None, Some, codes, refl, sym, ap, subst, is_some, option_map}
+use Rattle.std.proofs.Common.{rules, arith, ◌≡◌, ◌∙◌, ◌⊎◌, ◌&&◌, not, inl, inr, ℕ, Bool, true, false, List, [], ◌∷◌, length, Option, None, Some, codes, refl, sym, ap, subst, is_some, option_map}
 use Rattle.std.specs.Prelude.{IsSomeAnd, Result, Ok, Err}
 use Rattle.std.specs.Str.Parse.{ParsesUnsigned}
 use Rattle.std.specs.Box.{box_value}
@@ -45,7 +45,7 @@ plain_is_local c plain = by (is_empty (out-Command c).groups.items) (out-Command
 -- the subcommand takes a cluster file
 abbrev TakesConfig : Text → Type 0
 TakesConfig name =
-    (name ≡ codes "run") ⊎ ((name ≡ codes "check") ⊎ ((name ≡ codes "swarm") ⊎ (name ≡ codes "guard")))
+    (name ≡ codes "run") ⊎ ((name ≡ codes "check") ⊎ ((name ≡ codes "swarm") ⊎ ((name ≡ codes "guard") ⊎ (name ≡ codes "show"))))
 
 abbrev HasConfig : List Row → Type 0
 HasConfig rows = is_some (first_of (codes "CONFIG") rows) ≡ true
@@ -87,6 +87,12 @@ first_letter (x ∷ xs) = x
 no_swarm : (name other : Text) → name ≡ other → (first_letter other ≡ 115 → ⊥) → name ≡ codes "swarm" → ⊥
 no_swarm name other is differs swarm = differs (ap first_letter (sym is) ∙ ap first_letter swarm)
 
+no_show : (name : Text) → name ≡ codes "show" → name ≡ codes "swarm" → ⊥
+no_show name show swarm = by (ap length (sym show ∙ swarm))
+  where
+    by : length (codes "show") ≡ length (codes "swarm") → ⊥
+    by e = omega arith
+
 known_task : (s : Shape) (words : List Text) → IsIn s (built faultyard_command).subs → (s.name ≡ codes "help" → s.aliases ≡ [] → ⊥) → level_fault s [] nothing_held words false [] ≡ []
     → IsTask (rows_at s words)
 known_task s words known other none =
@@ -108,12 +114,17 @@ known_task s words known other none =
         λ is. seed_given s _ words swarm ((refl, refl, refl), ((refl, refl, refl), ((refl, refl, refl), tt))) (inr (inl (refl, refl))) refl none,
       )
       | inr (inr (inr (inr (inl guard)))) ↦ inr (
-        inr (inr (inr (ap (λ t. t.name) guard))),
+        inr (inr (inr (inl (ap (λ t. t.name) guard)))),
         config_given s _ words guard ((refl, refl, refl), ((refl, refl, refl), tt)) (inl (refl, refl)) refl none,
         λ swarm. absurd (no_swarm s.name (codes "guard") (ap (λ t. t.name) guard) (λ e. omega arith) swarm),
       )
-      | inr (inr (inr (inr (inr (inl help))))) ↦ absurd (other (ap (λ t. t.name) help) (ap (λ t. t.aliases) help))
-      | inr (inr (inr (inr (inr (inr none))))) ↦ absurd none
+      | inr (inr (inr (inr (inr (inl show))))) ↦ inr (
+        inr (inr (inr (inr (ap (λ t. t.name) show)))),
+        config_given s _ words show ((refl, refl, refl), ((refl, refl, refl), tt)) (inl (refl, refl)) refl none,
+        λ swarm. absurd (no_show s.name (ap (λ t. t.name) show) swarm),
+      )
+      | inr (inr (inr (inr (inr (inr (inl help)))))) ↦ absurd (other (ap (λ t. t.name) help) (ap (λ t. t.aliases) help))
+      | inr (inr (inr (inr (inr (inr (inr none)))))) ↦ absurd none
     ]
 
 meets_task : (words : List Text) → fault_of faultyard_command words ≡ [] → IsSomeAnd (subcommand_of faultyard_command words) IsTask

@@ -14,10 +14,11 @@ use Rattle.fy_acts.specs.declared.entry.Entry.{Entry}
 use Rattle.fy_spelling.specs.Command.{LineOf, LineAnswers}
 use Rattle.fy_spelling.specs.declared.command.Command.{Command}
 use Rattle.fy_spelling.specs.declared.command.LineFault.{LineFault}
-use Rattle.fy_spelling.specs.declared.command.LineFault.TheVariants as line_fault
+use Rattle.fy_spelling.specs.declared.command.CommandFault.{CommandFault}
+use Rattle.fy_spelling.specs.declared.command.CommandFault.TheVariants as command_fault
 use Rattle.fy_journal.specs.declared.version.Version.TheVariants.{Second}
 use Rattle.fy_audit.specs.AuditText.{header, entry_line, audit_text}
-use Rattle.fy_audit.specs.Script.{AreCommands, fault_at}
+use Rattle.fy_audit.specs.Script.{AreCommands}
 use Rattle.fy_audit.specs.declared.script.ScriptFault.TheVariants.{Line}
 use Rattle.fy_cluster.specs.Setup.{Setup, is_between, is_in_range}
 use Rattle.fy_cluster.specs.Replies.{Legal}
@@ -25,7 +26,7 @@ use Rattle.fy_cluster.specs.Survival.{by_and_act}
 use Rattle.fy_cluster.specs.Course.{Course, opened, entered, after_acts}
 use Rattle.faultyard.specs.RunTexts.{asked, IfRunRefusal}
 use Rattle.faultyard.specs.GuardTexts.{Answered, StopsAtLine, AnswersAll, AnswersBefore, AnswersSome, AnswersInTurn, AppendsAtLeast, entry_of, GivesCommand, NoCommand, NoAnswer}
-use Rattle.faultyard.specs.Stops.{script_stop, OfRun}
+use Rattle.faultyard.specs.Stops.{command_stop, OfRun}
 use Rattle.faultyard.specs.declared.stop.Stop.{Stop}
 use Rattle.faultyard.specs.declared.stop.Stop.TheVariants.{Script, JournalFull, Read, Write, NoMemory}
 use Rattle.faultyard.proofs.Acting.{acts_after, audit_of}
@@ -229,16 +230,13 @@ at_line None next line fault gives faulty = tt
 at_line (Some bytes) next line fault (rest, is, first) faulty = (line, lines_of rest, first, faulty)
 
 -- the next line is no command, by what its reader answers
-pub by_fault : (known next : Option (List ℕ)) (line : List ℕ) (number : ℕ) (fault : LineFault)
+pub by_fault : (known next : Option (List ℕ)) (line : List ℕ) (number : ℕ) (fault : CommandFault)
     (stop : Stop) → GivesLine known next line → LineAnswers line (Err fault) →
-    stop ≡ script_stop (fault_at number fault) → NoCommand known number stop
-by_fault known next line number line_fault.TooLong stop gives answers is =
-    NoCommand.faulty line_fault.TooLong is (at_line known next line line_fault.TooLong gives answers)
-by_fault known next line number line_fault.Syntax stop gives answers is =
-    NoCommand.faulty line_fault.Syntax is (at_line known next line line_fault.Syntax gives answers)
-by_fault known next line number line_fault.Floor stop gives answers is =
-    NoCommand.faulty line_fault.Floor is (at_line known next line line_fault.Floor gives answers)
-by_fault known next line number line_fault.NoMemory stop gives answers is = NoCommand.no_memory is
+    stop ≡ command_stop number fault → NoCommand known number stop
+by_fault known next line number (command_fault.Line fault) stop gives faulty is =
+    NoCommand.faulty fault is (at_line known next line fault gives faulty)
+by_fault known next line number command_fault.NoMemory stop gives answers is =
+    NoCommand.no_memory is
 
 -- the line behind those that were answered has no answer
 stops_before : (setup : Setup) (old left before out : Option (List ℕ)) (course : Course) (stop : Stop)

@@ -8,8 +8,8 @@ use Rattle.fy_decide.specs.declared.dead_book.MakeFault.TheVariants.{Unmet, NoMe
 use Rattle.fy_lines.specs.Lines.{lines_of}
 use Rattle.faultyard.specs.declared.stop.JudgeFault.{JudgeFault}
 use Rattle.faultyard.specs.declared.stop.Stop.TheVariants.{JudgeTooLong, JudgeLine, Read as StopRead, Write as StopWrite}
-use Rattle.faultyard.specs.declared.judge.input.LineFault.{LineFault}
-use Rattle.faultyard.specs.declared.judge.input.LineFault.TheVariants.{Fault, NoMemory as LineNoMemory}
+use Rattle.faultyard.specs.declared.judge.input.TakeFault.{TakeFault}
+use Rattle.faultyard.specs.declared.judge.input.TakeFault.TheVariants.{Fault, NoMemory as LineNoMemory}
 use Rattle.faultyard.specs.JudgeViews.{IfFault, line_stop_of}
 use Rattle.fy_decide.specs.Losses.{first_unmet}
 use Rattle.faultyard.specs.JudgeLines.{Input, nothing, said_of, Step, Says}
@@ -62,13 +62,13 @@ module _ (o : Option ℕ) (r : Result Casualties MakeFault) (refused : (k : ℕ)
       go (Some j) is = let e : r ≡ Err (Unmet j) = refused j is in is ∙ ap Some (let same : j ≡ k = cc in same)
 
 -- the stop for a line that is not taken is the refusal of the bytes
-pub line_refused : (bytes : List ℕ) (good : List (List ℕ)) (input : Input) (rest line next : List ℕ) (n : ℕ) (f : LineFault) → length bytes ≤ MOST_JUDGE_BYTES → lines_of bytes ≡ good ++ lines_of rest → lines_of rest ≡ line ∷ lines_of next → Says nothing good input
+pub line_refused : (bytes : List ℕ) (good : List (List ℕ)) (input : Input) (rest line next : List ℕ) (n : ℕ) (f : TakeFault) → length bytes ≤ MOST_JUDGE_BYTES → lines_of bytes ≡ good ++ lines_of rest → lines_of rest ≡ line ∷ lines_of next → Says nothing good input
     → n ≡ length good → IfFault f (λ fault. Step input (said_of line) (Err fault)) → IfRefusal (line_stop_of (n + 1) f) (Judges bytes (Err (line_stop_of (n + 1) f)))
 line_refused bytes good input rest line next n (Fault fault) short split first said count step = first_fault bytes good input rest line next n fault short split first said count step
 line_refused bytes good input rest line next n LineNoMemory short split first said count step = tt
 
 -- it is no fault of a reader or a writer
-pub line_stop-other : (n : ℕ) (f : LineFault) → (line_stop_of n f ≢ StopRead) × (line_stop_of n f ≢ StopWrite)
+pub line_stop-other : (n : ℕ) (f : TakeFault) → (line_stop_of n f ≢ StopRead) × (line_stop_of n f ≢ StopWrite)
 line_stop-other n (Fault fault) = (λ e. let x : ⊥ = cc in x, λ e. let x : ⊥ = cc in x)
 line_stop-other n LineNoMemory = (λ e. let x : ⊥ = cc in x, λ e. let x : ⊥ = cc in x)
 

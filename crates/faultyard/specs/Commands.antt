@@ -6,7 +6,7 @@ use Rattle.clap.specs.Words.{new_rule, with_rule, with_subcommand}
 use Rattle.clap.specs.declared.builder.action.ArgAction.TheVariants.{Set}
 use Rattle.clap.specs.declared.builder.value_parser.ValueParser.TheVariants.{Unsigned}
 use Rattle.faultyard.specs.declared.task.Task.{Task}
-use Rattle.faultyard.specs.declared.task.Task.TheVariants.{Judge, Run, Check, Swarm, Guard}
+use Rattle.faultyard.specs.declared.task.Task.TheVariants.{Judge, Run, Check, Swarm, Guard, Show}
 
 -- `faultyard` without its subcommands, of which it wants one; it has a version
 abbrev pub bare_command : App
@@ -52,16 +52,22 @@ swarm_command = with_rule (with_rule (new_app (codes "swarm")) config_rule) seed
 abbrev pub guard_command : App
 guard_command = with_rule (new_app (codes "guard")) config_rule
 
+-- the subcommand `show`, which takes a cluster file
+abbrev pub show_command : App
+show_command = with_rule (new_app (codes "show")) config_rule
+
 -- the command line of `faultyard`
 abbrev pub faultyard_command : App
 faultyard_command =
     with_subcommand
     (with_subcommand
     (with_subcommand
+    (with_subcommand
     (with_subcommand (with_subcommand bare_command judge_command.top) run_command.top)
     check_command.top)
     swarm_command.top)
-    guard_command.top
+    guard_command.top)
+    show_command.top
 
 -- the text of a seed: a whole number of 64 bits
 abbrev pub IsSeed : Text → Type 0
@@ -83,6 +89,8 @@ StandsFor met (Swarm config seed) =
     × (option_map seed_in (one_of (codes "seed") met.1) ≡ Some seed)
 StandsFor met (Guard config) =
     (met.0 ≡ codes "guard") × (first_of (codes "CONFIG") met.1 ≡ Some config.now)
+StandsFor met (Show config) =
+    (met.0 ≡ codes "show") × (first_of (codes "CONFIG") met.1 ≡ Some config.now)
 
 -- the task is the one that the matches' subcommand stands for
 abbrev pub IsTaskOf : Option (Text × List Row) → Task → Type 0

@@ -4,8 +4,8 @@ use Rattle.std.specs.List.{AllByRecursion}
 use Rattle.faultyard.specs.declared.stop.JudgeFault.{JudgeFault}
 use Rattle.faultyard.specs.declared.stop.Stop.{Stop}
 use Rattle.faultyard.specs.declared.stop.Stop.TheVariants.{JudgeLine, NoMemory as StopNoMemory}
-use Rattle.faultyard.specs.declared.judge.input.LineFault.{LineFault}
-use Rattle.faultyard.specs.declared.judge.input.LineFault.TheVariants.{Fault, NoMemory}
+use Rattle.faultyard.specs.declared.judge.input.TakeFault.{TakeFault}
+use Rattle.faultyard.specs.declared.judge.input.TakeFault.TheVariants.{Fault, NoMemory}
 use Rattle.faultyard.specs.declared.stop.JudgeFault.TheVariants.{Policy, Twice, TooMany}
 use Rattle.fy_policy.specs.declared.fault.PolicyFault.{PolicyFault}
 use Rattle.fy_policy.specs.declared.fault.PolicyFault.TheVariants.{NoMemory as no_memory}
@@ -17,22 +17,22 @@ abbrev pub IsWord : List ℕ → Type 0
 IsWord bytes = AllByRecursion (λ b. b ≢ 32) bytes
 
 -- a fact for a line's fault; none for want of memory
-abbrev pub IfFault : LineFault → (JudgeFault → Type 0) → Type 0
+abbrev pub IfFault : TakeFault → (JudgeFault → Type 0) → Type 0
 IfFault (Fault fault) P = P fault
 IfFault NoMemory P = Unit {0}
 
 -- the fault of a policy's line, by why its text is none
-abbrev pub policy_fault_of : PolicyFault → LineFault
+abbrev pub policy_fault_of : PolicyFault → TakeFault
 policy_fault_of no_memory = NoMemory
 policy_fault_of _ = Fault Policy
 
 -- the fault of a process's line, by why the process was not added
-abbrev pub process_fault_of : MapFault → LineFault
+abbrev pub process_fault_of : MapFault → TakeFault
 process_fault_of map_twice = Fault Twice
 process_fault_of map_too_many = Fault TooMany
 process_fault_of _ = NoMemory
 
 -- the stop for a line that is not taken
-abbrev pub line_stop_of : ℕ → LineFault → Stop
+abbrev pub line_stop_of : ℕ → TakeFault → Stop
 line_stop_of line (Fault fault) = JudgeLine line fault
 line_stop_of line NoMemory = StopNoMemory

@@ -9,4 +9,5 @@ pub mod RunTexts
 pub mod GuardTexts
 pub mod CheckTexts
 pub mod Outputs
+pub mod ShowTexts
 pub mod Swarm

@@ -2,6 +2,8 @@
 use Rattle.std.specs.Prelude.{ℕ, List, ◌++◌, codes, decimal}
 use Rattle.fy_spelling.specs.declared.command.LineFault.{LineFault}
 use Rattle.fy_spelling.specs.declared.command.LineFault.TheVariants as line
+use Rattle.fy_spelling.specs.declared.command.CommandFault.{CommandFault}
+use Rattle.fy_spelling.specs.declared.command.CommandFault.TheVariants as command
 use Rattle.fy_audit.specs.declared.script.ScriptFault.{ScriptFault}
 use Rattle.fy_audit.specs.declared.script.ScriptFault.TheVariants as script
 use Rattle.fy_audit.specs.declared.audit.AuditLineFault.{AuditLineFault}
@@ -31,7 +33,6 @@ abbrev pub line_word : LineFault → List ℕ
 line_word line.TooLong = codes "TooLong"
 line_word line.Syntax = codes "Syntax"
 line_word line.Floor = codes "Floor"
-line_word line.NoMemory = codes "NoMemory"
 
 -- the word for a fault of a line of an audit
 abbrev pub audit_line_word : AuditLineFault → List ℕ
@@ -116,6 +117,11 @@ stop_status NoMemory = 4
 abbrev pub config_stop : ConfigFault → Stop
 config_stop config.NoMemory = NoMemory
 config_stop fault = Config fault
+
+-- the stop for a line of a script of which no command is read, by the line's number
+abbrev pub command_stop : ℕ → CommandFault → Stop
+command_stop number (command.Line fault) = Script (script.Line number fault)
+command_stop number command.NoMemory = NoMemory
 
 -- the stop for a script that is refused
 abbrev pub script_stop : ScriptFault → Stop

@@ -18,7 +18,7 @@ use std::alloc::Global;
 use std::io::{Read, Write};
 
 /// The stop for an audit that is refused.
-fn audit_stop(fault: AuditFault) -> Stop
+pub(crate) fn audit_stop(fault: AuditFault) -> Stop
     ensures stop { result ≡ audit_stop fault }
     ensures own { OfCheck result }
     ensures no_output { result ≢ Stop.Read × result ≢ Stop.Write }
@@ -30,7 +30,7 @@ fn audit_stop(fault: AuditFault) -> Stop
 }
 
 /// The bytes of the audit that a reader gives.
-fn load_bytes<R: Read>(alloc: Global, reader: &mut R) -> Result<Vec<u8>, Stop>
+pub(crate) fn load_bytes<R: Read>(alloc: Global, reader: &mut R) -> Result<Vec<u8>, Stop>
     ensures read { IfOk result (λ read. IfSome (R.remaining reader.old)
         (λ bytes. read.items ≡ bytes)) }
     ensures refused { IfErr result (λ stop. IfAuditFault stop
@@ -53,16 +53,16 @@ fn load_bytes<R: Read>(alloc: Global, reader: &mut R) -> Result<Vec<u8>, Stop>
 }
 
 /// What is found of an audit.
-struct Finding {
+pub(crate) struct Finding {
     /// How many entries it has.
-    count: u32,
+    pub(crate) count: u32,
     /// The place of the first bad one; `None` where all are what the rules give.
-    first_bad: Option<u32>,
+    pub(crate) first_bad: Option<u32>,
 }
 
 /// Reads an audit entry by entry, and has each checked as it is read. Behind a bad entry the rest
 /// is read for its faults.
-fn find(alloc: Global, config: &Config, bytes: &[u8]) -> Result<Finding, Stop>
+pub(crate) fn find(alloc: Global, config: &Config, bytes: &[u8]) -> Result<Finding, Stop>
     ensures found { IfOk result (IsFound config.now bytes.now) }
     ensures refused { IfErr result (λ stop. IfAuditFault stop
         (λ fault. AuditOf bytes.now (Err fault))) }

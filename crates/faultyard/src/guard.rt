@@ -5,41 +5,47 @@ ghost use Rattle.std.specs.Io.KnownBytes.{Appends, IsAtEnd, Keeps};
 ghost use Rattle.fy_lines.specs.Fronts.{StopsShort};
 ghost use Rattle.fy_lines.specs.Readings.{ReadsWithinLine};
 ghost use Rattle.fy_audit.specs.AuditText.{entry_line};
-ghost use Rattle.fy_audit.specs.Script.{fault_at};
+ghost use Rattle.fy_audit.specs.declared.script.ScriptFault.TheVariants.{Line};
 ghost use Rattle.fy_cluster.specs.Course.{entered};
 ghost use Rattle.fy_cluster.specs.Replies.{Legal};
 ghost use Rattle.faultyard.specs.GuardTexts.{AnswersAll, AnswersBefore, AnswersSome, AnswersInTurn, AppendsAtLeast, entry_of, GivesCommand, NoCommand, NoAnswer};
 ghost use Rattle.faultyard.specs.RunTexts.{IfRunRefusal};
-ghost use Rattle.faultyard.specs.Stops.{script_stop, OfRun};
+ghost use Rattle.faultyard.specs.Stops.{command_stop, OfRun};
 
 use crate::audit::{header_text, put_line};
 use crate::stop::Stop;
 use fy_audit::{Command, LineFault, MOST_LINE_BYTES, ScriptFault, Version};
 use fy_cluster::{Cluster, Config, Fault};
 use fy_lines::{InputFault, next_line, write_bytes};
-use fy_spelling::read_command;
+use fy_spelling::{CommandFault, read_command};
 use std::alloc::Global;
 use std::io::{BufRead, Write};
 
 /// The stop for a line that is no command.
 fn line_stop(number: u32, fault: LineFault) -> Stop
-    ensures { result ≡ script_stop (fault_at number fault) }
+    ensures { result ≡ Stop.Script (Line number fault) }
+{
+    Stop::Script {
+        fault: ScriptFault::Line { number, fault },
+    }
+}
+
+/// The stop for a line of which no command is read.
+fn command_stop(number: u32, fault: CommandFault) -> Stop
+    ensures { result ≡ command_stop number fault }
 {
     match fault {
-        LineFault::NoMemory => Stop::NoMemory,
-        fault => Stop::Script {
-            fault: ScriptFault::Line { number, fault },
-        },
+        CommandFault::Line(fault) => line_stop(number, fault),
+        CommandFault::NoMemory => Stop::NoMemory,
     }
 }
 
 /// The command of the next line, which has this number; none where the reader is at its end. The
-/// buffers are for the line and for its reading.
+/// buffer is for the line.
 fn next_command<R: BufRead>(
     alloc: Global,
     reader: &mut R,
     line: &mut Vec<u8>,
-    room: &mut Vec<u8>,
     number: u32,
 ) -> Result<Option<Command>, Stop>
     ensures some { IfOk result (λ next. IfSome next
@@ -55,9 +61,9 @@ fn next_command<R: BufRead>(
         Err(InputFault::Reader) => return Err(Stop::Read),
         Err(InputFault::NoMemory) => return Err(Stop::NoMemory),
     }
-    match read_command(alloc, line, room) {
+    match read_command(alloc, line) {
         Ok(command) => Ok(Some(command)),
-        Err(fault) => Err(line_stop(number, fault)),
+        Err(fault) => Err(command_stop(number, fault)),
     }
 }
 
@@ -149,10 +155,10 @@ pub fn run_guard<R: BufRead, W: Write>(
     let Ok(()) = write_bytes(writer, header_text(Version::Second).as_bytes()) else {
         return Err(Stop::Write);
     };
-    let (mut line, mut room, mut text) = (Vec::new(alloc), Vec::new(alloc), Vec::new(alloc));
+    let (mut line, mut text) = (Vec::new(alloc), Vec::new(alloc));
     let mut number = 1;
     'lines: loop {
-        let command = match next_command(alloc, reader, &mut line, &mut room, number) {
+        let command = match next_command(alloc, reader, &mut line, number) {
             Ok(Some(command)) => command,
             Ok(None) => return Ok(true),
             Err(stop) => return Err(stop),

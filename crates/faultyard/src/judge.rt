@@ -17,7 +17,7 @@ use crate::stop::{JudgeFault, Stop};
 use answer::answer_asks;
 use fy_decide::{DeadBook, MakeFault};
 use fy_lines::{InputFault, OutputFault, first_line, read_limited, write_bytes};
-use input::{Input, LineFault};
+use input::{Input, TakeFault};
 use std::alloc::Global;
 use std::io::{Read, Write};
 
@@ -25,13 +25,13 @@ use std::io::{Read, Write};
 pub const MOST_JUDGE_BYTES: usize = 1_048_576;
 
 /// The stop for a line that is not taken.
-fn line_stop(line: u32, fault: LineFault) -> Stop
+fn line_stop(line: u32, fault: TakeFault) -> Stop
     ensures stop { result ≡ line_stop_of line fault }
     ensures own { OfJudge result }
 {
     match fault {
-        LineFault::Fault(fault) => Stop::JudgeLine { line, fault },
-        LineFault::NoMemory => Stop::NoMemory,
+        TakeFault::Fault(fault) => Stop::JudgeLine { line, fault },
+        TakeFault::NoMemory => Stop::NoMemory,
     }
 }
 

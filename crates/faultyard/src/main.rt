@@ -7,6 +7,7 @@ mod guard;
 mod judge;
 mod load;
 mod run;
+mod show;
 mod stop;
 mod swarm;
 mod task;
@@ -17,6 +18,7 @@ use guard::run_guard;
 use judge::run_judge;
 use load::load_config;
 use run::run_script;
+use show::run_show;
 use std::io::{BufReader, ErrorKind};
 use std::process::ExitCode;
 use std::{env, fs};
@@ -27,7 +29,7 @@ use task::{Task, read_task};
 /// The status of a program whose words are no command.
 const USAGE: u8 = 2;
 
-/// The status of `check` where an entry isn't what the rules give.
+/// The status of `check` and `show` where an entry isn't what the rules give.
 const REFUTED: u8 = 5;
 
 fn main(rt: HostRuntime) -> ExitCode {
@@ -40,6 +42,7 @@ fn main(rt: HostRuntime) -> ExitCode {
         Ok(Task::Run(path)) => run_file(&rt, path),
         Ok(Task::Check(path)) => check_file(&rt, path),
         Ok(Task::Guard(path)) => guard_file(&rt, path),
+        Ok(Task::Show(path)) => show_file(&rt, path),
         // Threads are main's to give.
         Ok(Task::Swarm(path, seed)) => match open_config(&rt, path) {
             Ok(config) => run_swarm(&rt, rt.alloc(), &config, seed, &mut rt.stdout()),
@@ -66,6 +69,14 @@ fn run_file(rt: &HostRuntime, path: &str) -> Result<bool, Stop> {
 fn check_file(rt: &HostRuntime, path: &str) -> Result<bool, Stop> {
     match open_config(rt, path) {
         Ok(config) => run_check(rt.alloc(), &config, &mut rt.stdin(), &mut rt.stdout()),
+        Err(stop) => Err(stop),
+    }
+}
+
+/// Draws the audit on standard input on the cluster of a file.
+fn show_file(rt: &HostRuntime, path: &str) -> Result<bool, Stop> {
+    match open_config(rt, path) {
+        Ok(config) => run_show(rt.alloc(), &config, &mut rt.stdin(), &mut rt.stdout()),
         Err(stop) => Err(stop),
     }
 }

@@ -122,7 +122,6 @@ fn line_ending(fault: LineFault) -> &'static str
         LineFault::TooLong => ": TooLong\n",
         LineFault::Syntax => ": Syntax\n",
         LineFault::Floor => ": Floor\n",
-        LineFault::NoMemory => ": NoMemory\n",
     }
 }
 

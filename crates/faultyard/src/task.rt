@@ -5,22 +5,14 @@ ghost use Rattle.std.specs.Prelude.{option_map, string_bytes, true, false};
 ghost use Rattle.clap.specs.Words.{FailsBy, app_of, fault_of, first_of, found_of, rows_of};
 ghost use Rattle.clap.specs.Words.{one_of, subcommand_of};
 ghost use Rattle.clap.specs.Walk.{rule_of};
-ghost use Rattle.faultyard.specs.Commands.{IsTaskOf, faultyard_command, judge_command};
+ghost use Rattle.faultyard.specs.Commands.{IsTaskOf, faultyard_command, bare_command, judge_command};
 ghost use Rattle.faultyard.specs.Commands.{config_rule, run_command, check_command};
-ghost use Rattle.faultyard.specs.Commands.{seed_rule, swarm_command, guard_command, IsSeed, seed_in};
+ghost use Rattle.faultyard.specs.Commands.{seed_rule, swarm_command, guard_command, show_command, IsSeed, seed_in};
 
 use clap::{Arg, ArgAction, ArgMatches, Command, value_parser};
 use std::alloc::{AllocError, Global};
 
-/// Lines to paste, which the help of the program ends with.
-const EXAMPLES: &str = "Examples:
-  faultyard judge < examples/c6.judge
-  faultyard run examples/c6.toml < examples/two-zones.jsonl
-  faultyard check examples/c6.toml < examples/two-zones.audit
-  faultyard swarm examples/c6.toml --seed 7
-  faultyard guard examples/c6.toml < examples/two-zones.jsonl";
-
-/// An example, and behind it the exit statuses, which the help of each command ends with.
+/// Examples, and behind them the exit statuses, which each help ends with.
 macro_rules! with_statuses {
     ($example:literal) => {
         concat!(
@@ -33,10 +25,21 @@ Exit status:
   2  the command line is refused
   3  a read or a write failed, or the cluster file can't be opened
   4  memory was refused
-  5  check: an entry of the audit isn't what the rules give"
+  5  check, show: an entry of the audit isn't what the rules give"
         )
     };
 }
+
+/// Lines to paste and the exit statuses, which the help of the program ends with.
+const EXAMPLES: &str = with_statuses!(
+    "Examples:
+  faultyard judge < examples/c6.judge
+  faultyard run examples/c6.toml < examples/two-zones.jsonl
+  faultyard check examples/c6.toml < examples/two-zones.audit
+  faultyard swarm examples/c6.toml --seed 7
+  faultyard guard examples/c6.toml < examples/two-zones.jsonl
+  faultyard show examples/c6.toml < examples/bad-day.audit > bad-day.svg"
+);
 
 /// What the program is asked to do.
 #[derive(Clone, Copy, Debug, PartialEq, Eq)]
@@ -53,6 +56,8 @@ pub enum Task<'a> {
     /// `faultyard guard CONFIG`: answer each line of the script on standard input at once, on the
     /// cluster of a file.
     Guard(&'a str),
+    /// `faultyard show CONFIG`: draw the audit on standard input on the cluster of a file.
+    Show(&'a str),
 }
 
 /// The subcommand `judge`, with its help.
@@ -136,9 +141,21 @@ fn guard<'a>(alloc: Global) -> Result<Command<'a>, AllocError>
         .arg(config(alloc))
 }
 
-/// The command line of `faultyard`: one subcommand is wanted, and each has help of its own.
-fn faultyard<'a>(alloc: Global) -> Result<Command<'a>, AllocError>
-    ensures { IfOk result (λ command. app_of command ≡ faultyard_command) }
+/// The subcommand `show`, with its help.
+fn show<'a>(alloc: Global) -> Result<Command<'a>, AllocError>
+    ensures { IfOk result (λ command. app_of command ≡ show_command) }
+{
+    Command::new(alloc, "show")
+        .about("Draws the audit on standard input as a picture, an SVG file")
+        .after_help(with_statuses!(
+            "Example:\n  faultyard show examples/c6.toml < examples/bad-day.audit > bad-day.svg"
+        ))
+        .arg(config(alloc))
+}
+
+/// The command line without its subcommands, of which one is wanted.
+fn bare<'a>(alloc: Global) -> Command<'a>
+    ensures { app_of result ≡ bare_command }
 {
     Command::new(alloc, "faultyard")
         .about(
@@ -147,11 +164,19 @@ fn faultyard<'a>(alloc: Global) -> Result<Command<'a>, AllocError>
         .after_help(EXAMPLES)
         .version("0.1.0")
         .subcommand_required(true)
+}
+
+/// The command line of `faultyard`: one subcommand is wanted, and each has help of its own.
+fn faultyard<'a>(alloc: Global) -> Result<Command<'a>, AllocError>
+    ensures { IfOk result (λ command. app_of command ≡ faultyard_command) }
+{
+    bare(alloc)
         .subcommand(judge(alloc))?
         .subcommand(run(alloc)?)?
         .subcommand(check(alloc)?)?
         .subcommand(swarm(alloc)?)?
-        .subcommand(guard(alloc)?)
+        .subcommand(guard(alloc)?)?
+        .subcommand(show(alloc)?)
 }
 
 /// The task that the words ask for; the first word is the program's name.
@@ -175,6 +200,7 @@ pub fn read_task<'a>(alloc: Global, words: &'a [String]) -> Result<Task<'a>, cla
         "check" => Ok(Task::Check(config_of(given))),
         "swarm" => Ok(Task::Swarm(config_of(given), seed_of(given))),
         "guard" => Ok(Task::Guard(config_of(given))),
+        "show" => Ok(Task::Show(config_of(given))),
         _ => unreachable!(),
     }
 }

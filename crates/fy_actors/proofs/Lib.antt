@@ -1,4 +1,5 @@
 pub mod Adding
 pub mod Drawing
 pub mod Playing
+pub mod Sent
 pub mod Working

@@ -14,7 +14,7 @@ use Rattle.fy_actors.specs.declared.desk.Turn.{Turn}
 use Rattle.fy_actors.specs.declared.desk.Turn.TheVariants.{More, Ended}
 use Rattle.fy_actors.specs.declared.driver.Team.{Team}
 use Rattle.fy_actors.specs.declared.driver.Team.TheVariants.{Unformed, Formed, Refused}
-use Rattle.fy_actors.specs.Desk.{Bench, told, receipt, acted, entries_by}
+use Rattle.fy_actors.specs.Desk.{Bench, desk_reply, receipt, acted, entries_by}
 use Rattle.fy_actors.specs.Turns.{TakesTurn, turn_where}
 use Rattle.fy_actors.specs.Agendas.{Agenda, next_of, has_left, one_made, FollowsAgenda}
 use Rattle.fy_actors.specs.Drives.{Drive, act_while, next_act, driven, is_refused, goes_on, Drives}

@@ -25,13 +25,13 @@ laid course =
     record { setup = course.setup; journal = course.journal; actor = 0; receipts = [] }
 
 -- the reply to an act of who sits there
-abbrev pub told : Bench → Act → Reply
-told desk act = replied (course_of desk) desk.actor act
+abbrev pub desk_reply : Bench → Act → Reply
+desk_reply desk act = replied (course_of desk) desk.actor act
 
 -- the entry of an act
 abbrev pub receipt : Bench → Act → Entry
 receipt desk act =
-    record { at = length desk.journal; by = desk.actor; act = act; reply = told desk act }
+    record { at = length desk.journal; by = desk.actor; act = act; reply = desk_reply desk act }
 
 -- the desk once an act is made: its entry is the last of the journal and of the receipts
 abbrev pub acted : Bench → Act → Bench

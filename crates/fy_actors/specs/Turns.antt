@@ -6,7 +6,7 @@ use Rattle.fy_cluster.specs.declared.fault.Fault.{Fault}
 use Rattle.fy_cluster.specs.declared.fault.Fault.TheVariants.{JournalFull}
 use Rattle.fy_actors.specs.declared.desk.Turn.{Turn}
 use Rattle.fy_actors.specs.declared.desk.Turn.TheVariants.{More, Ended}
-use Rattle.fy_actors.specs.Desk.{Bench, told, acted}
+use Rattle.fy_actors.specs.Desk.{Bench, desk_reply, acted}
 
 -- more turns come where acts are left
 abbrev pub turn_where : Bool → Turn
@@ -21,7 +21,7 @@ pub record IsHeldUp {A : Type 0} (was now : A × Bench) (fault : Fault) : Type 0
 -- this act was made, and the actor went on by its reply; it has ended where it has no act left
 pub record IsMade {A : Type 0} (went_on : A → Reply → A) (has_left : A → Bool) (act : Act)
     (was now : A × Bench) (took : Turn) : Type 0 where
-  pub made : now ≡ (went_on was.0 (told was.1 act), acted was.1 act)
+  pub made : now ≡ (went_on was.0 (desk_reply was.1 act), acted was.1 act)
   pub ends : took ≡ turn_where (has_left now.0)
 
 -- a turn of an actor at a desk, by the act that comes next: without one nothing is done and it has

@@ -5,7 +5,7 @@ ghost use Rattle.fy_cluster.specs.Course.{history_of};
 ghost use Rattle.fy_cluster.specs.Sights.{Sees};
 ghost use Rattle.fy_cluster.specs.Survival.{Survives};
 ghost use Rattle.fy_cluster.specs.declared.fault.Fault.TheVariants.{JournalFull};
-ghost use Rattle.fy_actors.specs.Desk.{course_of, laid, told, acted, Worked};
+ghost use Rattle.fy_actors.specs.Desk.{course_of, laid, desk_reply, acted, Worked};
 
 use fy_cluster::{Cluster, Fault, MOST_JOURNAL_ENTRIES, Sight};
 use fy_journal::{Act, Entry, Reply};
@@ -158,7 +158,7 @@ impl Desk {
     pub fn act(&mut self, act: Act) -> Result<Reply, Fault>
         ensures full { (self.old.setup.limit ≤ length self.old.journal)
             ↔ (result ≡ Err JournalFull) }
-        ensures replied { IfOk result (λ reply. reply ≡ told self.old act) }
+        ensures replied { IfOk result (λ reply. reply ≡ desk_reply self.old act) }
         ensures acted { OnOk result (self.new ≡ acted self.old act) }
         ensures err { OnErr result (self.new ≡ self.old) }
         ensures worked { Worked self.old self.new }

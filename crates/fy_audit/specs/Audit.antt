@@ -13,9 +13,9 @@ use Rattle.fy_audit.specs.declared.audit.AuditFault.{AuditFault}
 use Rattle.fy_audit.specs.declared.audit.AuditFault.TheVariants.{TooLong, Line, NoMemory}
 use Rattle.fy_audit.specs.declared.audit.AuditLineFault.{AuditLineFault}
 use Rattle.fy_audit.specs.declared.audit.AuditLineFault.TheVariants as of_line
-use Rattle.fy_audit.specs.declared.reader.Stop.{Stop}
-use Rattle.fy_audit.specs.declared.reader.Stop.TheVariants as stop
-use Rattle.fy_audit.specs.declared.reader.Stop.TheVariants.{Faulty}
+use Rattle.fy_audit.specs.declared.reader.NoEntry.{NoEntry}
+use Rattle.fy_audit.specs.declared.reader.NoEntry.TheVariants as no_entry
+use Rattle.fy_audit.specs.declared.reader.NoEntry.TheVariants.{Faulty}
 use Rattle.fy_journal.specs.declared.version.Version.{Version}
 
 -- what an audit tells: a version and the entries of a journal, the oldest first
@@ -102,6 +102,6 @@ pub record BeginsWith (version : Version) (place : ℕ) (rest : List ℕ) (entry
   pub may : MayStand version place entry
 
 -- why a reader may stop before what is left of an audit
-abbrev pub StopsAt : Version → ℕ → List ℕ → Stop → Type 0
+abbrev pub StopsAt : Version → ℕ → List ℕ → NoEntry → Type 0
 StopsAt version place rest (Faulty fault) = BeginsFaulty version place rest fault
-StopsAt version place rest stop.NoMemory = ⊤
+StopsAt version place rest no_entry.NoMemory = ⊤

@@ -4,7 +4,6 @@ use Rattle.fy_lines.specs.Lines.{lines_of}
 use Rattle.fy_spelling.specs.Command.{LineOf}
 use Rattle.fy_spelling.specs.declared.command.Command.{Command}
 use Rattle.fy_spelling.specs.declared.command.LineFault.{LineFault}
-use Rattle.fy_spelling.specs.declared.command.LineFault.TheVariants as line
 use Rattle.fy_audit.specs.declared.script.TheConstants.{MOST_SCRIPT_BYTES}
 use Rattle.fy_audit.specs.declared.script.ScriptFault.{ScriptFault}
 use Rattle.fy_audit.specs.declared.script.ScriptFault.TheVariants.{TooLong, Line, NoMemory}
@@ -36,13 +35,6 @@ ScriptOf bytes (Err TooLong) = MOST_SCRIPT_BYTES < length bytes
 ScriptOf bytes (Err (Line number fault)) =
     (length bytes ≤ MOST_SCRIPT_BYTES) × FirstFaulty (lines_of bytes) number fault
 ScriptOf bytes (Err NoMemory) = ⊥
-
--- the fault of a script by that of its line with a number
-abbrev pub fault_at : ℕ → LineFault → ScriptFault
-fault_at number line.TooLong = Line number line.TooLong
-fault_at number line.Syntax = Line number line.Syntax
-fault_at number line.Floor = Line number line.Floor
-fault_at number line.NoMemory = NoMemory
 
 -- what a reader may answer: what the bytes are, or that there was no memory, which takes the place
 -- of any answer but TooLong

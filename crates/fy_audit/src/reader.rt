@@ -42,7 +42,7 @@ impl<'b> Model for AuditReader<'b> {
 
 /// Why no entry is had of what is left of an audit.
 #[derive(Clone, Copy)]
-enum Stop {
+enum NoEntry {
     /// Its first line is faulty.
     Faulty(AuditLineFault),
     /// There is no memory for it.
@@ -145,7 +145,7 @@ fn first_entry<'b>(
     version: Version,
     place: u32,
     room: &mut Vec<u8>,
-) -> Result<(Entry, &'b [u8]), Stop>
+) -> Result<(Entry, &'b [u8]), NoEntry>
     requires { 0 < length rest.now }
     ensures found { IfOk result (λ found. BeginsWith version place rest.now found.0 found.1.now) }
     ensures fault { IfErr result (λ fault. StopsAt version place rest.now fault) }
@@ -155,22 +155,22 @@ fn first_entry<'b>(
     a_text_is_of_one_entry();
     let (line, after) = first_line(rest);
     if line.len() > MOST_LINE_BYTES {
-        return Err(Stop::Faulty(AuditLineFault::TooLong));
+        return Err(NoEntry::Faulty(AuditLineFault::TooLong));
     }
     // A last line without its line feed is all that is left.
     if line.len() == rest.len() {
-        return Err(Stop::Faulty(AuditLineFault::Syntax));
+        return Err(NoEntry::Faulty(AuditLineFault::Syntax));
     }
     match read_entry(alloc, line, room) {
         Ok(entry) => {
             if entry.at == place && has_entry(version, &entry) {
                 Ok((entry, after))
             } else {
-                Err(Stop::Faulty(AuditLineFault::Syntax))
+                Err(NoEntry::Faulty(AuditLineFault::Syntax))
             }
         }
-        Err(EntryFault::Syntax) => Err(Stop::Faulty(AuditLineFault::Syntax)),
-        Err(EntryFault::NoMemory) => Err(Stop::NoMemory),
+        Err(EntryFault::Syntax) => Err(NoEntry::Faulty(AuditLineFault::Syntax)),
+        Err(EntryFault::NoMemory) => Err(NoEntry::NoMemory),
     }
 }
 
@@ -247,11 +247,11 @@ impl<'b> AuditReader<'b> {
                 self.rest = after;
                 Ok(entry)
             }
-            Err(Stop::Faulty(fault)) => Err(AuditFault::Line {
+            Err(NoEntry::Faulty(fault)) => Err(AuditFault::Line {
                 number: self.place + 2,
                 fault,
             }),
-            Err(Stop::NoMemory) => Err(AuditFault::NoMemory),
+            Err(NoEntry::NoMemory) => Err(AuditFault::NoMemory),
         }
     }
 }

@@ -1,9 +1,9 @@
 //! Scripts: what many actors ask for, a command a line.
 ghost use Rattle.std.specs.Prelude.{◌≡◌, IfOk, IfErr, Ok, Err};
-ghost use Rattle.fy_audit.specs.Script.{ScriptOf, ScriptAnswers, fault_at};
+ghost use Rattle.fy_audit.specs.Script.{ScriptOf, ScriptAnswers};
 
 use fy_lines::first_line;
-use fy_spelling::{Command, LineFault, read_command};
+use fy_spelling::{Command, CommandFault, LineFault, read_command};
 use std::alloc::{AllocFailed, Global};
 
 /// How many bytes a script may have: 16,777,216.
@@ -31,16 +31,6 @@ impl<T: Drop> From<AllocFailed<T>> for ScriptFault {
     }
 }
 
-/// The fault of a script by that of one of its lines.
-fn line_fault(number: u32, fault: LineFault) -> ScriptFault
-    ensures { result ≡ fault_at number fault }
-{
-    match fault {
-        LineFault::NoMemory => ScriptFault::NoMemory,
-        fault => ScriptFault::Line { number, fault },
-    }
-}
-
 /// The commands of a script, one for each line. The last line may lack its line feed, and a script
 /// of no bytes has no lines.
 ///
@@ -56,15 +46,15 @@ pub fn read_script(alloc: Global, bytes: &[u8]) -> Result<Vec<Command>, ScriptFa
         return Err(ScriptFault::TooLong);
     }
     let mut commands = Vec::new(alloc);
-    let mut room = Vec::new(alloc);
     let mut rest = bytes;
     let mut number = 0;
     while !rest.is_empty() {
         let (line, next) = first_line(rest);
         number += 1;
-        match read_command(alloc, line, &mut room) {
+        match read_command(alloc, line) {
             Ok(command) => commands.push(command)?,
-            Err(fault) => return Err(line_fault(number, fault)),
+            Err(CommandFault::Line(fault)) => return Err(ScriptFault::Line { number, fault }),
+            Err(CommandFault::NoMemory) => return Err(ScriptFault::NoMemory),
         }
         rest = next;
     }

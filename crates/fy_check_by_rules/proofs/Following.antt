@@ -1,11 +1,11 @@
 -- one step more of a legal journal
-use Rattle.std.proofs.Common.{◌≡◌, ◌↔◌, ℕ, ◌+◌, ◌<◌, ◌≤◌, Bool, true, false, List, [], ◌∷◌, ◌++◌, length, take, get_or, IsTrue, refl, sym, ◌∙◌, ap, ap₂, subst, arith, length-append}
+use Rattle.std.proofs.Common.{◌≡◌, ℕ, ◌+◌, ◌<◌, ◌≤◌, Bool, true, false, List, [], ◌∷◌, ◌++◌, length, take, get_or, refl, sym, ◌∙◌, ap, subst, arith, length-append}
 use Rattle.std.specs.Bool.{Decides}
 use Rattle.fy_acts.specs.declared.entry.Entry.{Entry}
 use Rattle.fy_acts.specs.declared.reply.Reply.{Reply}
 use Rattle.fy_journal.specs.declared.version.Version.{Version}
 use Rattle.fy_cluster.specs.Setup.{Setup}
-use Rattle.fy_cluster.specs.History.{moment, history}
+use Rattle.fy_cluster.specs.History.{moment}
 use Rattle.fy_cluster.specs.Replies.{reply}
 use Rattle.fy_cluster.specs.Survival.{MomentsEntered}
 use Rattle.fy_cluster.specs.Versions.{LegalUnder, NextLegalUnder}
@@ -26,11 +26,11 @@ replied_so law version c before e steps answered same are place limit known righ
     by_reply law version c before e answered same are.legal known (let room : length before < c.limit = omega (arith, limit, are.count) in room) place (right ∙ ap (λ h. reply c h e.by e.act) are.past) decides
 
 -- the step of the entry is put last
-pub put_last : MomentsEntered → (version : Version) (c : Setup) (before : List Entry) (e : Entry) (steps new : List Step) (s : Step) → AreStepsOf version c before steps → new ≡ steps ++ s ∷ [] → moment_of (past steps) s ≡ moment c (past steps) e
-    → LegalUnder version c (before ++ e ∷ []) → AreStepsOf version c (before ++ e ∷ []) new
-put_last law version c before e steps new s are is did legal = record {
-  past = ap past is ∙ past_push steps s ∙ ap (λ m. m ∷ past steps) did ∙ ap (λ h. moment c h e ∷ h) are.past ∙ sym (law c before e);
-  count = ap length is ∙ length-append steps (s ∷ []) ∙ ap (λ n. n + 1) are.count ∙ sym (length-append before (e ∷ []));
+pub put_last : MomentsEntered → (version : Version) (c : Setup) (before : List Entry) (e : Entry) (steps : List Step) (s : Step) → AreStepsOf version c before steps → moment_of (past steps) s ≡ moment c (past steps) e
+    → LegalUnder version c (before ++ e ∷ []) → AreStepsOf version c (before ++ e ∷ []) (steps ++ s ∷ [])
+put_last law version c before e steps s are did legal = record {
+  past = past_push steps s ∙ ap (λ m. m ∷ past steps) did ∙ ap (λ h. moment c h e ∷ h) are.past ∙ sym (law c before e);
+  count = length-append steps (s ∷ []) ∙ ap (λ n. n + 1) are.count ∙ sym (length-append before (e ∷ []));
   legal = legal;
 }
 

@@ -4,23 +4,23 @@ use Rattle.std.specs.Option.{option_map_or}
 use Rattle.fy_locality.specs.declared.ProcId.{ProcId}
 use Rattle.fy_team.specs.Teams.{swapped}
 use Rattle.fy_cluster.specs.History.{Swap, with_swap, after_swap}
-use Rattle.fy_check_by_rules.specs.declared.teams.Team.{Team as Kept}
+use Rattle.fy_check_by_rules.specs.declared.teams.Team.{Team as FoundTeam}
 use Rattle.fy_check_by_rules.specs.Formed.{team_of}
 use Rattle.fy_check_by_rules.proofs.Lists.{there}
 
-map-get : (items : List Kept) (i : ℕ) (x : Kept) → slice_get items i ≡ Some x → slice_get (map team_of items) i ≡ Some (team_of x)
+map-get : (items : List FoundTeam) (i : ℕ) (x : FoundTeam) → slice_get items i ≡ Some x → slice_get (map team_of items) i ≡ Some (team_of x)
 map-get [] i x e = absurd (cc)
-map-get (y ∷ items) zero x e = let same : y ≡ x = cc in ap (λ (t : Kept). Some (team_of t)) same
+map-get (y ∷ items) zero x e = let same : y ≡ x = cc in ap (λ (t : FoundTeam). Some (team_of t)) same
 map-get (y ∷ items) (suc i) x e = map-get items i x e
 
-map-set : (items : List Kept) (i : ℕ) (x : Kept) → map team_of (slice_set items i x) ≡ slice_set (map team_of items) i (team_of x)
+map-set : (items : List FoundTeam) (i : ℕ) (x : FoundTeam) → map team_of (slice_set items i x) ≡ slice_set (map team_of items) i (team_of x)
 map-set [] zero x = refl
 map-set [] (suc i) x = refl
 map-set (y ∷ items) zero x = refl
 map-set (y ∷ items) (suc i) x = ap (λ ts. team_of y ∷ ts) (map-set items i x)
 
 -- a member of a team is swapped
-pub swapped_in : (items : List Kept) (i : ℕ) (x new : Kept) (out into : ProcId) → i < length items → x ≡ get_or items i x → new.members.items ≡ swapped out into x.members.items → new.policy ≡ x.policy
+pub swapped_in : (items : List FoundTeam) (i : ℕ) (x new : FoundTeam) (out into : ProcId) → i < length items → x ≡ get_or items i x → new.members.items ≡ swapped out into x.members.items → new.policy ≡ x.policy
     → map team_of (slice_set items i new) ≡ after_swap (Some (record { team = i; out = out; into = into })) (map team_of items)
 swapped_in items i x new out into l is members policy =
     let swap : Swap = record { team = i; out = out; into = into } in

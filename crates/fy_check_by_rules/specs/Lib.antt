@@ -1,6 +1,7 @@
+pub mod Cases
 pub mod Deeds
 pub mod Formed
 pub mod Later
 pub mod Past
 pub mod Steps
-pub mod Told
+pub mod Allowed

@@ -3,6 +3,7 @@ use Rattle.std.specs.Prelude.{List, [], ◌∷◌, false, if◌then◌else◌}
 use Rattle.std.specs.FinSet as sets
 use Rattle.fy_cluster.specs.History.{History, Moment, is_accepted, takes_of}
 use Rattle.fy_check_by_rules.specs.declared.step.Step.{Step}
+use Rattle.fy_check_by_rules.specs.declared.past.Past.{Past}
 
 -- a step as a moment after this history
 abbrev pub moment_of : History → Step → Moment
@@ -22,3 +23,7 @@ past_after h (s ∷ later) = past_after (moment_of h s ∷ h) later
 -- the history of these steps
 unfoldable pub past : List Step → History
 past steps = past_after [] steps
+
+-- the history of the entries before
+abbrev pub history_of : Past → History
+history_of before = past before.steps.now

@@ -1,72 +1,71 @@
 //! A journal checked by the definitions: of each entry its reply is read off the entries before.
-ghost use Rattle.std.specs.Prelude.{◌≡◌, ◌↔◌, ◌<◌, ◌∷◌, [], ◌++◌, List, length, IfOk, IsTrue};
+ghost use Rattle.std.specs.Prelude.{◌≡◌, ◌↔◌, ◌<◌, ◌∷◌, [], ◌++◌, List, length, is_some, IfOk, IfSome, OnOk, IsTrue};
 ghost use Rattle.fy_acts.specs.declared.entry.Entry.{Entry};
 ghost use Rattle.fy_cluster.specs.Versions.{LegalUnder};
 ghost use Rattle.fy_check.specs.Check.{CheckAnswers};
 ghost use Rattle.fy_check_by_rules.specs.Steps.{AreStepsOf};
 
-use crate::answering::reply;
 use crate::doing::step_of;
+use crate::past::Past;
+use crate::reply::reply;
 use crate::step::Step;
 use fy_check::CheckFault;
 use fy_cluster::{Config, laws};
 use fy_journal::{Entry, Journal, Version};
 use std::alloc::{AllocError, Global};
 
-/// Whether the entry may come after a legal journal, whose entries did these steps.
-fn may_follow(
-    alloc: Global,
-    config: &Config,
-    version: Version,
-    steps: &[Step],
-    entry: &Entry,
-) -> Result<bool, AllocError>
-    ensures next { (before : List Entry) → AreStepsOf version config.now before steps.now
-        → entry.now.at ≡ length before
+/// Whether the entry may come next, where the entries before are a legal journal.
+fn may_follow(before: &Past, version: Version, entry: &Entry) -> Result<bool, AllocError>
+    ensures next { (so_far : List Entry)
+        → AreStepsOf version before.now.config.now so_far before.now.steps.now
+        → entry.now.at ≡ length so_far
         → IfOk result (λ may. IsTrue may
-        ↔ LegalUnder version config.now (before ++ entry.now ∷ [])) }
-    ensures room { IfOk result (λ may. IsTrue may → length steps.now < config.now.limit) }
+        ↔ LegalUnder version before.now.config.now (so_far ++ entry.now ∷ [])) }
+    ensures room { IfOk result (λ may. IsTrue may
+        → length before.now.steps.now < before.now.config.now.limit) }
 {
     laws::versions();
     fy_acts::laws::equal_is_the_same();
-    config.invariant();
-    if steps.len() >= config.journal_limit() as usize {
+    before.config.invariant();
+    if before.steps.len() >= before.config.journal_limit() as usize {
         return Ok(false);
     }
     if !version.knows(&entry.act) {
         return Ok(false);
     }
-    let reply = reply(alloc, config, steps, entry.by, &entry.act)?;
+    let reply = reply(before, entry.by, &entry.act)?;
     Ok(reply == entry.reply)
 }
 
-/// Whether the entry may come after a legal journal, whose entries did these steps. If it may, what
-/// it did is then the last of them.
-fn comes_next(
-    alloc: Global,
-    config: &Config,
-    version: Version,
-    steps: &mut Vec<Step>,
-    entry: &Entry,
-) -> Result<bool, AllocError>
-    ensures next { (before : List Entry) → AreStepsOf version config.now before steps.old.items
-        → entry.now.at ≡ length before
-        → IfOk result (λ next. IsTrue next
-        ↔ LegalUnder version config.now (before ++ entry.now ∷ [])) }
-    ensures put { (before : List Entry) → AreStepsOf version config.now before steps.old.items
-        → entry.now.at ≡ length before
-        → IfOk result (λ next. IsTrue next
-        → AreStepsOf version config.now (before ++ entry.now ∷ []) steps.new.items) }
+/// The step of the entry, if it may come next, where the entries before are a legal journal.
+fn next_step(before: &Past, version: Version, entry: &Entry) -> Result<Option<Step>, AllocError>
+    ensures next { (so_far : List Entry)
+        → AreStepsOf version before.now.config.now so_far before.now.steps.now
+        → entry.now.at ≡ length so_far
+        → IfOk result (λ next. IsTrue (is_some next)
+        ↔ LegalUnder version before.now.config.now (so_far ++ entry.now ∷ [])) }
+    ensures put { (so_far : List Entry)
+        → AreStepsOf version before.now.config.now so_far before.now.steps.now
+        → entry.now.at ≡ length so_far
+        → IfOk result (λ next. IfSome next (λ step. AreStepsOf version before.now.config.now
+        (so_far ++ entry.now ∷ []) (before.now.steps.now ++ step ∷ []))) }
 {
     laws::one_entry_more();
-    config.invariant();
-    let may = may_follow(alloc, config, version, steps, entry)?;
+    before.config.invariant();
+    let may = may_follow(before, version, entry)?;
     if !may {
-        return Ok(false);
+        return Ok(None);
     }
-    let step = step_of(alloc, config, steps, entry)?;
+    let step = step_of(before, entry)?;
+    Ok(Some(step))
+}
+
+/// Puts a step behind all others.
+fn put_last(steps: &mut Vec<Step>, step: Step) -> Result<(), AllocError>
+    ensures { OnOk result (steps.new.items ≡ steps.old.items ++ step ∷ []) }
+{
     steps.push(step)?;
-    Ok(true)
+    Ok(())
 }
 
 /// Whether the journal is legal for the configuration, under its own version of the rules. Each
@@ -86,10 +85,15 @@ pub fn check(alloc: Global, config: &Config, journal: &Journal) -> Result<(), Ch
     let version = journal.version();
     let mut steps = Vec::new(alloc);
     for entry in journal.entries() {
-        let next = comes_next(alloc, config, version, &mut steps, entry)?;
-        if !next {
+        let before = Past {
+            alloc,
+            config,
+            steps: &steps,
+        };
+        let Some(step) = next_step(&before, version, entry)? else {
             return Err(CheckFault::BadEntry { at: entry.at });
-        }
+        };
+        put_last(&mut steps, step)?;
     }
     Ok(())
 }

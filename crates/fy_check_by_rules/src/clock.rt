@@ -3,8 +3,9 @@
 
 ghost use Rattle.std.specs.Prelude.{◌≡◌, ◌≤◌, ◌*◌, ◌&&◌, is_some, length, unwrap_or, []};
 ghost use Rattle.fy_cluster.specs.History.{ticks, now, unclogs, holds, clogged};
-ghost use Rattle.fy_check_by_rules.specs.Past.{moment_of, past};
+ghost use Rattle.fy_check_by_rules.specs.Past.{moment_of, history_of};
 
+use crate::past::Past;
 use crate::step::Step;
 use crate::views::{clogs, ticks, unclogs};
 use fy_locality::ProcId;
@@ -18,12 +19,12 @@ fn ticks_at(step: &Step) -> u64
 }
 
 /// The ticks that have passed.
-pub(crate) fn now(steps: &[Step]) -> u128
-    ensures now { result ≡ now (past steps.now) }
-    ensures small { result ≤ length steps.now * 18446744073709551615 }
+pub(crate) fn now(before: &Past) -> u128
+    ensures now { result ≡ now (history_of before.now) }
+    ensures small { result ≤ length before.now.steps.now * 18446744073709551615 }
 {
     let mut now = 0u128;
-    for step in steps {
+    for step in before.steps {
         now += u128::from(ticks_at(step));
     }
     now
@@ -52,13 +53,13 @@ fn holds(step: &Step, made: u128, time: u128, p: ProcId) -> bool
 }
 
 /// Whether some clog holds the process now, after which it was not unclogged.
-pub(crate) fn clogged(steps: &[Step], p: ProcId) -> bool
-    ensures { result ≡ clogged (past steps.now) p.0 }
+pub(crate) fn clogged(before: &Past, p: ProcId) -> bool
+    ensures { result ≡ clogged (history_of before.now) p.0 }
 {
-    let time = now(steps);
+    let time = now(before);
     let mut then = 0u128;
     let mut clogged = false;
-    for step in steps {
+    for step in before.steps {
         clogged = holds(step, then, time, p) || !unclogs_at(step, p) && clogged;
         then += u128::from(ticks_at(step));
     }

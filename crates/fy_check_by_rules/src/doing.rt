@@ -7,15 +7,15 @@ ghost use Rattle.fy_cluster.specs.Setup.{Setup};
 ghost use Rattle.fy_net.specs.declared.message.Body.TheVariants.{Synced};
 ghost use Rattle.fy_cluster.specs.declared.config.TheConstants.{MOST_JOURNAL_ENTRIES};
 ghost use Rattle.fy_cluster.specs.History.{History, left, targets_of, message_of, sends_of, stores_of, words_of, members_of, records, unsynced, sent, moment};
-ghost use Rattle.fy_check_by_rules.specs.Past.{moment_of, past};
+ghost use Rattle.fy_check_by_rules.specs.Past.{moment_of, history_of};
 
 use crate::network::sent;
+use crate::past::Past;
 use crate::step::Step;
 use crate::strikes::targets;
-use crate::teams::{members_of, records};
+use crate::teams::{members_of, teams_of_records};
 use crate::views::is_accepted;
 use crate::writes::unsynced;
-use fy_cluster::Config;
 use fy_journal::{Act, Entry};
 use fy_kinds::Target;
 use fy_locality::{ProcId, ProcSet};
@@ -36,32 +36,32 @@ fn target_in(act: &Act) -> Option<Target>
 }
 
 /// Whom the act's target names.
-fn targets_of(config: &Config, steps: &[Step], act: &Act) -> ProcSet
+fn targets_of(before: &Past, act: &Act) -> ProcSet
     ensures { (p : ℕ) → sets.contains result p
-        ≡ targets_of config.now (past steps.now) act.now p }
+        ≡ targets_of before.now.config.now (history_of before.now) act.now p }
 {
     match target_in(act) {
-        Some(target) => targets(config, steps, &target),
+        Some(target) => targets(before, &target),
         None => ProcSet::empty(),
     }
 }
 
 /// The message that the act names.
-fn message_of(alloc: Global, steps: &[Step], act: &Act) -> Result<Option<Body>, AllocError>
-    ensures { IfOk result (λ message. message ≡ message_of (past steps.now) act.now) }
+fn message_of(before: &Past, act: &Act) -> Result<Option<Body>, AllocError>
+    ensures { IfOk result (λ message. message ≡ message_of (history_of before.now) act.now) }
 {
     match *act {
-        Act::Deliver { message } => message_at(alloc, steps, message),
-        Act::Lose { message } => message_at(alloc, steps, message),
+        Act::Deliver { message } => message_at(before, message),
+        Act::Lose { message } => message_at(before, message),
         _ => Ok(None),
     }
 }
 
 /// The message with a number.
-fn message_at(alloc: Global, steps: &[Step], message: u64) -> Result<Option<Body>, AllocError>
-    ensures { IfOk result (λ body. body ≡ slice_get (sent (past steps.now)) message) }
+fn message_at(before: &Past, message: u64) -> Result<Option<Body>, AllocError>
+    ensures { IfOk result (λ body. body ≡ slice_get (sent (history_of before.now)) message) }
 {
-    let bodies = sent(alloc, steps)?;
+    let bodies = sent(before)?;
     Ok(bodies.get(message as usize).copied())
 }
 
@@ -89,65 +89,64 @@ fn words_of(alloc: Global, process: ProcId, records: &[u32]) -> Result<Vec<Body>
 }
 
 /// What a Begin sends: a store of the next record to each member of the team.
-fn begin_sends(alloc: Global, steps: &[Step], team: u32) -> Result<Vec<Body>, AllocError>
-    requires few { length steps.now ≤ MOST_JOURNAL_ENTRIES }
+fn begin_sends(before: &Past, team: u32) -> Result<Vec<Body>, AllocError>
+    requires few { length before.now.steps.now ≤ MOST_JOURNAL_ENTRIES }
     ensures { IfOk result (λ stores. stores.items
-        ≡ stores_of (length (records (past steps.now))) (members_of (past steps.now) team)) }
+        ≡ stores_of (length (records (history_of before.now)))
+        (members_of (history_of before.now) team)) }
 {
-    let rec = records(alloc, steps)?.len() as u32;
-    let members = members_of(alloc, steps, team)?;
-    stores_of(alloc, rec, &members)
+    let rec = teams_of_records(before)?.len() as u32;
+    let members = members_of(before, team)?;
+    stores_of(before.alloc, rec, &members)
 }
 
 /// What a Sync sends: a word of each unsynced write.
-fn sync_sends(alloc: Global, steps: &[Step], process: ProcId) -> Result<Vec<Body>, AllocError>
+fn sync_sends(before: &Past, process: ProcId) -> Result<Vec<Body>, AllocError>
     ensures { IfOk result (λ words. words.items
-        ≡ words_of process (unsynced (past steps.now) process.0)) }
+        ≡ words_of process (unsynced (history_of before.now) process.0)) }
 {
-    let records = unsynced(alloc, steps, process)?;
-    let words = words_of(alloc, process, &records)?;
+    let records = unsynced(before, process)?;
+    let words = words_of(before.alloc, process, &records)?;
     Ok(words)
 }
 
 /// What the act sends where it is accepted.
-fn sends_of(alloc: Global, steps: &[Step], act: &Act) -> Result<Vec<Body>, AllocError>
-    requires few { length steps.now ≤ MOST_JOURNAL_ENTRIES }
-    ensures { IfOk result (λ sends. sends.items ≡ sends_of (past steps.now) act.now) }
+fn sends_of(before: &Past, act: &Act) -> Result<Vec<Body>, AllocError>
+    requires few { length before.now.steps.now ≤ MOST_JOURNAL_ENTRIES }
+    ensures { IfOk result (λ sends. sends.items ≡ sends_of (history_of before.now) act.now) }
 {
     match *act {
-        Act::Begin { team, .. } => begin_sends(alloc, steps, team),
+        Act::Begin { team, .. } => begin_sends(before, team),
         Act::Resend { rec, process } => Ok(Vec::from_slice(
-            alloc,
+            before.alloc,
             &[Body::Store { rec, to: process }],
         )?),
-        Act::CopyTo { rec, to, .. } => Ok(Vec::from_slice(alloc, &[Body::Store { rec, to }])?),
-        Act::Sync { process } => sync_sends(alloc, steps, process),
-        _ => Ok(Vec::new(alloc)),
+        Act::CopyTo { rec, to, .. } => Ok(Vec::from_slice(
+            before.alloc,
+            &[Body::Store { rec, to }],
+        )?),
+        Act::Sync { process } => sync_sends(before, process),
+        _ => Ok(Vec::new(before.alloc)),
     }
 }
 
 /// The entry with what it did.
-pub(crate) fn step_of(
-    alloc: Global,
-    config: &Config,
-    steps: &[Step],
-    entry: &Entry,
-) -> Result<Step, AllocError>
-    requires few { length steps.now ≤ MOST_JOURNAL_ENTRIES }
-    ensures { IfOk result (λ step. moment_of (past steps.now) step
-        ≡ moment config.now (past steps.now) entry.now) }
+pub(crate) fn step_of(before: &Past, entry: &Entry) -> Result<Step, AllocError>
+    requires few { length before.now.steps.now ≤ MOST_JOURNAL_ENTRIES }
+    ensures { IfOk result (λ step. moment_of (history_of before.now) step
+        ≡ moment before.now.config.now (history_of before.now) entry.now) }
 {
-    let targets = targets_of(config, steps, &entry.act);
-    let message = message_of(alloc, steps, &entry.act)?;
+    let targets = targets_of(before, &entry.act);
+    let message = message_of(before, &entry.act)?;
     let sends = if is_accepted(entry.reply) {
-        sends_of(alloc, steps, &entry.act)?
+        sends_of(before, &entry.act)?
     } else {
-        Vec::new(alloc)
+        Vec::new(before.alloc)
     };
     let entry = Entry {
         at: entry.at,
         by: entry.by,
-        act: entry.act.try_copy(alloc)?,
+        act: entry.act.try_copy(before.alloc)?,
         reply: entry.reply,
     };
     Ok(Step {

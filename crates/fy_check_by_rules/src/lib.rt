@@ -1,22 +1,32 @@
-//! Whether a journal is what the rules give, by the definitions: each definition of the rules is read
-//! off the entries before, and no cluster is made. The contract is that of `fy_check::replay`.
+//! Whether a journal is what the rules give, by the definitions: each definition of the rules is
+//! read off the entries before, and no cluster is made. The contract is that of `fy_check::replay`.
+//!
+//! - `checking`: a journal, one entry after another, each with its `Past`.
+//! - `reply`: the reply to an act, a file for each group of acts: `kills` (Kill, Clog, Unclog),
+//!   `teams` (Form, Replace), `records` (Begin, Deliver, Lose, Resend, Sync, CopyTo), `processes`
+//!   (Up, Heal), `clock` (Tick) and `rights` (Give, Take, Protect, Unprotect).
+//! - `rules`: the five rules and the verdict on an order, over `leave` and `policies`.
+//! - `doing`: what an entry did.
+//! - `strikes`, `writes`, `teams`, `marks`, `needs`, `network`, `clock`, `rights`: what the entries
+//!   before say. `views`: what one entry says.
+//!
+//! A private function that answers a `Result` fails in one way: with `AllocError`, where there is
+//! no memory for a list that it reads off.
 #![tactic(auto)]
 
-mod answering;
 mod asked;
 mod checking;
 mod clock;
 mod doing;
 mod leave;
 mod marks;
-mod memberships;
 mod needs;
 mod network;
+mod past;
 mod policies;
-mod replies;
+mod reply;
 mod rights;
 mod rules;
-mod rulings;
 mod step;
 mod strikes;
 mod teams;

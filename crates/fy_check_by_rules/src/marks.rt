@@ -6,8 +6,9 @@ ghost use Rattle.std.specs.List.{list_all};
 ghost use Rattle.fy_team.specs.Teams.{is_among};
 ghost use Rattle.fy_cluster.specs.History.{some_is, marks, tells, heals_at, marked_after, marked, acked};
 ghost use Rattle.fy_cluster.specs.Replies.{is_acked_with};
-ghost use Rattle.fy_check_by_rules.specs.Past.{moment_of, past};
+ghost use Rattle.fy_check_by_rules.specs.Past.{moment_of, history_of};
 
+use crate::past::Past;
 use crate::step::Step;
 use crate::teams::{members_for, without};
 use crate::views::{delivers, heals};
@@ -57,21 +58,17 @@ fn teller(step: &Step, rec: u32) -> Option<ProcId>
 
 /// Those that keep their mark through the step: a healed process loses it, but of an acknowledged
 /// record.
-fn still_marked(
-    alloc: Global,
-    step: &Step,
-    was_acked: bool,
-    marked: &[ProcId],
-) -> Result<Vec<ProcId>, AllocError>
+fn still_marked(alloc: Global, step: &Step, were: &Marks) -> Result<Vec<ProcId>, AllocError>
     ensures { IfOk result (λ list. (p : ℕ) → is_among list.items p
-        ≡ (not (heals_at (moment_of [] step.now) p && not was_acked) && is_among marked.now p)) }
+        ≡ (not (heals_at (moment_of [] step.now) p && not were.now.acked)
+        && is_among were.now.marked.items p)) }
 {
     match heals(&step.entry) {
-        Some(healed) if !was_acked => {
-            let list = without(alloc, marked, healed)?;
+        Some(healed) if !were.acked => {
+            let list = without(alloc, &were.marked, healed)?;
             Ok(list)
         }
-        _ => Ok(Vec::from_slice(alloc, marked)?),
+        _ => Ok(Vec::from_slice(alloc, &were.marked)?),
     }
 }
 
@@ -80,13 +77,13 @@ fn marked_then(
     alloc: Global,
     step: &Step,
     rec: u32,
-    was_acked: bool,
-    marked: &[ProcId],
+    were: &Marks,
 ) -> Result<Vec<ProcId>, AllocError>
     ensures { IfOk result (λ list. (p : ℕ) → is_among list.items p
-        ≡ marked_after (moment_of [] step.now) rec p was_acked (is_among marked.now p)) }
+        ≡ marked_after (moment_of [] step.now) rec p were.now.acked
+        (is_among were.now.marked.items p)) }
 {
-    let mut list = still_marked(alloc, step, was_acked, marked)?;
+    let mut list = still_marked(alloc, step, were)?;
     match teller(step, rec) {
         Some(from) => {
             list.extend_from_slice(&[from])?;
@@ -103,30 +100,38 @@ fn all_marked(members: &[ProcId], marked: &[ProcId]) -> bool
     members.iter().all(|p| is_among(marked, *p))
 }
 
-/// Whether the record is acknowledged after the step: it was, or a Synced of it was delivered and
-/// every member of its team has a mark now.
-fn acked_then(step: &Step, rec: u32, was_acked: bool, members: &[ProcId], marked: &[ProcId]) -> bool
-    ensures { result ≡ (was_acked || tells (moment_of [] step.now) rec
+/// Whether a record is acknowledged after a step: it was, or a Synced of it was delivered and every
+/// member of its team has a mark now.
+fn acked_then(was_acked: bool, told: bool, members: &[ProcId], marked: &[ProcId]) -> bool
+    ensures { result ≡ (was_acked || told
         && list_all (λ p. is_among marked.now p.0) members.now) }
 {
-    was_acked || tells(step, rec) && all_marked(members, marked)
+    was_acked || told && all_marked(members, marked)
 }
 
 /// Who has marked the record, and whether it is acknowledged: a Synced of it was delivered after
 /// which every member of its team had a mark.
-pub(crate) fn marks_of(alloc: Global, steps: &[Step], rec: u32) -> Result<Marks, AllocError>
-    ensures acked { IfOk result (λ it. it.acked ≡ acked (past steps.now) rec) }
+pub(crate) fn marks_of(before: &Past, rec: u32) -> Result<Marks, AllocError>
+    ensures acked { IfOk result (λ it. it.acked ≡ acked (history_of before.now) rec) }
     ensures marked { IfOk result (λ it. (p : ℕ)
-        → is_among it.marked.items p ≡ marked (past steps.now) rec p) }
+        → is_among it.marked.items p ≡ marked (history_of before.now) rec p) }
 {
-    let mut marked = Vec::new(alloc);
-    let mut acked = false;
+    let Past { alloc, steps, .. } = *before;
+    let mut marks = Marks {
+        marked: Vec::new(alloc),
+        acked: false,
+    };
     for (i, step) in steps.iter().enumerate() {
-        let members = members_for(alloc, &steps[..i], rec)?;
-        marked = marked_then(alloc, step, rec, acked, &marked)?;
-        acked = acked_then(step, rec, acked, &members, &marked);
+        let then = Past {
+            steps: &steps[..i],
+            ..*before
+        };
+        let members = members_for(&then, rec)?;
+        let marked = marked_then(alloc, step, rec, &marks)?;
+        let acked = acked_then(marks.acked, tells(step, rec), &members, &marked);
+        marks = Marks { marked, acked };
     }
-    Ok(Marks { marked, acked })
+    Ok(marks)
 }
 
 /// Whether the record was acknowledged, or each of the members has a mark or is the process.
@@ -146,16 +151,11 @@ fn are_marked_with(members: &[ProcId], marked: &[ProcId], p: ProcId) -> bool
 
 /// Whether the record is acknowledged, or every member of its team has a mark once the process has
 /// one.
-pub(crate) fn is_acked_with(
-    alloc: Global,
-    steps: &[Step],
-    rec: u32,
-    p: ProcId,
-) -> Result<bool, AllocError>
-    ensures { IfOk result (λ acked. acked ≡ is_acked_with (past steps.now) rec p.0) }
+pub(crate) fn is_acked_with(before: &Past, rec: u32, p: ProcId) -> Result<bool, AllocError>
+    ensures { IfOk result (λ acked. acked ≡ is_acked_with (history_of before.now) rec p.0) }
 {
-    let marks = marks_of(alloc, steps, rec)?;
-    let members = members_for(alloc, steps, rec)?;
+    let marks = marks_of(before, rec)?;
+    let members = members_for(before, rec)?;
     let acked = acked_or_marked(marks.acked, &members, &marks.marked, p);
     Ok(acked)
 }

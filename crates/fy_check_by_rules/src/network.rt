@@ -5,21 +5,22 @@ ghost use Rattle.std.specs.Prelude.{◌≡◌, IfOk};
 ghost use Rattle.fy_net.specs.Net.{is_word_from};
 ghost use Rattle.fy_cluster.specs.History.{History, some_is, sent, is_taken, in_flight, in_flight_count};
 ghost use Rattle.fy_cluster.specs.Replies.{is_full};
-ghost use Rattle.fy_check_by_rules.specs.Past.{moment_of, past};
+ghost use Rattle.fy_check_by_rules.specs.Past.{moment_of, history_of};
 
+use crate::past::Past;
 use crate::step::Step;
 use crate::views::is_accepted;
 use fy_journal::Act;
 use fy_locality::ProcId;
 use fy_net::{Body, MOST_IN_FLIGHT};
-use std::alloc::{AllocError, Global};
+use std::alloc::AllocError;
 
 /// The messages, by number.
-pub(crate) fn sent(alloc: Global, steps: &[Step]) -> Result<Vec<Body>, AllocError>
-    ensures { IfOk result (λ bodies. bodies.items ≡ sent (past steps.now)) }
+pub(crate) fn sent(before: &Past) -> Result<Vec<Body>, AllocError>
+    ensures { IfOk result (λ bodies. bodies.items ≡ sent (history_of before.now)) }
 {
-    let mut sent = Vec::new(alloc);
-    for step in steps {
+    let mut sent = Vec::new(before.alloc);
+    for step in before.steps {
         sent.extend_from_slice(&step.sends)?;
     }
     Ok(sent)
@@ -53,12 +54,12 @@ fn takes_out(bodies: &[Body], step: &Step, message: u64) -> bool
 }
 
 /// Whether some step took the message out of the network.
-fn is_taken(alloc: Global, steps: &[Step], message: u64) -> Result<bool, AllocError>
-    ensures { IfOk result (λ taken. taken ≡ is_taken (past steps.now) message) }
+fn is_taken(before: &Past, message: u64) -> Result<bool, AllocError>
+    ensures { IfOk result (λ taken. taken ≡ is_taken (history_of before.now) message) }
 {
-    let mut sent = Vec::new(alloc);
+    let mut sent = Vec::new(before.alloc);
     let mut taken = false;
-    for step in steps {
+    for step in before.steps {
         taken = takes_out(&sent, step, message) || taken;
         sent.extend_from_slice(&step.sends)?;
     }
@@ -66,25 +67,25 @@ fn is_taken(alloc: Global, steps: &[Step], message: u64) -> Result<bool, AllocEr
 }
 
 /// Whether the message was sent, and nothing took it out.
-pub(crate) fn in_flight(alloc: Global, steps: &[Step], message: u64) -> Result<bool, AllocError>
-    ensures { IfOk result (λ flies. flies ≡ in_flight (past steps.now) message) }
+pub(crate) fn in_flight(before: &Past, message: u64) -> Result<bool, AllocError>
+    ensures { IfOk result (λ flies. flies ≡ in_flight (history_of before.now) message) }
 {
-    let count = sent(alloc, steps)?.len();
+    let count = sent(before)?.len();
     if message as usize >= count {
         return Ok(false);
     }
-    Ok(!is_taken(alloc, steps, message)?)
+    Ok(!is_taken(before, message)?)
 }
 
 /// How many messages are in flight.
 #[tactic(auto, using(crate::proofs::Lists::count_next))]
-fn in_flight_count(alloc: Global, steps: &[Step]) -> Result<usize, AllocError>
-    ensures { IfOk result (λ count. count ≡ in_flight_count (past steps.now)) }
+fn in_flight_count(before: &Past) -> Result<usize, AllocError>
+    ensures { IfOk result (λ count. count ≡ in_flight_count (history_of before.now)) }
 {
-    let sent = sent(alloc, steps)?.len();
+    let sent = sent(before)?.len();
     let mut count = 0;
     for message in 0..sent {
-        if in_flight(alloc, steps, message as u64)? {
+        if in_flight(before, message as u64)? {
             count += 1;
         }
     }
@@ -92,9 +93,9 @@ fn in_flight_count(alloc: Global, steps: &[Step]) -> Result<usize, AllocError>
 }
 
 /// Whether so many messages more would be more than may be in flight.
-pub(crate) fn is_full(alloc: Global, steps: &[Step], more: usize) -> Result<bool, AllocError>
-    ensures { IfOk result (λ full. full ≡ is_full (past steps.now) more) }
+pub(crate) fn is_full(before: &Past, more: usize) -> Result<bool, AllocError>
+    ensures { IfOk result (λ full. full ≡ is_full (history_of before.now) more) }
 {
-    let count = in_flight_count(alloc, steps)?;
+    let count = in_flight_count(before)?;
     Ok(count > MOST_IN_FLIGHT || more > MOST_IN_FLIGHT - count)
 }

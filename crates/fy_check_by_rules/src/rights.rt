@@ -5,13 +5,13 @@ ghost use Rattle.std.specs.Prelude.{◌≡◌, option_map, IfOk, OnOk};
 ghost use Rattle.fy_cluster.specs.History.{gives, takes};
 ghost use Rattle.fy_cluster.specs.Rules.{grants_to, with_given, without_taken, grants, changes, some_protects, is_protected};
 ghost use Rattle.fy_cluster.specs.Replies.{grant_count};
-ghost use Rattle.fy_check_by_rules.specs.Past.{past};
+ghost use Rattle.fy_check_by_rules.specs.Past.{history_of};
 ghost use Rattle.fy_check_by_rules.specs.Deeds.{deed_of};
 
 use crate::asked::Asked;
-use crate::step::Step;
+use crate::past::Past;
 use crate::views::{gives, protects, takes, unprotects};
-use fy_cluster::{Config, Protection};
+use fy_cluster::Protection;
 use fy_grants::Grant;
 use fy_journal::Entry;
 use fy_kinds::KindSet;
@@ -59,16 +59,12 @@ fn close_taken(own: &mut Vec<Grant>, actor: u32, entry: &Entry)
 }
 
 /// The actor's grants: the first ones, each Give to it put last, each Take from it closing up.
-pub(crate) fn grants(
-    alloc: Global,
-    config: &Config,
-    steps: &[Step],
-    actor: u32,
-) -> Result<Vec<Grant>, AllocError>
-    ensures { IfOk result (λ own. own.items ≡ grants config.now (past steps.now) actor) }
+pub(crate) fn grants(before: &Past, actor: u32) -> Result<Vec<Grant>, AllocError>
+    ensures { IfOk result (λ own. own.items
+        ≡ grants before.now.config.now (history_of before.now) actor) }
 {
-    let mut own = grants_to(alloc, actor, config.grants())?;
-    for step in steps {
+    let mut own = grants_to(before.alloc, actor, before.config.grants())?;
+    for step in before.steps {
         put_given(&mut own, actor, &step.entry)?;
         close_taken(&mut own, actor, &step.entry);
     }
@@ -96,11 +92,12 @@ fn some_protects(protections: &[Protection], p: ProcId, asked: Asked) -> bool
 
 /// Whether the process is protected from what is asked: the last change of the two says so, or else
 /// the configuration.
-pub(crate) fn is_protected(config: &Config, steps: &[Step], p: ProcId, asked: Asked) -> bool
-    ensures { result ≡ is_protected config.now (past steps.now) p.0 (deed_of asked) }
+pub(crate) fn is_protected(before: &Past, p: ProcId, asked: Asked) -> bool
+    ensures { result
+        ≡ is_protected before.now.config.now (history_of before.now) p.0 (deed_of asked) }
 {
-    let mut protected = some_protects(config.protections(), p, asked);
-    for step in steps {
+    let mut protected = some_protects(before.config.protections(), p, asked);
+    for step in before.steps {
         protected = changes(p, asked, protects(&step.entry))
             || !changes(p, asked, unprotects(&step.entry)) && protected;
     }
@@ -109,16 +106,13 @@ pub(crate) fn is_protected(config: &Config, steps: &[Step], p: ProcId, asked: As
 
 /// How many grants all actors have.
 #[tactic(auto, using(crate::proofs::Lists::sum_next))]
-pub(crate) fn grant_count(
-    alloc: Global,
-    config: &Config,
-    steps: &[Step],
-) -> Result<u128, AllocError>
-    ensures { IfOk result (λ count. count ≡ grant_count config.now (past steps.now)) }
+pub(crate) fn grant_count(before: &Past) -> Result<u128, AllocError>
+    ensures { IfOk result (λ count. count
+        ≡ grant_count before.now.config.now (history_of before.now)) }
 {
     let mut count = 0u128;
-    for actor in 0..config.actors() {
-        let own = grants(alloc, config, steps, actor)?;
+    for actor in 0..before.config.actors() {
+        let own = grants(before, actor)?;
         count += own.len() as u128;
     }
     Ok(count)

@@ -6,11 +6,11 @@ ghost use Rattle.std.specs.FinSet as sets;
 ghost use Rattle.fy_decide.specs.Verdicts.{targets};
 ghost use Rattle.fy_kinds.specs.Kinds.{destroys_for_good};
 ghost use Rattle.fy_cluster.specs.History.{some_is, strikes, destroys, heals_at, ups, destroyed, gone, left, up};
-ghost use Rattle.fy_check_by_rules.specs.Past.{moment_of, past};
+ghost use Rattle.fy_check_by_rules.specs.Past.{moment_of, history_of};
 
+use crate::past::Past;
 use crate::step::Step;
 use crate::views::{heals, struck_by, ups};
-use fy_cluster::Config;
 use fy_kinds::{Kind, Target};
 use fy_locality::{ProcId, ProcSet};
 
@@ -95,33 +95,33 @@ fn destroyed_at(step: &Step) -> ProcSet
 }
 
 /// The destroyed: some step destroyed them, and none healed them since.
-pub(crate) fn destroyed(steps: &[Step]) -> ProcSet
-    ensures { (p : ℕ) → sets.contains result p ≡ destroyed (past steps.now) p }
+pub(crate) fn destroyed(before: &Past) -> ProcSet
+    ensures { (p : ℕ) → sets.contains result p ≡ destroyed (history_of before.now) p }
 {
     let mut destroyed = ProcSet::empty();
-    for step in steps {
+    for step in before.steps {
         destroyed = destroyed_at(step).union(&without_healed(destroyed, step));
     }
     destroyed
 }
 
 /// Whether some step struck the process by the kind that leaves nobody to come back.
-pub(crate) fn gone(steps: &[Step], p: ProcId) -> bool
-    ensures { result ≡ gone (past steps.now) p.0 }
+pub(crate) fn gone(before: &Past, p: ProcId) -> bool
+    ensures { result ≡ gone (history_of before.now) p.0 }
 {
     let mut gone = false;
-    for step in steps {
+    for step in before.steps {
         gone = kills_for_good(step, p) || gone;
     }
     gone
 }
 
 /// Whether there was no strike at the process after its last start.
-pub(crate) fn up(steps: &[Step], p: ProcId) -> bool
-    ensures { result ≡ up (past steps.now) p.0 }
+pub(crate) fn up(before: &Past, p: ProcId) -> bool
+    ensures { result ≡ up (history_of before.now) p.0 }
 {
     let mut up = true;
-    for step in steps {
+    for step in before.steps {
         up = ups_at(step, p) || strikes(step, p).is_none() && up;
     }
     up
@@ -143,20 +143,22 @@ fn killed_at(step: &Step) -> ProcSet
 }
 
 /// The processes that are not gone, emptied ones too.
-pub(crate) fn left(config: &Config, steps: &[Step]) -> ProcSet
-    ensures { (p : ℕ) → sets.contains result p ≡ left config.now (past steps.now) p }
+pub(crate) fn left(before: &Past) -> ProcSet
+    ensures { (p : ℕ) → sets.contains result p
+        ≡ left before.now.config.now (history_of before.now) p }
 {
-    let mut left = config.map().everyone();
-    for step in steps {
+    let mut left = before.config.map().everyone();
+    for step in before.steps {
         left = left.difference(&killed_at(step));
     }
     left
 }
 
 /// Those left that have the target's value of its key.
-pub(crate) fn targets(config: &Config, steps: &[Step], target: &Target) -> ProcSet
+pub(crate) fn targets(before: &Past, target: &Target) -> ProcSet
     ensures { (p : ℕ) → sets.contains result p
-        ≡ targets config.now.processes (left config.now (past steps.now)) target.now p }
+        ≡ targets before.now.config.now.processes
+        (left before.now.config.now (history_of before.now)) target.now p }
 {
-    left(config, steps).intersection(&config.map().members(target.key, &target.value))
+    left(before).intersection(&before.config.map().members(target.key, &target.value))
 }

@@ -1,13 +1,14 @@
 //! What the entries before say of teams and records.
 #![tactic(auto, using(crate::proofs::Pasts::past_next, crate::proofs::Pasts::past_none))]
 
-ghost use Rattle.std.specs.Prelude.{◌≡◌, ◌==◌, ◌≤◌, ◌+◌, ◌++◌, ◌∷◌, length, map, filter, not, nat_lt, option_map, option_to_list, IfOk, OnOk};
+ghost use Rattle.std.specs.Prelude.{◌≡◌, ◌==◌, ◌≤◌, ◌+◌, ◌++◌, ◌∷◌, length, map, filter, not, nat_le, nat_lt, is_none, Some, option_map, option_to_list, IfOk, IfSome, OnOk};
 ghost use Rattle.fy_team.specs.Teams.{swapped};
 ghost use Rattle.fy_cluster.specs.History.{begins, forms, replaces, after_swap, records, teams, members_of, members_for};
-ghost use Rattle.fy_check_by_rules.specs.Past.{past};
-ghost use Rattle.fy_check_by_rules.specs.Formed.{team_of};
+ghost use Rattle.fy_cluster.specs.Replies.{policy_of};
+ghost use Rattle.fy_check_by_rules.specs.Past.{history_of};
+ghost use Rattle.fy_check_by_rules.specs.Formed.{team_of, swap_of};
 
-use crate::step::Step;
+use crate::past::Past;
 use crate::views::is_accepted;
 use fy_journal::{Act, Entry};
 use fy_locality::ProcId;
@@ -18,6 +19,14 @@ use std::alloc::{AllocError, Global};
 pub(crate) struct Team {
     pub(crate) members: Vec<ProcId>,
     pub(crate) policy: u32,
+}
+
+/// A member of a team goes, and a process comes in for it.
+#[derive(Clone, Copy)]
+pub(crate) struct Swap {
+    pub(crate) team: u32,
+    pub(crate) out: ProcId,
+    pub(crate) into: ProcId,
 }
 
 /// All but one.
@@ -104,36 +113,29 @@ fn put_record(list: &mut Vec<u32>, entry: &Entry) -> Result<(), AllocError>
 
 /// The team of each record, by the record's number.
 #[tactic(auto, using(crate::proofs::Pasts::past_next, crate::proofs::Pasts::past_none, crate::proofs::Lists::map_begun))]
-pub(crate) fn records(alloc: Global, steps: &[Step]) -> Result<Vec<u32>, AllocError>
+pub(crate) fn teams_of_records(before: &Past) -> Result<Vec<u32>, AllocError>
     ensures teams { IfOk result (λ list. list.items
-        ≡ map (λ b. b.team) (records (past steps.now))) }
-    ensures few { IfOk result (λ list. length list.items ≤ length steps.now) }
+        ≡ map (λ b. b.team) (records (history_of before.now))) }
+    ensures few { IfOk result (λ list. length list.items ≤ length before.now.steps.now) }
 {
-    let mut list = Vec::new(alloc);
-    for step in steps {
+    let mut list = Vec::new(before.alloc);
+    for step in before.steps {
         put_record(&mut list, &step.entry)?;
     }
     Ok(list)
 }
 
-/// A process comes in for a member of a team, if the team is there.
-fn swap_in(
-    alloc: Global,
-    list: &mut Vec<Team>,
-    team: u32,
-    out: ProcId,
-    into: ProcId,
-) -> Result<(), AllocError>
+/// Makes the swap in its team, if the team is there.
+fn swap_in(alloc: Global, list: &mut Vec<Team>, swap: Swap) -> Result<(), AllocError>
     ensures { OnOk result (map team_of list.new.items
-        ≡ after_swap (Some (record { team = team; out = out; into = into }))
-        (map team_of list.old.items)) }
+        ≡ after_swap (Some (swap_of swap)) (map team_of list.old.items)) }
 {
-    let team = team as usize;
+    let team = swap.team as usize;
     if team >= list.len() {
         return Ok(());
     }
     let kept = &mut list[team];
-    kept.members = swapped(alloc, &kept.members, out, into)?;
+    kept.members = swapped(alloc, &kept.members, swap.out, swap.into)?;
     Ok(())
 }
 
@@ -155,56 +157,68 @@ fn put_team(alloc: Global, list: &mut Vec<Team>, entry: &Entry) -> Result<(), Al
             list.push(Team { members, policy })?;
             Ok(())
         }
-        Act::Replace { team, out, into } => swap_in(alloc, list, team, out, into),
+        Act::Replace { team, out, into } => swap_in(alloc, list, Swap { team, out, into }),
         _ => Ok(()),
     }
 }
 
 /// The teams, by number.
-pub(crate) fn teams(alloc: Global, steps: &[Step]) -> Result<Vec<Team>, AllocError>
-    ensures { IfOk result (λ list. map team_of list.items ≡ teams (past steps.now)) }
+pub(crate) fn teams(before: &Past) -> Result<Vec<Team>, AllocError>
+    ensures { IfOk result (λ list. map team_of list.items ≡ teams (history_of before.now)) }
 {
-    let mut list = Vec::new(alloc);
-    for step in steps {
-        put_team(alloc, &mut list, &step.entry)?;
+    let mut list = Vec::new(before.alloc);
+    for step in before.steps {
+        put_team(before.alloc, &mut list, &step.entry)?;
     }
     Ok(list)
 }
 
 /// How many teams there are.
-pub(crate) fn team_count(alloc: Global, steps: &[Step]) -> Result<usize, AllocError>
-    ensures { IfOk result (λ count. count ≡ length (teams (past steps.now))) }
+pub(crate) fn team_count(before: &Past) -> Result<usize, AllocError>
+    ensures { IfOk result (λ count. count ≡ length (teams (history_of before.now))) }
 {
-    let list = teams(alloc, steps)?;
+    let list = teams(before)?;
     Ok(list.len())
 }
 
-/// The members of the team with a number.
-pub(crate) fn members_of(
-    alloc: Global,
-    steps: &[Step],
-    team: u32,
-) -> Result<Vec<ProcId>, AllocError>
-    ensures { IfOk result (λ list. list.items ≡ members_of (past steps.now) team) }
+/// The team with a number, if there is one.
+pub(crate) fn team_at(before: &Past, team: u32) -> Result<Option<Team>, AllocError>
+    ensures there { IfOk result (λ found. is_none found
+        ≡ nat_le (length (teams (history_of before.now))) team) }
+    ensures members { IfOk result (λ found. IfSome found (λ kept. kept.members.items
+        ≡ members_of (history_of before.now) team)) }
+    ensures policy { IfOk result (λ found. IfSome found (λ kept. kept.policy
+        ≡ policy_of (history_of before.now) team)) }
 {
-    let teams = teams(alloc, steps)?;
+    let teams = teams(before)?;
     match teams.get(team as usize) {
-        Some(team) => Ok(Vec::from_slice(alloc, &team.members)?),
-        None => Ok(Vec::new(alloc)),
+        Some(kept) => {
+            let members = Vec::from_slice(before.alloc, &kept.members)?;
+            let policy = kept.policy;
+            Ok(Some(Team { members, policy }))
+        }
+        None => Ok(None),
     }
 }
 
-/// The members of the record's team.
-pub(crate) fn members_for(
-    alloc: Global,
-    steps: &[Step],
-    rec: u32,
-) -> Result<Vec<ProcId>, AllocError>
-    ensures { IfOk result (λ list. list.items ≡ members_for (past steps.now) rec) }
+/// The members of the team with a number: none, where there is no such team.
+pub(crate) fn members_of(before: &Past, team: u32) -> Result<Vec<ProcId>, AllocError>
+    ensures { IfOk result (λ list. list.items ≡ members_of (history_of before.now) team) }
 {
-    let records = records(alloc, steps)?;
+    let teams = teams(before)?;
+    match teams.get(team as usize) {
+        Some(kept) => Ok(Vec::from_slice(before.alloc, &kept.members)?),
+        None => Ok(Vec::new(before.alloc)),
+    }
+}
+
+/// The members of the record's team: none, where there is no such record.
+pub(crate) fn members_for(before: &Past, rec: u32) -> Result<Vec<ProcId>, AllocError>
+    ensures { IfOk result (λ list. list.items ≡ members_for (history_of before.now) rec) }
+{
+    let records = teams_of_records(before)?;
     match records.get(rec as usize) {
-        Some(team) => members_of(alloc, steps, *team),
-        None => Ok(Vec::new(alloc)),
+        Some(team) => members_of(before, *team),
+        None => Ok(Vec::new(before.alloc)),
     }
 }

@@ -4,9 +4,10 @@
 ghost use Rattle.std.specs.Prelude.{◌≡◌, ◌==◌, ◌<◌, ◌≤◌, ◌+◌, ◌++◌, [], length, map, find, ℕ, is_some, if◌then◌else◌, option_to_list, None, IfOk, OnOk};
 ghost use Rattle.fy_cluster.specs.History.{History, destroys, some_is, is_stored, is_closing, writes, syncs_at, strikes, closes, place, close_keeps, is_open, is_kept, synced, unsynced, has_synced};
 ghost use Rattle.std.specs.List.{list_any};
-ghost use Rattle.fy_check_by_rules.specs.Past.{moment_of, past};
+ghost use Rattle.fy_check_by_rules.specs.Past.{moment_of, past, history_of};
 ghost use Rattle.fy_check_by_rules.specs.Later.{later_after};
 
+use crate::past::Past;
 use crate::step::Step;
 use crate::strikes::{destroys, strikes};
 use crate::views::{delivers, syncs, tear_of};
@@ -14,7 +15,7 @@ use fy_journal::Reply;
 use fy_kinds::Kind;
 use fy_locality::ProcId;
 use fy_net::Body;
-use std::alloc::{AllocError, Global};
+use std::alloc::AllocError;
 
 /// The record that the step, a Deliver answered Stored, wrote to the process.
 fn writes(step: &Step, p: ProcId) -> Option<u32>
@@ -182,9 +183,11 @@ fn put(list: &mut Vec<u32>, rec: Option<u32>) -> Result<(), AllocError>
 }
 
 /// The records that the process has synced, in the order in which they were written.
-pub(crate) fn synced(alloc: Global, steps: &[Step], p: ProcId) -> Result<Vec<u32>, AllocError>
-    ensures { IfOk result (λ list. list.items ≡ map (λ x. x.rec) (synced (past steps.now) p.0)) }
+pub(crate) fn synced(before: &Past, p: ProcId) -> Result<Vec<u32>, AllocError>
+    ensures { IfOk result (λ list. list.items
+        ≡ map (λ x. x.rec) (synced (history_of before.now) p.0)) }
 {
+    let Past { alloc, steps, .. } = *before;
     let mut list = Vec::new(alloc);
     for (i, step) in steps.iter().enumerate() {
         let place = place(&steps[..i], p);
@@ -195,9 +198,11 @@ pub(crate) fn synced(alloc: Global, steps: &[Step], p: ProcId) -> Result<Vec<u32
 }
 
 /// The records that the process has written and neither synced nor lost, in that order.
-pub(crate) fn unsynced(alloc: Global, steps: &[Step], p: ProcId) -> Result<Vec<u32>, AllocError>
-    ensures { IfOk result (λ list. list.items ≡ map (λ x. x.rec) (unsynced (past steps.now) p.0)) }
+pub(crate) fn unsynced(before: &Past, p: ProcId) -> Result<Vec<u32>, AllocError>
+    ensures { IfOk result (λ list. list.items
+        ≡ map (λ x. x.rec) (unsynced (history_of before.now) p.0)) }
 {
+    let Past { alloc, steps, .. } = *before;
     let mut list = Vec::new(alloc);
     for (i, step) in steps.iter().enumerate() {
         let open = open_write(step, &steps[i + 1..], p);
@@ -214,15 +219,10 @@ fn is_one_of(list: &[u32], rec: u32) -> bool
 }
 
 /// Whether the process has the record synced.
-pub(crate) fn has_synced(
-    alloc: Global,
-    steps: &[Step],
-    rec: u32,
-    p: ProcId,
-) -> Result<bool, AllocError>
-    ensures { IfOk result (λ has. has ≡ has_synced (past steps.now) rec p.0) }
+pub(crate) fn has_synced(before: &Past, rec: u32, p: ProcId) -> Result<bool, AllocError>
+    ensures { IfOk result (λ has. has ≡ has_synced (history_of before.now) rec p.0) }
 {
-    let list = synced(alloc, steps, p)?;
+    let list = synced(before, p)?;
     let has = is_one_of(&list, rec);
     Ok(has)
 }

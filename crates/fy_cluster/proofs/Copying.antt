@@ -13,7 +13,7 @@ use Rattle.fy_cluster.specs.declared.machine.Machine.{Machine}
 use Rattle.fy_cluster.specs.Setup.{Setup}
 use Rattle.fy_cluster.specs.History.{History, Moment, gone, up, sent, records, has_synced}
 use Rattle.fy_cluster.specs.Replies.{refused, refusals, answer, is_full, no_process}
-use Rattle.fy_cluster.specs.Standing.{Stands, Turn, Follows, KeepsTeams, moment_of, begun_of, numbered}
+use Rattle.fy_cluster.specs.Standing.{Stands, Point, Follows, KeepsTeams, moment_of, begun_of, numbered}
 use Rattle.fy_cluster.proofs.Still.{teams_idle, only_traffic}
 use Rattle.fy_cluster.proofs.Refusals.{refuse}
 use Rattle.fy_cluster.proofs.Results.{some_not_none}
@@ -41,66 +41,66 @@ is_begun h m k rec team named = at (slice_get m.teams.records rec) refl named
     at None s named = absurd (some_not_none team named)
     at (Some it) s named = within_policies (records h) rec (begun_of it) (record_is h m.teams k rec ∙ ap (option_map begun_of) s)
 
-pub no_record_to_copy : (turn : Turn) (rec : ℕ) (from to : ProcId) (m : Machine) → Stands turn.setup turn.before m → nat_le (length (records turn.before)) rec ≡ true → Follows turn (CopyTo from rec to) (No NoRecord) m
-no_record_to_copy turn rec from to m k a = refuse turn (CopyTo from rec to) NoRecord m k (copy_reply turn.setup turn.before turn.by rec from to true _ _ _ _ _ a refl refl refl refl refl)
+pub no_record_to_copy : (point : Point) (rec : ℕ) (from to : ProcId) (m : Machine) → Stands point.setup point.before m → nat_le (length (records point.before)) rec ≡ true → Follows point (CopyTo from rec to) (No NoRecord) m
+no_record_to_copy point rec from to m k a = refuse point (CopyTo from rec to) NoRecord m k (copy_reply point.setup point.before point.by rec from to true _ _ _ _ _ a refl refl refl refl refl)
 
 -- both processes are there
-pub record Between (turn : Turn) (rec : ℕ) (from to : ProcId) : Type 0 where
-  pub begun : nat_le (length (records turn.before)) rec ≡ false
-  pub from_there : from.0 < length turn.setup.processes
-  pub to_there : to.0 < length turn.setup.processes
+pub record Between (point : Point) (rec : ℕ) (from to : ProcId) : Type 0 where
+  pub begun : nat_le (length (records point.before)) rec ≡ false
+  pub from_there : from.0 < length point.setup.processes
+  pub to_there : to.0 < length point.setup.processes
 
-both_there : (turn : Turn) (rec : ℕ) (from to : ProcId) → Between turn rec from to → (no_process turn.setup from.0 || no_process turn.setup to.0) ≡ false
-both_there turn rec from to is = let f = is.from_there in let t = is.to_there in grind (arith, nat_tests)
+both_there : (point : Point) (rec : ℕ) (from to : ProcId) → Between point rec from to → (no_process point.setup from.0 || no_process point.setup to.0) ≡ false
+both_there point rec from to is = let f = is.from_there in let t = is.to_there in grind (arith, nat_tests)
 
-pub one_missing : (turn : Turn) (rec : ℕ) (from to : ProcId) (m : Machine) → Stands turn.setup turn.before m → nat_le (length (records turn.before)) rec ≡ false → (no_process turn.setup from.0 || no_process turn.setup to.0) ≡ true → Follows turn (CopyTo from rec to) (No NoProcess) m
-one_missing turn rec from to m k a b = refuse turn (CopyTo from rec to) NoProcess m k (copy_reply turn.setup turn.before turn.by rec from to false true _ _ _ _ a b refl refl refl refl)
+pub one_missing : (point : Point) (rec : ℕ) (from to : ProcId) (m : Machine) → Stands point.setup point.before m → nat_le (length (records point.before)) rec ≡ false → (no_process point.setup from.0 || no_process point.setup to.0) ≡ true → Follows point (CopyTo from rec to) (No NoProcess) m
+one_missing point rec from to m k a b = refuse point (CopyTo from rec to) NoProcess m k (copy_reply point.setup point.before point.by rec from to false true _ _ _ _ a b refl refl refl refl)
 
-pub to_gone : (turn : Turn) (rec : ℕ) (from to : ProcId) (m : Machine) → Stands turn.setup turn.before m → Between turn rec from to → gone turn.before to.0 ≡ true → Follows turn (CopyTo from rec to) (No Gone) m
-to_gone turn rec from to m k is d = refuse turn (CopyTo from rec to) Gone m k (copy_reply turn.setup turn.before turn.by rec from to false false true _ _ _ is.begun (both_there turn rec from to is) d refl refl refl)
+pub to_gone : (point : Point) (rec : ℕ) (from to : ProcId) (m : Machine) → Stands point.setup point.before m → Between point rec from to → gone point.before to.0 ≡ true → Follows point (CopyTo from rec to) (No Gone) m
+to_gone point rec from to m k is d = refuse point (CopyTo from rec to) Gone m k (copy_reply point.setup point.before point.by rec from to false false true _ _ _ is.begun (both_there point rec from to is) d refl refl refl)
 
-pub from_down : (turn : Turn) (rec : ℕ) (from to : ProcId) (m : Machine) → Stands turn.setup turn.before m → Between turn rec from to → gone turn.before to.0 ≡ false → up turn.before from.0 ≡ false → Follows turn (CopyTo from rec to) (No NotUp) m
-from_down turn rec from to m k is d e = refuse turn (CopyTo from rec to) NotUp m k (copy_reply turn.setup turn.before turn.by rec from to false false false false _ _ is.begun (both_there turn rec from to is) d e refl refl)
+pub from_down : (point : Point) (rec : ℕ) (from to : ProcId) (m : Machine) → Stands point.setup point.before m → Between point rec from to → gone point.before to.0 ≡ false → up point.before from.0 ≡ false → Follows point (CopyTo from rec to) (No NotUp) m
+from_down point rec from to m k is d e = refuse point (CopyTo from rec to) NotUp m k (copy_reply point.setup point.before point.by rec from to false false false false _ _ is.begun (both_there point rec from to is) d e refl refl)
 
-pub no_copy : (turn : Turn) (rec : ℕ) (from to : ProcId) (m : Machine) → Stands turn.setup turn.before m → Between turn rec from to → gone turn.before to.0 ≡ false → up turn.before from.0 ≡ true → has_synced turn.before rec from.0 ≡ false → Follows turn (CopyTo from rec to) (No NoCopy) m
-no_copy turn rec from to m k is d e f = refuse turn (CopyTo from rec to) NoCopy m k (copy_reply turn.setup turn.before turn.by rec from to false false false true false _ is.begun (both_there turn rec from to is) d e f refl)
+pub no_copy : (point : Point) (rec : ℕ) (from to : ProcId) (m : Machine) → Stands point.setup point.before m → Between point rec from to → gone point.before to.0 ≡ false → up point.before from.0 ≡ true → has_synced point.before rec from.0 ≡ false → Follows point (CopyTo from rec to) (No NoCopy) m
+no_copy point rec from to m k is d e f = refuse point (CopyTo from rec to) NoCopy m k (copy_reply point.setup point.before point.by rec from to false false false true false _ is.begun (both_there point rec from to is) d e f refl)
 
 -- nothing but a full network speaks against the copy
-pub record MayCopy (turn : Turn) (rec : ℕ) (from to : ProcId) : Type 0 where
-  pub between : Between turn rec from to
-  pub still : gone turn.before to.0 ≡ false
-  pub awake : up turn.before from.0 ≡ true
-  pub holds : has_synced turn.before rec from.0 ≡ true
+pub record MayCopy (point : Point) (rec : ℕ) (from to : ProcId) : Type 0 where
+  pub between : Between point rec from to
+  pub still : gone point.before to.0 ≡ false
+  pub awake : up point.before from.0 ≡ true
+  pub holds : has_synced point.before rec from.0 ≡ true
 
-pub copy_full : (turn : Turn) (rec : ℕ) (from to : ProcId) → MayCopy turn rec from to → is_full turn.before 1 ≡ true
-    → refused (refusals turn.setup turn.before (CopyTo from rec to)) (answer turn.setup turn.before turn.by (CopyTo from rec to)) ≡ No NetFull
-copy_full turn rec from to may full = copy_reply turn.setup turn.before turn.by rec from to false false false true true true may.between.begun (both_there turn rec from to may.between) may.still may.awake may.holds full
+pub copy_full : (point : Point) (rec : ℕ) (from to : ProcId) → MayCopy point rec from to → is_full point.before 1 ≡ true
+    → refused (refusals point.setup point.before (CopyTo from rec to)) (answer point.setup point.before point.by (CopyTo from rec to)) ≡ No NetFull
+copy_full point rec from to may full = copy_reply point.setup point.before point.by rec from to false false false true true true may.between.begun (both_there point rec from to may.between) may.still may.awake may.holds full
 
-pub copies : (turn : Turn) (rec : ℕ) (from to : ProcId) (machine : Machine) (room : Traffic) (number : ℕ) (net : Traffic) → Stands turn.setup turn.before machine
-    → MayCopy turn rec from to → reserve_refusal machine.net 1 ≡ None → room ≡ record machine.net { room = room.room } → number ≡ room.sent → net ≡ sent_on (Store rec to) room
-    → Follows turn (CopyTo from rec to) (Sent number) (record machine { net = net })
-copies turn rec from to machine room number net k may clear reserved n sent_is = rw number_is (record {
-  right = sym (copy_reply c h turn.by rec from to false false false true true false may.between.begun (both_there turn rec from to may.between) may.still may.awake may.holds (room_for c h machine.net 1 k.net clear).0);
-  stands = only_traffic turn (CopyTo from rec to) (Sent (length (sent turn.before))) machine net machine.teams refl (λ q. refl) k
+pub copies : (point : Point) (rec : ℕ) (from to : ProcId) (machine : Machine) (room : Traffic) (number : ℕ) (net : Traffic) → Stands point.setup point.before machine
+    → MayCopy point rec from to → reserve_refusal machine.net 1 ≡ None → room ≡ record machine.net { room = room.room } → number ≡ room.sent → net ≡ sent_on (Store rec to) room
+    → Follows point (CopyTo from rec to) (Sent number) (record machine { net = net })
+copies point rec from to machine room number net k may clear reserved n sent_is = rw number_is (record {
+  right = sym (copy_reply c h point.by rec from to false false false true true false may.between.begun (both_there point rec from to may.between) may.still may.awake may.holds (room_for c h machine.net 1 k.net clear).0);
+  stands = only_traffic point (CopyTo from rec to) (Sent (length (sent point.before))) machine net machine.teams refl (λ q. refl) k
       (net_sent c m h machine.net net (Store rec to ∷ []) refl (room_for c h machine.net 1 k.net clear).1 (λ n. refl) refl refl refl
       (ap (λ (r : Traffic). r.in_flight) sent_is ∙ ap (λ (r : Traffic). r.in_flight ++ numbered r.sent (Store rec to ∷ [])) reserved)
       (ap (λ (r : Traffic). r.sent) sent_is ∙ ap (λ (r : Traffic). r.sent + 1) reserved)
       (ap (λ (r : Traffic). r.clock) sent_is ∙ ap (λ (r : Traffic). r.clock) reserved)
       (ap (λ (r : Traffic). r.until) sent_is ∙ ap (λ (r : Traffic). r.until) reserved)
       k.net)
-      (teams_idle turn (CopyTo from rec to) (Sent (length (sent turn.before))) machine.teams refl refl refl refl refl k.teams);
+      (teams_idle point (CopyTo from rec to) (Sent (length (sent point.before))) machine.teams refl refl refl refl refl k.teams);
 })
   where
     c : Setup
-    c = turn.setup
+    c = point.setup
 
     h : History
-    h = turn.before
+    h = point.before
 
     m : Moment
-    m = moment_of turn (CopyTo from rec to) (Sent (length (sent turn.before)))
+    m = moment_of point (CopyTo from rec to) (Sent (length (sent point.before)))
 
-    number_is : number ≡ length (sent turn.before)
+    number_is : number ≡ length (sent point.before)
     number_is = n ∙ ap (λ (r : Traffic). r.sent) reserved ∙ k.net.sent_so_far
 
 -- what the greater of two numbers says of both

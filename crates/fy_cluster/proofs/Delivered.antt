@@ -24,7 +24,7 @@ use Rattle.fy_cluster.specs.Setup.{Setup}
 use Rattle.fy_cluster.specs.History.{History, Moment, BegunRecord, some_is, sent, in_flight, now, clogged, up, writes, store_to, word_of, marks, tells, marked, marked_after, acked, teams, records, members_for, payload_of, synced, unsynced}
 use Rattle.fy_cluster.specs.Replies.{refused, refusals, answer, on_delivery, is_down_store, is_acked_with}
 use Rattle.fy_disk.specs.Disk.{blank}
-use Rattle.fy_cluster.specs.Standing.{Stands, Turn, Follows, moment_of, KeepsNet, KeepsTeams, stored, begun_of, IsLived}
+use Rattle.fy_cluster.specs.Standing.{Stands, Point, Follows, moment_of, KeepsNet, KeepsTeams, stored, begun_of, IsLived}
 use Rattle.fy_cluster.proofs.Still.{dead_still, up_still, teams_still, rights_still, stored_still, only_traffic}
 use Rattle.fy_cluster.proofs.DiskSteps.{synced_else, unsynced_else, own}
 use Rattle.fy_cluster.proofs.Refusals.{refuse}
@@ -47,23 +47,23 @@ deliver_reply : (c : Setup) (h : History) (by n : ℕ) (b : Body) (x d : Bool) �
 unfolding refusals answer
 deliver_reply c h by n b x d f s ex ed = rw (f, s, ex, ed) refl
 
-pub none_there : (turn : Turn) (n : ℕ) (m : Machine) → Stands turn.setup turn.before m → body_of m.net.in_flight n ≡ None → Follows turn (Deliver n) (No NoMessage) m
-none_there turn n m k e = refuse turn (Deliver n) NoMessage m k (not_sent turn.setup turn.before turn.by n (flies_not turn.setup turn.before m.net k.net (was_sent turn.before) n e))
+pub none_there : (point : Point) (n : ℕ) (m : Machine) → Stands point.setup point.before m → body_of m.net.in_flight n ≡ None → Follows point (Deliver n) (No NoMessage) m
+none_there point n m k e = refuse point (Deliver n) NoMessage m k (not_sent point.setup point.before point.by n (flies_not point.setup point.before m.net k.net (was_sent point.before) n e))
 
 -- whether a process is clogged is what the network says
 pub clog_is : (c : Setup) (h : History) (net : Traffic) (p : ℕ) → p < length net.until → KeepsNet c h net → is_clogged net p ≡ clogged h p
 clog_is c h net p l k = ap (λ t. nat_lt t (slice_index net.until p)) k.clock ∙ sym (k.ends p (now h) (let n = k.count in omega arith) (le_refl (now h)))
 
-pub is_held : (turn : Turn) (n : ℕ) (b : Body) (m : Machine) → Stands turn.setup turn.before m → body_of m.net.in_flight n ≡ Some b → process_of b < length m.net.until → is_clogged m.net (process_of b) ≡ true → Follows turn (Deliver n) (No Clogged) m
-is_held turn n b m k e l x =
-    let f = flies turn.setup turn.before m.net k.net n b e in
-    refuse turn (Deliver n) Clogged m k (deliver_reply turn.setup turn.before turn.by n b true _ f.0 f.1 (sym (clog_is turn.setup turn.before m.net (process_of b) l k.net) ∙ x) refl)
+pub is_held : (point : Point) (n : ℕ) (b : Body) (m : Machine) → Stands point.setup point.before m → body_of m.net.in_flight n ≡ Some b → process_of b < length m.net.until → is_clogged m.net (process_of b) ≡ true → Follows point (Deliver n) (No Clogged) m
+is_held point n b m k e l x =
+    let f = flies point.setup point.before m.net k.net n b e in
+    refuse point (Deliver n) Clogged m k (deliver_reply point.setup point.before point.by n b true _ f.0 f.1 (sym (clog_is point.setup point.before m.net (process_of b) l k.net) ∙ x) refl)
 
-pub is_down : (turn : Turn) (n rec : ℕ) (to : ProcId) (m : Machine) → Stands turn.setup turn.before m → body_of m.net.in_flight n ≡ Some (Store rec to) → to.0 < length m.net.until → is_clogged m.net to.0 ≡ false → sets.contains m.up to.0 ≡ false → Follows turn (Deliver n) (No NotUp) m
-is_down turn n rec to m k e l x u =
-    let f = flies turn.setup turn.before m.net k.net n (Store rec to) e in
-    let low : up turn.before to.0 ≡ false = sym (k.up.each to.0 (let c = k.net.count in omega arith)) ∙ u in
-    refuse turn (Deliver n) NotUp m k (deliver_reply turn.setup turn.before turn.by n (Store rec to) false true f.0 f.1 (sym (clog_is turn.setup turn.before m.net to.0 l k.net) ∙ x) (ap not low))
+pub is_down : (point : Point) (n rec : ℕ) (to : ProcId) (m : Machine) → Stands point.setup point.before m → body_of m.net.in_flight n ≡ Some (Store rec to) → to.0 < length m.net.until → is_clogged m.net to.0 ≡ false → sets.contains m.up to.0 ≡ false → Follows point (Deliver n) (No NotUp) m
+is_down point n rec to m k e l x u =
+    let f = flies point.setup point.before m.net k.net n (Store rec to) e in
+    let low : up point.before to.0 ≡ false = sym (k.up.each to.0 (let c = k.net.count in omega arith)) ∙ u in
+    refuse point (Deliver n) NotUp m k (deliver_reply point.setup point.before point.by n (Store rec to) false true f.0 f.1 (sym (clog_is point.setup point.before m.net to.0 l k.net) ∙ x) (ap not low))
 
 -- ---- a store
 
@@ -82,14 +82,14 @@ payload_is h roster k rec x e = at (slice_get roster.records rec) refl e
     at None s e = absurd (some_not_none x e)
     at (Some it) s e = some_is_same x it.payload e ∙ sym (ap (λ (o : Option BegunRecord). option_map_or (λ b. b.payload) o []) (record_is h roster k rec ∙ ap (option_map begun_of) s))
 
-pub payload_there : Tested → (turn : Turn) (n rec : ℕ) (to : ProcId) (m : Machine) → Stands turn.setup turn.before m → IsLived turn.setup turn.before → body_of m.net.in_flight n ≡ Some (Store rec to) → None ≡ option_map (λ (it : Record). it.payload) (slice_get m.teams.records rec) → ⊥
-payload_there tested turn n rec to m k l e none = at (slice_get m.teams.records rec) refl none
+pub payload_there : Tested → (point : Point) (n rec : ℕ) (to : ProcId) (m : Machine) → Stands point.setup point.before m → IsLived point.setup point.before → body_of m.net.in_flight n ≡ Some (Store rec to) → None ≡ option_map (λ (it : Record). it.payload) (slice_get m.teams.records rec) → ⊥
+payload_there tested point n rec to m k l e none = at (slice_get m.teams.records rec) refl none
   where
-    begun : Known turn.before rec
-    begun = slice_get-each (λ b. Known turn.before (record_of b)) (sent turn.before) n (Store rec to) (sound_of tested turn.setup turn.before l).sent_known (flies turn.setup turn.before m.net k.net n (Store rec to) e).1
+    begun : Known point.before rec
+    begun = slice_get-each (λ b. Known point.before (record_of b)) (sent point.before) n (Store rec to) (sound_of tested point.setup point.before l).sent_known (flies point.setup point.before m.net k.net n (Store rec to) e).1
 
     at : (o : Option Record) → slice_get m.teams.records rec ≡ o → None ≡ option_map (λ (it : Record). it.payload) o → ⊥
-    at None s none = some_not_none begun.0 (sym begun.1 ∙ record_is turn.before m.teams k.teams rec ∙ ap (option_map begun_of) s)
+    at None s none = some_not_none begun.0 (sym begun.1 ∙ record_is point.before m.teams k.teams rec ∙ ap (option_map begun_of) s)
     at (Some it) s none = some_not_none it.payload (sym none)
 
 -- a list after one element was written over
@@ -103,21 +103,21 @@ after_set xs i p x other l w = at (p == i) refl
         slice_get-get_or (slice_set xs i x) p other (let n = length-set xs i x in omega arith) ∙ ap Some (get_or-set_other xs i p x other apart) ∙ sym (slice_get-get_or xs p other w)
 
 -- the machine once a store is delivered
-pub stores : (turn : Turn) (n rec : ℕ) (to : ProcId) (machine : Machine) (disk : OnDisk) (payload : List ℕ) (after : Machine) → Stands turn.setup turn.before machine
+pub stores : (point : Point) (n rec : ℕ) (to : ProcId) (machine : Machine) (disk : OnDisk) (payload : List ℕ) (after : Machine) → Stands point.setup point.before machine
     → body_of machine.net.in_flight n ≡ Some (Store rec to) → to.0 < length machine.net.until → is_clogged machine.net to.0 ≡ false → sets.contains machine.up to.0 ≡ true
-    → payload ≡ payload_of turn.before rec
-    → slice_get machine.disks.items to.0 ≡ Some disk
+    → payload ≡ payload_of point.before rec
+    → slice_get machine.disks to.0 ≡ Some disk
     → after.dead ≡ machine.dead → after.book ≡ machine.book → after.up ≡ machine.up → after.net ≡ left_by n machine.net → after.teams ≡ machine.teams
-    → after.disks.items ≡ slice_set machine.disks.items to.0 (record { synced = disk.synced; unsynced = disk.unsynced ++ record { rec = rec; payload = payload } ∷ [] })
-    → Follows turn (Deliver n) Stored after
-stores turn n rec to machine disk payload after k e there x u held was e1 e2 e3 e4 e5 e6 = record {
-  right = sym (deliver_reply c h turn.by n (Store rec to) false false f.0 f.1 (sym (clog_is c h machine.net to.0 there k.net) ∙ x) (ap not (sym (k.up.each to.0 within) ∙ u)));
+    → after.disks ≡ slice_set machine.disks to.0 (record { synced = disk.synced; unsynced = disk.unsynced ++ record { rec = rec; payload = payload } ∷ [] })
+    → Follows point (Deliver n) Stored after
+stores point n rec to machine disk payload after k e there x u held was e1 e2 e3 e4 e5 e6 = record {
+  right = sym (deliver_reply c h point.by n (Store rec to) false false f.0 f.1 (sym (clog_is c h machine.net to.0 there k.net) ∙ x) (ap not (sym (k.up.each to.0 within) ∙ u)));
   stands = record {
     dead = rw e1 (dead_still c m h machine.dead (λ p. refl) refl k.dead);
     rights = rw e2 (rights_still c m h machine.book refl refl refl refl k.rights);
     disks = rw e6 (record {
-      count = length-set machine.disks.items to.0 _ ∙ k.disks.count;
-      each = λ p l. after_set machine.disks.items to.0 p _ blank room (let n = k.disks.count in omega arith) ∙ at p l (p == to.0) refl;
+      count = length-set machine.disks to.0 _ ∙ k.disks.count;
+      each = λ p l. after_set machine.disks to.0 p _ blank room (let n = k.disks.count in omega arith) ∙ at p l (p == to.0) refl;
     });
     up = rw e3 (up_still c m h machine.up (λ p. refl) refl k.up);
     net = rw e4 (net_left c m h machine.net n f.0 refl (λ i. swap_eq i n) refl refl refl k.net);
@@ -129,31 +129,31 @@ stores turn n rec to machine disk payload after k e there x u held was e1 e2 e3 
 }
   where
     c : Setup
-    c = turn.setup
+    c = point.setup
 
     h : History
-    h = turn.before
+    h = point.before
 
     m : Moment
-    m = moment_of turn (Deliver n) Stored
+    m = moment_of point (Deliver n) Stored
 
-    f : (in_flight turn.before n ≡ true) × (slice_get (sent turn.before) n ≡ Some (Store rec to))
-    f = flies turn.setup turn.before machine.net k.net n (Store rec to) e
+    f : (in_flight point.before n ≡ true) × (slice_get (sent point.before) n ≡ Some (Store rec to))
+    f = flies point.setup point.before machine.net k.net n (Store rec to) e
 
-    within : to.0 < length turn.setup.processes
+    within : to.0 < length point.setup.processes
     within = let c = k.net.count in omega arith
 
-    room : to.0 < length machine.disks.items
+    room : to.0 < length machine.disks
     room = let c = k.net.count in let d = k.disks.count in omega arith
 
     wrote : (p : ℕ) → writes m p ≡ (if to.0 == p then Some rec else None)
     wrote p = ap (option_and_then (store_to p)) f.1
 
-    disk_is : disk ≡ stored turn.before to.0
-    disk_is = some_is_same disk (stored turn.before to.0) (sym was ∙ k.disks.each to.0 within)
+    disk_is : disk ≡ stored point.before to.0
+    disk_is = some_is_same disk (stored point.before to.0) (sym was ∙ k.disks.each to.0 within)
 
-    at : (p : ℕ) → p < length turn.setup.processes → (b : Bool) → (p == to.0) ≡ b
-        → (if b then Some (record { synced = disk.synced; unsynced = disk.unsynced ++ record { rec = rec; payload = payload } ∷ [] }) else slice_get machine.disks.items p) ≡ Some (stored (m ∷ h) p)
+    at : (p : ℕ) → p < length point.setup.processes → (b : Bool) → (p == to.0) ≡ b
+        → (if b then Some (record { synced = disk.synced; unsynced = disk.unsynced ++ record { rec = rec; payload = payload } ∷ [] }) else slice_get machine.disks p) ≡ Some (stored (m ∷ h) p)
     at p l true s =
         let same : p ≡ to.0 = eqb-true p to.0 s in
         let hit : (to.0 == p) ≡ true = swap_eq p to.0 ∙ s in
@@ -167,11 +167,11 @@ stores turn n rec to machine disk payload after k e there x u held was e1 e2 e3 
 
 -- ---- a word
 
-pub rec_there : Tested → (turn : Turn) (n rec : ℕ) (from : ProcId) (m : Machine) → Stands turn.setup turn.before m → IsLived turn.setup turn.before → body_of m.net.in_flight n ≡ Some (Synced rec from) → rec < length m.teams.records
-rec_there tested turn n rec from m k l e =
-    let begun : Known turn.before rec = slice_get-each (λ b. Known turn.before (record_of b)) (sent turn.before) n (Synced rec from) (sound_of tested turn.setup turn.before l).sent_known (flies turn.setup turn.before m.net k.net n (Synced rec from) e).1 in
-    let within : rec < length (records turn.before) = slice_get_within (records turn.before) rec begun.0 begun.1 in
-    let same : length (map begun_of m.teams.records) ≡ length (records turn.before) = ap length k.teams.records in
+pub rec_there : Tested → (point : Point) (n rec : ℕ) (from : ProcId) (m : Machine) → Stands point.setup point.before m → IsLived point.setup point.before → body_of m.net.in_flight n ≡ Some (Synced rec from) → rec < length m.teams.records
+rec_there tested point n rec from m k l e =
+    let begun : Known point.before rec = slice_get-each (λ b. Known point.before (record_of b)) (sent point.before) n (Synced rec from) (sound_of tested point.setup point.before l).sent_known (flies point.setup point.before m.net k.net n (Synced rec from) e).1 in
+    let within : rec < length (records point.before) = slice_get_within (records point.before) rec begun.0 begun.1 in
+    let same : length (map begun_of m.teams.records) ≡ length (records point.before) = ap length k.teams.records in
     let mapped : length (map begun_of m.teams.records) ≡ length m.teams.records = length-map m.teams.records begun_of in
     omega arith
 
@@ -187,13 +187,13 @@ or_swap false false = refl
 
 -- the machine once a process's word is delivered
 pub marks_now : Tested → MarkLeavesTeams → MarkIsOneMore → AckedByMark
-    → (turn : Turn) (n rec : ℕ) (from : ProcId) (machine : Machine) (done : Bool) (net : Traffic) (roster : Roster) → Stands turn.setup turn.before machine → IsLived turn.setup turn.before
+    → (point : Point) (n rec : ℕ) (from : ProcId) (machine : Machine) (done : Bool) (net : Traffic) (roster : Roster) → Stands point.setup point.before machine → IsLived point.setup point.before
     → body_of machine.net.in_flight n ≡ Some (Synced rec from) → from.0 < length machine.net.until → is_clogged machine.net from.0 ≡ false
     → net ≡ left_by n machine.net → roster ≡ marked_by rec from.0 machine.teams → done ≡ is_acked roster rec
-    → Follows turn (Deliver n) (Marked done) (record machine { net = net; teams = roster })
-marks_now tested same_teams more by_mark turn n rec from machine done net roster k l e there x left is told = rw left (record {
-  right = ap Marked (told ∙ ap (λ r. is_acked r rec) is ∙ acked_now rec ∙ acked_is) ∙ sym (deliver_reply c h turn.by n (Synced rec from) false false f.0 f.1 (sym (clog_is c h machine.net from.0 there k.net) ∙ x) refl);
-  stands = only_traffic turn (Deliver n) (Marked done) machine (left_by n machine.net) roster refl (λ p. refl) k
+    → Follows point (Deliver n) (Marked done) (record machine { net = net; teams = roster })
+marks_now tested same_teams more by_mark point n rec from machine done net roster k l e there x left is told = rw left (record {
+  right = ap Marked (told ∙ ap (λ r. is_acked r rec) is ∙ acked_now rec ∙ acked_is) ∙ sym (deliver_reply c h point.by n (Synced rec from) false false f.0 f.1 (sym (clog_is c h machine.net from.0 there k.net) ∙ x) refl);
+  stands = only_traffic point (Deliver n) (Marked done) machine (left_by n machine.net) roster refl (λ p. refl) k
       (net_left c m h machine.net n f.0 refl (λ i. swap_eq i n) refl refl refl k.net)
       (rw is (record {
         teams = same_teams machine.teams rec from.0 ∙ k.teams.teams ∙ sym (append-nil (teams h));
@@ -204,22 +204,22 @@ marks_now tested same_teams more by_mark turn n rec from machine done net roster
 })
   where
     c : Setup
-    c = turn.setup
+    c = point.setup
 
     h : History
-    h = turn.before
+    h = point.before
 
     m : Moment
-    m = moment_of turn (Deliver n) (Marked done)
+    m = moment_of point (Deliver n) (Marked done)
 
     marked_now : Roster
     marked_now = marked_by rec from.0 machine.teams
 
-    f : (in_flight turn.before n ≡ true) × (slice_get (sent turn.before) n ≡ Some (Synced rec from))
-    f = flies turn.setup turn.before machine.net k.net n (Synced rec from) e
+    f : (in_flight point.before n ≡ true) × (slice_get (sent point.before) n ≡ Some (Synced rec from))
+    f = flies point.setup point.before machine.net k.net n (Synced rec from) e
 
     within : rec < length machine.teams.records
-    within = rec_there tested turn n rec from machine k l e
+    within = rec_there tested point n rec from machine k l e
 
     eq_swap : (a b : ℕ) → (a == b) ≡ (b == a)
     eq_swap a b = swap_eq b a

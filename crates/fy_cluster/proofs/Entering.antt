@@ -15,7 +15,7 @@ use Rattle.fy_cluster.specs.Setup.{Setup}
 use Rattle.fy_cluster.specs.History.{History, moment, after, history}
 use Rattle.fy_cluster.specs.Replies.{refused, refusals, reasons, answer, reply, no_actor, may}
 use Rattle.fy_cluster.specs.Course.{Course}
-use Rattle.fy_cluster.specs.Standing.{Stands, Turn, Comes, Answers, entry_of, IsKept, IsLived}
+use Rattle.fy_cluster.specs.Standing.{Stands, Point, Comes, Answers, entry_of, IsKept, IsLived}
 use Rattle.fy_cluster.proofs.Journals.{after-append, legal-push}
 use Rattle.fy_cluster.proofs.Refusals.{unmoved_by}
 
@@ -41,15 +41,15 @@ may_reply : (c : Setup) (h : History) (by : ℕ) (act : Act) (role : Role) → s
 unfolding reply reasons
 may_reply c h by act role e m = let known : no_actor c by ≡ false = within_roles c.roles by role e in rw (known, e, m) refl
 
-pub by_stranger : (turn : Turn) (by : ℕ) (act : Act) (m : Machine) → Stands turn.setup turn.before m → by ≡ turn.by → slice_get turn.setup.roles by ≡ None → Answers turn act (Ok (No Stranger)) m
-by_stranger turn by act m k same e = (sym (stranger turn.setup turn.before turn.by act (sym (ap (slice_get turn.setup.roles) same) ∙ e)), unmoved_by turn act Stranger m k)
+pub by_stranger : (point : Point) (by : ℕ) (act : Act) (m : Machine) → Stands point.setup point.before m → by ≡ point.by → slice_get point.setup.roles by ≡ None → Answers point act (Ok (No Stranger)) m
+by_stranger point by act m k same e = (sym (stranger point.setup point.before point.by act (sym (ap (slice_get point.setup.roles) same) ∙ e)), unmoved_by point act Stranger m k)
 
-pub by_wrong_role : (turn : Turn) (by : ℕ) (act : Act) (role : Role) (m : Machine) → Stands turn.setup turn.before m → by ≡ turn.by → slice_get turn.setup.roles by ≡ Some role → may role act ≡ false → Answers turn act (Ok (No WrongRole)) m
-by_wrong_role turn by act role m k same e f = (sym (wrong_role turn.setup turn.before turn.by act role (sym (ap (slice_get turn.setup.roles) same) ∙ e) f), unmoved_by turn act WrongRole m k)
+pub by_wrong_role : (point : Point) (by : ℕ) (act : Act) (role : Role) (m : Machine) → Stands point.setup point.before m → by ≡ point.by → slice_get point.setup.roles by ≡ Some role → may role act ≡ false → Answers point act (Ok (No WrongRole)) m
+by_wrong_role point by act role m k same e f = (sym (wrong_role point.setup point.before point.by act role (sym (ap (slice_get point.setup.roles) same) ∙ e) f), unmoved_by point act WrongRole m k)
 
-pub by_actor : (turn : Turn) (by : ℕ) (act : Act) (role : Role) (result : Result Reply Fault) (m : Machine) → by ≡ turn.by → slice_get turn.setup.roles by ≡ Some role → may role act ≡ true → Comes turn act result m → Answers turn act result m
-by_actor turn by act role (Ok answered) m same e f k = (k.right ∙ sym (may_reply turn.setup turn.before turn.by act role (sym (ap (slice_get turn.setup.roles) same) ∙ e) f), k.stands)
-by_actor turn by act role (Err fault) m same e f k = k
+pub by_actor : (point : Point) (by : ℕ) (act : Act) (role : Role) (result : Result Reply Fault) (m : Machine) → by ≡ point.by → slice_get point.setup.roles by ≡ Some role → may role act ≡ true → Comes point act result m → Answers point act result m
+by_actor point by act role (Ok answered) m same e f k = (k.right ∙ sym (may_reply point.setup point.before point.by act role (sym (ap (slice_get point.setup.roles) same) ∙ e) f), k.stands)
+by_actor point by act role (Err fault) m same e f k = k
 
 -- ---- the journal
 
@@ -64,16 +64,16 @@ length-history c journal = length-after c [] journal ∙ (omega arith)
 pub not_full : (course : Course) → (IsTrue false ↔ (course.setup.limit ≤ length course.journal)) → length course.journal < course.setup.limit
 not_full course full = elim (cases_lt (length course.journal) course.setup.limit) [ inl room ↦ room | inr none ↦ absurd (false≢true (full.1 none)) ]
 
--- a turn after a journal
-abbrev pub turn_after : Setup → List Entry → ℕ → Turn
-turn_after c journal by = record { setup = c; before = history c journal; by = by }
+-- a point after a journal
+abbrev pub point_after : Setup → List Entry → ℕ → Point
+point_after c journal by = record { setup = c; before = history c journal; by = by }
 
 -- its entry is the next of the journal
-pub kept_on : (c : Setup) (journal : List Entry) (by : ℕ) (act : Act) (answered : Reply) (m old : Machine) → IsKept c journal old → length journal < c.limit → Answers (turn_after c journal by) act (Ok answered) m
+pub kept_on : (c : Setup) (journal : List Entry) (by : ℕ) (act : Act) (answered : Reply) (m old : Machine) → IsKept c journal old → length journal < c.limit → Answers (point_after c journal by) act (Ok answered) m
     → IsKept c (journal ++ record { at = length journal; by = by; act = act; reply = answered } ∷ []) m
 kept_on c journal by act answered m old k room a =
     let e : Entry = record { at = length journal; by = by; act = act; reply = answered } in
-    let same : entry_of (turn_after c journal by) act answered ≡ e = ap (λ n. record { at = n; by = by; act = act; reply = answered }) (length-history c journal) in
+    let same : entry_of (point_after c journal by) act answered ≡ e = ap (λ n. record { at = n; by = by; act = act; reply = answered }) (length-history c journal) in
     record {
       setup = k.setup;
       legal = (let l : length (journal ++ e ∷ []) ≡ length journal + 1 = length-append journal (e ∷ []) in omega arith, legal-push c [] journal e k.legal.1 (record { place = sym (length-history c journal); right = a.0 }));
@@ -84,7 +84,7 @@ pub lived : (c : Setup) (journal : List Entry) (m : Machine) → IsKept c journa
 lived c journal m k room = record { journal = journal; same = refl; setup = k.setup; legal = k.legal; room = room }
 
 -- whether or not an entry was made, the journal is kept
-pub kept_after_act : (c : Setup) (journal entries : List Entry) (by : ℕ) (act : Act) (result : Result Reply Fault) (m old : Machine) → IsKept c journal old → length journal < c.limit → Answers (turn_after c journal by) act result m
+pub kept_after_act : (c : Setup) (journal entries : List Entry) (by : ℕ) (act : Act) (result : Result Reply Fault) (m old : Machine) → IsKept c journal old → length journal < c.limit → Answers (point_after c journal by) act result m
     → IfOk result (λ answered. entries ≡ journal ++ record { at = length journal; by = by; act = act; reply = answered } ∷ []) → OnErr result (entries ≡ journal) → IsKept c entries m
 kept_after_act c journal entries by act (Ok answered) m old k room a entered err = rw entered (kept_on c journal by act answered m old k room a)
 kept_after_act c journal entries by act (Err fault) m old k room a entered err = rw err (record { setup = k.setup; legal = k.legal; stands = a.1 })

@@ -1,12 +1,10 @@
 -- the machine finds the keeper of a record
-use Rattle.std.proofs.Common.{◌≡◌, ℕ, suc, ◌+◌, ◌<◌, Bool, true, false, ◌&&◌, not, List, [], ◌∷◌, length, Option, Some, None, option_map, refl, sym, ◌∙◌, ap, ap₂, subst, inl, inr, arith, find, cond, ◌==◌, slice_get, get_or, take, eqb-true, eq-eqb, if◌then◌else◌}
-use Rattle.std.proofs.lemmas.Bool.{false≢true, or_cases, or_from, or_left, or_right, ne_eqb}
-use Rattle.std.proofs.lemmas.List.Folds.{list_any_at, list_any_more}
-use Rattle.std.proofs.lemmas.Option.{get_or_from_slice_get, slice_get_within}
+use Rattle.std.proofs.Common.{◌≡◌, ℕ, suc, ◌<◌, Bool, true, false, ◌&&◌, not, List, [], ◌∷◌, length, Option, Some, None, option_map, refl, sym, ◌∙◌, ap, ap₂, subst, inl, inr, arith, find, cond, ◌==◌, slice_get, get_or, eqb-true, eq-eqb, if◌then◌else◌}
+use Rattle.std.proofs.lemmas.Bool.{false≢true, or_cases, or_left, or_right}
+use Rattle.std.proofs.lemmas.Option.{get_or_from_slice_get}
 use Rattle.std.specs.List.{list_any, AllPairs}
 use Rattle.std.proofs.lemmas.List.Elements.{recursion_from_All}
 use Rattle.fy_locality.specs.declared.ProcId.{ProcId}
-use Rattle.fy_disk.specs.declared.item.Item.{Item}
 use Rattle.fy_disk.specs.Disk.{Stored as OnDisk}
 use Rattle.fy_grants.specs.Least.{LeastWith, least_with}
 use Rattle.fy_team.specs.Teams.{Team, Record, Roster, IsRoster, is_among, is_acked, members_in}
@@ -21,21 +19,6 @@ use Rattle.fy_cluster.proofs.Keepers.{LeastFound, among_is, members_there, sound
 use Rattle.fy_cluster.proofs.Records.{Tested, Sound, slice_get-each, slice_get-some}
 use Rattle.fy_cluster.proofs.Results.{some_is_same, some_not_none}
 use Rattle.fy_cluster.proofs.Resent.{IsOf, is_of}
-
--- ---- one disk
-
--- the item at a place is of the record
-pub synced_here : (items : List Item) (rec place : ℕ) (item : Item) → Some item ≡ slice_get items place → item.rec ≡ rec → true ≡ list_any (λ it. it.rec == rec) items
-synced_here items rec place item there is =
-    let same : get_or items place item ≡ item = get_or_from_slice_get items place item item (sym there) in
-    sym (list_any_at (λ it. it.rec == rec) items place item (slice_get_within items place item (sym there)) (eq-eqb (get_or items place item).rec rec (ap (λ (it : Item). it.rec) same ∙ is)))
-
--- no item up to a place is
-pub not_synced_yet : (items : List Item) (rec place : ℕ) (item : Item) → Some item ≡ slice_get items place → (item.rec ≡ rec → ⊥) → list_any (λ it. it.rec == rec) (take place items) ≡ false → list_any (λ it. it.rec == rec) (take (place + 1) items) ≡ false
-not_synced_yet items rec place item there other none =
-    let same : get_or items place item ≡ item = get_or_from_slice_get items place item item (sym there) in
-    list_any_more (λ it. it.rec == rec) items place item (slice_get_within items place item (sym there))
-    ∙ or_from (list_any (λ it. it.rec == rec) (take place items)) ((get_or items place item).rec == rec) none (ap (λ (it : Item). it.rec == rec) same ∙ ne_eqb item.rec rec other)
 
 -- ---- the first that passes
 
@@ -99,7 +82,7 @@ least_same set test test' same (Some p) least = record {
 
 -- what the machine says of a process
 keeps_is : (c : Setup) (h : History) (m : Machine) → Stands c h m → (rec p : ℕ) → p < length c.processes → keeps_on m rec p ≡ keeps h rec p
-keeps_is c h m k rec p l = ap₂ (λ a b. not a && b) (k.dead.destroyed p) (ap (λ (d : OnDisk). list_any (λ item. item.rec == rec) d.synced) (get_or_from_slice_get m.disks.items p (stored h p) blank (k.disks.each p l)))
+keeps_is c h m k rec p l = ap₂ (λ a b. not a && b) (k.dead.destroyed p) (ap (λ (d : OnDisk). list_any (λ item. item.rec == rec) d.synced) (get_or_from_slice_get m.disks p (stored h p) blank (k.disks.each p l)))
 
 pub no_keeper : (c : Setup) (journal : List Entry) (m : Machine) (rec : ℕ) → IsKept c journal m → is_acked m.teams rec ≡ false → None ≡ keeper c (history c journal) rec
 no_keeper c journal m rec kept e =

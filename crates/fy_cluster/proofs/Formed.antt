@@ -24,7 +24,7 @@ use Rattle.fy_cluster.specs.declared.machine.Machine.{Machine}
 use Rattle.fy_cluster.specs.Setup.{Setup}
 use Rattle.fy_cluster.specs.History.{History, Moment, gone, left, teams, records, acked}
 use Rattle.fy_cluster.specs.Replies.{refused, refusals, answer, no_process, meets}
-use Rattle.fy_cluster.specs.Standing.{Stands, Turn, Follows, Comes, moment_of, replied_to_team}
+use Rattle.fy_cluster.specs.Standing.{Stands, Point, Follows, Comes, moment_of, replied_to_team}
 use Rattle.fy_cluster.proofs.Still.{net_still, only_traffic, or_nothing}
 use Rattle.fy_cluster.proofs.Refusals.{refuse}
 use Rattle.fy_cluster.proofs.Results.{ok_not_err}
@@ -38,15 +38,15 @@ pub ok_same : {T E : Type 0} (r : Result T E) (x y : T) → r ≡ Ok x → r ≡
 ok_same r x y d e = cc
 
 -- a reason of the teams' is the reply
-pub refuse_team : (turn : Turn) (act : Act) (fault : TeamFault) (m : Machine) → Stands turn.setup turn.before m → Ok (refused (refusals turn.setup turn.before act) (answer turn.setup turn.before turn.by act)) ≡ replied_to_team fault → Comes turn act (replied_to_team fault) m
-refuse_team turn act TooManyThere m k e = refuse turn act TooMany m k (ok_same _ _ _ (sym e) refl)
-refuse_team turn act NoPolicyThere m k e = refuse turn act NoPolicy m k (ok_same _ _ _ (sym e) refl)
-refuse_team turn act NoProcessThere m k e = refuse turn act NoProcess m k (ok_same _ _ _ (sym e) refl)
-refuse_team turn act GoneThere m k e = refuse turn act Gone m k (ok_same _ _ _ (sym e) refl)
-refuse_team turn act (ShortTeam policy) m k e = refuse turn act (TeamShort policy) m k (ok_same _ _ _ (sym e) refl)
-refuse_team turn act NoTeamThere m k e = refuse turn act NoTeam m k (ok_same _ _ _ (sym e) refl)
-refuse_team turn act LongPayload m k e = refuse turn act Payload m k (ok_same _ _ _ (sym e) refl)
-refuse_team turn act NoMemoryLeft m k e = absurd (ok_not_err _ _ e)
+pub refuse_team : (point : Point) (act : Act) (fault : TeamFault) (m : Machine) → Stands point.setup point.before m → Ok (refused (refusals point.setup point.before act) (answer point.setup point.before point.by act)) ≡ replied_to_team fault → Comes point act (replied_to_team fault) m
+refuse_team point act TooManyThere m k e = refuse point act TooMany m k (ok_same _ _ _ (sym e) refl)
+refuse_team point act NoPolicyThere m k e = refuse point act NoPolicy m k (ok_same _ _ _ (sym e) refl)
+refuse_team point act NoProcessThere m k e = refuse point act NoProcess m k (ok_same _ _ _ (sym e) refl)
+refuse_team point act GoneThere m k e = refuse point act Gone m k (ok_same _ _ _ (sym e) refl)
+refuse_team point act (ShortTeam policy) m k e = refuse point act (TeamShort policy) m k (ok_same _ _ _ (sym e) refl)
+refuse_team point act NoTeamThere m k e = refuse point act NoTeam m k (ok_same _ _ _ (sym e) refl)
+refuse_team point act LongPayload m k e = refuse point act Payload m k (ok_same _ _ _ (sym e) refl)
+refuse_team point act NoMemoryLeft m k e = absurd (ok_not_err _ _ e)
 
 -- ---- what the teams say of members
 
@@ -100,12 +100,12 @@ gone_set c h all still a s p l =
 
 -- ---- Form
 
-formed : (turn : Turn) (members : List ProcId) (policy : ℕ) (machine : Machine) → Stands turn.setup turn.before machine
-    → said (refused (refusals turn.setup turn.before (Form members policy)) (answer turn.setup turn.before turn.by (Form members policy))) ≡ said (Formed (length (teams turn.before)))
-    → Follows turn (Form members policy) (Formed (length (teams turn.before))) (record machine { teams = formed_of members policy machine.teams })
-formed turn members policy machine k e = record {
+formed : (point : Point) (members : List ProcId) (policy : ℕ) (machine : Machine) → Stands point.setup point.before machine
+    → said (refused (refusals point.setup point.before (Form members policy)) (answer point.setup point.before point.by (Form members policy))) ≡ said (Formed (length (teams point.before)))
+    → Follows point (Form members policy) (Formed (length (teams point.before))) (record machine { teams = formed_of members policy machine.teams })
+formed point members policy machine k e = record {
   right = ok_same _ _ _ refl (sym e);
-  stands = only_traffic turn (Form members policy) (Formed (length (teams turn.before))) machine machine.net (formed_of members policy machine.teams) refl (λ p. refl) k
+  stands = only_traffic point (Form members policy) (Formed (length (teams point.before))) machine machine.net (formed_of members policy machine.teams) refl (λ p. refl) k
       (net_still c m h machine.net refl (λ k. refl) refl refl refl k.net)
       record {
         teams = ap (λ ts. ts ++ record { members = members; policy = policy } ∷ []) k.teams.teams;
@@ -116,28 +116,28 @@ formed turn members policy machine k e = record {
 }
   where
     c : Setup
-    c = turn.setup
+    c = point.setup
 
     h : History
-    h = turn.before
+    h = point.before
 
     m : Moment
-    m = moment_of turn (Form members policy) (Formed (length (teams turn.before)))
+    m = moment_of point (Form members policy) (Formed (length (teams point.before)))
 
-pub form_ok : (turn : Turn) (members : List ProcId) (policy number : ℕ) (m : Machine) (set : sets.FinSet nat_cmp) (roster : Roster) (processes : List Locality) (policies : List Tree) → Stands turn.setup turn.before m
-    → processes ≡ turn.setup.processes → policies ≡ turn.setup.policies → ((p : ℕ) → p < length turn.setup.processes → sets.contains set p ≡ gone turn.before p)
+pub form_ok : (point : Point) (members : List ProcId) (policy number : ℕ) (m : Machine) (set : sets.FinSet nat_cmp) (roster : Roster) (processes : List Locality) (policies : List Tree) → Stands point.setup point.before m
+    → processes ≡ point.setup.processes → policies ≡ point.setup.policies → ((p : ℕ) → p < length point.setup.processes → sets.contains set p ≡ gone point.before p)
     → form_refusal m.teams processes policies set members policy ≡ None → number ≡ length m.teams.teams → roster ≡ formed_of members policy m.teams
-    → Follows turn (Form members policy) (Formed number) (record m { teams = roster })
-form_ok turn members policy number m set roster processes policies k e f w clear n is =
-    let count : number ≡ length (teams turn.before) = n ∙ ap length k.teams.teams in
-    let none : form_refusal m.teams turn.setup.processes turn.setup.policies set members policy ≡ None = rw (e, f) at clear in
-    rw (is, count) (formed turn members policy m k (form_said turn.setup turn.before turn.by m.teams set members policy k.teams.teams w ∙ ap (λ o. option_map_or replied_to_team o (Ok (Formed (length (teams turn.before))))) none))
+    → Follows point (Form members policy) (Formed number) (record m { teams = roster })
+form_ok point members policy number m set roster processes policies k e f w clear n is =
+    let count : number ≡ length (teams point.before) = n ∙ ap length k.teams.teams in
+    let none : form_refusal m.teams point.setup.processes point.setup.policies set members policy ≡ None = rw (e, f) at clear in
+    rw (is, count) (formed point members policy m k (form_said point.setup point.before point.by m.teams set members policy k.teams.teams w ∙ ap (λ o. option_map_or replied_to_team o (Ok (Formed (length (teams point.before))))) none))
 
-pub form_err : (turn : Turn) (members : List ProcId) (policy : ℕ) (m : Machine) (set : sets.FinSet nat_cmp) (roster : Roster) (processes : List Locality) (policies : List Tree) (fault : TeamFault) → Stands turn.setup turn.before m
-    → processes ≡ turn.setup.processes → policies ≡ turn.setup.policies → ((p : ℕ) → p < length turn.setup.processes → sets.contains set p ≡ gone turn.before p)
+pub form_err : (point : Point) (members : List ProcId) (policy : ℕ) (m : Machine) (set : sets.FinSet nat_cmp) (roster : Roster) (processes : List Locality) (policies : List Tree) (fault : TeamFault) → Stands point.setup point.before m
+    → processes ≡ point.setup.processes → policies ≡ point.setup.policies → ((p : ℕ) → p < length point.setup.processes → sets.contains set p ≡ gone point.before p)
     → (form_refusal m.teams processes policies set members policy ≡ Some fault) ⊎ ((form_refusal m.teams processes policies set members policy ≡ None) × (fault ≡ NoMemoryLeft)) → roster ≡ m.teams
-    → Comes turn (Form members policy) (replied_to_team fault) (record m { teams = roster })
-form_err turn members policy m set roster processes policies fault k e f w (inr out) is = rw (out.1, is) (refl, k)
-form_err turn members policy m set roster processes policies fault k e f w (inl why) is =
-    let some : form_refusal m.teams turn.setup.processes turn.setup.policies set members policy ≡ Some fault = rw (e, f) at why in
-    rw is (refuse_team turn (Form members policy) fault m k (form_said turn.setup turn.before turn.by m.teams set members policy k.teams.teams w ∙ ap (λ o. option_map_or replied_to_team o (Ok (Formed (length (teams turn.before))))) some))
+    → Comes point (Form members policy) (replied_to_team fault) (record m { teams = roster })
+form_err point members policy m set roster processes policies fault k e f w (inr out) is = rw (out.1, is) (refl, k)
+form_err point members policy m set roster processes policies fault k e f w (inl why) is =
+    let some : form_refusal m.teams point.setup.processes point.setup.policies set members policy ≡ Some fault = rw (e, f) at why in
+    rw is (refuse_team point (Form members policy) fault m k (form_said point.setup point.before point.by m.teams set members policy k.teams.teams w ∙ ap (λ o. option_map_or replied_to_team o (Ok (Formed (length (teams point.before))))) some))

@@ -18,7 +18,7 @@ use Rattle.fy_cluster.specs.Setup.{Setup}
 use Rattle.fy_cluster.specs.History.{History, Moment}
 use Rattle.fy_cluster.specs.Rules.{grants, is_protected}
 use Rattle.fy_cluster.specs.Replies.{refused, refusals, answer, no_process, no_actor, grant_count}
-use Rattle.fy_cluster.specs.Standing.{Stands, Turn, Follows, Comes, moment_of, KeepsRights, replied_to}
+use Rattle.fy_cluster.specs.Standing.{Stands, Point, Follows, Comes, moment_of, KeepsRights, replied_to}
 use Rattle.fy_cluster.proofs.Still.{only_rights}
 use Rattle.fy_cluster.proofs.Refusals.{refuse}
 use Rattle.fy_cluster.proofs.Results.{neither, either}
@@ -75,11 +75,12 @@ abbrev pub TakesLists : Type 0
 TakesLists = (rights : Rights) (actor index a : ℕ) → actor < length rights.grants → grants_of (without_grant rights actor index) a ≡ (if actor == a then remove (grants_of rights a) index else grants_of rights a)
 
 given : GivesLists → ((rights : Rights) (grant : Grant) → length (with_grant rights grant).grants ≡ length rights.grants)
-    → (turn : Turn) (grant : Grant) (m : Machine) → Stands turn.setup turn.before m → nat_le (length m.book.grants) grant.actor ≡ false → nat_le MOST_GRANTS (grant_count turn.setup turn.before) ≡ false
-    → Follows turn (Give grant) Done (record m { book = with_grant m.book grant })
-given lists actors turn grant machine k e f = record {
-  right = sym (give_reply c h turn.by grant false false (ap (λ n. nat_le n grant.actor) (sym k.rights.actors) ∙ e) f);
-  stands = only_rights turn (Give grant) Done machine (with_grant machine.book grant) refl refl k record {
+    → (point : Point) (grant : Grant) (m : Machine) → Stands point.setup point.before m → nat_le (length m.book.grants) grant.actor ≡ false → nat_le MOST_GRANTS (grant_count point.setup point.before) ≡ false
+    → Follows point (Give grant) Done (record m { book = with_grant m.book grant })
+given lists actors point grant machine k e f = record {
+  right = sym (give_reply c h point.by grant false false (ap (λ n. nat_le n grant.actor) (sym k.rights.actors) ∙ e) f);
+  stands = only_rights point (Give grant) Done machine (with_grant machine.book grant) refl refl k record {
+    map = k.rights.map;
     actors = actors machine.book grant ∙ k.rights.actors;
     processes = k.rights.processes;
     grants = λ a. lists machine.book grant a there ∙ ap (λ own. if grant.actor == a then own ++ grant ∷ [] else own) (k.rights.grants a);
@@ -88,41 +89,41 @@ given lists actors turn grant machine k e f = record {
 }
   where
     c : Setup
-    c = turn.setup
+    c = point.setup
 
     h : History
-    h = turn.before
+    h = point.before
 
     m : Moment
-    m = moment_of turn (Give grant) Done
+    m = moment_of point (Give grant) Done
 
     there : grant.actor < length machine.book.grants
     there = grind (arith, nat_tests)
 
 -- a grant that is given
 pub give_ok : GivesLists → ((rights : Rights) (grant : Grant) → length (with_grant rights grant).grants ≡ length rights.grants)
-    → (turn : Turn) (grant : Grant) (m : Machine) (book : Rights) → Stands turn.setup turn.before m → give_refusal m.book grant ≡ None → book ≡ with_grant m.book grant
-    → Follows turn (Give grant) Done (record m { book = book })
-give_ok lists actors turn grant m book k clear is =
+    → (point : Point) (grant : Grant) (m : Machine) (book : Rights) → Stands point.setup point.before m → give_refusal m.book grant ≡ None → book ≡ with_grant m.book grant
+    → Follows point (Give grant) Done (record m { book = book })
+give_ok lists actors point grant m book k clear is =
     let both = neither (nat_le (length m.book.grants) grant.actor) (nat_le MOST_GRANTS (count_of m.book)) NoActorThere FullBook clear in
-    rw is (given lists actors turn grant m k both.0 (ap (nat_le MOST_GRANTS) (sym (count_same turn.setup turn.before m.book k.rights)) ∙ both.1))
+    rw is (given lists actors point grant m k both.0 (ap (nat_le MOST_GRANTS) (sym (count_same point.setup point.before m.book k.rights)) ∙ both.1))
 
 -- one that isn't
-pub give_err : (turn : Turn) (grant : Grant) (m : Machine) (book : Rights) (fault : BookFault) → Stands turn.setup turn.before m
+pub give_err : (point : Point) (grant : Grant) (m : Machine) (book : Rights) (fault : BookFault) → Stands point.setup point.before m
     → (give_refusal m.book grant ≡ Some fault) ⊎ ((give_refusal m.book grant ≡ None) × (fault ≡ NoMemoryLeft)) → book ≡ m.book
-    → Comes turn (Give grant) (replied_to fault) (record m { book = book })
-give_err turn grant m book fault k (inr out) is = rw (out.1, is) (refl, k)
-give_err turn grant m book fault k (inl why) is =
+    → Comes point (Give grant) (replied_to fault) (record m { book = book })
+give_err point grant m book fault k (inr out) is = rw (out.1, is) (refl, k)
+give_err point grant m book fault k (inl why) is =
     elim (either (nat_le (length m.book.grants) grant.actor) (nat_le MOST_GRANTS (count_of m.book)) NoActorThere FullBook fault why) [
-      | inl w ↦ rw (w.1, is) (refuse turn (Give grant) NoActor m k (give_reply c h turn.by grant true _ (actors ∙ w.0) refl))
-      | inr w ↦ rw (w.2, is) (refuse turn (Give grant) Full m k (give_reply c h turn.by grant false true (actors ∙ w.0) (ap (nat_le MOST_GRANTS) (sym (count_same c h m.book k.rights)) ∙ w.1)))
+      | inl w ↦ rw (w.1, is) (refuse point (Give grant) NoActor m k (give_reply c h point.by grant true _ (actors ∙ w.0) refl))
+      | inr w ↦ rw (w.2, is) (refuse point (Give grant) Full m k (give_reply c h point.by grant false true (actors ∙ w.0) (ap (nat_le MOST_GRANTS) (sym (count_same c h m.book k.rights)) ∙ w.1)))
     ]
   where
     c : Setup
-    c = turn.setup
+    c = point.setup
 
     h : History
-    h = turn.before
+    h = point.before
 
     actors : no_actor c grant.actor ≡ nat_le (length m.book.grants) grant.actor
     actors = ap (λ n. nat_le n grant.actor) (sym k.rights.actors)
@@ -130,11 +131,12 @@ give_err turn grant m book fault k (inl why) is =
 -- ---- take
 
 taken : TakesLists → ((rights : Rights) (actor index : ℕ) → length (without_grant rights actor index).grants ≡ length rights.grants)
-    → (turn : Turn) (actor index : ℕ) (m : Machine) → Stands turn.setup turn.before m → nat_le (length m.book.grants) actor ≡ false → nat_le (length (grants_of m.book actor)) index ≡ false
-    → Follows turn (Take actor index) Done (record m { book = without_grant m.book actor index })
-taken lists actors turn actor index machine k e f = record {
-  right = sym (take_reply c h turn.by actor index false false (ap (λ n. nat_le n actor) (sym k.rights.actors) ∙ e) (ap (λ own. nat_le (length own) index) (sym (k.rights.grants actor)) ∙ f));
-  stands = only_rights turn (Take actor index) Done machine (without_grant machine.book actor index) refl refl k record {
+    → (point : Point) (actor index : ℕ) (m : Machine) → Stands point.setup point.before m → nat_le (length m.book.grants) actor ≡ false → nat_le (length (grants_of m.book actor)) index ≡ false
+    → Follows point (Take actor index) Done (record m { book = without_grant m.book actor index })
+taken lists actors point actor index machine k e f = record {
+  right = sym (take_reply c h point.by actor index false false (ap (λ n. nat_le n actor) (sym k.rights.actors) ∙ e) (ap (λ own. nat_le (length own) index) (sym (k.rights.grants actor)) ∙ f));
+  stands = only_rights point (Take actor index) Done machine (without_grant machine.book actor index) refl refl k record {
+    map = k.rights.map;
     actors = actors machine.book actor index ∙ k.rights.actors;
     processes = k.rights.processes;
     grants = λ a. lists machine.book actor index a there ∙ ap (λ own. if actor == a then remove own index else own) (k.rights.grants a);
@@ -143,39 +145,39 @@ taken lists actors turn actor index machine k e f = record {
 }
   where
     c : Setup
-    c = turn.setup
+    c = point.setup
 
     h : History
-    h = turn.before
+    h = point.before
 
     m : Moment
-    m = moment_of turn (Take actor index) Done
+    m = moment_of point (Take actor index) Done
 
     there : actor < length machine.book.grants
     there = grind (arith, nat_tests)
 
 -- a grant that is taken
 pub take_ok : TakesLists → ((rights : Rights) (actor index : ℕ) → length (without_grant rights actor index).grants ≡ length rights.grants)
-    → (turn : Turn) (actor index : ℕ) (m : Machine) (book : Rights) → Stands turn.setup turn.before m → take_refusal m.book actor index ≡ None → book ≡ without_grant m.book actor index
-    → Follows turn (Take actor index) Done (record m { book = book })
-take_ok lists actors turn actor index m book k clear is =
+    → (point : Point) (actor index : ℕ) (m : Machine) (book : Rights) → Stands point.setup point.before m → take_refusal m.book actor index ≡ None → book ≡ without_grant m.book actor index
+    → Follows point (Take actor index) Done (record m { book = book })
+take_ok lists actors point actor index m book k clear is =
     let both = neither (nat_le (length m.book.grants) actor) (nat_le (length (grants_of m.book actor)) index) NoActorThere NoneThere clear in
-    rw is (taken lists actors turn actor index m k both.0 both.1)
+    rw is (taken lists actors point actor index m k both.0 both.1)
 
 -- one that isn't
-pub take_err : (turn : Turn) (actor index : ℕ) (m : Machine) (book : Rights) (fault : BookFault) → Stands turn.setup turn.before m
-    → take_refusal m.book actor index ≡ Some fault → book ≡ m.book → Comes turn (Take actor index) (replied_to fault) (record m { book = book })
-take_err turn actor index m book fault k why is =
+pub take_err : (point : Point) (actor index : ℕ) (m : Machine) (book : Rights) (fault : BookFault) → Stands point.setup point.before m
+    → take_refusal m.book actor index ≡ Some fault → book ≡ m.book → Comes point (Take actor index) (replied_to fault) (record m { book = book })
+take_err point actor index m book fault k why is =
     elim (either (nat_le (length m.book.grants) actor) (nat_le (length (grants_of m.book actor)) index) NoActorThere NoneThere fault why) [
-      | inl w ↦ rw (w.1, is) (refuse turn (Take actor index) NoActor m k (take_reply c h turn.by actor index true _ (actors ∙ w.0) refl))
-      | inr w ↦ rw (w.2, is) (refuse turn (Take actor index) NoSuch m k (take_reply c h turn.by actor index false true (actors ∙ w.0) (ap (λ own. nat_le (length own) index) (sym (k.rights.grants actor)) ∙ w.1)))
+      | inl w ↦ rw (w.1, is) (refuse point (Take actor index) NoActor m k (take_reply c h point.by actor index true _ (actors ∙ w.0) refl))
+      | inr w ↦ rw (w.2, is) (refuse point (Take actor index) NoSuch m k (take_reply c h point.by actor index false true (actors ∙ w.0) (ap (λ own. nat_le (length own) index) (sym (k.rights.grants actor)) ∙ w.1)))
     ]
   where
     c : Setup
-    c = turn.setup
+    c = point.setup
 
     h : History
-    h = turn.before
+    h = point.before
 
     actors : no_actor c actor ≡ nat_le (length m.book.grants) actor
     actors = ap (λ n. nat_le n actor) (sym k.rights.actors)
@@ -192,11 +194,11 @@ unprotect_reply : (c : Setup) (h : History) (by : ℕ) (p : ProcId) (kinds : Kin
 unfolding refusals answer
 unprotect_reply c h by p kinds a e = rw e refl
 
-pub protect_nobody : (turn : Turn) (p : ProcId) (kinds : KindSet) (m : Machine) → Stands turn.setup turn.before m → length m.book.protections ≤ p.0 → Follows turn (Protect p kinds) (No NoProcess) m
-protect_nobody turn p kinds m k l = refuse turn (Protect p kinds) NoProcess m k (protect_reply turn.setup turn.before turn.by p kinds true (past turn.setup p.0 (length m.book.protections) k.rights.processes l))
+pub protect_nobody : (point : Point) (p : ProcId) (kinds : KindSet) (m : Machine) → Stands point.setup point.before m → length m.book.protections ≤ p.0 → Follows point (Protect p kinds) (No NoProcess) m
+protect_nobody point p kinds m k l = refuse point (Protect p kinds) NoProcess m k (protect_reply point.setup point.before point.by p kinds true (past point.setup p.0 (length m.book.protections) k.rights.processes l))
 
-pub unprotect_nobody : (turn : Turn) (p : ProcId) (kinds : KindSet) (m : Machine) → Stands turn.setup turn.before m → length m.book.protections ≤ p.0 → Follows turn (Unprotect p kinds) (No NoProcess) m
-unprotect_nobody turn p kinds m k l = refuse turn (Unprotect p kinds) NoProcess m k (unprotect_reply turn.setup turn.before turn.by p kinds true (past turn.setup p.0 (length m.book.protections) k.rights.processes l))
+pub unprotect_nobody : (point : Point) (p : ProcId) (kinds : KindSet) (m : Machine) → Stands point.setup point.before m → length m.book.protections ≤ p.0 → Follows point (Unprotect p kinds) (No NoProcess) m
+unprotect_nobody point p kinds m k l = refuse point (Unprotect p kinds) NoProcess m k (unprotect_reply point.setup point.before point.by p kinds true (past point.setup p.0 (length m.book.protections) k.rights.processes l))
 
 abbrev pub ChangesOne : Type 0
 ChangesOne = (rights : Rights) (p q : ℕ) (kinds : KindSet) → p < length rights.protections → protections_of (with_protection rights p kinds) q ≡ (if p == q then kinds else protections_of rights q)
@@ -205,11 +207,12 @@ abbrev pub KeepsCount : Type 0
 KeepsCount = (rights : Rights) (p : ℕ) (kinds : KindSet) → length (with_protection rights p kinds).protections ≡ length rights.protections
 
 pub protected : ChangesOne → KeepsCount → ((a b : KindSet) (d : Deed) → has (with_all a b) d ≡ (has a d || has b d))
-    → (turn : Turn) (p : ProcId) (kinds : KindSet) (m : Machine) (book : Rights) → Stands turn.setup turn.before m → p.0 < length m.book.protections
-    → book ≡ with_protection m.book p.0 (with_all (protections_of m.book p.0) kinds) → Follows turn (Protect p kinds) Done (record m { book = book })
-protected one count together turn p kinds machine book k l is = rw is (record {
-  right = sym (protect_reply c h turn.by p kinds false (within c p.0 (length machine.book.protections) k.rights.processes l));
-  stands = only_rights turn (Protect p kinds) Done machine (with_protection machine.book p.0 (with_all (protections_of machine.book p.0) kinds)) refl refl k record {
+    → (point : Point) (p : ProcId) (kinds : KindSet) (m : Machine) (book : Rights) → Stands point.setup point.before m → p.0 < length m.book.protections
+    → book ≡ with_protection m.book p.0 (with_all (protections_of m.book p.0) kinds) → Follows point (Protect p kinds) Done (record m { book = book })
+protected one count together point p kinds machine book k l is = rw is (record {
+  right = sym (protect_reply c h point.by p kinds false (within c p.0 (length machine.book.protections) k.rights.processes l));
+  stands = only_rights point (Protect p kinds) Done machine (with_protection machine.book p.0 (with_all (protections_of machine.book p.0) kinds)) refl refl k record {
+    map = k.rights.map;
     actors = k.rights.actors;
     processes = count machine.book p.0 _ ∙ k.rights.processes;
     grants = k.rights.grants;
@@ -218,13 +221,13 @@ protected one count together turn p kinds machine book k l is = rw is (record {
 })
   where
     c : Setup
-    c = turn.setup
+    c = point.setup
 
     h : History
-    h = turn.before
+    h = point.before
 
     m : Moment
-    m = moment_of turn (Protect p kinds) Done
+    m = moment_of point (Protect p kinds) Done
 
     at : (q : ℕ) (deed : Deed) (b : Bool) → (p.0 == q) ≡ b → has (if b then with_all (protections_of machine.book p.0) kinds else protections_of machine.book q) deed ≡ (b && has kinds deed || is_protected c h q deed)
     at q deed true e =
@@ -233,11 +236,12 @@ protected one count together turn p kinds machine book k l is = rw is (record {
     at q deed false e = k.rights.protections q deed
 
 pub unprotected : ChangesOne → KeepsCount → ((a b : KindSet) (d : Deed) → has (without_all a b) d ≡ (has a d && not (has b d)))
-    → (turn : Turn) (p : ProcId) (kinds : KindSet) (m : Machine) (book : Rights) → Stands turn.setup turn.before m → p.0 < length m.book.protections
-    → book ≡ with_protection m.book p.0 (without_all (protections_of m.book p.0) kinds) → Follows turn (Unprotect p kinds) Done (record m { book = book })
-unprotected one count apart turn p kinds machine book k l is = rw is (record {
-  right = sym (unprotect_reply c h turn.by p kinds false (within c p.0 (length machine.book.protections) k.rights.processes l));
-  stands = only_rights turn (Unprotect p kinds) Done machine (with_protection machine.book p.0 (without_all (protections_of machine.book p.0) kinds)) refl refl k record {
+    → (point : Point) (p : ProcId) (kinds : KindSet) (m : Machine) (book : Rights) → Stands point.setup point.before m → p.0 < length m.book.protections
+    → book ≡ with_protection m.book p.0 (without_all (protections_of m.book p.0) kinds) → Follows point (Unprotect p kinds) Done (record m { book = book })
+unprotected one count apart point p kinds machine book k l is = rw is (record {
+  right = sym (unprotect_reply c h point.by p kinds false (within c p.0 (length machine.book.protections) k.rights.processes l));
+  stands = only_rights point (Unprotect p kinds) Done machine (with_protection machine.book p.0 (without_all (protections_of machine.book p.0) kinds)) refl refl k record {
+    map = k.rights.map;
     actors = k.rights.actors;
     processes = count machine.book p.0 _ ∙ k.rights.processes;
     grants = k.rights.grants;
@@ -246,13 +250,13 @@ unprotected one count apart turn p kinds machine book k l is = rw is (record {
 })
   where
     c : Setup
-    c = turn.setup
+    c = point.setup
 
     h : History
-    h = turn.before
+    h = point.before
 
     m : Moment
-    m = moment_of turn (Unprotect p kinds) Done
+    m = moment_of point (Unprotect p kinds) Done
 
     at : (q : ℕ) (deed : Deed) (b : Bool) → (p.0 == q) ≡ b → has (if b then without_all (protections_of machine.book p.0) kinds else protections_of machine.book q) deed ≡ (not (b && has kinds deed) && is_protected c h q deed)
     at q deed true e =

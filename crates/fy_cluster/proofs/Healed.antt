@@ -18,7 +18,7 @@ use Rattle.fy_cluster.specs.declared.machine.Machine.{Machine}
 use Rattle.fy_cluster.specs.Setup.{Setup}
 use Rattle.fy_cluster.specs.History.{History, Moment, BegunRecord, some_is, destroyed, gone, up, sent, is_taken, members_for, marked, acked, teams, records}
 use Rattle.fy_cluster.specs.Replies.{refused, refusals, answer, no_process, needed_by, still_needs}
-use Rattle.fy_cluster.specs.Standing.{Stands, Turn, Follows, moment_of, KeepsDead, KeepsNet, KeepsTeams, begun_of, numbered}
+use Rattle.fy_cluster.specs.Standing.{Stands, Point, Follows, moment_of, KeepsDead, KeepsNet, KeepsTeams, begun_of, numbered}
 use Rattle.fy_cluster.proofs.Still.{up_still, disks_still, rights_still, or_nothing}
 use Rattle.fy_cluster.proofs.Flights.{flying_taken, past_end}
 use Rattle.fy_cluster.proofs.Refusals.{refuse}
@@ -30,21 +30,21 @@ heal_reply : (c : Setup) (h : History) (by : ℕ) (p : ProcId) (a b d e : Bool) 
 unfolding refusals answer
 heal_reply c h by p a b d e need ea eb ed ee en = λ i. refused ((ea i, NoProcess) ∷ (eb i, Gone) ∷ (not (ed i), NotDestroyed) ∷ (not (ee i), NotUp) ∷ still_needs (en i) ∷ []) Done
 
-pub nobody_to_heal : (turn : Turn) (p : ProcId) (m : Machine) → Stands turn.setup turn.before m → no_process turn.setup p.0 ≡ true → Follows turn (Heal p) (No NoProcess) m
-nobody_to_heal turn p m k a = refuse turn (Heal p) NoProcess m k (heal_reply turn.setup turn.before turn.by p true _ _ _ _ a refl refl refl refl)
+pub nobody_to_heal : (point : Point) (p : ProcId) (m : Machine) → Stands point.setup point.before m → no_process point.setup p.0 ≡ true → Follows point (Heal p) (No NoProcess) m
+nobody_to_heal point p m k a = refuse point (Heal p) NoProcess m k (heal_reply point.setup point.before point.by p true _ _ _ _ a refl refl refl refl)
 
-pub gone_to_heal : (turn : Turn) (p : ProcId) (m : Machine) → Stands turn.setup turn.before m → no_process turn.setup p.0 ≡ false → gone turn.before p.0 ≡ true → Follows turn (Heal p) (No Gone) m
-gone_to_heal turn p m k a b = refuse turn (Heal p) Gone m k (heal_reply turn.setup turn.before turn.by p false true _ _ _ a b refl refl refl)
+pub gone_to_heal : (point : Point) (p : ProcId) (m : Machine) → Stands point.setup point.before m → no_process point.setup p.0 ≡ false → gone point.before p.0 ≡ true → Follows point (Heal p) (No Gone) m
+gone_to_heal point p m k a b = refuse point (Heal p) Gone m k (heal_reply point.setup point.before point.by p false true _ _ _ a b refl refl refl)
 
-pub not_destroyed : (turn : Turn) (p : ProcId) (m : Machine) → Stands turn.setup turn.before m → no_process turn.setup p.0 ≡ false → gone turn.before p.0 ≡ false → destroyed turn.before p.0 ≡ false → Follows turn (Heal p) (No NotDestroyed) m
-not_destroyed turn p m k a b d = refuse turn (Heal p) NotDestroyed m k (heal_reply turn.setup turn.before turn.by p false false false _ _ a b d refl refl)
+pub not_destroyed : (point : Point) (p : ProcId) (m : Machine) → Stands point.setup point.before m → no_process point.setup p.0 ≡ false → gone point.before p.0 ≡ false → destroyed point.before p.0 ≡ false → Follows point (Heal p) (No NotDestroyed) m
+not_destroyed point p m k a b d = refuse point (Heal p) NotDestroyed m k (heal_reply point.setup point.before point.by p false false false _ _ a b d refl refl)
 
-pub down_to_heal : (turn : Turn) (p : ProcId) (m : Machine) → Stands turn.setup turn.before m → no_process turn.setup p.0 ≡ false → gone turn.before p.0 ≡ false → destroyed turn.before p.0 ≡ true → up turn.before p.0 ≡ false → Follows turn (Heal p) (No NotUp) m
-down_to_heal turn p m k a b d e = refuse turn (Heal p) NotUp m k (heal_reply turn.setup turn.before turn.by p false false true false _ a b d e refl)
+pub down_to_heal : (point : Point) (p : ProcId) (m : Machine) → Stands point.setup point.before m → no_process point.setup p.0 ≡ false → gone point.before p.0 ≡ false → destroyed point.before p.0 ≡ true → up point.before p.0 ≡ false → Follows point (Heal p) (No NotUp) m
+down_to_heal point p m k a b d e = refuse point (Heal p) NotUp m k (heal_reply point.setup point.before point.by p false false true false _ a b d e refl)
 
-pub needs_to_heal : (turn : Turn) (p : ProcId) (rec : ℕ) (m : Machine) → Stands turn.setup turn.before m → no_process turn.setup p.0 ≡ false → gone turn.before p.0 ≡ false → destroyed turn.before p.0 ≡ true → up turn.before p.0 ≡ true
-    → Some rec ≡ needed_by turn.before p.0 (λ r. is_among (members_for turn.before r) p.0) → Follows turn (Heal p) (No (StillNeeds rec)) m
-needs_to_heal turn p rec m k a b d e need = refuse turn (Heal p) (StillNeeds rec) m k (heal_reply turn.setup turn.before turn.by p false false true true (Some rec) a b d e (sym need))
+pub needs_to_heal : (point : Point) (p : ProcId) (rec : ℕ) (m : Machine) → Stands point.setup point.before m → no_process point.setup p.0 ≡ false → gone point.before p.0 ≡ false → destroyed point.before p.0 ≡ true → up point.before p.0 ≡ true
+    → Some rec ≡ needed_by point.before p.0 (λ r. is_among (members_for point.before r) p.0) → Follows point (Heal p) (No (StillNeeds rec)) m
+needs_to_heal point p rec m k a b d e need = refuse point (Heal p) (StillNeeds rec) m k (heal_reply point.setup point.before point.by p false false true true (Some rec) a b d e (sym need))
 
 -- ---- who is destroyed
 
@@ -79,8 +79,8 @@ says f keep all k (b ∷ xs) w = at (keep k) (says f keep all (k + 1) xs (λ i x
     at true e = ap₂ (λ (t : Bool) (ys : List Message). cond (not t) (record { number = k; body = b } ∷ ys) ys) (sym here) e
     at false e = e
 
-net_voided : (turn : Turn) (p : ProcId) (net : Traffic) → KeepsNet turn.setup turn.before net → KeepsNet turn.setup (moment_of turn (Heal p) Done ∷ turn.before) (voided p.0 net)
-net_voided turn p net k = record {
+net_voided : (point : Point) (p : ProcId) (net : Traffic) → KeepsNet point.setup point.before net → KeepsNet point.setup (moment_of point (Heal p) Done ∷ point.before) (voided p.0 net)
+net_voided point p net k = record {
   in_flight =
       ap (filter (λ (x : Message). not (is_word_from p.0 x.body))) k.in_flight
       ∙ says (is_word_from p.0) (λ n. not (is_taken h n)) (sent h) 0 (sent h) (λ i b s. ap (slice_get (sent h)) (omega arith) ∙ s)
@@ -94,10 +94,10 @@ net_voided turn p net k = record {
 }
   where
     h : History
-    h = turn.before
+    h = point.before
 
     m : Moment
-    m = moment_of turn (Heal p) Done
+    m = moment_of point (Heal p) Done
 
     same : length (sent (m ∷ h)) ≡ length (sent h)
     same = ap length (append-nil (sent h))
@@ -136,26 +136,26 @@ teams_healed marks_off kept m h p roster same begun fewer still k = record {
 
 -- ---- Heal
 
-pub heals_now : HealedMarks → HealedAcked → (turn : Turn) (p : ProcId) (machine : Machine) → Stands turn.setup turn.before machine → no_process turn.setup p.0 ≡ false → gone turn.before p.0 ≡ false → destroyed turn.before p.0 ≡ true → up turn.before p.0 ≡ true
-    → None ≡ needed_by turn.before p.0 (λ r. is_among (members_for turn.before r) p.0)
-    → Follows turn (Heal p) Done (record machine { dead = healed_book p.0 machine.dead; net = voided p.0 machine.net; teams = healed_roster p.0 machine.teams })
-heals_now marks_off kept turn p machine k a b d e need = record {
-  right = sym (heal_reply c h turn.by p false false true true None a b d e (sym need));
+pub heals_now : HealedMarks → HealedAcked → (point : Point) (p : ProcId) (machine : Machine) → Stands point.setup point.before machine → no_process point.setup p.0 ≡ false → gone point.before p.0 ≡ false → destroyed point.before p.0 ≡ true → up point.before p.0 ≡ true
+    → None ≡ needed_by point.before p.0 (λ r. is_among (members_for point.before r) p.0)
+    → Follows point (Heal p) Done (record machine { dead = healed_book p.0 machine.dead; net = voided p.0 machine.net; teams = healed_roster p.0 machine.teams })
+heals_now marks_off kept point p machine k a b d e need = record {
+  right = sym (heal_reply c h point.by p false false true true None a b d e (sym need));
   stands = record {
     dead = book_healed c m h p.0 machine.dead (λ q. refl) (λ q. refl) k.dead;
     rights = rights_still c m h machine.book refl refl refl refl k.rights;
-    disks = disks_still c m h machine.disks.items (λ q. refl) refl (λ q. refl) k.disks;
+    disks = disks_still c m h machine.disks (λ q. refl) refl (λ q. refl) k.disks;
     up = up_still c m h machine.up (λ q. refl) refl k.up;
-    net = net_voided turn p machine.net k.net;
+    net = net_voided point p machine.net k.net;
     teams = teams_healed marks_off kept m h p.0 machine.teams (append-nil (teams h)) (append-nil (records h)) (λ r q. refl) (λ r. or_nothing (acked h r)) k.teams;
   };
 }
   where
     c : Setup
-    c = turn.setup
+    c = point.setup
 
     h : History
-    h = turn.before
+    h = point.before
 
     m : Moment
-    m = moment_of turn (Heal p) Done
+    m = moment_of point (Heal p) Done

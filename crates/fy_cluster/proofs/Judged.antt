@@ -27,7 +27,7 @@ use Rattle.fy_cluster.specs.History.{History, Moment, some_is, strikes, destroys
 use Rattle.fy_cluster.specs.Rules.{situation}
 use Rattle.fy_cluster.specs.Replies.{refused, refusals, answer}
 use Rattle.fy_disk.specs.Disk.{blank}
-use Rattle.fy_cluster.specs.Standing.{Stands, Turn, Follows, moment_of, following, KeepsDead, KeepsDisks, KeepsUp, ChangesAt, ClogsChange, clog_end, unclog_end, targets_by, clog_bar, buried, stored, left_on}
+use Rattle.fy_cluster.specs.Standing.{Stands, Point, Follows, moment_of, following, KeepsDead, KeepsDisks, KeepsUp, ChangesAt, ClogsChange, clog_end, unclog_end, targets_by, clog_bar, buried, stored, left_on}
 use Rattle.fy_cluster.proofs.Still.{Doings, doings, nothing, clogs_alone, unmoved, only_clogs, untaken, net_still, teams_idle, rights_still, stored_still, disk_closes}
 use Rattle.fy_cluster.proofs.DiskSteps.{synced_at_close, unsynced_at_close, synced_at_strike}
 use Rattle.fy_cluster.proofs.Flights.{flying_still}
@@ -62,56 +62,56 @@ bar_same c h m k by actor e target = ap₂ (λ s t. bar s Clogging t) (situation
 -- ---- clogs
 
 -- an act on a target's clogs: a rule bars it, or it changes, by the time, until when the target's processes are clogged
-pub record ActsOnClogs (turn : Turn) (act : Act) (target : Target) (change : ℕ → ℕ → ℕ) : Type 0 where
-  pub ruled : Ruled (bar (situation turn.setup turn.before turn.by) Clogging (targets turn.setup.processes (left turn.setup turn.before) target)) ≡ refused (refusals turn.setup turn.before act) (answer turn.setup turn.before turn.by act)
+pub record ActsOnClogs (point : Point) (act : Act) (target : Target) (change : ℕ → ℕ → ℕ) : Type 0 where
+  pub ruled : Ruled (bar (situation point.setup point.before point.by) Clogging (targets point.setup.processes (left point.setup point.before) target)) ≡ refused (refusals point.setup point.before act) (answer point.setup point.before point.by act)
   pub idle : (rule : Rule) → doings act (Ruled (Some rule)) ≡ nothing
   pub alone : doings act (Ruled None) ≡ clogs_alone act (Ruled None)
-  pub silent : sends_of turn.before act ≡ []
-  pub holds : (p t until : ℕ) → now turn.before ≤ t → clogged_at t turn.before p ≡ nat_lt t until
-      → clogged_at t (following turn act (Ruled None)) p ≡ nat_lt t (if targets turn.setup.processes (left turn.setup turn.before) target p then change (now turn.before) until else until)
+  pub silent : sends_of point.before act ≡ []
+  pub holds : (p t until : ℕ) → now point.before ≤ t → clogged_at t point.before p ≡ nat_lt t until
+      → clogged_at t (following point act (Ruled None)) p ≡ nat_lt t (if targets point.setup.processes (left point.setup point.before) target p then change (now point.before) until else until)
 
-pub clogging : (turn : Turn) (target : Target) (n : ℕ) → ActsOnClogs turn (Clog target n) target (clog_end n)
+pub clogging : (point : Point) (target : Target) (n : ℕ) → ActsOnClogs point (Clog target n) target (clog_end n)
 unfolding refusals answer
-clogging turn target n = record {
+clogging point target n = record {
   ruled = refl;
   idle = λ rule. refl;
   alone = refl;
   silent = refl;
-  holds = λ p t until later is. let named = targets turn.setup.processes (left turn.setup turn.before) target p in ap (λ b. named && nat_lt t (min (now turn.before + n) (2 ^ 40)) || b) is ∙ at t until named;
+  holds = λ p t until later is. let named = targets point.setup.processes (left point.setup point.before) target p in ap (λ b. named && nat_lt t (min (now point.before + n) (2 ^ 40)) || b) is ∙ at t until named;
 }
   where
-    at : (t until : ℕ) (b : Bool) → (b && nat_lt t (min (now turn.before + n) (2 ^ 40)) || nat_lt t until) ≡ nat_lt t (if b then clog_end n (now turn.before) until else until)
+    at : (t until : ℕ) (b : Bool) → (b && nat_lt t (min (now point.before + n) (2 ^ 40)) || nat_lt t until) ≡ nat_lt t (if b then clog_end n (now point.before) until else until)
     at t until true = grind (arith, nat_tests)
     at t until false = refl
 
-pub unclogging : (turn : Turn) (target : Target) → ActsOnClogs turn (Unclog target) target unclog_end
+pub unclogging : (point : Point) (target : Target) → ActsOnClogs point (Unclog target) target unclog_end
 unfolding refusals answer
-unclogging turn target = record {
+unclogging point target = record {
   ruled = refl;
   idle = λ rule. refl;
   alone = refl;
   silent = refl;
-  holds = λ p t until later is. let named = targets turn.setup.processes (left turn.setup turn.before) target p in ap (λ b. not named && b) is ∙ at t until later named;
+  holds = λ p t until later is. let named = targets point.setup.processes (left point.setup point.before) target p in ap (λ b. not named && b) is ∙ at t until later named;
 }
   where
-    at : (t until : ℕ) → now turn.before ≤ t → (b : Bool) → (not b && nat_lt t until) ≡ nat_lt t (if b then unclog_end (now turn.before) until else until)
+    at : (t until : ℕ) → now point.before ≤ t → (b : Bool) → (not b && nat_lt t until) ≡ nat_lt t (if b then unclog_end (now point.before) until else until)
     at t until later true = grind (arith, nat_tests)
     at t until later false = refl
 
 -- a rule bars it
-pub clogs_barred : {turn : Turn} {act : Act} {target : Target} {change : ℕ → ℕ → ℕ} {rule : Rule} {machine : Machine} {by : ℕ} → ActsOnClogs turn act target change → Stands turn.setup turn.before machine → by ≡ turn.by
-    → Some rule ≡ clog_bar machine by target → Follows turn act (Ruled (Some rule)) machine
-clogs_barred {turn} {act} {target} {rule} {machine} {by} acts k actor is = record {
-  right = ap Ruled (is ∙ bar_same turn.setup turn.before machine k by turn.by actor target) ∙ acts.ruled;
-  stands = unmoved turn act (Ruled (Some rule)) machine (acts.idle rule) refl k;
+pub clogs_barred : {point : Point} {act : Act} {target : Target} {change : ℕ → ℕ → ℕ} {rule : Rule} {machine : Machine} {by : ℕ} → ActsOnClogs point act target change → Stands point.setup point.before machine → by ≡ point.by
+    → Some rule ≡ clog_bar machine by target → Follows point act (Ruled (Some rule)) machine
+clogs_barred {point} {act} {target} {rule} {machine} {by} acts k actor is = record {
+  right = ap Ruled (is ∙ bar_same point.setup point.before machine k by point.by actor target) ∙ acts.ruled;
+  stands = unmoved point act (Ruled (Some rule)) machine (acts.idle rule) refl k;
 }
 
 -- none does
-pub clogs_changed : {turn : Turn} {act : Act} {target : Target} {change : ℕ → ℕ → ℕ} {machine : Machine} {by : ℕ} (set : sets.FinSet nat_cmp) {net : Traffic} → ActsOnClogs turn act target change → Stands turn.setup turn.before machine → by ≡ turn.by
-    → None ≡ clog_bar machine by target → ((p : ℕ) → sets.contains set p ≡ targets_by machine target p) → ClogsChange (sets.contains set) change machine.net net → Follows turn act (Ruled None) (record machine { net = net })
-clogs_changed {turn} {act} {target} {change} {machine} {by} set {net} acts k actor is who changed = record {
-  right = ap Ruled (is ∙ bar_same c h machine k by turn.by actor target) ∙ acts.ruled;
-  stands = only_clogs turn act (Ruled None) machine net acts.alone k record {
+pub clogs_changed : {point : Point} {act : Act} {target : Target} {change : ℕ → ℕ → ℕ} {machine : Machine} {by : ℕ} (set : sets.FinSet nat_cmp) {net : Traffic} → ActsOnClogs point act target change → Stands point.setup point.before machine → by ≡ point.by
+    → None ≡ clog_bar machine by target → ((p : ℕ) → sets.contains set p ≡ targets_by machine target p) → ClogsChange (sets.contains set) change machine.net net → Follows point act (Ruled None) (record machine { net = net })
+clogs_changed {point} {act} {target} {change} {machine} {by} set {net} acts k actor is who changed = record {
+  right = ap Ruled (is ∙ bar_same c h machine k by point.by actor target) ∙ acts.ruled;
+  stands = only_clogs point act (Ruled None) machine net acts.alone k record {
     in_flight = ap (λ (n : Traffic). n.in_flight) changed.rest ∙ k.net.in_flight ∙ sym (flying_still m h acts.silent keeps);
     sent_so_far = ap (λ (n : Traffic). n.sent) changed.rest ∙ k.net.sent_so_far ∙ sym all_sent;
     clock = ap (λ (n : Traffic). n.clock) changed.rest ∙ k.net.clock ∙ sym time;
@@ -123,16 +123,16 @@ clogs_changed {turn} {act} {target} {change} {machine} {by} set {net} acts k act
 }
   where
     c : Setup
-    c = turn.setup
+    c = point.setup
 
     h : History
-    h = turn.before
+    h = point.before
 
     m : Moment
-    m = moment_of turn act (Ruled None)
+    m = moment_of point act (Ruled None)
 
     keeps : (n : ℕ) → m.takes_out n ≡ false
-    keeps = untaken turn act (Ruled None) (ap (λ (d : Doings). d.delivered) acts.alone) (ap (λ (d : Doings). d.lost) acts.alone) (ap (λ (d : Doings). d.healed) acts.alone)
+    keeps = untaken point act (Ruled None) (ap (λ (d : Doings). d.delivered) acts.alone) (ap (λ (d : Doings). d.lost) acts.alone) (ap (λ (d : Doings). d.healed) acts.alone)
 
     all_sent : length (sent (m ∷ h)) ≡ length (sent h)
     all_sent = ap (λ xs. length (sent h ++ xs)) acts.silent ∙ ap length (append-nil (sent h))
@@ -162,11 +162,11 @@ pub chosen : {v w : VerdictOf} {kind : Kind} → v ≡ w → v.struck ≡ Some k
 chosen e s = ap (λ (v : VerdictOf). v.struck) (sym e) ∙ s
 
 -- an order that struck nobody
-pub spares : {turn : Turn} (order : Order) {v : VerdictOf} {machine : Machine} {by : ℕ} → Stands turn.setup turn.before machine → by ≡ turn.by
-    → v ≡ verdict (situation_of machine.dead machine.book by) order → v.struck ≡ None → Follows turn (Kill order) (Verdict v) machine
-spares {turn} order {v} {machine} {by} k actor is none = record {
-  right = kill_reply turn.setup turn.before turn.by order v (is ∙ verdict_same turn.setup turn.before machine k by turn.by actor order);
-  stands = unmoved turn (Kill order) (Verdict v) machine (ap (λ kind. record nothing { struck = kind }) none) refl k;
+pub spares : {point : Point} (order : Order) {v : VerdictOf} {machine : Machine} {by : ℕ} → Stands point.setup point.before machine → by ≡ point.by
+    → v ≡ verdict (situation_of machine.dead machine.book by) order → v.struck ≡ None → Follows point (Kill order) (Verdict v) machine
+spares {point} order {v} {machine} {by} k actor is none = record {
+  right = kill_reply point.setup point.before point.by order v (is ∙ verdict_same point.setup point.before machine k by point.by actor order);
+  stands = unmoved point (Kill order) (Verdict v) machine (ap (λ kind. record nothing { struck = kind }) none) refl k;
 }
 
 -- the kind that struck a target
@@ -269,32 +269,32 @@ disks_struck c m h old new set kind tear struck_is idle w torn changed k = recor
     at p false s = sym (stored_still m h p (ap₂ (λ a b. disk_closes a b p) idle s) (w p))
 
 -- an order that struck its targets
-pub strikes_now : {turn : Turn} (order : Order) {v : VerdictOf} {kind : Kind} {machine : Machine} (set : sets.FinSet nat_cmp) {by : ℕ} (after : Machine) → Stands turn.setup turn.before machine
-    → by ≡ turn.by → v ≡ verdict (situation_of machine.dead machine.book by) order → v.struck ≡ Some kind
+pub strikes_now : {point : Point} (order : Order) {v : VerdictOf} {kind : Kind} {machine : Machine} (set : sets.FinSet nat_cmp) {by : ℕ} (after : Machine) → Stands point.setup point.before machine
+    → by ≡ point.by → v ≡ verdict (situation_of machine.dead machine.book by) order → v.struck ≡ Some kind
     → ((p : ℕ) → sets.contains set p ≡ targets_by machine order.target p)
-    → ChangesAt (sets.contains set) (left_on kind order.tear) blank machine.disks.items after.disks.items
+    → ChangesAt (sets.contains set) (left_on kind order.tear) blank machine.disks after.disks
     → after.up ≡ sets.difference machine.up set → after.dead ≡ buried machine.dead set kind
-    → after.book ≡ machine.book → after.net ≡ machine.net → after.teams ≡ machine.teams → Follows turn (Kill order) (Verdict v) after
-strikes_now {turn} order {v} {kind} {machine} set {by} after k actor is hit who changed ups dead book net teams = record {
-  right = kill_reply c h turn.by order v (is ∙ verdict_same c h machine k by turn.by actor order);
+    → after.book ≡ machine.book → after.net ≡ machine.net → after.teams ≡ machine.teams → Follows point (Kill order) (Verdict v) after
+strikes_now {point} order {v} {kind} {machine} set {by} after k actor is hit who changed ups dead book net teams = record {
+  right = kill_reply c h point.by order v (is ∙ verdict_same c h machine k by point.by actor order);
   stands = record {
     dead = rw dead (dead_struck c m h machine.dead set kind struck_is refl k.dead);
     rights = rw book (rights_still c m h machine.book refl refl refl refl k.rights);
-    disks = disks_struck c m h machine.disks.items after.disks.items set kind order.tear struck_is refl (λ p. refl) refl changed k.disks;
+    disks = disks_struck c m h machine.disks after.disks set kind order.tear struck_is refl (λ p. refl) refl changed k.disks;
     up = rw ups (up_struck c m h machine.up set kind (λ q. refl) struck_is k.up);
     net = rw net (net_still c m h machine.net refl (λ k. refl) refl refl refl k.net);
-    teams = rw teams (teams_idle turn (Kill order) (Verdict v) machine.teams refl refl refl refl refl k.teams);
+    teams = rw teams (teams_idle point (Kill order) (Verdict v) machine.teams refl refl refl refl refl k.teams);
   };
 }
   where
     c : Setup
-    c = turn.setup
+    c = point.setup
 
     h : History
-    h = turn.before
+    h = point.before
 
     m : Moment
-    m = moment_of turn (Kill order) (Verdict v)
+    m = moment_of point (Kill order) (Verdict v)
 
     struck_is : (p : ℕ) → strikes m p ≡ at_target (sets.contains set p) kind
     struck_is p = ap₂ (λ (b : Bool) (o : Option Kind). if b then o else None) (sym (who p ∙ ap (λ f. f p) (targets_same c h machine k order.target))) hit

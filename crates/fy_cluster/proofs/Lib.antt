@@ -23,6 +23,7 @@ pub mod Room
 pub mod Runs
 pub mod Seen
 pub mod Sending
+pub mod Sent
 pub mod Starting
 pub mod Starts
 pub mod Still

@@ -14,7 +14,7 @@ use Rattle.fy_cluster.specs.declared.machine.Machine.{Machine}
 use Rattle.fy_cluster.specs.Setup.{Setup}
 use Rattle.fy_cluster.specs.History.{History, Moment, sent, in_flight, now, clogs, unclogs, ticks}
 use Rattle.fy_cluster.specs.Replies.{refused, refusals, answer}
-use Rattle.fy_cluster.specs.Standing.{Stands, Turn, Follows, moment_of, KeepsNet}
+use Rattle.fy_cluster.specs.Standing.{Stands, Point, Follows, moment_of, KeepsNet}
 use Rattle.fy_cluster.proofs.Still.{teams_idle, only_traffic}
 use Rattle.fy_cluster.proofs.Flights.{flying_without, body_flying}
 use Rattle.fy_cluster.proofs.Refusals.{refuse}
@@ -75,38 +75,38 @@ lost_reply (Err fault) = No NoMessage
 pub swap_eq : (k n : ℕ) → (n == k) ≡ (k == n)
 swap_eq k n = grind (arith, nat_tests)
 
-lost : (turn : Turn) (n : ℕ) (m : Machine) → Stands turn.setup turn.before m → in_flight turn.before n ≡ true → Follows turn (Lose n) Done (record m { net = left_by n m.net })
-lost turn n machine k f = record {
-  right = sym (lose_reply c h turn.by n true f);
-  stands = only_traffic turn (Lose n) Done machine (left_by n machine.net) machine.teams refl (λ p. refl) k
+lost : (point : Point) (n : ℕ) (m : Machine) → Stands point.setup point.before m → in_flight point.before n ≡ true → Follows point (Lose n) Done (record m { net = left_by n m.net })
+lost point n machine k f = record {
+  right = sym (lose_reply c h point.by n true f);
+  stands = only_traffic point (Lose n) Done machine (left_by n machine.net) machine.teams refl (λ p. refl) k
       (net_left c m h machine.net n f refl (λ k. swap_eq k n) refl refl refl k.net)
-      (teams_idle turn (Lose n) Done machine.teams refl refl refl refl refl k.teams);
+      (teams_idle point (Lose n) Done machine.teams refl refl refl refl refl k.teams);
 }
   where
     c : Setup
-    c = turn.setup
+    c = point.setup
 
     h : History
-    h = turn.before
+    h = point.before
 
     m : Moment
-    m = moment_of turn (Lose n) Done
+    m = moment_of point (Lose n) Done
 
-pub lose_step : (turn : Turn) (n : ℕ) (m : Machine) (net : Traffic) (result : Result (Unit {0}) NetFault) → Stands turn.setup turn.before m
+pub lose_step : (point : Point) (n : ℕ) (m : Machine) (net : Traffic) (result : Result (Unit {0}) NetFault) → Stands point.setup point.before m
     → ((fault : NetFault) → lose_refusal m.net n ≡ Some fault → (result ≡ Err fault) × (net ≡ m.net))
     → (lose_refusal m.net n ≡ None → (IsOk result) × (net ≡ left_by n m.net))
-    → Follows turn (Lose n) (lost_reply result) (record m { net = net })
-lose_step turn n m net result k past fits = at (body_of m.net.in_flight n) result refl past fits
+    → Follows point (Lose n) (lost_reply result) (record m { net = net })
+lose_step point n m net result k past fits = at (body_of m.net.in_flight n) result refl past fits
   where
-    there : (n : ℕ) → in_flight turn.before n ≡ true → (b : Body) × (slice_get (sent turn.before) n ≡ Some b)
-    there n f = slice_get-some (sent turn.before) n (let w = (and_parts (nat_lt n (length (sent turn.before))) _ f).0 in grind (arith, nat_tests))
+    there : (n : ℕ) → in_flight point.before n ≡ true → (b : Body) × (slice_get (sent point.before) n ≡ Some b)
+    there n f = slice_get-some (sent point.before) n (let w = (and_parts (nat_lt n (length (sent point.before))) _ f).0 in grind (arith, nat_tests))
 
     at : (o : Option Body) (result : Result (Unit {0}) NetFault) → body_of m.net.in_flight n ≡ o
         → ((fault : NetFault) → lose_refusal m.net n ≡ Some fault → (result ≡ Err fault) × (net ≡ m.net))
         → (lose_refusal m.net n ≡ None → (IsOk result) × (net ≡ left_by n m.net))
-        → Follows turn (Lose n) (lost_reply result) (record m { net = net })
+        → Follows point (Lose n) (lost_reply result) (record m { net = net })
     at None result e past fits =
         let said = past NoneInFlight (ap missing_refusal e) in
-        rw (said.0, said.1) (refuse turn (Lose n) NoMessage m k (lose_reply turn.setup turn.before turn.by n false (flies_not turn.setup turn.before m.net k.net there n e)))
-    at (Some b) (Ok u) e past fits = let said = fits (ap missing_refusal e) in rw said.1 (lost turn n m k (flies turn.setup turn.before m.net k.net n b e).0)
+        rw (said.0, said.1) (refuse point (Lose n) NoMessage m k (lose_reply point.setup point.before point.by n false (flies_not point.setup point.before m.net k.net there n e)))
+    at (Some b) (Ok u) e past fits = let said = fits (ap missing_refusal e) in rw said.1 (lost point n m k (flies point.setup point.before m.net k.net n b e).0)
     at (Some b) (Err fault) e past fits = absurd (false≢true (fits (ap missing_refusal e)).0)

@@ -15,7 +15,7 @@ use Rattle.fy_cluster.proofs.Resent.{record_count}
 use Rattle.std.proofs.lemmas.Option.{get_or_from_slice_get}
 
 pub has_is : (c : Setup) (h : History) (m : Machine) → Stands c h m → (rec p : ℕ) → p < length c.processes → has_on m rec p ≡ has_synced h rec p
-has_is c h m k rec p l = ap (λ (d : Stored). list_any (λ item. item.rec == rec) d.synced) (get_or_from_slice_get m.disks.items p (stored h p) blank (k.disks.each p l))
+has_is c h m k rec p l = ap (λ (d : Stored). list_any (λ item. item.rec == rec) d.synced) (get_or_from_slice_get m.disks p (stored h p) blank (k.disks.each p l))
 
 pub of_team_is : (h : History) (m : Machine) → KeepsTeams h m.teams → (team rec : ℕ) → is_of_team_on m team rec ≡ is_of_team h team rec
 of_team_is h m k team rec = at (slice_get m.teams.records rec) ∙ ap (some_is (λ (b : BegunRecord). b.team == team)) (sym (record_is h m.teams k rec))

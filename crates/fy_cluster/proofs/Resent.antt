@@ -14,7 +14,7 @@ use Rattle.fy_cluster.specs.declared.machine.Machine.{Machine}
 use Rattle.fy_cluster.specs.Setup.{Setup}
 use Rattle.fy_cluster.specs.History.{History, Moment, BegunRecord, sent, teams, records, members_for, acked}
 use Rattle.fy_cluster.specs.Replies.{refused, refusals, answer, is_full}
-use Rattle.fy_cluster.specs.Standing.{Stands, Turn, Follows, Comes, moment_of, KeepsTeams, begun_of, IsLived}
+use Rattle.fy_cluster.specs.Standing.{Stands, Point, Follows, Comes, moment_of, KeepsTeams, begun_of, IsLived}
 use Rattle.fy_cluster.proofs.Still.{teams_idle, only_traffic, or_nothing}
 use Rattle.fy_cluster.proofs.Refusals.{refuse}
 use Rattle.fy_cluster.proofs.Results.{some_is_same, some_not_none}
@@ -47,11 +47,11 @@ pub record IsOf (h : History) (rec : ℕ) (members : List ProcId) : Type 0 where
   pub known : nat_le (length (records h)) rec ≡ false
   pub team : members_for h rec ≡ members
 
-pub no_record : (turn : Turn) (rec : ℕ) (p : ProcId) (m : Machine) → Stands turn.setup turn.before m → None ≡ option_map (λ (it : Record). it.team) (slice_get m.teams.records rec) → Follows turn (Resend rec p) (No NoRecord) m
-no_record turn rec p m k none = at (slice_get m.teams.records rec) refl none
+pub no_record : (point : Point) (rec : ℕ) (p : ProcId) (m : Machine) → Stands point.setup point.before m → None ≡ option_map (λ (it : Record). it.team) (slice_get m.teams.records rec) → Follows point (Resend rec p) (No NoRecord) m
+no_record point rec p m k none = at (slice_get m.teams.records rec) refl none
   where
-    at : (o : Option Record) → slice_get m.teams.records rec ≡ o → None ≡ option_map (λ (it : Record). it.team) o → Follows turn (Resend rec p) (No NoRecord) m
-    at None s none = refuse turn (Resend rec p) NoRecord m k (resend_reply turn.setup turn.before turn.by rec p true _ _ _ (past_policies (records turn.before) rec (record_is turn.before m.teams k.teams rec ∙ ap (option_map begun_of) s)) refl refl refl)
+    at : (o : Option Record) → slice_get m.teams.records rec ≡ o → None ≡ option_map (λ (it : Record). it.team) o → Follows point (Resend rec p) (No NoRecord) m
+    at None s none = refuse point (Resend rec p) NoRecord m k (resend_reply point.setup point.before point.by rec p true _ _ _ (past_policies (records point.before) rec (record_is point.before m.teams k.teams rec ∙ ap (option_map begun_of) s)) refl refl refl)
     at (Some it) s none = absurd (some_not_none it.team (sym none))
 
 -- what the teams say of a number is what the history says
@@ -77,66 +77,66 @@ is_of h roster k rec team members named e = at (slice_get roster.records rec) re
         }
 
 -- members are processes
-pub members_known : Tested → (turn : Turn) (m : Machine) → Stands turn.setup turn.before m → IsLived turn.setup turn.before → (team : ℕ) (members : List ProcId) → Some members ≡ members_in m.teams team → All (λ p. p.0 < length turn.setup.processes) members
-members_known tested turn m k l team members e =
-    let t = team_there turn.before m.teams k.teams team members e in
-    let is = slice_get-each (IsFormed turn.setup.processes turn.setup.policies) (teams turn.before) team t.0 (sound_of tested turn.setup turn.before l).formed t.1 in
-    subst (All (λ p. p.0 < length turn.setup.processes)) t.2 is.known
+pub members_known : Tested → (point : Point) (m : Machine) → Stands point.setup point.before m → IsLived point.setup point.before → (team : ℕ) (members : List ProcId) → Some members ≡ members_in m.teams team → All (λ p. p.0 < length point.setup.processes) members
+members_known tested point m k l team members e =
+    let t = team_there point.before m.teams k.teams team members e in
+    let is = slice_get-each (IsFormed point.setup.processes point.setup.policies) (teams point.before) team t.0 (sound_of tested point.setup point.before l).formed t.1 in
+    subst (All (λ p. p.0 < length point.setup.processes)) t.2 is.known
 
-pub member_known : Tested → (turn : Turn) (m : Machine) → Stands turn.setup turn.before m → IsLived turn.setup turn.before → (team : ℕ) (members : List ProcId) (p : ℕ) → Some members ≡ members_in m.teams team → is_among members p ≡ true → p < length m.net.until
-member_known tested turn m k l team members p e i =
+pub member_known : Tested → (point : Point) (m : Machine) → Stands point.setup point.before m → IsLived point.setup point.before → (team : ℕ) (members : List ProcId) (p : ℕ) → Some members ≡ members_in m.teams team → is_among members p ≡ true → p < length m.net.until
+member_known tested point m k l team members p e i =
     let a = among_is members p i in
-    let within : a.1.0 < length turn.setup.processes = All-contains (λ p. p.0 < length turn.setup.processes) members a.1 (members_known tested turn m k l team members e) (a.0, a.2, a.3) in
+    let within : a.1.0 < length point.setup.processes = All-contains (λ p. p.0 < length point.setup.processes) members a.1 (members_known tested point m k l team members e) (a.0, a.2, a.3) in
     let same : a.1.0 ≡ p = a.4 in
     let count = k.net.count in
     omega arith
 
-pub team_missing : Tested → (turn : Turn) (m : Machine) → Stands turn.setup turn.before m → IsLived turn.setup turn.before → (rec team : ℕ) → Some team ≡ option_map (λ (it : Record). it.team) (slice_get m.teams.records rec) → None ≡ members_in m.teams team → ⊥
-team_missing tested turn m k l rec team named none = at (slice_get m.teams.records rec) refl named
+pub team_missing : Tested → (point : Point) (m : Machine) → Stands point.setup point.before m → IsLived point.setup point.before → (rec team : ℕ) → Some team ≡ option_map (λ (it : Record). it.team) (slice_get m.teams.records rec) → None ≡ members_in m.teams team → ⊥
+team_missing tested point m k l rec team named none = at (slice_get m.teams.records rec) refl named
   where
     at : (o : Option Record) → slice_get m.teams.records rec ≡ o → Some team ≡ option_map (λ (it : Record). it.team) o → ⊥
     at None s named = some_not_none team named
     at (Some it) s named =
         let same : team ≡ it.team = some_is_same team it.team named in
-        let begun : slice_get (records turn.before) rec ≡ Some (begun_of it) = record_is turn.before m.teams k.teams rec ∙ ap (option_map begun_of) s in
-        let t = slice_get-each (λ b. (t : Team) × (slice_get (teams turn.before) b.team ≡ Some t)) (records turn.before) rec (begun_of it) (sound_of tested turn.setup turn.before l).joined begun in
-        some_not_none t.0.members (sym (none ∙ ap (option_map (λ (it : Team). it.members)) (ap (λ ts. slice_get ts team) k.teams.teams ∙ ap (slice_get (teams turn.before)) same ∙ t.1)))
+        let begun : slice_get (records point.before) rec ≡ Some (begun_of it) = record_is point.before m.teams k.teams rec ∙ ap (option_map begun_of) s in
+        let t = slice_get-each (λ b. (t : Team) × (slice_get (teams point.before) b.team ≡ Some t)) (records point.before) rec (begun_of it) (sound_of tested point.setup point.before l).joined begun in
+        some_not_none t.0.members (sym (none ∙ ap (option_map (λ (it : Team). it.members)) (ap (λ ts. slice_get ts team) k.teams.teams ∙ ap (slice_get (teams point.before)) same ∙ t.1)))
 
-pub not_member : (turn : Turn) (rec : ℕ) (p : ProcId) (members : List ProcId) (m : Machine) → Stands turn.setup turn.before m → IsOf turn.before rec members → is_among members p.0 ≡ false → Follows turn (Resend rec p) (No NotMember) m
-not_member turn rec p members m k is e = refuse turn (Resend rec p) NotMember m k (resend_reply turn.setup turn.before turn.by rec p false false _ _ is.known (ap (λ ps. is_among ps p.0) is.team ∙ e) refl refl)
+pub not_member : (point : Point) (rec : ℕ) (p : ProcId) (members : List ProcId) (m : Machine) → Stands point.setup point.before m → IsOf point.before rec members → is_among members p.0 ≡ false → Follows point (Resend rec p) (No NotMember) m
+not_member point rec p members m k is e = refuse point (Resend rec p) NotMember m k (resend_reply point.setup point.before point.by rec p false false _ _ is.known (ap (λ ps. is_among ps p.0) is.team ∙ e) refl refl)
 
-pub is_acked_already : (turn : Turn) (rec : ℕ) (p : ProcId) (members : List ProcId) (m : Machine) → Stands turn.setup turn.before m → IsOf turn.before rec members → is_among members p.0 ≡ true → acked turn.before rec ≡ true → Follows turn (Resend rec p) (No Acked) m
-is_acked_already turn rec p members m k is e a = refuse turn (Resend rec p) Acked m k (resend_reply turn.setup turn.before turn.by rec p false true true _ is.known (ap (λ ps. is_among ps p.0) is.team ∙ e) a refl)
+pub is_acked_already : (point : Point) (rec : ℕ) (p : ProcId) (members : List ProcId) (m : Machine) → Stands point.setup point.before m → IsOf point.before rec members → is_among members p.0 ≡ true → acked point.before rec ≡ true → Follows point (Resend rec p) (No Acked) m
+is_acked_already point rec p members m k is e a = refuse point (Resend rec p) Acked m k (resend_reply point.setup point.before point.by rec p false true true _ is.known (ap (λ ps. is_among ps p.0) is.team ∙ e) a refl)
 
-pub resend_full : (turn : Turn) (rec : ℕ) (p : ProcId) (members : List ProcId) → IsOf turn.before rec members → is_among members p.0 ≡ true → acked turn.before rec ≡ false → is_full turn.before 1 ≡ true
-    → refused (refusals turn.setup turn.before (Resend rec p)) (answer turn.setup turn.before turn.by (Resend rec p)) ≡ No NetFull
-resend_full turn rec p members is e a full = resend_reply turn.setup turn.before turn.by rec p false true false true is.known (ap (λ ps. is_among ps p.0) is.team ∙ e) a full
+pub resend_full : (point : Point) (rec : ℕ) (p : ProcId) (members : List ProcId) → IsOf point.before rec members → is_among members p.0 ≡ true → acked point.before rec ≡ false → is_full point.before 1 ≡ true
+    → refused (refusals point.setup point.before (Resend rec p)) (answer point.setup point.before point.by (Resend rec p)) ≡ No NetFull
+resend_full point rec p members is e a full = resend_reply point.setup point.before point.by rec p false true false true is.known (ap (λ ps. is_among ps p.0) is.team ∙ e) a full
 
-pub resends : (turn : Turn) (rec : ℕ) (p : ProcId) (members : List ProcId) (machine : Machine) (room : Traffic) (number : ℕ) (net : Traffic) → Stands turn.setup turn.before machine
-    → IsOf turn.before rec members → is_among members p.0 ≡ true → acked turn.before rec ≡ false → reserve_refusal machine.net 1 ≡ None → room ≡ record machine.net { room = room.room } → number ≡ room.sent → net ≡ sent_on (Store rec p) room
-    → Follows turn (Resend rec p) (Sent number) (record machine { net = net })
-resends turn rec p members machine room number net k is e a clear reserved n sent_is = rw number_is (record {
-  right = sym (resend_reply c h turn.by rec p false true false false is.known (ap (λ ps. is_among ps p.0) is.team ∙ e) a (room_for c h machine.net 1 k.net clear).0);
-  stands = only_traffic turn (Resend rec p) (Sent (length (sent turn.before))) machine net machine.teams refl (λ q. refl) k
+pub resends : (point : Point) (rec : ℕ) (p : ProcId) (members : List ProcId) (machine : Machine) (room : Traffic) (number : ℕ) (net : Traffic) → Stands point.setup point.before machine
+    → IsOf point.before rec members → is_among members p.0 ≡ true → acked point.before rec ≡ false → reserve_refusal machine.net 1 ≡ None → room ≡ record machine.net { room = room.room } → number ≡ room.sent → net ≡ sent_on (Store rec p) room
+    → Follows point (Resend rec p) (Sent number) (record machine { net = net })
+resends point rec p members machine room number net k is e a clear reserved n sent_is = rw number_is (record {
+  right = sym (resend_reply c h point.by rec p false true false false is.known (ap (λ ps. is_among ps p.0) is.team ∙ e) a (room_for c h machine.net 1 k.net clear).0);
+  stands = only_traffic point (Resend rec p) (Sent (length (sent point.before))) machine net machine.teams refl (λ q. refl) k
       (net_sent c m h machine.net net (Store rec p ∷ []) refl (room_for c h machine.net 1 k.net clear).1 (λ n. refl) refl refl refl
       (ap (λ (r : Traffic). r.in_flight) sent_is ∙ ap (λ (r : Traffic). r.in_flight ++ numbered r.sent (Store rec p ∷ [])) reserved)
       (ap (λ (r : Traffic). r.sent) sent_is ∙ ap (λ (r : Traffic). r.sent + 1) reserved)
       (ap (λ (r : Traffic). r.clock) sent_is ∙ ap (λ (r : Traffic). r.clock) reserved)
       (ap (λ (r : Traffic). r.until) sent_is ∙ ap (λ (r : Traffic). r.until) reserved)
       k.net)
-      (teams_idle turn (Resend rec p) (Sent (length (sent turn.before))) machine.teams refl refl refl refl refl k.teams);
+      (teams_idle point (Resend rec p) (Sent (length (sent point.before))) machine.teams refl refl refl refl refl k.teams);
 })
   where
     c : Setup
-    c = turn.setup
+    c = point.setup
 
     h : History
-    h = turn.before
+    h = point.before
 
     m : Moment
-    m = moment_of turn (Resend rec p) (Sent (length (sent turn.before)))
+    m = moment_of point (Resend rec p) (Sent (length (sent point.before)))
 
-    number_is : number ≡ length (sent turn.before)
+    number_is : number ≡ length (sent point.before)
     number_is = n ∙ ap (λ (r : Traffic). r.sent) reserved ∙ k.net.sent_so_far
 
 -- ---- a record begins
@@ -164,43 +164,43 @@ fits h roster team payload k e = at (nat_le (length roster.teams) team) (nat_lt 
     at false false true ea eb ed e = absurd (some_not_none TooManyThere e)
     at false false false ea eb ed e = record { there = ap (λ ts. nat_le (length ts) team) (sym k.teams) ∙ ea; small = eb; few = ap (nat_le 65536) (sym (record_count h roster k)) ∙ ed }
 
-pub unfit_begin : (turn : Turn) (team : ℕ) (payload : List ℕ) (m : Machine) (fault : TeamFault) → Stands turn.setup turn.before m → begin_refusal m.teams team payload ≡ Some fault → Comes turn (Begin team payload) (replied_to_team fault) m
-unfit_begin turn team payload m fault k e = at (nat_le (length m.teams.teams) team) (nat_lt 256 (length payload)) (nat_le 65536 (length m.teams.records)) refl refl refl e
+pub unfit_begin : (point : Point) (team : ℕ) (payload : List ℕ) (m : Machine) (fault : TeamFault) → Stands point.setup point.before m → begin_refusal m.teams team payload ≡ Some fault → Comes point (Begin team payload) (replied_to_team fault) m
+unfit_begin point team payload m fault k e = at (nat_le (length m.teams.teams) team) (nat_lt 256 (length payload)) (nat_le 65536 (length m.teams.records)) refl refl refl e
   where
     c : Setup
-    c = turn.setup
+    c = point.setup
 
     h : History
-    h = turn.before
+    h = point.before
 
     at : (a b d : Bool) → nat_le (length m.teams.teams) team ≡ a → nat_lt 256 (length payload) ≡ b → nat_le 65536 (length m.teams.records) ≡ d → (if a then Some NoTeamThere else (if b then Some LongPayload else (if d then Some TooManyThere else None))) ≡ Some fault
-        → Comes turn (Begin team payload) (replied_to_team fault) m
-    at true b d ea eb ed e = let same : fault ≡ NoTeamThere = cc in rw same (refuse turn (Begin team payload) NoTeam m k (begin_reply c h turn.by team payload true _ _ _ (ap (λ ts. nat_le (length ts) team) (sym k.teams.teams) ∙ ea) refl refl refl))
-    at false true d ea eb ed e = let same : fault ≡ LongPayload = cc in rw same (refuse turn (Begin team payload) Payload m k (begin_reply c h turn.by team payload false true _ _ (ap (λ ts. nat_le (length ts) team) (sym k.teams.teams) ∙ ea) eb refl refl))
-    at false false true ea eb ed e = let same : fault ≡ TooManyThere = cc in rw same (refuse turn (Begin team payload) TooMany m k (begin_reply c h turn.by team payload false false true _ (ap (λ ts. nat_le (length ts) team) (sym k.teams.teams) ∙ ea) eb (ap (nat_le 65536) (sym (record_count h m.teams k.teams)) ∙ ed) refl))
+        → Comes point (Begin team payload) (replied_to_team fault) m
+    at true b d ea eb ed e = let same : fault ≡ NoTeamThere = cc in rw same (refuse point (Begin team payload) NoTeam m k (begin_reply c h point.by team payload true _ _ _ (ap (λ ts. nat_le (length ts) team) (sym k.teams.teams) ∙ ea) refl refl refl))
+    at false true d ea eb ed e = let same : fault ≡ LongPayload = cc in rw same (refuse point (Begin team payload) Payload m k (begin_reply c h point.by team payload false true _ _ (ap (λ ts. nat_le (length ts) team) (sym k.teams.teams) ∙ ea) eb refl refl))
+    at false false true ea eb ed e = let same : fault ≡ TooManyThere = cc in rw same (refuse point (Begin team payload) TooMany m k (begin_reply c h point.by team payload false false true _ (ap (λ ts. nat_le (length ts) team) (sym k.teams.teams) ∙ ea) eb (ap (nat_le 65536) (sym (record_count h m.teams k.teams)) ∙ ed) refl))
     at false false false ea eb ed e = absurd (cc)
 
-pub no_members : (turn : Turn) (team : ℕ) (payload : List ℕ) (m : Machine) → Stands turn.setup turn.before m → Fits turn.before team payload → None ≡ members_in m.teams team → ⊥
-no_members turn team payload m k f none =
-    let low : team < length (teams turn.before) = let t = f.there in grind (arith, nat_tests) in
-    let t = slice_get-some (teams turn.before) team low in
+pub no_members : (point : Point) (team : ℕ) (payload : List ℕ) (m : Machine) → Stands point.setup point.before m → Fits point.before team payload → None ≡ members_in m.teams team → ⊥
+no_members point team payload m k f none =
+    let low : team < length (teams point.before) = let t = f.there in grind (arith, nat_tests) in
+    let t = slice_get-some (teams point.before) team low in
     some_not_none t.0.members (sym (none ∙ ap (option_map (λ (it : Team). it.members)) (ap (λ ts. slice_get ts team) k.teams.teams ∙ t.1)))
 
-pub members_are : (turn : Turn) (team : ℕ) (members : List ProcId) (m : Machine) → Stands turn.setup turn.before m → Some members ≡ members_in m.teams team → members_of turn.before team ≡ members
-members_are turn team members m k e = let t = team_there turn.before m.teams k.teams team members e in ap (λ (o : Option Team). option_map_or (λ t. t.members) o []) t.1 ∙ t.2
+pub members_are : (point : Point) (team : ℕ) (members : List ProcId) (m : Machine) → Stands point.setup point.before m → Some members ≡ members_in m.teams team → members_of point.before team ≡ members
+members_are point team members m k e = let t = team_there point.before m.teams k.teams team members e in ap (λ (o : Option Team). option_map_or (λ t. t.members) o []) t.1 ∙ t.2
 
-pub begin_full : (turn : Turn) (team : ℕ) (payload : List ℕ) (members : List ProcId) (n : ℕ) → Fits turn.before team payload → members_of turn.before team ≡ members → n ≡ length members → is_full turn.before n ≡ true
-    → refused (refusals turn.setup turn.before (Begin team payload)) (answer turn.setup turn.before turn.by (Begin team payload)) ≡ No NetFull
-begin_full turn team payload members n f is count full = begin_reply turn.setup turn.before turn.by team payload false false false true f.there f.small f.few (ap (λ ps. is_full turn.before (length ps)) is ∙ ap (is_full turn.before) (sym count) ∙ full)
+pub begin_full : (point : Point) (team : ℕ) (payload : List ℕ) (members : List ProcId) (n : ℕ) → Fits point.before team payload → members_of point.before team ≡ members → n ≡ length members → is_full point.before n ≡ true
+    → refused (refusals point.setup point.before (Begin team payload)) (answer point.setup point.before point.by (Begin team payload)) ≡ No NetFull
+begin_full point team payload members n f is count full = begin_reply point.setup point.before point.by team payload false false false true f.there f.small f.few (ap (λ ps. is_full point.before (length ps)) is ∙ ap (is_full point.before) (sym count) ∙ full)
 
-pub begins_now : BegunUnmarked → BegunUnacked → (turn : Turn) (team : ℕ) (payload : List ℕ) (members : List ProcId) (machine : Machine) (room net : Traffic) (roster : Roster) (rec first n : ℕ) → Stands turn.setup turn.before machine
-    → Fits turn.before team payload → members_of turn.before team ≡ members → n ≡ length members → reserve_refusal machine.net n ≡ None → room ≡ record machine.net { room = room.room }
+pub begins_now : BegunUnmarked → BegunUnacked → (point : Point) (team : ℕ) (payload : List ℕ) (members : List ProcId) (machine : Machine) (room net : Traffic) (roster : Roster) (rec first n : ℕ) → Stands point.setup point.before machine
+    → Fits point.before team payload → members_of point.before team ≡ members → n ≡ length members → reserve_refusal machine.net n ≡ None → room ≡ record machine.net { room = room.room }
     → rec ≡ length machine.teams.records → roster ≡ begun_for team payload machine.teams → first ≡ room.sent
     → Sends room (stores_of rec members) net
-    → Follows turn (Begin team payload) (Begun rec first) (record machine { net = net; teams = roster })
-begins_now unmarked unacked turn team payload members machine room net roster rec first n k f is count clear reserved rec_is begun first_is sends = rw (record_is_next, number_is) (record {
-  right = sym (begin_reply c h turn.by team payload false false false false f.there f.small f.few (ap (λ ps. is_full h (length ps)) is ∙ ap (is_full h) (sym count) ∙ (room_for c h machine.net n k.net clear).0));
-  stands = only_traffic turn (Begin team payload) (Begun (length (records turn.before)) (length (sent turn.before))) machine net roster refl (λ q. refl) k
+    → Follows point (Begin team payload) (Begun rec first) (record machine { net = net; teams = roster })
+begins_now unmarked unacked point team payload members machine room net roster rec first n k f is count clear reserved rec_is begun first_is sends = rw (record_is_next, number_is) (record {
+  right = sym (begin_reply c h point.by team payload false false false false f.there f.small f.few (ap (λ ps. is_full h (length ps)) is ∙ ap (is_full h) (sym count) ∙ (room_for c h machine.net n k.net clear).0));
+  stands = only_traffic point (Begin team payload) (Begun (length (records point.before)) (length (sent point.before))) machine net roster refl (λ q. refl) k
       (net_sent c m h machine.net net (stores_of rec members) (ap₂ stores_of (sym record_is_next) is) (let few = (room_for c h machine.net n k.net clear).1 in let s = stores in omega arith) (λ j. refl) refl refl refl
       sent_now.in_flight
       sent_now.count
@@ -216,18 +216,18 @@ begins_now unmarked unacked turn team payload members machine room net roster re
 })
   where
     c : Setup
-    c = turn.setup
+    c = point.setup
 
     h : History
-    h = turn.before
+    h = point.before
 
     m : Moment
-    m = moment_of turn (Begin team payload) (Begun (length (records turn.before)) (length (sent turn.before)))
+    m = moment_of point (Begin team payload) (Begun (length (records point.before)) (length (sent point.before)))
 
-    record_is_next : rec ≡ length (records turn.before)
-    record_is_next = rec_is ∙ record_count turn.before machine.teams k.teams
+    record_is_next : rec ≡ length (records point.before)
+    record_is_next = rec_is ∙ record_count point.before machine.teams k.teams
 
-    number_is : first ≡ length (sent turn.before)
+    number_is : first ≡ length (sent point.before)
     number_is = first_is ∙ ap (λ (r : Traffic). r.sent) reserved ∙ k.net.sent_so_far
 
     sent_now : Sends (record machine.net { room = room.room }) (stores_of rec members) net

@@ -14,7 +14,7 @@ use Rattle.fy_cluster.specs.declared.machine.Machine.{Machine}
 use Rattle.fy_cluster.specs.Setup.{Setup, is_between}
 use Rattle.fy_cluster.specs.History.{History, Moment, sent, now, clogs, unclogs, ticks}
 use Rattle.fy_cluster.specs.Replies.{is_full, refused, refusals, answer}
-use Rattle.fy_cluster.specs.Standing.{Stands, Turn, Comes, KeepsNet, IsLived, numbered, flying, no_room}
+use Rattle.fy_cluster.specs.Standing.{Stands, Point, Comes, KeepsNet, IsLived, numbered, flying, no_room}
 use Rattle.fy_cluster.proofs.Flights.{flying_sent, count_flying}
 use Rattle.fy_cluster.proofs.Entering.{length-history}
 use Rattle.fy_cluster.proofs.Refusals.{refuse}
@@ -55,15 +55,15 @@ net_sent c m h net next bodies sends few keeps no_clog no_end no_tick flight cou
     time = rw no_tick (omega arith)
 
 -- what reserve's refusal tells
-pub no_room_left : (turn : Turn) (act : Act) (n : ℕ) (m : Machine) (net : Traffic) (fault : NetFault) → Stands turn.setup turn.before m
-    → (is_full turn.before n ≡ true → refused (refusals turn.setup turn.before act) (answer turn.setup turn.before turn.by act) ≡ No NetFull)
+pub no_room_left : (point : Point) (act : Act) (n : ℕ) (m : Machine) (net : Traffic) (fault : NetFault) → Stands point.setup point.before m
+    → (is_full point.before n ≡ true → refused (refusals point.setup point.before act) (answer point.setup point.before point.by act) ≡ No NetFull)
     → (reserve_refusal m.net n ≡ Some fault) ⊎ ((reserve_refusal m.net n ≡ None) × (fault ≡ NoMemoryLeft)) → net ≡ m.net
-    → Comes turn act (no_room fault) (record m { net = net })
-no_room_left turn act n m net fault k full (inr out) is = rw (out.1, is) (refl, k)
-no_room_left turn act n m net fault k full (inl why) is = at (nat_lt MOST_IN_FLIGHT (length m.net.in_flight + n)) refl why
+    → Comes point act (no_room fault) (record m { net = net })
+no_room_left point act n m net fault k full (inr out) is = rw (out.1, is) (refl, k)
+no_room_left point act n m net fault k full (inl why) is = at (nat_lt MOST_IN_FLIGHT (length m.net.in_flight + n)) refl why
   where
-    at : (b : Bool) → nat_lt MOST_IN_FLIGHT (length m.net.in_flight + n) ≡ b → (if b then Some FullNet else None) ≡ Some fault → Comes turn act (no_room fault) (record m { net = net })
-    at true e why = let same : fault ≡ FullNet = cc in rw (same, is) (refuse turn act NetFull m k (full (sym (full_is turn.setup turn.before m.net n k.net) ∙ e)))
+    at : (b : Bool) → nat_lt MOST_IN_FLIGHT (length m.net.in_flight + n) ≡ b → (if b then Some FullNet else None) ≡ Some fault → Comes point act (no_room fault) (record m { net = net })
+    at true e why = let same : fault ≡ FullNet = cc in rw (same, is) (refuse point act NetFull m k (full (sym (full_is point.setup point.before m.net n k.net) ∙ e)))
     at false e why = absurd (cc)
 
 -- and what its success tells
@@ -79,8 +79,8 @@ pub reserved_is : (old new : Traffic) (room : ℕ) → new ≡ record old { room
 reserved_is old new room e = e ∙ ap (λ (n : Traffic). record old { room = n.room }) (sym e)
 
 -- a machine whose network has more room
-pub roomier : (turn : Turn) (m : Machine) (net : Traffic) → Stands turn.setup turn.before m → net ≡ record m.net { room = net.room } → Stands turn.setup turn.before (record m { net = net })
-roomier turn m net k e = record {
+pub roomier : (point : Point) (m : Machine) (net : Traffic) → Stands point.setup point.before m → net ≡ record m.net { room = net.room } → Stands point.setup point.before (record m { net = net })
+roomier point m net k e = record {
   dead = k.dead;
   rights = k.rights;
   disks = k.disks;

@@ -1,19 +1,22 @@
 -- a machine before anything happened keeps the empty history
-use Rattle.std.proofs.Common.{◌==◌, ◌≡◌, ℕ, ◌+◌, ◌<◌, ◌≤◌, Bool, true, false, ◌&&◌, ◌||◌, not, List, [], ◌∷◌, ◌++◌, length, take, replicate, slice_get, Some, None, refl, sym, ◌∙◌, ap, nat_lt, get_or, arith, append-nil, append_assoc, eqb-true, filter, if◌then◌else◌}
+use Rattle.std.proofs.Common.{◌==◌, ◌≡◌, ℕ, zero, suc, ◌+◌, ◌<◌, ◌≤◌, Bool, true, false, ◌&&◌, ◌||◌, not, List, [], ◌∷◌, ◌++◌, length, take, replicate, slice_get, Some, None, refl, sym, ◌∙◌, ap, nat_lt, get_or, arith, append-nil, append_assoc, eqb-true, filter, if◌then◌else◌, nat_le}
 use Rattle.std.proofs.lemmas.Bool.Decides.{nat_tests}
 use Rattle.std.proofs.lemmas.List.{length-replicate, get_or-replicate}
 use Rattle.std.proofs.lemmas.List.Elements.{filter_more}
 use Rattle.std.proofs.lemmas.Option.{slice_get-get_or}
 use Rattle.std.proofs.lemmas.Iterator.Adapters.{position_from-zero}
-use Rattle.std.specs.List.{position_from, list_any, AllByRecursion}
-use Rattle.std.proofs.lemmas.List.Folds.{list_any_more}
+use Rattle.std.specs.List.{position_from, list_any, list_all, AllByRecursion}
+use Rattle.std.proofs.lemmas.Bool.{and_parts, true≢false}
+use Rattle.std.proofs.lemmas.List.Folds.{list_any_more, list_all_at}
 use Rattle.fy_locality.specs.declared.locality.Locality.{Locality}
 use Rattle.fy_policy.specs.Tree.{Tree, IsPolicy}
 use Rattle.fy_policy.specs.Sat.{Sat, satisfies}
 use Rattle.fy_kinds.specs.declared.kind_set.KindSet.{KindSet}
-use Rattle.fy_kinds.specs.Kinds.{Deed, has, with_all}
+use Rattle.fy_kinds.specs.declared.kind.Kind.TheVariants.{RebootProcess, Reboot, RebootAndDelete, KillInstantly}
+use Rattle.fy_kinds.specs.Kinds.{Deed, Striking, Clogging, has, with_all, no_deed}
+use Rattle.fy_grants.specs.declared.book.TheConstants.{MOST_GRANTS}
 use Rattle.fy_grants.specs.declared.grant.Grant.{Grant}
-use Rattle.fy_grants.specs.Rights.{Rights, grants_of, protections_of, grant_count, with_grant, with_protection}
+use Rattle.fy_grants.specs.Rights.{Rights, grants_of, protections_of, grant_count, with_grant, with_protection, no_rights}
 use Rattle.fy_grants.specs.Changes.{ProtectedOne}
 use Rattle.fy_decide.specs.Losses.{everyone, first_unmet}
 use Rattle.std.specs.FinSet as sets
@@ -24,7 +27,8 @@ use Rattle.fy_net.specs.Net.{quiet}
 use Rattle.fy_team.specs.Teams.{nobody}
 use Rattle.fy_cluster.specs.declared.machine.Machine.{Machine}
 use Rattle.fy_cluster.specs.declared.config.Protection.{Protection}
-use Rattle.fy_cluster.specs.Setup.{Setup, IsMet, IsSetup}
+use Rattle.fy_cluster.specs.declared.config.TheConstants.{MOST_JOURNAL_ENTRIES}
+use Rattle.fy_cluster.specs.Setup.{Setup, IsMet, IsSetup, is_between}
 use Rattle.fy_cluster.specs.Rules.{grants_to, some_protects}
 use Rattle.fy_cluster.proofs.Grants.{GivesLists}
 use Rattle.fy_cluster.proofs.Records.{Tested}
@@ -39,7 +43,7 @@ and_true false = refl
 none_before : (t n p : ℕ) → p < n → false ≡ nat_lt t (get_or (replicate n 0) p 0)
 none_before t n p l = rw (get_or-replicate {A = ℕ} n p 0 0 l) (let none : nat_lt t 0 ≡ false = grind (arith, nat_tests) in sym none)
 
-pub stands_at_start : (c : Setup) (m : Machine) → length c.processes ≤ 1024 → IsFresh c.processes c.policies m.dead → KeepsRights c [] m.book → m.disks.items ≡ replicate (length c.processes) blank
+pub stands_at_start : (c : Setup) (m : Machine) → length c.processes ≤ 1024 → IsFresh c.processes c.policies m.dead → KeepsRights c [] m.book → m.disks ≡ replicate (length c.processes) blank
     → ((p : ℕ) → sets.contains m.up p ≡ nat_lt p (length c.processes)) → m.net ≡ quiet (length c.processes) → m.teams ≡ nobody → Stands c [] m
 stands_at_start c m few fresh rights disks up net teams = record {
   dead = record {
@@ -83,6 +87,7 @@ not_unmet i e = cc
 
 -- the first so many grants are given
 pub record GivenUpTo (old new : Rights) (grants : List Grant) (i : ℕ) : Type 0 where
+  pub map : new.processes ≡ old.processes
   pub actors : length new.grants ≡ length old.grants
   pub protections : new.protections ≡ old.protections
   pub count : grant_count new ≡ grant_count old + i
@@ -93,6 +98,7 @@ pub given_next : GivesLists → ((rights : Rights) (grant : Grant) → length (w
     → (old new next : Rights) (grants : List Grant) (i : ℕ) (grant : Grant) → i < length grants → grant ≡ get_or grants i grant → grant.actor < length old.grants → next ≡ with_grant new grant
     → GivenUpTo old new grants i → GivenUpTo old next grants (i + 1)
 given_next lists actors counted old new next grants i grant within is known given k = rw given (record {
+  map = k.map;
   actors = actors new grant ∙ k.actors;
   protections = k.protections;
   count = counted new grant there ∙ (let count = k.count in omega arith);
@@ -118,6 +124,7 @@ given_next lists actors counted old new next grants i grant within is known give
 
 -- the first so many protections are added
 pub record ProtectedUpTo (old new : Rights) (protections : List Protection) (i : ℕ) : Type 0 where
+  pub map : new.processes ≡ old.processes
   pub processes : length new.protections ≡ length old.protections
   pub grants : new.grants ≡ old.grants
   pub kinds : (p : ℕ) (deed : Deed) → has (protections_of new p) deed ≡ (some_protects (take i protections) p deed || has (protections_of old p) deed)
@@ -140,6 +147,7 @@ pub protected_next : ProtectedOne
     → next ≡ with_protection new it.process.0 (with_all (protections_of new it.process.0) it.kinds)
     → ProtectedUpTo old new protections i → ProtectedUpTo old next protections (i + 1)
 protected_next one processes either old new next protections i it within is known added k = rw added (record {
+  map = k.map;
   processes = processes new it.process.0 _ ∙ k.processes;
   grants = k.grants;
   kinds = λ p deed. ap (λ kinds. has kinds deed) (one new it.process.0 p (with_all (protections_of new it.process.0) it.kinds) there) ∙ at p deed (it.process.0 == p) refl;
@@ -173,3 +181,64 @@ protected_next one processes either old new next protections i it within is know
 
 pub kept_at_start : (c : Setup) (journal : List Entry) (m : Machine) → journal ≡ [] → IsSetup c → Stands c [] m → IsKept c journal m
 kept_at_start c journal m none setup stands = rw none (record { setup = setup; legal = (omega arith, tt); stands = stands })
+
+-- ---- the first rights
+
+all_of : {X : Type 0} (p : X → Bool) (xs : List X) → list_all p xs ≡ true → (k : ℕ) (d : X) → k < length xs → p (get_or xs k d) ≡ true
+all_of p xs h k d l = go (p (get_or xs k d)) refl
+  where
+    go : (b : Bool) → p (get_or xs k d) ≡ b → b ≡ true
+    go true e = refl
+    go false e = absurd (true≢false (sym h ∙ list_all_at p xs k d l e))
+
+-- what is known of a setup's grants and protections
+pub record InRange (c : Setup) : Type 0 where
+  pub few : length c.grants ≤ MOST_GRANTS
+  pub grants : (k : ℕ) (d : Grant) → k < length c.grants → (get_or c.grants k d).actor < length c.roles
+  pub protections : (k : ℕ) (d : Protection) → k < length c.protections → (get_or c.protections k d).process.0 < length c.processes
+
+pub in_range : (c : Setup) → IsSetup c → InRange c
+in_range c setup =
+    let five = (and_parts _ (is_between 1 MOST_JOURNAL_ENTRIES c.limit) setup.in_range).0 in
+    let four = and_parts _ (list_all (λ (it : Protection). nat_lt it.process.0 (length c.processes)) c.protections) five in
+    let three = and_parts _ (list_all (λ (grant : Grant). nat_lt grant.actor (length c.roles)) c.grants) four.0 in
+    let most : nat_le (length c.grants) MOST_GRANTS ≡ true = (and_parts _ (nat_le (length c.grants) MOST_GRANTS) three.0).1 in
+    record {
+      few = grind (arith, nat_tests);
+      grants = λ k d l. below _ _ (all_of (λ (grant : Grant). nat_lt grant.actor (length c.roles)) c.grants three.1 k d l);
+      protections = λ k d l. below _ _ (all_of (λ (it : Protection). nat_lt it.process.0 (length c.processes)) c.protections four.1 k d l);
+    }
+  where
+    below : (a b : ℕ) → nat_lt a b ≡ true → a < b
+    below a b e = grind (arith, nat_tests)
+
+-- no grants and no protections
+always : {A : Type 0} (n i : ℕ) (x : A) → get_or (replicate n x) i x ≡ x
+always zero i x = refl
+always (suc n) zero x = refl
+always (suc n) (suc i) x = always n i x
+
+none_has : (deed : Deed) → has no_deed deed ≡ false
+none_has (Striking RebootProcess) = refl
+none_has (Striking Reboot) = refl
+none_has (Striking RebootAndDelete) = refl
+none_has (Striking KillInstantly) = refl
+none_has Clogging = refl
+
+module _ (c : Setup) (setup : IsSetup c) (book : Rights) (made : book ≡ no_rights (length c.roles) c.processes) where
+  pub for_actors : (k : ℕ) (d : Grant) → k < length c.grants → (get_or c.grants k d).actor < length book.grants
+  for_actors k d l = rw made (let n = length-replicate (length c.roles) (let none : List Grant = [] in none) in let a = (in_range c setup).grants k d l in omega arith)
+
+  pub for_processes : (k : ℕ) (d : Protection) → k < length c.protections → (get_or c.protections k d).process.0 < length book.protections
+  for_processes k d l = rw made (let n = length-replicate (length c.processes) no_deed in let a = (in_range c setup).protections k d l in omega arith)
+
+  pub first_kept : (given last : Rights) → ((a : ℕ) → grants_of given a ≡ grants_of book a ++ grants_to a c.grants) → length given.grants ≡ length book.grants → given.protections ≡ book.protections → given.processes ≡ book.processes
+      → ((p : ℕ) (deed : Deed) → has (protections_of last p) deed ≡ (some_protects c.protections p deed || has (protections_of given p) deed)) → length last.protections ≡ length given.protections → last.grants ≡ given.grants → last.processes ≡ given.processes
+      → KeepsRights c [] last
+  first_kept given last lists actors same map kinds processes grants last_map = record {
+    map = last_map ∙ map ∙ ap (λ (r : Rights). r.processes) made;
+    actors = ap length grants ∙ actors ∙ ap (λ (r : Rights). length r.grants) made ∙ length-replicate (length c.roles) (let none : List Grant = [] in none);
+    processes = processes ∙ ap length same ∙ ap (λ (r : Rights). length r.protections) made ∙ length-replicate (length c.processes) no_deed;
+    grants = λ a. ap (λ gs. get_or gs a []) grants ∙ lists a ∙ ap (λ (r : Rights). grants_of r a ++ grants_to a c.grants) made ∙ ap (λ own. own ++ grants_to a c.grants) (always (length c.roles) a []);
+    protections = λ p deed. kinds p deed ∙ ap (λ ps. some_protects c.protections p deed || has (get_or ps p no_deed) deed) (same ∙ ap (λ (r : Rights). r.protections) made) ∙ ap (λ k. some_protects c.protections p deed || has k deed) (always (length c.processes) p no_deed) ∙ ap (λ b. some_protects c.protections p deed || b) (none_has deed) ∙ sym (or_none (some_protects c.protections p deed));
+  }

@@ -13,7 +13,7 @@ use Rattle.fy_cluster.specs.declared.machine.Machine.{Machine}
 use Rattle.fy_cluster.specs.Setup.{Setup}
 use Rattle.fy_cluster.specs.History.{History, Moment, gone, left, up}
 use Rattle.fy_cluster.specs.Replies.{refused, refusals, answer, no_process}
-use Rattle.fy_cluster.specs.Standing.{Stands, Turn, Follows, moment_of, KeepsUp}
+use Rattle.fy_cluster.specs.Standing.{Stands, Point, Follows, moment_of, KeepsUp}
 use Rattle.fy_cluster.proofs.Still.{dead_still, disks_still, net_still, teams_idle, rights_still}
 use Rattle.fy_cluster.proofs.Refusals.{refuse}
 
@@ -37,21 +37,21 @@ gone_is c h p b l e = let there : nat_lt p (length c.processes) ≡ true = grind
     at false e = ap not (sym e)
 
 -- what who is left tells of a process that is there
-pub left_tells : (turn : Turn) (m : Machine) → Stands turn.setup turn.before m → (p : ℕ) → p < length turn.setup.processes → (set : sets.FinSet nat_cmp) → set ≡ m.dead.left → (b found : Bool) → found ≡ sets.contains set p → found ≡ b → gone turn.before p ≡ not b
-left_tells turn m k p l set is b found told e = gone_is turn.setup turn.before p b l (sym e ∙ told ∙ ap (λ s. sets.contains s p) is ∙ k.dead.left p)
+pub left_tells : (point : Point) (m : Machine) → Stands point.setup point.before m → (p : ℕ) → p < length point.setup.processes → (set : sets.FinSet nat_cmp) → set ≡ m.dead.left → (b found : Bool) → found ≡ sets.contains set p → found ≡ b → gone point.before p ≡ not b
+left_tells point m k p l set is b found told e = gone_is point.setup point.before p b l (sym e ∙ told ∙ ap (λ s. sets.contains s p) is ∙ k.dead.left p)
 
 -- and who is up
-pub up_tells : (turn : Turn) (m : Machine) → Stands turn.setup turn.before m → (p : ℕ) → p < length turn.setup.processes → (b found : Bool) → found ≡ sets.contains m.up p → found ≡ b → up turn.before p ≡ b
-up_tells turn m k p l b found told e = sym (k.up.each p l) ∙ sym told ∙ e
+pub up_tells : (point : Point) (m : Machine) → Stands point.setup point.before m → (p : ℕ) → p < length point.setup.processes → (b found : Bool) → found ≡ sets.contains m.up p → found ≡ b → up point.before p ≡ b
+up_tells point m k p l b found told e = sym (k.up.each p l) ∙ sym told ∙ e
 
-pub nobody : (turn : Turn) (p : ProcId) (m : Machine) → Stands turn.setup turn.before m → no_process turn.setup p.0 ≡ true → Follows turn (Up p) (No NoProcess) m
-nobody turn p m k e = refuse turn (Up p) NoProcess m k (up_reply turn.setup turn.before turn.by p true _ _ e refl refl)
+pub nobody : (point : Point) (p : ProcId) (m : Machine) → Stands point.setup point.before m → no_process point.setup p.0 ≡ true → Follows point (Up p) (No NoProcess) m
+nobody point p m k e = refuse point (Up p) NoProcess m k (up_reply point.setup point.before point.by p true _ _ e refl refl)
 
-pub is_gone : (turn : Turn) (p : ProcId) (m : Machine) → Stands turn.setup turn.before m → no_process turn.setup p.0 ≡ false → gone turn.before p.0 ≡ true → Follows turn (Up p) (No Gone) m
-is_gone turn p m k e f = refuse turn (Up p) Gone m k (up_reply turn.setup turn.before turn.by p false true _ e f refl)
+pub is_gone : (point : Point) (p : ProcId) (m : Machine) → Stands point.setup point.before m → no_process point.setup p.0 ≡ false → gone point.before p.0 ≡ true → Follows point (Up p) (No Gone) m
+is_gone point p m k e f = refuse point (Up p) Gone m k (up_reply point.setup point.before point.by p false true _ e f refl)
 
-pub is_up : (turn : Turn) (p : ProcId) (m : Machine) → Stands turn.setup turn.before m → no_process turn.setup p.0 ≡ false → gone turn.before p.0 ≡ false → up turn.before p.0 ≡ true → Follows turn (Up p) (No IsUp) m
-is_up turn p m k e f g = refuse turn (Up p) IsUp m k (up_reply turn.setup turn.before turn.by p false false true e f g)
+pub is_up : (point : Point) (p : ProcId) (m : Machine) → Stands point.setup point.before m → no_process point.setup p.0 ≡ false → gone point.before p.0 ≡ false → up point.before p.0 ≡ true → Follows point (Up p) (No IsUp) m
+is_up point p m k e f g = refuse point (Up p) IsUp m k (up_reply point.setup point.before point.by p false false true e f g)
 
 up_more : (c : Setup) (m : Moment) (h : History) (p : ℕ) (set : sets.FinSet nat_cmp) → ((q : ℕ) → up (m ∷ h) q ≡ ((p == q) || up h q)) → KeepsUp c h set → KeepsUp c (m ∷ h) (sets.insert set p)
 up_more c m h p set is k = record { each = λ q l. sets.contains-insert nat_cmp_total set p q ∙ ap₂ (λ a b. a || b) (unsigned_tied q p ∙ same p q) (k.each q l) ∙ sym (is q) }
@@ -59,25 +59,25 @@ up_more c m h p set is k = record { each = λ q l. sets.contains-insert nat_cmp_
     same : (p q : ℕ) → (q == p) ≡ (p == q)
     same p q = grind (arith, nat_tests)
 
-pub starts : (turn : Turn) (p : ProcId) (m : Machine) → Stands turn.setup turn.before m → no_process turn.setup p.0 ≡ false → gone turn.before p.0 ≡ false → up turn.before p.0 ≡ false
-    → Follows turn (Up p) Done (record m { up = sets.insert m.up p.0 })
-starts turn p machine k e f g = record {
-  right = sym (up_reply c h turn.by p false false false e f g);
+pub starts : (point : Point) (p : ProcId) (m : Machine) → Stands point.setup point.before m → no_process point.setup p.0 ≡ false → gone point.before p.0 ≡ false → up point.before p.0 ≡ false
+    → Follows point (Up p) Done (record m { up = sets.insert m.up p.0 })
+starts point p machine k e f g = record {
+  right = sym (up_reply c h point.by p false false false e f g);
   stands = record {
     dead = dead_still c m h machine.dead (λ p. refl) refl k.dead;
     rights = rights_still c m h machine.book refl refl refl refl k.rights;
-    disks = disks_still c m h machine.disks.items (λ p. refl) refl (λ p. refl) k.disks;
+    disks = disks_still c m h machine.disks (λ p. refl) refl (λ p. refl) k.disks;
     up = up_more c m h p.0 machine.up (λ q. refl) k.up;
     net = net_still c m h machine.net refl (λ k. refl) refl refl refl k.net;
-    teams = teams_idle turn (Up p) Done machine.teams refl refl refl refl refl k.teams;
+    teams = teams_idle point (Up p) Done machine.teams refl refl refl refl refl k.teams;
   };
 }
   where
     c : Setup
-    c = turn.setup
+    c = point.setup
 
     h : History
-    h = turn.before
+    h = point.before
 
     m : Moment
-    m = moment_of turn (Up p) Done
+    m = moment_of point (Up p) Done

@@ -23,7 +23,7 @@ use Rattle.std.specs.FinSet as sets
 use Rattle.fy_cluster.specs.Setup.{Setup}
 use Rattle.fy_cluster.specs.History.{History, Moment, BegunRecord, some_is, is_accepted, struck_by, delivers, loses, store_to, word_of, is_stored, clogs, unclogs, forms, begins, syncs, ups, ticks, gives, takes, protects, unprotects, Swap, replaces, heals, strikes, is_closing, closes, writes, destroyed, gone, up, unsynced, sent, takes_of, now, marks, tells, marked, marked_after, acked, members_for, after_swap, teams, records}
 use Rattle.fy_cluster.specs.Rules.{grants, is_protected, with_given, without_taken, changes}
-use Rattle.fy_cluster.specs.Standing.{Stands, Turn, moment_of, following, KeepsDead, KeepsRights, KeepsDisks, KeepsUp, KeepsNet, KeepsTeams, stored}
+use Rattle.fy_cluster.specs.Standing.{Stands, Point, moment_of, following, KeepsDead, KeepsRights, KeepsDisks, KeepsUp, KeepsNet, KeepsTeams, stored}
 use Rattle.fy_cluster.proofs.DiskSteps.{synced_else, unsynced_else, own}
 use Rattle.fy_cluster.proofs.Flights.{flying_still}
 
@@ -119,6 +119,7 @@ teams_still m h roster no_team no_swap no_record unhealed no_mark silent k = rec
 pub rights_still : (c : Setup) (m : Moment) (h : History) (rights : Rights) → gives m.entry.act m.entry.reply ≡ None → takes m.entry.act m.entry.reply ≡ None → protects m.entry.act m.entry.reply ≡ None → unprotects m.entry.act m.entry.reply ≡ None
     → KeepsRights c h rights → KeepsRights c (m ∷ h) rights
 rights_still c m h rights no_give no_take no_more no_less k = record {
+  map = k.map;
   actors = k.actors;
   processes = k.processes;
   grants = λ a. k.grants a ∙ sym (ap₂ (λ t g. without_taken a t (with_given a g (grants c h a))) no_take no_give);
@@ -213,114 +214,114 @@ none_struck true o e = e
 none_struck false o e = refl
 
 -- it strikes nobody
-unstruck : (turn : Turn) (act : Act) (r : Reply) → struck_by act r ≡ None → (p : ℕ) → strikes (moment_of turn act r) p ≡ None
-unstruck turn act r e p = none_struck ((moment_of turn act r).targets p) (struck_by act r) e
+unstruck : (point : Point) (act : Act) (r : Reply) → struck_by act r ≡ None → (p : ℕ) → strikes (moment_of point act r) p ≡ None
+unstruck point act r e p = none_struck ((moment_of point act r).targets p) (struck_by act r) e
 
 -- it writes nothing
-unwritten : (turn : Turn) (act : Act) (r : Reply) → delivers act r ≡ None → (p : ℕ) → writes (moment_of turn act r) p ≡ None
-unwritten turn act r e p = ap (λ o. if is_some o && is_stored r then option_and_then (store_to p) (moment_of turn act r).message else None) e
+unwritten : (point : Point) (act : Act) (r : Reply) → delivers act r ≡ None → (p : ℕ) → writes (moment_of point act r) p ≡ None
+unwritten point act r e p = ap (λ o. if is_some o && is_stored r then option_and_then (store_to p) (moment_of point act r).message else None) e
 
 -- it marks nothing
-unmarked : (turn : Turn) (act : Act) (r : Reply) → delivers act r ≡ None → (rec p : ℕ) → marks (moment_of turn act r) rec p ≡ false
-unmarked turn act r e rec p = ap (λ o. is_some o && some_is (λ w. w.0 == rec && w.1 == p) (option_and_then word_of (moment_of turn act r).message)) e
+unmarked : (point : Point) (act : Act) (r : Reply) → delivers act r ≡ None → (rec p : ℕ) → marks (moment_of point act r) rec p ≡ false
+unmarked point act r e rec p = ap (λ o. is_some o && some_is (λ w. w.0 == rec && w.1 == p) (option_and_then word_of (moment_of point act r).message)) e
 
 -- it tells of nothing
-untold : (turn : Turn) (act : Act) (r : Reply) → delivers act r ≡ None → (rec : ℕ) → tells (moment_of turn act r) rec ≡ false
-untold turn act r e rec = ap (λ o. is_some o && some_is (λ w. w.0 == rec) (option_and_then word_of (moment_of turn act r).message)) e
+untold : (point : Point) (act : Act) (r : Reply) → delivers act r ≡ None → (rec : ℕ) → tells (moment_of point act r) rec ≡ false
+untold point act r e rec = ap (λ o. is_some o && some_is (λ w. w.0 == rec) (option_and_then word_of (moment_of point act r).message)) e
 
 nothing_taken : (b : Bool) → (if b then false else false) ≡ false
 nothing_taken true = refl
 nothing_taken false = refl
 
 -- it takes no message out
-pub untaken : (turn : Turn) (act : Act) (r : Reply) → delivers act r ≡ None → loses act r ≡ None → heals act r ≡ None → (n : ℕ) → (moment_of turn act r).takes_out n ≡ false
-untaken turn (Deliver message) r d l q n = at (is_accepted r) d
+pub untaken : (point : Point) (act : Act) (r : Reply) → delivers act r ≡ None → loses act r ≡ None → heals act r ≡ None → (n : ℕ) → (moment_of point act r).takes_out n ≡ false
+untaken point (Deliver message) r d l q n = at (is_accepted r) d
   where
     at : (b : Bool) → (if b then Some message else None) ≡ None → (if b then message == n else false) ≡ false
     at true e = absurd (cc)
     at false e = refl
-untaken turn (Lose message) r d l q n = at (is_accepted r) l
+untaken point (Lose message) r d l q n = at (is_accepted r) l
   where
     at : (b : Bool) → (if b then Some message else None) ≡ None → (if b then message == n else false) ≡ false
     at true e = absurd (cc)
     at false e = refl
-untaken turn (Heal process) r d l q n = at (is_accepted r) q
+untaken point (Heal process) r d l q n = at (is_accepted r) q
   where
-    at : (b : Bool) → (if b then Some process.0 else None) ≡ None → (if b then takes_of turn.before (Heal process) n else false) ≡ false
+    at : (b : Bool) → (if b then Some process.0 else None) ≡ None → (if b then takes_of point.before (Heal process) n else false) ≡ false
     at true e = absurd (cc)
     at false e = refl
-untaken turn _ r d l q n = nothing_taken (is_accepted r)
+untaken point _ r d l q n = nothing_taken (is_accepted r)
 
 -- what neither delivers nor heals, and forms, replaces and begins nothing, leaves the teams
-pub teams_idle : (turn : Turn) (act : Act) (r : Reply) (roster : Roster) → forms act r ≡ None → replaces act r ≡ None → begins act r ≡ None → delivers act r ≡ None → heals act r ≡ None
-    → KeepsTeams turn.before roster → KeepsTeams (following turn act r) roster
-teams_idle turn act r roster no_team no_swap no_record undelivered unhealed k =
-    teams_still (moment_of turn act r) turn.before roster no_team no_swap no_record unhealed (unmarked turn act r undelivered) (untold turn act r undelivered) k
+pub teams_idle : (point : Point) (act : Act) (r : Reply) (roster : Roster) → forms act r ≡ None → replaces act r ≡ None → begins act r ≡ None → delivers act r ≡ None → heals act r ≡ None
+    → KeepsTeams point.before roster → KeepsTeams (following point act r) roster
+teams_idle point act r roster no_team no_swap no_record undelivered unhealed k =
+    teams_still (moment_of point act r) point.before roster no_team no_swap no_record unhealed (unmarked point act r undelivered) (untold point act r undelivered) k
 
 -- what writes nothing, and concerns no more than the network and the teams, leaves all else
-pub only_traffic : (turn : Turn) (act : Act) (r : Reply) (machine : Machine) (net : Traffic) (roster : Roster) → doings act r ≡ traffic_alone act r → ((p : ℕ) → writes (moment_of turn act r) p ≡ None)
-    → Stands turn.setup turn.before machine → KeepsNet turn.setup (following turn act r) net → KeepsTeams (following turn act r) roster
-    → Stands turn.setup (following turn act r) (record machine { net = net; teams = roster })
-only_traffic turn act r machine net roster is unwritten k flows formed = record {
+pub only_traffic : (point : Point) (act : Act) (r : Reply) (machine : Machine) (net : Traffic) (roster : Roster) → doings act r ≡ traffic_alone act r → ((p : ℕ) → writes (moment_of point act r) p ≡ None)
+    → Stands point.setup point.before machine → KeepsNet point.setup (following point act r) net → KeepsTeams (following point act r) roster
+    → Stands point.setup (following point act r) (record machine { net = net; teams = roster })
+only_traffic point act r machine net roster is unwritten k flows formed = record {
   dead = dead_still c m h machine.dead struck (ap (λ (d : Doings). d.healed) is) k.dead;
   rights = rights_still c m h machine.book (ap (λ (d : Doings). d.given) is) (ap (λ (d : Doings). d.taken) is) (ap (λ (d : Doings). d.shielded) is) (ap (λ (d : Doings). d.unshielded) is) k.rights;
-  disks = disks_still c m h machine.disks.items struck (ap (λ (d : Doings). d.synced_at) is) unwritten k.disks;
+  disks = disks_still c m h machine.disks struck (ap (λ (d : Doings). d.synced_at) is) unwritten k.disks;
   up = up_still c m h machine.up struck (ap (λ (d : Doings). d.started) is) k.up;
   net = flows;
   teams = formed;
 }
   where
     c : Setup
-    c = turn.setup
+    c = point.setup
 
     h : History
-    h = turn.before
+    h = point.before
 
     m : Moment
-    m = moment_of turn act r
+    m = moment_of point act r
 
     struck : (p : ℕ) → strikes m p ≡ None
-    struck = unstruck turn act r (ap (λ (d : Doings). d.struck) is)
+    struck = unstruck point act r (ap (λ (d : Doings). d.struck) is)
 
 -- what concerns no more than clogs leaves all but the network
-pub only_clogs : (turn : Turn) (act : Act) (r : Reply) (machine : Machine) (net : Traffic) → doings act r ≡ clogs_alone act r
-    → Stands turn.setup turn.before machine → KeepsNet turn.setup (following turn act r) net → Stands turn.setup (following turn act r) (record machine { net = net })
-only_clogs turn act r machine net is k flows =
-    only_traffic turn act r machine net machine.teams
+pub only_clogs : (point : Point) (act : Act) (r : Reply) (machine : Machine) (net : Traffic) → doings act r ≡ clogs_alone act r
+    → Stands point.setup point.before machine → KeepsNet point.setup (following point act r) net → Stands point.setup (following point act r) (record machine { net = net })
+only_clogs point act r machine net is k flows =
+    only_traffic point act r machine net machine.teams
     (is ∙ sym (ap (λ (d : Doings). record nothing { clogged_for = d.clogged_for; unclogged = d.unclogged; formed = d.formed; replaced = d.replaced; begun = d.begun; delivered = d.delivered; lost = d.lost; passed = d.passed }) is))
-    (unwritten turn act r (ap (λ (d : Doings). d.delivered) is)) k flows
-    (teams_idle turn act r machine.teams (ap (λ (d : Doings). d.formed) is) (ap (λ (d : Doings). d.replaced) is) (ap (λ (d : Doings). d.begun) is) (ap (λ (d : Doings). d.delivered) is) (ap (λ (d : Doings). d.healed) is) k.teams)
+    (unwritten point act r (ap (λ (d : Doings). d.delivered) is)) k flows
+    (teams_idle point act r machine.teams (ap (λ (d : Doings). d.formed) is) (ap (λ (d : Doings). d.replaced) is) (ap (λ (d : Doings). d.begun) is) (ap (λ (d : Doings). d.delivered) is) (ap (λ (d : Doings). d.healed) is) k.teams)
 
 -- what concerns no more than grants and protections leaves all else
-pub only_rights : (turn : Turn) (act : Act) (r : Reply) (machine : Machine) (book : Rights) → doings act r ≡ rights_alone act r → (moment_of turn act r).sends ≡ []
-    → Stands turn.setup turn.before machine → KeepsRights turn.setup (following turn act r) book
-    → Stands turn.setup (following turn act r) (record machine { book = book })
-only_rights turn act r machine book is silent k held = record {
+pub only_rights : (point : Point) (act : Act) (r : Reply) (machine : Machine) (book : Rights) → doings act r ≡ rights_alone act r → (moment_of point act r).sends ≡ []
+    → Stands point.setup point.before machine → KeepsRights point.setup (following point act r) book
+    → Stands point.setup (following point act r) (record machine { book = book })
+only_rights point act r machine book is silent k held = record {
   dead = dead_still c m h machine.dead struck (ap (λ (d : Doings). d.healed) is) k.dead;
   rights = held;
-  disks = disks_still c m h machine.disks.items struck (ap (λ (d : Doings). d.synced_at) is) (unwritten turn act r (ap (λ (d : Doings). d.delivered) is)) k.disks;
+  disks = disks_still c m h machine.disks struck (ap (λ (d : Doings). d.synced_at) is) (unwritten point act r (ap (λ (d : Doings). d.delivered) is)) k.disks;
   up = up_still c m h machine.up struck (ap (λ (d : Doings). d.started) is) k.up;
-  net = net_still c m h machine.net silent (untaken turn act r (ap (λ (d : Doings). d.delivered) is) (ap (λ (d : Doings). d.lost) is) (ap (λ (d : Doings). d.healed) is)) (ap (λ (d : Doings). d.clogged_for) is) (ap (λ (d : Doings). d.unclogged) is) (ap (λ (d : Doings). d.passed) is) k.net;
-  teams = teams_idle turn act r machine.teams (ap (λ (d : Doings). d.formed) is) (ap (λ (d : Doings). d.replaced) is) (ap (λ (d : Doings). d.begun) is) (ap (λ (d : Doings). d.delivered) is) (ap (λ (d : Doings). d.healed) is) k.teams;
+  net = net_still c m h machine.net silent (untaken point act r (ap (λ (d : Doings). d.delivered) is) (ap (λ (d : Doings). d.lost) is) (ap (λ (d : Doings). d.healed) is)) (ap (λ (d : Doings). d.clogged_for) is) (ap (λ (d : Doings). d.unclogged) is) (ap (λ (d : Doings). d.passed) is) k.net;
+  teams = teams_idle point act r machine.teams (ap (λ (d : Doings). d.formed) is) (ap (λ (d : Doings). d.replaced) is) (ap (λ (d : Doings). d.begun) is) (ap (λ (d : Doings). d.delivered) is) (ap (λ (d : Doings). d.healed) is) k.teams;
 }
   where
     c : Setup
-    c = turn.setup
+    c = point.setup
 
     h : History
-    h = turn.before
+    h = point.before
 
     m : Moment
-    m = moment_of turn act r
+    m = moment_of point act r
 
     struck : (p : ℕ) → strikes m p ≡ None
-    struck = unstruck turn act r (ap (λ (d : Doings). d.struck) is)
+    struck = unstruck point act r (ap (λ (d : Doings). d.struck) is)
 
 -- what does nothing, and sends nothing, leaves all
-pub unmoved : (turn : Turn) (act : Act) (r : Reply) (machine : Machine) → doings act r ≡ nothing → (moment_of turn act r).sends ≡ [] → Stands turn.setup turn.before machine → Stands turn.setup (following turn act r) machine
-unmoved turn act r machine is silent k =
-    only_rights turn act r machine machine.book (is ∙ sym rights_none) silent k
-    (rights_still turn.setup (moment_of turn act r) turn.before machine.book (ap (λ (d : Doings). d.given) is) (ap (λ (d : Doings). d.taken) is) (ap (λ (d : Doings). d.shielded) is) (ap (λ (d : Doings). d.unshielded) is) k.rights)
+pub unmoved : (point : Point) (act : Act) (r : Reply) (machine : Machine) → doings act r ≡ nothing → (moment_of point act r).sends ≡ [] → Stands point.setup point.before machine → Stands point.setup (following point act r) machine
+unmoved point act r machine is silent k =
+    only_rights point act r machine machine.book (is ∙ sym rights_none) silent k
+    (rights_still point.setup (moment_of point act r) point.before machine.book (ap (λ (d : Doings). d.given) is) (ap (λ (d : Doings). d.taken) is) (ap (λ (d : Doings). d.shielded) is) (ap (λ (d : Doings). d.unshielded) is) k.rights)
   where
     rights_none : rights_alone act r ≡ nothing
     rights_none = ap (λ (d : Doings). record nothing { given = d.given; taken = d.taken; shielded = d.shielded; unshielded = d.unshielded }) is

@@ -1,5 +1,5 @@
 -- a process syncs
-use Rattle.std.proofs.Common.{subst, ◌==◌, ◌≡◌, ℕ, ◌+◌, ◌<◌, List, [], ◌∷◌, ◌++◌, Bool, true, false, not, Some, None, refl, sym, ◌∙◌, ap, ap₂, length, arith, slice_get, slice_set, get_or, eqb-true, eq-eqb, length-set, if◌then◌else◌}
+use Rattle.std.proofs.Common.{subst, ◌==◌, ◌≡◌, ℕ, ◌+◌, ◌<◌, List, [], ◌∷◌, ◌++◌, Bool, true, false, not, Some, None, refl, sym, ◌∙◌, ap, ap₂, length, arith, slice_get, slice_set, eqb-true, eq-eqb, length-set, if◌then◌else◌}
 use Rattle.std.proofs.lemmas.Option.{slice_get-get_or}
 use Rattle.std.proofs.lemmas.List.{length-map}
 use Rattle.fy_locality.specs.declared.ProcId.{ProcId}
@@ -15,7 +15,8 @@ use Rattle.fy_cluster.specs.Setup.{Setup}
 use Rattle.fy_cluster.specs.History.{History, Moment, up, sent, synced, unsynced, closes, close_keeps, words_of}
 use Rattle.fy_cluster.specs.Replies.{refused, refusals, answer, no_process, is_full}
 use Rattle.fy_disk.specs.Disk.{blank}
-use Rattle.fy_cluster.specs.Standing.{Stands, Turn, Follows, moment_of, stored, Sends}
+use Rattle.fy_disks.specs.Disks.{disk_of}
+use Rattle.fy_cluster.specs.Standing.{Stands, Point, Follows, moment_of, stored, Sends}
 use Rattle.fy_cluster.proofs.Still.{dead_still, up_still, teams_idle, rights_still, stored_still}
 use Rattle.fy_cluster.proofs.DiskSteps.{synced_at_close, unsynced_at_close}
 use Rattle.fy_cluster.proofs.Refusals.{refuse}
@@ -29,38 +30,38 @@ sync_reply : (c : Setup) (h : History) (by : ℕ) (p : ProcId) (a b d : Bool) �
 unfolding refusals answer
 sync_reply c h by p a b d e f g = rw (e, f, g) refl
 
-pub nobody : (turn : Turn) (p : ProcId) (m : Machine) → Stands turn.setup turn.before m → no_process turn.setup p.0 ≡ true → Follows turn (Sync p) (No NoProcess) m
-nobody turn p m k e = refuse turn (Sync p) NoProcess m k (sync_reply turn.setup turn.before turn.by p true _ _ e refl refl)
+pub nobody : (point : Point) (p : ProcId) (m : Machine) → Stands point.setup point.before m → no_process point.setup p.0 ≡ true → Follows point (Sync p) (No NoProcess) m
+nobody point p m k e = refuse point (Sync p) NoProcess m k (sync_reply point.setup point.before point.by p true _ _ e refl refl)
 
-pub is_down : (turn : Turn) (p : ProcId) (m : Machine) → Stands turn.setup turn.before m → no_process turn.setup p.0 ≡ false → up turn.before p.0 ≡ false → Follows turn (Sync p) (No NotUp) m
-is_down turn p m k e f = refuse turn (Sync p) NotUp m k (sync_reply turn.setup turn.before turn.by p false false _ e f refl)
+pub is_down : (point : Point) (p : ProcId) (m : Machine) → Stands point.setup point.before m → no_process point.setup p.0 ≡ false → up point.before p.0 ≡ false → Follows point (Sync p) (No NotUp) m
+is_down point p m k e f = refuse point (Sync p) NotUp m k (sync_reply point.setup point.before point.by p false false _ e f refl)
 
-pub full_reply : (turn : Turn) (p : ProcId) (n : ℕ) → no_process turn.setup p.0 ≡ false → up turn.before p.0 ≡ true → n ≡ length (unsynced turn.before p.0) → is_full turn.before n ≡ true
-    → refused (refusals turn.setup turn.before (Sync p)) (answer turn.setup turn.before turn.by (Sync p)) ≡ No NetFull
-full_reply turn p n e f count full = sync_reply turn.setup turn.before turn.by p false true true e f (ap (is_full turn.before) (sym count) ∙ full)
+pub full_reply : (point : Point) (p : ProcId) (n : ℕ) → no_process point.setup p.0 ≡ false → up point.before p.0 ≡ true → n ≡ length (unsynced point.before p.0) → is_full point.before n ≡ true
+    → refused (refusals point.setup point.before (Sync p)) (answer point.setup point.before point.by (Sync p)) ≡ No NetFull
+full_reply point p n e f count full = sync_reply point.setup point.before point.by p false true true e f (ap (is_full point.before) (sym count) ∙ full)
 
 -- all pass
 passing_all : (xs : List Item) (i : ℕ) → passing (λ j. true) i xs ≡ xs
 passing_all [] i = refl
 passing_all (x ∷ xs) i = ap (λ ys. x ∷ ys) (passing_all xs (i + 1))
 
-pub synced_now : (turn : Turn) (p : ProcId) (machine : Machine) (disk : OnDisk) (room net : Traffic) (first count : ℕ) (after : Machine) → Stands turn.setup turn.before machine
-    → no_process turn.setup p.0 ≡ false → p.0 < length turn.setup.processes → up turn.before p.0 ≡ true
-    → slice_get machine.disks.items p.0 ≡ Some disk → reserve_refusal machine.net (length disk.unsynced) ≡ None
+pub synced_now : (point : Point) (p : ProcId) (machine : Machine) (disk : OnDisk) (room net : Traffic) (first count : ℕ) (after : Machine) → Stands point.setup point.before machine
+    → no_process point.setup p.0 ≡ false → p.0 < length point.setup.processes → up point.before p.0 ≡ true
+    → slice_get machine.disks p.0 ≡ Some disk → reserve_refusal machine.net (length disk.unsynced) ≡ None
     → room ≡ record machine.net { room = room.room }
     → Sends room (words_of p disk.unsynced) net
     → first ≡ room.sent → count ≡ length disk.unsynced
     → after.dead ≡ machine.dead → after.book ≡ machine.book → after.up ≡ machine.up → after.net ≡ net → after.teams ≡ machine.teams
-    → after.disks.items ≡ slice_set machine.disks.items p.0 (record { synced = disk.synced ++ disk.unsynced; unsynced = [] })
-    → Follows turn (Sync p) (Synced first count) after
-synced_now turn p machine disk room net first count after k known there ups was clear reserved sends number counted e1 e2 e3 e4 e5 e6 = rw (first_is, count_is) (record {
-  right = sym (sync_reply c h turn.by p false true false known ups (ap (is_full h) (sym size) ∙ (room_for c h machine.net (length disk.unsynced) k.net clear).0));
+    → after.disks ≡ slice_set machine.disks p.0 (record { synced = disk.synced ++ disk.unsynced; unsynced = [] })
+    → Follows point (Sync p) (Synced first count) after
+synced_now point p machine disk room net first count after k known there ups was clear reserved sends number counted e1 e2 e3 e4 e5 e6 = rw (first_is, count_is) (record {
+  right = sym (sync_reply c h point.by p false true false known ups (ap (is_full h) (sym size) ∙ (room_for c h machine.net (length disk.unsynced) k.net clear).0));
   stands = record {
     dead = rw e1 (dead_still c m h machine.dead (λ q. refl) refl k.dead);
     rights = rw e2 (rights_still c m h machine.book refl refl refl refl k.rights);
     disks = rw e6 (record {
-      count = length-set machine.disks.items p.0 _ ∙ k.disks.count;
-      each = λ q l. after_set machine.disks.items p.0 q _ blank (let n = k.disks.count in omega arith) (let n = k.disks.count in omega arith) ∙ at q l (q == p.0) refl;
+      count = length-set machine.disks p.0 _ ∙ k.disks.count;
+      each = λ q l. after_set machine.disks p.0 q _ blank (let n = k.disks.count in omega arith) (let n = k.disks.count in omega arith) ∙ at q l (q == p.0) refl;
     });
     up = rw e3 (up_still c m h machine.up (λ q. refl) refl k.up);
     net = rw e4 (net_sent c m h machine.net net (words_of p disk.unsynced) (ap (λ (d : OnDisk). words_of p d.unsynced) (sym disk_is))
@@ -74,23 +75,23 @@ synced_now turn p machine disk room net first count after k known there ups was 
         sent_now.clock
         sent_now.until
         k.net);
-    teams = rw e5 (teams_idle turn (Sync p) (Synced (length (sent h)) (length (unsynced h p.0))) machine.teams refl refl refl refl refl k.teams);
+    teams = rw e5 (teams_idle point (Sync p) (Synced (length (sent h)) (length (unsynced h p.0))) machine.teams refl refl refl refl refl k.teams);
   };
 })
   where
     c : Setup
-    c = turn.setup
+    c = point.setup
 
     h : History
-    h = turn.before
+    h = point.before
 
     m : Moment
-    m = moment_of turn (Sync p) (Synced (length (sent turn.before)) (length (unsynced turn.before p.0)))
+    m = moment_of point (Sync p) (Synced (length (sent point.before)) (length (unsynced point.before p.0)))
 
-    disk_is : disk ≡ stored turn.before p.0
-    disk_is = some_is_same disk (stored turn.before p.0) (sym was ∙ k.disks.each p.0 there)
+    disk_is : disk ≡ stored point.before p.0
+    disk_is = some_is_same disk (stored point.before p.0) (sym was ∙ k.disks.each p.0 there)
 
-    size : length disk.unsynced ≡ length (unsynced turn.before p.0)
+    size : length disk.unsynced ≡ length (unsynced point.before p.0)
     size = ap (λ (d : OnDisk). length d.unsynced) disk_is
 
     sent_now : Sends (record machine.net { room = room.room }) (words_of p disk.unsynced) net
@@ -99,10 +100,10 @@ synced_now turn p machine disk room net first count after k known there ups was 
     words : length (words_of p disk.unsynced) ≡ length disk.unsynced
     words = length-map disk.unsynced (λ (item : Item). Word item.rec p)
 
-    first_is : first ≡ length (sent turn.before)
+    first_is : first ≡ length (sent point.before)
     first_is = number ∙ ap (λ (r : Traffic). r.sent) reserved ∙ k.net.sent_so_far
 
-    count_is : count ≡ length (unsynced turn.before p.0)
+    count_is : count ≡ length (unsynced point.before p.0)
     count_is = counted ∙ size
 
     self : (p.0 == p.0) ≡ true
@@ -111,8 +112,8 @@ synced_now turn p machine disk room net first count after k known there ups was 
     closing : closes p.0 m ≡ true
     closing = rw self refl
 
-    at : (q : ℕ) → q < length turn.setup.processes → (b : Bool) → (q == p.0) ≡ b
-        → (if b then Some (record { synced = disk.synced ++ disk.unsynced; unsynced = [] }) else slice_get machine.disks.items q) ≡ Some (stored (m ∷ h) q)
+    at : (q : ℕ) → q < length point.setup.processes → (b : Bool) → (q == p.0) ≡ b
+        → (if b then Some (record { synced = disk.synced ++ disk.unsynced; unsynced = [] }) else slice_get machine.disks q) ≡ Some (stored (m ∷ h) q)
     at q l true s =
         let same : q ≡ p.0 = eqb-true q p.0 s in
         ap (λ (d : OnDisk). Some (record { synced = d.synced ++ d.unsynced; unsynced = [] })) disk_is
@@ -125,9 +126,9 @@ synced_now turn p machine disk room net first count after k known there ups was 
         kept = rw self (passing_all (unsynced h p.0) 0)
     at q l false s = let miss : (p.0 == q) ≡ false = swap_eq q p.0 ∙ s in k.disks.each q l ∙ ap Some (sym (stored_still m h q (rw miss refl) refl))
 
--- the disk that an index gives
-pub disk_given : (turn : Turn) (machine : Machine) (p : ℕ) (x : OnDisk) → Stands turn.setup turn.before machine → p < length turn.setup.processes → x ≡ get_or machine.disks.items p x → slice_get machine.disks.items p ≡ Some x
-disk_given turn machine p x k l e = slice_get-get_or machine.disks.items p x (let n = k.disks.count in omega arith) ∙ ap Some (sym e)
+-- the disk of a process that is there
+pub disk_given : (point : Point) (machine : Machine) (p : ℕ) (x : OnDisk) → Stands point.setup point.before machine → p < length point.setup.processes → x ≡ disk_of machine.disks p → slice_get machine.disks p ≡ Some x
+disk_given point machine p x k l e = slice_get-get_or machine.disks p blank (let n = k.disks.count in omega arith) ∙ ap Some (sym e)
 
-pub disk_is_stored : (turn : Turn) (machine : Machine) (p : ℕ) (x : OnDisk) → Stands turn.setup turn.before machine → p < length turn.setup.processes → x ≡ get_or machine.disks.items p x → x ≡ stored turn.before p
-disk_is_stored turn machine p x k l e = some_is_same x (stored turn.before p) (sym (disk_given turn machine p x k l e) ∙ k.disks.each p l)
+pub disk_is_stored : (point : Point) (machine : Machine) (p : ℕ) (x : OnDisk) → Stands point.setup point.before machine → p < length point.setup.processes → x ≡ disk_of machine.disks p → x ≡ stored point.before p
+disk_is_stored point machine p x k l e = some_is_same x (stored point.before p) (sym (disk_given point machine p x k l e) ∙ k.disks.each p l)

@@ -12,7 +12,7 @@ use Rattle.fy_cluster.specs.declared.machine.Machine.{Machine}
 use Rattle.fy_cluster.specs.Setup.{Setup}
 use Rattle.fy_cluster.specs.History.{History, Moment, now}
 use Rattle.fy_cluster.specs.Replies.{refused, refusals, answer}
-use Rattle.fy_cluster.specs.Standing.{Stands, Turn, Follows, moment_of, KeepsNet}
+use Rattle.fy_cluster.specs.Standing.{Stands, Point, Follows, moment_of, KeepsNet}
 use Rattle.fy_cluster.proofs.Still.{net_ticked, teams_idle, only_traffic}
 use Rattle.fy_cluster.proofs.Refusals.{refuse}
 
@@ -28,29 +28,29 @@ in_time : (c : Setup) (h : History) (by n clock : ℕ) → clock ≡ now h → n
 unfolding refusals answer
 in_time c h by n clock e t = let past : nat_lt LAST_TICK (now h + n) ≡ false = rw e at t in rw (past, e) refl
 
-passed : (turn : Turn) (n : ℕ) (m : Machine) → Stands turn.setup turn.before m → nat_lt LAST_TICK (m.net.clock + n) ≡ false → Follows turn (Tick n) (Time (m.net.clock + n)) (record m { net = record m.net { clock = m.net.clock + n } })
-passed turn n machine k t = record {
-  right = in_time c h turn.by n machine.net.clock k.net.clock t;
-  stands = only_traffic turn (Tick n) (Time (machine.net.clock + n)) machine (record machine.net { clock = machine.net.clock + n }) machine.teams refl (λ p. refl) k
+passed : (point : Point) (n : ℕ) (m : Machine) → Stands point.setup point.before m → nat_lt LAST_TICK (m.net.clock + n) ≡ false → Follows point (Tick n) (Time (m.net.clock + n)) (record m { net = record m.net { clock = m.net.clock + n } })
+passed point n machine k t = record {
+  right = in_time c h point.by n machine.net.clock k.net.clock t;
+  stands = only_traffic point (Tick n) (Time (machine.net.clock + n)) machine (record machine.net { clock = machine.net.clock + n }) machine.teams refl (λ p. refl) k
       (subst (λ clock. KeepsNet c (m ∷ h) (record machine.net { clock = clock })) (ap (λ clock. clock + n) (sym k.net.clock)) (net_ticked c m h machine.net refl (λ k. refl) refl refl k.net))
-      (teams_idle turn (Tick n) (Time (machine.net.clock + n)) machine.teams refl refl refl refl refl k.teams);
+      (teams_idle point (Tick n) (Time (machine.net.clock + n)) machine.teams refl refl refl refl refl k.teams);
 }
   where
     c : Setup
-    c = turn.setup
+    c = point.setup
 
     h : History
-    h = turn.before
+    h = point.before
 
     m : Moment
-    m = moment_of turn (Tick n) (Time (machine.net.clock + n))
+    m = moment_of point (Tick n) (Time (machine.net.clock + n))
 
-pub tick_step : (turn : Turn) (n : ℕ) (m : Machine) (net : Traffic) (result : Result ℕ NetFault) → Stands turn.setup turn.before m
+pub tick_step : (point : Point) (n : ℕ) (m : Machine) (net : Traffic) (result : Result ℕ NetFault) → Stands point.setup point.before m
     → ((fault : NetFault) → advance_refusal m.net n ≡ Some fault → (result ≡ Err fault) × (net ≡ m.net))
     → (advance_refusal m.net n ≡ None → (result ≡ Ok (m.net.clock + n)) × (net ≡ record m.net { clock = m.net.clock + n }))
-    → Follows turn (Tick n) (reply_of result) (record m { net = net })
-tick_step turn n m net result k past fits = at (nat_lt LAST_TICK (m.net.clock + n)) refl
+    → Follows point (Tick n) (reply_of result) (record m { net = net })
+tick_step point n m net result k past fits = at (nat_lt LAST_TICK (m.net.clock + n)) refl
   where
-    at : (b : Bool) → nat_lt LAST_TICK (m.net.clock + n) ≡ b → Follows turn (Tick n) (reply_of result) (record m { net = net })
-    at true t = let said = past AtEnd (rw t refl) in rw (said.0, said.1) (refuse turn (Tick n) ClockEnd m k (at_end turn.setup turn.before turn.by n m.net.clock k.net.clock t))
-    at false t = let said = fits (rw t refl) in rw (said.0, said.1) (passed turn n m k t)
+    at : (b : Bool) → nat_lt LAST_TICK (m.net.clock + n) ≡ b → Follows point (Tick n) (reply_of result) (record m { net = net })
+    at true t = let said = past AtEnd (rw t refl) in rw (said.0, said.1) (refuse point (Tick n) ClockEnd m k (at_end point.setup point.before point.by n m.net.clock k.net.clock t))
+    at false t = let said = fits (rw t refl) in rw (said.0, said.1) (passed point n m k t)

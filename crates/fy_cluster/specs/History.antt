@@ -13,6 +13,7 @@ use Rattle.fy_kinds.specs.Kinds.{is_destroying, destroys_for_good}
 use Rattle.fy_grants.specs.declared.grant.Grant.{Grant}
 use Rattle.fy_disk.specs.declared.item.Item.{Item}
 use Rattle.fy_disk.specs.Disk.{outlives}
+use Rattle.fy_disks.specs.Disks.{has_record}
 use Rattle.fy_net.specs.declared.message.Body.{Body}
 use Rattle.fy_net.specs.declared.message.Body.TheVariants.{Store, Synced}
 use Rattle.fy_net.specs.Net.{is_word_from}
@@ -383,7 +384,7 @@ abbrev mutual
 
 -- the process has the record synced
 abbrev pub has_synced : History → ℕ → ℕ → Bool
-has_synced h r p = list_any (λ x. x.rec == r) (synced h p)
+has_synced h r p = has_record (synced h p) r
 
 -- the process isn't destroyed and has the record synced
 abbrev pub keeps : History → ℕ → ProcessSet

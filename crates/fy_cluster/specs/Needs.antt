@@ -1,14 +1,14 @@
 -- which acknowledged records a process still needs, as the machine's parts say it
-use Rattle.std.specs.Prelude.{ℕ, Bool, false, ◌&&◌, not, ◌==◌, length, find, Option, slice_index_or}
-use Rattle.std.specs.List.{list_any, range_with_len}
+use Rattle.std.specs.Prelude.{ℕ, Bool, false, ◌&&◌, not, ◌==◌, length, find, Option}
+use Rattle.std.specs.List.{range_with_len}
 use Rattle.std.specs.Option.{option_map_or}
-use Rattle.fy_disk.specs.Disk.{blank}
+use Rattle.fy_disks.specs.Disks.{disk_of, has_synced}
 use Rattle.fy_team.specs.Teams.{is_among, is_acked, team_number, members_in}
 use Rattle.fy_cluster.specs.declared.machine.Machine.{Machine}
 
 -- the process has the record synced
 abbrev pub has_on : Machine → (rec p : ℕ) → Bool
-has_on m rec p = list_any (λ item. item.rec == rec) (slice_index_or m.disks.items p blank).synced
+has_on m rec p = has_synced (disk_of m.disks p) rec
 
 -- the record is of the team
 abbrev pub is_of_team_on : Machine → (team rec : ℕ) → Bool

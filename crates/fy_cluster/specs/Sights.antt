@@ -1,9 +1,8 @@
 -- what a cluster shows without an act: who keeps a record, and what may come next
-use Rattle.std.specs.Prelude.{◌≡◌, ℕ, ◌<◌, Bool, true, false, ◌&&◌, not, List, length, nat_lt, Option, option_map, MatchOption, slice_index_or}
+use Rattle.std.specs.Prelude.{◌≡◌, ℕ, ◌<◌, Bool, true, false, ◌&&◌, not, length, nat_lt, Option, option_map, MatchOption}
 use Rattle.std.specs.List.{list_any}
 use Rattle.std.specs.FinSet as sets
 use Rattle.fy_locality.specs.declared.ProcId.{ProcId}
-use Rattle.fy_disk.specs.Disk.{Stored}
 use Rattle.fy_grants.specs.Least.{IsLeastWith}
 use Rattle.fy_team.specs.Teams.{is_among}
 use Rattle.fy_acts.specs.declared.act.Act.TheVariants.{Deliver}
@@ -13,7 +12,6 @@ use Rattle.fy_cluster.specs.Setup.{Setup}
 use Rattle.fy_cluster.specs.Needs.{has_on}
 use Rattle.fy_cluster.specs.History.{History, left, up, unsynced, now, members_for, keeps}
 use Rattle.fy_cluster.specs.Replies.{refusals}
-use Rattle.fy_disk.specs.Disk.{blank}
 
 -- ---- keepers
 
@@ -38,10 +36,6 @@ is_behind c h p = nat_lt p (length c.processes) && up h p && nat_lt 0 (length (u
 -- the process is neither up nor gone
 abbrev pub is_asleep : Setup → History → ℕ → Bool
 is_asleep c h p = left c h p && not (up h p)
-
--- the disk of the process has writes that aren't synced
-abbrev pub has_unsynced : List Stored → ℕ → Bool
-has_unsynced disks p = nat_lt 0 (length (slice_index_or disks p blank).unsynced)
 
 -- n passes the test, and no number below it does
 pub record IsLeastNumber (test : ℕ → Bool) (n : ℕ) : Type 0 where

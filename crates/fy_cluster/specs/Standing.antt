@@ -53,8 +53,9 @@ pub record KeepsDead (c : Setup) (h : History) (dead : Casualties) : Type 0 wher
 abbrev pub buried : Casualties → sets.FinSet nat_cmp → Kind → Casualties
 buried dead set kind = option_map_or (λ loss. struck dead set loss) (loss_of kind) dead
 
--- the grants of each actor, and what each process is protected from
+-- the processes, the grants of each actor, and what each process is protected from
 pub record KeepsRights (c : Setup) (h : History) (rights : Rights) : Type 0 where
+  pub map : rights.processes ≡ c.processes
   pub actors : length rights.grants ≡ length c.roles
   pub processes : length rights.protections ≡ length c.processes
   pub grants : (a : ℕ) → grants_of rights a ≡ grants c h a
@@ -149,7 +150,7 @@ pub record KeepsTeams (h : History) (roster : Roster) : Type 0 where
 pub record Stands (c : Setup) (h : History) (m : Machine) : Type 0 where
   pub dead : KeepsDead c h m.dead
   pub rights : KeepsRights c h m.book
-  pub disks : KeepsDisks c h m.disks.items
+  pub disks : KeepsDisks c h m.disks
   pub up : KeepsUp c h m.up
   pub net : KeepsNet c h m.net
   pub teams : KeepsTeams h m.teams
@@ -165,41 +166,43 @@ clog_bar m by target = bar (situation_of m.dead m.book by) Clogging (targets_by 
 -- ---- one act
 
 -- where an act stands: the setup, what came before, and who acts
-pub record Turn : Type 0 where
+pub record Point : Type 0 where
   pub setup : Setup
   pub before : History
   pub by : ℕ
 
 -- the entry that an act makes
-abbrev pub entry_of : Turn → Act → Reply → Entry
-entry_of turn act reply = record { at = length turn.before; by = turn.by; act = act; reply = reply }
+abbrev pub entry_of : Point → Act → Reply → Entry
+entry_of point act reply =
+    record { at = length point.before; by = point.by; act = act; reply = reply }
 
 -- that entry with what it did
-abbrev pub moment_of : Turn → Act → Reply → Moment
-moment_of turn act reply = moment turn.setup turn.before (entry_of turn act reply)
+abbrev pub moment_of : Point → Act → Reply → Moment
+moment_of point act reply = moment point.setup point.before (entry_of point act reply)
 
 -- the history with it
-abbrev pub following : Turn → Act → Reply → History
-following turn act reply = moment_of turn act reply ∷ turn.before
+abbrev pub following : Point → Act → Reply → History
+following point act reply = moment_of point act reply ∷ point.before
 
 -- the act got its reply, and the machine keeps the history with its entry
-pub record Follows (turn : Turn) (act : Act) (reply : Reply) (m : Machine) : Type 0 where
+pub record Follows (point : Point) (act : Act) (reply : Reply) (m : Machine) : Type 0 where
   pub right : reply
-      ≡ refused (refusals turn.setup turn.before act) (answer turn.setup turn.before turn.by act)
-  pub stands : Stands turn.setup (following turn act reply) m
+      ≡ refused (refusals point.setup point.before act)
+      (answer point.setup point.before point.by act)
+  pub stands : Stands point.setup (following point act reply) m
 
 -- it got its reply, or there was no memory and the machine keeps the history as it was
-abbrev pub Comes : Turn → Act → Result Reply Fault → Machine → Type 0
-Comes turn act (Ok reply) m = Follows turn act reply m
-Comes turn act (Err fault) m = (fault ≡ NoMemory) × Stands turn.setup turn.before m
+abbrev pub Comes : Point → Act → Result Reply Fault → Machine → Type 0
+Comes point act (Ok reply) m = Follows point act reply m
+Comes point act (Err fault) m = (fault ≡ NoMemory) × Stands point.setup point.before m
 
 -- the act's reply to whoever asked, with the two reasons that come before all, or there was no
 -- memory
-abbrev pub Answers : Turn → Act → Result Reply Fault → Machine → Type 0
-Answers turn act (Ok answered) m =
-    (answered ≡ reply turn.setup turn.before turn.by act)
-    × Stands turn.setup (following turn act answered) m
-Answers turn act (Err fault) m = (fault ≡ NoMemory) × Stands turn.setup turn.before m
+abbrev pub Answers : Point → Act → Result Reply Fault → Machine → Type 0
+Answers point act (Ok answered) m =
+    (answered ≡ reply point.setup point.before point.by act)
+    × Stands point.setup (following point act answered) m
+Answers point act (Err fault) m = (fault ≡ NoMemory) × Stands point.setup point.before m
 
 -- what a fault of the book means to whoever acts
 abbrev pub replied_to : BookFault → Result Reply Fault

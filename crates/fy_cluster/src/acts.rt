@@ -1,7 +1,7 @@
 //! One act of an actor that may make it.
 ghost use Rattle.std.specs.Prelude.{◌≡◌, ◌<◌, ◌++◌, ◌∷◌, [], length, IfOk, OnErr};
 ghost use Rattle.fy_journal.specs.Journal.{entered};
-ghost use Rattle.fy_cluster.specs.Standing.{Turn, Stands, Comes, Answers, IsLived};
+ghost use Rattle.fy_cluster.specs.Standing.{Point, Stands, Comes, Answers, IsLived};
 
 use crate::machine::Machine;
 use crate::{Config, Fault};
@@ -18,13 +18,13 @@ impl Machine {
         by: u32,
         act: Act,
     ) -> Result<Reply, Fault>
-        ghost turn: { Turn }
-        requires stands { Stands turn.setup turn.before self.old }
-        requires config { config.now ≡ turn.setup }
-        requires by { by ≡ turn.by }
-        requires lived { IsLived turn.setup turn.before }
+        ghost point: { Point }
+        requires stands { Stands point.setup point.before self.old }
+        requires config { config.now ≡ point.setup }
+        requires by { by ≡ point.by }
+        requires lived { IsLived point.setup point.before }
         requires room { length journal.old.entries < MOST_ENTRIES }
-        ensures answered { Answers turn act result self.new }
+        ensures answered { Answers point act result self.new }
         ensures entered { IfOk result
             (λ reply. journal.new.entries ≡ (entered by act reply journal.old).entries) }
         ensures err { OnErr result (journal.new.entries ≡ journal.old.entries) }
@@ -44,12 +44,12 @@ impl Machine {
         by: u32,
         act: &Act,
     ) -> Result<Reply, Fault>
-        ghost turn: { Turn }
-        requires stands { Stands turn.setup turn.before self.old }
-        requires config { config.now ≡ turn.setup }
-        requires by { by ≡ turn.by }
-        requires lived { IsLived turn.setup turn.before }
-        ensures { Answers turn act.now result self.new }
+        ghost point: { Point }
+        requires stands { Stands point.setup point.before self.old }
+        requires config { config.now ≡ point.setup }
+        requires by { by ≡ point.by }
+        requires lived { IsLived point.setup point.before }
+        ensures { Answers point act.now result self.new }
     {
         let Some(role) = config.role(by) else {
             return Ok(Reply::No(Refusal::Stranger));
@@ -68,12 +68,12 @@ impl Machine {
         by: u32,
         act: &Act,
     ) -> Result<Reply, Fault>
-        ghost turn: { Turn }
-        requires stands { Stands turn.setup turn.before self.old }
-        requires config { config.now ≡ turn.setup }
-        requires by { by ≡ turn.by }
-        requires lived { IsLived turn.setup turn.before }
-        ensures { Comes turn act.now result self.new }
+        ghost point: { Point }
+        requires stands { Stands point.setup point.before self.old }
+        requires config { config.now ≡ point.setup }
+        requires by { by ≡ point.by }
+        requires lived { IsLived point.setup point.before }
+        ensures { Comes point act.now result self.new }
     {
         let map = config.map();
         match act {

@@ -3,10 +3,10 @@ ghost use Rattle.std.specs.Prelude.{◌≡◌, ◌<◌, ℕ, true, length, IfOk}
 ghost use Rattle.std.specs.Result.{result_err};
 ghost use Rattle.std.specs.FinSet as sets;
 ghost use Rattle.fy_acts.specs.declared.act.Act.TheVariants.{Clog, Unclog};
-ghost use Rattle.fy_cluster.specs.Standing.{Turn, Stands, Follows, ClogsChange, clog_end, unclog_end, targets_by, clog_bar};
+ghost use Rattle.fy_cluster.specs.Standing.{Point, Stands, Follows, ClogsChange, clog_end, unclog_end, targets_by, clog_bar};
 
 use crate::machine::Machine;
-use fy_decide::judge_clog;
+use fy_decide::judge_clog_at;
 use fy_journal::Reply;
 use fy_kinds::{Rule, Target};
 use fy_locality::{Map, ProcSet};
@@ -36,24 +36,26 @@ impl Machine {
     /// The processes of a target that are left, or the rule of leave that bars a clog of them and
     /// its end.
     fn leave_to_clog(&self, map: &Map, by: u32, target: &Target) -> Result<ProcSet, Rule>
-        requires { map.now ≡ self.now.dead.processes }
+        requires map { map.now ≡ self.now.dead.processes }
+        requires book { self.now.book.processes ≡ self.now.dead.processes }
         ensures targets { IfOk result (λ set. (p : ℕ) →
             sets.contains set p ≡ targets_by self.now target.now p) }
         ensures rule { result_err result ≡ clog_bar self.now by target.now }
     {
-        match judge_clog(&self.dead, &self.book, map, by, target) {
-            None => Ok(self.dead.targets(map, target)),
+        let targets = self.dead.targets(map, target);
+        match judge_clog_at(&self.dead, &self.book, by, target, &targets) {
+            None => Ok(targets),
             Some(rule) => Err(rule),
         }
     }
 
     /// Clogs the processes of a target for some ticks, if no rule of leave bars it.
     pub(crate) fn clog(&mut self, map: &Map, by: u32, target: &Target, ticks: u64) -> Reply
-        ghost turn: { Turn }
-        requires stands { Stands turn.setup turn.before self.old }
-        requires map { map.now ≡ turn.setup.processes }
-        requires by { by ≡ turn.by }
-        ensures { Follows turn (Clog target.now ticks) result self.new }
+        ghost point: { Point }
+        requires stands { Stands point.setup point.before self.old }
+        requires map { map.now ≡ point.setup.processes }
+        requires by { by ≡ point.by }
+        ensures { Follows point (Clog target.now ticks) result self.new }
     {
         match self.leave_to_clog(map, by, target) {
             Ok(targets) => {
@@ -66,11 +68,11 @@ impl Machine {
 
     /// Ends the clogs of a target's processes, if no rule of leave bars it.
     pub(crate) fn unclog(&mut self, map: &Map, by: u32, target: &Target) -> Reply
-        ghost turn: { Turn }
-        requires stands { Stands turn.setup turn.before self.old }
-        requires map { map.now ≡ turn.setup.processes }
-        requires by { by ≡ turn.by }
-        ensures { Follows turn (Unclog target.now) result self.new }
+        ghost point: { Point }
+        requires stands { Stands point.setup point.before self.old }
+        requires map { map.now ≡ point.setup.processes }
+        requires by { by ≡ point.by }
+        ensures { Follows point (Unclog target.now) result self.new }
     {
         match self.leave_to_clog(map, by, target) {
             Ok(targets) => {

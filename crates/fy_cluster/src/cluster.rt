@@ -2,7 +2,7 @@
 ghost use Rattle.std.specs.Prelude.{◌≡◌, ◌↔◌, ◌<◌, ◌≤◌, ℕ, length, IfOk, IfErr, IsTrue, OnOk, OnErr, Err, IsSome, IfSome};
 ghost use Rattle.std.specs.FinSet as sets;
 ghost use Rattle.fy_journal.specs.declared.version.Version.TheVariants.{Second};
-ghost use Rattle.fy_cluster.specs.History.{destroyed, acked, keeper};
+ghost use Rattle.fy_cluster.specs.History.{destroyed, left, acked, keeper};
 ghost use Rattle.fy_cluster.specs.declared.fault.Fault.TheVariants.{JournalFull};
 ghost use Rattle.fy_cluster.specs.Survival.{Survives};
 ghost use Rattle.fy_cluster.specs.Course.{history_of, opened, replied, entered, after_acts, StopsAt};
@@ -129,6 +129,13 @@ impl Cluster {
         ensures { (p : ℕ) → sets.contains result p ≡ destroyed (history_of self.now) p }
     {
         self.machine.dead.destroyed()
+    }
+
+    /// Who is left: everyone who isn't gone for good, emptied processes too.
+    pub fn left(&self) -> ProcSet
+        ensures { (p : ℕ) → sets.contains result p ≡ left self.now.setup (history_of self.now) p }
+    {
+        self.machine.dead.left()
     }
 
     /// Whether the journal has as many entries as it may have.

@@ -1,7 +1,7 @@
 //! Records are copied.
 ghost use Rattle.std.specs.Prelude.{◌≡◌};
 ghost use Rattle.fy_acts.specs.declared.act.Act.TheVariants.{CopyTo};
-ghost use Rattle.fy_cluster.specs.Standing.{Turn, Stands, Comes, IsLived};
+ghost use Rattle.fy_cluster.specs.Standing.{Point, Stands, Comes, IsLived};
 
 use crate::Fault;
 use crate::machine::Machine;
@@ -19,11 +19,11 @@ impl Machine {
         rec: u32,
         to: ProcId,
     ) -> Result<Reply, Fault>
-        ghost turn: { Turn }
-        requires stands { Stands turn.setup turn.before self.old }
-        requires map { map.now ≡ turn.setup.processes }
-        requires lived { IsLived turn.setup turn.before }
-        ensures { Comes turn (CopyTo from rec to) result self.new }
+        ghost point: { Point }
+        requires stands { Stands point.setup point.before self.old }
+        requires map { map.now ≡ point.setup.processes }
+        requires lived { IsLived point.setup point.before }
+        ensures { Comes point (CopyTo from rec to) result self.new }
     {
         let Some(_team) = self.teams.team_of(rec) else {
             return Ok(Reply::No(Refusal::NoRecord));
@@ -37,7 +37,7 @@ impl Machine {
         if !self.up.contains(from) {
             return Ok(Reply::No(Refusal::NotUp));
         }
-        if !self.has_synced(rec, from) {
+        if !self.disks.has_synced(rec, from) {
             return Ok(Reply::No(Refusal::NoCopy));
         }
         if let Err(fault) = self.net.reserve(1) {

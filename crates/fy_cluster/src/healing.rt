@@ -1,7 +1,7 @@
 //! Processes are healed.
 ghost use Rattle.std.specs.Prelude.{◌≡◌};
 ghost use Rattle.fy_acts.specs.declared.act.Act.TheVariants.{Heal};
-ghost use Rattle.fy_cluster.specs.Standing.{Turn, Stands, Follows};
+ghost use Rattle.fy_cluster.specs.Standing.{Point, Stands, Follows};
 
 use crate::machine::Machine;
 use fy_journal::{Refusal, Reply};
@@ -12,10 +12,10 @@ impl Machine {
     /// teams again. Its words on the way, and its marks for records that aren't acknowledged, are
     /// of what its disk had before, and count no longer.
     pub(crate) fn heal(&mut self, map: &Map, process: ProcId) -> Reply
-        ghost turn: { Turn }
-        requires stands { Stands turn.setup turn.before self.old }
-        requires map { map.now ≡ turn.setup.processes }
-        ensures { Follows turn (Heal process) result self.new }
+        ghost point: { Point }
+        requires stands { Stands point.setup point.before self.old }
+        requires map { map.now ≡ point.setup.processes }
+        ensures { Follows point (Heal process) result self.new }
     {
         fy_team::laws::a_heal_takes_marks_off();
         if process.0 >= map.len() {

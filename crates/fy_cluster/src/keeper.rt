@@ -1,6 +1,5 @@
 //! Who keeps a record.
-ghost use Rattle.std.specs.Prelude.{◌≡◌, ◌==◌, List, find};
-ghost use Rattle.std.specs.List.{list_any};
+ghost use Rattle.std.specs.Prelude.{◌≡◌, List, find};
 ghost use Rattle.fy_acts.specs.declared.entry.Entry.{Entry};
 ghost use Rattle.fy_cluster.specs.Setup.{Setup};
 ghost use Rattle.fy_cluster.specs.History.{history, keeper};
@@ -8,30 +7,14 @@ ghost use Rattle.fy_cluster.specs.Standing.{IsKept};
 ghost use Rattle.fy_cluster.specs.Sights.{keeps_on};
 
 use crate::machine::Machine;
-use fy_disk::Disk;
 use fy_locality::ProcId;
-
-/// Whether a disk has a record synced.
-pub(crate) fn disk_has(disk: &Disk, rec: u32) -> bool
-    ensures { result ≡ list_any (λ item. item.rec == rec) disk.now.synced }
-{
-    for place in 0..disk.synced_len() {
-        let Some(item) = disk.durable(place) else {
-            unreachable!();
-        };
-        if item.rec == rec {
-            return true;
-        }
-    }
-    false
-}
 
 impl Machine {
     /// Whether a process isn't destroyed and has a record synced.
     fn keeps(&self, rec: u32, p: ProcId) -> bool
         ensures { result ≡ keeps_on self.now rec p.0 }
     {
-        !self.dead.destroyed().contains(p) && self.has_synced(rec, p)
+        !self.dead.destroyed().contains(p) && self.disks.has_synced(rec, p)
     }
 
     /// The first of these processes that isn't destroyed and has a record synced.

@@ -1,39 +1,42 @@
 //! Kills strike.
-ghost use Rattle.std.specs.Prelude.{◌≡◌, ◌<◌, ℕ, true, [], length, Some};
+ghost use Rattle.std.specs.Prelude.{◌≡◌, ◌<◌, ℕ, true, [], length, slice_set, Some};
 ghost use Rattle.std.specs.FinSet as sets;
 ghost use Rattle.fy_decide.specs.declared.dead_book.Loss.{Loss};
 ghost use Rattle.fy_decide.specs.Verdicts.{loss_of};
 ghost use Rattle.fy_acts.specs.declared.act.Act.TheVariants.{Kill};
 ghost use Rattle.fy_decide.specs.DeadBook.{MayLose};
 ghost use Rattle.fy_disk.specs.Disk.{blank};
-ghost use Rattle.fy_cluster.specs.Standing.{Turn, Stands, Follows, buried, ChangesAt, left_on};
+ghost use Rattle.fy_disks.specs.Disks.{disk_of};
+ghost use Rattle.fy_cluster.specs.Standing.{Point, Stands, Follows, buried, ChangesAt, left_on};
 
 use crate::machine::Machine;
-use fy_decide::{DeadBook, Loss, judge};
-use fy_disk::Disk;
+use fy_decide::{DeadBook, Loss, judge_at};
+use fy_disks::Disks;
 use fy_journal::Reply;
 use fy_kinds::{KillOrder, Kind};
-use fy_locality::{Map, ProcSet};
+use fy_locality::{Map, ProcId, ProcSet};
 
-/// Strikes a disk: a reboot tears off unsynced writes, and a destroying kind leaves nothing.
-fn strike_disk(disk: &mut Disk, kind: Kind, tear: u64)
-    ensures { disk.new ≡ left_on kind tear disk.old }
+/// Strikes the disk of a process: a reboot tears off unsynced writes, and a destroying kind leaves
+/// nothing.
+fn strike_disk(disks: &mut Disks, p: ProcId, kind: Kind, tear: u64)
+    requires { p.0 < length disks.old }
+    ensures { disks.new ≡ slice_set disks.old p.0 (left_on kind tear (disk_of disks.old p.0)) }
 {
     match kind {
         Kind::RebootProcess => {}
-        Kind::Reboot => disk.crash(tear),
-        Kind::RebootAndDelete | Kind::KillInstantly => disk.wipe(),
+        Kind::Reboot => disks.crash(p, tear),
+        Kind::RebootAndDelete | Kind::KillInstantly => disks.wipe(p),
     }
 }
 
 /// Strikes the disk of each target.
-fn strike_disks(disks: &mut Vec<Disk>, targets: &ProcSet, kind: Kind, tear: u64)
-    requires { (p : ℕ) → sets.contains targets.now p ≡ true → p < length disks.old.items }
+fn strike_disks(disks: &mut Disks, targets: &ProcSet, kind: Kind, tear: u64)
+    requires { (p : ℕ) → sets.contains targets.now p ≡ true → p < length disks.old }
     ensures { ChangesAt (sets.contains targets.now) (left_on kind tear) blank
-        disks.old.items disks.new.items }
+        disks.old disks.new }
 {
     for p in targets.iter() {
-        strike_disk(&mut disks[p.0 as usize], kind, tear);
+        strike_disk(disks, p, kind, tear);
     }
 }
 
@@ -51,18 +54,18 @@ fn bury(dead: &mut DeadBook, targets: &ProcSet, kind: Kind)
 impl Machine {
     /// Strikes the targets of an order by the hardest kind that nothing bars.
     pub(crate) fn kill(&mut self, map: &Map, by: u32, order: &KillOrder) -> Reply
-        ghost turn: { Turn }
-        requires stands { Stands turn.setup turn.before self.old }
-        requires map { map.now ≡ turn.setup.processes }
-        requires by { by ≡ turn.by }
-        ensures { Follows turn (Kill order.now) result self.new }
+        ghost point: { Point }
+        requires stands { Stands point.setup point.before self.old }
+        requires map { map.now ≡ point.setup.processes }
+        requires by { by ≡ point.by }
+        ensures { Follows point (Kill order.now) result self.new }
     {
         fy_decide::laws::struck_may_be_destroyed();
-        let verdict = judge(&self.dead, &self.book, map, by, order);
+        let targets = self.dead.targets(map, &order.target());
+        let verdict = judge_at(&self.dead, &self.book, by, order, &targets);
         let Some(kind) = verdict.struck else {
             return Reply::Verdict(verdict);
         };
-        let targets = self.dead.targets(map, &order.target());
         strike_disks(&mut self.disks, &targets, kind, order.tear());
         self.up = self.up.difference(&targets);
         bury(&mut self.dead, &targets, kind);

@@ -1,16 +1,18 @@
 //! Messages are delivered and lost, and processes sync.
-ghost use Rattle.std.specs.Prelude.{◌≡◌, ◌≤◌, ◌<◌, ◌+◌, ◌++◌, Some, None, map, length, slice_set, slice_index_or, OnOk, OnErr, IfErr};
+ghost use Rattle.std.specs.Prelude.{◌≡◌, ◌≤◌, ◌<◌, ◌+◌, ◌++◌, Some, None, map, length, slice_set, OnOk, OnErr, IfErr};
 ghost use Rattle.fy_net.specs.Net.{body_of, take_refusal, left_by};
 ghost use Rattle.fy_net.specs.declared.message.Body.TheVariants.{Store, Synced};
 ghost use Rattle.fy_acts.specs.declared.act.Act.TheVariants.{Deliver, Lose, Sync};
 ghost use Rattle.fy_cluster.specs.History.{words_of};
-ghost use Rattle.fy_disk.specs.Disk.{written, blank};
-ghost use Rattle.fy_cluster.specs.Standing.{Turn, Stands, Follows, Comes, IsLived, Sends, no_room};
+ghost use Rattle.fy_disk.specs.Disk.{written};
+ghost use Rattle.fy_disks.specs.Disks.{disk_of};
+ghost use Rattle.fy_cluster.specs.Standing.{Point, Stands, Follows, Comes, IsLived, Sends, no_room};
 ghost use Rattle.fy_cluster.specs.declared.fault.Fault.TheVariants.{NoMemory};
 
 use crate::Fault;
 use crate::machine::Machine;
 use fy_disk::{Disk, Item};
+use fy_disks::Disks;
 use fy_journal::{Refusal, Reply};
 use fy_locality::{Map, ProcId};
 use fy_net::{Body, Net, NetFault};
@@ -50,20 +52,22 @@ fn take_out(net: &mut Net, message: u64)
     requires { take_refusal net.old message ≡ None }
     ensures { net.new ≡ left_by message net.old }
 {
-    let taken = net.take(message);
-    prove!(taken.is_ok());
+    // What it says was read before.
+    let Ok(_body) = net.take(message) else {
+        unreachable!();
+    };
 }
 
 /// Writes an item to the disk of a process, or leaves all disks as they were where there is no
 /// memory.
-fn write_to(disks: &mut Vec<Disk>, p: ProcId, item: Item) -> Result<(), Fault>
-    requires { p.0 < length disks.old.items }
-    ensures written { OnOk result (disks.new.items ≡ slice_set disks.old.items p.0
-        (written item (slice_index_or disks.old.items p.0 blank))) }
+fn write_to(disks: &mut Disks, p: ProcId, item: Item) -> Result<(), Fault>
+    requires { p.0 < length disks.old }
+    ensures written { OnOk result
+        (disks.new ≡ slice_set disks.old p.0 (written item (disk_of disks.old p.0))) }
     ensures memory { IfErr result (λ fault. fault ≡ NoMemory) }
-    ensures err { OnErr result (disks.new.items ≡ disks.old.items) }
+    ensures err { OnErr result (disks.new ≡ disks.old) }
 {
-    match disks[p.0 as usize].write(item) {
+    match disks.write(p, item) {
         Ok(()) => Ok(()),
         Err(_) => Err(Fault::NoMemory),
     }
@@ -72,10 +76,10 @@ fn write_to(disks: &mut Vec<Disk>, p: ProcId, item: Item) -> Result<(), Fault>
 impl Machine {
     /// Delivers a message.
     pub(crate) fn deliver(&mut self, alloc: Global, message: u64) -> Result<Reply, Fault>
-        ghost turn: { Turn }
-        requires stands { Stands turn.setup turn.before self.old }
-        requires lived { IsLived turn.setup turn.before }
-        ensures { Comes turn (Deliver message) result self.new }
+        ghost point: { Point }
+        requires stands { Stands point.setup point.before self.old }
+        requires lived { IsLived point.setup point.before }
+        ensures { Comes point (Deliver message) result self.new }
     {
         match self.net.body(message) {
             Some(Body::Store { rec, to }) => self.store(alloc, message, rec, to),
@@ -86,12 +90,12 @@ impl Machine {
 
     /// Delivers a store, which is the message in flight with this number.
     fn store(&mut self, alloc: Global, message: u64, rec: u32, to: ProcId) -> Result<Reply, Fault>
-        ghost turn: { Turn }
-        requires stands { Stands turn.setup turn.before self.old }
-        requires lived { IsLived turn.setup turn.before }
+        ghost point: { Point }
+        requires stands { Stands point.setup point.before self.old }
+        requires lived { IsLived point.setup point.before }
         requires body { body_of self.old.net.in_flight message ≡ Some (Store rec to) }
         requires there { to.0 < length self.old.net.until }
-        ensures { Comes turn (Deliver message) result self.new }
+        ensures { Comes point (Deliver message) result self.new }
     {
         fy_policy::laws::test_is_satisfaction();
         if self.net.clogged(to) {
@@ -111,12 +115,12 @@ impl Machine {
 
     /// Delivers a process's word, which is the message in flight with this number.
     fn mark(&mut self, message: u64, rec: u32, from: ProcId) -> Reply
-        ghost turn: { Turn }
-        requires stands { Stands turn.setup turn.before self.old }
-        requires lived { IsLived turn.setup turn.before }
+        ghost point: { Point }
+        requires stands { Stands point.setup point.before self.old }
+        requires lived { IsLived point.setup point.before }
         requires body { body_of self.old.net.in_flight message ≡ Some (Synced rec from) }
         requires there { from.0 < length self.old.net.until }
-        ensures { Follows turn (Deliver message) result self.new }
+        ensures { Follows point (Deliver message) result self.new }
     {
         fy_policy::laws::test_is_satisfaction();
         fy_team::laws::a_mark_is_one_more();
@@ -131,9 +135,9 @@ impl Machine {
 
     /// Loses a message, clogged or not.
     pub(crate) fn lose(&mut self, message: u64) -> Reply
-        ghost turn: { Turn }
-        requires { Stands turn.setup turn.before self.old }
-        ensures { Follows turn (Lose message) result self.new }
+        ghost point: { Point }
+        requires { Stands point.setup point.before self.old }
+        ensures { Follows point (Lose message) result self.new }
     {
         match self.net.lose(message) {
             Ok(()) => Reply::Done,
@@ -143,11 +147,11 @@ impl Machine {
 
     /// Syncs what a process has written, and sends its word of each write.
     pub(crate) fn sync(&mut self, map: &Map, process: ProcId) -> Result<Reply, Fault>
-        ghost turn: { Turn }
-        requires stands { Stands turn.setup turn.before self.old }
-        requires map { map.now ≡ turn.setup.processes }
-        requires lived { IsLived turn.setup turn.before }
-        ensures { Comes turn (Sync process) result self.new }
+        ghost point: { Point }
+        requires stands { Stands point.setup point.before self.old }
+        requires map { map.now ≡ point.setup.processes }
+        requires lived { IsLived point.setup point.before }
+        ensures { Comes point (Sync process) result self.new }
     {
         if process.0 >= map.len() {
             return Ok(Reply::No(Refusal::NoProcess));
@@ -155,13 +159,13 @@ impl Machine {
         if !self.up.contains(process) {
             return Ok(Reply::No(Refusal::NotUp));
         }
-        let count = self.disks[process.0 as usize].unsynced_len();
+        let count = self.disks.of(process).unsynced_len();
         if let Err(fault) = self.net.reserve(count) {
             return no_room(fault);
         }
         let first = self.net.sent();
-        send_words(&mut self.net, &self.disks[process.0 as usize], process);
-        self.disks[process.0 as usize].sync();
+        send_words(&mut self.net, self.disks.of(process), process);
+        self.disks.sync(process);
         let count = count as u32;
         Ok(Reply::Synced { first, count })
     }

@@ -1,23 +1,12 @@
 //! Which acknowledged records a process still needs.
 ghost use Rattle.std.specs.Prelude.{◌≡◌, ◌&&◌};
 ghost use Rattle.fy_team.specs.Teams.{is_acked};
-ghost use Rattle.fy_cluster.specs.Needs.{has_on, is_of_team_on, is_member_on, needed_on};
+ghost use Rattle.fy_cluster.specs.Needs.{is_of_team_on, is_member_on, needed_on};
 
-use crate::keeper::disk_has;
 use crate::machine::Machine;
 use fy_locality::ProcId;
 
 impl Machine {
-    /// Whether a process has a record synced.
-    pub(crate) fn has_synced(&self, rec: u32, p: ProcId) -> bool
-        ensures { result ≡ has_on self.now rec p.0 }
-    {
-        match self.disks.get(p.0 as usize) {
-            Some(disk) => disk_has(disk, rec),
-            None => false,
-        }
-    }
-
     /// Whether a record is there and of a team.
     fn is_of_team(&self, team: u32, rec: u32) -> bool
         ensures { result ≡ is_of_team_on self.now team rec }
@@ -46,7 +35,7 @@ impl Machine {
         ensures { result ≡ needed_on self.now p.0 (is_of_team_on self.now team) }
     {
         (0..self.teams.record_count()).find(|rec| {
-            self.teams.acked(*rec) && self.is_of_team(team, *rec) && !self.has_synced(*rec, p)
+            self.teams.acked(*rec) && self.is_of_team(team, *rec) && !self.disks.has_synced(*rec, p)
         })
     }
 
@@ -55,7 +44,7 @@ impl Machine {
         ensures { result ≡ needed_on self.now p.0 (is_member_on self.now p.0) }
     {
         (0..self.teams.record_count()).find(|rec| {
-            self.teams.acked(*rec) && self.is_member_for(p, *rec) && !self.has_synced(*rec, p)
+            self.teams.acked(*rec) && self.is_member_for(p, *rec) && !self.disks.has_synced(*rec, p)
         })
     }
 }

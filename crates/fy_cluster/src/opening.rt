@@ -1,5 +1,5 @@
 //! A machine before anything happened.
-ghost use Rattle.std.specs.Prelude.{◌≡◌, ◌≤◌, ◌<◌, ◌+◌, ◌++◌, ◌==◌, ◌&&◌, ◌||◌, ℕ, [], length, filter, replicate, IfOk, OnOk};
+ghost use Rattle.std.specs.Prelude.{◌≡◌, ◌≤◌, ◌<◌, ◌+◌, ◌++◌, ◌==◌, ◌&&◌, ◌||◌, ℕ, [], length, filter, IfOk, OnOk};
 ghost use Rattle.std.specs.List.{All, list_any};
 ghost use Rattle.fy_kinds.specs.Kinds.{Deed, has};
 ghost use Rattle.fy_grants.specs.declared.book.TheConstants.{MOST_GRANTS};
@@ -7,13 +7,12 @@ ghost use Rattle.fy_grants.specs.Rights.{grants_of, protections_of, grant_count}
 ghost use Rattle.fy_decide.specs.DeadBook.{IsFresh};
 ghost use Rattle.fy_net.specs.Net.{quiet};
 ghost use Rattle.fy_cluster.specs.Rules.{grants_to, some_protects};
-ghost use Rattle.fy_disk.specs.Disk.{blank};
 ghost use Rattle.fy_cluster.specs.Standing.{Stands, KeepsRights};
 
 use crate::machine::Machine;
 use crate::{Config, Protection, laws};
 use fy_decide::{DeadBook, MakeFault};
-use fy_disk::Disk;
+use fy_disks::Disks;
 use fy_grants::{Book, BookFault, Grant};
 use fy_net::Net;
 use fy_team::Teams;
@@ -41,6 +40,7 @@ fn give_all(book: &mut Book, grants: &[Grant]) -> Result<(), AllocError>
         grants_of book.new a ≡ grants_of book.old a ++ grants_to a grants.now) }
     ensures actors { length book.new.grants ≡ length book.old.grants }
     ensures protections { book.new.protections ≡ book.old.protections }
+    ensures map { book.new.processes ≡ book.old.processes }
 {
     fy_grants::laws::grants_after_give();
     fy_grants::laws::grants_are_counted();
@@ -61,6 +61,7 @@ fn protect_all(book: &mut Book, protections: &[Protection])
         ≡ (some_protects protections.now p deed || has (protections_of book.old p) deed) }
     ensures processes { length book.new.protections ≡ length book.old.protections }
     ensures grants { book.new.grants ≡ book.old.grants }
+    ensures map { book.new.processes ≡ book.old.processes }
 {
     fy_grants::laws::protections_after_change();
     fy_kinds::laws::members_together();
@@ -75,21 +76,10 @@ fn first_rights(alloc: Global, config: &Config) -> Result<Book, AllocError>
 {
     fy_grants::laws::grants_are_counted();
     config.invariant();
-    let mut book = Book::make(alloc, config.actors(), config.map().len())?;
+    let mut book = Book::make(alloc, config.actors(), config.map())?;
     give_all(&mut book, config.grants())?;
     protect_all(&mut book, config.protections());
     Ok(book)
-}
-
-/// An empty disk for each process.
-fn blank_disks(alloc: Global, processes: u32) -> Result<Vec<Disk>, AllocError>
-    ensures { IfOk result (λ disks. disks.items ≡ replicate processes blank) }
-{
-    let mut disks = Vec::new(alloc);
-    for _process in 0..processes {
-        disks.push(Disk::make(alloc))?;
-    }
-    Ok(disks)
 }
 
 /// A network in which nothing was sent.
@@ -112,7 +102,7 @@ impl Machine {
         Ok(Machine {
             dead: nobody_destroyed(alloc, config)?,
             book: first_rights(alloc, config)?,
-            disks: blank_disks(alloc, processes)?,
+            disks: Disks::make(alloc, processes)?,
             up: config.map().everyone(),
             net: quiet_net(alloc, processes)?,
             teams: Teams::make(alloc),

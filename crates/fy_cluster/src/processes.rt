@@ -1,7 +1,7 @@
 //! Processes start.
 ghost use Rattle.std.specs.Prelude.{◌≡◌};
 ghost use Rattle.fy_acts.specs.declared.act.Act.TheVariants.{Up};
-ghost use Rattle.fy_cluster.specs.Standing.{Turn, Stands, Follows};
+ghost use Rattle.fy_cluster.specs.Standing.{Point, Stands, Follows};
 
 use crate::machine::Machine;
 use fy_journal::{Refusal, Reply};
@@ -10,10 +10,10 @@ use fy_locality::{Map, ProcId};
 impl Machine {
     /// Starts a process that is down.
     pub(crate) fn start(&mut self, map: &Map, process: ProcId) -> Reply
-        ghost turn: { Turn }
-        requires stands { Stands turn.setup turn.before self.old }
-        requires map { map.now ≡ turn.setup.processes }
-        ensures { Follows turn (Up process) result self.new }
+        ghost point: { Point }
+        requires stands { Stands point.setup point.before self.old }
+        requires map { map.now ≡ point.setup.processes }
+        ensures { Follows point (Up process) result self.new }
     {
         if process.0 >= map.len() {
             return Reply::No(Refusal::NoProcess);

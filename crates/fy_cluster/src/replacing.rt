@@ -4,7 +4,7 @@ ghost use Rattle.std.specs.FinSet as sets;
 ghost use Rattle.fy_team.specs.Teams.{is_among, swapped};
 ghost use Rattle.fy_acts.specs.declared.act.Act.TheVariants.{Replace};
 ghost use Rattle.fy_cluster.specs.Replies.{meets};
-ghost use Rattle.fy_cluster.specs.Standing.{Turn, Stands, Follows, IsLived};
+ghost use Rattle.fy_cluster.specs.Standing.{Point, Stands, Follows, IsLived};
 
 use crate::Config;
 use crate::machine::Machine;
@@ -42,11 +42,11 @@ fn meets(config: &Config, policy: u32, set: &ProcSet) -> bool
 impl Machine {
     /// Lets a process stand for a member of a team from now on.
     pub(crate) fn replace(&mut self, config: &Config, team: u32, out: ProcId, into: ProcId) -> Reply
-        ghost turn: { Turn }
-        requires stands { Stands turn.setup turn.before self.old }
-        requires config { config.now ≡ turn.setup }
-        requires lived { IsLived turn.setup turn.before }
-        ensures { Follows turn (Replace team out into) result self.new }
+        ghost point: { Point }
+        requires stands { Stands point.setup point.before self.old }
+        requires config { config.now ≡ point.setup }
+        requires lived { IsLived point.setup point.before }
+        ensures { Follows point (Replace team out into) result self.new }
     {
         fy_policy::laws::test_is_satisfaction();
         let Some(members) = self.teams.members(team) else {

@@ -1,7 +1,7 @@
 //! Grants and protections are given and taken.
 ghost use Rattle.std.specs.Prelude.{◌≡◌};
 ghost use Rattle.fy_acts.specs.declared.act.Act.TheVariants.{Give, Take, Protect, Unprotect};
-ghost use Rattle.fy_cluster.specs.Standing.{Turn, Stands, Follows, Comes, replied_to};
+ghost use Rattle.fy_cluster.specs.Standing.{Point, Stands, Follows, Comes, replied_to};
 
 use crate::Fault;
 use crate::machine::Machine;
@@ -25,9 +25,9 @@ fn replied_to(fault: BookFault) -> Result<Reply, Fault>
 impl Machine {
     /// Gives a grant, last in its actor's list.
     pub(crate) fn give(&mut self, grant: Grant) -> Result<Reply, Fault>
-        ghost turn: { Turn }
-        requires { Stands turn.setup turn.before self.old }
-        ensures { Comes turn (Give grant) result self.new }
+        ghost point: { Point }
+        requires { Stands point.setup point.before self.old }
+        ensures { Comes point (Give grant) result self.new }
     {
         laws::grants_after_give();
         match self.book.give(grant) {
@@ -38,9 +38,9 @@ impl Machine {
 
     /// Takes a grant away, by its place in its actor's list.
     pub(crate) fn take(&mut self, actor: u32, index: u32) -> Result<Reply, Fault>
-        ghost turn: { Turn }
-        requires { Stands turn.setup turn.before self.old }
-        ensures { Comes turn (Take actor index) result self.new }
+        ghost point: { Point }
+        requires { Stands point.setup point.before self.old }
+        ensures { Comes point (Take actor index) result self.new }
     {
         laws::grants_after_take();
         match self.book.take(actor, index) {
@@ -51,9 +51,9 @@ impl Machine {
 
     /// Adds to the kinds from which a process is protected.
     pub(crate) fn protect(&mut self, process: ProcId, kinds: KindSet) -> Reply
-        ghost turn: { Turn }
-        requires { Stands turn.setup turn.before self.old }
-        ensures { Follows turn (Protect process kinds) result self.new }
+        ghost point: { Point }
+        requires { Stands point.setup point.before self.old }
+        ensures { Follows point (Protect process kinds) result self.new }
     {
         laws::protections_after_change();
         fy_kinds::laws::members_together();
@@ -66,9 +66,9 @@ impl Machine {
 
     /// Takes out of the kinds from which a process is protected.
     pub(crate) fn unprotect(&mut self, process: ProcId, kinds: KindSet) -> Reply
-        ghost turn: { Turn }
-        requires { Stands turn.setup turn.before self.old }
-        ensures { Follows turn (Unprotect process kinds) result self.new }
+        ghost point: { Point }
+        requires { Stands point.setup point.before self.old }
+        ensures { Follows point (Unprotect process kinds) result self.new }
     {
         laws::protections_after_change();
         fy_kinds::laws::members_together();

@@ -17,8 +17,9 @@ pub enum Role {
 }
 
 impl Role {
-    /// Whether an actor of this role may make the act.
-    pub(crate) fn may(self, act: &Act) -> bool
+    /// Whether an actor of this role may make the act, as far as its role goes: what the act comes
+    /// to is asked afterwards. Takes no memory.
+    pub fn may(self, act: &Act) -> bool
         ensures { result ≡ may self act.now }
     {
         match act {

@@ -4,7 +4,7 @@ ghost use Rattle.std.specs.List.{All};
 ghost use Rattle.fy_net.specs.declared.message.Body.TheVariants.{Store};
 ghost use Rattle.fy_acts.specs.declared.act.Act.TheVariants.{Form, Begin, Resend};
 ghost use Rattle.fy_cluster.specs.History.{stores_of};
-ghost use Rattle.fy_cluster.specs.Standing.{Turn, Stands, Comes, IsLived, Sends, replied_to_team};
+ghost use Rattle.fy_cluster.specs.Standing.{Point, Stands, Comes, IsLived, Sends, replied_to_team};
 
 use crate::machine::Machine;
 use crate::messages::no_room;
@@ -50,10 +50,10 @@ impl Machine {
         members: Members,
         policy: u32,
     ) -> Result<Reply, Fault>
-        ghost turn: { Turn }
-        requires stands { Stands turn.setup turn.before self.old }
-        requires config { config.now ≡ turn.setup }
-        ensures { Comes turn (Form members policy) result self.new }
+        ghost point: { Point }
+        requires stands { Stands point.setup point.before self.old }
+        requires config { config.now ≡ point.setup }
+        ensures { Comes point (Form members policy) result self.new }
     {
         let gone = config.map().everyone().difference(&self.dead.left());
         match self
@@ -68,16 +68,17 @@ impl Machine {
     /// Begins a record for a team, and sends a store to each member. The payload is the machine's
     /// own.
     pub(crate) fn begin(&mut self, team: u32, payload: Payload) -> Result<Reply, Fault>
-        ghost turn: { Turn }
-        requires stands { Stands turn.setup turn.before self.old }
-        requires lived { IsLived turn.setup turn.before }
-        ensures { Comes turn (Begin team payload) result self.new }
+        ghost point: { Point }
+        requires stands { Stands point.setup point.before self.old }
+        requires lived { IsLived point.setup point.before }
+        ensures { Comes point (Begin team payload) result self.new }
     {
         fy_policy::laws::test_is_satisfaction();
         fy_team::laws::a_record_begins_unmarked();
         if let Err(fault) = self.teams.may_begin(team, &payload) {
             return replied_to(fault);
         }
+        self.disks.open(self.teams.record_count())?;
         let count = match self.teams.members(team) {
             Some(members) => members.as_slice().len(),
             None => unreachable!(),
@@ -99,10 +100,10 @@ impl Machine {
 
     /// Sends a record to a member of its team once more.
     pub(crate) fn resend(&mut self, rec: u32, process: ProcId) -> Result<Reply, Fault>
-        ghost turn: { Turn }
-        requires stands { Stands turn.setup turn.before self.old }
-        requires lived { IsLived turn.setup turn.before }
-        ensures { Comes turn (Resend rec process) result self.new }
+        ghost point: { Point }
+        requires stands { Stands point.setup point.before self.old }
+        requires lived { IsLived point.setup point.before }
+        ensures { Comes point (Resend rec process) result self.new }
     {
         fy_policy::laws::test_is_satisfaction();
         let Some(team) = self.teams.team_of(rec) else {

@@ -4,7 +4,7 @@ use Rattle.fy_kinds.specs.Members.{Members}
 use Rattle.fy_grants.specs.declared.grant.Scope.{Scope}
 use Rattle.fy_config.specs.declared.given.GivenGrant.{GivenGrant}
 use Rattle.fy_config.specs.Given.{scope_given, grant_given}
-use Rattle.fy_config.specs.Tables.{◌>>=◌}
+use Rattle.fy_locality.specs.Chain.{◌>>=◌}
 
 -- a grant of kinds and a scope that are kept
 abbrev pub grant_kept : Members → Option Scope → GivenGrant

@@ -13,4 +13,3 @@ pub mod ReadAll
 pub mod Setups
 pub mod Spelt
 pub mod Unions
-pub mod Written

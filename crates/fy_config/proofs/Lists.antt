@@ -4,7 +4,8 @@ use Rattle.toml.specs.Data.{Data}
 use Rattle.toml.specs.View.{view, items_view}
 use Rattle.toml.specs.declared.value.Value.{Value}
 use Rattle.toml.proofs.Views.{items_view-drop}
-use Rattle.fy_config.specs.Tables.{all_of, ◌>>=◌}
+use Rattle.fy_locality.specs.Chain.{◌>>=◌}
+use Rattle.fy_config.specs.Tables.{all_of}
 
 -- what the items from a place on spell
 pub all_of-drop :

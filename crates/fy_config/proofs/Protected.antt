@@ -32,17 +32,17 @@ pub record Named (processes : List Locality) (before : List Spelt) (set : sets.F
   pub those : (q : ℕ) → sets.contains set q ≡ list_any (λ earlier. has_value processes Process earlier.0 q) before
 
 -- a process with a name, by its place
-pub record Stands (processes : List Locality) (name : List ℕ) (p : ℕ) : Type 0 where
+pub record IsNamedAt (processes : List Locality) (name : List ℕ) (p : ℕ) : Type 0 where
   pub place : place_of processes name ≡ Some p
   pub found : list_any (λ q. bytes_eq q.process name) processes ≡ true
   pub value : value_of processes Process p ≡ Some name
   pub number : number_of processes name ≡ p
 
-pub stands :
+pub named_at :
     (processes : List Locality) (name : List ℕ) (p : ℕ)
-    → place_of processes name ≡ Some p → Stands processes name p
-stands [] name p e = absurd (let c : ⊥ = cc in c)
-stands (first ∷ more) name p e =
+    → place_of processes name ≡ Some p → IsNamedAt processes name p
+named_at [] name p e = absurd (let c : ⊥ = cc in c)
+named_at (first ∷ more) name p e =
     let processes : List Locality = first ∷ more in
     let (within, passes, before) = position-Some (λ (q : Locality). bytes_eq q.process name) processes p first e in
     let at : slice_get processes p ≡ Some (get_or processes p first) = slice_get-get_or processes p first within in
@@ -59,7 +59,7 @@ stands (first ∷ more) name p e =
 -- a process has a name exactly where it is the one that stands there
 has_that :
     (processes : List Locality) (name : List ℕ) (p q : ℕ)
-    → NamesDiffer processes → Stands processes name p
+    → NamesDiffer processes → IsNamedAt processes name p
     → has_value processes Process name q ≡ eqb q p
 has_that processes name p q differ here =
     same_from_decides (has_value processes Process name q) (eqb q p) (only, back) (Decides-eqb q p)
@@ -82,7 +82,7 @@ has_that processes name p q differ here =
 -- one protection more names its process
 pub named_more :
     (processes : List Locality) (before : List Spelt) (set more : sets.FinSet nat_cmp) (t : Spelt) (p : ℕ)
-    → NamesDiffer processes → Named processes before set → Stands processes t.0 p
+    → NamesDiffer processes → Named processes before set → IsNamedAt processes t.0 p
     → more ≡ sets.insert set p → Named processes (before ++ t ∷ []) more
 named_more processes before set more t p differ named here grown =
     record {
@@ -104,7 +104,7 @@ named_more processes before set more t p differ named here grown =
 -- what stands was named before exactly where it is in the set
 named_before :
     (processes : List Locality) (before : List Spelt) (set : sets.FinSet nat_cmp) (name : List ℕ) (p : ℕ)
-    → Named processes before set → Stands processes name p
+    → Named processes before set → IsNamedAt processes name p
     → sets.contains set p ≡ list_any (λ earlier. bytes_eq earlier.0 name) before
 named_before processes before set name p named here =
     named.those p
@@ -114,7 +114,7 @@ named_before processes before set name p named here =
 -- a protection of what stands there is bad exactly where that is in the set
 pub bad_where_named :
     (processes : List Locality) (before : List Spelt) (set : sets.FinSet nat_cmp) (t : Spelt) (p : ℕ)
-    → Named processes before set → Stands processes t.0 p
+    → Named processes before set → IsNamedAt processes t.0 p
     → is_bad_protection processes before t ≡ sets.contains set p
 bad_where_named processes before set t p named here =
     ap (λ b. not b || list_any (λ (earlier : Spelt). bytes_eq earlier.0 t.0) before) here.found
@@ -191,16 +191,16 @@ protected_none processes given protections named none empty =
 name_stands :
     (processes : List Locality) (t : Spelt) (given : GivenProtection) (p : ℕ)
     → protection_given t ≡ given → option_and_then (place_of processes) given.process ≡ Some p
-    → Stands processes t.0 p
+    → IsNamedAt processes t.0 p
 name_stands processes t given p same found = go (is_name t.0) refl
   where
     found_by : option_and_then (place_of processes) (name_given t.0) ≡ Some p
     found_by = ap (λ (g : GivenProtection). option_and_then (place_of processes) g.process) same ∙ found
 
-    go : (b : Bool) → is_name t.0 ≡ b → Stands processes t.0 p
+    go : (b : Bool) → is_name t.0 ≡ b → IsNamedAt processes t.0 p
     go true is =
         let named : name_given t.0 ≡ Some t.0 = ap (λ b. cond b (Some t.0) None) is in
-        stands processes t.0 p (sym (ap (option_and_then (place_of processes)) named) ∙ found_by)
+        named_at processes t.0 p (sym (ap (option_and_then (place_of processes)) named) ∙ found_by)
     go false is =
         let nameless : name_given t.0 ≡ None = ap (λ b. cond b (Some t.0) None) is in
         let lost : option_and_then (place_of processes) (name_given t.0) ≡ None = ap (option_and_then (place_of processes)) nameless in
@@ -224,7 +224,7 @@ protected_more processes given protections more named grown i protection p put d
         → (protections ≡ map (protection_in processes) (take i texts)) × Named processes (take i texts) named × Passed (is_bad_protection processes) texts i
         → (more ≡ map (protection_in processes) (take (i + 1) texts)) × Named processes (take (i + 1) texts) grown × Passed (is_bad_protection processes) texts (i + 1)
     go texts (t, is, same) (front, those, passed) =
-        let here : Stands processes t.0 p = name_stands processes t protection p same found in
+        let here : IsNamedAt processes t.0 p = name_stands processes t protection p same found in
         let kinds : t.1 ≡ protection.kinds = ap (λ (g : GivenProtection). g.kinds) same in
         let one : put ≡ protection_in processes t =
         is_put
@@ -268,7 +268,7 @@ pub protected_twice :
 protected_twice processes given protections named i protection p m at found old texts kept =
     let (t, is, same) = kept_at protection_given texts given i protection kept at in
     let (front, those, passed) = m.so_far texts kept in
-    let here : Stands processes t.0 p = name_stands processes t protection p same found in
+    let here : IsNamedAt processes t.0 p = name_stands processes t protection p same found in
     passed_here (is_bad_protection processes) texts i t passed is
     (bad_where_named processes (take i texts) named t p those here ∙ old)
 

@@ -4,7 +4,8 @@ use Rattle.fy_kinds.specs.Members.{Members}
 use Rattle.fy_kinds.specs.Kinds.{with_all, no_deed}
 use Rattle.toml.specs.View.{view, items_view}
 use Rattle.toml.specs.declared.value.Value.{Value}
-use Rattle.fy_config.specs.Tables.{◌>>=◌, all_of, kind_of, union_of}
+use Rattle.fy_locality.specs.Chain.{◌>>=◌}
+use Rattle.fy_config.specs.Tables.{all_of, kind_of, union_of}
 use Rattle.fy_config.proofs.Lists.{all_of-drop}
 
 or_regroups : (a b c : Bool) → ((a || b) || c) ≡ (a || (b || c))

@@ -4,10 +4,10 @@ use Rattle.std.specs.Prelude.{ℕ, ℤ, List, [], ◌∷◌, codes, nat_eq, Bool
 use Rattle.std.specs.Cmp.Lexicographic.{pointwise}
 use Rattle.std.specs.List.{find, list_any}
 use Rattle.toml.specs.Data.{Data, Items, no_items, item, Members as Entries, no_members, member, get_member, as_str, as_integer, as_array, as_table}
-use Rattle.fy_locality.specs.Key.{key_text}
+use Rattle.fy_locality.specs.Chain.{◌>>=◌}
+use Rattle.fy_locality.specs.Key.{key_named}
 use Rattle.fy_locality.specs.Locality.{locality_of}
 use Rattle.fy_locality.specs.declared.key.Key.{Key}
-use Rattle.fy_locality.specs.declared.key.Key.TheVariants.{Process, Machine, Zone, DataHall, DataCenter}
 use Rattle.fy_locality.specs.declared.locality.Locality.{Locality}
 use Rattle.fy_kinds.specs.Kinds.{no_deed, with_all, set_named}
 use Rattle.fy_kinds.specs.Members.{Members}
@@ -15,12 +15,6 @@ use Rattle.fy_grants.specs.declared.grant.Scope.{Scope}
 use Rattle.fy_grants.specs.declared.grant.Scope.TheVariants.{All, Where}
 use Rattle.fy_cluster.specs.declared.role.Role.{Role}
 use Rattle.fy_cluster.specs.declared.role.Role.TheVariants.{Fault, Storage, Operator}
-
-infixl 10 ◌>>=◌
--- what was found goes on to the next step
-abbrev pub ◌>>=◌ : {A B : Type 0} → Option A → (A → Option B) → Option B
-None >>= f = None
-(Some x) >>= f = f x
 
 -- something exactly where a test holds
 abbrev pub provided : Bool → Option Bool
@@ -99,14 +93,6 @@ abbrev pub kinds_at : List ℕ → Entries → Option Members
 kinds_at key ms = option_map union_of (get_member key ms >>= list_of kind_of)
 
 -- ---- grants and actors
-
--- every key of a locality
-abbrev pub all_keys : List Key
-all_keys = Process ∷ Machine ∷ Zone ∷ DataHall ∷ DataCenter ∷ []
-
--- the key that is written so
-abbrev pub key_named : List ℕ → Option Key
-key_named word = find (λ key. pointwise nat_eq (key_text key) word) all_keys
 
 -- the processes with one value of a key
 abbrev pub scope_where : Data → Data → Option Scope

@@ -7,7 +7,7 @@ ghost use Rattle.toml.specs.View.{view, table_view, items_view};
 ghost use Rattle.fy_locality.specs.Locality.{locality_of};
 ghost use Rattle.fy_grants.specs.declared.grant.Scope.TheVariants.{Where};
 ghost use Rattle.fy_config.specs.Given.{name_given, process_given, scope_given, grant_given, actor_given, actor_kept, protection_given};
-ghost use Rattle.fy_config.specs.Tables.{has_only, integer_at, list_if_any, text_at, text_if_any, all_of, kind_of, union_of, kinds_at, key_named, scope_where, scope_of, role_named, role_at, process_in, process_of, grant_in, grant_of, actor_of, protection_of};
+ghost use Rattle.fy_config.specs.Tables.{has_only, integer_at, list_if_any, text_at, text_if_any, all_of, kind_of, union_of, kinds_at, scope_where, scope_of, role_named, role_at, process_in, process_of, grant_in, grant_of, actor_of, protection_of};
 
 use crate::given::{GivenActor, GivenGrant, GivenProtection};
 use fy_cluster::Role;
@@ -69,13 +69,6 @@ pub fn integer_at(table: &Table, key: &str) -> Option<i64>
     ensures { result ≡ integer_at key.now (table_view table.now) }
 {
     find(table, key)?.as_integer()
-}
-
-/// The key that is written so.
-fn key_named(word: &str) -> Option<Key>
-    ensures { result ≡ key_named word.now }
-{
-    Key::named(word)
 }
 
 /// The role that is written so.
@@ -185,7 +178,7 @@ fn scope_given(key: Key, text: &str) -> Option<Scope>
 fn scope_where(key: &Value, value: &Value) -> Option<Option<Scope>>
     ensures { result ≡ option_map scope_given (scope_where (view key.now) (view value.now)) }
 {
-    let key = key_named(key.as_str()?)?;
+    let key = Key::named(key.as_str()?)?;
     let text = value.as_str()?;
     Some(scope_given(key, text))
 }

@@ -113,24 +113,21 @@ module _ (law : FirstFound) (situation : Situation) (deed : Deed) (s : ℕ → B
       ∙ ap (λ r. first_rule (option_map NoGrant r ∷ protected ∷ [])) (least_is (λ q. not (granted q)) u found ∙ is)
       ∙ ap (λ r. first_rule (option_map Protected r ∷ [])) (least_is (λ q. situation.is_protected q deed) b barred))
 
--- the same from what the two books answer, about the map and the set of one deed
-module _ (law : FirstFound) (one : (kinds : KindSet) (deed : Deed) → has_some kinds (only deed) ≡ has kinds deed) (dead : Casualties) (rights : Rights) (actor : ℕ) (deed : Deed) (map : List Locality) (kinds : KindSet) (same : dead.processes ≡ map) (single : kinds ≡ only deed)
-    (s : sets.FinSet nat_cmp) (members : (q : ℕ) → sets.contains s q ≡ true → q < length map) (no_target : Bool) (some : no_target ≡ false) (tested : (no_target ≡ true) ↔ (s ≡ sets.empty)) where
-  small : (q : ℕ) → sets.contains s q ≡ true → q < length dead.processes
-  small q member = subst (λ ps. q < length ps) (sym same) (members q member)
-
+-- the same from what the two books answer of their processes and the set of one deed
+module _ (law : FirstFound) (one : (kinds : KindSet) (deed : Deed) → has_some kinds (only deed) ≡ has kinds deed) (dead : Casualties) (rights : Rights) (actor : ℕ) (deed : Deed) (kinds : KindSet) (same : rights.processes ≡ dead.processes) (single : kinds ≡ only deed)
+    (s : sets.FinSet nat_cmp) (small : (q : ℕ) → sets.contains s q ≡ true → q < length dead.processes) (no_target : Bool) (some : no_target ≡ false) (tested : (no_target ≡ true) ↔ (s ≡ sets.empty)) where
   there : list_any (sets.contains s) (range_with_len 0 (length dead.processes)) ≡ true
-  there = subst (λ ps. list_any (sets.contains s) (range_with_len 0 (length ps)) ≡ true) (sym same) (somebody s (length map) members no_target some tested)
+  there = somebody s (length dead.processes) small no_target some tested
 
-  as_asked : (u : Option ProcId) → LeastWith (sets.contains s) (λ q. not (is_covered map (grants_of rights actor) kinds q)) u → LeastWith (sets.contains s) (λ q. not (is_covered dead.processes (grants_of rights actor) (only deed) q)) u
+  as_asked : (u : Option ProcId) → LeastWith (sets.contains s) (λ q. not (is_covered rights.processes (grants_of rights actor) kinds q)) u → LeastWith (sets.contains s) (λ q. not (is_covered dead.processes (grants_of rights actor) (only deed) q)) u
   as_asked u found =
-      subst (λ ps. LeastWith (sets.contains s) (λ q. not (is_covered ps (grants_of rights actor) (only deed) q)) u) (sym same)
-      (subst (λ ks. LeastWith (sets.contains s) (λ q. not (is_covered map (grants_of rights actor) ks q)) u) single found)
+      subst (λ ps. LeastWith (sets.contains s) (λ q. not (is_covered ps (grants_of rights actor) (only deed) q)) u) same
+      (subst (λ ks. LeastWith (sets.contains s) (λ q. not (is_covered rights.processes (grants_of rights actor) ks q)) u) single found)
 
-  pub uncovered_by : (u : Option ProcId) (p : ProcId) → LeastWith (sets.contains s) (λ q. not (is_covered map (grants_of rights actor) kinds q)) u → u ≡ Some p → Some (NoGrant p) ≡ first_rule (leave_rules (situation_of dead rights actor) deed (sets.contains s))
+  pub uncovered_by : (u : Option ProcId) (p : ProcId) → LeastWith (sets.contains s) (λ q. not (is_covered rights.processes (grants_of rights actor) kinds q)) u → u ≡ Some p → Some (NoGrant p) ≡ first_rule (leave_rules (situation_of dead rights actor) deed (sets.contains s))
   uncovered_by u p found is = leave_uncovered law (situation_of dead rights actor) deed (sets.contains s) small there u p (as_asked u found) is
 
-  pub barred_by : (u b found : Option ProcId) → LeastWith (sets.contains s) (λ q. not (is_covered map (grants_of rights actor) kinds q)) u → u ≡ None → LeastWith (sets.contains s) (is_protected rights kinds) b → b ≡ found → first_rule (option_map Protected found ∷ []) ≡ first_rule (leave_rules (situation_of dead rights actor) deed (sets.contains s))
+  pub barred_by : (u b found : Option ProcId) → LeastWith (sets.contains s) (λ q. not (is_covered rights.processes (grants_of rights actor) kinds q)) u → u ≡ None → LeastWith (sets.contains s) (is_protected rights kinds) b → b ≡ found → first_rule (option_map Protected found ∷ []) ≡ first_rule (leave_rules (situation_of dead rights actor) deed (sets.contains s))
   barred_by u b found none is barred answer =
       ap (λ o. first_rule (option_map Protected o ∷ [])) (sym answer)
       ∙ leave_covered law (situation_of dead rights actor) deed (sets.contains s) small there u b (as_asked u none) is

@@ -1,3 +1,4 @@
 pub mod Deciding
 pub mod Judging
+pub mod Sent
 pub mod Tallying

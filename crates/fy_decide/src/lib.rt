@@ -7,4 +7,4 @@ mod tallies;
 mod verdict;
 
 pub use dead_book::{DeadBook, Loss, MakeFault, first_unmet};
-pub use verdict::{judge, judge_clog};
+pub use verdict::{judge, judge_at, judge_clog, judge_clog_at};

@@ -7,33 +7,23 @@ ghost use Rattle.fy_grants.specs.Rights.{Rights};
 
 use crate::DeadBook;
 use fy_grants::Book;
-use fy_kinds::{KillOrder, Kind, KindSet, Rule, Target, Verdict};
+use fy_kinds::{HARDEST_FIRST, KillOrder, Kind, KindSet, Rule, Target, Verdict};
 use fy_locality::{Map, ProcSet};
 
-/// The kinds, hardest first.
-const HARDEST_FIRST: [Kind; 4] = [
-    Kind::KillInstantly,
-    Kind::RebootAndDelete,
-    Kind::Reboot,
-    Kind::RebootProcess,
-];
-
-/// What a verdict rests on: the dead book and the map that it was made of, the book of grants, and
-/// who asks.
+/// What a verdict rests on: the dead book, the book of grants for the same processes, and who asks.
 #[derive(Clone, Copy)]
 struct Case<'a> {
     dead: &'a DeadBook,
-    map: &'a Map,
     book: &'a Book,
     actor: u32,
-    ghost made_of: { map.now ≡ dead.now.processes },
+    ghost same: { book.now.processes ≡ dead.now.processes },
 }
 
 impl Case<'_> {
     /// The bar of a deed by the first three rules, those of leave.
     fn leave_bar(&self, kinds: KindSet, targets: &ProcSet) -> Option<Rule>
         requires members { (q : ℕ)
-            → sets.contains targets.now q ≡ true → q < length self.now.map.now }
+            → sets.contains targets.now q ≡ true → q < length self.now.dead.now.processes }
         ensures { (deed : Deed) → kinds ≡ only deed → result
             ≡ first_rule (leave_rules
             (situation_of self.now.dead.now self.now.book.now self.now.actor) deed
@@ -45,7 +35,7 @@ impl Case<'_> {
         if targets.is_empty() {
             return Some(Rule::NoTarget);
         }
-        if let Some(process) = self.book.uncovered(self.actor, kinds, self.map, targets) {
+        if let Some(process) = self.book.uncovered(self.actor, kinds, targets) {
             return Some(Rule::NoGrant { process });
         }
         match self.book.barred(kinds, targets) {
@@ -57,7 +47,7 @@ impl Case<'_> {
     /// The bar of a kind of kill: the first of all five rules that bars it.
     fn bar(&self, kind: Kind, targets: &ProcSet) -> Option<Rule>
         requires members { (q : ℕ)
-            → sets.contains targets.now q ≡ true → q < length self.now.map.now }
+            → sets.contains targets.now q ≡ true → q < length self.now.dead.now.processes }
         ensures { result
             ≡ bar (situation_of self.now.dead.now self.now.book.now self.now.actor) (Striking kind)
             (sets.contains targets.now) }
@@ -71,7 +61,7 @@ impl Case<'_> {
     /// The hardest kind that an order allows and that has no bar.
     fn hardest(&self, order: &KillOrder, targets: &ProcSet) -> Option<Kind>
         requires members { (q : ℕ)
-            → sets.contains targets.now q ≡ true → q < length self.now.map.now }
+            → sets.contains targets.now q ≡ true → q < length self.now.dead.now.processes }
         ensures { result
             ≡ hardest (situation_of self.now.dead.now self.now.book.now self.now.actor) order.now
             (sets.contains targets.now) }
@@ -110,27 +100,46 @@ fn loss_bar(dead: &DeadBook, kind: Kind, targets: &ProcSet) -> Option<Rule>
 
 /// The verdict on an order of an actor: the hardest kind, from the ordered one down to its floor,
 /// that has no bar at the order's targets, and the bar of the ordered kind. It changes nothing; the
-/// caller strikes. The map is the one that the dead book was made of. Takes no memory.
+/// caller strikes. The map is the one that both books were made of. Takes no memory.
 pub fn judge(dead: &DeadBook, book: &Book, map: &Map, actor: u32, order: &KillOrder) -> Verdict
     requires map { map.now ≡ dead.now.processes }
+    requires book { book.now.processes ≡ dead.now.processes }
     ensures { result ≡ verdict (situation_of dead.now book.now actor) order.now }
 {
-    let targets = dead.targets(map, &order.target());
-    let case = Case {
+    judge_at(
         dead,
-        map,
         book,
         actor,
-    };
-    let rule = case.bar(order.kind(), &targets);
+        order,
+        &dead.targets(map, &order.target()),
+    )
+}
+
+/// The verdict of [`judge`] on an order whose targets were found before, for whoever goes on to
+/// strike them. Takes no memory.
+pub fn judge_at(
+    dead: &DeadBook,
+    book: &Book,
+    actor: u32,
+    order: &KillOrder,
+    found: &ProcSet,
+) -> Verdict
+    requires book { book.now.processes ≡ dead.now.processes }
+    requires found { (p : ℕ) → sets.contains found.now p
+        ≡ targets dead.now.processes (sets.contains dead.now.left) order.now.target p }
+    ensures { result ≡ verdict (situation_of dead.now book.now actor) order.now }
+{
+    let case = Case { dead, book, actor };
+    let rule = case.bar(order.kind(), found);
     let struck = match rule {
         None => Some(order.kind()),
-        Some(_) => case.hardest(order, &targets),
+        Some(_) => case.hardest(order, found),
     };
     Verdict { struck, rule }
 }
 
-/// Why an actor may not clog a target: the first three rules. Takes no memory.
+/// Why an actor may not clog a target: the first three rules. The map is the one that both books
+/// were made of. Takes no memory.
 pub fn judge_clog(
     dead: &DeadBook,
     book: &Book,
@@ -139,16 +148,30 @@ pub fn judge_clog(
     target: &Target,
 ) -> Option<Rule>
     requires map { map.now ≡ dead.now.processes }
+    requires book { book.now.processes ≡ dead.now.processes }
     ensures { result
         ≡ bar (situation_of dead.now book.now actor) Clogging
         (targets dead.now.processes (sets.contains dead.now.left) target.now) }
 {
-    let targets = dead.targets(map, target);
-    let case = Case {
-        dead,
-        map,
-        book,
-        actor,
-    };
-    case.leave_bar(KindSet::of_clog(), &targets)
+    judge_clog_at(dead, book, actor, target, &dead.targets(map, target))
+}
+
+/// What [`judge_clog`] answers of a target whose processes were found before, for whoever goes on
+/// to clog them. Takes no memory.
+pub fn judge_clog_at(
+    dead: &DeadBook,
+    book: &Book,
+    actor: u32,
+    target: &Target,
+    found: &ProcSet,
+) -> Option<Rule>
+    requires book { book.now.processes ≡ dead.now.processes }
+    requires found { (p : ℕ) → sets.contains found.now p
+        ≡ targets dead.now.processes (sets.contains dead.now.left) target.now p }
+    ensures { result
+        ≡ bar (situation_of dead.now book.now actor) Clogging
+        (targets dead.now.processes (sets.contains dead.now.left) target.now) }
+{
+    let case = Case { dead, book, actor };
+    case.leave_bar(KindSet::of_clog(), found)
 }

@@ -108,13 +108,15 @@ impl Disk {
         self.unsynced_items().len()
     }
 
-    fn synced_items(&self) -> &[Item]
+    /// The items that are synced, in order of writing.
+    pub fn synced_items(&self) -> &[Item]
         ensures { result.now ≡ self.now.synced }
     {
         &self.items[..self.synced]
     }
 
-    fn unsynced_items(&self) -> &[Item]
+    /// The items that aren't synced yet, in order of writing.
+    pub fn unsynced_items(&self) -> &[Item]
         ensures { result.now ≡ self.now.unsynced }
     {
         &self.items[self.synced..]

@@ -7,14 +7,14 @@ use fy_policy::read_policy;
 use std::test::Fail;
 
 #[test]
-fn one_of_two_is_destroyed_and_healed(rt: HostRuntime) -> Result<(), Fail> {
+fn an_order_on_one_of_two_empties_it(rt: HostRuntime) -> Result<(), Fail> {
     let alloc = rt.alloc();
     let mut map = Map::make(alloc);
-    let p0 = map.add("p0", "m0", "z0", None, None)?;
+    let _ = map.add("p0", "m0", "z0", None, None)?;
     let _ = map.add("p1", "m1", "z1", None, None)?;
     let policies = vec![in alloc; read_policy(alloc, "Across(2,zoneid,One())")?]?;
-    let mut dead = DeadBook::make(alloc, &map, &policies)?;
-    let mut book = Book::make(alloc, 1, 2)?;
+    let dead = DeadBook::make(alloc, &map, &policies)?;
+    let mut book = Book::make(alloc, 1, &map)?;
     let (kinds, scope) = (KindSet::all(), Scope::All);
     book.give(Grant {
         actor: 0,
@@ -27,7 +27,19 @@ fn one_of_two_is_destroyed_and_healed(rt: HostRuntime) -> Result<(), Fail> {
     assert_eq!(rt; verdict.struck, Some(Kind::RebootAndDelete));
     assert_eq!(rt; verdict.rule, Some(Rule::TooFewLeft { policy: 0 }));
     assert_eq!(rt; judge_clog(&dead, &book, &map, 0, &order.target()), None);
-    let targets = dead.targets(&map, &order.target());
+    Ok(())
+}
+
+#[test]
+fn one_of_two_is_destroyed_and_healed(rt: HostRuntime) -> Result<(), Fail> {
+    let alloc = rt.alloc();
+    let mut map = Map::make(alloc);
+    let p0 = map.add("p0", "m0", "z0", None, None)?;
+    let _ = map.add("p1", "m1", "z1", None, None)?;
+    let policies = vec![in alloc; read_policy(alloc, "Across(2,zoneid,One())")?]?;
+    let mut dead = DeadBook::make(alloc, &map, &policies)?;
+    let (key, value) = (Key::Process, Name::make("p0")?);
+    let targets = dead.targets(&map, &Target { key, value });
     assert!(rt; dead.may_destroy(&targets, Loss::Emptied));
     dead.strike(&targets, Loss::Emptied);
     assert!(rt; dead.destroyed().contains(p0) && dead.left().contains(p0));

@@ -21,6 +21,8 @@ mod decide;
 #[cfg(test)]
 mod disk;
 #[cfg(test)]
+mod disks;
+#[cfg(test)]
 mod grants;
 #[cfg(test)]
 mod journal;
@@ -32,6 +34,8 @@ mod lines;
 mod locality;
 #[cfg(test)]
 mod net;
+#[cfg(test)]
+mod picture;
 #[cfg(test)]
 mod policy;
 #[cfg(test)]

@@ -6,9 +6,8 @@ use std::test::Fail;
 #[test]
 fn a_command_is_read_and_an_entry_written(rt: HostRuntime) -> Result<(), Fail> {
     let alloc = rt.alloc();
-    let mut room = Vec::new(alloc);
     let line = b"{\"by\":7,\"act\":{\"tick\":{\"ticks\":1}}}";
-    let command = read_command(alloc, line, &mut room)?;
+    let command = read_command(alloc, line)?;
     let entry = Entry {
         at: 0,
         by: 7,
@@ -19,6 +18,7 @@ fn a_command_is_read_and_an_entry_written(rt: HostRuntime) -> Result<(), Fail> {
     let text = entry_text(alloc, &entry)?;
     let wanted = "{\"act\":{\"tick\":{\"ticks\":1}},\"at\":0,\"by\":7,\"reply\":{\"time\":1}}";
     assert_eq!(rt; text.as_str(), wanted);
+    let mut room = Vec::new(alloc);
     assert!(rt; read_entry(alloc, text.as_bytes(), &mut room)? == entry);
     Ok(())
 }

@@ -1,3 +1,4 @@
+pub mod Covered
 pub mod Covering
 pub mod Lawful
 pub mod Lists

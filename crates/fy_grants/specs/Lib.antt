@@ -1,4 +1,5 @@
 pub mod Changes
+pub mod Covers
 pub mod Least
 pub mod Rights
 pub use Rattle.fy_kinds.specs.Kinds

@@ -12,8 +12,9 @@ use Rattle.fy_grants.specs.declared.book.BookFault.{BookFault}
 use Rattle.fy_grants.specs.declared.book.BookFault.TheVariants.{NoActor, NoSuch, Full}
 use Rattle.fy_grants.specs.declared.book.TheConstants.{MOST_GRANTS}
 
--- the grants of each actor in order, and what each process is protected from
+-- the processes, the grants of each actor in order, and what each process is protected from
 pub record Rights : Type 0 where
+  pub processes : List Locality
   pub grants : List (List Grant)
   pub protections : List KindSet
 
@@ -29,11 +30,12 @@ protections_of rights p = slice_index_or rights.protections p no_deed
 abbrev pub grant_count : Rights → ℕ
 grant_count rights = sum_by length rights.grants
 
--- no grants of so many actors, and no protections of so many processes
-abbrev pub no_rights : ℕ → ℕ → Rights
+-- no grants of so many actors, and no protections of these processes
+abbrev pub no_rights : ℕ → List Locality → Rights
 no_rights actors processes = record {
+  processes = processes;
   grants = replicate actors [];
-  protections = replicate processes no_deed;
+  protections = replicate (length processes) no_deed;
 }
 
 -- ---- who is covered, and who is protected
@@ -67,6 +69,7 @@ give_refusal rights grant =
 -- the grant is put last in its actor's list
 abbrev pub with_grant : Rights → Grant → Rights
 with_grant rights grant = record {
+  processes = rights.processes;
   grants = slice_set rights.grants grant.actor (grants_of rights grant.actor ++ grant ∷ []);
   protections = rights.protections;
 }
@@ -80,6 +83,7 @@ take_refusal rights actor index =
 -- the actor's list closes up
 abbrev pub without_grant : Rights → ℕ → ℕ → Rights
 without_grant rights actor index = record {
+  processes = rights.processes;
   grants = slice_set rights.grants actor (remove (grants_of rights actor) index);
   protections = rights.protections;
 }
@@ -87,6 +91,7 @@ without_grant rights actor index = record {
 -- a process is protected from other deeds than before
 abbrev pub with_protection : Rights → ℕ → KindSet → Rights
 with_protection rights p kinds = record {
+  processes = rights.processes;
   grants = rights.grants;
   protections = slice_set rights.protections p kinds;
 }

@@ -1,12 +1,14 @@
 //! The book of grants and protections.
-ghost use Rattle.std.specs.Prelude.{◌≡◌, ◌<◌, not, length, [], map, replicate, Some, None, IfOk, IfErr, IsOk, OnOk, OnErr};
+ghost use Rattle.std.specs.Prelude.{◌≡◌, ◌<◌, ◌&&◌, not, ℕ, length, [], map, replicate, Some, None, IfOk, IfErr, IsOk, OnOk, OnErr};
 ghost use Rattle.std.specs.FinSet as sets;
 ghost use Rattle.fy_kinds.specs.Kinds.{with_all, without_all, no_deed};
+ghost use Rattle.fy_grants.specs.Covers.{bare};
 ghost use Rattle.fy_grants.specs.Least.{LeastWith};
 ghost use Rattle.fy_grants.specs.Rights.{grants_of, protections_of, no_rights, is_covered, is_protected, give_refusal, with_grant, take_refusal, without_grant, with_protection};
 ghost use Rattle.fy_grants.specs.declared.book.BookFault.TheVariants.{NoMemory};
 
 use crate::Grant;
+use crate::cover::Cover;
 use crate::grant::push_last;
 use crate::scopes::{least_protected, left_uncovered};
 use fy_kinds::KindSet;
@@ -18,10 +20,14 @@ use std::marker::Model;
 pub const MOST_GRANTS: usize = 4096;
 
 /// The grants of each actor in the order in which they were given, at most [`MOST_GRANTS`] in all,
-/// and for each process the kinds from which it is protected.
+/// and for each process the kinds from which it is protected. The processes are those of a map, of
+/// which it has a copy. Beside the grants of each actor stands whom they cover, so that nobody looks
+/// through grants for it.
 pub struct Book {
+    processes: Map,
     grants: Vec<Vec<Grant>>,
     given: usize,
+    covers: Vec<Cover>,
     protections: Vec<KindSet>,
 }
 
@@ -32,21 +38,25 @@ impl Model for Book {
     ghost Value = { Rights };
 
     ghost view = { λ b. record {
+      processes = b.processes;
       grants = map (λ own. own.items) b.grants.items;
       protections = b.protections.items;
     } };
 
-    ghost use Rattle.fy_grants.specs.Rights.{IsCounted};
+    ghost use Rattle.fy_grants.specs.Covers.{IsBook};
 
-    ghost invariant = { λ b. IsCounted (map (λ own. own.items) b.grants.items) b.given };
+    ghost invariant = { λ b.
+        IsBook b.processes (map (λ own. own.items) b.grants.items) b.given b.covers.items };
 }
 
 // Written out, so that whoever drops a book makes one call.
 impl Drop for Book {
     fn drop(self) {
         let Book {
+            processes: _,
             grants: _,
             given: _,
+            covers: _,
             protections: _,
         } = self;
     }
@@ -55,17 +65,19 @@ impl Drop for Book {
 impl Book {
     ghost use Rattle.fy_grants.specs.declared.book.BookFault.{BookFault};
 
-    /// A book for so many actors and processes, by number, without grants and protections.
+    /// A book for so many actors and the processes of a map, without grants and protections.
     ///
     /// # Errors
     /// Where there is no memory.
-    pub fn make(alloc: Global, actors: u32, processes: u32) -> Result<Book, AllocError>
-        ensures { IfOk result (λ book. book ≡ no_rights actors processes) }
+    pub fn make(alloc: Global, actors: u32, map: &Map) -> Result<Book, AllocError>
+        ensures { IfOk result (λ book. book ≡ no_rights actors map.now) }
     {
         Ok(Book {
+            processes: map.try_copy(alloc)?,
             grants: no_grants(alloc, actors)?,
             given: 0,
-            protections: no_protections(alloc, processes)?,
+            covers: bare_covers(alloc, actors)?,
+            protections: no_protections(alloc, map.len())?,
         })
     }
 
@@ -104,6 +116,7 @@ impl Book {
             return Err(BookFault::Full);
         }
         push_last(&mut self.grants[actor], grant)?;
+        self.covers[actor].add(&grant, &self.processes);
         self.given += 1;
         Ok(())
     }
@@ -127,6 +140,8 @@ impl Book {
             return Err(BookFault::NoSuch);
         }
         let _ = self.grants[actor].remove(index);
+        // What the others cover isn't known without a look at each of them.
+        self.covers[actor] = Cover::of(&self.grants[actor], &self.processes);
         self.given -= 1;
         Ok(())
     }
@@ -170,12 +185,26 @@ impl Book {
     }
 
     /// The least process of a set that no grant of the actor with all these kinds covers. An actor
-    /// that isn't there has no grants.
-    pub fn uncovered(&self, actor: u32, kinds: KindSet, map: &Map, set: &ProcSet) -> Option<ProcId>
+    /// that isn't there has no grants. Of one kind no grant is looked at.
+    pub fn uncovered(&self, actor: u32, kinds: KindSet, set: &ProcSet) -> Option<ProcId>
         ensures { LeastWith (sets.contains set.now)
-            (λ q. not (is_covered map.now (grants_of self.now actor) kinds q)) result }
+            (λ q. not (is_covered self.now.processes (grants_of self.now actor) kinds q)) result }
     {
-        left_uncovered(self.grants(actor), kinds, map, set).least()
+        self.left_open(actor, kinds, set).least()
+    }
+
+    /// Those of a set that no grant of the actor with all these kinds covers.
+    fn left_open(&self, actor: u32, kinds: KindSet, set: &ProcSet) -> ProcSet
+        ensures { (q : ℕ) → sets.contains result q ≡ (sets.contains set.now q
+            && not (is_covered self.now.processes (grants_of self.now actor) kinds q)) }
+    {
+        let Some(cover) = self.covers.get(actor as usize) else {
+            return *set;
+        };
+        match cover.left_open(kinds, set) {
+            Some(open) => open,
+            None => left_uncovered(self.grants(actor), kinds, &self.processes, set),
+        }
     }
 
     /// The least process of a set that is protected from some of these kinds. A process that isn't
@@ -219,6 +248,17 @@ fn no_grants(alloc: Global, actors: u32) -> Result<Vec<Vec<Grant>>, AllocError>
         lists.push(Vec::new(alloc))?;
     }
     Ok(lists)
+}
+
+/// As many covers of no grants as there are actors.
+fn bare_covers(alloc: Global, actors: u32) -> Result<Vec<Cover>, AllocError>
+    ensures { IfOk result (λ covers. covers.items ≡ replicate actors bare) }
+{
+    let mut covers = Vec::new(alloc);
+    for _actor in 0..actors {
+        covers.push(Cover::bare())?;
+    }
+    Ok(covers)
 }
 
 /// As many empty sets of kinds as there are processes.

@@ -1,5 +1,6 @@
 //! Laws of what a book holds after a change and of the least process, for the crates above.
-ghost use Rattle.std.specs.Prelude.{◌≡◌, ℕ, length};
+ghost use Rattle.std.specs.Prelude.{◌≡◌, ℕ, List, length};
+ghost use Rattle.fy_locality.specs.declared.locality.Locality.{Locality};
 ghost use Rattle.fy_kinds.specs.declared.kind_set.KindSet.{KindSet};
 ghost use Rattle.fy_grants.specs.declared.grant.Grant.{Grant};
 ghost use Rattle.fy_grants.specs.Rights.{Rights, grant_count, no_rights, with_grant, without_grant, with_protection};
@@ -21,7 +22,8 @@ pub fn grants_after_take()
 
 /// There is no grant at first, and a grant that is given is one more.
 pub fn grants_are_counted()
-    ensures none { (actors processes : ℕ) → grant_count (no_rights actors processes) ≡ 0 }
+    ensures none { (actors : ℕ) (processes : List Locality)
+        → grant_count (no_rights actors processes) ≡ 0 }
     ensures given { GivenIsCounted }
 {}
 

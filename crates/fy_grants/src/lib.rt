@@ -2,6 +2,7 @@
 #![tactic(auto)]
 
 mod book;
+mod cover;
 mod grant;
 pub mod laws;
 mod scopes;

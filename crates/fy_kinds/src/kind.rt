@@ -16,11 +16,19 @@ pub enum Kind {
 }
 
 /// Every kind, from the mildest.
-const KINDS: [Kind; 4] = [
+pub const KINDS: [Kind; 4] = [
     Kind::RebootProcess,
     Kind::Reboot,
     Kind::RebootAndDelete,
     Kind::KillInstantly,
+];
+
+/// Every kind, from the hardest.
+pub const HARDEST_FIRST: [Kind; 4] = [
+    Kind::KillInstantly,
+    Kind::RebootAndDelete,
+    Kind::Reboot,
+    Kind::RebootProcess,
 ];
 
 impl Kind {

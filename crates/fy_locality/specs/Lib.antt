@@ -1,3 +1,4 @@
+pub mod Chain
 pub mod Indexed
 pub mod Key
 pub mod Locality

@@ -6,7 +6,7 @@ use Rattle.std.specs.FinSet as set
 use Rattle.std.proofs.Common.{zero, suc, cond, eqb, get_or}
 use Rattle.fy_locality.specs.declared.ProcId.{ProcId}
 use Rattle.fy_locality.specs.declared.TheConstants.{MOST_PROCESSES}
-use Rattle.fy_locality.specs.declared.process_set.TheConstants.{WORDS}
+use Rattle.fy_locality.specs.declared.process_set.TheConstants.{SET_WORDS}
 
 -- bit k of the words
 abbrev pub has_bit : List ℕ → ℕ → Bool
@@ -40,7 +40,7 @@ AreSmall s = (q : ℕ) → set.contains s q ≡ true → q < MOST_PROCESSES
 
 -- words of 64 bits with a bit for each process
 pub record AreWords (ws : List ℕ) : Type 0 where
-  pub count : length ws ≡ WORDS
+  pub count : length ws ≡ SET_WORDS
   pub fit : (k : ℕ) → get_or ws k 0 < 2 ^ 64
 
 -- the n bits from base on, the first one lowest
@@ -55,4 +55,4 @@ words_from f k (suc n) = word f (k * 64) 64 ∷ words_from f (suc k) n
 
 -- the words of a set
 unfoldable pub words_of : set.FinSet nat_cmp → List ℕ
-words_of s = words_from (set.contains s) 0 WORDS
+words_of s = words_from (set.contains s) 0 SET_WORDS

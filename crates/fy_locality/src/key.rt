@@ -1,6 +1,6 @@
 //! The five things by which processes are told apart.
-ghost use Rattle.std.specs.Prelude.{◌≡◌, ◌≢◌, MatchOption};
-ghost use Rattle.fy_locality.specs.Key.{key_text};
+ghost use Rattle.std.specs.Prelude.{◌≡◌};
+ghost use Rattle.fy_locality.specs.Key.{key_text, key_named};
 
 /// One part of a locality.
 #[derive(Clone, Copy, PartialEq, Eq, Debug)]
@@ -12,9 +12,16 @@ pub enum Key {
     DataCenter,
 }
 
-impl Key {
-    ghost use Rattle.fy_locality.specs.declared.key.Key.{Key};
+/// Every key.
+const KEYS: [Key; 5] = [
+    Key::Process,
+    Key::Machine,
+    Key::Zone,
+    Key::DataHall,
+    Key::DataCenter,
+];
 
+impl Key {
     /// The key as every text of the product writes it: `processid`, `machineid`, `zoneid`,
     /// `data_hall`, `dcid`.
     pub fn text(self) -> &'static str
@@ -29,19 +36,10 @@ impl Key {
         }
     }
 
-    /// The key whose text a word is; none for any other word.
-    pub fn named(word: &str) -> Option<Key>
-        ensures { MatchOption result
-            ((key : Key) → key_text key ≢ word.now)
-            (λ key. key_text key ≡ word.now) }
+    /// The key that is written so, if one is.
+    pub fn named(text: &str) -> Option<Key>
+        ensures { result ≡ key_named text.now }
     {
-        match word {
-            "processid" => Some(Key::Process),
-            "machineid" => Some(Key::Machine),
-            "zoneid" => Some(Key::Zone),
-            "data_hall" => Some(Key::DataHall),
-            "dcid" => Some(Key::DataCenter),
-            _ => None,
-        }
+        KEYS.iter().copied().find(|key| key.text() == text)
     }
 }

@@ -13,7 +13,7 @@ pub use key::Key;
 pub use locality::Locality;
 pub use map::{Map, MapFault};
 pub use name::{BadName, Name};
-pub use process_set::ProcSet;
+pub use process_set::{ProcSet, SET_WORDS};
 pub use processes::Processes;
 
 /// The most processes that a map has. Their numbers are below it, and so is each member of a set of

@@ -2,18 +2,18 @@
 ghost use Rattle.std.specs.Prelude.{◌≡◌, ◌↔◌, ◌<◌, ◌≤◌, ℕ, true, false, IsTrue, IfSome, IfNone};
 ghost use Rattle.std.specs.Ordering.{nat_cmp};
 ghost use Rattle.std.specs.FinSet as sets;
-ghost use Rattle.fy_locality.specs.Members.{IsLeast, AreSmall};
+ghost use Rattle.fy_locality.specs.Members.{IsLeast, AreSmall, members};
 
 use crate::{MOST_PROCESSES, ProcId, Processes};
 use std::marker::Model;
 
 /// How many words of 64 bits have a bit for each process.
-const WORDS: usize = MOST_PROCESSES as usize / 64;
+pub const SET_WORDS: usize = MOST_PROCESSES as usize / 64;
 
 /// A set of processes, each below 1024. It takes no memory and is `Copy`.
 #[derive(Clone, Copy)]
 pub struct ProcSet {
-    words: [u64; WORDS],
+    words: [u64; SET_WORDS],
 }
 
 impl Model for ProcSet {
@@ -42,7 +42,9 @@ impl ProcSet {
     pub fn empty() -> Self
         ensures { result ≡ sets.empty }
     {
-        ProcSet { words: [0; WORDS] }
+        ProcSet {
+            words: [0; SET_WORDS],
+        }
     }
 
     /// Puts a process in.
@@ -77,6 +79,13 @@ impl ProcSet {
         p.0 < MOST_PROCESSES && self.has(p)
     }
 
+    /// The set as words of 64 bits: bit p % 64 of word p / 64 is 1 where process p is in it.
+    pub fn words(&self) -> [u64; SET_WORDS]
+        ensures { members result ≡ self.now }
+    {
+        self.words
+    }
+
     /// How many processes are in the set.
     pub fn len(&self) -> u32
         ensures count { result ≡ sets.len self.now }
@@ -105,7 +114,7 @@ impl ProcSet {
         ensures small { IfSome result (λ p. p.0 < MOST_PROCESSES) }
         ensures none { IfNone result (self.now ≡ sets.empty) }
     {
-        for k in 0..WORDS {
+        for k in 0..SET_WORDS {
             let word = self.words[k];
             if word != 0 {
                 return Some(ProcId(k as u32 * 64 + word.trailing_zeros()));
@@ -126,7 +135,7 @@ impl ProcSet {
         ensures { result ≡ sets.union self.now other.now }
     {
         let mut words = self.words;
-        for k in 0..WORDS {
+        for k in 0..SET_WORDS {
             words[k] |= other.words[k];
         }
         ProcSet { words }
@@ -137,7 +146,7 @@ impl ProcSet {
         ensures { result ≡ sets.intersection self.now other.now }
     {
         let mut words = self.words;
-        for k in 0..WORDS {
+        for k in 0..SET_WORDS {
             words[k] &= other.words[k];
         }
         ProcSet { words }
@@ -148,7 +157,7 @@ impl ProcSet {
         ensures { result ≡ sets.difference self.now other.now }
     {
         let mut words = self.words;
-        for k in 0..WORDS {
+        for k in 0..SET_WORDS {
             words[k] &= !other.words[k];
         }
         ProcSet { words }

@@ -1,5 +1,5 @@
 -- the least process of a group, found by going through those with its value
-use Rattle.std.proofs.Common.{inl, inr, ◌≡◌, ◌≢◌, ℕ, ◌<◌, ◌≤◌, Bool, true, false, true≢false, eqb, ◌&&◌, not, List, [], length, Some, refl, sym, ap, ◌∙◌, arith}
+use Rattle.std.proofs.Common.{zero, suc, inl, inr, ◌≡◌, ◌≢◌, ℕ, ◌+◌, ◌<◌, ◌≤◌, Bool, true, false, true≢false, eqb, ◌&&◌, not, List, [], ◌∷◌, ◌++◌, length, slice_index_or, Some, refl, sym, ap, subst, ◌∙◌, arith}
 use Rattle.std.specs.Prelude.{unwrap_or, is_some}
 use Rattle.std.specs.Ordering.{nat_cmp}
 use Rattle.std.specs.FinSet as sets
@@ -13,7 +13,7 @@ use Rattle.fy_locality.specs.declared.locality.Locality.{Locality}
 use Rattle.fy_locality.specs.declared.key.Key.{Key}
 use Rattle.fy_locality.specs.Locality.{has_value, value_of, ArePeers}
 use Rattle.fy_locality.specs.Members.{IsLeast}
-use Rattle.fy_policy.specs.Counted.{IsLeader}
+use Rattle.fy_policy.specs.Counted.{IsLeader, place_in}
 
 module _ (processes : List Locality) (key : Key) (at : ℕ → ℕ) (p : ℕ) where
   -- of those with the value of p, those looked at stand elsewhere
@@ -52,9 +52,17 @@ module _ (processes : List Locality) (key : Key) (at : ℕ → ℕ) (p : ℕ) wh
       still : (x q : ℕ) (b : Bool) → x ≢ q → (not (eqb x q) && b) ≡ false → b ≡ false
       still x q b ne e = grind (arith, nat_tests)
 
+  -- a process that was not looked at yet is one of the map
+  pub looked-inside : ((key : Key) (v : List ℕ) (p : ℕ) → length processes ≤ p → has_value processes key v p ≡ false) → (peers rest : sets.FinSet nat_cmp) (q : ℕ) → ArePeers processes key p peers → Looked rest → IsLeast rest q → q < length processes
+  looked-inside law peers rest q are looked least =
+      below q (λ past. true≢false (sym (looked.those are.value are.had q least.present) ∙ law key are.value q past))
+    where
+      below : (q : ℕ) → (length processes ≤ q → ⊥) → q < length processes
+      below q ne = omega arith
+
   pub found-leader : ((key : Key) (v : List ℕ) (p : ℕ) → length processes ≤ p → has_value processes key v p ≡ false) → (peers rest : sets.FinSet nat_cmp) (q : ℕ) → ArePeers processes key p peers → Looked rest → IsLeast rest q → at q ≡ at p → IsLeader processes key at p q
   found-leader law peers rest q are looked least same = record {
-    fits = below q (λ past. true≢false (sym (looked.those are.value are.had q least.present) ∙ law key are.value q past));
+    fits = looked-inside law peers rest q are looked least;
     alone = λ missing. absurd (true≢false (ap is_some (sym are.had ∙ missing)));
     leads = λ v e. record {
       together = equal (at q) (at p) same;
@@ -63,9 +71,6 @@ module _ (processes : List Locality) (key : Key) (at : ℕ → ℕ) (p : ℕ) wh
     };
   }
     where
-      below : (q : ℕ) → (length processes ≤ q → ⊥) → q < length processes
-      below q ne = omega arith
-
       equal : (a b : ℕ) → a ≡ b → eqb a b ≡ true
       equal a b e = grind (arith, nat_tests)
 
@@ -80,3 +85,22 @@ module _ (processes : List Locality) (key : Key) (at : ℕ → ℕ) (p : ℕ) wh
     where
       itself : (a : ℕ) → eqb a a ≡ true
       itself a = grind (arith, nat_tests)
+
+-- ---- a list with one element more
+last_is : (xs : List ℕ) (x : ℕ) → slice_index_or (xs ++ x ∷ []) (length xs) 0 ≡ x
+last_is [] x = refl
+last_is (y ∷ ys) x = last_is ys x
+
+before_last : (xs : List ℕ) (x q : ℕ) → q < length xs → slice_index_or (xs ++ x ∷ []) q 0 ≡ slice_index_or xs q 0
+before_last [] x q h = absurd (omega arith)
+before_last (y ∷ ys) x zero h = refl
+before_last (y ∷ ys) x (suc q) h = before_last ys x q (omega arith)
+
+pub leader-pushed : (processes : List Locality) (key : Key) (at : ℕ → ℕ) (xs ys : List ℕ) (x n : ℕ) → ys ≡ xs ++ x ∷ [] → length xs ≡ n → ((q : ℕ) → q < n → IsLeader processes key at q (place_in xs q)) → IsLeader processes key at n x → (q : ℕ) → q < n + 1 → IsLeader processes key at q (place_in ys q)
+leader-pushed processes key at xs ys x n is wide before here q small = elim (cases_eq q n) [
+  | inl same ↦ subst (λ k. IsLeader processes key at k (place_in ys k)) (sym same) (subst (IsLeader processes key at n) (sym (ap (λ zs. slice_index_or zs n 0) is ∙ ap (λ k. slice_index_or (xs ++ x ∷ []) k 0) (sym wide) ∙ last_is xs x)) here)
+  | inr other ↦ let low : q < n = less q n small other in subst (IsLeader processes key at q) (sym (ap (λ zs. slice_index_or zs q 0) is ∙ before_last xs x q (subst (λ k. q < k) (sym wide) low))) (before q low)
+]
+  where
+    less : (q n : ℕ) → q < n + 1 → q ≢ n → q < n
+    less q n h ne = omega arith

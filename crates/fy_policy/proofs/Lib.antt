@@ -6,6 +6,7 @@ pub mod Numerals
 pub mod Planting
 pub mod Readings
 pub mod SatLaws
+pub mod Sent
 pub mod Shapes
 pub mod Standing
 pub mod Tallied

@@ -1,5 +1,5 @@
 -- counted trees for nobody
-use Rattle.std.proofs.Common.{◌≡◌, ℕ, ◌+◌, ◌<◌, ◌≤◌, Bool, true, false, true≢false, eqb, ltb, leb, filter, ◌&&◌, List, [], ◌∷◌, ◌++◌, Vec, Global, Box, length, take, get_or, slice_index_or, Option, Some, None, refl, sym, ap, subst, ◌∙◌, arith}
+use Rattle.std.proofs.Common.{◌≡◌, ℕ, ◌+◌, ◌<◌, ◌≤◌, Bool, true, false, true≢false, eqb, ltb, leb, filter, ◌&&◌, List, [], ◌∷◌, ◌++◌, Vec, Global, Box, length, take, get_or, slice_index_or, Option, Some, None, MatchOption, refl, sym, ap, subst, ◌∙◌, arith}
 use Rattle.std.specs.List.{list_all}
 use Rattle.std.specs.Option.{option_eq}
 use Rattle.std.specs.Str.{bytes_eq}
@@ -14,7 +14,7 @@ use Rattle.fy_policy.specs.declared.shape.Shape.{Shape, And}
 use Rattle.fy_policy.specs.Shape.{tree_of}
 use Rattle.fy_policy.specs.Sat.{group, satisfies}
 use Rattle.fy_policy.specs.Tree.{Tree, one, across, every, IsWellFormed}
-use Rattle.fy_policy.specs.Counted.{tree_of_node, place_in, IsParted, IsLeader, IsLeaderOf, IsRight, IsPlanted}
+use Rattle.fy_policy.specs.Counted.{tree_of_node, place_in, IsParted, IsLeader, IsLeaderOf, IsRight, IsPlanted, HasGroups}
 use Rattle.fy_policy.proofs.Counts.{count-none}
 use Rattle.fy_policy.proofs.Tests.{satisfies-none}
 use Rattle.fy_policy.proofs.Shapes.{satisfies-And, parts_from, tree_of-And}
@@ -30,6 +30,7 @@ unfolding IsRight
 one-planted processes at counts wide zeros = record {
   same = λ s. refl;
   counted = tt;
+  groups = wide;
   right = record {
     wide = wide;
     each = λ g h. zeros g ∙ sym (number-none _ (length processes) (λ p below. nobody-within (ltb p (length processes)) (eqb (at p) g)));
@@ -117,12 +118,13 @@ leaders-part processes key at below leaders = record {
             let none : (eqb (at q) (at p) && has_value processes key v q) ≡ false = ap (λ b. b && has_value processes key v q) differ in
             apart hp hq (λ h. true≢false (sym h ∙ none)) ∙ sym none
 
-pub across-planted : (processes : List Locality) (at : ℕ → ℕ) (n : ℕ) (key : Key) (tree : Tree) (places counts : Vec ℕ Global) (inner : Box Node Global) → (1 ≤ n) × (n ≤ 1024) → ((p : ℕ) → p < length processes → IsLeader processes key at p (place_in places.items p))
+pub across-planted : (processes : List Locality) (at : ℕ → ℕ) (n : ℕ) (key : Key) (tree : Tree) (places counts : Vec ℕ Global) (inner : Box Node Global) → (1 ≤ n) × (n ≤ 1024) → length places.items ≡ length processes → ((p : ℕ) → p < length processes → IsLeader processes key at p (place_in places.items p))
     → IsPlanted processes (place_in places.items) tree inner.value → length counts.items ≡ length processes + 1 → ((i : ℕ) → slice_index_or counts.items i 0 ≡ 0) → IsPlanted processes at (across n key tree) (Across n key places counts inner)
 unfolding IsRight satisfies
-across-planted processes at n key tree places counts inner fit leaders below wide zeros = record {
+across-planted processes at n key tree places counts inner fit long leaders below wide zeros = record {
   same = λ s. λ i. leb n (length (filter (λ v. below.same (group processes key v s) i) (values_of processes key)));
   counted = (fit.0, fit.1, below.counted);
+  groups = (wide, record { wide = long; fits = λ p small. low _ _ (leaders p small).fits }, below.groups);
   right = (
     record {
       wide = wide;
@@ -134,6 +136,9 @@ across-planted processes at n key tree places counts inner fit leaders below wid
   );
 }
   where
+    low : (a b : ℕ) → a < b → a ≤ b
+    low a b h = omega arith
+
     off : (b c : Bool) → c ≡ false → (c && b) ≡ false
     off b c e = ap (λ d. d && b) e
 
@@ -142,6 +147,7 @@ across-planted processes at n key tree places counts inner fit leaders below wid
 pub record AreJoined (processes : List Locality) (at : ℕ → ℕ) (items : List Shape) (k : ℕ) (node : Node) : Type 0 where
   pub same : (s : ℕ → Bool) → satisfies processes (tree_of_node node) s ≡ list_all (λ q. satisfies processes (tree_of q) s) (take k items)
   pub counted : IsWellFormed (tree_of_node node)
+  pub groups : HasGroups (length processes) node
   pub right : IsRight processes at (λ _. false) node
 
 all-pushed : (f : Shape → Bool) (xs : List Shape) (x : Shape) → list_all f (xs ++ x ∷ []) ≡ (list_all f xs && (f x && true))
@@ -163,6 +169,7 @@ module _ (processes : List Locality) (at : ℕ → ℕ) (items : List Shape) (k 
   joined-first none = record {
     same = λ s. planted.same s ∙ sym (more s ∙ ap (λ j. list_all (λ q. satisfies processes (tree_of q) s) (take j items) && (satisfies processes (tree_of x) s && true)) none ∙ alone _);
     counted = planted.counted;
+    groups = planted.groups;
     right = planted.right;
   }
     where
@@ -175,17 +182,19 @@ module _ (processes : List Locality) (at : ℕ → ℕ) (items : List Shape) (k 
   joined-next first second before e = record {
     same = λ s. (λ i. before.same s i && ((ap (λ n. satisfies processes (tree_of_node n) s) e ∙ planted.same s) i && true)) ∙ sym (more s);
     counted = (tt, (before.counted, (subst (λ n. IsWellFormed (tree_of_node n)) (sym e) planted.counted, tt)));
+    groups = (before.groups, subst (HasGroups (length processes)) (sym e) planted.groups);
     right = (before.right, subst (IsRight processes at (λ _. false)) (sym e) planted.right);
   }
 
-pub joined-all : (processes : List Locality) (at : ℕ → ℕ) (shape : Shape) (parts : Vec Shape Global) (items : List Shape) (k : ℕ) (node : Node) → shape ≡ And parts → items ≡ parts.items → length items ≤ k → AreJoined processes at items k node → IsPlanted processes at (tree_of shape) node
+joined-all : (processes : List Locality) (at : ℕ → ℕ) (shape : Shape) (parts : Vec Shape Global) (items : List Shape) (k : ℕ) (node : Node) → shape ≡ And parts → items ≡ parts.items → length items ≤ k → AreJoined processes at items k node → IsPlanted processes at (tree_of shape) node
 joined-all processes at shape parts items k node is same past joined = record {
   same = λ s. joined.same s ∙ ap (list_all (λ q. satisfies processes (tree_of q) s)) (take_all k items past ∙ same) ∙ sym (ap (λ q. satisfies processes (tree_of q) s) is ∙ satisfies-And processes s parts);
   counted = joined.counted;
+  groups = joined.groups;
   right = joined.right;
 }
 
-pub no_parts : (shape : Shape) (parts : Vec Shape Global) (items : List Shape) (k : ℕ) → shape ≡ And parts → items ≡ parts.items → length items ≤ k → k ≡ 0 → IsWellFormed (tree_of shape) → ⊥
+no_parts : (shape : Shape) (parts : Vec Shape Global) (items : List Shape) (k : ℕ) → shape ≡ And parts → items ≡ parts.items → length items ≤ k → k ≡ 0 → IsWellFormed (tree_of shape) → ⊥
 no_parts shape parts items k is same past none counted = go parts.items refl (low _ _ _ (ap length same) past none)
   where
     low : (a b k : ℕ) → a ≡ b → a ≤ k → k ≡ 0 → b ≡ 0
@@ -194,3 +203,8 @@ no_parts shape parts items k is same past none counted = go parts.items refl (lo
     go : (qs : List Shape) → parts.items ≡ qs → length parts.items ≡ 0 → ⊥
     go [] e h = let c : IsWellFormed (every (parts_from [])) = subst (λ q. IsWellFormed q) (ap tree_of is ∙ tree_of-And parts ∙ ap (λ qs. every (parts_from qs)) e) counted in c.0
     go (q ∷ qs) e h = let l : length (q ∷ qs) ≡ 0 = ap length (sym e) ∙ h in absurd (omega arith)
+
+-- where each And has a part, the parts joined are the policy
+pub planted-all : (processes : List Locality) (at : ℕ → ℕ) (shape : Shape) (parts : Vec Shape Global) (items : List Shape) (k : ℕ) → shape ≡ And parts → items ≡ parts.items → length items ≤ k → IsWellFormed (tree_of shape) → (found : Option Node) → MatchOption found (k ≡ 0) (AreJoined processes at items k) → MatchOption found ⊥ (IsPlanted processes at (tree_of shape))
+planted-all processes at shape parts items k is same past counted None none = no_parts shape parts items k is same past none counted
+planted-all processes at shape parts items k is same past counted (Some node) joined = joined-all processes at shape parts items k node is same past joined

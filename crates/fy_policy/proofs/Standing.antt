@@ -15,7 +15,7 @@ use Rattle.fy_locality.specs.Locality.{has_value, value_of, value_in, values_of,
 use Rattle.fy_policy.specs.declared.node.Node.{Node, One, Across, Both, Across', Both'}
 use Rattle.fy_policy.specs.Sat.{group, satisfies, all_satisfy}
 use Rattle.fy_policy.specs.Tree.{Tree, one, across, every, Parts, none, part, IsWellFormed}
-use Rattle.fy_policy.specs.Counted.{tree_of_node, number_of, passing, within, turned, turned_by, place_in, AreCounts, IsRecounted, IsRight, IsPlanted, IsTallied, CanTurn}
+use Rattle.fy_policy.specs.Counted.{tree_of_node, number_of, passing, within, turned, turned_by, place_in, AreCounts, IsRecounted, IsRight, IsPlanted, IsTallied, CanTurn, HasGroups}
 use Rattle.std.specs.Ordering.{nat_cmp}
 use Rattle.std.specs.FinSet as sets
 use Rattle.std.specs.Cmp.{nat_cmp_total, unsigned_tied}
@@ -299,6 +299,7 @@ tallied-first processes m policy p tree all set places node map_is policy_is tre
       few = few;
       everyone = whole;
       same = planted.same;
+      groups = planted.groups;
       right =
           subst (λ s. IsRight processes (λ _. 0) s node) (λ i q. nobody q i)
           (subst (λ at. IsRight processes at (λ _. false) node) (λ i q. zeros q i) planted.right);
@@ -344,12 +345,13 @@ turned-dropped set p x = drop (eqb x p) (sets.contains set x) ∙ sym (sets.cont
     drop false b = refl
 
 -- the set after a process came or went, with its counts
-pub tallied-turned : (processes : List Locality) (all : sets.FinSet nat_cmp) (policy : Tree) (set set' : sets.FinSet nat_cmp) (node node' : Node) (p : ℕ) (comes : Bool) → IsTallied processes all policy set node → tree_of_node node' ≡ tree_of_node node → IsRight processes (λ _. 0) (turned (sets.contains set) p comes) node'
+pub tallied-turned : (processes : List Locality) (all : sets.FinSet nat_cmp) (policy : Tree) (set set' : sets.FinSet nat_cmp) (node node' : Node) (p : ℕ) (comes : Bool) → IsTallied processes all policy set node → HasGroups (length processes) node' → tree_of_node node' ≡ tree_of_node node → IsRight processes (λ _. 0) (turned (sets.contains set) p comes) node'
     → ((x : ℕ) → turned (sets.contains set) p comes x ≡ sets.contains set' x) → IsTallied processes all policy set' node'
-tallied-turned processes all policy set set' node node' p comes was same right is = record {
+tallied-turned processes all policy set set' node node' p comes was groups same right is = record {
   few = was.few;
   everyone = was.everyone;
   same = λ s. ap (λ t. satisfies processes t s) same ∙ was.same s;
+  groups = groups;
   right = right-alike processes (λ _. 0) (turned (sets.contains set) p comes) (sets.contains set') (λ x _. is x) node' right;
 }
 
@@ -360,6 +362,7 @@ tallied-kept processes all policy set set' node p comes was is there = record {
   few = was.few;
   everyone = was.everyone;
   same = was.same;
+  groups = was.groups;
   right = right-alike processes (λ _. 0) (sets.contains set) (sets.contains set') (λ x small. elim (cases_eq x p) [ inl here ↦ kept x p comes (sets.contains set x) here (ap (sets.contains set) here ∙ there (moved x p _ here small)) ∙ is x | inr other ↦ left x p comes (sets.contains set x) other ∙ is x ]) node was.right;
 }
   where

@@ -15,7 +15,7 @@ use Rattle.fy_locality.specs.Locality.{has_value, value_of}
 use Rattle.fy_policy.specs.declared.node.Node.{Node, One, Across, Both}
 use Rattle.fy_policy.specs.Sat.{group, satisfies}
 use Rattle.fy_policy.specs.Tree.{Tree, one, IsWellFormed}
-use Rattle.fy_policy.specs.Counted.{tree_of_node, number_of, passing, within, turned, turned_by, place_in, CanTurn, IsRight}
+use Rattle.fy_policy.specs.Counted.{tree_of_node, number_of, passing, within, turned, turned_by, place_in, CanTurn, IsRight, IsRightAt}
 use Rattle.fy_policy.proofs.Tallied.{one-number, number-turned, passing-turned, passing-keyless'}
 use Rattle.fy_policy.proofs.Tests.{ValuesDiffer, ValuesOccur}
 use Rattle.fy_policy.proofs.Standing.{regroup, passing-le, met-both, within-apart, its-own, now-is}
@@ -412,7 +412,7 @@ module _ (processes : List Locality) (at : ℕ → ℕ) (s : ℕ → Bool) (g : 
 
     pub across-next : ValuesDiffer → ValuesOccur → (below : ℕ) → below ≡ place_in places.items p
         → (a : Node) → a ≡ inner.value → (was : Bool) → ((processes : List Locality) (at : ℕ → ℕ) (s : ℕ → Bool) → IsRight processes at s a → below ≤ length processes → was ≡ satisfies processes (tree_of_node a) (within processes at below s))
-        → (b : Node) → b ≡ inner.value → (now : Bool) → ((at : ℕ → ℕ) (s : ℕ → Bool) → length processes ≤ 1024 → IsRight processes at s b → below ≤ length processes → CanTurn processes at below s (sets.contains part) comes
+        → (b : Node) → b ≡ inner.value → (now : Bool) → ((at : ℕ → ℕ) (s : ℕ → Bool) → IsRightAt processes at s below b → CanTurn processes at below s (sets.contains part) comes
         → now ≡ satisfies processes (tree_of_node b) (within processes at below (turned_by s (sets.contains part) comes)))
         → (count' : ℕ) → (count < 2147483648 → cond was 1 0 ≤ count + cond now 1 0 → count' + cond was 1 0 ≡ count + cond now 1 0)
         → Halfway processes at g s key (tree_of_node inner.value) (sets.contains those) comes (sets.contains rest') count'
@@ -422,7 +422,7 @@ module _ (processes : List Locality) (at : ℕ → ℕ) (s : ℕ → Bool) (g : 
         (reads processes (place_in places.items) s (subst (IsRight processes (place_in places.items) s) (sym a-is) inner-right) low
         ∙ (λ i. satisfies processes (tree_of_node (a-is i)) (within processes (place_in places.items) (place i) s))
         ∙ ap (satisfies processes (tree_of_node inner.value)) (sym (its-group s)))
-        (asks (place_in places.items) s few (subst (IsRight processes (place_in places.items) s) (sym b-is) inner-right) low (subst (λ k. CanTurn processes (place_in places.items) k s (sets.contains part) comes) (sym place) below-can)
+        (asks (place_in places.items) s (record { few = few; right = subst (IsRight processes (place_in places.items) s) (sym b-is) inner-right; inside = low }) (subst (λ k. CanTurn processes (place_in places.items) k s (sets.contains part) comes) (sym place) below-can)
         ∙ (λ i. satisfies processes (tree_of_node (b-is i)) (within processes (place_in places.items) (place i) (turned_by s (sets.contains part) comes)))
         ∙ ap (satisfies processes (tree_of_node inner.value)) (sym (its-group (turned_by s (sets.contains part) comes)))))
       where

@@ -47,9 +47,35 @@ pub record CanTurn
   pub here : (q : ℕ) → those q ≡ true → at q ≡ group
   pub were : (q : ℕ) → those q ≡ true → s q ≡ not comes
 
+-- a process of a group that can come, as it isn't in s, or go, as it is
+pub record CanTurnAlone
+    (processes : List Locality) (at : ℕ → ℕ) (group : ℕ) (s : ℕ → Bool)
+    (p : ℕ) (comes : Bool) : Type 0 where
+  pub known : p < length processes
+  pub here : at p ≡ group
+  pub was : s p ≡ not comes
+
 -- the group of each process, as listed
 abbrev pub place_in : List ℕ → ℕ → ℕ
 place_in places p = slice_index_or places p 0
+
+-- each of so many processes has its group below, whose number runs to theirs
+pub record AreGroupsBelow (count : ℕ) (places : List ℕ) : Type 0 where
+  pub wide : length places ≡ count
+  pub fits : (p : ℕ) → p < count → place_in places p ≤ count
+
+-- each group of so many processes has its count
+abbrev pub HasGroups : ℕ → Node → Type 0
+HasGroups n (One counts) = length counts.items ≡ n + 1
+HasGroups n (Across' wanted key places counts ptr inner) =
+    (length counts.items ≡ n + 1) × AreGroupsBelow n places.items × HasGroups n inner
+HasGroups n (Both' p a q b) = HasGroups n a × HasGroups n b
+
+-- a group is one of those that a tree counts
+pub record HasGroup (group : ℕ) (node : Node) : Type 0 where
+  pub most : ℕ
+  pub groups : HasGroups most node
+  pub inside : group ≤ most
 
 -- a count for each group, of which the numbers run to the number of processes
 pub record AreCounts (processes : List Locality) (counts : List ℕ) (f : ℕ → ℕ) : Type 0
@@ -104,12 +130,21 @@ IsRight processes at s (Across' n key places counts ptr inner) =
     × IsRight processes (place_in places.items) s inner
 IsRight processes at s (Both' p a q b) = IsRight processes at s a × IsRight processes at s b
 
+-- those are the counts, and there may be such a group
+pub record IsRightAt
+    (processes : List Locality) (at : ℕ → ℕ) (s : ℕ → Bool) (group : ℕ) (node : Node) : Type 0
+  where
+    pub few : length processes ≤ MOST_PROCESSES
+    pub right : IsRight processes at s node
+    pub inside : group ≤ length processes
+
 -- the counted tree of a policy, for nobody
 pub record IsPlanted
     (processes : List Locality) (at : ℕ → ℕ) (tree : Tree) (node : Node) : Type 0 where
   pub same : (s : ℕ → Bool)
       → satisfies processes (tree_of_node node) s ≡ satisfies processes tree s
   pub counted : IsWellFormed (tree_of_node node)
+  pub groups : HasGroups (length processes) node
   pub right : IsRight processes at (λ _. false) node
 
 -- what a Tally is seen as: the processes of its map, its policy, and a set
@@ -126,4 +161,5 @@ pub record IsTallied
   pub everyone : (q : ℕ) → sets.contains all q ≡ nat_lt q (length processes)
   pub same : (s : ℕ → Bool)
       → satisfies processes (tree_of_node node) s ≡ satisfies processes policy s
+  pub groups : HasGroups (length processes) node
   pub right : IsRight processes (λ _. 0) (sets.contains set) node

@@ -1,5 +1,6 @@
 //! Whether a shape is within the limits of a policy.
 ghost use Rattle.std.specs.Prelude.{◌≡◌, ◌+◌, ◌≤◌, ◌<◌, ◌↔◌, IsTrue, MatchOption};
+ghost use Rattle.fy_policy.specs.declared.limits.TheConstants.{LEAST_COUNT, MOST_COUNT};
 ghost use Rattle.fy_policy.specs.Shape.{tree_of};
 ghost use Rattle.fy_policy.specs.Tree.{HasFitCounts, depth, nodes};
 
@@ -20,18 +21,20 @@ pub const MOST_TEXT_BYTES: usize = 24 * MOST_NODES as usize;
 /// How many bytes of text are read.
 pub const MOST_READ_BYTES: usize = 4096;
 
-/// Whether each count is within those limits.
+/// Whether a count is within those limits.
+fn is_fit(count: u32) -> bool
+    ensures { IsTrue result ↔ ((LEAST_COUNT ≤ count) × (count ≤ MOST_COUNT)) }
+{
+    LEAST_COUNT <= count && count <= MOST_COUNT
+}
+
+/// Whether each count is.
 pub fn has_fit_counts(shape: &Shape) -> bool
     ensures { IsTrue result ↔ HasFitCounts (tree_of shape.now) }
 {
     match shape {
         Shape::One => true,
-        Shape::Across(count, _, inner) => {
-            if *count < LEAST_COUNT || *count > MOST_COUNT {
-                return false;
-            }
-            has_fit_counts(inner)
-        }
+        Shape::Across(count, _, inner) => is_fit(*count) && has_fit_counts(inner),
         Shape::And(parts) => {
             for part in parts {
                 if !has_fit_counts(part) {

@@ -5,7 +5,7 @@ ghost use Rattle.fy_locality.specs.declared.TheConstants.{MOST_PROCESSES};
 ghost use Rattle.fy_locality.specs.declared.locality.Locality.{Locality};
 ghost use Rattle.fy_locality.specs.Locality.{value_of};
 ghost use Rattle.fy_policy.specs.Sat.{satisfies};
-ghost use Rattle.fy_policy.specs.Counted.{tree_of_node, IsLeader, IsRight, IsRecounted, place_in, within, turned, turned_by, CanTurn};
+ghost use Rattle.fy_policy.specs.Counted.{tree_of_node, IsLeader, IsRight, IsRecounted, place_in, within, turned, turned_by, CanTurn, CanTurnAlone, HasGroup, HasGroups, IsRightAt};
 
 use fy_locality::{Key, Map, ProcId, ProcSet, laws};
 use std::alloc::{AllocError, Global};
@@ -24,14 +24,12 @@ pub(crate) enum Node {
     Both(Box<Node>, Box<Node>),
 }
 
-/// The count of a group; none where there is no such group.
+/// The count of a group, or the group below of a process.
 fn count_at(counts: &[u32], group: u32) -> u32
+    requires { group < length counts.now }
     ensures { result ≡ slice_index_or counts.now group 0 }
 {
-    match counts.get(group as usize) {
-        Some(count) => *count,
-        None => 0,
-    }
+    counts[group as usize]
 }
 
 /// A count after one of those counted was looked at again: it counted before, and it counts after.
@@ -46,16 +44,16 @@ fn recounted(count: u32, before: bool, after: bool) -> u32
 
 /// Counts one again at a group.
 fn recount(counts: &mut [u32], group: u32, before: bool, after: bool)
+    requires { group < length counts.old }
     ensures { IsRecounted counts.old group before after counts.new }
 {
     let i = group as usize;
-    if i < counts.len() {
-        counts[i] = recounted(counts[i], before, after);
-    }
+    counts[i] = recounted(counts[i], before, after);
 }
 
 /// Whether the set satisfies the policy at a group.
 pub(crate) fn met(node: &Node, group: u32) -> bool
+    requires { HasGroup group node.now }
     ensures { (processes : List Locality) (at : ℕ → ℕ) (s : ℕ → Bool)
         → IsRight processes at s node.now → group ≤ length processes
         → result ≡ satisfies processes (tree_of_node node.now) (within processes at group s) }
@@ -69,10 +67,13 @@ pub(crate) fn met(node: &Node, group: u32) -> bool
 
 /// Puts a process of the group into the set, or takes it out.
 pub(crate) fn turn(node: &mut Node, map: &Map, group: u32, p: ProcId, comes: bool)
+    requires groups { HasGroups (length map.now) node.old }
+    requires group { group ≤ length map.now }
+    requires process { p.0 < length map.now }
+    ensures groups { HasGroups (length map.now) node.new }
     ensures tree { tree_of_node node.new ≡ tree_of_node node.old }
-    ensures right { (at : ℕ → ℕ) (s : ℕ → Bool) → length map.now ≤ MOST_PROCESSES
-        → IsRight map.now at s node.old → p.0 < length map.now → at p.0 ≡ group
-        → group ≤ length map.now → s p.0 ≡ not comes
+    ensures right { (at : ℕ → ℕ) (s : ℕ → Bool) → IsRightAt map.now at s group node.old
+        → CanTurnAlone map.now at group s p.0 comes
         → IsRight map.now at (turned s p.0 comes) node.new }
 {
     match node {
@@ -98,8 +99,9 @@ pub(crate) fn turn(node: &mut Node, map: &Map, group: u32, p: ProcId, comes: boo
 /// Whether the set would satisfy the policy at a group after these of its processes came or went.
 /// One process is followed through the nodes alone.
 pub(crate) fn met_after(node: &Node, map: &Map, group: u32, those: &ProcSet, comes: bool) -> bool
-    ensures { (at : ℕ → ℕ) (s : ℕ → Bool) → length map.now ≤ MOST_PROCESSES
-        → IsRight map.now at s node.now → group ≤ length map.now
+    requires groups { HasGroups (length map.now) node.now }
+    requires group { group ≤ length map.now }
+    ensures { (at : ℕ → ℕ) (s : ℕ → Bool) → IsRightAt map.now at s group node.now
         → CanTurn map.now at group s (sets.contains those.now) comes
         → result ≡ satisfies map.now (tree_of_node node.now)
         (within map.now at group (turned_by s (sets.contains those.now) comes)) }
@@ -114,8 +116,9 @@ pub(crate) fn met_after(node: &Node, map: &Map, group: u32, those: &ProcSet, com
 
 /// The same by value after value of these processes.
 fn met_turned(node: &Node, map: &Map, group: u32, those: &ProcSet, comes: bool) -> bool
-    ensures { (at : ℕ → ℕ) (s : ℕ → Bool) → length map.now ≤ MOST_PROCESSES
-        → IsRight map.now at s node.now → group ≤ length map.now
+    requires groups { HasGroups (length map.now) node.now }
+    requires group { group ≤ length map.now }
+    ensures { (at : ℕ → ℕ) (s : ℕ → Bool) → IsRightAt map.now at s group node.now
         → CanTurn map.now at group s (sets.contains those.now) comes
         → result ≡ satisfies map.now (tree_of_node node.now)
         (within map.now at group (turned_by s (sets.contains those.now) comes)) }
@@ -123,6 +126,7 @@ fn met_turned(node: &Node, map: &Map, group: u32, those: &ProcSet, comes: bool) 
     match node {
         Node::One(counts) => some_after(count_at(counts, group), those, comes),
         Node::Across(wanted, key, places, counts, inner) => {
+            laws::processes_have_values();
             laws::values_differ();
             laws::values_occur();
             let mut count = count_at(counts, group);
@@ -154,23 +158,25 @@ fn met_turned(node: &Node, map: &Map, group: u32, those: &ProcSet, comes: bool) 
 
 /// The same for one process, of which no set need be made.
 fn met_alone(node: &Node, map: &Map, group: u32, p: ProcId, comes: bool) -> bool
-    ensures { (at : ℕ → ℕ) (s : ℕ → Bool) → length map.now ≤ MOST_PROCESSES
-        → IsRight map.now at s node.now → p.0 < length map.now → at p.0 ≡ group
-        → group ≤ length map.now → s p.0 ≡ not comes
+    requires groups { HasGroups (length map.now) node.now }
+    requires group { group ≤ length map.now }
+    ensures { (at : ℕ → ℕ) (s : ℕ → Bool) → IsRightAt map.now at s group node.now
+        → CanTurnAlone map.now at group s p.0 comes
         → result ≡ satisfies map.now (tree_of_node node.now)
         (within map.now at group (turned s p.0 comes)) }
 {
     match node {
         Node::One(counts) => some_beside(count_at(counts, group), comes),
         Node::Across(wanted, key, places, counts, inner) => {
+            laws::processes_have_values();
             laws::values_differ();
             laws::values_occur();
             let count = count_at(counts, group);
             if is_out_of_reach(count, *wanted, 1, comes) {
                 return !comes;
             }
-            let below = count_at(places, p.0);
             if has_key(map, p, *key) {
+                let below = count_at(places, p.0);
                 let before = met(inner, below);
                 let after = met_alone(inner, map, below, p, comes);
                 recounted(count, before, after) >= *wanted
@@ -226,7 +232,8 @@ fn has_key(map: &Map, p: ProcId, key: Key) -> bool
 /// The number of the group of a process where groups are parted by a key: its least process. A
 /// process without the key is a group of its own.
 fn leader(map: &Map, places: &[u32], p: ProcId, key: Key) -> u32
-    requires { p.0 < length map.now }
+    requires process { p.0 < length map.now }
+    requires places { length places.now ≡ length map.now }
     ensures { IsLeader map.now key (place_in places.now) p.0 result }
 {
     laws::processes_have_values();
@@ -253,6 +260,7 @@ pub(crate) fn parted(
     places: &[u32],
     key: Key,
 ) -> Result<Vec<u32>, AllocError>
+    requires { length places.now ≡ length map.now }
     ensures wide { IfOk result (λ below. length below.items ≡ length map.now) }
     ensures leaders { IfOk result (λ below. (p : ℕ) → p < length map.now
         → IsLeader map.now key (place_in places.now) p (place_in below.items p)) }

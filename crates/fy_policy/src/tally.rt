@@ -77,7 +77,10 @@ impl Tally {
             × (t.policy ≡ policy.now) × (t.set ≡ sets.empty)) }
     {
         let places = zeros(alloc, map.len())?;
-        let node = planted(alloc, policy.shape(), map, &places)?;
+        // Each `And` of a policy has a part.
+        let Some(node) = planted(alloc, policy.shape(), map, &places)? else {
+            unreachable!();
+        };
         Ok(Tally {
             map: Arc::try_clone(map)?,
             everyone: map.everyone(),

@@ -14,39 +14,10 @@ use Rattle.fy_kinds.specs.Members.{Members}
 use Rattle.fy_team.specs.Members.{are_members}
 use Rattle.fy_team.specs.Standing.{MembersTested}
 use Rattle.fy_team.specs.Teams.{AreMembers}
-use Rattle.fy_spelling.specs.Candidate.{◌>>=◌, key_named, deed_from, deeds_from}
+use Rattle.fy_locality.specs.Chain.{◌>>=◌}
+use Rattle.fy_locality.specs.Key.{key_named}
+use Rattle.fy_spelling.specs.Candidate.{deed_from, deeds_from}
 use Rattle.fy_spelling.specs.Command.{gathered}
-
--- ---- keys
-
--- a text that isn't the word fails the test
-fails : (xs ys : List ℕ) → xs ≢ ys → pointwise nat_eq xs ys ≡ false
-fails xs ys differ =
-    elim (cases_Bool (pointwise nat_eq xs ys)) [
-      | inl same ↦ absurd (differ (same_text xs ys (sym same)))
-      | inr other ↦ other
-    ]
-
-pub written : (key : Key) → Some key ≡ key_named (key_text key)
-written Process = refl
-written Machine = refl
-written Zone = refl
-written DataHall = refl
-written DataCenter = refl
-
-pub key_found :
-    (found : Option Key) (word : List ℕ)
-    → MatchOption found ((key : Key) → key_text key ≢ word) (λ key. key_text key ≡ word)
-    → found ≡ key_named word
-key_found (Some key) word same = subst (λ (w : List ℕ). Some key ≡ key_named w) same (written key)
-key_found None word differ =
-    rw (
-      fails (key_text Process) word (differ Process),
-      fails (key_text Machine) word (differ Machine),
-      fails (key_text Zone) word (differ Zone),
-      fails (key_text DataHall) word (differ DataHall),
-      fails (key_text DataCenter) word (differ DataCenter),
-    )
 
 -- ---- members
 

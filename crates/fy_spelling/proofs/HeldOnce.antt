@@ -9,7 +9,8 @@ use Rattle.fy_kinds.specs.declared.verdict.Rule.TheVariants.{NoTarget, NoGrant, 
 use Rattle.fy_kinds.specs.declared.verdict.Verdict.{Verdict as VerdictOf}
 use Rattle.fy_spelling.specs.Held.{IsHeldRule, IsHeldReply, IsHeld}
 use Rattle.fy_spelling.specs.Values.{rule_data, reply_data, entry_data, text_of}
-use Rattle.fy_spelling.specs.Candidate.{◌>>=◌, sole, two, long_from, kind_from}
+use Rattle.fy_locality.specs.Chain.{◌>>=◌}
+use Rattle.fy_spelling.specs.Candidate.{sole, two, long_from, kind_from}
 use Rattle.fy_spelling.specs.Replied.{first_word, rule_by, reply_by, reply_at}
 use Rattle.fy_acts.specs.declared.reply.Reply.{Reply}
 use Rattle.fy_acts.specs.declared.reply.Reply.TheVariants.{Verdict, Ruled, Formed, Begun, Stored, Marked, Sent, Synced, Time, Done, No}

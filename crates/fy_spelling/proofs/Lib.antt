@@ -15,3 +15,6 @@ pub mod OneLine
 pub mod Feedless
 pub mod EntryLines
 pub mod HeldOnce
+pub mod Scanned
+pub mod ScannedLists
+pub mod ScannedLines

@@ -2,13 +2,13 @@
 use Rattle.std.proofs.Common.{◌≡◌, ℕ, ◌≤◌, List, [], length, codes, Some, None, Result, Ok, Err, refl, sym, ap, subst, ◌∙◌}
 use Rattle.serde_json.specs.Data.{Data}
 use Rattle.fy_spelling.specs.Candidate.{command_from, IsMeant}
-use Rattle.fy_spelling.specs.Command.{asking, IsJson, Spells, LineOf, LineAnswers}
+use Rattle.fy_spelling.specs.Command.{asking, IsJson, Spells, LineOf}
 use Rattle.fy_spelling.specs.Fits.{FitsTarget, IsLong}
 use Rattle.fy_spelling.specs.Values.{under, order_value}
 use Rattle.fy_acts.specs.declared.act.Act.{Act}
 use Rattle.fy_spelling.specs.declared.command.Command.{Command}
 use Rattle.fy_spelling.specs.declared.command.LineFault.{LineFault}
-use Rattle.fy_spelling.specs.declared.command.LineFault.TheVariants.{TooLong, Syntax, Floor, NoMemory}
+use Rattle.fy_spelling.specs.declared.command.LineFault.TheVariants.{Syntax}
 use Rattle.fy_spelling.specs.declared.command.TheConstants.{MOST_LINE_BYTES}
 use Rattle.fy_spelling.specs.declared.reading.Asked.{Asked}
 use Rattle.fy_spelling.specs.declared.reading.Asked.TheVariants.{Order, Other}
@@ -86,12 +86,3 @@ pub no_value :
     (line : List ℕ) → length line ≤ MOST_LINE_BYTES → ((d : Data) → IsJson line d → ⊥)
     → LineOf line (Err Syntax)
 no_value line short none = (short, (λ command s. none _ s.json), (λ s. none _ s.json))
-
--- what a line comes to may be answered
-pub answered : (line : List ℕ) (answer : Result Command LineFault) → LineOf line answer
-    → LineAnswers line answer
-answered line (Ok command) is = is
-answered line (Err TooLong) is = is
-answered line (Err Syntax) is = is
-answered line (Err Floor) is = is
-answered line (Err NoMemory) is = absurd is

@@ -11,7 +11,7 @@ use Rattle.fy_acts.specs.declared.act.Act.{Act}
 use Rattle.fy_acts.specs.declared.act.Act.TheVariants.{Kill, Clog, Unclog, Form, Begin, Deliver, Lose, Resend, Sync, Up, Tick, Give, Take, Protect, Unprotect, CopyTo, Replace, Heal}
 use Rattle.fy_spelling.specs.declared.command.Command.{Command}
 use Rattle.fy_spelling.specs.declared.command.LineFault.{LineFault}
-use Rattle.fy_spelling.specs.declared.command.LineFault.TheVariants.{TooLong, Syntax, Floor, NoMemory}
+use Rattle.fy_spelling.specs.declared.command.LineFault.TheVariants.{TooLong, Syntax, Floor}
 use Rattle.fy_spelling.specs.declared.reading.Asked.{Asked}
 use Rattle.fy_spelling.specs.declared.reading.Asked.TheVariants.{Order, Other}
 use Rattle.fy_spelling.proofs.Again.{found_as, command-again, inverted-again}
@@ -103,20 +103,15 @@ line_once line (Ok a) (Ok b) p q = ap Ok (spelled_once line a b p.1 q.1)
 line_once line (Ok a) (Err TooLong) p q = absurd (omega (arith, p.0, q))
 line_once line (Ok a) (Err Syntax) p q = absurd (q.1 a p.1)
 line_once line (Ok a) (Err Floor) p q = absurd (not_inverted line a p.1 q.1)
-line_once line (Ok a) (Err NoMemory) p q = absurd q
 line_once line (Err TooLong) (Ok b) p q = absurd (omega (arith, q.0, p))
 line_once line (Err TooLong) (Err TooLong) p q = refl
 line_once line (Err TooLong) (Err Syntax) p q = absurd (omega (arith, q.0, p))
 line_once line (Err TooLong) (Err Floor) p q = absurd (omega (arith, q.0, p))
-line_once line (Err TooLong) (Err NoMemory) p q = absurd q
 line_once line (Err Syntax) (Ok b) p q = absurd (p.1 b q.1)
 line_once line (Err Syntax) (Err TooLong) p q = absurd (omega (arith, p.0, q))
 line_once line (Err Syntax) (Err Syntax) p q = refl
 line_once line (Err Syntax) (Err Floor) p q = absurd (p.2 q.1)
-line_once line (Err Syntax) (Err NoMemory) p q = absurd q
 line_once line (Err Floor) (Ok b) p q = absurd (not_inverted line b q.1 p.1)
 line_once line (Err Floor) (Err TooLong) p q = absurd (omega (arith, p.0, q))
 line_once line (Err Floor) (Err Syntax) p q = absurd (q.2 p.1)
 line_once line (Err Floor) (Err Floor) p q = refl
-line_once line (Err Floor) (Err NoMemory) p q = absurd q
-line_once line (Err NoMemory) y p q = absurd p

@@ -22,7 +22,9 @@ use Rattle.fy_kinds.specs.declared.order.Target.{Target}
 use Rattle.fy_grants.specs.declared.grant.Scope.{Scope}
 use Rattle.fy_grants.specs.declared.grant.Scope.TheVariants.{All, Where}
 use Rattle.fy_team.specs.Members.{are_members}
-use Rattle.fy_spelling.specs.Candidate.{◌>>=◌, next_at, first_of, at_end, sole, one, two, three, five, long_from, short_from, process_from, processes_from, members_from, all_keys, kind_from, key_from, name_from, target_from, deed_from, deeds_from, kinds_from, given, payload_from, target_in, scope_by, scope_from}
+use Rattle.fy_locality.specs.Chain.{◌>>=◌}
+use Rattle.fy_locality.specs.Key.{all_keys}
+use Rattle.fy_spelling.specs.Candidate.{next_at, first_of, at_end, sole, one, two, three, five, long_from, short_from, process_from, processes_from, members_from, kind_from, key_from, name_from, target_from, deed_from, deeds_from, kinds_from, given, payload_from, target_in, scope_by, scope_from}
 use Rattle.fy_spelling.specs.Command.{gathered}
 use Rattle.fy_spelling.specs.Fits.{IsShort, IsLong, IsByte, IsProcess, FitsTarget, FitsScope, FitsMembers}
 use Rattle.fy_spelling.specs.Values.{with_fields, under, whole, processes_value, deeds_value, target_value, scope_value}

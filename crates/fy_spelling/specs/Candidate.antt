@@ -1,16 +1,14 @@
 -- what a value asks for, if anything: each act is told by the one member of its object
-use Rattle.std.specs.Prelude.{◌≡◌, ◌<◌, ℕ, ◌^◌, nat_lt, nat_eq, List, [], ◌∷◌, codes, if◌then◌else◌, bytes_eq, Option, Some, None, option_map, Result, Ok, Err}
-use Rattle.std.specs.Cmp.Lexicographic.{pointwise}
-use Rattle.std.specs.List.{find}
+use Rattle.std.specs.Prelude.{◌≡◌, ◌<◌, ℕ, ◌^◌, nat_lt, List, [], ◌∷◌, codes, if◌then◌else◌, bytes_eq, Option, Some, None, option_map, Result, Ok, Err}
 use Rattle.serde_json.specs.Data.{Data, Items, no_items, item, Members as Fields, no_members, member}
 use Rattle.serde_json.specs.Find.{as_object, as_array, as_str, as_number, as_u64}
 use Rattle.hex.specs.Hex.{decode_of, encode_lower}
 use Rattle.hex.specs.declared.error.FromHexError.{FromHexError}
-use Rattle.fy_locality.specs.Key.{key_text}
+use Rattle.fy_locality.specs.Chain.{◌>>=◌}
+use Rattle.fy_locality.specs.Key.{key_named}
 use Rattle.fy_locality.specs.Name.{is_name}
 use Rattle.fy_locality.specs.declared.ProcId.{ProcId}
 use Rattle.fy_locality.specs.declared.key.Key.{Key}
-use Rattle.fy_locality.specs.declared.key.Key.TheVariants.{Process, Machine, Zone, DataHall, DataCenter}
 use Rattle.fy_kinds.specs.Kinds.{Deed, deed_named, kind_named, rank}
 use Rattle.fy_kinds.specs.Members.{Members}
 use Rattle.fy_kinds.specs.Orders.{Order as Orders}
@@ -26,12 +24,6 @@ use Rattle.fy_spelling.specs.declared.command.LineFault.{LineFault}
 use Rattle.fy_spelling.specs.declared.command.LineFault.TheVariants.{Floor}
 use Rattle.fy_spelling.specs.declared.reading.Asked.{Asked}
 use Rattle.fy_spelling.specs.declared.reading.Asked.TheVariants.{Order, Other}
-
-infixl 10 ◌>>=◌
--- what was found goes on to the next step
-abbrev pub ◌>>=◌ : {A B : Type 0} → Option A → (A → Option B) → Option B
-None >>= f = None
-(Some x) >>= f = f x
 
 -- ---- members of objects
 
@@ -129,14 +121,6 @@ members_from d = do
   if are_members ps then Some ps else None
 
 -- ---- words
-
--- every key of a locality
-abbrev pub all_keys : List Key
-all_keys = Process ∷ Machine ∷ Zone ∷ DataHall ∷ DataCenter ∷ []
-
--- the key that is written so
-abbrev pub key_named : List ℕ → Option Key
-key_named word = find (λ key. pointwise nat_eq (key_text key) word) all_keys
 
 -- a kind, a key, a name
 abbrev pub kind_from : Data → Option Kind

@@ -11,7 +11,9 @@ use Rattle.fy_spelling.specs.Values.{whole, with_fields, under, order_value, act
 use Rattle.fy_spelling.specs.declared.command.TheConstants.{MOST_LINE_BYTES}
 use Rattle.fy_spelling.specs.declared.command.Command.{Command}
 use Rattle.fy_spelling.specs.declared.command.LineFault.{LineFault}
-use Rattle.fy_spelling.specs.declared.command.LineFault.TheVariants.{TooLong, Syntax, Floor, NoMemory}
+use Rattle.fy_spelling.specs.declared.command.LineFault.TheVariants.{TooLong, Syntax, Floor}
+use Rattle.fy_spelling.specs.declared.command.CommandFault.{CommandFault}
+use Rattle.fy_spelling.specs.declared.command.CommandFault.TheVariants.{Line, NoMemory}
 
 -- the set of the deeds of a list
 abbrev pub gathered : List Deed → Members
@@ -56,10 +58,10 @@ LineOf line (Err Syntax) =
     × ((command : Command) → Spells line command → ⊥)
     × (SpellsInverted line → ⊥)
 LineOf line (Err Floor) = (length line ≤ MOST_LINE_BYTES) × SpellsInverted line
-LineOf line (Err NoMemory) = ⊥
 
 -- what a reader may answer: what the line comes to, or that there was no memory, which takes the
 -- place of any answer but TooLong
-abbrev pub LineAnswers : List ℕ → Result Command LineFault → Type 0
+abbrev pub LineAnswers : List ℕ → Result Command CommandFault → Type 0
+LineAnswers line (Ok command) = LineOf line (Ok command)
+LineAnswers line (Err (Line fault)) = LineOf line (Err fault)
 LineAnswers line (Err NoMemory) = length line ≤ MOST_LINE_BYTES
-LineAnswers line answer = LineOf line answer

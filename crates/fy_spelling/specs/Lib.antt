@@ -8,5 +8,6 @@ pub mod Held
 pub mod OneText
 pub mod Plain
 pub mod Pieces
+pub mod Puts
 pub mod Tame
 pub mod Rows

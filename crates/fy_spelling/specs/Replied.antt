@@ -7,7 +7,8 @@ use Rattle.fy_locality.specs.declared.ProcId.{ProcId}
 use Rattle.fy_kinds.specs.declared.verdict.Rule.{Rule}
 use Rattle.fy_kinds.specs.declared.verdict.Rule.TheVariants as rule
 use Rattle.fy_kinds.specs.declared.verdict.Verdict.{Verdict}
-use Rattle.fy_spelling.specs.Candidate.{◌>>=◌, next_at, at_end, sole, two, long_from, short_from, process_from, kind_from, act_from}
+use Rattle.fy_locality.specs.Chain.{◌>>=◌}
+use Rattle.fy_spelling.specs.Candidate.{next_at, at_end, sole, two, long_from, short_from, process_from, kind_from, act_from}
 use Rattle.fy_spelling.specs.declared.reading.Asked.{Asked}
 use Rattle.fy_acts.specs.declared.reply.Refusal.{Refusal}
 use Rattle.fy_acts.specs.declared.reply.Refusal.TheVariants.{Stranger, WrongRole, TooMany, NoPolicy, NoProcess, Gone, TeamShort, NoTeam, Payload, NetFull, NoMessage, Clogged, NotUp, NoRecord, NotMember, Acked, IsUp, ClockEnd, NoActor, Full, NoSuch, NoCopy, IsMember, NotDestroyed, StillNeeds}

@@ -2,6 +2,7 @@
 ghost use Rattle.std.specs.Prelude.{◌≡◌};
 
 use crate::Act;
+use std::alloc::AllocError;
 
 /// How many bytes a line of a script or an audit may have, without its line end: 65,536.
 pub const MOST_LINE_BYTES: usize = 65_536;
@@ -41,6 +42,23 @@ pub enum LineFault {
     Syntax,
     /// The floor of its kill is above the kind.
     Floor,
+}
+
+/// Why no command is read of a line of a script.
+#[derive(Clone, Copy, PartialEq, Eq, Debug)]
+pub enum CommandFault {
+    /// The line asks for nothing.
+    Line(LineFault),
     /// There is no memory to read it.
     NoMemory,
+}
+
+impl From<AllocError> for CommandFault {
+    ghost use Rattle.fy_spelling.specs.declared.command.CommandFault.TheVariants.{NoMemory};
+
+    ghost from_gives = { λ _ fault. fault ≡ NoMemory };
+
+    fn from(_refused: AllocError) -> CommandFault {
+        CommandFault::NoMemory
+    }
 }

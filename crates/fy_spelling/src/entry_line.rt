@@ -1,12 +1,12 @@
-//! Lines of audits. An entry has one text, so whatever is found in a line is written again and
-//! compared: first a guess, and where it fails what serde_json's value tells.
+//! Lines of audits. An entry has one text, which a scan tells; what the scan misses is told by
+//! serde_json's value, and since that has many texts, it is written again and compared.
 ghost use Rattle.std.specs.Prelude.{◌≡◌, ◌↔◌, IfOk, IsTrue};
 ghost use Rattle.fy_spelling.specs.EntryLine.{IsTextOf, EntryAnswers};
 
 use crate::Entry;
 use crate::fits::{entry_is_held, reply_fits};
 use crate::reading::entry_by_value;
-use crate::scan::guess_entry;
+use crate::scan::scan_entry;
 use crate::writing::put_entry;
 use std::alloc::{AllocError, Global};
 
@@ -19,6 +19,16 @@ pub enum EntryFault {
     NoMemory,
 }
 
+impl From<AllocError> for EntryFault {
+    ghost use Rattle.fy_spelling.specs.declared.entry_line.EntryFault.TheVariants.{NoMemory};
+
+    ghost from_gives = { λ _ fault. fault ≡ NoMemory };
+
+    fn from(_refused: AllocError) -> EntryFault {
+        EntryFault::NoMemory
+    }
+}
+
 /// Whether the line is the text of the entry. What the room has is written over.
 fn is_text_of(line: &[u8], entry: &Entry, room: &mut Vec<u8>) -> Result<bool, AllocError>
     ensures { IfOk result (λ same. IsTrue same ↔ IsTextOf line.now entry.now) }
@@ -27,25 +37,6 @@ fn is_text_of(line: &[u8], entry: &Entry, room: &mut Vec<u8>) -> Result<bool, Al
     room.clear();
     put_entry(room, entry)?;
     Ok(room.as_slice() == line && reply_fits(&entry.reply))
-}
-
-/// The entry of a line, where it is the one that was guessed; else what the line's value tells.
-fn settle(
-    alloc: Global,
-    line: &[u8],
-    guess: Option<Entry>,
-    room: &mut Vec<u8>,
-) -> Result<Entry, EntryFault>
-    ensures { EntryAnswers line.now result }
-{
-    if let Some(entry) = guess {
-        match is_text_of(line, &entry, room) {
-            Ok(true) => return Ok(entry),
-            Ok(false) => {}
-            Err(AllocError) => return Err(EntryFault::NoMemory),
-        }
-    }
-    read_entry_by_value(alloc, line, room)
 }
 
 /// The entry of a line of an audit, which is given without its line end, as serde_json's value has
@@ -84,5 +75,8 @@ pub fn read_entry_by_value(
 pub fn read_entry(alloc: Global, line: &[u8], room: &mut Vec<u8>) -> Result<Entry, EntryFault>
     ensures { EntryAnswers line.now result }
 {
-    settle(alloc, line, guess_entry(alloc, line), room)
+    match scan_entry(alloc, line) {
+        Some(entry) => Ok(entry),
+        None => read_entry_by_value(alloc, line, room),
+    }
 }

@@ -184,7 +184,7 @@ fn rule_fits(rule: Option<Rule>) -> bool
             true
         }
         Some(Rule::TooManyDestroyed { policy }) | Some(Rule::TooFewLeft { policy }) => {
-            policy < 4_294_967_296
+            u32::try_from(policy).is_ok()
         }
     }
 }

@@ -11,7 +11,7 @@ mod scan;
 mod shortcut;
 mod writing;
 
-pub use command::{Command, LineFault, MOST_LINE_BYTES};
+pub use command::{Command, CommandFault, LineFault, MOST_LINE_BYTES};
 pub use entry_line::{EntryFault, read_entry, read_entry_by_value};
 pub use fits::{act_fits, entry_is_held, reply_is_held};
 pub use fy_acts::{Act, Entry, Refusal, Reply};

@@ -3,7 +3,7 @@ ghost use Rattle.std.specs.Prelude.{◌≡◌, Some, None, if◌then◌else◌, 
 ghost use Rattle.std.specs.Option.{option_copied};
 ghost use Rattle.serde_json.specs.View.{view, items_view, members_view};
 ghost use Rattle.fy_team.specs.Members.{are_members};
-ghost use Rattle.fy_spelling.specs.Candidate.{next_at, sole, one, two, three, five, long_from, short_from, process_from, processes_from, members_from, key_named, kind_from, key_from, name_from, target_from, kinds_from, payload_from, deeds_from, deed_from, scope_from, target_in};
+ghost use Rattle.fy_spelling.specs.Candidate.{next_at, sole, one, two, three, five, long_from, short_from, process_from, processes_from, members_from, kind_from, key_from, name_from, target_from, kinds_from, payload_from, deeds_from, deed_from, scope_from, target_in};
 ghost use Rattle.fy_spelling.specs.Replied.{four};
 ghost use Rattle.fy_kinds.specs.Kinds.{only};
 ghost use Rattle.fy_spelling.specs.Command.{gathered};
@@ -152,12 +152,7 @@ pub(crate) fn long_of(value: &Value) -> Option<u64>
 pub(crate) fn short_of(value: &Value) -> Option<u32>
     ensures { result ≡ short_from (view value.now) }
 {
-    let number = long_of(value)?;
-    if number < 4_294_967_296 {
-        Some(number as u32)
-    } else {
-        None
-    }
+    u32::try_from(long_of(value)?).ok()
 }
 
 /// The number of a process.
@@ -194,7 +189,7 @@ fn as_members(processes: Vec<ProcId>) -> Option<Members>
 }
 
 /// The members of a team.
-pub(crate) fn members_of(alloc: Global, value: &Value) -> Result<Option<Members>, AllocError>
+pub(crate) fn member_list_of(alloc: Global, value: &Value) -> Result<Option<Members>, AllocError>
     ensures { IfOk result (λ found. found ≡ members_from (view value.now)) }
 {
     let Some(values) = value.as_array() else {
@@ -215,18 +210,11 @@ pub(crate) fn kind_of(value: &Value) -> Option<Kind>
     Kind::named(value.as_str()?)
 }
 
-/// The key that is written so.
-fn key_named(word: &str) -> Option<Key>
-    ensures { result ≡ key_named word.now }
-{
-    Key::named(word)
-}
-
 /// A key by its word.
 fn key_of(value: &Value) -> Option<Key>
     ensures { result ≡ key_from (view value.now) }
 {
-    key_named(value.as_str()?)
+    Key::named(value.as_str()?)
 }
 
 /// A name.

@@ -1,20 +1,19 @@
 //! Commands, replies and entries from JSON values.
-ghost use Rattle.std.specs.Prelude.{◌≡◌, ◌⊎◌, IfOk, IfErr, option_map};
+ghost use Rattle.std.specs.Prelude.{◌≡◌, IfOk, IfSome, IfNone, option_map};
 ghost use Rattle.serde_json.specs.Data.{Data};
 ghost use Rattle.serde_json.specs.View.{view};
 ghost use Rattle.fy_spelling.specs.Candidate.{long_in, process_in, clog_in, order_in, form_in, begin_in, give_in, protection_in, resend_in, take_in, copy_in, replace_in, aimed_by, moved_by, righted_by, healed_by, asked_by, act_from, command_from, IsMeant};
 ghost use Rattle.fy_spelling.specs.Command.{IsJson, LineAnswers};
-ghost use Rattle.fy_spelling.specs.declared.command.LineFault.TheVariants.{Syntax, NoMemory};
 ghost use Rattle.fy_spelling.specs.declared.reading.Asked.TheVariants.{Other};
 
 mod entries;
 mod replies;
 
 use crate::parts::{
-    five, kind_of, kinds_of, long_of, members_of, one, payload_of, process_of, scope_of, short_of,
-    sole, target_in, target_of, three, two,
+    five, kind_of, kinds_of, long_of, member_list_of, one, payload_of, process_of, scope_of,
+    short_of, sole, target_in, target_of, three, two,
 };
-use crate::{Act, Command, LineFault, MOST_LINE_BYTES};
+use crate::{Act, Command, CommandFault, LineFault, MOST_LINE_BYTES};
 pub(crate) use entries::entry_by_value;
 use fy_grants::Grant;
 use fy_kinds::{Floor, KillOrder, Kind, KindSet, Target};
@@ -87,7 +86,7 @@ fn form_in(alloc: Global, value: &Value) -> Result<Option<Act>, AllocError>
     let Some(policy) = short_of(policy) else {
         return Ok(None);
     };
-    let Some(members) = members_of(alloc, members)? else {
+    let Some(members) = member_list_of(alloc, members)? else {
         return Ok(None);
     };
     Ok(Some(Act::Form { members, policy }))
@@ -328,25 +327,15 @@ fn meant(asked: Asked) -> Result<Act, LineFault>
     }
 }
 
-/// The JSON value of a line.
-///
-/// # Errors
-///
-/// `Syntax` where it is none; `NoMemory`.
-fn value_of(alloc: Global, line: &[u8]) -> Result<Value, LineFault>
-    ensures found { IfOk result (λ value. IsJson line.now (view value)) }
-    ensures none { IfErr result (λ fault. (fault ≡ NoMemory)
-        ⊎ ((fault ≡ Syntax) × ((d : Data) → IsJson line.now d → ⊥))) }
+/// The JSON value of a line, if it has one.
+fn value_of(alloc: Global, line: &[u8]) -> Result<Option<Value>, AllocError>
+    ensures found { IfOk result (λ found. IfSome found (λ value. IsJson line.now (view value))) }
+    ensures none { IfOk result (λ found. IfNone found ((d : Data) → IsJson line.now d → ⊥)) }
 {
     match Value::from_slice(alloc, line) {
-        Ok(value) => Ok(value),
-        Err(error) => {
-            if error.is_memory() {
-                Err(LineFault::NoMemory)
-            } else {
-                Err(LineFault::Syntax)
-            }
-        }
+        Ok(value) => Ok(Some(value)),
+        Err(error) if error.is_memory() => Err(AllocError),
+        Err(_) => Ok(None),
     }
 }
 
@@ -355,24 +344,22 @@ fn value_of(alloc: Global, line: &[u8]) -> Result<Value, LineFault>
 ///
 /// # Errors
 ///
-/// In order: `TooLong`, `Syntax`, `Floor`; `NoMemory` at any of them but the first.
-pub fn read_command_by_value(alloc: Global, line: &[u8]) -> Result<Command, LineFault>
+/// `Line` of `TooLong`, `Syntax` or `Floor`, in order; `NoMemory` in place of any of them but the
+/// first, where memory is refused.
+pub fn read_command_by_value(alloc: Global, line: &[u8]) -> Result<Command, CommandFault>
     ensures { LineAnswers line.now result }
 {
     if line.len() > MOST_LINE_BYTES {
-        return Err(LineFault::TooLong);
+        return Err(CommandFault::Line(LineFault::TooLong));
     }
-    let value = match value_of(alloc, line) {
-        Ok(value) => value,
-        Err(fault) => return Err(fault),
+    let Some(value) = value_of(alloc, line)? else {
+        return Err(CommandFault::Line(LineFault::Syntax));
     };
-    let (by, asked) = match command_of(alloc, &value) {
-        Ok(Some(found)) => found,
-        Ok(None) => return Err(LineFault::Syntax),
-        Err(AllocError) => return Err(LineFault::NoMemory),
+    let Some((by, asked)) = command_of(alloc, &value)? else {
+        return Err(CommandFault::Line(LineFault::Syntax));
     };
     match meant(asked) {
         Ok(act) => Ok(Command { by, act }),
-        Err(fault) => Err(fault),
+        Err(fault) => Err(CommandFault::Line(fault)),
     }
 }

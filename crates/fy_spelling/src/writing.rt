@@ -1,6 +1,7 @@
 //! Texts of acts, replies, entries and commands, written after what a buffer has.
 ghost use Rattle.std.specs.Prelude.{◌≡◌, ◌++◌, OnOk, IfOk, decimal, codes, string_bytes};
 ghost use Rattle.fy_spelling.specs.Values.{text_of};
+ghost use Rattle.fy_spelling.specs.Puts.{Puts};
 ghost use Rattle.fy_spelling.specs.Pieces.{one_text, last_text, asked_text, front_text, entry_pieces, IsBare};
 ghost use Rattle.fy_spelling.specs.Plain.{command_text};
 
@@ -16,14 +17,14 @@ use std::alloc::{AllocError, Global};
 
 #[inline(always)]
 fn put(out: &mut Vec<u8>, text: &str) -> Result<(), AllocError>
-    ensures { OnOk result (out.new.items ≡ out.old.items ++ text.now) }
+    ensures { Puts result out.old.items out.new.items text.now }
 {
     out.extend_from_slice(text.as_bytes())
 }
 
 #[inline(always)]
 fn put_decimal(out: &mut Vec<u8>, n: u64) -> Result<(), AllocError>
-    ensures { OnOk result (out.new.items ≡ out.old.items ++ decimal n) }
+    ensures { Puts result out.old.items out.new.items (decimal n) }
 {
     let mut digits = Buffer::new();
     put(out, digits.format(n))
@@ -32,7 +33,7 @@ fn put_decimal(out: &mut Vec<u8>, n: u64) -> Result<(), AllocError>
 /// A text and then a number.
 #[inline(always)]
 fn put_number(out: &mut Vec<u8>, head: &str, n: u64) -> Result<(), AllocError>
-    ensures { OnOk result (out.new.items ≡ out.old.items ++ (head.now ++ decimal n)) }
+    ensures { Puts result out.old.items out.new.items (head.now ++ decimal n) }
 {
     put(out, head)?;
     put_decimal(out, n)
@@ -41,7 +42,7 @@ fn put_number(out: &mut Vec<u8>, head: &str, n: u64) -> Result<(), AllocError>
 /// A text and then a word.
 #[inline(always)]
 fn put_word(out: &mut Vec<u8>, head: &str, word: &str) -> Result<(), AllocError>
-    ensures { OnOk result (out.new.items ≡ out.old.items ++ (head.now ++ word.now)) }
+    ensures { Puts result out.old.items out.new.items (head.now ++ word.now) }
 {
     put(out, head)?;
     put(out, word)
@@ -50,7 +51,7 @@ fn put_word(out: &mut Vec<u8>, head: &str, word: &str) -> Result<(), AllocError>
 /// A number between two texts.
 #[inline(always)]
 fn put_last(out: &mut Vec<u8>, head: &str, n: u64, tail: &str) -> Result<(), AllocError>
-    ensures { OnOk result (out.new.items ≡ out.old.items ++ last_text head.now n tail.now) }
+    ensures { Puts result out.old.items out.new.items (last_text head.now n tail.now) }
 {
     put_number(out, head, n)?;
     put(out, tail)
@@ -59,13 +60,13 @@ fn put_last(out: &mut Vec<u8>, head: &str, n: u64, tail: &str) -> Result<(), All
 /// An object with one number.
 #[inline(always)]
 fn put_one(out: &mut Vec<u8>, head: &str, n: u64) -> Result<(), AllocError>
-    ensures { OnOk result (out.new.items ≡ out.old.items ++ one_text head.now n) }
+    ensures { Puts result out.old.items out.new.items (one_text head.now n) }
 {
     put_last(out, head, n, "}}")
 }
 
 fn put_pieces(out: &mut Vec<u8>, command: &Command) -> Result<(), AllocError>
-    ensures text { OnOk result (out.new.items ≡ out.old.items ++ asked_text command.now) }
+    ensures text { Puts result out.old.items out.new.items (asked_text command.now) }
     ensures bare { OnOk result (IsBare command.now.act) }
 {
     put_number(out, "{\"by\":", command.by as u64)?;
@@ -78,15 +79,16 @@ fn put_pieces(out: &mut Vec<u8>, command: &Command) -> Result<(), AllocError>
 ///
 /// # Errors
 ///
-/// `AllocError` where there is no memory for it; a part of it may be written then.
+/// `AllocError` where there is no memory for it; a part of it may be put then, behind all that the
+/// buffer had.
 pub fn put_command(out: &mut Vec<u8>, command: &Command) -> Result<(), AllocError>
-    ensures { OnOk result (out.new.items ≡ out.old.items ++ command_text command.now) }
+    ensures { Puts result out.old.items out.new.items (command_text command.now) }
 {
     put_pieces(out, command)
 }
 
 fn put_front(out: &mut Vec<u8>, entry: &Entry) -> Result<(), AllocError>
-    ensures text { OnOk result (out.new.items ≡ out.old.items ++ front_text entry.now) }
+    ensures text { Puts result out.old.items out.new.items (front_text entry.now) }
     ensures bare { OnOk result (IsBare entry.now.act) }
 {
     put(out, "{\"act\":")?;
@@ -96,7 +98,7 @@ fn put_front(out: &mut Vec<u8>, entry: &Entry) -> Result<(), AllocError>
 }
 
 fn put_entry_pieces(out: &mut Vec<u8>, entry: &Entry) -> Result<(), AllocError>
-    ensures text { OnOk result (out.new.items ≡ out.old.items ++ entry_pieces entry.now) }
+    ensures text { Puts result out.old.items out.new.items (entry_pieces entry.now) }
     ensures bare { OnOk result (IsBare entry.now.act) }
 {
     put_front(out, entry)?;
@@ -107,9 +109,10 @@ fn put_entry_pieces(out: &mut Vec<u8>, entry: &Entry) -> Result<(), AllocError>
 ///
 /// # Errors
 ///
-/// `AllocError` where there is no memory for it; a part of it may be written then.
+/// `AllocError` where there is no memory for it; a part of it may be put then, behind all that the
+/// buffer had.
 pub fn put_entry(out: &mut Vec<u8>, entry: &Entry) -> Result<(), AllocError>
-    ensures { OnOk result (out.new.items ≡ out.old.items ++ text_of entry.now) }
+    ensures { Puts result out.old.items out.new.items (text_of entry.now) }
 {
     put_entry_pieces(out, entry)
 }

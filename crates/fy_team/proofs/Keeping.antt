@@ -11,7 +11,7 @@ use Rattle.std.proofs.lemmas.Option.{slice_get-get_or, slice_get_within, slice_g
 use Rattle.fy_locality.specs.declared.ProcId.{ProcId}
 use Rattle.fy_team.specs.Teams.{Team, Record, Roster, IsRoster, AreMembers, is_among, all_marked, is_acked, swapped, with_member, marked_by, with_mark, begin_refusal}
 use Rattle.fy_team.specs.declared.fault.TeamFault.TheVariants.{TooMany, NoTeam, Payload}
-use Rattle.fy_team.specs.Counts.{Counted, IsCounted, IsCountedIn, AreKept, missing_among, recounted, roster_of}
+use Rattle.fy_team.specs.Counts.{Counted, CountsMissing, CountsMissingIn, AreKept, missing_among, recounted, roster_of}
 use Rattle.fy_team.specs.declared.limits.TheConstants.{MOST_TEAMS, MOST_RECORDS, MOST_BYTES}
 use Rattle.fy_team.proofs.Marking.{slice_get-set}
 use Rattle.fy_team.proofs.Swapping.{IsRoster-replaced}
@@ -41,23 +41,23 @@ record_there records i d within = slice_get-map held records i ∙ ap (option_ma
 
 -- the number of a record is right for its team
 pub counted_at : (teams : List Team) (records : List Counted) (i : ℕ) (it : Counted) (t : ℕ) (team : Team) → AreKept teams records → i < length records → it ≡ get_or records i it
-    → t ≡ it.held.team → team ≡ get_or teams t team → IsCounted team.members it
+    → t ≡ it.held.team → team ≡ get_or teams t team → CountsMissing team.members it
 counted_at teams records i it t team kept within is of_team is_team =
     let there : slice_get teams it.held.team ≡ Some team =
     ap (slice_get teams) (sym of_team) ∙ slice_get-get_or teams t team (let lt : t < length teams = omega (arith, of_team, ap (λ (x : Counted). x.held.team) is, team_within teams records i it kept within) in lt) ∙ ap Some (sym is_team) in
-    subst (IsCounted team.members) (sym is) (kept.counted i it within team (ap (λ (x : Counted). slice_get teams x.held.team) (sym is) ∙ there))
+    subst (CountsMissing team.members) (sym is) (kept.counted i it within team (ap (λ (x : Counted). slice_get teams x.held.team) (sym is) ∙ there))
 
 -- and so it is where it is right for the team that it is of
 pub counted_for : (teams : List Team) (x : Counted) (t : ℕ) (team : Team) (members : List ProcId) → t < length teams → t ≡ x.held.team → team ≡ get_or teams t team → members ≡ team.members
-    → IsCounted members x → IsCountedIn teams x
+    → CountsMissing members x → CountsMissingIn teams x
 counted_for teams x t team members lt of_team is_team are counted s there =
     let same : team ≡ s =
     (let e : Some team ≡ Some s = ap Some is_team ∙ sym (slice_get-get_or teams t team lt) ∙ ap (slice_get teams) of_team ∙ there in cc) in
-    subst (λ ms. IsCounted ms x) (are ∙ ap (λ (y : Team). y.members) same) counted
+    subst (λ ms. CountsMissing ms x) (are ∙ ap (λ (y : Team). y.members) same) counted
 
 -- a record is changed, and neither its team nor what it holds
 pub AreKept-set : (teams : List Team) (records : List Counted) (i : ℕ) (x d : Counted) → i < length records
-    → x.held.team ≡ (get_or records i d).held.team → x.held.payload ≡ (get_or records i d).held.payload → IsCountedIn teams x → AreKept teams records → AreKept teams (set records i x)
+    → x.held.team ≡ (get_or records i d).held.team → x.held.payload ≡ (get_or records i d).held.payload → CountsMissingIn teams x → AreKept teams records → AreKept teams (set records i x)
 AreKept-set teams records i x d within team payload counted kept =
     let small : length (get_or records i d).held.payload ≤ MOST_BYTES =
     subst (λ (it : Record). length it.payload ≤ MOST_BYTES) (get_or-map held records i d d.held within) (kept.roster.small i d.held (omega (arith, length-map records held))) in
@@ -71,7 +71,7 @@ AreKept-set teams records i x d within team payload counted kept =
             (All-set (λ (it : Record). length it.payload ≤ MOST_BYTES) (map held records) i x.held (omega (arith, ap length payload)) kept.roster.small);
         few_records = omega (arith, length-map (set records i x) held, length-map records held, length-set records i x, kept.roster.few_records);
       };
-      counted = All-set (IsCountedIn teams) records i x counted kept.counted;
+      counted = All-set (CountsMissingIn teams) records i x counted kept.counted;
     }
 
 -- ---- one more
@@ -104,7 +104,7 @@ may_be_begun roster team payload none = go (leb (length roster.teams) team) refl
     go false is false isb true isc e = absurd (let x : ⊥ = cc in x)
     go false is false isb false isc e = (grind (arith, nat_tests), grind (arith, nat_tests), grind (arith, nat_tests))
 
-pub AreKept-begun : (teams : List Team) (records : List Counted) (x : Counted) → x.held.team < length teams → length x.held.payload ≤ MOST_BYTES → length records < MOST_RECORDS → IsCountedIn teams x
+pub AreKept-begun : (teams : List Team) (records : List Counted) (x : Counted) → x.held.team < length teams → length x.held.payload ≤ MOST_BYTES → length records < MOST_RECORDS → CountsMissingIn teams x
     → AreKept teams records → AreKept teams (records ++ x ∷ [])
 AreKept-begun teams records x within small few counted kept =
     let is : map held (records ++ x ∷ []) ≡ map held records ++ x.held ∷ [] = map-append held records (x ∷ []) in
@@ -118,7 +118,7 @@ AreKept-begun teams records x within small few counted kept =
             (All-append (λ (it : Record). length it.payload ≤ MOST_BYTES) (map held records) (x.held ∷ []) kept.roster.small (All-cons (λ (it : Record). length it.payload ≤ MOST_BYTES) x.held [] small (All-nil (λ (it : Record). length it.payload ≤ MOST_BYTES))));
         few_records = omega (arith, length-map (records ++ x ∷ []) held, length-append records (x ∷ []));
       };
-      counted = All-append (IsCountedIn teams) records (x ∷ []) kept.counted (All-cons (IsCountedIn teams) x [] counted (All-nil (IsCountedIn teams)));
+      counted = All-append (CountsMissingIn teams) records (x ∷ []) kept.counted (All-cons (CountsMissingIn teams) x [] counted (All-nil (CountsMissingIn teams)));
     }
 
 -- ---- a mark
@@ -162,7 +162,7 @@ records_recounted team members (it ∷ records) =
     ∙ ap (λ xs. it.held ∷ xs) (records_recounted team members records)
 
 -- and their numbers are right for the teams as they are then
-counted_anew : (teams : List Team) (team : ℕ) (changed : Team) (it : Counted) → team < length teams → IsCountedIn teams it → IsCountedIn (set teams team changed) (recounted team changed.members it)
+counted_anew : (teams : List Team) (team : ℕ) (changed : Team) (it : Counted) → team < length teams → CountsMissingIn teams it → CountsMissingIn (set teams team changed) (recounted team changed.members it)
 counted_anew teams team changed it within counted t there = go (eqb it.held.team team) refl it.held.acked refl
   where
     shown : slice_get (set teams team changed) it.held.team ≡ Some t
@@ -171,7 +171,7 @@ counted_anew teams team changed it within counted t there = go (eqb it.held.team
     found : cond (eqb it.held.team team) (Some changed) (slice_get teams it.held.team) ≡ Some t
     found = sym (slice_get-set teams team it.held.team changed within) ∙ shown
 
-    go : (b : Bool) → eqb it.held.team team ≡ b → (a : Bool) → it.held.acked ≡ a → IsCounted t.members (cond (b && not a) (record it { missing = missing_among it.held.marks changed.members }) it)
+    go : (b : Bool) → eqb it.held.team team ≡ b → (a : Bool) → it.held.acked ≡ a → CountsMissing t.members (cond (b && not a) (record it { missing = missing_among it.held.marks changed.members }) it)
     go true same false still =
         let is : changed ≡ t = let e : Some changed ≡ Some t = ap (λ b. cond b (Some changed) (slice_get teams it.held.team)) (sym same) ∙ found in cc in
         record { right = λ _. ap (λ (x : Team). missing_among it.held.marks x.members) is }
@@ -183,6 +183,6 @@ pub AreKept-replaced : (teams : List Team) (records : List Counted) (team : ℕ)
 AreKept-replaced teams records team out into was there member kept = record {
   roster = subst (λ rs. IsRoster (record { teams = set teams team (with_member out into was); records = rs })) (sym (records_recounted team (swapped out into was.members) records))
       (IsRoster-replaced (roster_of teams records) team out into was there member kept.roster);
-  counted = All-map (IsCountedIn (set teams team (with_member out into was))) (recounted team (swapped out into was.members)) records
+  counted = All-map (CountsMissingIn (set teams team (with_member out into was))) (recounted team (swapped out into was.members)) records
       (λ i d within. counted_anew teams team (with_member out into was) (get_or records i d) (slice_get_within teams team was there) (kept.counted i d within));
 }

@@ -16,13 +16,13 @@ abbrev pub missing_among : sets.FinSet nat_cmp → List ProcId → ℕ
 missing_among marks members = length (filter (λ p. not (sets.contains marks p.0)) members)
 
 -- the number is right for these members; of an acknowledged record nothing is said
-pub record IsCounted (members : List ProcId) (it : Counted) : Type 0 where
+pub record CountsMissing (members : List ProcId) (it : Counted) : Type 0 where
   pub right : it.held.acked ≡ false → it.missing ≡ missing_among it.held.marks members
 
 -- the number is right for the members of the record's team
-abbrev pub IsCountedIn : List Team → Counted → Type 0
-IsCountedIn teams it =
-    (team : Team) → slice_get teams it.held.team ≡ Some team → IsCounted team.members it
+abbrev pub CountsMissingIn : List Team → Counted → Type 0
+CountsMissingIn teams it =
+    (team : Team) → slice_get teams it.held.team ≡ Some team → CountsMissing team.members it
 
 -- the teams and the records without their numbers
 abbrev pub roster_of : List Team → List Counted → Roster
@@ -31,7 +31,7 @@ roster_of teams records = record { teams = teams; records = map (λ it. it.held)
 -- what holds of teams and records as they are kept
 pub record AreKept (teams : List Team) (records : List Counted) : Type 0 where
   pub roster : IsRoster (roster_of teams records)
-  pub counted : All (IsCountedIn teams) records
+  pub counted : All (CountsMissingIn teams) records
 
 -- a record counted anew for these members, where it is of the team with a number and isn't
 -- acknowledged

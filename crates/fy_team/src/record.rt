@@ -2,7 +2,7 @@
 ghost use Rattle.std.specs.Prelude.{◌≡◌, ◌<◌, ◌&&◌, ◌||◌, not};
 ghost use Rattle.std.specs.FinSet as sets;
 ghost use Rattle.fy_team.specs.Teams.{unmarked, all_marked, unless_acked, is_among};
-ghost use Rattle.fy_team.specs.Counts.{IsCounted, missing_among, recounted};
+ghost use Rattle.fy_team.specs.Counts.{CountsMissing, missing_among, recounted};
 
 use crate::Members;
 use fy_disk::Payload;
@@ -53,7 +53,7 @@ impl KeptRecord {
     /// A record without marks, not acknowledged, of a team with these members. Takes no memory.
     pub(crate) fn make(team: u32, payload: Payload, members: &Members) -> KeptRecord
         ensures held { result.held ≡ unmarked team payload }
-        ensures counted { IsCounted members.now result }
+        ensures counted { CountsMissing members.now result }
     {
         KeptRecord {
             team,
@@ -82,13 +82,13 @@ impl KeptRecord {
     /// marked it by then, it is acknowledged from now on.
     pub(crate) fn mark(&mut self, p: ProcId, members: &Members)
         requires small { p.0 < MOST_PROCESSES }
-        requires counted { IsCounted members.now self.old }
+        requires counted { CountsMissing members.now self.old }
         ensures held { let marks = sets.insert self.old.held.marks p.0 in
             self.new.held ≡ record self.old.held {
               marks = marks;
               acked = self.old.held.acked || all_marked marks members.now;
             } }
-        ensures counted { IsCounted members.now self.new }
+        ensures counted { CountsMissing members.now self.new }
     {
         members.invariant();
         let fewer = self.is_missing(p, members);
@@ -102,9 +102,9 @@ impl KeptRecord {
     /// Takes a process's mark off, but where the record is acknowledged. The members are those of
     /// its team.
     pub(crate) fn heal(&mut self, p: ProcId, members: &Members)
-        requires { IsCounted members.now self.old }
+        requires { CountsMissing members.now self.old }
         ensures held { self.new.held ≡ unless_acked p.0 self.old.held }
-        ensures counted { IsCounted members.now self.new }
+        ensures counted { CountsMissing members.now self.new }
     {
         if !self.acked && self.marks.contains(p) {
             self.marks.invariant();

@@ -12,7 +12,7 @@ use Rattle.fy_cluster.specs.Replies.{Legal}
 use Rattle.fy_actors.specs.Desk.{Bench, entries_by}
 use Rattle.fy_yard.specs.declared.view.View.{View}
 use Rattle.fy_yard.specs.Yard.{StartsWith, Yard, Sitting, actor_count, actors, leftover, IsOf, Missing, new_seat, new_seats}
-use Rattle.fy_yard.specs.Turns.{Sat, Joined, keys, Absent, Differ, Kept, key_of, joined_by}
+use Rattle.fy_yard.specs.Turns.{Sat, Joined, keys, Absent, Differ, KeepsTurns, key_of, joined_by}
 use Rattle.fy_yard.specs.Places.{sitting, key_of_seat, Gathered, IsPlaceOf}
 use Rattle.fy_yard.proofs.Moves.{ends, Over}
 use Rattle.fy_yard.proofs.Turning.{of_yard}
@@ -302,7 +302,7 @@ each_of log first rest saw mine joined (suc k) d l =
 
 pub found : (id : ℕ) (y : Yard) (ss : List Sitting) (m : Sat) (ws : List ℕ)
     (xs : List (Option Bench)) (r : Option Bench) → Gathered y ss m
-    → actor_count y.setup ≤ length ss → Final (Seen Kept id m.0) ws xs
+    → actor_count y.setup ≤ length ss → Final (Seen KeepsTurns id m.0) ws xs
     → get_elem? xs 0 ≡ some r → Found y ss r
 found id y ss m ws xs r g many last at =
     let v : View = m.0 in

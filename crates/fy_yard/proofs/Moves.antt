@@ -15,7 +15,7 @@ use Rattle.fy_cluster.specs.Replies.{Legal}
 use Rattle.fy_actors.specs.Desk.{Bench, entries_by, OnlyBy}
 use Rattle.fy_yard.specs.declared.view.View.{View}
 use Rattle.fy_yard.specs.Yard.{StartsWith, actor_count}
-use Rattle.fy_yard.specs.Turns.{bench, Joined, keys, Absent, Differ, desk_of, total, Plan, Fits, Busy, slot_of, Kept, Sat, newcomer, with_ticket, serving_at, after_count, without_ticket, less_one, next_seat, note_of, spent_view, told_by, key_of, joined_by, longer, after_meeting, Met, journal_in, Drawn, Looked, Counted, Advanced}
+use Rattle.fy_yard.specs.Turns.{bench, Joined, keys, Absent, Differ, desk_of, total, Plan, Fits, Busy, slot_of, KeepsTurns, Sat, newcomer, with_ticket, serving_at, after_count, without_ticket, less_one, next_seat, note_of, spent_view, told_by, key_of, joined_by, longer, after_meeting, Met, journal_in, Drawn, Looked, Counted, Advanced}
 use Rattle.fy_yard.proofs.Journals.{by_else, begins_none, begins_more, begins_all, between, whole}
 
 -- the function f, with x at k
@@ -97,7 +97,7 @@ others_wait p next serving own out hand left j u f queued served = record {
 }
 
 pub draws : (slots id : ℕ) (me : Sat) → me.0.waits ≡ 0 → 0 < me.0.parts
-    → Allows Kept slots id me 1 (λ n. (n + 1) % 2 ^ 64) (Drawn (step slots 1 1 0 none) me)
+    → Allows KeepsTurns slots id me 1 (λ n. (n + 1) % 2 ^ 64) (Drawn (step slots 1 1 0 none) me)
 draws slots id me idle part s r _ at _ =
     let v : View = me.0 in
     let p : Plan = r.plan in
@@ -155,7 +155,7 @@ at_home true n = absurd (n refl)
 at_home false n = refl
 
 pub looks : (slots id : ℕ) (me : Sat) → 0 < me.0.waits → me.0.holds ≡ false → me.0.seated ≡ true
-    → Allows Kept slots id me 2 (λ n. n) (Looked (step slots 2 0 0 none) me)
+    → Allows KeepsTurns slots id me 2 (λ n. n) (Looked (step slots 2 0 0 none) me)
 looks slots id me queued idle seated s r _ at _ =
     let v : View = me.0 in
     let p : Plan = r.plan in
@@ -268,7 +268,7 @@ pub counts : (slots id new : ℕ) (me : Sat) (d : Bench) (es : List Entry) → m
     → me.0.seated ≡ true → me.0.kept ≡ [] → me.1 ≡ (0, Some d) ∷ [] → d.journal ≡ me.0.seen ++ es
     → OnlyBy me.0.actor es
     → Legal me.0.setup (me.0.seen ++ es) → new ≡ length (me.0.seen ++ es)
-    → Allows Kept slots id me 0 (λ _. new) (λ _. Counted (step slots 0 new 0 none) me new)
+    → Allows KeepsTurns slots id me 0 (λ _. new) (λ _. Counted (step slots 0 new 0 none) me new)
 counts slots id new me d es holds seated alone carried grown only legal new_is s r _ at _ =
     let v : View = me.0 in
     let p : Plan = r.plan in
@@ -355,7 +355,7 @@ counts slots id new me d es holds seated alone carried grown only legal new_is s
 
 pub advances : (slots id : ℕ) (me : Sat) (d : Bench) → me.0.holds ≡ true → me.0.waits ≡ 1
     → me.0.live ≡ true → me.1 ≡ (0, Some d) ∷ [] → d.setup ≡ me.0.setup → d.journal ≡ me.0.seen
-    → Allows Kept slots id me 2 (λ n. (n + 1) % 2 ^ 64) (Advanced (step slots 2 1 0 none) me)
+    → Allows KeepsTurns slots id me 2 (λ n. (n + 1) % 2 ^ 64) (Advanced (step slots 2 1 0 none) me)
 advances slots id me d holds one live carried setup journal s r _ at _ =
     let v : View = me.0 in
     let p : Plan = r.plan in
@@ -451,7 +451,7 @@ busy_snoc vs w b = (b.0, b.1, at_front vs w b.0 b.1 b.2, b.3)
 
 pub splits : (id : ℕ) (v : View) → v.opens ≡ true → v.live ≡ true → v.waits ≡ 0 → 0 < v.parts
     → v.holds ≡ false → v.seated ≡ true → v.kept ≡ [] → v.made < v.all
-    → Splits Kept id v (less_one v) (next_seat v)
+    → Splits KeepsTurns id v (less_one v) (next_seat v)
 splits id v opens live idle some_part not_held seated alone more s r at =
     let p : Plan = r.plan in
     let n : ℕ = length s.views in
@@ -540,7 +540,7 @@ splits id v opens live idle some_part not_held seated alone more s r at =
           (busy_else s.views id v w at not_served (r.busy o));
     }
 
-pub notes : (id : ℕ) (v : View) → v.live ≡ true → Splits Kept id v v (note_of v)
+pub notes : (id : ℕ) (v : View) → v.live ≡ true → Splits KeepsTurns id v v (note_of v)
 notes id v live s r at =
     let p : Plan = r.plan in
     let n : ℕ = length s.views in
@@ -551,7 +551,7 @@ notes id v live s r at =
     let parts' = total_snoc (λ x. x.parts) s.views new in
     let sum = r.counted in
     let all_parts = r.parts in
-    subst (λ (vs : List View). Kept record
+    subst (λ (vs : List View). KeepsTurns record
     { words = s.words; homes = s.homes; views = vs ++ new ∷ [] }) (sym same)
     record {
       plan = p;
@@ -605,7 +605,7 @@ there_too : (vs : List View) (id other : ℕ) (w u : View) → ¬ (other ≡ id)
 there_too vs id other w u apart e = sym (set_else vs id other w apart) ∙ e
 
 pub tells : (id : ℕ) (v : View) (other : ℕ) (u : View) → u.waits ≡ 0 → u.parts ≡ 0 → u.holds ≡ false
-    → Joins Kept id v other u (told_by v u) spent_view
+    → Joins KeepsTurns id v other u (told_by v u) spent_view
 tells id v other u idle no_part not_held s r at apart there =
     let p : Plan = r.plan in
     let w : View = told_by v u in
@@ -686,7 +686,7 @@ differ_more a xs x d n h =
 
 pub joins : (id : ℕ) (v : View) (other : ℕ) (u : View) → v.seated ≡ true → v.holds ≡ false
     → u.waits ≡ 0 → u.holds ≡ false → u.seated ≡ true
-    → Joins Kept id v other u (joined_by v u) spent_view
+    → Joins KeepsTurns id v other u (joined_by v u) spent_view
 joins id v other u my_seat mine_idle idle not_held seated s r at apart there =
     let p : Plan = r.plan in
     let w : View = joined_by v u in
@@ -795,7 +795,7 @@ meet_lists l xs ys a c false is = let less : length ys ≤ length xs = grind (ar
     (begins_all xs, begins_both l ys xs c.0 a.0 c.1 a.1 less)
 
 pub meets : (slots id : ℕ) (me : Sat) → me.0.holds ≡ false → me.0.seated ≡ true
-    → Allows Kept slots id me 0 (λ n. n) (Met (step slots 0 0 0 none) me)
+    → Allows KeepsTurns slots id me 0 (λ n. n) (Met (step slots 0 0 0 none) me)
 meets slots id me idle seated s r _ at _ =
     let v : View = me.0 in
     let p : Plan = r.plan in
@@ -859,7 +859,7 @@ meets slots id me idle seated s r _ at _ =
 
 pub starts : (setup : Setup) (d : Bench) → d.setup ≡ setup → d.journal ≡ []
     → 1 ≤ actor_count setup → actor_count setup < 2 ^ 64
-    → Kept (opening (0 ∷ 0 ∷ 0 ∷ []) (Some d ∷ []) (newcomer setup))
+    → KeepsTurns (opening (0 ∷ 0 ∷ 0 ∷ []) (Some d ∷ []) (newcomer setup))
 starts setup d is empty some_actor few = record {
   plan = p;
   legal = blank;
@@ -945,7 +945,7 @@ total_one : (f : View → ℕ) → f spent_view ≡ 0 → (vs : List View) (i : 
 total_one f zero_is vs i v a = let none_i = total_set f vs i v spent_view a in omega arith
 
 pub ends : (id : ℕ) (v : View) (s : State (Option Bench) View) → v.seated ≡ true → v.holds ≡ false
-    → v.all ≤ v.parts → Kept s → get_elem? s.views id ≡ some v
+    → v.all ≤ v.parts → KeepsTurns s → get_elem? s.views id ≡ some v
     → (b : Bench) × (get_elem? s.homes 0 ≡ some (some (Some b))) × (b.setup ≡ v.setup)
     × ((made : ℕ) × Over v b.journal made)
 ends id v s seated idle whole r at =

@@ -8,7 +8,7 @@ use Rattle.fy_actors.specs.declared.desk.Turn.TheVariants.{More, Ended as Over}
 use Rattle.fy_actors.specs.Desk.{Bench, entries_by, Worked}
 use Rattle.fy_actors.specs.Parts.{Part, is_left, PlaysTurn, KeepsTo, Tells, TurnsKeepTo, OthersChangeNoPart, AnswersTell}
 use Rattle.fy_actors.specs.Parts.Part.{Own}
-use Rattle.fy_yard.specs.Yard.{Yard, Sitting, StartsWith, Keeps, Sees}
+use Rattle.fy_yard.specs.Yard.{Yard, Sitting, StartsWith, Keeps, SeesMore}
 use Rattle.fy_yard.specs.Parts.{desk_of, PlaysAt, Follows, Played}
 use Rattle.fy_yard.specs.declared.posts.End.{End}
 use Rattle.fy_yard.specs.declared.posts.End.TheVariants.{NotRun, Ended, Limit, Shut, Failed}
@@ -31,7 +31,7 @@ nothing_more xs ys e =
 
 -- who kept to a part still does after a turn
 pub turn_follows : TurnsKeepTo → OthersChangeNoPart → (y : Yard) (s t : Sitting) (was now : Part)
-    (result : Result Turn Fault) → t.actor ≡ s.actor → Sees y s t
+    (result : Result Turn Fault) → t.actor ≡ s.actor → SeesMore y s t
     → PlaysAt y s t was now result → (first : Part) → Follows y first s was
     → Follows y first t now
 turn_follows turns others y s t was now result same sees turn first follows =
@@ -66,7 +66,7 @@ begins y s was = record {
 -- one turn more, and more are wanted
 pub goes_on : TurnsKeepTo → OthersChangeNoPart → AnswersTell → (y : Yard) (n : ℕ)
     (s m t : Sitting) (was mid now : Part) (result : Result Turn Fault)
-    → Playing y n s m was mid → t.actor ≡ m.actor → Sees y m t
+    → Playing y n s m was mid → t.actor ≡ m.actor → SeesMore y m t
     → PlaysAt y m t mid now result → result ≡ Ok More → Playing y (n + 1) s t was now
 goes_on turns others tell y n s m t was mid now result so_far same sees turn is =
     let said : Tells (mid, desk_of y m turn.log) (now, desk_of y t t.seen) result =
@@ -86,7 +86,7 @@ goes_on turns others tell y n s m t was mid now result so_far same sees turn is 
 -- the actor wants no further turn
 pub ends : TurnsKeepTo → OthersChangeNoPart → AnswersTell → (y : Yard) (shuts : Type 0)
     (n most : ℕ) (s m t : Sitting) (was mid now : Part) (result : Result Turn Fault)
-    → Playing y n s m was mid → t.actor ≡ m.actor → Sees y m t
+    → Playing y n s m was mid → t.actor ≡ m.actor → SeesMore y m t
     → PlaysAt y m t mid now result → result ≡ Ok Over → Played y shuts most s t was now Ended
 ends turns others tell y shuts n most s m t was mid now result so_far same sees turn is =
     let said : Tells (mid, desk_of y m turn.log) (now, desk_of y t t.seen) result =
@@ -111,7 +111,7 @@ is_fault x y e = cc
 -- a turn had a fault
 pub fails : TurnsKeepTo → OthersChangeNoPart → AnswersTell → (y : Yard) (shuts : Type 0)
     (n most : ℕ) (s m t : Sitting) (was mid now : Part) (result : Result Turn Fault)
-    (fault : Fault) → Playing y n s m was mid → t.actor ≡ m.actor → Sees y m t
+    (fault : Fault) → Playing y n s m was mid → t.actor ≡ m.actor → SeesMore y m t
     → PlaysAt y m t mid now result → result ≡ Err fault
     → Played y shuts most s t was now (Failed fault)
 fails turns others tell y shuts n most s m t was mid now result fault so_far same sees turn failed =
@@ -218,10 +218,10 @@ further long mid front far near = (
 )
 
 -- what a seat sees that had seen nothing yet, or the like before
-pub sees_on : (y : Yard) (s t u : Sitting) → (t ≡ s) ⊎ Sees y s t → Sees y t u → Sees y s u
+pub sees_on : (y : Yard) (s t u : Sitting) → (t ≡ s) ⊎ SeesMore y s t → SeesMore y t u → SeesMore y s u
 sees_on y s t u so_far then =
-    ⊎_elim (λ (is : t ≡ s). subst (λ (x : Sitting). Sees y x u) is then)
-    (λ (sees : Sees y s t). record {
+    ⊎_elim (λ (is : t ≡ s). subst (λ (x : Sitting). SeesMore y x u) is then)
+    (λ (sees : SeesMore y s t). record {
       survives = then.survives;
       before = further u.seen t.seen s.seen then.before sees.before;
       own = then.own;

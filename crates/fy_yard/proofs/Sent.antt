@@ -1,4 +1,4 @@
--- what may go from thread to thread: each type from those that it is made of
+-- what may go from thread to thread of shared clusters: each type from those that it is made of
 use denote.Param.Send.{IsSend, IsSync, sendable, view_send, view_sync}
 use denote.Hole.{as_row}
 use denote.Param.SendFields.{as_row_send, as_row_sync, declared_send, declared_sync}
@@ -14,32 +14,7 @@ use denote.Param.Object.{Ghosts, Vt, ghosts_of, table_of}
 use denote.Struct.Field.{row_field, shr_ref_field, u32-field}
 use denote.Struct.Tuple.{TupleAt, type_at}
 use Rattle.std.proofs.Crossing.{crosses, dyn_box_send}
-use Rattle.fy_locality.proofs.map.Map.TheSendSync as map
-use Rattle.fy_locality.proofs.process_set.ProcSet.TheSendSync as sets_cross
-use Rattle.fy_locality.specs.contracts.process_set.ProcSet as process_set
-use Rattle.fy_policy.specs.contracts.shape.Shape as shape
-use Rattle.fy_policy.proofs.shape.Shape.TheLaws.TheKnot.{send-Shape, hole_send-Shape}
-use Rattle.fy_policy.specs.contracts.policy.Policy as policy
-use Rattle.fy_policy.specs.contracts.policy.Policy.TheInside as inside
-use Rattle.fy_policy.specs.contracts.node.Node as node
-use Rattle.fy_policy.proofs.node.Node.TheLaws.TheKnot.{send-Node, hole_send-Node}
-use Rattle.fy_policy.specs.contracts.tally.Tally as tally
-use Rattle.fy_policy.specs.contracts.tally.Tally.TheInside as in_tally
-use Rattle.fy_decide.specs.contracts.dead_book.DeadBook as dead_book
-use Rattle.fy_decide.specs.contracts.dead_book.DeadBook.TheInside as in_dead_book
-use Rattle.fy_grants.proofs.grant.Grant.TheSendSync as grant
-use Rattle.fy_grants.proofs.book.Book.TheSendSync as book
-use Rattle.fy_disk.proofs.disk.Disk.TheSendSync as disk
-use Rattle.fy_net.proofs.net.Net.TheSendSync as net
-use Rattle.fy_team.proofs.teams.Teams.TheSendSync as teams
 use Rattle.fy_acts.proofs.entry.Entry.TheSendSync as entry
-use Rattle.fy_journal.proofs.journal.Journal.TheSendSync as journal
-use Rattle.fy_cluster.specs.contracts.config.Config as config
-use Rattle.fy_cluster.specs.contracts.machine.Machine as machine
-use Rattle.fy_cluster.specs.contracts.cluster.Cluster as cluster
-use Rattle.fy_cluster.specs.contracts.cluster.Cluster.TheInside as in_cluster
-use Rattle.fy_actors.specs.contracts.desk.Desk as desk
-use Rattle.fy_actors.specs.contracts.desk.Desk.TheInside as in_desk
 use Rattle.atomic_table.proofs.shared.Seat.TheSendSync as place
 use Rattle.atomic_table.proofs.shared.Shared.TheSendSync as steps
 use Rattle.atomic_table.proofs.owned.Table.TheSendSync as table
@@ -52,95 +27,7 @@ use Rattle.std.specs.contracts.dyn_box.DynBox as object
 use Rattle.std.specs.contracts.alloc.Global as heap
 use Rattle.std.specs.contracts.impls.GlobalAllocator.TheImpl.{ghosts as heap_ghosts}
 use Rattle.fy_yard.proofs.posts.End.TheSendSync as end
-
-pub shape_send : IsSend shape.the_row
-shape_send = search (send-Shape, sendable, crosses) depth 20
-
-pub field_send : IsSend (as_row shape.the_field)
-field_send = search (hole_send-Shape, send-Shape, as_row_send, sendable, crosses) depth 20
-
-pub inside_send : IsSend inside.the_row
-inside_send = declared_send inside.the_type (field_send, tt)
-
-pub policy_send : IsSend policy.the_row
-policy_send = search (inside_send, field_send, shape_send, declared_send, sendable, crosses) depth 20
-
-pub node_send : IsSend node.the_row
-node_send = search (send-Node, sendable, crosses) depth 20
-
-pub node_field_send : IsSend (as_row node.the_field)
-node_field_send = search (hole_send-Node, send-Node, as_row_send, sendable, crosses) depth 20
-
-pub tally_send : IsSend tally.the_row
-tally_send =
-    let sets : IsSend (as_row process_set.the_field) =
-    search (sets_cross.the_send, sendable, crosses) depth 20 in
-    let inner : IsSend in_tally.the_row =
-    declared_send in_tally.the_type
-    ((search (map.the_send, map.the_sync, sendable, crosses) depth 20), (sets, (policy_send, (node_field_send, (sets, tt))))) in
-    search (inner, view_send)
-
-pub dead_book_send : IsSend dead_book.the_row
-dead_book_send =
-    let sets : IsSend (as_row process_set.the_field) =
-    search (sets_cross.the_send, sendable, crosses) depth 20 in
-    let inner : IsSend in_dead_book.the_row =
-    declared_send in_dead_book.the_type (
-      (search (map.the_send, map.the_sync, sendable, crosses) depth 20),
-      (
-        (search (policy_send, sendable, crosses) depth 20),
-        (
-          sets,
-          (
-            sets,
-            (
-              (search (tally_send, sendable, crosses) depth 20),
-              ((search (tally_send, sendable, crosses) depth 20), tt),
-            ),
-          ),
-        ),
-      ),
-    ) in
-    search (inner, view_send)
-
-pub config_send : IsSend config.the_row
-config_send = search (map.the_send, policy_send, grant.the_send, sendable, crosses) depth 20
-
-pub machine_send : IsSend machine.the_row
-machine_send =
-    search (
-      dead_book_send,
-      book.the_send,
-      disk.the_send,
-      net.the_send,
-      teams.the_send,
-      sendable,
-      crosses,
-    ) depth 20
-
-pub cluster_send : IsSend cluster.the_row
-cluster_send =
-    let inner : IsSend in_cluster.the_row =
-    declared_send in_cluster.the_type (
-      (search (sendable, crosses) depth 20),
-      (config_send, (journal.the_send, (machine_send, tt))),
-    ) in
-    search (inner, view_send)
-
-pub desk_send : IsSend desk.the_row
-desk_send =
-    let inner : IsSend in_desk.the_row =
-    declared_send in_desk.the_type (
-      (search (sendable, crosses) depth 20),
-      (
-        cluster_send,
-        (
-          (search (sendable, crosses) depth 20),
-          ((search (entry.the_send, sendable, crosses) depth 20), tt),
-        ),
-      ),
-    ) in
-    search (inner, view_send)
+use Rattle.fy_actors.proofs.Sent.{desk_send}
 
 pub seat_send : IsSend seat.the_row
 seat_send =

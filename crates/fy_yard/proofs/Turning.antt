@@ -9,10 +9,10 @@ use Rattle.fy_cluster.specs.Replies.{Legal}
 use Rattle.fy_cluster.specs.Survival.{JournalsSurvive}
 use Rattle.fy_acts.specs.declared.act.Act.{Act}
 use Rattle.fy_acts.specs.declared.reply.Reply.{Reply}
-use Rattle.fy_actors.specs.Desk.{Bench, entries_by, OnlyBy, Worked, acted, told, receipt}
+use Rattle.fy_actors.specs.Desk.{Bench, entries_by, OnlyBy, Worked, acted, desk_reply, receipt}
 use Rattle.fy_yard.specs.declared.view.View.{View}
-use Rattle.fy_yard.specs.Yard.{StartsWith, Yard, Sitting, Sees, Ends, Turned, entry, actor_count}
-use Rattle.fy_yard.specs.Turns.{Sat, At, with_ticket, serving_at, after_count, without_ticket, journal_in, Kept, Drawn, Took, Looks, Counted, Advanced}
+use Rattle.fy_yard.specs.Yard.{StartsWith, Yard, Sitting, SeesMore, Ends, Turned, entry, actor_count}
+use Rattle.fy_yard.specs.Turns.{Sat, At, with_ticket, serving_at, after_count, without_ticket, journal_in, KeepsTurns, Drawn, Took, Looks, Counted, Advanced}
 use Rattle.fy_yard.specs.Places.{IsCalm, IsPlaceOf, IsWaiting, Waits, IsSameActor, IsServed, IsGrown, sitting}
 use Rattle.fy_yard.proofs.Journals.{by_more, begins_more}
 use Rattle.fy_yard.proofs.Moves.{counts, advances}
@@ -128,7 +128,7 @@ served m l x n r b waits t e new is =
 pub stores : (slots id new : ℕ) (m x : Sat) (b : Bench) → x ≡ (m.0, (0, Some b) ∷ rest m.1)
     → m.1 ≡ (0, None) ∷ [] → m.0.holds ≡ true → m.0.seated ≡ true → m.0.kept ≡ []
     → IsGrown m.0 b → Legal b.setup b.journal → new ≡ length b.journal
-    → Allows Kept slots id x 0 (λ _. new) (λ _. Counted (step slots 0 new 0 none) x new)
+    → Allows KeepsTurns slots id x 0 (λ _. new) (λ _. Counted (step slots 0 new 0 none) x new)
 stores slots id new m x b is empty holds seated alone grown legal new_is =
     let x₀ : Sat = (m.0, (0, Some b) ∷ []) in
     let same : x ≡ x₀ =
@@ -137,7 +137,7 @@ stores slots id new m x b is empty holds seated alone grown legal new_is =
     let journal = grown.journal in
     subst
     (λ (z : Sat).
-    Allows Kept slots id z 0 (λ _. new) (λ _. Counted (step slots 0 new 0 none) z new))
+    Allows KeepsTurns slots id z 0 (λ _. new) (λ _. Counted (step slots 0 new 0 none) z new))
     (sym same)
     (counts slots id new x₀ b grown.new holds seated alone refl journal grown.own
     (subst (λ (z : Setup × List Entry). Legal z.0 z.1) (λ i. (setup i, journal i)) legal)
@@ -155,11 +155,11 @@ counted m x y b is empty did =
 pub moves_on : (slots id : ℕ) (m y : Sat) (b : Bench)
     → y ≡ (after_count m.0 b.journal, (0, Some b) ∷ []) → m.0.holds ≡ true → m.0.waits ≡ 1
     → m.0.live ≡ true → b.setup ≡ m.0.setup
-    → Allows Kept slots id y 2 (λ n. (n + 1) % 2 ^ 64) (Advanced (step slots 2 1 0 none) y)
+    → Allows KeepsTurns slots id y 2 (λ n. (n + 1) % 2 ^ 64) (Advanced (step slots 2 1 0 none) y)
 moves_on slots id m y b is holds one live setup =
     subst
     (λ (z : Sat).
-    Allows Kept slots id z 2 (λ n. (n + 1) % 2 ^ 64) (Advanced (step slots 2 1 0 none) z))
+    Allows KeepsTurns slots id z 2 (λ n. (n + 1) % 2 ^ 64) (Advanced (step slots 2 1 0 none) z))
     (sym is)
     (advances slots id (after_count m.0 b.journal, (0, Some b) ∷ []) b holds one live refl setup
     refl)
@@ -253,7 +253,7 @@ pub sees : (y : Yard) (s : Sitting) (a : ℕ) (rs rs' : List Entry)
     (p : Place (Option Bench) View) (o : Option Yard) (z : Sat) (b : Bench) (j : List Entry)
     → JournalsSurvive → IsMet y.setup → sitting a rs (Some p) ≡ s → s.of ≡ Some y
     → Done p.me z b j a rs'
-    → Sees y s (record { of = o; actor = a; receipts = rs'; seen = z.0.seen })
+    → SeesMore y s (record { of = o; actor = a; receipts = rs'; seen = z.0.seen })
 sees y s a rs rs' p o z b j survive met is of d =
     let seen = sym d.seen in
     let yard = of_yard y s a rs p is of in
@@ -307,7 +307,7 @@ grown v m b b₁ b₂ b₃ a a' rs rs' served actor sat worked left =
 pub ordered : (s : Sitting) (a : ℕ) (rs rs' : List Entry) (p : Place (Option Bench) View)
     (o : Option Yard) (z : Sat) (b b₁ b₂ : Bench) (j : List Entry) (at : ℕ) (act : Act)
     (reply : Reply) → sitting a rs (Some p) ≡ s → Done p.me z b j a rs'
-    → b₁ ≡ record b { actor = a; receipts = rs } → b₂ ≡ acted b₁ act → reply ≡ told b₁ act
+    → b₁ ≡ record b { actor = a; receipts = rs } → b₂ ≡ acted b₁ act → reply ≡ desk_reply b₁ act
     → j ≡ b₂.journal → rs' ≡ b₂.receipts → at ≡ length b.journal
     → Ends s (record { of = o; actor = a; receipts = rs'; seen = z.0.seen }) act at reply
 ordered s a rs rs' p o z b b₁ b₂ j at act reply is d sat did said journal receipts place =

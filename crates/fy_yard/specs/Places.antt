@@ -105,6 +105,15 @@ pub record IsServed (v : View) (m : Sat) (desk : Bench) : Type 0 where
   pub legal : Legal v.setup desk.journal
   pub own : entries_by v.actor desk.journal ≡ v.mine
 
+-- it is the seat's turn, and the desk is out of its slot
+pub record IsServing (m : Sat) : Type 0 where
+  pub slot : m.1 ≡ (0, None) ∷ []
+  pub waits : m.0.waits ≡ 1
+  pub holds : m.0.holds ≡ true
+  pub seated : m.0.seated ≡ true
+  pub live : m.0.live ≡ true
+  pub kept : m.0.kept ≡ []
+
 -- the desk comes back with more entries, of the seat's actor alone
 pub record IsGrown (v : View) (desk : Bench) : Type 0 where
   pub setup : desk.setup ≡ v.setup

@@ -1,6 +1,6 @@
 -- what a run leaves of its posts
 use Rattle.std.specs.Prelude.{◌≡◌, ◌≢◌, ◌⊎◌, ℕ, ◌<◌, List, length, slice_index_or}
-use Rattle.fy_yard.specs.Yard.{Yard, Sitting, StartsWith, Keeps, Sees}
+use Rattle.fy_yard.specs.Yard.{Yard, Sitting, StartsWith, Keeps, SeesMore}
 use Rattle.fy_yard.specs.declared.posts.End.{End}
 use Rattle.fy_yard.specs.declared.posts.End.TheVariants.{NotRun, Limit, Shut}
 
@@ -14,7 +14,7 @@ Idles s t end = (t ≡ s) × ((end ≡ Shut) ⊎ (end ≡ Limit))
 pub record Ran (y : Yard) (s t : Sitting) (end : End) : Type 0 where
   pub seat : Keeps s t
   pub receipts : StartsWith t.receipts s.receipts
-  pub sees : Idles s t end ⊎ Sees y s t
+  pub sees : Idles s t end ⊎ SeesMore y s t
   pub ended : end ≢ NotRun
 
 -- so it is for each post, which has a seat and an end

@@ -95,7 +95,7 @@ desk_of p = bench p.setup p.log p.hand p.left
 -- the rule: the journal is legal, the words count it and the tickets, each view fits, who has no
 -- seat yet has no entry, as many tickets are out as are wanted, and the desk is at home unless a
 -- seat is served
-pub record Kept (s : State (Option Bench) View) : Type 0 where
+pub record KeepsTurns (s : State (Option Bench) View) : Type 0 where
   pub plan : Plan
   pub legal : Legal plan.setup plan.log
   pub blank : Legal plan.setup []

@@ -45,7 +45,7 @@ Stays s t = Keeps s t × (t.receipts ≡ s.receipts)
 -- the journal then seen is legal and keeps what every legal journal keeps: each acknowledged record
 -- has a synced copy on an undestroyed member, and so on; it begins with all that had been seen, and
 -- its entries of the actor are the receipts
-pub record Sees (y : Yard) (s t : Sitting) : Type 0 where
+pub record SeesMore (y : Yard) (s t : Sitting) : Type 0 where
   pub survives : Survives y.setup t.seen
   pub before : StartsWith t.seen s.seen
   pub own : entries_by t.actor t.seen ≡ t.receipts

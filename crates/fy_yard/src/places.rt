@@ -4,7 +4,7 @@ ghost use Rattle.fy_cluster.specs.Replies.{Legal};
 ghost use Rattle.fy_actors.specs.Desk.{entries_by};
 ghost use Rattle.fy_yard.specs.Yard.{StartsWith};
 ghost use Rattle.fy_yard.specs.Turns.{without_ticket, after_count, less_one, next_seat, after_meeting, told_by};
-ghost use Rattle.fy_yard.specs.Places.{IsTurnstile, IsCalm, IsWaiting, Waits, IsServed, IsGrown, IsOpener};
+ghost use Rattle.fy_yard.specs.Places.{IsTurnstile, IsCalm, IsWaiting, Waits, IsServed, IsServing, IsGrown, IsOpener};
 
 use crate::turns::{Advance, Another, Count, Draw, Look, Meet, Note, Place, Turnstile};
 use fy_actors::Desk;
@@ -46,9 +46,7 @@ pub(crate) fn wait_for<R: Wait>(rt: &R, table: &Turnstile, place: &mut Place, ti
 pub(crate) fn finish(table: &Turnstile, place: &mut Place, desk: Desk)
     requires table { (place.old.table_id ≡ table.now.shared.table_id)
         × IsTurnstile table.now.shared.table_id }
-    requires served { (place.old.me.1 ≡ (0, None) ∷ []) × (place.old.me.0.waits ≡ 1)
-        × (place.old.me.0.holds ≡ true) × (place.old.me.0.seated ≡ true)
-        × (place.old.me.0.live ≡ true) × (place.old.me.0.kept ≡ []) }
+    requires serving { IsServing place.old.me }
     requires grown { IsGrown place.old.me.0 desk }
     ensures place { place.new.table_id ≡ place.old.table_id }
     ensures seen { place.new.me ≡ (without_ticket (after_count place.old.me.0 desk.journal), []) }

@@ -1,5 +1,5 @@
 //! The rule of the turnstile, and its steps.
-ghost use Rattle.fy_yard.specs.Turns.{Kept, newcomer, Drawn, Looked, Counted, Advanced, Met, less_one, next_seat, note_of, told_by, joined_by, spent_view};
+ghost use Rattle.fy_yard.specs.Turns.{KeepsTurns, newcomer, Drawn, Looked, Counted, Advanced, Met, less_one, next_seat, note_of, told_by, joined_by, spent_view};
 
 use crate::view::View;
 use atomic_table::{Join, Play, Seat, Split, Table, TableRule};
@@ -12,7 +12,7 @@ use std::snapshot::Snapshot;
 pub struct InTurn;
 
 impl TableRule<Option<Desk>, View, Snapshot<Config>> for InTurn {
-    ghost holds = { λ _. Kept };
+    ghost holds = { λ _. KeepsTurns };
 
     ghost first = { λ key. newcomer key.value };
 }

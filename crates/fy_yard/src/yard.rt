@@ -8,7 +8,7 @@ ghost use Rattle.fy_cluster.specs.Replies.{Legal};
 ghost use Rattle.fy_cluster.specs.declared.fault.Fault.TheVariants.{JournalFull};
 ghost use Rattle.fy_yard.specs.Turns.{newcomer};
 ghost use Rattle.fy_yard.specs.Places.{IsPlaceOf, Gathered, sitting};
-ghost use Rattle.fy_yard.specs.Yard.{Yard, actor_count, Keeps, Stays, Sees, Ends as EndsWith, Turned, Together, leftover, new_seats, Settled, Missing};
+ghost use Rattle.fy_yard.specs.Yard.{Yard, actor_count, Keeps, Stays, SeesMore, Ends as EndsWith, Turned, Together, leftover, new_seats, Settled, Missing};
 ghost use Rattle.fy_yard.specs.Parts.{PlaysAt};
 ghost use Rattle.fy_yard.specs.declared.yard.CloseFault.TheVariants.{SeatsMissing};
 
@@ -284,7 +284,7 @@ impl Shared {
     pub fn order<R: Wait>(&self, rt: &R, seat: &mut Seat, act: Act) -> Result<Receipt, Fault>
         requires { seat.old.of ≡ Some self.now }
         ensures same { Keeps seat.old seat.new }
-        ensures sees { Sees self.now seat.old seat.new }
+        ensures sees { SeesMore self.now seat.old seat.new }
         ensures ok { IfOk result
             (λ receipt. EndsWith seat.old seat.new act receipt.at receipt.reply) }
         ensures err { IfErr result (λ fault. (seat.new.receipts ≡ seat.old.receipts)
@@ -328,7 +328,7 @@ impl Shared {
     ) -> Result<Turn, Fault>
         requires { seat.old.of ≡ Some self.now }
         ensures same { Keeps seat.old seat.new }
-        ensures sees { Sees self.now seat.old seat.new }
+        ensures sees { SeesMore self.now seat.old seat.new }
         ensures turned { Turned seat.old seat.new }
         ensures plays { PlaysAt self.now seat.old seat.new (part actor.old) (part actor.new)
             result }
@@ -355,8 +355,8 @@ impl Shared {
     pub fn meet(&self, one: &mut Seat, other: &mut Seat) -> Result<(), NoMemory>
         requires { (one.old.of ≡ Some self.now) × (other.old.of ≡ Some self.now) }
         ensures always { result ≡ Ok tt }
-        ensures one { Stays one.old one.new × Sees self.now one.old one.new }
-        ensures other { Stays other.old other.new × Sees self.now other.old other.new }
+        ensures one { Stays one.old one.new × SeesMore self.now one.old one.new }
+        ensures other { Stays other.old other.new × SeesMore self.now other.old other.new }
         ensures together { Together one.old other.old one.new other.new }
     {
         let Some(mut here) = one.place.take() else {

@@ -13,19 +13,19 @@ use std::marker::Model;
 
 /// Why a line is not taken.
 #[derive(Clone, Copy, PartialEq, Eq, Debug)]
-pub enum LineFault {
+pub enum TakeFault {
     Fault(JudgeFault),
     NoMemory,
 }
 
-impl<T: Drop> From<AllocFailed<T>> for LineFault {
-    ghost use Rattle.faultyard.specs.declared.judge.input.LineFault.TheVariants.{NoMemory};
+impl<T: Drop> From<AllocFailed<T>> for TakeFault {
+    ghost use Rattle.faultyard.specs.declared.judge.input.TakeFault.TheVariants.{NoMemory};
     ghost use Rattle.std.specs.Prelude.{◌≡◌};
 
     ghost from_gives = { λ _ e. e ≡ NoMemory };
 
-    fn from(_: AllocFailed<T>) -> LineFault {
-        LineFault::NoMemory
+    fn from(_: AllocFailed<T>) -> TakeFault {
+        TakeFault::NoMemory
     }
 }
 
@@ -101,61 +101,61 @@ impl Input {
     }
 
     /// Takes the next line.
-    pub fn take_line(&mut self, alloc: Global, line: &[u8]) -> Result<(), LineFault>
+    pub fn take_line(&mut self, alloc: Global, line: &[u8]) -> Result<(), TakeFault>
         ensures taken { OnOk result (Step self.old (said_of line.now) (Ok self.new)) }
         ensures refused { IfErr result
             (λ e. IfFault e (λ fault. Step self.old (said_of line.now) (Err fault))) }
     {
         let (word, rest) = first_word(line);
         let Some(rest) = rest else {
-            return Err(LineFault::Fault(JudgeFault::Syntax));
+            return Err(TakeFault::Fault(JudgeFault::Syntax));
         };
         match announced_by(word) {
             Some(Keyword::Policy) => match policy_rest(rest) {
                 Some(text) => self.take_policy(alloc, text),
-                None => Err(LineFault::Fault(JudgeFault::Syntax)),
+                None => Err(TakeFault::Fault(JudgeFault::Syntax)),
             },
             Some(Keyword::Process) => match process_of(rest) {
                 Some(locality) => self.take_process(locality),
-                None => Err(LineFault::Fault(JudgeFault::Syntax)),
+                None => Err(TakeFault::Fault(JudgeFault::Syntax)),
             },
             Some(Keyword::Ask(loss)) => match asked_id(rest) {
                 Some(id) => self.take_ask(loss, id),
-                None => Err(LineFault::Fault(JudgeFault::Syntax)),
+                None => Err(TakeFault::Fault(JudgeFault::Syntax)),
             },
-            None => Err(LineFault::Fault(JudgeFault::Syntax)),
+            None => Err(TakeFault::Fault(JudgeFault::Syntax)),
         }
     }
 
-    fn take_policy(&mut self, alloc: Global, text: &str) -> Result<(), LineFault>
+    fn take_policy(&mut self, alloc: Global, text: &str) -> Result<(), TakeFault>
         ensures taken { OnOk result (Step self.old (Some (policy text.now)) (Ok self.new)) }
         ensures refused { IfErr result
             (λ e. IfFault e (λ fault. Step self.old (Some (policy text.now)) (Err fault))) }
     {
         if !self.map.is_empty() {
-            return Err(LineFault::Fault(JudgeFault::Syntax));
+            return Err(TakeFault::Fault(JudgeFault::Syntax));
         }
         let policy = match read_policy(alloc, text) {
             Ok(policy) => policy,
             Err(fault) => return Err(policy_fault(fault)),
         };
         if self.policies.len() >= MOST_POLICIES {
-            return Err(LineFault::Fault(JudgeFault::TooMany));
+            return Err(TakeFault::Fault(JudgeFault::TooMany));
         }
         self.policies.push(policy)?;
         Ok(())
     }
 
-    fn take_process(&mut self, locality: Locality) -> Result<(), LineFault>
+    fn take_process(&mut self, locality: Locality) -> Result<(), TakeFault>
         ensures taken { OnOk result (Step self.old (Some (process locality)) (Ok self.new)) }
         ensures refused { IfErr result
             (λ e. IfFault e (λ fault. Step self.old (Some (process locality)) (Err fault))) }
     {
         if self.policies.is_empty() {
-            return Err(LineFault::Fault(JudgeFault::Syntax));
+            return Err(TakeFault::Fault(JudgeFault::Syntax));
         }
         if !self.asks.is_empty() {
-            return Err(LineFault::Fault(JudgeFault::Syntax));
+            return Err(TakeFault::Fault(JudgeFault::Syntax));
         }
         if let Err(fault) = self.map.push(locality) {
             return Err(process_fault(fault));
@@ -163,16 +163,16 @@ impl Input {
         Ok(())
     }
 
-    fn take_ask(&mut self, loss: Loss, id: Name) -> Result<(), LineFault>
+    fn take_ask(&mut self, loss: Loss, id: Name) -> Result<(), TakeFault>
         ensures taken { OnOk result (Step self.old (Some (ask loss id)) (Ok self.new)) }
         ensures refused { IfErr result
             (λ e. IfFault e (λ fault. Step self.old (Some (ask loss id)) (Err fault))) }
     {
         if self.map.is_empty() {
-            return Err(LineFault::Fault(JudgeFault::Syntax));
+            return Err(TakeFault::Fault(JudgeFault::Syntax));
         }
         let Some(process) = self.map.find(&id) else {
-            return Err(LineFault::Fault(JudgeFault::Unknown));
+            return Err(TakeFault::Fault(JudgeFault::Unknown));
         };
         self.asks.push(Ask { loss, process })?;
         Ok(())
@@ -180,28 +180,28 @@ impl Input {
 }
 
 /// A policy's fault as a fault of its line.
-fn policy_fault(fault: PolicyFault) -> LineFault
+fn policy_fault(fault: PolicyFault) -> TakeFault
     ensures { result ≡ policy_fault_of fault }
 {
     match fault {
-        PolicyFault::NoMemory => LineFault::NoMemory,
+        PolicyFault::NoMemory => TakeFault::NoMemory,
         PolicyFault::TooLong
         | PolicyFault::Syntax
         | PolicyFault::Count
         | PolicyFault::Depth
-        | PolicyFault::Nodes => LineFault::Fault(JudgeFault::Policy),
+        | PolicyFault::Nodes => TakeFault::Fault(JudgeFault::Policy),
     }
 }
 
 /// A process's fault as a fault of its line. Its names are names already.
-fn process_fault(fault: MapFault) -> LineFault
+fn process_fault(fault: MapFault) -> TakeFault
     requires { fault ≢ MapFault.Name }
     ensures { result ≡ process_fault_of fault }
 {
     match fault {
-        MapFault::Twice => LineFault::Fault(JudgeFault::Twice),
-        MapFault::TooMany => LineFault::Fault(JudgeFault::TooMany),
-        MapFault::NoMemory => LineFault::NoMemory,
+        MapFault::Twice => TakeFault::Fault(JudgeFault::Twice),
+        MapFault::TooMany => TakeFault::Fault(JudgeFault::TooMany),
+        MapFault::NoMemory => TakeFault::NoMemory,
         MapFault::Name => unreachable!(),
     }
 }

@@ -3,14 +3,13 @@ ghost use Rattle.std.specs.Prelude.{◌≡◌, IfOk, MatchResult};
 ghost use Rattle.serde_json.specs.View.{view};
 ghost use Rattle.fy_spelling.specs.EntryLine.{IsTextOf};
 ghost use Rattle.fy_spelling.specs.Replied.{entry_from};
-ghost use Rattle.fy_spelling.specs.declared.command.LineFault.TheVariants as line;
 ghost use Rattle.fy_acts.specs.declared.entry.Entry.{Entry};
 ghost use Rattle.fy_spelling.specs.declared.entry_line.EntryFault.TheVariants.{NoMemory};
 
 use super::replies::reply_of;
 use super::{Asked, act_of, meant, value_of};
 use crate::parts::{four, short_of};
-use crate::{Entry, EntryFault, LineFault, Reply};
+use crate::{Entry, EntryFault, Reply};
 use serde_json::Value;
 use std::alloc::{AllocError, Global};
 
@@ -39,29 +38,16 @@ fn parts_of(alloc: Global, value: &Value) -> Result<Option<Parts>, AllocError>
     Ok(Some((asked, at, by, reply)))
 }
 
-/// The fault of a line that has no value.
-fn entry_fault(fault: LineFault) -> EntryFault
-    ensures { fault ≡ line.NoMemory → result ≡ NoMemory }
-{
-    match fault {
-        LineFault::NoMemory => EntryFault::NoMemory,
-        _ => EntryFault::Syntax,
-    }
-}
-
 /// The entry that a line may be the text of, if any: it is the text of no other.
 pub(crate) fn entry_by_value(alloc: Global, line: &[u8]) -> Result<Entry, EntryFault>
     ensures { (entry : Entry) → IsTextOf line.now entry →
         MatchResult result (λ found. found ≡ entry) (λ fault. fault ≡ NoMemory) }
 {
-    let value = match value_of(alloc, line) {
-        Ok(value) => value,
-        Err(fault) => return Err(entry_fault(fault)),
+    let Some(value) = value_of(alloc, line)? else {
+        return Err(EntryFault::Syntax);
     };
-    let (asked, at, by, reply) = match parts_of(alloc, &value) {
-        Ok(Some(parts)) => parts,
-        Ok(None) => return Err(EntryFault::Syntax),
-        Err(AllocError) => return Err(EntryFault::NoMemory),
+    let Some((asked, at, by, reply)) = parts_of(alloc, &value)? else {
+        return Err(EntryFault::Syntax);
     };
     match meant(asked) {
         Ok(act) => Ok(Entry { at, by, act, reply }),

@@ -1,235 +1,342 @@
-//! What replies seem to be.
-use super::{kind, long_after, process_after, short_after, skip, word, word_after};
+//! Replies, each as the last member of an entry with the entry's end.
+ghost use Rattle.std.specs.Prelude.{◌≡◌, ◌++◌, IfSome, codes};
+ghost use Rattle.fy_spelling.specs.Fits.{FitsRule, FitsRefusal, FitsReply};
+ghost use Rattle.fy_spelling.specs.Pieces.{last_text, rule_text, struck_text, verdict_text, ruled_text, no_text, marked_text, reply_text};
+
+use super::words::{ends, kind_after, long_after, short_after, skip, word_after};
 use crate::{Refusal, Reply};
 use fy_kinds::{Kind, Rule, Verdict};
+use fy_locality::ProcId;
 
-fn rule_of_process(name: &[u8], rest: &[u8]) -> Option<Rule> {
-    let (process, _) = process_after(rest, ",")?;
-    if name == b"NoGrant".as_slice() {
-        Some(Rule::NoGrant { process })
+/// The number of 32 bits behind a text, and what is behind the text that follows it.
+#[inline(always)]
+fn short_between<'l>(line: &'l [u8], head: &str, tail: &str) -> Option<(u32, &'l [u8])>
+    ensures { IfSome result (λ p. line.now ≡ last_text head.now p.0 tail.now ++ p.1.now) }
+{
+    let (number, rest) = short_after(line, head)?;
+    let rest = skip(rest, tail)?;
+    Some((number, rest))
+}
+
+/// The last number of 32 bits, between two texts.
+#[inline(always)]
+fn last_short(line: &[u8], head: &str, tail: &str) -> Option<u32>
+    ensures { IfSome result (λ number. line.now ≡ last_text head.now number tail.now) }
+{
+    let (number, rest) = short_after(line, head)?;
+    if ends(rest, tail) { Some(number) } else { None }
+}
+
+/// The last number of 64 bits, between two texts.
+#[inline(always)]
+fn last_long(line: &[u8], head: &str, tail: &str) -> Option<u64>
+    ensures { IfSome result (λ number. line.now ≡ last_text head.now number tail.now) }
+{
+    let (number, rest) = long_after(line, head)?;
+    if ends(rest, tail) { Some(number) } else { None }
+}
+
+/// A rule that names a process.
+fn rule_of_process(line: &[u8]) -> Option<(Rule, &[u8])>
+    ensures reads { IfSome result (λ p. line.now ≡ rule_text (Some p.0) ++ p.1.now) }
+    ensures fits { IfSome result (λ p. FitsRule (Some p.0)) }
+{
+    if let Some((number, rest)) = short_between(line, "[\"NoGrant\",", "]") {
+        let process = ProcId(number);
+        return Some((Rule::NoGrant { process }, rest));
+    }
+    let (number, rest) = short_between(line, "[\"Protected\",", "]")?;
+    let process = ProcId(number);
+    Some((Rule::Protected { process }, rest))
+}
+
+/// A rule that names a policy.
+fn rule_of_policy(line: &[u8]) -> Option<(Rule, &[u8])>
+    ensures reads { IfSome result (λ p. line.now ≡ rule_text (Some p.0) ++ p.1.now) }
+    ensures fits { IfSome result (λ p. FitsRule (Some p.0)) }
+{
+    if let Some((number, rest)) = short_between(line, "[\"TooManyDestroyed\",", "]") {
+        let policy = number as usize;
+        return Some((Rule::TooManyDestroyed { policy }, rest));
+    }
+    let (number, rest) = short_between(line, "[\"TooFewLeft\",", "]")?;
+    let policy = number as usize;
+    Some((Rule::TooFewLeft { policy }, rest))
+}
+
+/// A rule, or none.
+fn rule(line: &[u8]) -> Option<(Option<Rule>, &[u8])>
+    ensures reads { IfSome result (λ p. line.now ≡ rule_text p.0 ++ p.1.now) }
+    ensures fits { IfSome result (λ p. FitsRule p.0) }
+{
+    if let Some(rest) = skip(line, "null") {
+        return Some((None, rest));
+    }
+    if let Some(rest) = skip(line, "[\"NoTarget\"]") {
+        return Some((Some(Rule::NoTarget), rest));
+    }
+    if let Some((rule, rest)) = rule_of_policy(line) {
+        return Some((Some(rule), rest));
+    }
+    let (rule, rest) = rule_of_process(line)?;
+    Some((Some(rule), rest))
+}
+
+/// The kind that struck, or none.
+fn struck(line: &[u8]) -> Option<Option<Kind>>
+    ensures { IfSome result (λ struck. line.now ≡ struck_text struck) }
+{
+    if ends(line, ",\"struck\":null}}}") {
+        return Some(None);
+    }
+    let (kind, rest) = kind_after(line, ",\"struck\":\"")?;
+    if ends(rest, "}}}") {
+        Some(Some(kind))
     } else {
-        Some(Rule::Protected { process })
+        None
     }
 }
 
-fn rule_of_policy(name: &[u8], rest: &[u8]) -> Option<Rule> {
-    let (policy, _) = short_after(rest, ",")?;
-    let policy = policy as usize;
-    if name == b"TooFewLeft".as_slice() {
-        Some(Rule::TooFewLeft { policy })
+fn verdict(line: &[u8]) -> Option<Reply>
+    ensures reads { IfSome result (λ reply. line.now ≡ reply_text reply) }
+    ensures fits { IfSome result (λ reply. FitsReply reply) }
+{
+    let (rule, rest) = rule(skip(line, ",\"reply\":{\"verdict\":{\"rule\":")?)?;
+    let struck = struck(rest)?;
+    Some(Reply::Verdict(Verdict { struck, rule }))
+}
+
+fn ruled(line: &[u8]) -> Option<Reply>
+    ensures reads { IfSome result (λ reply. line.now ≡ reply_text reply) }
+    ensures fits { IfSome result (λ reply. FitsReply reply) }
+{
+    let (rule, rest) = rule(skip(line, ",\"reply\":{\"ruled\":")?)?;
+    if ends(rest, "}}") {
+        Some(Reply::Ruled { rule })
     } else {
-        Some(Rule::TooManyDestroyed { policy })
+        None
     }
 }
 
-/// The rule of a list, which begins with this.
-fn rule(listed: &[u8]) -> Option<Rule> {
-    let (name, rest) = word_after(listed, "[\"")?;
-    if name == b"NoTarget".as_slice() {
-        Some(Rule::NoTarget)
-    } else if name == b"NoGrant".as_slice() || name == b"Protected".as_slice() {
-        rule_of_process(name, rest)
-    } else {
-        rule_of_policy(name, rest)
-    }
-}
-
-/// A kind's name, or none.
-fn struck(rest: &[u8]) -> Option<Kind> {
-    let (word, _) = word_after(rest, "\"")?;
-    kind(word)
-}
-
-fn verdict(rest: &[u8]) -> Option<Reply> {
-    let rest = skip(rest, "{\"rule\":")?;
-    if let Some(rest) = skip(rest, "null,\"struck\":") {
-        let verdict = Verdict {
-            struck: struck(rest),
-            rule: None,
-        };
-        return Some(Reply::Verdict(verdict));
-    }
-    let rule = rule(rest)?;
-    let rest = behind_list(rest)?;
-    let verdict = Verdict {
-        struck: struck(skip(rest, ",\"struck\":")?),
-        rule: Some(rule),
-    };
-    Some(Reply::Verdict(verdict))
-}
-
-/// What is behind the end of a list of words and numbers.
-fn behind_list(listed: &[u8]) -> Option<&[u8]> {
-    for i in 0..listed.len() {
-        if listed[i] == b']' {
-            return Some(&listed[i + 1..]);
-        }
-    }
-    None
-}
-
-fn begun(rest: &[u8]) -> Option<Reply> {
-    let (first, rest) = long_after(rest, "{\"first\":")?;
-    let (rec, _) = short_after(rest, ",\"record\":")?;
+fn begun(line: &[u8]) -> Option<Reply>
+    ensures reads { IfSome result (λ reply. line.now ≡ reply_text reply) }
+    ensures fits { IfSome result (λ reply. FitsReply reply) }
+{
+    let (first, rest) = long_after(line, ",\"reply\":{\"begun\":{\"first\":")?;
+    let rec = last_short(rest, ",\"record\":", "}}}")?;
     Some(Reply::Begun { rec, first })
 }
 
-fn synced(rest: &[u8]) -> Option<Reply> {
-    let (count, rest) = short_after(rest, "{\"count\":")?;
-    let (first, _) = long_after(rest, ",\"first\":")?;
+fn synced(line: &[u8]) -> Option<Reply>
+    ensures reads { IfSome result (λ reply. line.now ≡ reply_text reply) }
+    ensures fits { IfSome result (λ reply. FitsReply reply) }
+{
+    let (count, rest) = short_after(line, ",\"reply\":{\"synced\":{\"count\":")?;
+    let first = last_long(rest, ",\"first\":", "}}}")?;
     Some(Reply::Synced { first, count })
 }
 
-fn refusal_of_processes(word: &[u8]) -> Option<Refusal> {
-    if word == b"Clogged".as_slice() {
+fn formed(line: &[u8]) -> Option<Reply>
+    ensures reads { IfSome result (λ reply. line.now ≡ reply_text reply) }
+    ensures fits { IfSome result (λ reply. FitsReply reply) }
+{
+    let team = last_short(line, ",\"reply\":{\"formed\":", "}}")?;
+    Some(Reply::Formed { team })
+}
+
+fn sent(line: &[u8]) -> Option<Reply>
+    ensures reads { IfSome result (λ reply. line.now ≡ reply_text reply) }
+    ensures fits { IfSome result (λ reply. FitsReply reply) }
+{
+    let message = last_long(line, ",\"reply\":{\"sent\":", "}}")?;
+    Some(Reply::Sent { message })
+}
+
+fn time(line: &[u8]) -> Option<Reply>
+    ensures reads { IfSome result (λ reply. line.now ≡ reply_text reply) }
+    ensures fits { IfSome result (λ reply. FitsReply reply) }
+{
+    let now = last_long(line, ",\"reply\":{\"time\":", "}}")?;
+    Some(Reply::Time { now })
+}
+
+fn marked(line: &[u8]) -> Option<Reply>
+    ensures reads { IfSome result (λ reply. line.now ≡ reply_text reply) }
+    ensures fits { IfSome result (λ reply. FitsReply reply) }
+{
+    if ends(line, ",\"reply\":{\"marked\":true}}") {
+        Some(Reply::Marked { acked: true })
+    } else if ends(line, ",\"reply\":{\"marked\":false}}") {
+        Some(Reply::Marked { acked: false })
+    } else {
+        None
+    }
+}
+
+/// A reply that is a word.
+fn worded(line: &[u8]) -> Option<Reply>
+    ensures reads { IfSome result (λ reply. line.now ≡ reply_text reply) }
+    ensures fits { IfSome result (λ reply. FitsReply reply) }
+{
+    if ends(line, ",\"reply\":\"done\"}") {
+        Some(Reply::Done)
+    } else if ends(line, ",\"reply\":\"stored\"}") {
+        Some(Reply::Stored)
+    } else {
+        None
+    }
+}
+
+// A refusal that is a word alone is told by that word: the refusal's text is then the word between
+// what stands before and behind each of them.
+
+fn refusal_of_processes(word: &[u8]) -> Option<Refusal>
+    ensures reads { IfSome result (λ refusal.
+        no_text refusal ≡ codes ",\"reply\":{\"no\":[\"" ++ (word.now ++ codes "\"]}}")) }
+    ensures fits { IfSome result (λ refusal. FitsRefusal refusal) }
+{
+    if ends(word, "Clogged") {
         Some(Refusal::Clogged)
-    } else if word == b"NotUp".as_slice() {
+    } else if ends(word, "NotUp") {
         Some(Refusal::NotUp)
-    } else if word == b"IsUp".as_slice() {
+    } else if ends(word, "IsUp") {
         Some(Refusal::IsUp)
-    } else if word == b"Gone".as_slice() {
+    } else if ends(word, "Gone") {
         Some(Refusal::Gone)
-    } else if word == b"NoMessage".as_slice() {
+    } else if ends(word, "NoMessage") {
         Some(Refusal::NoMessage)
-    } else if word == b"NoProcess".as_slice() {
+    } else if ends(word, "NoProcess") {
         Some(Refusal::NoProcess)
-    } else if word == b"NetFull".as_slice() {
+    } else if ends(word, "NetFull") {
         Some(Refusal::NetFull)
     } else {
         refusal_of_teams(word)
     }
 }
 
-fn refusal_of_teams(word: &[u8]) -> Option<Refusal> {
-    if word == b"NoTeam".as_slice() {
+fn refusal_of_teams(word: &[u8]) -> Option<Refusal>
+    ensures reads { IfSome result (λ refusal.
+        no_text refusal ≡ codes ",\"reply\":{\"no\":[\"" ++ (word.now ++ codes "\"]}}")) }
+    ensures fits { IfSome result (λ refusal. FitsRefusal refusal) }
+{
+    if ends(word, "NoTeam") {
         Some(Refusal::NoTeam)
-    } else if word == b"NoRecord".as_slice() {
+    } else if ends(word, "NoRecord") {
         Some(Refusal::NoRecord)
-    } else if word == b"NotMember".as_slice() {
+    } else if ends(word, "NotMember") {
         Some(Refusal::NotMember)
-    } else if word == b"Acked".as_slice() {
+    } else if ends(word, "Acked") {
         Some(Refusal::Acked)
-    } else if word == b"Payload".as_slice() {
+    } else if ends(word, "Payload") {
         Some(Refusal::Payload)
-    } else if word == b"TooMany".as_slice() {
+    } else if ends(word, "TooMany") {
         Some(Refusal::TooMany)
-    } else if word == b"NoPolicy".as_slice() {
+    } else if ends(word, "NoPolicy") {
         Some(Refusal::NoPolicy)
     } else {
         refusal_of_actors(word)
     }
 }
 
-fn refusal_of_actors(word: &[u8]) -> Option<Refusal> {
-    if word == b"WrongRole".as_slice() {
+fn refusal_of_actors(word: &[u8]) -> Option<Refusal>
+    ensures reads { IfSome result (λ refusal.
+        no_text refusal ≡ codes ",\"reply\":{\"no\":[\"" ++ (word.now ++ codes "\"]}}")) }
+    ensures fits { IfSome result (λ refusal. FitsRefusal refusal) }
+{
+    if ends(word, "WrongRole") {
         Some(Refusal::WrongRole)
-    } else if word == b"Stranger".as_slice() {
+    } else if ends(word, "Stranger") {
         Some(Refusal::Stranger)
-    } else if word == b"NoActor".as_slice() {
+    } else if ends(word, "NoActor") {
         Some(Refusal::NoActor)
-    } else if word == b"ClockEnd".as_slice() {
+    } else if ends(word, "ClockEnd") {
         Some(Refusal::ClockEnd)
-    } else if word == b"Full".as_slice() {
+    } else if ends(word, "Full") {
         Some(Refusal::Full)
-    } else if word == b"NoSuch".as_slice() {
+    } else if ends(word, "NoSuch") {
         Some(Refusal::NoSuch)
     } else {
         refusal_of_healing(word)
     }
 }
 
-fn refusal_of_healing(word: &[u8]) -> Option<Refusal> {
-    if word == b"NoCopy".as_slice() {
+fn refusal_of_healing(word: &[u8]) -> Option<Refusal>
+    ensures reads { IfSome result (λ refusal.
+        no_text refusal ≡ codes ",\"reply\":{\"no\":[\"" ++ (word.now ++ codes "\"]}}")) }
+    ensures fits { IfSome result (λ refusal. FitsRefusal refusal) }
+{
+    if ends(word, "NoCopy") {
         Some(Refusal::NoCopy)
-    } else if word == b"IsMember".as_slice() {
+    } else if ends(word, "IsMember") {
         Some(Refusal::IsMember)
-    } else if word == b"NotDestroyed".as_slice() {
+    } else if ends(word, "NotDestroyed") {
         Some(Refusal::NotDestroyed)
     } else {
         None
     }
 }
 
-fn no(rest: &[u8]) -> Option<Reply> {
-    let (word, rest) = word_after(rest, "[\"")?;
-    if word == b"TeamShort".as_slice() {
-        let (policy, _) = short_after(rest, ",")?;
-        return Some(Reply::No(Refusal::TeamShort { policy }));
+/// A refusal that has a number.
+fn refusal_of_number(line: &[u8]) -> Option<Refusal>
+    ensures reads { IfSome result (λ refusal. line.now ≡ no_text refusal) }
+    ensures fits { IfSome result (λ refusal. FitsRefusal refusal) }
+{
+    if let Some(policy) = last_short(line, ",\"reply\":{\"no\":[\"TeamShort\",", "]}}") {
+        return Some(Refusal::TeamShort { policy });
     }
-    if word == b"StillNeeds".as_slice() {
-        let (rec, _) = short_after(rest, ",")?;
-        return Some(Reply::No(Refusal::StillNeeds { rec }));
-    }
-    Some(Reply::No(refusal_of_processes(word)?))
+    let rec = last_short(line, ",\"reply\":{\"no\":[\"StillNeeds\",", "]}}")?;
+    Some(Refusal::StillNeeds { rec })
 }
 
-fn formed(rest: &[u8]) -> Option<Reply> {
-    let (team, _) = short_after(rest, "")?;
-    Some(Reply::Formed { team })
-}
-
-fn sent(rest: &[u8]) -> Option<Reply> {
-    let (message, _) = long_after(rest, "")?;
-    Some(Reply::Sent { message })
-}
-
-fn time(rest: &[u8]) -> Option<Reply> {
-    let (now, _) = long_after(rest, "")?;
-    Some(Reply::Time { now })
-}
-
-fn ruled(rest: &[u8]) -> Option<Reply> {
-    Some(Reply::Ruled { rule: rule(rest) })
-}
-
-fn marked(rest: &[u8]) -> Option<Reply> {
-    let acked = rest.starts_with(b"true");
-    Some(Reply::Marked { acked })
-}
-
-/// A reply of numbers, by its name.
-fn numbers_by(name: &[u8], rest: &[u8]) -> Option<Reply> {
-    if name == b"sent".as_slice() {
-        sent(rest)
-    } else if name == b"synced".as_slice() {
-        synced(rest)
-    } else if name == b"begun".as_slice() {
-        begun(rest)
-    } else if name == b"time".as_slice() {
-        time(rest)
-    } else if name == b"formed".as_slice() {
-        formed(rest)
+fn refusal(line: &[u8]) -> Option<Refusal>
+    ensures reads { IfSome result (λ refusal. line.now ≡ no_text refusal) }
+    ensures fits { IfSome result (λ refusal. FitsRefusal refusal) }
+{
+    let (word, rest) = word_after(line, ",\"reply\":{\"no\":[\"")?;
+    if ends(rest, "]}}") {
+        refusal_of_processes(word)
     } else {
-        None
+        refusal_of_number(line)
     }
 }
 
-/// A reply that is a word, with its quote.
-fn worded(rest: &[u8]) -> Option<Reply> {
-    let (word, _) = word_after(rest, "\"")?;
-    if word == b"done".as_slice() {
-        Some(Reply::Done)
-    } else {
-        Some(Reply::Stored)
+fn no(line: &[u8]) -> Option<Reply>
+    ensures reads { IfSome result (λ reply. line.now ≡ reply_text reply) }
+    ensures fits { IfSome result (λ reply. FitsReply reply) }
+{
+    let refusal = refusal(line)?;
+    Some(Reply::No(refusal))
+}
+
+/// A reply that is an object, by the first letter of its name.
+fn named(line: &[u8], letter: u8) -> Option<Reply>
+    ensures reads { IfSome result (λ reply. line.now ≡ reply_text reply) }
+    ensures fits { IfSome result (λ reply. FitsReply reply) }
+{
+    match letter {
+        b'v' => verdict(line),
+        b'n' => no(line),
+        b'm' => marked(line),
+        b'r' => ruled(line),
+        b'b' => begun(line),
+        b't' => time(line),
+        b'f' => formed(line),
+        b'e' => sent(line),
+        b'y' => synced(line),
+        _ => None,
     }
 }
 
-/// A reply, with what may stand behind it.
-pub(super) fn reply(rest: &[u8]) -> Option<Reply> {
-    let Some(inner) = skip(rest, "{\"") else {
-        return worded(rest);
-    };
-    let (name, rest) = word(inner)?;
-    let rest = skip(rest, ":")?;
-    if name == b"verdict".as_slice() {
-        verdict(rest)
-    } else if name == b"no".as_slice() {
-        no(rest)
-    } else if name == b"marked".as_slice() {
-        marked(rest)
-    } else if name == b"ruled".as_slice() {
-        ruled(rest)
-    } else {
-        numbers_by(name, rest)
+/// A reply, with what stands before it in an entry and the entry's end.
+pub(super) fn reply(line: &[u8]) -> Option<Reply>
+    ensures reads { IfSome result (λ reply. line.now ≡ reply_text reply) }
+    ensures fits { IfSome result (λ reply. FitsReply reply) }
+{
+    if *line.get(9)? != b'{' {
+        return worded(line);
     }
+    let first = *line.get(11)?;
+    // Two names begin with an s: they are told apart by the letter behind it.
+    let letter = if first == b's' { *line.get(12)? } else { first };
+    named(line, letter)
 }

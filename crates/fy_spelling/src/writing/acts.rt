@@ -6,20 +6,21 @@ ghost use Rattle.hex.specs.Hex.{encode_lower};
 ghost use Rattle.fy_locality.specs.Name.{is_name};
 ghost use Rattle.fy_spelling.specs.Fits.{IsByte, FitsTarget, FitsScope};
 ghost use Rattle.fy_spelling.specs.Values.{in_order};
+ghost use Rattle.fy_spelling.specs.Puts.{Puts};
 ghost use Rattle.fy_spelling.specs.Pieces.{one_text, two_text, three_text, valued_text, target_text, keys_text, words_text, order_text, clog_text, processes_text, deeds_text, form_text, begin_text, scope_text, give_text, protection_text, act_text, IsBare};
 
 use super::{put, put_decimal, put_number, put_one, put_word};
 use crate::Act;
 use fy_disk::Payload;
 use fy_grants::{Grant, Scope};
-use fy_kinds::{KillOrder, Kind, KindSet, Target};
+use fy_kinds::{KINDS, KillOrder, KindSet, Target};
 use fy_locality::{Name, ProcId};
 use std::alloc::AllocError;
 
 /// An object with two numbers.
 #[inline(always)]
 fn put_two(out: &mut Vec<u8>, a: &str, m: u64, b: &str, n: u64) -> Result<(), AllocError>
-    ensures { OnOk result (out.new.items ≡ out.old.items ++ two_text a.now m b.now n) }
+    ensures { Puts result out.old.items out.new.items (two_text a.now m b.now n) }
 {
     put_number(out, a, m)?;
     put_one(out, b, n)
@@ -36,7 +37,7 @@ fn put_three(
     c: &str,
     k: u64,
 ) -> Result<(), AllocError>
-    ensures { OnOk result (out.new.items ≡ out.old.items ++ three_text a.now m b.now n c.now k) }
+    ensures { Puts result out.old.items out.new.items (three_text a.now m b.now n c.now k) }
 {
     put_number(out, a, m)?;
     put_two(out, b, n, c, k)
@@ -45,8 +46,7 @@ fn put_three(
 /// A name between two texts.
 #[inline(always)]
 fn put_name(out: &mut Vec<u8>, head: &str, name: &Name, tail: &str) -> Result<(), AllocError>
-    ensures text { OnOk result
-        (out.new.items ≡ out.old.items ++ (head.now ++ (name.now ++ tail.now))) }
+    ensures text { Puts result out.old.items out.new.items (head.now ++ (name.now ++ tail.now)) }
     ensures name { OnOk result (is_name name.now ≡ true) }
 {
     put(out, head)?;
@@ -57,8 +57,7 @@ fn put_name(out: &mut Vec<u8>, head: &str, name: &Name, tail: &str) -> Result<()
 /// A number, and then a name under `value`.
 #[inline(always)]
 fn put_valued(out: &mut Vec<u8>, head: &str, n: u64, value: &Name) -> Result<(), AllocError>
-    ensures text { OnOk result
-        (out.new.items ≡ out.old.items ++ valued_text head.now n value.now) }
+    ensures text { Puts result out.old.items out.new.items (valued_text head.now n value.now) }
     ensures name { OnOk result (is_name value.now ≡ true) }
 {
     put_number(out, head, n)?;
@@ -68,8 +67,7 @@ fn put_valued(out: &mut Vec<u8>, head: &str, n: u64, value: &Name) -> Result<(),
 /// A key, and then a name under `value`.
 #[inline(always)]
 fn put_target(out: &mut Vec<u8>, head: &str, target: &Target, tail: &str) -> Result<(), AllocError>
-    ensures text { OnOk result
-        (out.new.items ≡ out.old.items ++ target_text head.now target.now tail.now) }
+    ensures text { Puts result out.old.items out.new.items (target_text head.now target.now tail.now) }
     ensures name { OnOk result (FitsTarget target.now) }
 {
     put_word(out, head, target.key.text())?;
@@ -77,22 +75,21 @@ fn put_target(out: &mut Vec<u8>, head: &str, target: &Target, tail: &str) -> Res
 }
 
 fn put_keys(out: &mut Vec<u8>, key: &str, kind: &str) -> Result<(), AllocError>
-    ensures { OnOk result (out.new.items ≡ out.old.items ++ keys_text key.now kind.now) }
+    ensures { Puts result out.old.items out.new.items (keys_text key.now kind.now) }
 {
     put_word(out, "\",\"key\":\"", key)?;
     put_word(out, "\",\"kind\":\"", kind)
 }
 
 fn put_words(out: &mut Vec<u8>, floor: &str, key: &str, kind: &str) -> Result<(), AllocError>
-    ensures { OnOk result
-        (out.new.items ≡ out.old.items ++ words_text floor.now key.now kind.now) }
+    ensures { Puts result out.old.items out.new.items (words_text floor.now key.now kind.now) }
 {
     put_word(out, "{\"kill\":{\"floor\":\"", floor)?;
     put_keys(out, key, kind)
 }
 
 fn put_kill(out: &mut Vec<u8>, order: &KillOrder) -> Result<(), AllocError>
-    ensures text { OnOk result (out.new.items ≡ out.old.items ++ order_text order.now) }
+    ensures text { Puts result out.old.items out.new.items (order_text order.now) }
     ensures name { OnOk result (FitsTarget order.now.target) }
 {
     let target = order.target();
@@ -106,7 +103,7 @@ fn put_kill(out: &mut Vec<u8>, order: &KillOrder) -> Result<(), AllocError>
 }
 
 fn put_clog(out: &mut Vec<u8>, target: &Target, ticks: u64) -> Result<(), AllocError>
-    ensures text { OnOk result (out.new.items ≡ out.old.items ++ clog_text target.now ticks) }
+    ensures text { Puts result out.old.items out.new.items (clog_text target.now ticks) }
     ensures name { OnOk result (FitsTarget target.now) }
 {
     put_word(out, "{\"clog\":{\"key\":\"", target.key.text())?;
@@ -114,7 +111,7 @@ fn put_clog(out: &mut Vec<u8>, target: &Target, ticks: u64) -> Result<(), AllocE
 }
 
 fn put_processes(out: &mut Vec<u8>, processes: &[ProcId]) -> Result<(), AllocError>
-    ensures { OnOk result (out.new.items ≡ out.old.items ++ processes_text false processes.now) }
+    ensures { Puts result out.old.items out.new.items (processes_text false processes.now) }
 {
     let mut later = false;
     for p in processes {
@@ -128,7 +125,7 @@ fn put_processes(out: &mut Vec<u8>, processes: &[ProcId]) -> Result<(), AllocErr
 }
 
 fn put_form(out: &mut Vec<u8>, members: &[ProcId], policy: u32) -> Result<(), AllocError>
-    ensures { OnOk result (out.new.items ≡ out.old.items ++ form_text members.now policy) }
+    ensures { Puts result out.old.items out.new.items (form_text members.now policy) }
 {
     put(out, "{\"form\":{\"members\":[")?;
     put_processes(out, members)?;
@@ -141,7 +138,7 @@ const DIGITS: &[u8; 16] = b"0123456789abcdef";
 /// Two digits for each byte.
 #[tactic(auto, unfolding(hex::specs::Hex::encode_with))]
 fn put_bytes(out: &mut Vec<u8>, bytes: &[u8]) -> Result<(), AllocError>
-    ensures text { OnOk result (out.new.items ≡ out.old.items ++ encode_lower bytes.now) }
+    ensures text { Puts result out.old.items out.new.items (encode_lower bytes.now) }
     ensures bytes { OnOk result (AllByRecursion IsByte bytes.now) }
 {
     for &byte in bytes {
@@ -153,7 +150,7 @@ fn put_bytes(out: &mut Vec<u8>, bytes: &[u8]) -> Result<(), AllocError>
 }
 
 fn put_begin(out: &mut Vec<u8>, team: u32, payload: &Payload) -> Result<(), AllocError>
-    ensures text { OnOk result (out.new.items ≡ out.old.items ++ begin_text team payload.now) }
+    ensures text { Puts result out.old.items out.new.items (begin_text team payload.now) }
     ensures bytes { OnOk result (AllByRecursion IsByte payload.now) }
 {
     put(out, "{\"begin\":{\"payload\":\"")?;
@@ -161,25 +158,17 @@ fn put_begin(out: &mut Vec<u8>, team: u32, payload: &Payload) -> Result<(), Allo
     put_one(out, "\",\"team\":", team as u64)
 }
 
-/// The kinds of kill, from the mildest.
-const KINDS: [Kind; 4] = [
-    Kind::RebootProcess,
-    Kind::Reboot,
-    Kind::RebootAndDelete,
-    Kind::KillInstantly,
-];
-
 /// A word of a list, with a comma where one stands before it.
 fn put_listed(out: &mut Vec<u8>, later: bool, word: &str) -> Result<(), AllocError>
-    ensures { OnOk result (out.new.items ≡ out.old.items
-        ++ (comma_if later ++ (codes "\"" ++ (word.now ++ codes "\"")))) }
+    ensures { Puts result out.old.items out.new.items
+        (comma_if later ++ (codes "\"" ++ (word.now ++ codes "\""))) }
 {
     put_word(out, if later { ",\"" } else { "\"" }, word)?;
     put(out, "\"")
 }
 
 fn put_kinds(out: &mut Vec<u8>, kinds: KindSet) -> Result<(), AllocError>
-    ensures { OnOk result (out.new.items ≡ out.old.items ++ deeds_text false (in_order kinds)) }
+    ensures { Puts result out.old.items out.new.items (deeds_text false (in_order kinds)) }
 {
     let mut later = false;
     for &kind in &KINDS {
@@ -195,7 +184,7 @@ fn put_kinds(out: &mut Vec<u8>, kinds: KindSet) -> Result<(), AllocError>
 }
 
 fn put_scope(out: &mut Vec<u8>, scope: &Scope) -> Result<(), AllocError>
-    ensures text { OnOk result (out.new.items ≡ out.old.items ++ scope_text scope.now) }
+    ensures text { Puts result out.old.items out.new.items (scope_text scope.now) }
     ensures name { OnOk result (FitsScope scope.now) }
 {
     match scope {
@@ -205,7 +194,7 @@ fn put_scope(out: &mut Vec<u8>, scope: &Scope) -> Result<(), AllocError>
 }
 
 fn put_give(out: &mut Vec<u8>, grant: &Grant) -> Result<(), AllocError>
-    ensures text { OnOk result (out.new.items ≡ out.old.items ++ give_text grant.now) }
+    ensures text { Puts result out.old.items out.new.items (give_text grant.now) }
     ensures name { OnOk result (FitsScope grant.now.scope) }
 {
     put_number(out, "{\"give\":{\"actor\":", grant.actor as u64)?;
@@ -221,8 +210,7 @@ fn put_protection(
     kinds: KindSet,
     process: ProcId,
 ) -> Result<(), AllocError>
-    ensures { OnOk result
-        (out.new.items ≡ out.old.items ++ protection_text head.now kinds process) }
+    ensures { Puts result out.old.items out.new.items (protection_text head.now kinds process) }
 {
     put(out, head)?;
     put_kinds(out, kinds)?;
@@ -231,7 +219,7 @@ fn put_protection(
 
 /// Writes the text of an act.
 pub(super) fn put_act(out: &mut Vec<u8>, act: &Act) -> Result<(), AllocError>
-    ensures text { OnOk result (out.new.items ≡ out.old.items ++ act_text act.now) }
+    ensures text { Puts result out.old.items out.new.items (act_text act.now) }
     ensures bare { OnOk result (IsBare act.now) }
 {
     match act {

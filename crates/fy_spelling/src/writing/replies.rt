@@ -1,5 +1,6 @@
 //! Texts of replies, each as the last member of an entry.
 ghost use Rattle.std.specs.Prelude.{◌≡◌, ◌++◌, OnOk, codes};
+ghost use Rattle.fy_spelling.specs.Puts.{Puts};
 ghost use Rattle.fy_spelling.specs.Pieces.{rule_text, struck_text, verdict_text, ruled_text, begun_text, synced_text, no_text, marked_text, reply_text};
 
 use super::{put, put_last, put_number, put_one, put_word};
@@ -8,7 +9,7 @@ use fy_kinds::{Kind, Rule, Verdict};
 use std::alloc::AllocError;
 
 fn put_rule(out: &mut Vec<u8>, rule: Option<Rule>) -> Result<(), AllocError>
-    ensures { OnOk result (out.new.items ≡ out.old.items ++ rule_text rule) }
+    ensures { Puts result out.old.items out.new.items (rule_text rule) }
 {
     match rule {
         None => put(out, "null"),
@@ -27,7 +28,7 @@ fn put_rule(out: &mut Vec<u8>, rule: Option<Rule>) -> Result<(), AllocError>
 }
 
 fn put_struck(out: &mut Vec<u8>, struck: Option<Kind>) -> Result<(), AllocError>
-    ensures { OnOk result (out.new.items ≡ out.old.items ++ struck_text struck) }
+    ensures { Puts result out.old.items out.new.items (struck_text struck) }
 {
     match struck {
         None => put(out, ",\"struck\":null}}}"),
@@ -36,15 +37,15 @@ fn put_struck(out: &mut Vec<u8>, struck: Option<Kind>) -> Result<(), AllocError>
 }
 
 fn put_kind(out: &mut Vec<u8>, kind: &str) -> Result<(), AllocError>
-    ensures { OnOk result (out.new.items ≡ out.old.items
-        ++ (codes ",\"struck\":\"" ++ (kind.now ++ codes "\"}}}"))) }
+    ensures { Puts result out.old.items out.new.items
+        (codes ",\"struck\":\"" ++ (kind.now ++ codes "\"}}}")) }
 {
     put_word(out, ",\"struck\":\"", kind)?;
     put(out, "\"}}}")
 }
 
 fn put_verdict(out: &mut Vec<u8>, verdict: &Verdict) -> Result<(), AllocError>
-    ensures { OnOk result (out.new.items ≡ out.old.items ++ verdict_text verdict.now) }
+    ensures { Puts result out.old.items out.new.items (verdict_text verdict.now) }
 {
     put(out, ",\"reply\":{\"verdict\":{\"rule\":")?;
     put_rule(out, verdict.rule)?;
@@ -52,7 +53,7 @@ fn put_verdict(out: &mut Vec<u8>, verdict: &Verdict) -> Result<(), AllocError>
 }
 
 fn put_ruled(out: &mut Vec<u8>, rule: Option<Rule>) -> Result<(), AllocError>
-    ensures { OnOk result (out.new.items ≡ out.old.items ++ ruled_text rule) }
+    ensures { Puts result out.old.items out.new.items (ruled_text rule) }
 {
     put(out, ",\"reply\":{\"ruled\":")?;
     put_rule(out, rule)?;
@@ -60,21 +61,21 @@ fn put_ruled(out: &mut Vec<u8>, rule: Option<Rule>) -> Result<(), AllocError>
 }
 
 fn put_begun(out: &mut Vec<u8>, rec: u32, first: u64) -> Result<(), AllocError>
-    ensures { OnOk result (out.new.items ≡ out.old.items ++ begun_text rec first) }
+    ensures { Puts result out.old.items out.new.items (begun_text rec first) }
 {
     put_number(out, ",\"reply\":{\"begun\":{\"first\":", first)?;
     put_last(out, ",\"record\":", rec as u64, "}}}")
 }
 
 fn put_synced(out: &mut Vec<u8>, first: u64, count: u32) -> Result<(), AllocError>
-    ensures { OnOk result (out.new.items ≡ out.old.items ++ synced_text first count) }
+    ensures { Puts result out.old.items out.new.items (synced_text first count) }
 {
     put_number(out, ",\"reply\":{\"synced\":{\"count\":", count as u64)?;
     put_last(out, ",\"first\":", first, "}}}")
 }
 
 fn put_marked(out: &mut Vec<u8>, acked: bool) -> Result<(), AllocError>
-    ensures { OnOk result (out.new.items ≡ out.old.items ++ marked_text acked) }
+    ensures { Puts result out.old.items out.new.items (marked_text acked) }
 {
     if acked {
         put(out, ",\"reply\":{\"marked\":true}}")
@@ -84,7 +85,7 @@ fn put_marked(out: &mut Vec<u8>, acked: bool) -> Result<(), AllocError>
 }
 
 fn put_no(out: &mut Vec<u8>, refusal: Refusal) -> Result<(), AllocError>
-    ensures { OnOk result (out.new.items ≡ out.old.items ++ no_text refusal) }
+    ensures { Puts result out.old.items out.new.items (no_text refusal) }
 {
     match refusal {
         Refusal::Stranger => put(out, ",\"reply\":{\"no\":[\"Stranger\"]}}"),
@@ -131,7 +132,7 @@ fn put_no(out: &mut Vec<u8>, refusal: Refusal) -> Result<(), AllocError>
 
 /// Writes a reply with what stands before it in an entry, and the entry's end.
 pub(super) fn put_reply(out: &mut Vec<u8>, reply: &Reply) -> Result<(), AllocError>
-    ensures { OnOk result (out.new.items ≡ out.old.items ++ reply_text reply.now) }
+    ensures { Puts result out.old.items out.new.items (reply_text reply.now) }
 {
     match reply {
         Reply::Verdict(verdict) => put_verdict(out, verdict),

@@ -23,5 +23,5 @@ returns-in-Err-clause-err g c =
     let same : c.next_line.new.line.items ≡ c.deref.result.now = search rules in
     let gives : GivesLine known next c.next_line.new.line.items =
     c.in-Ok-true.ensures.line (search rules) in
-    by_fault known next c.deref.result.now c.args.number c.in-Err.fault c.line_stop-in-Err.result
-    (subst (GivesLine known next) same gives) c.in-Err.ensures c.line_stop-in-Err.ensures
+    by_fault known next c.deref.result.now c.args.number c.in-Err.fault c.command_stop.result
+    (subst (GivesLine known next) same gives) c.in-Err.ensures c.command_stop.ensures

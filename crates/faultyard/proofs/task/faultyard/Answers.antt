@@ -1,7 +1,7 @@
-use Rattle.std.proofs.Common.{rules, ap, ap₂, ◌≡◌, ◌∙◌}
+use Rattle.std.proofs.Common.{ap, ap₂, ◌≡◌, ◌∙◌}
 use Rattle.std.proofs.lemmas.Result.{IfOk-weaker}
 use Rattle.clap.specs.Words.{App, app_of, with_subcommand}
-use Rattle.faultyard.specs.Commands.{bare_command, judge_command, run_command, check_command, swarm_command}
+use Rattle.faultyard.specs.Commands.{bare_command, judge_command, run_command, check_command, swarm_command, guard_command}
 use Rattle.faultyard.proofs.CommandLemmas.{plain_is_local}
 use Rattle.faultyard.proofs.task.faultyard.Goals as goal
 
@@ -9,13 +9,14 @@ pub returns : goal.returns
 returns c =
     let top : (a b : App) → a ≡ b → a.top ≡ b.top = λ a b is. ap (λ x. x.top) is in
     let plain : (a b : App) → a ≡ b → a.top.is_plain ≡ b.top.is_plain = λ a b is. ap (λ x. x.top.is_plain) is in
-    let bare : app_of c.subcommand_required.result ≡ bare_command = search rules in
     let first : app_of c.in_ok-subcommand.field-0 ≡ with_subcommand bare_command judge_command.top =
-    c.in_ok-subcommand.ensures.shape (plain_is_local c.judge.result (plain _ _ c.judge.ensures)) ∙ ap₂ with_subcommand bare (top _ _ c.judge.ensures) in
+    c.in_ok-subcommand.ensures.shape (plain_is_local c.judge.result (plain _ _ c.judge.ensures)) ∙ ap₂ with_subcommand c.bare.ensures (top _ _ c.judge.ensures) in
     let second : app_of c.in_ok-subcommand-2.field-0 ≡ with_subcommand (with_subcommand bare_command judge_command.top) run_command.top =
     c.in_ok-subcommand-2.ensures.shape (plain_is_local _ (plain _ _ c.in_ok-run.ensures)) ∙ ap₂ with_subcommand first (top _ _ c.in_ok-run.ensures) in
     let third : app_of c.in_ok-subcommand-3.field-0 ≡ with_subcommand (with_subcommand (with_subcommand bare_command judge_command.top) run_command.top) check_command.top =
     c.in_ok-subcommand-3.ensures.shape (plain_is_local _ (plain _ _ c.in_ok-check.ensures)) ∙ ap₂ with_subcommand second (top _ _ c.in_ok-check.ensures) in
     let fourth : app_of c.in_ok-subcommand-4.field-0 ≡ with_subcommand (with_subcommand (with_subcommand (with_subcommand bare_command judge_command.top) run_command.top) check_command.top) swarm_command.top =
     c.in_ok-subcommand-4.ensures.shape (plain_is_local _ (plain _ _ c.in_ok-swarm.ensures)) ∙ ap₂ with_subcommand third (top _ _ c.in_ok-swarm.ensures) in
-    IfOk-weaker c.subcommand-5.result _ _ (λ m h. h.shape (plain_is_local _ (plain _ _ c.in_ok-guard.ensures)) ∙ ap₂ with_subcommand fourth (top _ _ c.in_ok-guard.ensures)) c.subcommand-5.ensures
+    let fifth : app_of c.in_ok-subcommand-5.field-0 ≡ with_subcommand (with_subcommand (with_subcommand (with_subcommand (with_subcommand bare_command judge_command.top) run_command.top) check_command.top) swarm_command.top) guard_command.top =
+    c.in_ok-subcommand-5.ensures.shape (plain_is_local _ (plain _ _ c.in_ok-guard.ensures)) ∙ ap₂ with_subcommand fourth (top _ _ c.in_ok-guard.ensures) in
+    IfOk-weaker c.subcommand-6.result _ _ (λ m h. h.shape (plain_is_local _ (plain _ _ c.in_ok-show.ensures)) ∙ ap₂ with_subcommand fifth (top _ _ c.in_ok-show.ensures)) c.subcommand-6.ensures

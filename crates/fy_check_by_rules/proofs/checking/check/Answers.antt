@@ -1,7 +1,7 @@
-use Rattle.std.proofs.Common.{◌≡◌, ◌<◌, ◌≤◌, length, [], take, get_or, refl, sym, ◌∙◌, ap, subst, rules}
-use Rattle.std.proofs.lemmas.List.{take_all}
-use Rattle.fy_cluster.specs.Versions.{LegalUnder}
+use Rattle.std.proofs.Common.{◌≡◌, ◌<◌, ◌∷◌, ◌++◌, length, [], take, get_or, refl, sym, ◌∙◌, ap, subst, rules}
+use Rattle.std.specs.Prelude.{List, Option, is_some, IfSome}
 use Rattle.fy_check.specs.Check.{IsFirstBad}
+use Rattle.fy_check_by_rules.specs.declared.step.Step.{Step}
 use Rattle.fy_check_by_rules.specs.Steps.{AreStepsOf}
 use Rattle.fy_check_by_rules.proofs.Nexts.{course_at, place_is, first_bad}
 use Rattle.fy_check_by_rules.proofs.Following.{none_yet, one_further}
@@ -12,17 +12,25 @@ loop-entry-init c = subst (AreStepsOf c.version-version.result c.args.config.now
 
 pub loop-entry-preserved : goal.loop-entry-preserved
 loop-entry-preserved c =
+    let version = c.version-version.result in
     let setup = c.args.config.now in
     let entries = c.args.journal.now.entries in
     let i = c.loop-entry.entry-index in
     let e = c.entry-item.result in
+    let step = c.in-Some.step in
+    let seen = c.deref.result.now in
     let within : i < length entries = search rules in
     let is : e ≡ get_or entries i e = search rules in
     let place : e.at ≡ length (take i entries) = place_is setup entries i e (course_at setup entries i) within is c.invariant.ensures.numbered refl in
-    one_further c.version-version.result setup entries i e _ within is (c.in_ok-next.ensures.put (take i entries) c.loop-entry.invariant place c.if-not-next.false)
+    let are : AreStepsOf version setup (take i entries) seen = subst (AreStepsOf version setup (take i entries)) (sym c.deref.ensures.value) c.loop-entry.invariant in
+    let did : AreStepsOf version setup (take i entries ++ e ∷ []) (seen ++ step ∷ []) =
+    subst (λ (next : Option Step). IfSome next (λ (s : Step). AreStepsOf version setup (take i entries ++ e ∷ []) (seen ++ s ∷ []))) c.in-Some.is (c.in_ok-step.ensures.put (take i entries) are place) in
+    one_further version setup entries i e _ within is
+    (subst (AreStepsOf version setup (take i entries ++ e ∷ [])) (ap (λ (so_far : List Step). so_far ++ step ∷ []) c.deref.ensures.value ∙ sym c.in_ok-put_last.ensures) did)
 
-pub returns-then-not-next : goal.returns-then-not-next
-returns-then-not-next c =
+pub returns-in_default : goal.returns-in_default
+returns-in_default c =
+    let version = c.version-version.result in
     let setup = c.args.config.now in
     let entries = c.args.journal.now.entries in
     let i = c.loop-entry.entry-index in
@@ -30,5 +38,6 @@ returns-then-not-next c =
     let within : i < length entries = search rules in
     let is : e ≡ get_or entries i e = search rules in
     let place : e.at ≡ length (take i entries) = place_is setup entries i e (course_at setup entries i) within is c.invariant.ensures.numbered refl in
-    subst (λ version. IsFirstBad version setup entries e.at) c.version-version.ensures
-    (first_bad c.version-version.result setup entries i e (course_at setup entries i) c.in_ok-next.next within is c.invariant.ensures.numbered refl c.loop-entry.invariant.legal (c.in_ok-next.ensures.next (take i entries) c.loop-entry.invariant place) c.if-not-next.true)
+    let are : AreStepsOf version setup (take i entries) c.deref.result.now = subst (AreStepsOf version setup (take i entries)) (sym c.deref.ensures.value) c.loop-entry.invariant in
+    subst (λ known. IsFirstBad known setup entries e.at) c.version-version.ensures
+    (first_bad version setup entries i e (course_at setup entries i) (is_some c.in_ok-step.field-0) within is c.invariant.ensures.numbered refl c.loop-entry.invariant.legal (c.in_ok-step.ensures.next (take i entries) are place) (ap is_some c.in_default.is))

@@ -6,6 +6,6 @@ use Rattle.fy_check_by_rules.proofs.marks.marks_of.Given as goal
 
 abbrev pub invariant-loop-i : goal.invariant-loop-i
 invariant-loop-i l = record {
-  acked : l.acked ≡ acked (past (take l.i l.steps)) l.rec;
-  marked : (p : ℕ) → is_among l.marked.items p ≡ marked (past (take l.i l.steps)) l.rec p;
+  acked : l.marks.acked ≡ acked (past (take l.i l.before.steps.now)) l.rec;
+  marked : (p : ℕ) → is_among l.marks.marked.items p ≡ marked (past (take l.i l.before.steps.now)) l.rec p;
 }

@@ -1,13 +1,13 @@
 use Rattle.std.proofs.Common.{◌≡◌, ◌<◌, ℕ, Bool, ◌&&◌, not, length, sym, ◌∙◌, ap, arith, rules}
 use Rattle.fy_team.specs.Teams.{is_among}
 use Rattle.fy_cluster.specs.History.{records, acked, has_synced, members_for}
-use Rattle.fy_check_by_rules.specs.Past.{past}
+use Rattle.fy_check_by_rules.specs.Past.{history_of}
 use Rattle.fy_check_by_rules.proofs.Lists.{found_at, teams_counted}
 use Rattle.fy_check_by_rules.proofs.needs.needed_by_member.Goals as goal
 
 pub returns-then-needs : goal.returns-then-needs
 returns-then-needs c =
-    let h = past c.args.steps.now in
+    let h = history_of c.args.before.now in
     let p = c.args.p.0 in
     let needed : ℕ → Bool = λ r. acked h r && is_among (members_for h r) p && not (has_synced h r p) in
     let within : c.loop-rec.rec < length c.in_ok-list.list.items = search rules in

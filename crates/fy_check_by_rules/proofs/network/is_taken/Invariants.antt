@@ -4,4 +4,4 @@ use Rattle.fy_check_by_rules.specs.Past.{past}
 use Rattle.fy_check_by_rules.proofs.network.is_taken.Given as goal
 
 abbrev pub invariant-loop-step : goal.invariant-loop-step
-invariant-loop-step l = (l.sent.items ≡ sent (past (take l.step-index l.steps))) × (l.taken ≡ is_taken (past (take l.step-index l.steps)) l.message)
+invariant-loop-step l = (l.sent.items ≡ sent (past (take l.step-index l.before.steps.now))) × (l.taken ≡ is_taken (past (take l.step-index l.before.steps.now)) l.message)

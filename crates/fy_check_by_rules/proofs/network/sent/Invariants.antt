@@ -4,4 +4,4 @@ use Rattle.fy_check_by_rules.specs.Past.{past}
 use Rattle.fy_check_by_rules.proofs.network.sent.Given as goal
 
 abbrev pub invariant-loop-step : goal.invariant-loop-step
-invariant-loop-step l = l.sent.items ≡ sent (past (take l.step-index l.steps))
+invariant-loop-step l = l.sent.items ≡ sent (past (take l.step-index l.before.steps.now))

@@ -5,4 +5,4 @@ use Rattle.fy_check_by_rules.specs.Past.{past}
 use Rattle.fy_check_by_rules.proofs.strikes.destroyed.Given as goal
 
 abbrev pub invariant-loop-step : goal.invariant-loop-step
-invariant-loop-step l = (p : ℕ) → sets.contains l.destroyed p ≡ destroyed (past (take l.step-index l.steps)) p
+invariant-loop-step l = (p : ℕ) → sets.contains l.destroyed p ≡ destroyed (past (take l.step-index l.before.steps.now)) p

@@ -4,4 +4,4 @@ use Rattle.fy_check_by_rules.specs.Past.{past}
 use Rattle.fy_check_by_rules.proofs.strikes.up.Given as goal
 
 abbrev pub invariant-loop-step : goal.invariant-loop-step
-invariant-loop-step l = l.up ≡ up (past (take l.step-index l.steps)) l.p.0
+invariant-loop-step l = l.up ≡ up (past (take l.step-index l.before.steps.now)) l.p.0

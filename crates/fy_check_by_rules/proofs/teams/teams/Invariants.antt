@@ -5,4 +5,4 @@ use Rattle.fy_check_by_rules.specs.Formed.{team_of}
 use Rattle.fy_check_by_rules.proofs.teams.teams.Given as goal
 
 abbrev pub invariant-loop-step : goal.invariant-loop-step
-invariant-loop-step l = map team_of l.list.items ≡ teams (past (take l.step-index l.steps))
+invariant-loop-step l = map team_of l.list.items ≡ teams (past (take l.step-index l.before.steps.now))

@@ -8,7 +8,7 @@ use Rattle.fy_check_by_rules.proofs.writes.synced.Goals as goal
 
 pub loop-i-preserved : goal.loop-i-preserved
 loop-i-preserved c =
-    let steps = c.args.steps.now in
+    let steps = c.args.before.now.steps.now in
     let i = c.loop-i.i in
     let p = c.args.p.0 in
     let s = c.index-steps-i.result in

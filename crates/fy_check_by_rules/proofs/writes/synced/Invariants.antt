@@ -5,4 +5,4 @@ use Rattle.fy_check_by_rules.proofs.Written.{later_at, recs}
 use Rattle.fy_check_by_rules.proofs.writes.synced.Given as goal
 
 abbrev pub invariant-loop-i : goal.invariant-loop-i
-invariant-loop-i l = l.list.items ≡ recs (written l.p.0 (is_kept l.p.0) (later_at l.steps l.i) (past (take l.i l.steps)))
+invariant-loop-i l = l.list.items ≡ recs (written l.p.0 (is_kept l.p.0) (later_at l.before.steps.now l.i) (past (take l.i l.before.steps.now)))

@@ -4,4 +4,4 @@ use Rattle.fy_cluster.proofs.Targets.{Visits}
 use Rattle.fy_cluster.proofs.kills.strike_disks.Given as goal
 
 abbrev pub invariant-loop-p : goal.invariant-loop-p
-invariant-loop-p l = Visits l.targets l.p-iterator (left_on l.kind l.tear) blank l.initial.disks.items l.disks.items
+invariant-loop-p l = Visits l.targets l.p-iterator (left_on l.kind l.tear) blank l.initial.disks l.disks

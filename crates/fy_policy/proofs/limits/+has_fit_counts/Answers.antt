@@ -4,30 +4,26 @@ use Rattle.fy_policy.specs.Shape.{tree_of}
 use Rattle.fy_policy.specs.Tree.{HasFitCounts}
 use Rattle.fy_policy.proofs.Bounds.{Fit, Fit-one, Fit-across, Fit-And, one_fails, all_hold}
 use Rattle.fy_policy.proofs.limits.+has_fit_counts.Goals as goal
-use Rattle.fy_policy.proofs.limits.+has_fit_counts.Goals.{then-count-lt-LEAST_COUNT-via-then-count-lt-LEAST_COUNT, then-count-lt-LEAST_COUNT-via-else-count-lt-LEAST_COUNT+then-count-gt-MOST_COUNT}
 
 pub returns-in-One : goal.returns-in-One
 returns-in-One t c = subst (λ q. IsTrue true ↔ HasFitCounts (tree_of q)) (sym c.in-One.is) (λ _. Fit-one, λ _. refl)
 
-pub returns-then-count-lt-LEAST_COUNT : goal.returns-then-count-lt-LEAST_COUNT
-returns-then-count-lt-LEAST_COUNT t c =
-    let n = c.in-Across.count in let q = tree_of c.in-Across.inner.value in
-    subst (λ s. IsTrue false ↔ HasFitCounts (tree_of s)) (sym c.in-Across.is) (
-      λ h. absurd (true≢false (sym h)),
-      λ h. let fit = (Fit-across n c.in-Across.field-1 q).0 h in let low : 1 ≤ n = fit.0 in let high : n ≤ 1024 = fit.1 in
-          elim c.then-count-lt-LEAST_COUNT.branch [
-            | then-count-lt-LEAST_COUNT-via-then-count-lt-LEAST_COUNT w ↦ absurd (omega arith)
-            | then-count-lt-LEAST_COUNT-via-else-count-lt-LEAST_COUNT+then-count-gt-MOST_COUNT w ↦ absurd (omega arith)
-          ],
-    )
-
-pub returns-else-count-gt-MOST_COUNT : goal.returns-else-count-gt-MOST_COUNT
-returns-else-count-gt-MOST_COUNT t c =
+pub returns-then-is_fit : goal.returns-then-is_fit
+returns-then-is_fit t c =
     let n = c.in-Across.count in let q = tree_of c.in-Across.inner.value in
     let inner : IsTrue c.has_fit_counts.result ↔ HasFitCounts q = subst (λ s. IsTrue c.has_fit_counts.result ↔ HasFitCounts (tree_of s)) c.deref.ensures c.has_fit_counts.ensures in
+    let fit : (1 ≤ n) × (n ≤ 1024) = c.is_fit.ensures.0 c.if-is_fit.true in
     subst (λ s. IsTrue c.has_fit_counts.result ↔ HasFitCounts (tree_of s)) (sym c.in-Across.is) (
-      λ h. (Fit-across n c.in-Across.field-1 q).1 (omega arith, omega arith, inner.0 h),
+      λ h. (Fit-across n c.in-Across.field-1 q).1 (fit.0, fit.1, inner.0 h),
       λ h. inner.1 ((Fit-across n c.in-Across.field-1 q).0 h).2,
+    )
+
+pub returns-else-is_fit : goal.returns-else-is_fit
+returns-else-is_fit t c =
+    let n = c.in-Across.count in let q = tree_of c.in-Across.inner.value in
+    subst (λ s. IsTrue c.is_fit.result ↔ HasFitCounts (tree_of s)) (sym c.in-Across.is) (
+      λ h. absurd (true≢false (sym h ∙ c.if-is_fit.false)),
+      λ h. let fit = (Fit-across n c.in-Across.field-1 q).0 h in c.is_fit.ensures.1 (fit.0, fit.1),
     )
 
 pub returns-then-not-has_fit_counts : goal.returns-then-not-has_fit_counts

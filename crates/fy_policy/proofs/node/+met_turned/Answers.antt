@@ -9,14 +9,14 @@ use Rattle.fy_policy.proofs.Walk.{fewer-group, fewer-dropped, no_least}
 use Rattle.fy_policy.proofs.node.+met_turned.Goals as goal
 
 pub returns-in-One : goal.returns-in-One
-returns-in-One t c = λ at s few right inside can.
-    some-turned c.args.map.now at c.args.group s c.args.those.now c.args.node.now c.in-One.counts c.args.comes c.in-One.is right inside can c.count_at.result
+returns-in-One t c = λ at s it can.
+    some-turned c.args.map.now at c.args.group s c.args.those.now c.args.node.now c.in-One.counts c.args.comes c.in-One.is it.right it.inside can c.count_at.result
     (c.count_at.ensures ∙ ap (λ xs. slice_index_or xs c.args.group 0) c.deref.ensures.value) c.some_after.result c.some_after.ensures.comes c.some_after.ensures.goes
 
 pub loop-p-init : goal.loop-p-init
-loop-p-init t c = λ at s few right inside can.
+loop-p-init t c = λ at s it can.
     halfway-first c.args.map.now at c.args.group s c.in-Across.key (tree_of_node c.in-Across.inner.value) (sets.contains c.args.those.now) c.args.comes c.count_at-count.result
-    (across-count c.args.map.now at s c.args.group c.args.node.now c.in-Across.wanted c.in-Across.key c.in-Across.places c.in-Across.counts c.in-Across.inner c.in-Across.is right inside c.count_at-count.result
+    (across-count c.args.map.now at s c.args.group c.args.node.now c.in-Across.wanted c.in-Across.key c.in-Across.places c.in-Across.counts c.in-Across.inner c.in-Across.is it.right it.inside c.count_at-count.result
     (c.count_at-count.ensures ∙ ap (λ xs. slice_index_or xs c.args.group 0) c.deref-in-Across.ensures.value))
 
 pub loop-p-smaller-in-None : goal.loop-p-smaller-in-None
@@ -25,9 +25,9 @@ loop-p-smaller-in-None t c =
     (fewer-dropped c.loop-p.rest c.in-Some.p.0 c.in-Some.ensures.some.present c.in-Some.ensures.small)
 
 pub loop-p-preserved-in-None : goal.loop-p-preserved-in-None
-loop-p-preserved-in-None t c = λ at s few right inside can.
+loop-p-preserved-in-None t c = λ at s it can.
     halfway-keyless c.args.map.now at c.args.group s c.in-Across.key (tree_of_node c.in-Across.inner.value) (sets.contains c.args.those.now) c.args.comes c.loop-p.rest c.drop_one.new.self c.loop-p.count c.in-Some.p.0
-    c.drop_one.ensures c.in-None.ensures.none (c.loop-p.invariant at s few right inside can)
+    c.drop_one.ensures c.in-None.ensures.none (c.loop-p.invariant at s it can)
 
 pub loop-p-smaller : goal.loop-p-smaller
 loop-p-smaller t c =
@@ -35,10 +35,10 @@ loop-p-smaller t c =
     c.in-Some-peers.ensures.some.had c.in-Some-peers.ensures.some.those c.intersection-part.ensures c.difference-rest.ensures c.in-Some.ensures.some.present c.in-Some.ensures.small
 
 pub loop-p-preserved : goal.loop-p-preserved
-loop-p-preserved t c = λ at s few right inside can.
-    across-next c.args.map.now at s c.args.group few inside c.args.node.now c.in-Across.wanted c.in-Across.key c.in-Across.places c.in-Across.counts c.in-Across.inner c.in-Across.is right
+loop-p-preserved t c = λ at s it can.
+    across-next c.args.map.now at s c.args.group it.few it.inside c.args.node.now c.in-Across.wanted c.in-Across.key c.in-Across.places c.in-Across.counts c.in-Across.inner c.in-Across.is it.right
     c.args.those.now c.args.comes c.loop-p.rest c.in-Some-peers.peers c.intersection-part.result c.difference-rest.result c.in-Some.p.0 c.in-Some-peers.ensures.some.value
-    c.in-Some-peers.ensures.some.had c.in-Some-peers.ensures.some.those c.intersection-part.ensures c.difference-rest.ensures can c.loop-p.count (c.loop-p.invariant at s few right inside can) c.in-Some.ensures.some.present
+    c.in-Some-peers.ensures.some.had c.in-Some-peers.ensures.some.those c.intersection-part.ensures c.difference-rest.ensures can c.loop-p.count (c.loop-p.invariant at s it can) c.in-Some.ensures.some.present
     c.values_differ.ensures c.values_occur.ensures c.count_at-below.result
     (c.count_at-below.ensures ∙ ap (λ xs. slice_index_or xs c.in-Some.p.0 0) c.deref-in-Some-peers.ensures.value)
     c.deref-in-Some-peers-2.result.now c.deref-in-Some-peers-2.ensures c.met-before.result c.met-before.ensures
@@ -46,31 +46,31 @@ loop-p-preserved t c = λ at s few right inside can.
     c.recounted-count.result c.recounted-count.ensures
 
 pub returns-in_default : goal.returns-in_default
-returns-in_default t c = λ at s few right inside can.
+returns-in_default t c = λ at s it can.
     across-turned-by c.args.map.now at c.args.group c.args.node.now c.in-Across.wanted c.in-Across.key c.in-Across.places _ c.in-Across.inner c.in-Across.is (turned_by s (sets.contains c.args.those.now) c.args.comes) c.loop-p.count
     (halfway-last c.args.map.now at c.args.group s c.in-Across.key (tree_of_node c.in-Across.inner.value) (sets.contains c.args.those.now) c.args.comes c.loop-p.rest c.loop-p.count
-    (no_least _ _ c.least.ensures.none c.in_default.not-Some) (c.loop-p.invariant at s few right inside can))
+    (no_least _ _ c.least.ensures.none c.in_default.not-Some) (c.loop-p.invariant at s it can))
 
 pub returns-then-met_turned : goal.returns-then-met_turned
-returns-then-met_turned t c = λ at s few right inside can.
-    let parts = both c.args.map.now at s c.args.node.now c.in-Both.first c.in-Both.second c.in-Both.is right in
+returns-then-met_turned t c = λ at s it can.
+    let parts = both c.args.map.now at s c.args.node.now c.in-Both.first c.in-Both.second c.in-Both.is it.right in
     let s' = turned_by s (sets.contains c.args.those.now) c.args.comes in
     and-yes _ _ _ _
-    (c.met_turned.ensures at s few (subst (IsRight c.args.map.now at s) (sym c.deref-in-Both.ensures) parts.0) inside can ∙ ap (λ n. satisfies c.args.map.now (tree_of_node n) (within c.args.map.now at c.args.group s')) c.deref-in-Both.ensures) c.if-met_turned.true
-    (c.met_turned-then-met_turned.ensures at s few (subst (IsRight c.args.map.now at s) (sym c.deref-then-met_turned.ensures) parts.1) inside can ∙ ap (λ n. satisfies c.args.map.now (tree_of_node n) (within c.args.map.now at c.args.group s')) c.deref-then-met_turned.ensures)
+    (c.met_turned.ensures at s (record { few = it.few; right = (subst (IsRight c.args.map.now at s) (sym c.deref-in-Both.ensures) parts.0); inside = it.inside }) can ∙ ap (λ n. satisfies c.args.map.now (tree_of_node n) (within c.args.map.now at c.args.group s')) c.deref-in-Both.ensures) c.if-met_turned.true
+    (c.met_turned-then-met_turned.ensures at s (record { few = it.few; right = (subst (IsRight c.args.map.now at s) (sym c.deref-then-met_turned.ensures) parts.1); inside = it.inside }) can ∙ ap (λ n. satisfies c.args.map.now (tree_of_node n) (within c.args.map.now at c.args.group s')) c.deref-then-met_turned.ensures)
     ∙ sym (met-both-by c.args.map.now at c.args.group s' c.args.node.now c.in-Both.first c.in-Both.second c.in-Both.is)
 
 pub returns-else-met_turned : goal.returns-else-met_turned
-returns-else-met_turned t c = λ at s few right inside can.
-    let parts = both c.args.map.now at s c.args.node.now c.in-Both.first c.in-Both.second c.in-Both.is right in
+returns-else-met_turned t c = λ at s it can.
+    let parts = both c.args.map.now at s c.args.node.now c.in-Both.first c.in-Both.second c.in-Both.is it.right in
     let s' = turned_by s (sets.contains c.args.those.now) c.args.comes in
     and-no _ _ _
-    (c.met_turned.ensures at s few (subst (IsRight c.args.map.now at s) (sym c.deref-in-Both.ensures) parts.0) inside can ∙ ap (λ n. satisfies c.args.map.now (tree_of_node n) (within c.args.map.now at c.args.group s')) c.deref-in-Both.ensures) c.if-met_turned.false
+    (c.met_turned.ensures at s (record { few = it.few; right = (subst (IsRight c.args.map.now at s) (sym c.deref-in-Both.ensures) parts.0); inside = it.inside }) can ∙ ap (λ n. satisfies c.args.map.now (tree_of_node n) (within c.args.map.now at c.args.group s')) c.deref-in-Both.ensures) c.if-met_turned.false
     ∙ sym (met-both-by c.args.map.now at c.args.group s' c.args.node.now c.in-Both.first c.in-Both.second c.in-Both.is)
 
 pub returns-then-is_out_of_reach : goal.returns-then-is_out_of_reach
-returns-then-is_out_of_reach t c = λ at s few right inside can.
-    out-of-reach c.args.map.now at s c.args.group c.args.node.now c.in-Across.wanted c.in-Across.key c.in-Across.places c.in-Across.counts c.in-Across.inner c.in-Across.is right c.values_differ.ensures c.values_occur.ensures inside
+returns-then-is_out_of_reach t c = λ at s it can.
+    out-of-reach c.args.map.now at s c.args.group c.args.node.now c.in-Across.wanted c.in-Across.key c.in-Across.places c.in-Across.counts c.in-Across.inner c.in-Across.is it.right c.values_differ.ensures c.values_occur.ensures it.inside
     c.args.those.now c.args.comes can c.count_at-count.result (c.count_at-count.ensures ∙ ap (λ xs. slice_index_or xs c.args.group 0) c.deref-in-Across.ensures.value)
     (λ e. subst (λ k. c.count_at-count.result + k < c.in-Across.wanted) c.len.ensures.count (c.is_out_of_reach.ensures.comes c.if-is_out_of_reach.true e))
     (λ e. subst (λ k. c.in-Across.wanted + k ≤ c.count_at-count.result) c.len.ensures.count (c.is_out_of_reach.ensures.goes c.if-is_out_of_reach.true e))

@@ -1,13 +1,13 @@
-use Rattle.std.proofs.Common.{◌≤◌, ℕ, Bool, length}
+use Rattle.std.proofs.Common.{ℕ, Bool}
 use Rattle.std.specs.FinSet as sets
-use Rattle.fy_policy.specs.Counted.{tree_of_node, IsRight, CanTurn}
+use Rattle.fy_policy.specs.Counted.{tree_of_node, IsRightAt, CanTurn}
 use Rattle.fy_policy.proofs.Counts.{number_of}
 use Rattle.fy_policy.proofs.Turning.{Halfway}
 use Rattle.fy_policy.proofs.node.+met_turned.Given as goal
 
 -- the processes of some values came or went, and those of the others are the rest
 abbrev pub invariant-loop-p : goal.invariant-loop-p
-invariant-loop-p l = (at : ℕ → ℕ) (s : ℕ → Bool) → length l.map ≤ 1024 → IsRight l.map at s l.node → l.group ≤ length l.map → CanTurn l.map at l.group s (sets.contains l.those) l.comes
+invariant-loop-p l = (at : ℕ → ℕ) (s : ℕ → Bool) → IsRightAt l.map at s l.group l.node → CanTurn l.map at l.group s (sets.contains l.those) l.comes
     → Halfway l.map at l.group s l.key (tree_of_node l.inner.value) (sets.contains l.those) l.comes (sets.contains l.rest) l.count
 
 abbrev pub decreases-loop-p : goal.decreases-loop-p

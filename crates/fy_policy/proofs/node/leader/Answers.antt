@@ -2,7 +2,7 @@ use Rattle.std.proofs.Common.{◌<◌, sym, subst, ◌∙◌}
 use Rattle.std.specs.FinSet as sets
 use Rattle.fy_policy.specs.Counted.{place_in}
 use Rattle.fy_policy.proofs.Counts.{number_of}
-use Rattle.fy_policy.proofs.Leaders.{Looked, looked-first, looked-next, found-leader, looked-all}
+use Rattle.fy_policy.proofs.Leaders.{Looked, looked-first, looked-inside, looked-next, found-leader, looked-all}
 use Rattle.fy_policy.proofs.Walk.{fewer-dropped, no_least}
 use Rattle.fy_policy.proofs.node.leader.Goals as goal
 
@@ -33,3 +33,8 @@ loop-q-preserved c = record {
 pub returns-in_default : goal.returns-in_default
 returns-in_default c =
     absurd (looked-all c.args.map.now c.args.key (place_in c.args.places.now) c.args.p.0 c.in-Some.peers c.loop-q.rest c.in-Some.ensures.some c.loop-q.invariant.looked (no_least _ _ c.least.ensures.none c.in_default.not-Some))
+
+pub count_at-requires : goal.count_at-requires
+count_at-requires c =
+    subst (λ n. c.in-Some-least.q.0 < n) (sym c.requires.places)
+    (looked-inside c.args.map.now c.args.key (place_in c.args.places.now) c.args.p.0 (c.processes_have_values.ensures c.args.map.now) c.in-Some.peers c.loop-q.rest c.in-Some-least.q.0 c.in-Some.ensures.some c.loop-q.invariant.looked c.in-Some-least.ensures.some)

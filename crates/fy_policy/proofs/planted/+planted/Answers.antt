@@ -3,27 +3,33 @@ use Rattle.fy_policy.specs.declared.node.Node.{One, Across}
 use Rattle.fy_policy.specs.Counted.{IsPlanted, place_in}
 use Rattle.fy_policy.specs.Shape.{tree_of}
 use Rattle.fy_policy.specs.Tree.{IsWellFormed}
-use Rattle.fy_policy.proofs.Planting.{AreJoined, one-planted, across-planted, joined-first, joined-next, joined-all, no_parts}
+use Rattle.fy_policy.proofs.Planting.{AreJoined, one-planted, across-planted, joined-first, joined-next, planted-all}
 use Rattle.fy_policy.proofs.Shapes.{part_is_counted'}
-use Rattle.fy_policy.proofs.planted.+planted.Goals.{in-None, in-Some+in_ok-before-in-Some+in_ok-new-in-Some}
+use Rattle.fy_policy.proofs.planted.+planted.Goals.{in-None, in-Some-planted_so_far+in_ok-before-in-Some-planted_so_far+in_ok-new-in-Some-planted_so_far}
 use Rattle.fy_policy.proofs.planted.+planted.Goals as goal
+
+pub returns-in_default-2 : goal.returns-in_default-2
+returns-in_default-2 t c = λ counted.
+    subst (λ o. MatchOption o ⊥ (IsPlanted c.args.map.now (place_in c.args.places.now) (tree_of c.part-item.result))) c.in_default-2.is
+    (c.in_ok-next-in-And.ensures (part_is_counted' c.args.shape.now c.in-And.parts c.deref-part-items.result.now c.loop-part.part-index c.part-item.result c.in-And.is c.deref-part-items.ensures.value counted c.loop-part-test.true c.part-item.is))
 
 pub loop-part-preserved : goal.loop-part-preserved
 loop-part-preserved t c = λ counted.
     let same : c.deref-part-items.result.now ≡ c.in-And.parts.items = c.deref-part-items.ensures.value in
-    let fresh = c.in_ok-next-in-And.ensures (part_is_counted' c.args.shape.now c.in-And.parts c.deref-part-items.result.now c.loop-part.part-index c.part-item.result c.in-And.is same counted c.loop-part-test.true c.part-item.is) in
-    elim c.match-planted_so_far-3.branch [
+    let fresh = subst (λ o. MatchOption o ⊥ (IsPlanted c.args.map.now (place_in c.args.places.now) (tree_of c.part-item.result))) c.in-Some-2.is
+    (c.in_ok-next-in-And.ensures (part_is_counted' c.args.shape.now c.in-And.parts c.deref-part-items.result.now c.loop-part.part-index c.part-item.result c.in-And.is same counted c.loop-part-test.true c.part-item.is)) in
+    elim c.match-planted_so_far-5.branch [
       | in-None w ↦
           subst (λ o. MatchOption o (c.loop-part.part-index + 1 ≡ 0) (λ node. AreJoined c.args.map.now (place_in c.args.places.now) c.deref-part-items.result.now (c.loop-part.part-index + 1) node)) (sym w.planted_so_far-is)
-          (joined-first c.args.map.now (place_in c.args.places.now) c.deref-part-items.result.now c.loop-part.part-index c.part-item.result c.loop-part-test.true c.part-item.is c.in_ok-next-in-And.next fresh
+          (joined-first c.args.map.now (place_in c.args.places.now) c.deref-part-items.result.now c.loop-part.part-index c.part-item.result c.loop-part-test.true c.part-item.is c.in-Some-2.next fresh
           (subst (λ o. MatchOption o (c.loop-part.part-index ≡ 0) (λ node. AreJoined c.args.map.now (place_in c.args.places.now) c.deref-part-items.result.now c.loop-part.part-index node)) w.in-None.is (c.loop-part.invariant counted)))
-      | in-Some+in_ok-before-in-Some+in_ok-new-in-Some w ↦
+      | in-Some-planted_so_far+in_ok-before-in-Some-planted_so_far+in_ok-new-in-Some-planted_so_far w ↦
           subst (λ o. MatchOption o (c.loop-part.part-index + 1 ≡ 0) (λ node. AreJoined c.args.map.now (place_in c.args.places.now) c.deref-part-items.result.now (c.loop-part.part-index + 1) node)) (sym w.planted_so_far-is)
-          (joined-next c.args.map.now (place_in c.args.places.now) c.deref-part-items.result.now c.loop-part.part-index c.part-item.result c.loop-part-test.true c.part-item.is c.in_ok-next-in-And.next fresh
-          w.in_ok-before-in-Some.before w.in_ok-new-in-Some.field-0
-          (subst (AreJoined c.args.map.now (place_in c.args.places.now) c.deref-part-items.result.now c.loop-part.part-index) (sym w.in_ok-before-in-Some.ensures.ok)
-          (subst (λ o. MatchOption o (c.loop-part.part-index ≡ 0) (λ node. AreJoined c.args.map.now (place_in c.args.places.now) c.deref-part-items.result.now c.loop-part.part-index node)) w.in-Some.is (c.loop-part.invariant counted)))
-          w.in_ok-new-in-Some.ensures.ok)
+          (joined-next c.args.map.now (place_in c.args.places.now) c.deref-part-items.result.now c.loop-part.part-index c.part-item.result c.loop-part-test.true c.part-item.is c.in-Some-2.next fresh
+          w.in_ok-before-in-Some-planted_so_far.before w.in_ok-new-in-Some-planted_so_far.field-0
+          (subst (AreJoined c.args.map.now (place_in c.args.places.now) c.deref-part-items.result.now c.loop-part.part-index) (sym w.in_ok-before-in-Some-planted_so_far.ensures.ok)
+          (subst (λ o. MatchOption o (c.loop-part.part-index ≡ 0) (λ node. AreJoined c.args.map.now (place_in c.args.places.now) c.deref-part-items.result.now c.loop-part.part-index node)) w.in-Some-planted_so_far.is (c.loop-part.invariant counted)))
+          w.in_ok-new-in-Some-planted_so_far.ensures.ok)
     ]
 
 pub returns-in_ok-zeros-in-One : goal.returns-in_ok-zeros-in-One
@@ -31,24 +37,21 @@ returns-in_ok-zeros-in-One t c = λ counted.
     subst (λ q. IsPlanted c.args.map.now (place_in c.args.places.now) (tree_of q) (One c.in_ok-zeros-in-One.field-0)) (sym c.in-One.is)
     (one-planted c.args.map.now (place_in c.args.places.now) c.in_ok-zeros-in-One.field-0 (c.in_ok-zeros-in-One.ensures.wide ∙ ap (λ n. n + 1) c.len.ensures.count) c.in_ok-zeros-in-One.ensures.zeros)
 
-pub returns-in_ok-new-in-Across : goal.returns-in_ok-new-in-Across
-returns-in_ok-new-in-Across t c = λ counted.
+pub returns-in_ok-inner-in-Across-2 : goal.returns-in_ok-inner-in-Across-2
+returns-in_ok-inner-in-Across-2 t c = λ counted.
     let fit : (1 ≤ c.in-Across.wanted) × (c.in-Across.wanted ≤ 1024) × IsWellFormed (tree_of c.in-Across.inner.value) = subst (λ q. IsWellFormed (tree_of q)) c.in-Across.is counted in
-    let below = c.in_ok-inner-in-Across.ensures (subst (λ q. IsWellFormed (tree_of q)) (sym c.deref.ensures) fit.2) in
-    let moved : IsPlanted c.args.map.now (place_in c.in_ok-below-in-Across.below.items) (tree_of c.in-Across.inner.value) c.in_ok-inner-in-Across.inner =
-    subst (λ q. IsPlanted c.args.map.now (place_in c.in_ok-below-in-Across.below.items) (tree_of q) c.in_ok-inner-in-Across.inner) c.deref.ensures
-    (subst (λ xs. IsPlanted c.args.map.now (place_in xs) (tree_of c.deref.result.now) c.in_ok-inner-in-Across.inner) c.deref-in-Across.ensures.value below) in
-    subst (λ q. IsPlanted c.args.map.now (place_in c.args.places.now) (tree_of q) (Across c.in-Across.wanted c.in-Across.key c.in_ok-below-in-Across.below c.in_ok-counts-in-Across.counts c.in_ok-new-in-Across.field-0)) (sym c.in-Across.is)
-    (across-planted c.args.map.now (place_in c.args.places.now) c.in-Across.wanted c.in-Across.key (tree_of c.in-Across.inner.value) c.in_ok-below-in-Across.below c.in_ok-counts-in-Across.counts c.in_ok-new-in-Across.field-0 (fit.0, fit.1)
-    c.in_ok-below-in-Across.ensures.leaders (subst (IsPlanted c.args.map.now (place_in c.in_ok-below-in-Across.below.items) (tree_of c.in-Across.inner.value)) (sym c.in_ok-new-in-Across.ensures.ok) moved)
+    let below : IsPlanted c.args.map.now (place_in c.deref-in-Across.result.now) (tree_of c.deref.result.now) c.in-Some.inner =
+    subst (λ o. MatchOption o ⊥ (IsPlanted c.args.map.now (place_in c.deref-in-Across.result.now) (tree_of c.deref.result.now))) c.in-Some.is
+    (c.in_ok-inner-in-Across.ensures (subst (λ q. IsWellFormed (tree_of q)) (sym c.deref.ensures) fit.2)) in
+    let moved : IsPlanted c.args.map.now (place_in c.in_ok-below-in-Across.below.items) (tree_of c.in-Across.inner.value) c.in-Some.inner =
+    subst (λ q. IsPlanted c.args.map.now (place_in c.in_ok-below-in-Across.below.items) (tree_of q) c.in-Some.inner) c.deref.ensures
+    (subst (λ xs. IsPlanted c.args.map.now (place_in xs) (tree_of c.deref.result.now) c.in-Some.inner) c.deref-in-Across.ensures.value below) in
+    subst (λ q. IsPlanted c.args.map.now (place_in c.args.places.now) (tree_of q) (Across c.in-Across.wanted c.in-Across.key c.in_ok-below-in-Across.below c.in_ok-counts-in-Across.counts c.in_ok-inner-in-Across-2.inner)) (sym c.in-Across.is)
+    (across-planted c.args.map.now (place_in c.args.places.now) c.in-Across.wanted c.in-Across.key (tree_of c.in-Across.inner.value) c.in_ok-below-in-Across.below c.in_ok-counts-in-Across.counts c.in_ok-inner-in-Across-2.inner (fit.0, fit.1) c.in_ok-below-in-Across.ensures.wide
+    c.in_ok-below-in-Across.ensures.leaders (subst (IsPlanted c.args.map.now (place_in c.in_ok-below-in-Across.below.items) (tree_of c.in-Across.inner.value)) (sym c.in_ok-inner-in-Across-2.ensures.ok) moved)
     (c.in_ok-counts-in-Across.ensures.wide ∙ ap (λ n. n + 1) c.len-in-Across.ensures.count) c.in_ok-counts-in-Across.ensures.zeros)
 
-pub returns-in-None-planted_so_far : goal.returns-in-None-planted_so_far
-returns-in-None-planted_so_far t c = λ counted.
-    absurd (no_parts c.args.shape.now c.in-And.parts c.deref-part-items.result.now c.loop-part.part-index c.in-And.is c.deref-part-items.ensures.value c.loop-part-test.false
-    (subst (λ o. MatchOption o (c.loop-part.part-index ≡ 0) (λ node. AreJoined c.args.map.now (place_in c.args.places.now) c.deref-part-items.result.now c.loop-part.part-index node)) c.in-None-planted_so_far.is (c.loop-part.invariant counted)) counted)
-
-pub returns-in-Some-planted_so_far : goal.returns-in-Some-planted_so_far
-returns-in-Some-planted_so_far t c = λ counted.
-    joined-all c.args.map.now (place_in c.args.places.now) c.args.shape.now c.in-And.parts c.deref-part-items.result.now c.loop-part.part-index c.in-Some-planted_so_far.node c.in-And.is c.deref-part-items.ensures.value c.loop-part-test.false
-    (subst (λ o. MatchOption o (c.loop-part.part-index ≡ 0) (λ node. AreJoined c.args.map.now (place_in c.args.places.now) c.deref-part-items.result.now c.loop-part.part-index node)) c.in-Some-planted_so_far.is (c.loop-part.invariant counted))
+pub returns-after-loop-part : goal.returns-after-loop-part
+returns-after-loop-part t c = λ counted.
+    planted-all c.args.map.now (place_in c.args.places.now) c.args.shape.now c.in-And.parts c.deref-part-items.result.now c.loop-part.part-index c.in-And.is c.deref-part-items.ensures.value c.loop-part-test.false counted
+    c.loop-part.planted_so_far (c.loop-part.invariant counted)

@@ -1,32 +1,27 @@
-use Rattle.std.proofs.Common.{◌≡◌, ◌≤◌, length, Some, None, Err, sym, ◌∙◌, arith}
+use Rattle.std.proofs.Common.{◌≤◌, length, sym, ◌∙◌, arith}
 use Rattle.serde_json.specs.View.{view}
-use Rattle.fy_spelling.specs.Candidate.{command_from}
 use Rattle.fy_spelling.specs.declared.command.TheConstants.{MOST_LINE_BYTES}
-use Rattle.fy_spelling.proofs.Lines.{spelled, inverted, nothing, answered}
+use Rattle.fy_spelling.proofs.Lines.{spelled, inverted, nothing}
 use Rattle.fy_spelling.proofs.reading.read_command_by_value.Goals as goal
 
-pub returns-in-Ok-None : goal.returns-in-Ok-None
-returns-in-Ok-None c =
+pub returns-in_default-2 : goal.returns-in_default-2
+returns-in_default-2 c =
     let short : length c.args.line.now ≤ MOST_LINE_BYTES = omega arith in
-    let found = c.in-Ok-None.ensures in
-    let none : command_from (view c.in-Ok.value) ≡ None = cc in
-    nothing c.args.line.now (view c.in-Ok.value) short c.in-Ok.ensures.found none
+    nothing c.args.line.now (view c.in-Some.value) short (rw c.in-Some.is at c.in_ok-value.ensures.found)
+    (sym c.in_ok-by.ensures ∙ c.in_default-2.is)
 
-pub returns-in-Ok-meant : goal.returns-in-Ok-meant
-returns-in-Ok-meant c =
-    let short : length c.args.line.now ≤ MOST_LINE_BYTES = omega arith in
-    let found : command_from (view c.in-Ok.value) ≡ Some c.in-Ok-Some.found =
-    sym c.in-Ok-Some.ensures ∙ c.in-Ok-Some.field-0-is in (
+pub returns-in-Ok : goal.returns-in-Ok
+returns-in-Ok c =
+    let short : length c.args.line.now ≤ MOST_LINE_BYTES = omega arith in (
       short,
-      spelled c.args.line.now (view c.in-Ok.value) c.in-Ok-Some.found.0 c.in-Ok-Some.found.1
-          c.in-Ok-meant.act c.in-Ok.ensures.found found c.in-Ok-meant.ensures,
+      spelled c.args.line.now (view c.in-Some.value) c.in-Some-2.by c.in-Some-2.asked c.in-Ok.act
+          (rw c.in-Some.is at c.in_ok-value.ensures.found) (sym c.in_ok-by.ensures ∙ c.in-Some-2.is)
+          c.in-Ok.ensures,
     )
 
 pub returns : goal.returns
 returns c =
     let short : length c.args.line.now ≤ MOST_LINE_BYTES = omega arith in
-    let found : command_from (view c.in-Ok.value) ≡ Some c.in-Ok-Some.found =
-    sym c.in-Ok-Some.ensures ∙ c.in-Ok-Some.field-0-is in
-    answered c.args.line.now (Err c.in-Err-meant.fault)
-    (inverted c.args.line.now (view c.in-Ok.value) c.in-Ok-Some.found.0 c.in-Ok-Some.found.1
-    c.in-Err-meant.fault short c.in-Ok.ensures.found found c.in-Err-meant.ensures)
+    inverted c.args.line.now (view c.in-Some.value) c.in-Some-2.by c.in-Some-2.asked c.in-Err.fault
+    short (rw c.in-Some.is at c.in_ok-value.ensures.found) (sym c.in_ok-by.ensures ∙ c.in-Some-2.is)
+    c.in-Err.ensures

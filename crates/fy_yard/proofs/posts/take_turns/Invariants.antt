@@ -1,5 +1,5 @@
 use Rattle.std.proofs.Common.{◌≡◌, ◌⊎◌}
-use Rattle.fy_yard.specs.Yard.{StartsWith, Keeps, Sees}
+use Rattle.fy_yard.specs.Yard.{StartsWith, Keeps, SeesMore}
 use Rattle.fy_yard.proofs.Parting.{Playing}
 use Rattle.fy_yard.proofs.posts.take_turns.Given as goal
 
@@ -8,7 +8,7 @@ abbrev pub invariant-loop-turn : goal.invariant-loop-turn
 invariant-loop-turn g l =
     Keeps l.initial.seat l.seat
     × StartsWith l.seat.receipts l.initial.seat.receipts
-    × ((l.seat ≡ l.initial.seat) ⊎ Sees l.fn.shared l.initial.seat l.seat)
+    × ((l.seat ≡ l.initial.seat) ⊎ SeesMore l.fn.shared l.initial.seat l.seat)
     × Playing l.fn.shared l.turn l.initial.seat l.seat
     ((goal.FaultActor-dyn g (l.initial.actor.vtable, l.initial.actor.value)).part
     l.initial.actor.value)

@@ -2,7 +2,7 @@ use Rattle.std.proofs.Common.{rules, ◌≡◌, [], ◌∷◌, List, Option, Som
 use Rattle.atomic_table.specs.Table.{opening}
 use Rattle.fy_actors.specs.Desk.{Bench, course_of}
 use Rattle.fy_yard.specs.Yard.{actor_count}
-use Rattle.fy_yard.specs.Turns.{Kept, newcomer}
+use Rattle.fy_yard.specs.Turns.{KeepsTurns, newcomer}
 use Rattle.fy_yard.proofs.Moves.{starts}
 use Rattle.fy_yard.proofs.yard.begin.Goals as goal
 
@@ -12,7 +12,7 @@ new-requires c =
     let same : c.push_reserved.new.self.items ≡ Some c.make.result ∷ [] = search rules in
     subst
     (λ (xs : List (Option Bench)).
-    Kept (opening (0 ∷ 0 ∷ 0 ∷ []) xs (newcomer c.of-setup.result.value)))
+    KeepsTurns (opening (0 ∷ 0 ∷ 0 ∷ []) xs (newcomer c.of-setup.result.value)))
     (sym same)
     (starts c.of-setup.result.value c.make.result (search rules) (search rules)
     (search rules) (search rules))

@@ -1,55 +1,55 @@
 use Rattle.fy_cluster.proofs.machine.Machine.act.Given as goal
 
 abbrev pub ghost-kill : goal.ghost-kill
-ghost-kill g a = g.turn
+ghost-kill g a = g.point
 
 abbrev pub ghost-clog : goal.ghost-clog
-ghost-clog g a = g.turn
+ghost-clog g a = g.point
 
 abbrev pub ghost-unclog : goal.ghost-unclog
-ghost-unclog g a = g.turn
+ghost-unclog g a = g.point
 
 abbrev pub ghost-form : goal.ghost-form
-ghost-form g a = g.turn
+ghost-form g a = g.point
 
 abbrev pub ghost-begin : goal.ghost-begin
-ghost-begin g a = g.turn
+ghost-begin g a = g.point
 
 abbrev pub ghost-deliver : goal.ghost-deliver
-ghost-deliver g a = g.turn
+ghost-deliver g a = g.point
 
 abbrev pub ghost-lose : goal.ghost-lose
-ghost-lose g a = g.turn
+ghost-lose g a = g.point
 
 abbrev pub ghost-resend : goal.ghost-resend
-ghost-resend g a = g.turn
+ghost-resend g a = g.point
 
 abbrev pub ghost-sync : goal.ghost-sync
-ghost-sync g a = g.turn
+ghost-sync g a = g.point
 
 abbrev pub ghost-start : goal.ghost-start
-ghost-start g a = g.turn
+ghost-start g a = g.point
 
 abbrev pub ghost-tick : goal.ghost-tick
-ghost-tick g a = g.turn
+ghost-tick g a = g.point
 
 abbrev pub ghost-give : goal.ghost-give
-ghost-give g a = g.turn
+ghost-give g a = g.point
 
 abbrev pub ghost-take : goal.ghost-take
-ghost-take g a = g.turn
+ghost-take g a = g.point
 
 abbrev pub ghost-protect : goal.ghost-protect
-ghost-protect g a = g.turn
+ghost-protect g a = g.point
 
 abbrev pub ghost-unprotect : goal.ghost-unprotect
-ghost-unprotect g a = g.turn
+ghost-unprotect g a = g.point
 
 abbrev pub ghost-copy : goal.ghost-copy
-ghost-copy g a = g.turn
+ghost-copy g a = g.point
 
 abbrev pub ghost-replace : goal.ghost-replace
-ghost-replace g a = g.turn
+ghost-replace g a = g.point
 
 abbrev pub ghost-heal : goal.ghost-heal
-ghost-heal g a = g.turn
+ghost-heal g a = g.point

@@ -6,13 +6,13 @@ use Rattle.fy_cluster.proofs.machine.Machine.give.Goals as goal
 
 pub returns-in-Ok : goal.returns-in-Ok
 returns-in-Ok g c =
-    give_ok c.grants_after_give.ensures.lists c.grants_after_give.ensures.actors g.turn c.args.grant c.args.self.now c.give.new.self c.requires
+    give_ok c.grants_after_give.ensures.lists c.grants_after_give.ensures.actors g.point c.args.grant c.args.self.now c.give.new.self c.requires
     (told _ NoMemory (Ok c.in-Ok.field-0) c.in-Ok.ensures.refused c.in-Ok.ensures.memory)
     c.in-Ok.ensures.given
 
 pub returns-in-Err : goal.returns-in-Err
 returns-in-Err g c =
     rw c.replied_to.ensures
-    (give_err g.turn c.args.grant c.args.self.now c.give.new.self c.in-Err.fault c.requires
+    (give_err g.point c.args.grant c.args.self.now c.give.new.self c.in-Err.fault c.requires
     (told _ NoMemory (Err c.in-Err.fault) c.in-Err.ensures.refused c.in-Err.ensures.memory)
     c.in-Err.ensures.err)

@@ -8,7 +8,7 @@ use Rattle.fy_cluster.proofs.Judged.{targets_below, spares, strikes_now, chosen}
 use Rattle.fy_cluster.proofs.machine.Machine.kill.Goals as goal
 
 pub returns-in_default : goal.returns-in_default
-returns-in_default g c = spares c.args.order.now c.requires.0 c.requires.1.1 c.judge-verdict.ensures c.in_default.is
+returns-in_default g c = spares c.args.order.now c.requires.0 c.requires.1.1 c.judge_at-verdict.ensures c.in_default.is
 
 pub strike_disks-requires : goal.strike_disks-requires
 strike_disks-requires g c p member =
@@ -20,13 +20,13 @@ bury-requires g c loss brings =
     let dead = c.args.self.now.dead in
     subst (λ s. MayLose dead s loss)
     (λ i p. sym (c.targets-targets.ensures p ∙ ap (λ t. targets_by c.args.self.now t p) c.target.ensures) i)
-    (c.struck_may_be_destroyed.ensures (situation_of dead c.args.self.now.book c.args.by) c.args.order.now c.in-Some.kind loss (chosen c.judge-verdict.ensures c.in-Some.is) brings)
+    (c.struck_may_be_destroyed.ensures (situation_of dead c.args.self.now.book c.args.by) c.args.order.now c.in-Some.kind loss (chosen c.judge_at-verdict.ensures c.in-Some.is) brings)
 
 pub returns : goal.returns
 returns g c =
-    strikes_now c.args.order.now c.targets-targets.result _ c.requires.0 c.requires.1.1 c.judge-verdict.ensures c.in-Some.is
+    strikes_now c.args.order.now c.targets-targets.result _ c.requires.0 c.requires.1.1 c.judge_at-verdict.ensures c.in-Some.is
     (λ p. c.targets-targets.ensures p ∙ ap (λ t. targets_by c.args.self.now t p) c.target.ensures)
-    (subst (λ t. ChangesAt (sets.contains c.targets-targets.result) (left_on c.in-Some.kind t) blank c.args.self.now.disks.items c.strike_disks.new.disks.items) c.tear.ensures c.strike_disks.ensures)
+    (subst (λ t. ChangesAt (sets.contains c.targets-targets.result) (left_on c.in-Some.kind t) blank c.args.self.now.disks c.strike_disks.new.disks) c.tear.ensures c.strike_disks.ensures)
     c.difference-self.ensures
     c.bury.ensures
     refl

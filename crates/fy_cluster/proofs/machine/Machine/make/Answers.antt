@@ -11,7 +11,7 @@ returns c =
     (subst (λ processes. length processes ≤ 1024) c.map.ensures c.len-processes.ensures.few)
     c.in_ok-nobody_destroyed.ensures
     c.in_ok-first_rights.ensures
-    (c.in_ok-blank_disks.ensures ∙ ap (λ n. replicate n blank) count)
+    (c.in_ok-make.ensures ∙ ap (λ n. replicate n blank) count)
     (λ p. c.everyone.ensures p ∙ ap (λ processes. nat_lt p (length processes)) c.map-2.ensures)
     (c.in_ok-quiet_net.ensures ∙ ap quiet count)
-    c.make.ensures
+    c.make-2.ensures

@@ -1,4 +1,4 @@
 use Rattle.fy_cluster.proofs.machine.Machine.reply.Given as goal
 
 abbrev pub ghost-act : goal.ghost-act
-ghost-act g a = g.turn
+ghost-act g a = g.point

@@ -5,13 +5,13 @@ use Rattle.fy_cluster.proofs.Delivered.{is_held, is_down, payload_there, payload
 use Rattle.fy_cluster.proofs.machine.Machine.store.Goals as goal
 
 pub returns-then-clogged : goal.returns-then-clogged
-returns-then-clogged g c = is_held g.turn c.args.message _ _ c.requires.0 c.requires.1.1.0 c.requires.1.1.1 (sym c.if-clogged.ensures)
+returns-then-clogged g c = is_held g.point c.args.message _ _ c.requires.0 c.requires.1.1.0 c.requires.1.1.1 (sym c.if-clogged.ensures)
 
 pub returns-then-not-contains : goal.returns-then-not-contains
-returns-then-not-contains g c = is_down g.turn c.args.message c.args.rec c.args.to _ c.requires.0 c.requires.1.1.0 c.requires.1.1.1 (sym c.if-clogged.ensures) (sym c.if-not-contains.ensures)
+returns-then-not-contains g c = is_down g.point c.args.message c.args.rec c.args.to _ c.requires.0 c.requires.1.1.0 c.requires.1.1.1 (sym c.if-clogged.ensures) (sym c.if-not-contains.ensures)
 
 pub unreachable-requires : goal.unreachable-requires
-unreachable-requires g c = payload_there c.test_is_satisfaction.ensures g.turn c.args.message c.args.rec c.args.to c.args.self.now c.requires.0 c.requires.1.0 c.requires.1.1.0 c.in_default.ensures
+unreachable-requires g c = payload_there c.test_is_satisfaction.ensures g.point c.args.message c.args.rec c.args.to c.args.self.now c.requires.0 c.requires.1.0 c.requires.1.1.0 c.in_default.ensures
 
 pub write_to-requires : goal.write_to-requires
 write_to-requires g c = let a = c.requires.0.net.count in let b = c.requires.0.disks.count in let l = c.requires.1.1.1 in omega arith
@@ -21,11 +21,11 @@ take_out-requires g c = may_be_taken c.args.self.now.net c.args.message _ c.requ
 
 pub returns : goal.returns
 returns g c =
-    stores g.turn c.args.message c.args.rec c.args.to c.args.self.now (get_or c.args.self.now.disks.items c.args.to.0 blank) c.in_ok-payload.payload _ c.requires.0 c.requires.1.1.0 c.requires.1.1.1
+    stores g.point c.args.message c.args.rec c.args.to c.args.self.now (get_or c.args.self.now.disks c.args.to.0 blank) c.in_ok-payload.payload _ c.requires.0 c.requires.1.1.0 c.requires.1.1.1
     (sym c.if-clogged.ensures)
     (sym c.if-not-contains.ensures)
-    (c.in_ok-payload.ensures ∙ payload_is g.turn.before c.args.self.now.teams c.requires.0.teams c.args.rec c.in-Some.payload.now c.in-Some.ensures)
-    (slice_get-get_or c.args.self.now.disks.items c.args.to.0 blank (let a = c.requires.0.net.count in let b = c.requires.0.disks.count in let l = c.requires.1.1.1 in omega arith))
+    (c.in_ok-payload.ensures ∙ payload_is g.point.before c.args.self.now.teams c.requires.0.teams c.args.rec c.in-Some.payload.now c.in-Some.ensures)
+    (slice_get-get_or c.args.self.now.disks c.args.to.0 blank (let a = c.requires.0.net.count in let b = c.requires.0.disks.count in let l = c.requires.1.1.1 in omega arith))
     refl
     refl
     refl

@@ -5,6 +5,7 @@ use Rattle.fy_kinds.specs.Members.{Members}
 use Rattle.fy_kinds.specs.declared.kind.Kind.{Kind}
 use Rattle.fy_kinds.specs.declared.kind.Kind.TheVariants.{RebootProcess}
 use Rattle.fy_spelling.specs.Pieces.{deeds_text}
+use Rattle.fy_spelling.proofs.Joined.{refused, stands_longer, stands_still}
 use Rattle.fy_spelling.proofs.writing.acts.put_kinds.Goals as goal
 use Rattle.fy_spelling.proofs.writing.acts.put_kinds.Goals.{then-has+in_ok-put_listed, else-has}
 
@@ -42,8 +43,18 @@ loop-kind-preserved c =
     let kind = get_or all_kinds i RebootProcess in
     let left = drop (i + 1) all_kinds in
     let old = c.args.out.now.items ++ deeds_text false (rest kinds all_kinds) in
-    let before = rw (first all_kinds i c.loop-kind-test.true) at c.loop-kind.invariant in
+    let before = rw (first all_kinds i c.loop-kind-test.true) at c.loop-kind.invariant.1 in
     elim c.if-has.branch [
-      | then-has+in_ok-put_listed w ↦ rw (w.out-is, w.later-is) (listed kinds kind left c.loop-kind.later old c.loop-kind.out.items w.put_listed.new.out.items (sym c.has.ensures ∙ w.if-has.true) (w.in_ok-put_listed.ensures ∙ ap (λ word. c.loop-kind.out.items ++ word_text c.loop-kind.later word) w.text.ensures) before)
-      | else-has w ↦ rw (w.out-is, w.later-is) (left_out kinds kind left c.loop-kind.later old c.loop-kind.out.items (sym c.has.ensures ∙ w.if-has.false) before)
+      | then-has+in_ok-put_listed w ↦ rw (w.out-is, w.later-is) (stands_longer _ _ _ _ c.loop-kind.invariant.0 w.in_ok-put_listed.ensures, listed kinds kind left c.loop-kind.later old c.loop-kind.out.items w.put_listed.new.out.items (sym c.has.ensures ∙ w.if-has.true) (w.in_ok-put_listed.ensures ∙ ap (λ word. c.loop-kind.out.items ++ word_text c.loop-kind.later word) w.text.ensures) before)
+      | else-has w ↦ rw (w.out-is, w.later-is) (c.loop-kind.invariant.0, left_out kinds kind left c.loop-kind.later old c.loop-kind.out.items (sym c.has.ensures ∙ w.if-has.false) before)
     ]
+
+pub returns-in_err-put_listed : goal.returns-in_err-put_listed
+returns-in_err-put_listed c =
+    refused _ c.from_residual.result _ _ _ c.from_residual.ensures.1
+    (stands_still _ _ _ c.loop-kind.invariant.0 c.in_err-put_listed.ensures)
+
+pub returns-in_err-put_listed-2 : goal.returns-in_err-put_listed-2
+returns-in_err-put_listed-2 c =
+    refused _ c.from_residual-in_err-put_listed-2.result _ _ _ c.from_residual-in_err-put_listed-2.ensures.1
+    (stands_still _ _ _ c.loop-kind.invariant.0 c.in_err-put_listed-2.ensures)

@@ -4,7 +4,7 @@ use Rattle.fy_locality.specs.declared.ProcId.{ProcId}
 use mir.Val.{bool_byte}
 use Rattle.std.specs.FinSet as sets
 use Rattle.fy_team.specs.Teams.{Record, is_among, unless_acked}
-use Rattle.fy_team.specs.Counts.{Counted, IsCounted, missing_among}
+use Rattle.fy_team.specs.Counts.{Counted, CountsMissing, missing_among}
 use Rattle.fy_team.proofs.Counting.{flag_number, one_more, missing_few, remove_absent}
 use Rattle.fy_team.proofs.record.KeptRecord.heal.Goals as goal
 use Rattle.fy_team.proofs.record.KeptRecord.heal.Goals.{else-not-self-via-then-not-self+else-contains, else-not-self-via-else-not-self}
@@ -24,7 +24,7 @@ returns-else-not-self-clause-held c =
     subst (λ (kept : Counted). kept.held ≡ unless_acked c.args.p.0 kept.held) c.self.view_is same
 
 -- what is missing once a mark is taken off
-parts : (members : List ProcId) (was kept : Counted) (p more : ℕ) (member : Bool) → AllPairs (λ p q. p.0 < q.0) members → IsCounted members was → kept ≡ was → kept.held.acked ≡ false
+parts : (members : List ProcId) (was kept : Counted) (p more : ℕ) (member : Bool) → AllPairs (λ p q. p.0 < q.0) members → CountsMissing members was → kept ≡ was → kept.held.acked ≡ false
     → sets.contains kept.held.marks p ≡ true → member ≡ is_among members p → more ≡ bool_byte member → kept.missing + more ≡ missing_among (sets.remove kept.held.marks p) members
 parts members was kept p more member rising counted same still there is_member is_more =
     ap (λ n. n + more) (ap (λ (it : Counted). it.missing) same ∙ counted.right (ap (λ (it : Counted). it.held.acked) (sym same) ∙ still) ∙ ap (λ (it : Counted). missing_among it.held.marks members) (sym same))

@@ -3,13 +3,13 @@ use Rattle.std.specs.List.{AllPairs}
 use Rattle.std.specs.FinSet as sets
 use Rattle.fy_locality.specs.declared.ProcId.{ProcId}
 use Rattle.fy_team.specs.Teams.{all_marked, is_among}
-use Rattle.fy_team.specs.Counts.{Counted, IsCounted, missing_among}
+use Rattle.fy_team.specs.Counts.{Counted, CountsMissing, missing_among}
 use Rattle.fy_team.proofs.Counting.{flag_number, one_fewer, none_missing}
 use Rattle.fy_team.proofs.record.KeptRecord.mark.Goals as goal
 use mir.Val.{bool_byte}
 
 -- what a mark takes off, and what is missing from then on
-parts : (members : List ProcId) (was kept : Counted) (p off : ℕ) (fewer : Bool) → AllPairs (λ p q. p.0 < q.0) members → IsCounted members was → kept ≡ was → kept.held.acked ≡ false
+parts : (members : List ProcId) (was kept : Counted) (p off : ℕ) (fewer : Bool) → AllPairs (λ p q. p.0 < q.0) members → CountsMissing members was → kept ≡ was → kept.held.acked ≡ false
     → fewer ≡ (not (sets.contains was.held.marks p) && is_among members p) → off ≡ bool_byte fewer → kept.missing ≡ off + missing_among (sets.insert kept.held.marks p) members
 parts members was kept p off fewer rising counted same still is_fewer is_off =
     ap (λ (it : Counted). it.missing) same

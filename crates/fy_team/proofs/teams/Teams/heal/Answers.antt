@@ -1,7 +1,7 @@
 use Rattle.std.proofs.Common.{◌≡◌, ◌<◌, ◌≤◌, ◌++◌, add-one, length, map, set, take, drop, ap, ap₂, sym, subst, ◌∙◌, arith}
 use Rattle.std.proofs.lemmas.List.{length-map, length-set, map-set, get_or-map}
 use Rattle.fy_team.specs.Teams.{Record, Team, healed, unless_acked}
-use Rattle.fy_team.specs.Counts.{Counted, IsCounted}
+use Rattle.fy_team.specs.Counts.{Counted, CountsMissing}
 use Rattle.fy_team.proofs.Marking.{unless_acked-team, unless_acked-payload, mapped-next, mapped-all}
 use Rattle.fy_team.proofs.Keeping.{held, team_read, counted_at, counted_for, AreKept-set}
 use Rattle.fy_team.proofs.teams.Teams.heal.Goals as goal
@@ -19,7 +19,7 @@ heal-requires c =
     let now = c.loop-rec.self-inside in
     let kept = c.loop-rec.invariant.kept in
     let within : c.loop-rec.rec < length now.records.items = omega (arith, c.self.inside.records.ok.0, c.loop-rec.invariant.long) in
-    subst (λ members. IsCounted members c.index_mut-record.result.now) (ap (λ (it : Team). it.members) (sym c.team-in-loop-rec.view_is))
+    subst (λ members. CountsMissing members c.index_mut-record.result.now) (ap (λ (it : Team). it.members) (sym c.team-in-loop-rec.view_is))
     (counted_at now.teams.items now.records.items c.loop-rec.rec c.index_mut-record.result.now c.team.result c.index-team.result.now kept within c.index_mut-record.ensures.value c.team.ensures c.index-team.ensures)
 
 pub loop-rec-preserved : goal.loop-rec-preserved

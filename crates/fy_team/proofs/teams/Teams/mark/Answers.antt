@@ -1,7 +1,7 @@
 use Rattle.std.proofs.Common.{◌≡◌, ◌<◌, ◌||◌, length, ap, sym, subst, ◌∙◌, arith}
 use Rattle.std.specs.FinSet as sets
 use Rattle.fy_team.specs.Teams.{Team, Record, all_marked, marked_by}
-use Rattle.fy_team.specs.Counts.{Counted, IsCounted}
+use Rattle.fy_team.specs.Counts.{Counted, CountsMissing}
 use Rattle.fy_team.proofs.Keeping.{within_kept, team_read, counted_at, counted_for, AreKept-set, marked_kept, acked_kept}
 use Rattle.fy_team.proofs.teams.Teams.mark.Goals as goal
 
@@ -16,7 +16,7 @@ pub mark-requires-clause-counted : goal.mark-requires-clause-counted
 mark-requires-clause-counted c =
     let inside = c.self.inside in
     let within : c.args.rec < length inside.records.items = within_kept inside.teams.items inside.records.items c.args.self.now c.args.rec c.self.view_is c.requires.there in
-    subst (λ members. IsCounted members c.index_mut-record.result.now) (ap (λ (it : Team). it.members) (sym c.team-2.view_is))
+    subst (λ members. CountsMissing members c.index_mut-record.result.now) (ap (λ (it : Team). it.members) (sym c.team-2.view_is))
     (counted_at inside.teams.items inside.records.items c.args.rec c.index_mut-record.result.now c.team.result c.index-team.result.now c.self.invariant within c.index_mut-record.ensures.value c.team.ensures c.index-team.ensures)
 
 pub invariant_of-self : goal.invariant_of-self

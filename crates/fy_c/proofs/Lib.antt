@@ -1,0 +1,4 @@
+mod Begun
+mod Lines
+mod Orders
+mod Values

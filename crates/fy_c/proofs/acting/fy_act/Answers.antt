@@ -1,0 +1,34 @@
+use Rattle.std.proofs.Common.{refl, subst}
+use Rattle.fy_c.specs.Acting.{Acts, Tells}
+use Rattle.fy_c.specs.declared.status.Status.TheVariants.{Done, Short, Unwritten}
+use Rattle.fy_c.proofs.acting.fy_act.Goals as goal
+
+pub returns-then-buffer-room-clause-acted : goal.returns-then-buffer-room-clause-acted
+returns-then-buffer-room-clause-acted c = (
+  Short,
+  c.number.ensures,
+  Acts.short (record { asked_is = refl; short = c.if-buffer-room.true }) refl refl,
+)
+
+pub returns-in-Err-clause-acted : goal.returns-in-Err-clause-acted
+returns-in-Err-clause-acted c = (
+  c.in-Err.status,
+  c.number-in-Err.ensures,
+  Acts.no_line c.in-Err.status c.in-Err.ensures.err refl,
+)
+
+pub returns-then-tell-clause-acted : goal.returns-then-tell-clause-acted
+returns-then-tell-clause-acted c = (
+  Done,
+  c.number-then-tell.ensures,
+  Acts.answered c.in-Ok.text.items c.in-Ok.ensures.answered
+      (subst (Tells c.tell.new.buffer c.tell.new.told) c.deref.ensures.value
+      (c.if-tell.ensures.told refl)),
+)
+
+pub returns-clause-acted : goal.returns-clause-acted
+returns-clause-acted c = (
+  Unwritten,
+  c.number-else-tell.ensures,
+  Acts.unwritten c.in-Ok.text.items c.in-Ok.ensures.answered (c.if-tell.ensures.kept refl),
+)

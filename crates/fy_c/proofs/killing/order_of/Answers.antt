@@ -1,0 +1,22 @@
+use Rattle.std.proofs.Common.{refl}
+use Rattle.std.proofs.lemmas.Bool.{false≢true}
+use Rattle.fy_c.specs.Killing.{NoOrder}
+use Rattle.fy_c.proofs.killing.order_of.Goals as goal
+
+pub returns-in_default-clause-none : goal.returns-in_default-clause-none
+returns-in_default-clause-none c = NoOrder.no_key c.in_default.ensures.none
+
+pub returns-in_default-kind_of-clause-none : goal.returns-in_default-kind_of-clause-none
+returns-in_default-kind_of-clause-none c = NoOrder.no_kind c.in_default-kind_of.ensures.none
+
+pub returns-in_default-kind_of-2-clause-none : goal.returns-in_default-kind_of-2-clause-none
+returns-in_default-kind_of-2-clause-none c = NoOrder.no_floor c.in_default-kind_of-2.ensures.none
+
+pub returns-in_default-from_bytes-clause-none : goal.returns-in_default-from_bytes-clause-none
+returns-in_default-from_bytes-clause-none c =
+    NoOrder.no_name (λ is. absurd (false≢true (c.in_default-from_bytes.ensures.accepted.1 is)))
+
+pub returns-in-Err-clause-none : goal.returns-in-Err-clause-none
+returns-in-Err-clause-none c =
+    NoOrder.above c.in-Some-kind_of.kind c.in-Some-kind_of-2.floor c.in-Some-kind_of.ensures.some
+    c.in-Some-kind_of-2.ensures.some (c.in-Err.ensures.refused.0 refl)

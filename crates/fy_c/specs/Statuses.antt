@@ -1,0 +1,43 @@
+-- the numbers that calls answer
+use Rattle.std.specs.Prelude.{◌≡◌, ℕ}
+use Rattle.fy_config.specs.declared.fault.ConfigFault.{ConfigFault}
+use Rattle.fy_config.specs.declared.fault.ConfigFault.TheVariants as config
+use Rattle.fy_c.specs.declared.status.Status.{Status}
+use Rattle.fy_c.specs.declared.status.Status.TheVariants.{Done, NoMemory, JournalFull, Refused, Short, Unwritten, NoEntry, Argument, Name, Floor, LineTooLong, LineSyntax, ConfigTooLong, ConfigToml, ConfigField, ConfigLimit, ConfigName, ConfigPolicy, ConfigUnmet}
+
+-- the number by which C knows a status
+abbrev pub number : Status → ℕ
+number Done = 0
+number NoMemory = 1
+number JournalFull = 2
+number Refused = 3
+number Short = 4
+number Unwritten = 5
+number NoEntry = 6
+number Argument = 7
+number Name = 8
+number Floor = 9
+number LineTooLong = 10
+number LineSyntax = 11
+number ConfigTooLong = 12
+number ConfigToml = 13
+number ConfigField = 14
+number ConfigLimit = 15
+number ConfigName = 16
+number ConfigPolicy = 17
+number ConfigUnmet = 18
+
+-- the number is that of a status of which this holds
+abbrev pub Answers : ℕ → (Status → Type 0) → Type 0
+Answers n Holds = (status : Status) × (n ≡ number status) × Holds status
+
+-- the status for a cluster file that is refused
+abbrev pub config_status : ConfigFault → Status
+config_status config.TooLong = ConfigTooLong
+config_status config.Toml = ConfigToml
+config_status (config.Field part) = ConfigField
+config_status (config.Limit part) = ConfigLimit
+config_status (config.Name part index) = ConfigName
+config_status (config.Policy index) = ConfigPolicy
+config_status (config.PolicyUnmet index) = ConfigUnmet
+config_status config.NoMemory = NoMemory

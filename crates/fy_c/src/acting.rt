@@ -1,0 +1,264 @@
+//! Lines in, and the lines of their entries out.
+ghost use Rattle.std.specs.Prelude.{◌≡◌, ◌≢◌, ◌≤◌, ◌+◌, length, IsTrue, IsFalse, IfOk, IfErr, OnOk, OnErr};
+ghost use Rattle.std.specs.Ptr.{null_ptr};
+ghost use Rattle.fy_audit.specs.AuditText.{entry_line};
+ghost use Rattle.fy_c.specs.Acting.{entry_of, IsMade, NotMade, NoAnswer, NoLine, IsAnswered, Tells, IsShort, Acts, HasLine, NotRead, Reads, line_status, command_status};
+ghost use Rattle.fy_c.specs.Statuses.{Answers};
+
+use crate::handle::{FyGuard, closed_up, opened_up};
+use crate::status::Status;
+use core::mem::replace_with;
+use fy_cluster::{Cluster, Fault};
+use fy_journal::Journal;
+use fy_spelling::{Command, CommandFault, Entry, LineFault, put_entry, read_command};
+use std::alloc::{AllocError, Global};
+
+/// How many bytes the line of an entry may have beyond those of the line that asked for it: 128.
+pub const MOST_REPLY_BYTES: usize = 128;
+
+/// The status for a line that is no command.
+fn line_status(fault: LineFault) -> Status
+    ensures { result ≡ line_status fault }
+{
+    match fault {
+        LineFault::TooLong => Status::LineTooLong,
+        LineFault::Syntax => Status::LineSyntax,
+        LineFault::Floor => Status::Floor,
+    }
+}
+
+/// The status for a line of which no command is read.
+fn command_status(fault: CommandFault) -> Status
+    ensures { result ≡ command_status fault }
+{
+    match fault {
+        CommandFault::Line(fault) => line_status(fault),
+        CommandFault::NoMemory => Status::NoMemory,
+    }
+}
+
+/// Puts an entry's line into a text, in place of what it has.
+fn put_line(text: &mut Vec<u8>, entry: &Entry) -> Result<(), AllocError>
+    ensures { OnOk result (text.new.items ≡ entry_line entry.now) }
+{
+    text.clear();
+    put_entry(text, entry)?;
+    text.extend_from_slice(b"\n")
+}
+
+/// Applies a command.
+fn make(cluster: &mut Cluster, command: Command) -> Result<(), Status>
+    ensures made { OnOk result (IsMade cluster.old cluster.new command) }
+    ensures not_made { IfErr result (NotMade cluster.old) }
+    ensures kept { OnErr result (cluster.new ≡ cluster.old) }
+{
+    let (by, act) = command.into_parts();
+    match cluster.apply(by, act) {
+        Ok(_) => Ok(()),
+        Err(Fault::JournalFull) => Err(Status::JournalFull),
+        Err(Fault::NoMemory) => Err(Status::NoMemory),
+    }
+}
+
+/// Applies a command, and puts its entry's line into a text.
+fn answer(cluster: &mut Cluster, command: Command, text: &mut Vec<u8>) -> Result<(), Status>
+    ensures made { OnOk result (IsMade cluster.old cluster.new command) }
+    ensures text { OnOk result (text.new.items ≡ entry_line (entry_of cluster.old command)) }
+    ensures err { IfErr result (NoAnswer cluster.old cluster.new command) }
+{
+    match make(cluster, command) {
+        Ok(()) => {}
+        Err(status) => return Err(status),
+    }
+    let Some(entry) = cluster.journal().entries().last() else {
+        unreachable!();
+    };
+    match put_line(text, entry) {
+        Ok(()) => Ok(()),
+        Err(_) => Err(Status::Unwritten),
+    }
+}
+
+fn answer_in(
+    guard: FyGuard,
+    asked: (Global, Command, Vec<u8>),
+) -> (FyGuard, Result<Vec<u8>, Status>)
+    requires { guard.at ≢ null_ptr }
+    ensures open { result.0.at ≢ null_ptr }
+    ensures made { OnOk result.1 (IsMade guard.value result.0.value asked.1) }
+    ensures text { IfOk result.1 (λ text. text.items
+        ≡ entry_line (entry_of guard.value asked.1)) }
+    ensures err { IfErr result.1 (NoAnswer guard.value result.0.value asked.1) }
+{
+    let (alloc, command, mut text) = asked;
+    let mut cluster = opened_up(alloc, guard);
+    let answered = match answer(&mut cluster, command, &mut text) {
+        Ok(()) => Ok(text),
+        Err(status) => Err(status),
+    };
+    (closed_up(cluster), answered)
+}
+
+/// Applies the command of a line, and gives the line of its entry. The room is how many bytes that
+/// line is thought to have.
+///
+/// # Errors
+///
+/// In order: `LineTooLong`, `LineSyntax` and `Floor` for a line that is no command, `JournalFull`;
+/// and `NoMemory`: nothing changed then. `Unwritten` where the act is made and the line couldn't be
+/// had.
+fn act(alloc: Global, guard: &mut FyGuard, line: &[u8], room: usize) -> Result<Vec<u8>, Status>
+    requires { guard.old.at ≢ null_ptr }
+    ensures open { guard.new.at ≢ null_ptr }
+    ensures answered { IfOk result (λ text.
+        IsAnswered guard.old.value guard.new.value line.now text.items) }
+    ensures err { IfErr result (NoLine guard.old.value guard.new.value line.now) }
+{
+    let Ok(text) = Vec::with_capacity(alloc, room) else {
+        return Err(Status::NoMemory);
+    };
+    let command = match read_command(alloc, line) {
+        Ok(command) => command,
+        Err(fault) => return Err(command_status(fault)),
+    };
+    replace_with(guard, (alloc, command, text), answer_in)
+}
+
+/// Copies a text into the front of a buffer and says so, where it fits; tells how long it is.
+fn tell(text: &[u8], buffer: &mut [u8], told: &mut usize) -> bool
+    ensures told { IsTrue result → Tells buffer.new told.new text.now }
+    ensures short { IsFalse result → IsShort buffer.old (length text.now) told.new }
+    ensures kept { IsFalse result → buffer.new ≡ buffer.old }
+{
+    *told = text.len();
+    if buffer.len() < text.len() {
+        return false;
+    }
+    buffer[..text.len()].copy_from_slice(text);
+    true
+}
+
+/// Reads a line of a script, applies its command, and writes the line of its entry, with its line
+/// feed, into the front of a buffer; its length goes to `told`. The buffer has room for 128 bytes
+/// more than the line has, whatever the line is.
+///
+/// # Errors
+///
+/// `Short` where the buffer is shorter than that, and its length goes to `told`. Then in order:
+/// `LineTooLong`, `LineSyntax` and `Floor` for a line that is no command, and `JournalFull`.
+/// `NoMemory` can take the place of any but the first. Nothing changed then. `Unwritten` where the
+/// act is made and stands in the journal, and its line couldn't be had.
+#[unsafe(no_mangle)]
+pub extern "C" fn fy_act(
+    alloc: Global,
+    guard: &mut FyGuard,
+    line: &[u8],
+    buffer: &mut [u8],
+    told: &mut usize,
+) -> u32
+    requires { guard.old.at ≢ null_ptr }
+    ensures open { guard.new.at ≢ null_ptr }
+    ensures acted { Answers result (Acts guard.old.value guard.new.value line.now
+        buffer.old buffer.new told.new) }
+{
+    let room = line.len() + MOST_REPLY_BYTES;
+    *told = room;
+    if buffer.len() < room {
+        return Status::Short.number();
+    }
+    let text = match act(alloc, guard, line, room) {
+        Ok(text) => text,
+        Err(status) => return status.number(),
+    };
+    if tell(&text, buffer, told) {
+        Status::Done.number()
+    } else {
+        Status::Unwritten.number()
+    }
+}
+
+/// The line of an entry of a journal.
+///
+/// # Errors
+///
+/// In order: `NoEntry`, `NoMemory`.
+fn line_of(alloc: Global, journal: &Journal, at: usize) -> Result<Vec<u8>, Status>
+    ensures line { IfOk result (λ line. HasLine journal.now.entries at line.items) }
+    ensures err { IfErr result (NotRead journal.now.entries at) }
+{
+    let Some(entry) = journal.entry(at) else {
+        return Err(Status::NoEntry);
+    };
+    let mut line = Vec::new(alloc);
+    match put_line(&mut line, entry) {
+        Ok(()) => Ok(line),
+        Err(_) => Err(Status::NoMemory),
+    }
+}
+
+fn line_in(guard: FyGuard, asked: (Global, usize)) -> (FyGuard, Result<Vec<u8>, Status>)
+    requires { guard.at ≢ null_ptr }
+    ensures open { result.0.at ≢ null_ptr }
+    ensures kept { result.0.value ≡ guard.value }
+    ensures line { IfOk result.1 (λ line. HasLine guard.value.journal asked.1 line.items) }
+    ensures err { IfErr result.1 (NotRead guard.value.journal asked.1) }
+{
+    let (alloc, at) = asked;
+    let cluster = opened_up(alloc, guard);
+    let line = line_of(alloc, cluster.journal(), at);
+    (closed_up(cluster), line)
+}
+
+/// Writes the line of the entry at a place of the journal, from 0, with its line feed, into the
+/// front of a buffer; its length goes to `told`.
+///
+/// # Errors
+///
+/// In order: `NoEntry`; `NoMemory`; `Short` where the buffer is shorter than the line, whose length
+/// goes to `told`. Nothing changes.
+#[unsafe(no_mangle)]
+pub extern "C" fn fy_audit(
+    alloc: Global,
+    guard: &mut FyGuard,
+    at: usize,
+    buffer: &mut [u8],
+    told: &mut usize,
+) -> u32
+    requires { guard.old.at ≢ null_ptr }
+    ensures open { guard.new.at ≢ null_ptr }
+    ensures kept { guard.new.value ≡ guard.old.value }
+    ensures read { Answers result (Reads guard.old.value.journal at
+        buffer.old buffer.new told.new) }
+{
+    let line = match replace_with(guard, (alloc, at), line_in) {
+        Ok(line) => line,
+        Err(status) => return status.number(),
+    };
+    if tell(&line, buffer, told) {
+        Status::Done.number()
+    } else {
+        Status::Short.number()
+    }
+}
+
+fn len_in(guard: FyGuard, alloc: Global) -> (FyGuard, usize)
+    requires { guard.at ≢ null_ptr }
+    ensures open { result.0.at ≢ null_ptr }
+    ensures kept { result.0.value ≡ guard.value }
+    ensures len { result.1 ≡ length guard.value.journal }
+{
+    let cluster = opened_up(alloc, guard);
+    let len = cluster.journal().len();
+    (closed_up(cluster), len)
+}
+
+/// How many entries the journal has.
+#[unsafe(no_mangle)]
+pub extern "C" fn fy_journal_len(alloc: Global, guard: &mut FyGuard) -> usize
+    requires { guard.old.at ≢ null_ptr }
+    ensures open { guard.new.at ≢ null_ptr }
+    ensures kept { guard.new.value ≡ guard.old.value }
+    ensures len { result ≡ length guard.old.value.journal }
+{
+    replace_with(guard, alloc, len_in)
+}

@@ -1,0 +1,144 @@
+//! Acts applied to the cluster of a guard: a process started, and one healed.
+ghost use Rattle.std.specs.Prelude.{◌≡◌, ◌≢◌};
+ghost use Rattle.std.specs.Ptr.{null_ptr};
+ghost use Rattle.fy_acts.specs.declared.act.Act.TheVariants.{Up, Heal};
+ghost use Rattle.fy_c.specs.Entering.{Applies, Enters, status_of, refusal_of};
+ghost use Rattle.fy_c.specs.Numbers.{refusal_number};
+
+use crate::handle::{FyGuard, closed_up, opened_up};
+use crate::status::Status;
+use core::mem::replace_with;
+use fy_acts::{Act, Refusal, Reply};
+use fy_cluster::Fault;
+use fy_locality::ProcId;
+use std::alloc::Global;
+
+fn apply_to(guard: FyGuard, asked: (Global, u32, Act)) -> (FyGuard, Result<Reply, Fault>)
+    requires { guard.at ≢ null_ptr }
+    ensures open { result.0.at ≢ null_ptr }
+    ensures applied { Applies guard.value result.0.value asked.1 asked.2 result.1 }
+{
+    let (alloc, by, act) = asked;
+    let mut cluster = opened_up(alloc, guard);
+    let answer = cluster.apply(by, act);
+    (closed_up(cluster), answer)
+}
+
+/// Applies an act by an actor to the cluster of an open guard.
+///
+/// # Errors
+///
+/// In order: `JournalFull`, `NoMemory`. The cluster is then as it was.
+pub(crate) fn apply(alloc: Global, guard: &mut FyGuard, by: u32, act: Act) -> Result<Reply, Fault>
+    requires { guard.old.at ≢ null_ptr }
+    ensures open { guard.new.at ≢ null_ptr }
+    ensures applied { Applies guard.old.value guard.new.value by act result }
+{
+    replace_with(guard, (alloc, by, act), apply_to)
+}
+
+/// The status of an act.
+pub(crate) fn status_of(answer: Result<Reply, Fault>) -> Status
+    ensures { result ≡ status_of answer }
+{
+    match answer {
+        Ok(Reply::No(_)) => Status::Refused,
+        Ok(_) => Status::Done,
+        Err(Fault::JournalFull) => Status::JournalFull,
+        Err(Fault::NoMemory) => Status::NoMemory,
+    }
+}
+
+/// The number by which C knows a refusal.
+fn refusal_number(refusal: Refusal) -> u32
+    ensures { result ≡ refusal_number refusal }
+{
+    match refusal {
+        Refusal::Stranger => 1,
+        Refusal::WrongRole => 2,
+        Refusal::TooMany => 3,
+        Refusal::NoPolicy => 4,
+        Refusal::NoProcess => 5,
+        Refusal::Gone => 6,
+        Refusal::TeamShort { .. } => 7,
+        Refusal::NoTeam => 8,
+        Refusal::Payload => 9,
+        Refusal::NetFull => 10,
+        Refusal::NoMessage => 11,
+        Refusal::Clogged => 12,
+        Refusal::NotUp => 13,
+        Refusal::NoRecord => 14,
+        Refusal::NotMember => 15,
+        Refusal::Acked => 16,
+        Refusal::IsUp => 17,
+        Refusal::ClockEnd => 18,
+        Refusal::NoActor => 19,
+        Refusal::Full => 20,
+        Refusal::NoSuch => 21,
+        Refusal::NoCopy => 22,
+        Refusal::IsMember => 23,
+        Refusal::NotDestroyed => 24,
+        Refusal::StillNeeds { .. } => 25,
+    }
+}
+
+/// Why an act is refused; 0 where it isn't.
+fn refusal_of(answer: Result<Reply, Fault>) -> u32
+    ensures { result ≡ refusal_of answer }
+{
+    match answer {
+        Ok(Reply::No(refusal)) => refusal_number(refusal),
+        _ => 0,
+    }
+}
+
+/// Applies `Up`: the process runs again. Why it is refused goes to `refusal`, or 0.
+///
+/// # Errors
+///
+/// `Refused`, and the act stands in the journal all the same; `JournalFull` and `NoMemory`, in this
+/// order, where nothing changed.
+#[unsafe(no_mangle)]
+pub extern "C" fn fy_up(
+    alloc: Global,
+    guard: &mut FyGuard,
+    actor: u32,
+    process: u32,
+    refusal: &mut u32,
+) -> u32
+    requires { guard.old.at ≢ null_ptr }
+    ensures open { guard.new.at ≢ null_ptr }
+    ensures entered { Enters guard.old.value guard.new.value actor (Up (record { 0 = process }))
+        result refusal.new }
+{
+    let process = ProcId(process);
+    let answer = apply(alloc, guard, actor, Act::Up { process });
+    *refusal = refusal_of(answer);
+    status_of(answer).number()
+}
+
+/// Applies `Heal`: the process has every acknowledged record on its disk again. Why it is refused
+/// goes to `refusal`, or 0.
+///
+/// # Errors
+///
+/// `Refused`, and the act stands in the journal all the same; `JournalFull` and `NoMemory`, in this
+/// order, where nothing changed.
+#[unsafe(no_mangle)]
+pub extern "C" fn fy_heal(
+    alloc: Global,
+    guard: &mut FyGuard,
+    actor: u32,
+    process: u32,
+    refusal: &mut u32,
+) -> u32
+    requires { guard.old.at ≢ null_ptr }
+    ensures open { guard.new.at ≢ null_ptr }
+    ensures entered { Enters guard.old.value guard.new.value actor (Heal (record { 0 = process }))
+        result refusal.new }
+{
+    let process = ProcId(process);
+    let answer = apply(alloc, guard, actor, Act::Heal { process });
+    *refusal = refusal_of(answer);
+    status_of(answer).number()
+}

@@ -1,0 +1,217 @@
+//! Kills, ordered and answered by numbers.
+ghost use Rattle.std.specs.Prelude.{◌≡◌, ◌≢◌, IfOk, IfErr, IfSome, IfNone};
+ghost use Rattle.std.specs.Ptr.{null_ptr};
+ghost use Rattle.fy_locality.specs.declared.key.Key.{Key};
+ghost use Rattle.fy_kinds.specs.declared.kind.Kind.{Kind};
+ghost use Rattle.fy_c.specs.Killing.{IsOrderOf, NoOrder, IsKilled, Kills, told_of, untold};
+ghost use Rattle.fy_c.specs.Numbers.{key_number, kind_number, struck_number, rule_number, named_by};
+ghost use Rattle.fy_c.specs.Statuses.{Answers};
+
+use crate::entering::{apply, status_of};
+use crate::handle::FyGuard;
+use crate::status::Status;
+use fy_acts::{Act, Reply};
+use fy_cluster::Fault;
+use fy_kinds::{KillOrder, Kind, Rule, Target};
+use fy_locality::{Key, Name};
+use std::alloc::Global;
+
+/// What C is told of a verdict.
+#[derive(Clone, Copy, PartialEq, Eq)]
+pub(crate) struct Told {
+    /// The kind that struck, from 1; 0 where none did.
+    pub(crate) struck: u32,
+    /// The rule that bars the ordered kind, from 1; 0 where none does.
+    pub(crate) rule: u32,
+    /// The process or the policy that the rule names.
+    pub(crate) named: u64,
+}
+
+/// Nothing to tell.
+const UNTOLD: Told = Told {
+    struck: 0,
+    rule: 0,
+    named: 0,
+};
+
+/// The key with a number.
+fn key_of(number: u32) -> Option<Key>
+    ensures some { IfSome result (λ key. number ≡ key_number key) }
+    ensures none { IfNone result ((key : Key) → number ≢ key_number key) }
+{
+    match number {
+        1 => Some(Key::Process),
+        2 => Some(Key::Machine),
+        3 => Some(Key::Zone),
+        4 => Some(Key::DataHall),
+        5 => Some(Key::DataCenter),
+        _ => None,
+    }
+}
+
+/// The kind with a number.
+fn kind_of(number: u32) -> Option<Kind>
+    ensures some { IfSome result (λ kind. number ≡ kind_number kind) }
+    ensures none { IfNone result ((kind : Kind) → number ≢ kind_number kind) }
+{
+    match number {
+        1 => Some(Kind::RebootProcess),
+        2 => Some(Kind::Reboot),
+        3 => Some(Kind::RebootAndDelete),
+        4 => Some(Kind::KillInstantly),
+        _ => None,
+    }
+}
+
+/// The number of a kind.
+fn kind_number(kind: Kind) -> u32
+    ensures { result ≡ kind_number kind }
+{
+    match kind {
+        Kind::RebootProcess => 1,
+        Kind::Reboot => 2,
+        Kind::RebootAndDelete => 3,
+        Kind::KillInstantly => 4,
+    }
+}
+
+/// The number of the kind that struck, 0 where none did.
+fn struck_number(struck: Option<Kind>) -> u32
+    ensures { result ≡ struck_number struck }
+{
+    match struck {
+        Some(kind) => kind_number(kind),
+        None => 0,
+    }
+}
+
+/// The number of a rule, 0 for none.
+fn rule_number(rule: Option<Rule>) -> u32
+    ensures { result ≡ rule_number rule }
+{
+    match rule {
+        None => 0,
+        Some(Rule::NoTarget) => 1,
+        Some(Rule::NoGrant { .. }) => 2,
+        Some(Rule::Protected { .. }) => 3,
+        Some(Rule::TooManyDestroyed { .. }) => 4,
+        Some(Rule::TooFewLeft { .. }) => 5,
+    }
+}
+
+/// The process or the policy that a rule names, 0 where it names none.
+fn named_by(rule: Option<Rule>) -> u64
+    ensures { result ≡ named_by rule }
+{
+    match rule {
+        None | Some(Rule::NoTarget) => 0,
+        Some(Rule::NoGrant { process }) | Some(Rule::Protected { process }) => process.0 as u64,
+        Some(Rule::TooManyDestroyed { policy }) | Some(Rule::TooFewLeft { policy }) => {
+            policy as u64
+        }
+    }
+}
+
+/// What C is told of an answer to a kill.
+fn told_of(answer: Result<Reply, Fault>) -> Told
+    ensures { result ≡ told_of answer }
+{
+    match answer {
+        Ok(Reply::Verdict(verdict)) => Told {
+            struck: struck_number(verdict.struck),
+            rule: rule_number(verdict.rule),
+            named: named_by(verdict.rule),
+        },
+        _ => UNTOLD,
+    }
+}
+
+/// An order by the numbers of its key and its kinds.
+///
+/// # Errors
+///
+/// In order: `Argument` where a number is that of no key or kind; `Name` where the value is no name;
+/// `Floor` where the floor is above the kind.
+fn order_of(key: u32, value: &[u8], kind: u32, floor: u32, tear: u64) -> Result<KillOrder, Status>
+    ensures order { IfOk result (IsOrderOf
+        (record { key = key; value = value.now; kind = kind; floor = floor; tear = tear })) }
+    ensures none { IfErr result (NoOrder
+        (record { key = key; value = value.now; kind = kind; floor = floor; tear = tear })) }
+{
+    let Some(key) = key_of(key) else {
+        return Err(Status::Argument);
+    };
+    let Some(kind) = kind_of(kind) else {
+        return Err(Status::Argument);
+    };
+    let Some(floor) = kind_of(floor) else {
+        return Err(Status::Argument);
+    };
+    let Ok(value) = Name::from_bytes(value) else {
+        return Err(Status::Name);
+    };
+    match KillOrder::make(Target { key, value }, kind, floor, tear) {
+        Ok(order) => Ok(order),
+        Err(_) => Err(Status::Floor),
+    }
+}
+
+/// Orders a kill, and applies it where an order is given.
+fn kill(
+    alloc: Global,
+    guard: &mut FyGuard,
+    actor: u32,
+    order: Result<KillOrder, Status>,
+) -> (Status, Told)
+    requires { guard.old.at ≢ null_ptr }
+    ensures open { guard.new.at ≢ null_ptr }
+    ensures given { IfOk order (λ order. IsKilled guard.old.value guard.new.value actor order result.0 result.1) }
+    ensures not_given { IfErr order (λ status. (guard.new.value ≡ guard.old.value)
+        × (result ≡ (status, untold))) }
+{
+    let order = match order {
+        Ok(order) => order,
+        Err(status) => return (status, UNTOLD),
+    };
+    let answer = apply(alloc, guard, actor, Act::Kill { order });
+    (status_of(answer), told_of(answer))
+}
+
+/// Orders a kill by an actor: of the processes whose key has a value, by a kind or where that is
+/// barred by a milder one down to the floor. The number of the kind that struck goes to `struck`, or
+/// 0; that of the rule that bars the ordered kind to `rule`, or 0; and the process or the policy that
+/// the rule names to `named`.
+///
+/// # Errors
+///
+/// In order: `Argument` where a number is that of no key or kind; `Name` where the value is no name;
+/// `Floor` where the floor is above the kind; `JournalFull`; `NoMemory`: nothing changed then.
+/// `Refused` where there is no actor with this number, and the act stands in the journal all the
+/// same.
+#[unsafe(no_mangle)]
+pub extern "C" fn fy_kill(
+    alloc: Global,
+    guard: &mut FyGuard,
+    actor: u32,
+    key: u32,
+    value: &[u8],
+    kind: u32,
+    floor: u32,
+    tear: u64,
+    struck: &mut u32,
+    rule: &mut u32,
+    named: &mut u64,
+) -> u32
+    requires { guard.old.at ≢ null_ptr }
+    ensures open { guard.new.at ≢ null_ptr }
+    ensures killed { Answers result (Kills guard.old.value guard.new.value actor
+        (record { key = key; value = value.now; kind = kind; floor = floor; tear = tear })
+        (record { struck = struck.new; rule = rule.new; named = named.new })) }
+{
+    let order = order_of(key, value, kind, floor, tear);
+    let (status, told) = kill(alloc, guard, actor, order);
+    *struck = told.struck;
+    *rule = told.rule;
+    *named = told.named;
+    status.number()
+}

@@ -1,0 +1,93 @@
+//! What each call answers: a number of one enumeration.
+ghost use Rattle.std.specs.Prelude.{◌≡◌};
+ghost use Rattle.fy_c.specs.Statuses.{number, config_status};
+
+use fy_config::ConfigFault;
+
+/// How a call ended. But for `Done`, `Refused` and `Unwritten` nothing changed.
+#[derive(Clone, Copy, PartialEq, Eq, Debug)]
+pub enum Status {
+    /// It did what it says.
+    Done,
+    /// There was no memory.
+    NoMemory,
+    /// The journal has as many entries as it may have.
+    JournalFull,
+    /// The act is refused, and stands in the journal with its refusal.
+    Refused,
+    /// The buffer is too short; how long it has to be is told.
+    Short,
+    /// The act is made and stands in the journal, and its line could not be written.
+    Unwritten,
+    /// The journal has no entry at this place.
+    NoEntry,
+    /// A number that names a key or a kind is that of none.
+    Argument,
+    /// The value of the target is no name.
+    Name,
+    /// The floor of the kill is above its kind.
+    Floor,
+    /// The line has more than 65,536 bytes.
+    LineTooLong,
+    /// The line is no command.
+    LineSyntax,
+    /// The cluster file has more than 1,048,576 bytes.
+    ConfigTooLong,
+    /// The cluster file is no TOML document in UTF-8.
+    ConfigToml,
+    /// A key of the cluster file is missing, unknown or of another type, or a word is unknown.
+    ConfigField,
+    /// A number or a length of the cluster file is outside its range.
+    ConfigLimit,
+    /// A text of the cluster file is no name, or names what is taken or isn't there.
+    ConfigName,
+    /// A text of the cluster file is no policy.
+    ConfigPolicy,
+    /// All processes of the cluster file together don't satisfy a policy.
+    ConfigUnmet,
+}
+
+impl Status {
+    /// The number by which C knows it.
+    pub(crate) fn number(self) -> u32
+        ensures { result ≡ number self }
+    {
+        match self {
+            Status::Done => 0,
+            Status::NoMemory => 1,
+            Status::JournalFull => 2,
+            Status::Refused => 3,
+            Status::Short => 4,
+            Status::Unwritten => 5,
+            Status::NoEntry => 6,
+            Status::Argument => 7,
+            Status::Name => 8,
+            Status::Floor => 9,
+            Status::LineTooLong => 10,
+            Status::LineSyntax => 11,
+            Status::ConfigTooLong => 12,
+            Status::ConfigToml => 13,
+            Status::ConfigField => 14,
+            Status::ConfigLimit => 15,
+            Status::ConfigName => 16,
+            Status::ConfigPolicy => 17,
+            Status::ConfigUnmet => 18,
+        }
+    }
+}
+
+/// The status for a cluster file that is refused.
+pub(crate) fn config_status(fault: ConfigFault) -> Status
+    ensures { result ≡ config_status fault }
+{
+    match fault {
+        ConfigFault::TooLong => Status::ConfigTooLong,
+        ConfigFault::Toml => Status::ConfigToml,
+        ConfigFault::Field { .. } => Status::ConfigField,
+        ConfigFault::Limit { .. } => Status::ConfigLimit,
+        ConfigFault::Name { .. } => Status::ConfigName,
+        ConfigFault::Policy { .. } => Status::ConfigPolicy,
+        ConfigFault::PolicyUnmet { .. } => Status::ConfigUnmet,
+        ConfigFault::NoMemory => Status::NoMemory,
+    }
+}

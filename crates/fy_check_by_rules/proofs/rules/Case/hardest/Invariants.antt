@@ -1,0 +1,12 @@
+use Rattle.std.proofs.Common.{◌≡◌, ◌&&◌, take}
+use Rattle.std.specs.Prelude.{None, is_none}
+use Rattle.std.specs.List.{find}
+use Rattle.std.specs.FinSet as sets
+use Rattle.fy_kinds.specs.Kinds.{Striking}
+use Rattle.fy_decide.specs.Verdicts.{bar, is_allowed, hardest_first}
+use Rattle.fy_check_by_rules.specs.Cases.{situation_of}
+use Rattle.fy_check_by_rules.proofs.rules.Case.hardest.Given as goal
+
+-- none of the kinds so far strikes
+abbrev pub invariant-loop-kind : goal.invariant-loop-kind
+invariant-loop-kind l = find (λ kind. is_allowed l.order kind && is_none (bar (situation_of l.self) (Striking kind) (sets.contains l.targets))) (take l.kind-index hardest_first) ≡ None

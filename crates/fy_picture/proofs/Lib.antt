@@ -1,0 +1,6 @@
+mod Afters
+mod Following
+mod Lines
+mod Losing
+mod Playing
+pub mod Sets

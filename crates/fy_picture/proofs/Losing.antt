@@ -1,0 +1,169 @@
+-- who is shown destroyed and left, and how many more a policy could bear
+use Rattle.std.proofs.Common.{◌≡◌, ◌∙◌, ◌<◌, ◌≤◌, ◌+◌, ◌==◌, ◌&&◌, ◌||◌, ℕ, zero, suc, Bool, true, false, not, nat_lt, cond, inl, inr, List, [], ◌∷◌, ◌++◌, length, length-append, filter, slice_get, get_or, Some, refl, sym, ap, ap₂, arith, true≢false, add-one}
+use Rattle.std.specs.Prelude.{option_and_then}
+use Rattle.std.specs.List.{range_with_len}
+use Rattle.std.specs.Ordering.{nat_cmp}
+use Rattle.std.specs.FinSet as sets
+use Rattle.std.proofs.lemmas.Bool.{cases_lt, lt-ltb, le-ltb, eq-eqb, ne_eqb}
+use Rattle.std.proofs.lemmas.List.Elements.{filter-append}
+use Rattle.std.proofs.lemmas.Option.{slice_get_past, slice_get_read}
+use Rattle.fy_locality.specs.declared.locality.Locality.{Locality}
+use Rattle.fy_policy.specs.Tree.{Tree}
+use Rattle.fy_policy.specs.Sat.{satisfies}
+use Rattle.fy_decide.specs.Losses.{with_set, without_set}
+use Rattle.fy_cluster.specs.History.{some_is}
+use Rattle.fy_picture.specs.declared.state.State.{State}
+use Rattle.fy_picture.specs.declared.row.Row.{Row}
+use Rattle.fy_picture.specs.declared.bearing.Losses.{Losses}
+use Rattle.fy_picture.specs.Bearing.{could_go, borne_by}
+use Rattle.fy_picture.specs.Shown.{shows, shown_destroyed, shown_left, AreShown, AreSame, borne_at}
+use Rattle.fy_picture.proofs.Sets.{empty-has, insert-has, union-has, difference-has}
+
+-- ---- sets
+
+or_false : (b : Bool) → (b || false) ≡ b
+or_false true = refl
+or_false false = refl
+
+-- the set of one process
+pub one_has : (p q : ℕ) → sets.contains {R = nat_cmp} (sets.insert sets.empty p) q ≡ (q == p)
+one_has p q = insert-has sets.empty p q ∙ ap (λ b. q == p || b) (empty-has q) ∙ or_false (q == p)
+
+-- where neither has what the other hasn't
+pub same_of : (a b : Bool) → (a && not b) ≡ false → (b && not a) ≡ false → a ≡ b
+same_of true true e f = refl
+same_of true false e f = absurd (true≢false e)
+same_of false true e f = absurd (true≢false f)
+same_of false false e f = refl
+
+-- two sets without differences
+pub same_sets : (s t : sets.FinSet nat_cmp) → sets.difference s t ≡ sets.empty → sets.difference t s ≡ sets.empty → (p : ℕ) → sets.contains s p ≡ sets.contains t p
+same_sets s t e f p =
+    same_of (sets.contains s p) (sets.contains t p)
+    (sym (difference-has s t p) ∙ ap (λ u. sets.contains u p) e ∙ empty-has p)
+    (sym (difference-has t s p) ∙ ap (λ u. sets.contains u p) f ∙ empty-has p)
+
+pub put_on : (a b r : Bool) → b ≡ true → (a || r) ≡ (a && b || r)
+put_on true b r e = ap (λ x. x || r) (sym e)
+put_on false b r e = refl
+
+-- ---- rows
+
+-- one row more
+pub cut_more : (S : ℕ → Bool) (i q : ℕ) (shown old : Bool) → shown ≡ S i → old ≡ (nat_lt q i && S q) → (q == i && shown || old) ≡ (nat_lt q (i + 1) && S q)
+cut_more S i q shown old is was =
+    ap₂ (λ y o. q == i && y || o) is was
+    ∙ elim (cases_lt q i) [
+      | inl less ↦
+          ap₂ (λ e l. e && S i || l && S q) (ne_eqb q i (λ same. absurd (omega arith))) (lt-ltb q i less)
+          ∙ sym (ap (λ l. l && S q) (lt-ltb q (i + 1) (omega arith)))
+      | inr more ↦ elim (cases_lt i q) [
+        | inl less ↦
+            ap₂ (λ e l. e && S i || l && S q) (ne_eqb q i (λ same. absurd (omega arith))) (le-ltb q i more)
+            ∙ sym (ap (λ l. l && S q) (le-ltb q (i + 1) (omega arith)))
+        | inr less ↦
+            let same : q ≡ i = omega arith in
+            ap₂ (λ e l. e && S i || l && S q) (eq-eqb q i same) (le-ltb q i more)
+            ∙ or_false (S i) ∙ ap S (sym same)
+            ∙ sym (ap (λ l. l && S q) (lt-ltb q (i + 1) (omega arith)))
+      ]
+    ]
+
+-- all rows
+pub cut_all : (test : State → Bool) (rows : List Row) (column i q : ℕ) → length rows ≤ i → (nat_lt q i && shows test rows column q) ≡ shows test rows column q
+cut_all test rows column i q all =
+    elim (cases_lt q i) [
+      | inl less ↦ ap (λ l. l && shows test rows column q) (lt-ltb q i less)
+      | inr more ↦
+          ap (λ l. l && shows test rows column q) (le-ltb q i more)
+          ∙ sym (ap (λ o. some_is test (option_and_then (λ row. slice_get row.states.items column) o)) (slice_get_past rows q (omega arith)))
+    ]
+
+-- what a loop over the rows keeps: the sets of those that the rows so far show
+pub record ShownSoFar (rows : List Row) (column i : ℕ) (lost kept : sets.FinSet nat_cmp) : Type 0 where
+  pub destroyed : (q : ℕ) → sets.contains lost q ≡ (nat_lt q i && shown_destroyed rows column q)
+  pub left : (q : ℕ) → sets.contains kept q ≡ (nat_lt q i && shown_left rows column q)
+
+pub none_yet : (S : ℕ → Bool) (q : ℕ) → sets.contains {R = nat_cmp} sets.empty q ≡ (nat_lt q 0 && S q)
+none_yet S q = empty-has q ∙ sym (ap (λ l. l && S q) (le-ltb q 0 (omega arith)))
+
+-- ---- counting
+
+range_more : (a n : ℕ) → range_with_len a (suc n) ≡ range_with_len a n ++ (a + n) ∷ []
+range_more a zero = ap (λ m. m ∷ []) (omega arith)
+range_more a (suc n) = ap (λ ms. a ∷ ms) (range_more (a + 1) n ∙ ap (λ m. range_with_len (a + 1) n ++ m ∷ []) (omega arith))
+
+range_next : (n : ℕ) → range_with_len 0 (n + 1) ≡ range_with_len 0 n ++ n ∷ []
+range_next n = ap (range_with_len 0) (add-one n) ∙ range_more 0 n ∙ ap (λ m. range_with_len 0 n ++ m ∷ []) (omega arith)
+
+-- how many of the numbers pass
+pub count_next : (f : ℕ → Bool) (n : ℕ) → length (filter f (range_with_len 0 (n + 1))) ≡ length (filter f (range_with_len 0 n)) + cond (f n) 1 0
+count_next f n = ap (λ ms. length (filter f ms)) (range_next n) ∙ ap length (filter-append f (range_with_len 0 n) (n ∷ [])) ∙ length-append (filter f (range_with_len 0 n)) (filter f (n ∷ [])) ∙ ap (λ k. length (filter f (range_with_len 0 n)) + k) (last (f n))
+  where
+    last : (b : Bool) → length (cond b (n ∷ []) []) ≡ cond b 1 0
+    last true = refl
+    last false = refl
+
+-- ---- one policy
+
+with_is : (s : sets.FinSet nat_cmp) (p : ℕ) → sets.contains (sets.union s (sets.insert sets.empty p)) ≡ with_set (sets.contains s) (λ q. q == p)
+with_is s p = λ i q. (union-has s (sets.insert sets.empty p) q ∙ ap (λ b. sets.contains s q || b) (one_has p q)) i
+
+without_is : (s : sets.FinSet nat_cmp) (p : ℕ) → sets.contains (sets.difference s (sets.insert sets.empty p)) ≡ without_set (sets.contains s) (λ q. q == p)
+without_is s p = λ i q. (difference-has s (sets.insert sets.empty p) q ∙ ap (λ b. sets.contains s q && not b) (one_has p q)) i
+
+ands : (x y : Bool) → (not x && y) ≡ ((not x && true) && (y && true))
+ands true true = refl
+ands true false = refl
+ands false true = refl
+ands false false = refl
+
+module _ (processes : List Locality) (P : Tree) (destroyed left : sets.FinSet nat_cmp) (p : ℕ) where
+  abbrev with_it : Bool
+  with_it = satisfies processes P (with_set (sets.contains destroyed) (λ q. q == p))
+
+  abbrev without_it : Bool
+  without_it = satisfies processes P (without_set (sets.contains left) (λ q. q == p))
+
+  parts : sets.contains left p ≡ true → sets.contains destroyed p ≡ false → (not with_it && without_it) ≡ could_go processes P (sets.contains destroyed) (sets.contains left) p
+  parts is_left is_whole =
+      ands with_it without_it
+      ∙ sym (ap₂ (λ l d. l && not d && ((not with_it && true) && (without_it && true))) is_left is_whole)
+
+  -- the destroyed with it are short of the policy
+  pub goes_by_left : (a b : Bool) → sets.contains left p ≡ true → sets.contains destroyed p ≡ false
+      → a ≡ satisfies processes P (sets.contains (sets.union destroyed (sets.insert sets.empty p)))
+      → b ≡ satisfies processes P (sets.contains (sets.difference left (sets.insert sets.empty p)))
+      → a ≡ false → b ≡ could_go processes P (sets.contains destroyed) (sets.contains left) p
+  goes_by_left a b is_left is_whole with_is_a without_is_b short =
+      without_is_b ∙ ap (λ s. satisfies processes P s) (without_is left p)
+      ∙ ap (λ x. not x && without_it) (sym short ∙ with_is_a ∙ ap (λ s. satisfies processes P s) (with_is destroyed p))
+      ∙ parts is_left is_whole
+
+  -- they satisfy it
+  pub stays : (a : Bool) → sets.contains left p ≡ true → sets.contains destroyed p ≡ false
+      → a ≡ satisfies processes P (sets.contains (sets.union destroyed (sets.insert sets.empty p)))
+      → a ≡ true → not a ≡ could_go processes P (sets.contains destroyed) (sets.contains left) p
+  stays a is_left is_whole with_is_a enough =
+      ap not enough
+      ∙ ap (λ x. not x && without_it) (sym enough ∙ with_is_a ∙ ap (λ s. satisfies processes P s) (with_is destroyed p))
+      ∙ parts is_left is_whole
+
+-- the same losses leave the same number
+pub borne_same : (processes : List Locality) (P : Tree) (one other : Losses) → AreSame one other → borne_at processes P one ≡ borne_at processes P other
+borne_same processes P one other same = λ i. borne_by processes P (λ p. same.destroyed p i) (λ p. same.left p i)
+
+-- the losses that are shown leave the number that is shown
+pub borne_shown : (processes : List Locality) (P : Tree) (rows : List Row) (column : ℕ) (losses : Losses) → AreShown rows column losses
+    → borne_at processes P losses ≡ borne_by processes P (shown_destroyed rows column) (shown_left rows column)
+borne_shown processes P rows column losses shown = λ i. borne_by processes P (λ p. shown.destroyed p i) (λ p. shown.left p i)
+
+-- what a loop over columns keeps: the last number, and the line so far
+pub record DrawsLine (processes : List Locality) (P : Tree) (rows : List Row) (column : ℕ) (losses : Losses) (last : ℕ) (counts : List ℕ) : Type 0 where
+  pub last_is : last ≡ borne_at processes P losses
+  pub count : length counts ≡ column
+  pub each : (k : ℕ) → k < column → slice_get counts k ≡ Some (borne_by processes P (shown_destroyed rows k) (shown_left rows k))
+
+-- a row shows what it shows at its place
+pub row_shows : (test : State → Bool) (rows : List Row) (column i : ℕ) (row : Row) → i < length rows → row ≡ get_or rows i row → some_is test (slice_get row.states.items column) ≡ shows test rows column i
+row_shows test rows column i row l is = ap (λ o. some_is test (option_and_then (λ (r : Row). slice_get r.states.items column) o)) (sym (slice_get_read rows (length rows) i row refl l is))

@@ -1,0 +1,90 @@
+-- a journal whose acts are made once more
+use Rattle.std.proofs.Common.{◌≡◌, ◌∙◌, ◌<◌, ◌≤◌, ◌+◌, ℕ, cond, List, [], ◌∷◌, ◌++◌, length, length-append, take, drop, get_or, slice_get, Option, Some, None, is_some, refl, sym, subst, ap, arith}
+use Rattle.std.specs.Prelude.{option_to_list}
+use Rattle.std.proofs.lemmas.List.{take-append-drop}
+use Rattle.fy_locality.specs.declared.ProcId.{ProcId}
+use Rattle.fy_acts.specs.declared.act.Act.{Act}
+use Rattle.fy_acts.specs.declared.reply.Reply.{Reply}
+use Rattle.fy_acts.specs.declared.entry.Entry.{Entry}
+use Rattle.fy_cluster.specs.Setup.{Setup}
+use Rattle.fy_cluster.specs.Course.{Course, entered, history_of}
+use Rattle.fy_cluster.specs.History.{History, begins, records, moment, after, history, keeper}
+use Rattle.fy_cluster.specs.Replies.{Legal, IsNext, reply}
+use Rattle.fy_cluster.specs.Survival.{FrontsLegal, NextLegal}
+use Rattle.fy_picture.proofs.Afters.{one_more, after_next}
+
+-- ---- how many records
+
+-- what a loop over the entries keeps: the number of records so far
+pub record CountsRecords (entries : List Entry) (i count : ℕ) : Type 0 where
+  pub is : (c : Setup) → count ≡ length (records (history c (take i entries)))
+  pub few : count ≤ i
+
+length-option : {X : Type 0} (o : Option X) → length (option_to_list o) ≡ cond (is_some o) 1 0
+length-option None = refl
+length-option (Some x) = refl
+
+-- the records with those of one entry more
+pub records_next : (c : Setup) (entries : List Entry) (i : ℕ) (e : Entry) → i < length entries → e ≡ get_or entries i e
+    → length (records (history c (take (i + 1) entries))) ≡ length (records (history c (take i entries))) + cond (is_some (begins e.act e.reply)) 1 0
+records_next c entries i e l is =
+    ap (λ h. length (records h)) (after_next c [] entries i e l is)
+    ∙ length-append (records (history c (take i entries))) (option_to_list (begins e.act e.reply))
+    ∙ ap (λ n. length (records (history c (take i entries))) + n) (length-option (begins e.act e.reply))
+
+-- ---- the acts once more
+
+length-after : (c : Setup) (h : History) (xs : List Entry) → length (after c h xs) ≡ length h + length xs
+length-after c h [] = omega arith
+length-after c h (x ∷ xs) = length-after c (moment c h x ∷ h) xs ∙ (omega arith)
+
+length-history : (c : Setup) (journal : List Entry) → length (history c journal) ≡ length journal
+length-history c journal = length-after c [] journal ∙ (omega arith)
+
+-- the course with the entries so far
+abbrev pub course_at : Setup → List Entry → ℕ → Course
+course_at c entries i = record { setup = c; journal = take i entries }
+
+-- what a loop over the entries keeps: the cluster has those so far
+abbrev pub Plays : Setup → List Entry → ℕ → Course → Type 0
+Plays c entries i course = Legal c entries → course ≡ course_at c entries i
+
+-- in a legal journal there is a place for the next entry, and it may come next
+pub next_of : FrontsLegal → NextLegal → (c : Setup) (entries : List Entry) (i : ℕ) (e : Entry) → i < length entries → e ≡ get_or entries i e → Legal c entries
+    → (length (take i entries) < c.limit) × IsNext c (history c (take i entries)) e
+next_of fronts next c entries i e l is legal =
+    let front : Legal c (take (i + 1) entries) = fronts c (take (i + 1) entries) (drop (i + 1) entries) (subst (Legal c) (sym (take-append-drop (i + 1) entries)) legal) in
+    let more : Legal c (take i entries ++ e ∷ []) = subst (Legal c) (one_more entries i e l is) front in
+    let before : Legal c (take i entries) = fronts c (take i entries) (e ∷ []) more in
+    (next c (take i entries) e before).0 more
+
+-- the entry of these parts
+of_parts : (e : Entry) (at : ℕ) (act : Act) (answered : Reply) → e.at ≡ at → e.act ≡ act → e.reply ≡ answered → record { at = at; by = e.by; act = act; reply = answered } ≡ e
+of_parts e at act answered p a r = λ i. record { at = sym p i; by = e.by; act = sym a i; reply = sym r i }
+
+-- the next act makes the next entry
+pub plays_next : FrontsLegal → NextLegal → (c : Setup) (entries : List Entry) (i : ℕ) (e : Entry) (act : Act) (old new : Course) → i < length entries → e ≡ get_or entries i e → act ≡ e.act
+    → new ≡ entered old e.by act → Plays c entries i old → Plays c entries (i + 1) new
+plays_next fronts next c entries i e act old new l is same made plays = λ legal.
+    let may = (next_of fronts next c entries i e l is legal).1 in
+    let place : e.at ≡ length (take i entries) = may.place ∙ length-history c (take i entries) in
+    let right : e.reply ≡ reply c (history c (take i entries)) e.by act = may.right ∙ ap (λ (a : Act). reply c (history c (take i entries)) e.by a) (sym same) in
+    made ∙ ap (λ (x : Course). entered x e.by act) (plays legal)
+    ∙ ap (λ (x : Entry). let more : Course = record { setup = c; journal = take i entries ++ x ∷ [] } in more)
+    (of_parts e (length (take i entries)) act (reply c (history c (take i entries)) e.by act) place (sym same) right)
+    ∙ ap (λ (journal : List Entry). let more : Course = record { setup = c; journal = journal } in more) (sym (one_more entries i e l is))
+
+-- a journal that is full has no next entry
+pub never_full : FrontsLegal → NextLegal → (c : Setup) (entries : List Entry) (i : ℕ) (e : Entry) (course : Course) → i < length entries → e ≡ get_or entries i e → course.setup.limit ≤ length course.journal
+    → Plays c entries i course → Legal c entries → ⊥
+never_full fronts next c entries i e course l is full plays legal =
+    let room : length (take i entries) < c.limit = (next_of fronts next c entries i e l is legal).0 in
+    let full_at : c.limit ≤ length (take i entries) = subst (λ (x : Course). x.setup.limit ≤ length x.journal) (plays legal) full in
+    omega arith
+
+-- ---- the keepers
+
+-- what a loop over the records keeps: the keeper of each so far
+pub record ListsKeepers (course : Course) (i : ℕ) (keepers : List (Option ProcId)) : Type 0 where
+  pub count : length keepers ≡ i
+  pub each : (r : ℕ) → r < i → slice_get keepers r ≡ Some (keeper course.setup (history_of course) r)

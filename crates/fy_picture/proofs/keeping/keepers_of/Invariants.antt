@@ -1,0 +1,5 @@
+use Rattle.fy_picture.proofs.Playing.{ListsKeepers}
+use Rattle.fy_picture.proofs.keeping.keepers_of.Given as goal
+
+abbrev pub invariant-loop-rec : goal.invariant-loop-rec
+invariant-loop-rec l = ListsKeepers l.cluster l.rec l.keepers.items

@@ -1,0 +1,9 @@
+pub mod Aims
+pub mod Bearing
+pub mod Glyphs
+pub mod Keeping
+pub mod Lives
+pub mod Pictures
+pub mod Rows
+pub mod Shown
+pub mod States

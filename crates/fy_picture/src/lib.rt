@@ -1,0 +1,26 @@
+//! What a picture of a journal shows: a row for each process, with its state column by column.
+#![tactic(auto)]
+
+mod aim;
+mod bearing;
+mod glyph;
+mod keeping;
+mod life;
+mod picture;
+mod row;
+mod state;
+mod views;
+
+pub use aim::Aim;
+pub use bearing::Line;
+pub use glyph::{rule_of, struck_as_ordered};
+pub use picture::{Picture, draw};
+pub use row::Row;
+pub use state::State;
+
+/// The most columns that a picture has. Where a journal has more entries, each column stands for
+/// several.
+pub const MOST_COLUMNS: usize = 4000;
+
+/// Of how many records a picture says who keeps them.
+pub const MOST_KEPT: u32 = 1000;

@@ -1,0 +1,9 @@
+//! What a picture shows of one process.
+use crate::State;
+
+/// What a picture shows of one process.
+#[derive(Drop)]
+pub struct Row {
+    /// Its state at the end of each column.
+    pub states: Vec<State>,
+}

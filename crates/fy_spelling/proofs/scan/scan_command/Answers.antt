@@ -1,0 +1,9 @@
+use Rattle.fy_spelling.proofs.ScannedLines.{spelled_plainly, command_parts}
+use Rattle.fy_spelling.proofs.scan.scan_command.Goals as goal
+
+pub returns : goal.returns
+returns c =
+    spelled_plainly c.args.line.now _ c.short_fits.ensures c.act_fits.ensures
+    (command_parts c.args.line.now _ c.in_ok-by.rest.now _ c.in_ok-skip.field-0.now
+    c.in-Some.rest.now c.in_ok-by.ensures c.in_ok-skip.ensures c.in-Some.ensures
+    (c.ends.ensures c.if-not-ends.false))

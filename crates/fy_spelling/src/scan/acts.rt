@@ -1,0 +1,331 @@
+//! Acts at the front of a line.
+ghost use Rattle.std.specs.Prelude.{◌≡◌, ◌++◌, IfSome, codes, decimal};
+ghost use Rattle.fy_locality.specs.Key.{key_text};
+ghost use Rattle.fy_kinds.specs.Kinds.{kind_text};
+ghost use Rattle.fy_spelling.specs.Pieces.{one_text, two_text, three_text, valued_text, words_text, scope_text, act_text};
+
+use super::lists::{kinds, payload, processes};
+use super::words::{key_after, kind_after, long_after, name_after, short_after, skip, word_after};
+use crate::Act;
+use fy_grants::{Grant, Scope};
+use fy_kinds::{KillOrder, Kind, Target};
+use fy_locality::{Key, Name, ProcId};
+use fy_team::Members;
+use std::alloc::Global;
+
+/// The number behind a text, up to the end of the act.
+#[inline(always)]
+fn one_long<'l>(line: &'l [u8], head: &str) -> Option<(u64, &'l [u8])>
+    ensures { IfSome result (λ p. line.now ≡ one_text head.now p.0 ++ p.1.now) }
+{
+    let (number, rest) = long_after(line, head)?;
+    let rest = skip(rest, "}}")?;
+    Some((number, rest))
+}
+
+/// The number of 32 bits behind a text, up to the end of the act.
+#[inline(always)]
+fn one_short<'l>(line: &'l [u8], head: &str) -> Option<(u32, &'l [u8])>
+    ensures { IfSome result (λ p. line.now ≡ one_text head.now p.0 ++ p.1.now) }
+{
+    let (number, rest) = short_after(line, head)?;
+    let rest = skip(rest, "}}")?;
+    Some((number, rest))
+}
+
+/// The process behind a text, up to the end of the act.
+#[inline(always)]
+fn one_process<'l>(line: &'l [u8], head: &str) -> Option<(ProcId, &'l [u8])>
+    ensures { IfSome result (λ p. line.now ≡ one_text head.now p.0.0 ++ p.1.now) }
+{
+    let (number, rest) = one_short(line, head)?;
+    Some((ProcId(number), rest))
+}
+
+/// Two numbers of 32 bits, each behind a text, up to the end of the act.
+#[inline(always)]
+fn two_shorts<'l>(line: &'l [u8], a: &str, b: &str) -> Option<(u32, u32, &'l [u8])>
+    ensures { IfSome result (λ p. line.now ≡ two_text a.now p.0 b.now p.1 ++ p.2.now) }
+{
+    let (first, rest) = short_after(line, a)?;
+    let (second, rest) = one_short(rest, b)?;
+    Some((first, second, rest))
+}
+
+/// Three numbers of 32 bits, each behind a text, up to the end of the act.
+#[inline(always)]
+fn three_shorts<'l>(line: &'l [u8], a: &str, b: &str, c: &str) -> Option<(u32, u32, u32, &'l [u8])>
+    ensures { IfSome result (λ p.
+        line.now ≡ three_text a.now p.0 b.now p.1 c.now p.2 ++ p.3.now) }
+{
+    let (first, rest) = short_after(line, a)?;
+    let (second, third, rest) = two_shorts(rest, b, c)?;
+    Some((first, second, third, rest))
+}
+
+/// A number behind a text, and then a name, up to the end of the act.
+#[inline(always)]
+fn valued<'l>(line: &'l [u8], head: &str) -> Option<(u64, Name, &'l [u8])>
+    ensures { IfSome result (λ p. line.now ≡ valued_text head.now p.0 p.1 ++ p.2.now) }
+{
+    let (number, rest) = long_after(line, head)?;
+    let Some((value, rest)) = name_after(rest, ",\"value\":\"") else {
+        return None;
+    };
+    let rest = skip(rest, "}}")?;
+    Some((number, value, rest))
+}
+
+/// The key and the name of a target behind a text, and what is behind the name's quote.
+#[inline(always)]
+fn target_after<'l>(line: &'l [u8], head: &str) -> Option<(Key, Name, &'l [u8])>
+    ensures { IfSome result (λ p.
+        line.now ≡ head.now ++ (key_text p.0 ++ (codes "\",\"value\":\""
+        ++ (p.1 ++ (codes "\"" ++ p.2.now))))) }
+{
+    let (key, rest) = key_after(line, head)?;
+    let Some((value, rest)) = name_after(rest, ",\"value\":\"") else {
+        return None;
+    };
+    Some((key, value, rest))
+}
+
+/// The floor, the key and the kind of a kill.
+#[inline(always)]
+fn kill_words(line: &[u8]) -> Option<(Kind, Key, Kind, &[u8])>
+    ensures { IfSome result (λ p.
+        line.now ≡ words_text (kind_text p.0) (key_text p.1) (kind_text p.2)
+        ++ (codes "\"" ++ p.3.now)) }
+{
+    let (floor, rest) = kind_after(line, "{\"kill\":{\"floor\":\"")?;
+    let (key, rest) = key_after(rest, ",\"key\":\"")?;
+    let (kind, rest) = kind_after(rest, ",\"kind\":\"")?;
+    Some((floor, key, kind, rest))
+}
+
+// Each act comes with what is behind its end.
+
+fn kill(line: &[u8]) -> Option<(Act, &[u8])>
+    ensures { IfSome result (λ p. line.now ≡ act_text p.0 ++ p.1.now) }
+{
+    let (floor, key, kind, rest) = kill_words(line)?;
+    let Some((tear, value, rest)) = valued(rest, ",\"tear\":") else {
+        return None;
+    };
+    let Ok(order) = KillOrder::make(Target { key, value }, kind, floor, tear) else {
+        return None;
+    };
+    Some((Act::Kill { order }, rest))
+}
+
+fn clog(line: &[u8]) -> Option<(Act, &[u8])>
+    ensures { IfSome result (λ p. line.now ≡ act_text p.0 ++ p.1.now) }
+{
+    let (key, rest) = key_after(line, "{\"clog\":{\"key\":\"")?;
+    let Some((ticks, value, rest)) = valued(rest, ",\"ticks\":") else {
+        return None;
+    };
+    let target = Target { key, value };
+    Some((Act::Clog { target, ticks }, rest))
+}
+
+fn unclog(line: &[u8]) -> Option<(Act, &[u8])>
+    ensures { IfSome result (λ p. line.now ≡ act_text p.0 ++ p.1.now) }
+{
+    let Some((key, value, rest)) = target_after(line, "{\"unclog\":{\"key\":\"") else {
+        return None;
+    };
+    let rest = skip(rest, "}}")?;
+    let target = Target { key, value };
+    Some((Act::Unclog { target }, rest))
+}
+
+fn form(alloc: Global, line: &[u8]) -> Option<(Act, &[u8])>
+    ensures { IfSome result (λ p. line.now ≡ act_text p.0 ++ p.1.now) }
+{
+    let Some((processes, rest)) = processes(alloc, skip(line, "{\"form\":{\"members\":[")?) else {
+        return None;
+    };
+    let (policy, rest) = one_short(rest, "],\"policy\":")?;
+    let Ok(members) = Members::from_vec(processes) else {
+        return None;
+    };
+    Some((Act::Form { members, policy }, rest))
+}
+
+fn begin(alloc: Global, line: &[u8]) -> Option<(Act, &[u8])>
+    ensures { IfSome result (λ p. line.now ≡ act_text p.0 ++ p.1.now) }
+{
+    let (digits, rest) = word_after(line, "{\"begin\":{\"payload\":\"")?;
+    let (team, rest) = one_short(rest, ",\"team\":")?;
+    let payload = payload(alloc, digits)?;
+    Some((Act::Begin { team, payload }, rest))
+}
+
+fn deliver(line: &[u8]) -> Option<(Act, &[u8])>
+    ensures { IfSome result (λ p. line.now ≡ act_text p.0 ++ p.1.now) }
+{
+    let (message, rest) = one_long(line, "{\"deliver\":{\"message\":")?;
+    Some((Act::Deliver { message }, rest))
+}
+
+fn lose(line: &[u8]) -> Option<(Act, &[u8])>
+    ensures { IfSome result (λ p. line.now ≡ act_text p.0 ++ p.1.now) }
+{
+    let (message, rest) = one_long(line, "{\"lose\":{\"message\":")?;
+    Some((Act::Lose { message }, rest))
+}
+
+fn resend(line: &[u8]) -> Option<(Act, &[u8])>
+    ensures { IfSome result (λ p. line.now ≡ act_text p.0 ++ p.1.now) }
+{
+    let (process, rec, rest) = two_shorts(line, "{\"resend\":{\"process\":", ",\"record\":")?;
+    let process = ProcId(process);
+    Some((Act::Resend { rec, process }, rest))
+}
+
+fn sync(line: &[u8]) -> Option<(Act, &[u8])>
+    ensures { IfSome result (λ p. line.now ≡ act_text p.0 ++ p.1.now) }
+{
+    let (process, rest) = one_process(line, "{\"sync\":{\"process\":")?;
+    Some((Act::Sync { process }, rest))
+}
+
+fn up(line: &[u8]) -> Option<(Act, &[u8])>
+    ensures { IfSome result (λ p. line.now ≡ act_text p.0 ++ p.1.now) }
+{
+    let (process, rest) = one_process(line, "{\"up\":{\"process\":")?;
+    Some((Act::Up { process }, rest))
+}
+
+fn heal(line: &[u8]) -> Option<(Act, &[u8])>
+    ensures { IfSome result (λ p. line.now ≡ act_text p.0 ++ p.1.now) }
+{
+    let (process, rest) = one_process(line, "{\"heal\":{\"process\":")?;
+    Some((Act::Heal { process }, rest))
+}
+
+fn tick(line: &[u8]) -> Option<(Act, &[u8])>
+    ensures { IfSome result (λ p. line.now ≡ act_text p.0 ++ p.1.now) }
+{
+    let (ticks, rest) = one_long(line, "{\"tick\":{\"ticks\":")?;
+    Some((Act::Tick { ticks }, rest))
+}
+
+/// A scope behind the kinds of a grant, up to the end of the act.
+fn scope(line: &[u8]) -> Option<(Scope, &[u8])>
+    ensures { IfSome result (λ p. line.now ≡ scope_text p.0 ++ p.1.now) }
+{
+    if let Some(rest) = skip(line, "],\"scope\":\"all\"}}") {
+        return Some((Scope::All, rest));
+    }
+    let Some((key, value, rest)) = target_after(line, "],\"scope\":{\"key\":\"") else {
+        return None;
+    };
+    let rest = skip(rest, "}}}")?;
+    let target = Target { key, value };
+    Some((Scope::Where(target), rest))
+}
+
+fn give(line: &[u8]) -> Option<(Act, &[u8])>
+    ensures { IfSome result (λ p. line.now ≡ act_text p.0 ++ p.1.now) }
+{
+    let (actor, rest) = short_after(line, "{\"give\":{\"actor\":")?;
+    let (kinds, rest) = kinds(skip(rest, ",\"kinds\":[")?);
+    let Some((scope, rest)) = scope(rest) else {
+        return None;
+    };
+    let grant = Grant {
+        actor,
+        kinds,
+        scope,
+    };
+    Some((Act::Give { grant }, rest))
+}
+
+fn take(line: &[u8]) -> Option<(Act, &[u8])>
+    ensures { IfSome result (λ p. line.now ≡ act_text p.0 ++ p.1.now) }
+{
+    let (actor, index, rest) = two_shorts(line, "{\"take\":{\"actor\":", ",\"index\":")?;
+    Some((Act::Take { actor, index }, rest))
+}
+
+fn protect(line: &[u8]) -> Option<(Act, &[u8])>
+    ensures { IfSome result (λ p. line.now ≡ act_text p.0 ++ p.1.now) }
+{
+    let (kinds, rest) = kinds(skip(line, "{\"protect\":{\"kinds\":[")?);
+    let (process, rest) = one_process(rest, "],\"process\":")?;
+    Some((Act::Protect { process, kinds }, rest))
+}
+
+fn unprotect(line: &[u8]) -> Option<(Act, &[u8])>
+    ensures { IfSome result (λ p. line.now ≡ act_text p.0 ++ p.1.now) }
+{
+    let (kinds, rest) = kinds(skip(line, "{\"unprotect\":{\"kinds\":[")?);
+    let (process, rest) = one_process(rest, "],\"process\":")?;
+    Some((Act::Unprotect { process, kinds }, rest))
+}
+
+fn copy(line: &[u8]) -> Option<(Act, &[u8])>
+    ensures { IfSome result (λ p. line.now ≡ act_text p.0 ++ p.1.now) }
+{
+    let (from, rec, to, rest) = three_shorts(
+        line,
+        "{\"copy\":{\"from\":",
+        ",\"record\":",
+        ",\"to\":",
+    )?;
+    let from = ProcId(from);
+    let to = ProcId(to);
+    Some((Act::CopyTo { from, rec, to }, rest))
+}
+
+fn replace(line: &[u8]) -> Option<(Act, &[u8])>
+    ensures { IfSome result (λ p. line.now ≡ act_text p.0 ++ p.1.now) }
+{
+    let (into, out, team, rest) = three_shorts(
+        line,
+        "{\"replace\":{\"into\":",
+        ",\"out\":",
+        ",\"team\":",
+    )?;
+    let into = ProcId(into);
+    let out = ProcId(out);
+    Some((Act::Replace { team, out, into }, rest))
+}
+
+/// The act of a name with this first letter and its third, where several begin with the first.
+fn act_by_third(line: &[u8], first: u8) -> Option<(Act, &[u8])>
+    ensures { IfSome result (λ p. line.now ≡ act_text p.0 ++ p.1.now) }
+{
+    match (first, *line.get(4)?) {
+        (b't', b'c') => tick(line),
+        (b't', b'k') => take(line),
+        (b'c', b'o') => clog(line),
+        (b'c', b'p') => copy(line),
+        (b'r', b's') => resend(line),
+        (b'r', b'p') => replace(line),
+        (b'u', b'"') => up(line),
+        (b'u', b'c') => unclog(line),
+        (b'u', b'p') => unprotect(line),
+        _ => None,
+    }
+}
+
+/// An act, by its name.
+pub(super) fn act(alloc: Global, line: &[u8]) -> Option<(Act, &[u8])>
+    ensures { IfSome result (λ p. line.now ≡ act_text p.0 ++ p.1.now) }
+{
+    match *line.get(2)? {
+        b'k' => kill(line),
+        b'd' => deliver(line),
+        b's' => sync(line),
+        b'l' => lose(line),
+        b'f' => form(alloc, line),
+        b'b' => begin(alloc, line),
+        b'h' => heal(line),
+        b'g' => give(line),
+        b'p' => protect(line),
+        first => act_by_third(line, first),
+    }
+}

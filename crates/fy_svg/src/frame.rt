@@ -1,0 +1,240 @@
+//! What stands round the rows: the head with its colours, the legend, names, the axis, and orders in
+//! words.
+use crate::lanes::Lane;
+use crate::layout::{ASIDE, LINE, MOST_LINES, ROW, TOP, foot_of, middle_of, x_of, y_of};
+use crate::words::write_order;
+use fy_journal::{Entry, Reply};
+use fy_locality::{Key, Map, ProcId};
+use fy_picture::{Picture, rule_of};
+use std::alloc::AllocError;
+
+/// Colours that tell apart for the colour-blind (Okabe and Ito), on light paper and, where a reader
+/// knows of it, on dark.
+const STYLE: &str = "<style>
+.paper { fill: #ffffff; }
+text { font: 11px sans-serif; fill: #1a1a1a; }
+.up { fill: #009e73; } .down { fill: #e69f00; } .gone { fill: #9a9a9a; }
+.emptied { fill: #cc79a7; } .clogged { fill: #56b4e9; }
+.order { stroke: #1a1a1a; stroke-width: 1.3; }
+.filled { fill: #1a1a1a; } .hollow { fill: #ffffff; }
+.acked { fill: none; stroke: #0072b2; stroke-width: 2; }
+.tick { stroke: #1a1a1a; } .axis { stroke: #c8c8c8; }
+.policy { fill: none; stroke: #1a1a1a; stroke-width: 1.5; }
+.bad { stroke: #d00000; stroke-width: 4; } .told { fill: #d00000; }
+@media (prefers-color-scheme: dark) {
+  .paper, .hollow { fill: #161616; }
+  text, .filled { fill: #e8e8e8; }
+  .order, .tick, .policy { stroke: #e8e8e8; }
+  .gone { fill: #6a6a6a; } .axis { stroke: #484848; } .acked { stroke: #7cc4ee; }
+}
+</style>
+";
+
+/// What the legend says: a class, how far from the left, and its word.
+const STATES: [(&str, u64, &str); 5] = [
+    ("up", 10, "up"),
+    ("down", 70, "down"),
+    ("gone", 140, "killed for good"),
+    ("emptied", 270, "emptied, not healed (below)"),
+    ("clogged", 470, "clogged (above)"),
+];
+
+/// What the legend says: the class of a glyph, its outline, how far from the left, and its word.
+const SHAPES: [(&str, &str, u64, &str); 8] = [
+    (
+        "order filled",
+        "m-3 0a3 3 0 1 0 6 0a3 3 0 1 0-6 0z",
+        16,
+        "RebootProcess",
+    ),
+    (
+        "order filled",
+        "m-4 0a4 4 0 1 0 8 0a4 4 0 1 0-8 0z",
+        126,
+        "Reboot",
+    ),
+    ("order filled", "m0-5l5 5-5 5-5-5z", 196, "RebootAndDelete"),
+    ("order filled", "m-4-4h8v8h-8z", 320, "KillInstantly"),
+    ("order filled", "m0-4l4 8h-8z", 420, "clog"),
+    ("order filled", "m0 4l4-8h-8z", 480, "end of clogs"),
+    (
+        "order hollow",
+        "m-4-4h8v8h-8z",
+        580,
+        "struck with less, or nobody",
+    ),
+    ("acked", "m-4 0l3 4 6-8", 770, "a record is acknowledged"),
+];
+
+/// The head of the document, with the size of the sheet.
+pub(crate) fn write_head(
+    text: &mut String,
+    picture: &Picture,
+    rows: usize,
+    policies: usize,
+    lines: usize,
+) -> Result<(), AllocError> {
+    let wide = x_of(picture.columns).saturating_add(ASIDE).max(980);
+    let high = foot_of(rows, policies, lines).saturating_add(LINE);
+    let width = picture.width;
+    let columns = picture.columns;
+    text.push_str("<svg xmlns=\"http://www.w3.org/2000/svg\" ")?;
+    write!(
+        text,
+        "width=\"{wide}\" height=\"{high}\" viewBox=\"0 0 {wide} {high}\" "
+    )?;
+    writeln!(text, "data-width=\"{width}\" data-columns=\"{columns}\">")?;
+    text.push_str(STYLE)?;
+    text.push_str("<title>What a journal did to each process</title>\n")?;
+    writeln!(
+        text,
+        "<rect class=\"paper\" width=\"{wide}\" height=\"{high}\"/>"
+    )
+}
+
+/// The legend, in two lines at the head.
+pub(crate) fn write_legend(text: &mut String) -> Result<(), AllocError> {
+    text.push_str("<g class=\"legend\">\n")?;
+    for (class, x, word) in STATES.iter().copied() {
+        let beside = x.saturating_add(20);
+        write!(
+            text,
+            "<rect class=\"{class}\" x=\"{x}\" y=\"8\" width=\"14\" height=\"8\"/>"
+        )?;
+        writeln!(text, "<text x=\"{beside}\" y=\"16\">{word}</text>")?;
+    }
+    for (class, shape, x, word) in SHAPES.iter().copied() {
+        let beside = x.saturating_add(10);
+        write!(text, "<path class=\"{class}\" d=\"M{x} 30{shape}\"/>")?;
+        writeln!(text, "<text x=\"{beside}\" y=\"34\">{word}</text>")?;
+    }
+    text.push_str("</g>\n")
+}
+
+/// The numbers of entries along the head, at every tenth column.
+pub(crate) fn write_axis(
+    text: &mut String,
+    picture: &Picture,
+    rows: usize,
+) -> Result<(), AllocError> {
+    let high = y_of(rows.saturating_add(2)).saturating_sub(TOP);
+    for column in 0..picture.columns {
+        if column % 10 == 0 {
+            let entry = column.saturating_mul(picture.width);
+            let x = x_of(column);
+            write!(text, "<path class=\"axis\" d=\"M{x} {TOP}v{high}\"/>")?;
+            writeln!(text, "<text x=\"{x}\" y=\"54\">{entry}</text>")?;
+        }
+    }
+    Ok(())
+}
+
+/// A value of a process, where it has one, so far from the left.
+fn write_value(
+    text: &mut String,
+    map: &Map,
+    p: u32,
+    key: Key,
+    x: u64,
+    y: u64,
+) -> Result<(), AllocError> {
+    if p < map.len()
+        && let Some(name) = map.value(ProcId(p), key)
+    {
+        let name = name.as_str();
+        writeln!(text, "<text x=\"{x}\" y=\"{y}\">{name}</text>")?;
+    }
+    Ok(())
+}
+
+/// The names at the left of a row: those of its data centre, data hall and zone where they are
+/// others than above.
+pub(crate) fn write_names(
+    text: &mut String,
+    map: &Map,
+    above: Option<Lane>,
+    lane: Lane,
+    row: usize,
+) -> Result<(), AllocError> {
+    let y = y_of(row).saturating_add(ROW - 6);
+    let p = lane.process;
+    let (center, hall, zone) = match above {
+        Some(above) => (
+            above.center != lane.center,
+            above.center != lane.center || above.hall != lane.hall,
+            above.center != lane.center || above.hall != lane.hall || above.zone != lane.zone,
+        ),
+        None => (true, true, true),
+    };
+    if center {
+        write_value(text, map, p, Key::DataCenter, 6, y)?;
+    }
+    if hall {
+        write_value(text, map, p, Key::DataHall, 66, y)?;
+    }
+    if zone {
+        write_value(text, map, p, Key::Zone, 116, y)?;
+    }
+    write_value(text, map, p, Key::Process, 186, y)
+}
+
+/// The names of the two rows behind the processes.
+pub(crate) fn write_last_names(text: &mut String, rows: usize) -> Result<(), AllocError> {
+    let nobody = y_of(rows).saturating_add(ROW - 6);
+    let records = y_of(rows.saturating_add(1)).saturating_add(ROW - 6);
+    writeln!(
+        text,
+        "<text x=\"116\" y=\"{nobody}\">orders that name nobody</text>"
+    )?;
+    writeln!(text, "<text x=\"116\" y=\"{records}\">acknowledged</text>")
+}
+
+/// How many lines `write_orders` writes.
+pub(crate) fn lines_of(entries: &[Entry]) -> usize {
+    entries
+        .iter()
+        .filter(|entry| rule_of(entry).is_some())
+        .take(MOST_LINES)
+        .count()
+}
+
+/// Below the rows, in words, the first orders that struck with less or were barred.
+pub(crate) fn write_orders(
+    text: &mut String,
+    entries: &[Entry],
+    rows: usize,
+    policies: usize,
+) -> Result<(), AllocError> {
+    let mut line = 0;
+    for entry in entries {
+        if line < MOST_LINES && rule_of(entry).is_some() {
+            let y = foot_of(rows, policies, line);
+            write!(text, "<text class=\"order-in-words\" x=\"10\" y=\"{y}\">")?;
+            write_order(text, entry)?;
+            text.push_str("</text>\n")?;
+            line += 1;
+        }
+    }
+    Ok(())
+}
+
+/// A red mark where an entry isn't what the rules give, behind the column of the last that is.
+pub(crate) fn write_bad(
+    text: &mut String,
+    picture: &Picture,
+    at: u32,
+    rows: usize,
+) -> Result<(), AllocError> {
+    let x = middle_of(picture.columns);
+    let high = y_of(rows.saturating_add(2)).saturating_sub(TOP);
+    write!(
+        text,
+        "<path class=\"bad\" data-entry=\"{at}\" d=\"M{x} {TOP}v{high}\"><title>"
+    )?;
+    writeln!(text, "entry {at} is not what the rules give</title></path>")?;
+    let beside = x.saturating_add(6);
+    writeln!(
+        text,
+        "<text class=\"told\" x=\"{beside}\" y=\"66\">bad entry {at}</text>"
+    )
+}

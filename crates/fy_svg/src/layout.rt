@@ -1,0 +1,48 @@
+//! Where things stand on the sheet, in pixels.
+use fy_locality::MOST_PROCESSES;
+use fy_picture::MOST_COLUMNS;
+use fy_policy::MOST_POLICIES;
+
+/// The left end of the first column.
+pub(crate) const LEFT: u64 = 250;
+/// How wide a column is.
+pub(crate) const COLUMN: u64 = 12;
+/// The upper end of the first row.
+pub(crate) const TOP: u64 = 70;
+/// How high a row is.
+pub(crate) const ROW: u64 = 18;
+/// How high a line of text is.
+pub(crate) const LINE: u64 = 15;
+/// How high the stepped line of a policy is where all processes could go.
+pub(crate) const STEPS: u64 = 26;
+/// How wide the words behind the rows are.
+pub(crate) const ASIDE: u64 = 260;
+/// The most lines of text below the rows.
+pub(crate) const MOST_LINES: usize = 100;
+
+/// The left end of a column.
+pub(crate) fn x_of(column: usize) -> u64 {
+    LEFT + column.min(MOST_COLUMNS + 1) as u64 * COLUMN
+}
+
+/// The middle of a column.
+pub(crate) fn middle_of(column: usize) -> u64 {
+    LEFT + column.min(MOST_COLUMNS + 1) as u64 * COLUMN + COLUMN / 2
+}
+
+/// The upper end of a row, of which the two behind the processes are for all else.
+pub(crate) fn y_of(row: usize) -> u64 {
+    TOP + row.min(MOST_PROCESSES as usize + 2) as u64 * ROW
+}
+
+/// The foot of the stepped line of a policy, below so many rows of processes.
+pub(crate) fn foot_of_policy(rows: usize, policy: usize) -> u64 {
+    let above = rows.min(MOST_PROCESSES as usize) as u64 + 2 * policy.min(MOST_POLICIES) as u64;
+    TOP + (above + 4) * ROW
+}
+
+/// The foot of a line of text below so many rows of processes and lines of policies.
+pub(crate) fn foot_of(rows: usize, policies: usize, line: usize) -> u64 {
+    let down = line.min(MOST_LINES + 2) as u64 * LINE;
+    foot_of_policy(rows, policies).saturating_add(down)
+}

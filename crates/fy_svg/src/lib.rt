@@ -1,0 +1,15 @@
+//! A journal as a picture: one SVG document. What its bands and glyphs stand for is `fy_picture`'s;
+//! here they get a place and a colour.
+#![tactic(auto)]
+
+mod bands;
+mod frame;
+mod glyphs;
+mod keepers;
+mod lanes;
+mod layout;
+mod policies;
+mod sheet;
+mod words;
+
+pub use sheet::svg;

@@ -1,0 +1,94 @@
+//! What is said of an order in words.
+use fy_journal::{Act, Entry, Reply};
+use fy_kinds::{Kind, Rule, Target};
+use fy_picture::rule_of;
+use std::alloc::AllocError;
+
+/// The rule that stands against an order, as a clause behind `since`.
+fn write_rule(text: &mut String, rule: Rule) -> Result<(), AllocError> {
+    match rule {
+        Rule::NoTarget => write!(text, "nobody who is left has that value"),
+        Rule::NoGrant { process } => {
+            let p = process.0;
+            write!(text, "no grant covers process {p}")
+        }
+        Rule::Protected { process } => {
+            let p = process.0;
+            write!(text, "process {p} is protected")
+        }
+        Rule::TooManyDestroyed { policy } => {
+            write!(text, "the destroyed would satisfy policy {policy}")
+        }
+        Rule::TooFewLeft { policy } => {
+            write!(text, "those left would be short of policy {policy}")
+        }
+    }
+}
+
+/// A target, by its key and value.
+fn write_target(text: &mut String, target: Target) -> Result<(), AllocError> {
+    let key = target.key.text();
+    let value = target.value.as_str();
+    write!(text, "{key} {value}")
+}
+
+/// What came of a kill: what struck.
+fn write_struck(text: &mut String, struck: Option<Kind>) -> Result<(), AllocError> {
+    match struck {
+        Some(kind) => {
+            let kind = kind.text();
+            write!(text, ": struck by {kind}")
+        }
+        None => text.push_str(": struck nobody"),
+    }
+}
+
+/// What came of a clog, or of its end.
+fn write_ruled(text: &mut String, reply: Reply) -> Result<(), AllocError> {
+    match reply {
+        Reply::Ruled { rule: Some(_) } => text.push_str(": barred"),
+        Reply::Ruled { rule: None } => text.push_str(": done"),
+        _ => text.push_str(": refused"),
+    }
+}
+
+/// What was ordered, and what came of it; nothing of another act.
+fn write_deed(text: &mut String, entry: &Entry) -> Result<(), AllocError> {
+    match entry.act {
+        Act::Kill { order } => {
+            let kind = order.kind().text();
+            write!(text, "{kind} of ")?;
+            write_target(text, order.target())?;
+            match entry.reply {
+                Reply::Verdict(verdict) => write_struck(text, verdict.struck),
+                _ => text.push_str(": refused"),
+            }
+        }
+        Act::Clog { target, ticks } => {
+            write!(text, "clog for {ticks} ticks of ")?;
+            write_target(text, target)?;
+            write_ruled(text, entry.reply)
+        }
+        Act::Unclog { target } => {
+            text.push_str("end of the clogs of ")?;
+            write_target(text, target)?;
+            write_ruled(text, entry.reply)
+        }
+        _ => Ok(()),
+    }
+}
+
+/// An order with what came of it, and why nothing harder did.
+pub(crate) fn write_order(text: &mut String, entry: &Entry) -> Result<(), AllocError> {
+    let at = entry.at;
+    let by = entry.by;
+    write!(text, "entry {at}, actor {by}: ")?;
+    write_deed(text, entry)?;
+    match rule_of(entry) {
+        Some(rule) => {
+            text.push_str(", since ")?;
+            write_rule(text, rule)
+        }
+        None => Ok(()),
+    }
+}

@@ -1,0 +1,296 @@
+/* faultyard: which faults a cluster bears, decided within your own program.
+ *
+ * A guard is opened with a cluster file, and then asked before each fault. It answers the hardest
+ * kill that replication bears, and keeps a journal of all that was asked and answered.
+ *
+ *     fy_guard guard;
+ *     uint32_t struck, rule;
+ *     uint64_t named;
+ *     if (fy_guard_open(config, strlen(config), &guard) != FY_DONE) ...
+ *     fy_guard_kill(&guard, 1, FY_ZONE, "z0", FY_KILL_INSTANTLY, FY_REBOOT, 0, &struck, &rule, &named);
+ *     if (struck == FY_KILL_INSTANTLY) ...
+ *     fy_guard_close(&guard);
+ *
+ * Link with libfaultyard.a, or with -lfaultyard. The library asks malloc, realloc and free for its
+ * memory, and nothing else of the system: it opens no file and starts no thread.
+ *
+ * Every call answers a fy_status. But for FY_DONE, FY_REFUSED and FY_UNWRITTEN nothing changed then,
+ * save what the pointers for answers point to.
+ *
+ * A guard stays on the thread that opened it, and one call at a time is made with it; guards of
+ * different threads have nothing in common. No call may come from a signal handler, nor from a
+ * child that a process with threads forked. Of a guard there is one copy that is used: a copy of
+ * the struct is no second guard.
+ */
+#ifndef FAULTYARD_H
+#define FAULTYARD_H
+
+#include <stddef.h>
+#include <stdint.h>
+#include <string.h>
+
+#ifdef __cplusplus
+extern "C" {
+#endif
+
+/* A guard. Only the calls below write it; all zeros, it is closed. */
+typedef struct fy_guard {
+    void *at;
+} fy_guard;
+
+/* How a call ended. */
+typedef enum fy_status {
+    FY_DONE = 0,            /* It did what it says. */
+    FY_NO_MEMORY = 1,       /* There was no memory. */
+    FY_JOURNAL_FULL = 2,    /* The journal has as many entries as the cluster file allows. */
+    FY_REFUSED = 3,         /* The act is refused, and stands in the journal with its refusal. */
+    FY_SHORT = 4,           /* The buffer is too short; how long it has to be is told. */
+    FY_UNWRITTEN = 5,       /* The act is made and stands in the journal, but its line could not be
+                               written: fy_guard_audit reads it. No test has met it, since the memory
+                               for a line is asked for before its act is made. */
+    FY_NO_ENTRY = 6,        /* The journal has no entry at this place. */
+    FY_ARGUMENT = 7,        /* The number for a key, a kind or a floor is that of none. */
+    FY_NAME = 8,            /* The value of the target is no name: 1 to 32 of A-Z a-z 0-9 _ -, the
+                               first not -. */
+    FY_FLOOR = 9,           /* The floor of the kill is above its kind. */
+    FY_LINE_TOO_LONG = 10,  /* The line has more than 65,536 bytes. */
+    FY_LINE_SYNTAX = 11,    /* The line is no command of a script. */
+    FY_CONFIG_TOO_LONG = 12, /* The cluster file has more than 1,048,576 bytes. */
+    FY_CONFIG_TOML = 13,    /* The cluster file is no TOML document in UTF-8. */
+    FY_CONFIG_FIELD = 14,   /* A key of it is missing, unknown or of another type, or a word is none of
+                               those that may stand there. */
+    FY_CONFIG_LIMIT = 15,   /* A number or a length of it is outside its range. */
+    FY_CONFIG_NAME = 16,    /* A text of it is no name, or names what is taken or isn't there. */
+    FY_CONFIG_POLICY = 17,  /* A text of it is no policy. */
+    FY_CONFIG_UNMET = 18,   /* All its processes together don't satisfy one of its policies. */
+    FY_CLOSED = 19,         /* The guard is closed, or a pointer is null. Only the inline calls of this
+                               header answer it: the library itself asks for an open guard. */
+} fy_status;
+
+/* By which part of its place a process is meant. */
+typedef enum fy_key {
+    FY_PROCESS = 1,     /* processid */
+    FY_MACHINE = 2,     /* machineid */
+    FY_ZONE = 3,        /* zoneid */
+    FY_DATA_HALL = 4,   /* data_hall */
+    FY_DATA_CENTER = 5, /* dcid */
+} fy_key;
+
+/* What a kill does to a process, from the mildest to the hardest. */
+typedef enum fy_kind {
+    FY_NONE = 0,              /* Nothing struck; no order may be of this kind. */
+    FY_REBOOT_PROCESS = 1,    /* Down; nothing on its disk is lost. */
+    FY_REBOOT = 2,            /* Down; what its disk hasn't synced may be lost. */
+    FY_REBOOT_AND_DELETE = 3, /* Down, and its disk is emptied. */
+    FY_KILL_INSTANTLY = 4,    /* Gone for good, and its disk is emptied. */
+} fy_kind;
+
+/* Why the kind that was ordered is barred, the first that holds. */
+typedef enum fy_rule {
+    FY_NO_RULE = 0,            /* It isn't: it struck. */
+    FY_NO_TARGET = 1,          /* No process that is left has the value. */
+    FY_NO_GRANT = 2,           /* No grant of the actor covers the process that is named. */
+    FY_PROTECTED = 3,          /* The process that is named is protected. */
+    FY_TOO_MANY_DESTROYED = 4, /* The destroyed would satisfy the policy that is named. */
+    FY_TOO_FEW_LEFT = 5,       /* Those left would be short of the policy that is named. */
+} fy_rule;
+
+/* Why an act is refused. */
+typedef enum fy_refusal {
+    FY_NOT_REFUSED = 0,
+    FY_STRANGER = 1,       /* There is no actor with the number of whoever acts. */
+    FY_WRONG_ROLE = 2,     /* The actor's role may not make this act. */
+    FY_TOO_MANY = 3,       /* There are as many teams, or records, as there may be. */
+    FY_NO_POLICY = 4,      /* There is no policy with this number. */
+    FY_NO_PROCESS = 5,     /* There is no process with this number. */
+    FY_GONE = 6,           /* The process is gone for good. */
+    FY_TEAM_SHORT = 7,     /* The members don't satisfy the policy. */
+    FY_NO_TEAM = 8,        /* There is no team with this number. */
+    FY_PAYLOAD = 9,        /* The payload has more than 256 bytes. */
+    FY_NET_FULL = 10,      /* There would be too many messages in flight. */
+    FY_NO_MESSAGE = 11,    /* No message in flight has this number. */
+    FY_CLOGGED = 12,       /* The message's process is clogged. */
+    FY_NOT_UP = 13,        /* The process isn't up. */
+    FY_NO_RECORD = 14,     /* There is no record with this number. */
+    FY_NOT_MEMBER = 15,    /* The process is no member of the record's team. */
+    FY_ACKED = 16,         /* The record is acknowledged. */
+    FY_IS_UP = 17,         /* The process is up already. */
+    FY_CLOCK_END = 18,     /* The time would be past its end. */
+    FY_NO_ACTOR = 19,      /* There is no actor with the number that the act names. */
+    FY_FULL = 20,          /* There are as many grants as there may be. */
+    FY_NO_SUCH = 21,       /* The actor has no grant at this place. */
+    FY_NO_COPY = 22,       /* The process hasn't synced the record that is to be copied. */
+    FY_IS_MEMBER = 23,     /* The process is a member of the team already. */
+    FY_NOT_DESTROYED = 24, /* The process isn't destroyed. */
+    FY_STILL_NEEDS = 25,   /* The process lacks an acknowledged record of its team. */
+} fy_refusal;
+
+/* An audit is this and then the line of each entry. */
+#define FY_AUDIT_HEADER "{\"audit\":2}\n"
+
+/* How many bytes more than the line a buffer for fy_guard_act has room for. */
+#define FY_MOST_REPLY 128
+
+/* How many words of 64 bits have a bit for each process, the first process lowest in the first. */
+#define FY_SET_WORDS 16
+
+/* ---- The library's own calls, for other languages and for the calls below
+ *
+ * Nothing in them asks whether a guard is open or a pointer null: whoever calls them sees to it.
+ * Pointers are never null, also where a length is 0. fy_open takes a closed guard, all zeros. The
+ * guard that fy_close took is not used again. The words that fy_left fills are FY_SET_WORDS.
+ */
+uint32_t fy_open(const uint8_t *config, size_t config_length, fy_guard *guard);
+void fy_close(fy_guard guard);
+uint32_t fy_kill(fy_guard *guard, uint32_t actor, uint32_t key, const uint8_t *value, size_t value_length,
+                 uint32_t kind, uint32_t floor, uint64_t tear, uint32_t *struck, uint32_t *rule,
+                 uint64_t *named);
+uint32_t fy_up(fy_guard *guard, uint32_t actor, uint32_t process, uint32_t *refusal);
+uint32_t fy_heal(fy_guard *guard, uint32_t actor, uint32_t process, uint32_t *refusal);
+uint32_t fy_act(fy_guard *guard, const uint8_t *line, size_t line_length, uint8_t *buffer,
+                size_t buffer_length, size_t *told);
+uint32_t fy_is_destroyed(fy_guard *guard, uint32_t process);
+void fy_left(fy_guard *guard, uint64_t *left, size_t words);
+size_t fy_journal_len(fy_guard *guard);
+uint32_t fy_audit(fy_guard *guard, size_t at, uint8_t *buffer, size_t buffer_length, size_t *told);
+
+/* ---- The calls of a C program */
+
+/* Opens a guard of a cluster in which nothing happened yet, by the text of a cluster file. What the
+ * struct was is written over; where the guard isn't opened, it is closed.
+ *
+ * FY_CLOSED where a pointer is null; FY_NO_MEMORY; FY_CONFIG_TOO_LONG to FY_CONFIG_UNMET, the first
+ * that holds, where the text is no cluster file. */
+static inline fy_status fy_guard_open(const char *config, size_t length, fy_guard *guard)
+{
+    if (guard == NULL)
+        return FY_CLOSED;
+    guard->at = NULL;
+    if (config == NULL)
+        return FY_CLOSED;
+    return (fy_status)fy_open((const uint8_t *)config, length, guard);
+}
+
+/* Frees what a guard holds, and closes it; of a guard that is closed, or of null, nothing. */
+static inline void fy_guard_close(fy_guard *guard)
+{
+    fy_guard held;
+    if (guard == NULL || guard->at == NULL)
+        return;
+    held = *guard;
+    guard->at = NULL;
+    fy_close(held);
+}
+
+static inline int fy_guard_is_open(const fy_guard *guard)
+{
+    return guard != NULL && guard->at != NULL;
+}
+
+/* Orders a kill: by this actor, of the processes whose key has the value (a text that ends with a
+ * zero), by the kind, or where it is barred by a milder one down to the floor. Bit i of `tear` is
+ * 1 where a reboot keeps the unsynced write i.
+ *
+ * `*struck` is the fy_kind that struck: do that to each process of the target that isn't gone.
+ * `*rule` is the fy_rule that bars the kind that was ordered, and `*named` the number of the process
+ * (FY_NO_GRANT, FY_PROTECTED) or of the policy (FY_TOO_MANY_DESTROYED, FY_TOO_FEW_LEFT) that it
+ * names. All three are 0 after any status but FY_DONE and FY_CLOSED.
+ *
+ * In this order: FY_CLOSED, FY_ARGUMENT, FY_NAME, FY_FLOOR, FY_JOURNAL_FULL, FY_NO_MEMORY.
+ * FY_REFUSED where there is no actor with this number. */
+static inline fy_status fy_guard_kill(fy_guard *guard, uint32_t actor, fy_key key, const char *value,
+                                      fy_kind kind, fy_kind floor, uint64_t tear, uint32_t *struck,
+                                      uint32_t *rule, uint64_t *named)
+{
+    if (!fy_guard_is_open(guard) || value == NULL || struck == NULL || rule == NULL || named == NULL)
+        return FY_CLOSED;
+    return (fy_status)fy_kill(guard, actor, (uint32_t)key, (const uint8_t *)value, strlen(value),
+                              (uint32_t)kind, (uint32_t)floor, tear, struck, rule, named);
+}
+
+/* Says that a process runs again, by an actor whose role is storage. `*refusal` is the fy_refusal.
+ *
+ * In this order: FY_CLOSED, FY_JOURNAL_FULL, FY_NO_MEMORY. FY_REFUSED where it is up, gone or not
+ * there, or where the actor may not say so. */
+static inline fy_status fy_guard_up(fy_guard *guard, uint32_t actor, uint32_t process, uint32_t *refusal)
+{
+    if (!fy_guard_is_open(guard) || refusal == NULL)
+        return FY_CLOSED;
+    return (fy_status)fy_up(guard, actor, process, refusal);
+}
+
+/* Says that a process that was destroyed has every acknowledged record on its disk again, by an
+ * actor whose role is storage. `*refusal` is the fy_refusal. Statuses as of fy_guard_up. */
+static inline fy_status fy_guard_heal(fy_guard *guard, uint32_t actor, uint32_t process,
+                                      uint32_t *refusal)
+{
+    if (!fy_guard_is_open(guard) || refusal == NULL)
+        return FY_CLOSED;
+    return (fy_status)fy_heal(guard, actor, process, refusal);
+}
+
+/* Makes any act: `line` is a line of a script (docs/FORMATS.md). The line of its entry, which ends
+ * with a line feed and has no zero behind it, is written to the front of the buffer, and `*told` is
+ * how many bytes it has. It is what `faultyard guard` answers to the same line.
+ *
+ * FY_SHORT where the buffer has fewer than `length` + FY_MOST_REPLY bytes: `*told` is that sum, and
+ * nothing is done, whatever the line is. Then in this order: FY_LINE_TOO_LONG, FY_LINE_SYNTAX,
+ * FY_FLOOR, FY_JOURNAL_FULL. FY_NO_MEMORY may take the place of any of these. An act that is
+ * refused is FY_DONE: its line has the refusal. */
+static inline fy_status fy_guard_act(fy_guard *guard, const char *line, size_t length, char *buffer,
+                                     size_t buffer_length, size_t *told)
+{
+    if (!fy_guard_is_open(guard) || line == NULL || buffer == NULL || told == NULL)
+        return FY_CLOSED;
+    return (fy_status)fy_act(guard, (const uint8_t *)line, length, (uint8_t *)buffer, buffer_length,
+                             told);
+}
+
+/* Whether a process is destroyed, 1 or 0: struck by a kind that empties its disk, and not healed
+ * since. FY_CLOSED, else FY_DONE. */
+static inline fy_status fy_guard_is_destroyed(fy_guard *guard, uint32_t process, int *destroyed)
+{
+    if (!fy_guard_is_open(guard) || destroyed == NULL)
+        return FY_CLOSED;
+    *destroyed = fy_is_destroyed(guard, process) != 0;
+    return FY_DONE;
+}
+
+/* Who is left: bit p % 64 of word p / 64 is 1 where there is a process p that isn't gone for good,
+ * emptied or not. FY_CLOSED, else FY_DONE. */
+static inline fy_status fy_guard_left(fy_guard *guard, uint64_t left[FY_SET_WORDS])
+{
+    if (!fy_guard_is_open(guard) || left == NULL)
+        return FY_CLOSED;
+    fy_left(guard, left, FY_SET_WORDS);
+    return FY_DONE;
+}
+
+/* How many entries the journal has. FY_CLOSED, else FY_DONE. */
+static inline fy_status fy_guard_journal_len(fy_guard *guard, size_t *count)
+{
+    if (!fy_guard_is_open(guard) || count == NULL)
+        return FY_CLOSED;
+    *count = fy_journal_len(guard);
+    return FY_DONE;
+}
+
+/* Writes the line of the entry at a place of the journal, from 0, to the front of the buffer, and to
+ * `*told` how many bytes it has. FY_AUDIT_HEADER and these lines are the audit that `faultyard check`
+ * reads.
+ *
+ * In this order: FY_CLOSED; FY_NO_ENTRY; FY_NO_MEMORY; FY_SHORT where the buffer has fewer bytes than
+ * the line, and `*told` is how many that has. */
+static inline fy_status fy_guard_audit(fy_guard *guard, size_t at, char *buffer, size_t buffer_length,
+                                       size_t *told)
+{
+    if (!fy_guard_is_open(guard) || buffer == NULL || told == NULL)
+        return FY_CLOSED;
+    return (fy_status)fy_audit(guard, at, (uint8_t *)buffer, buffer_length, told);
+}
+
+#ifdef __cplusplus
+}
+#endif
+
+#endif

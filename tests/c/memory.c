@@ -1,0 +1,125 @@
+/* Each request for memory of each call refused in turn: the call answers FY_NO_MEMORY, and nothing changed; or it gets on
+ * without, as a reader whose scan of a line had no memory, and does what it says. */
+#define _GNU_SOURCE
+#include "faultyard.h"
+#include "told.h"
+
+extern void *__libc_malloc(size_t);
+extern void *__libc_realloc(void *, size_t);
+extern void __libc_free(void *);
+
+/* How many requests are answered before one is refused; below 0 none is. */
+static long answered = -1;
+static long live;
+
+static int refuses(void)
+{
+    return answered >= 0 && answered-- == 0;
+}
+
+void *malloc(size_t size)
+{
+    void *block = refuses() ? NULL : __libc_malloc(size);
+    live += block != NULL;
+    return block;
+}
+
+void *realloc(void *block, size_t size)
+{
+    void *moved = refuses() ? NULL : __libc_realloc(block, size);
+    live += block == NULL && moved != NULL;
+    return moved;
+}
+
+void free(void *block)
+{
+    live -= block != NULL;
+    __libc_free(block);
+}
+
+static const char *LINES[] = {
+    "{\"by\":0,\"act\":{\"form\":{\"members\":[0,2],\"policy\":0}}}",
+    "{\"by\":0,\"act\":{\"begin\":{\"payload\":\"6869\",\"team\":0}}}",
+    "{\"by\":0,\"act\":{\"deliver\":{\"message\":0}}}",
+    "{ \"act\": {\"deliver\": {\"message\": 1}}, \"by\": 0 }",
+    "{\"by\":0,\"act\":{\"sync\":{\"process\":0}}}",
+    "{\"by\":4,\"act\":{\"give\":{\"actor\":3,\"kinds\":[\"Reboot\"],\"scope\":\"all\"}}}",
+    "{\"by\":1,\"act\":{\"kill\":{\"key\":\"zoneid\",\"value\":\"z1\",\"kind\":\"KillInstantly\",\"floor\":\"Reboot\",\"tear\":0}}}",
+};
+
+static char before[100000], after[100000];
+
+/* The audit of a guard. */
+static size_t audit_of(fy_guard *guard, char *text)
+{
+    size_t count = 0, told, length = 0;
+    EQUAL(fy_guard_journal_len(guard, &count), FY_DONE);
+    for (size_t at = 0; at < count; at++) {
+        EQUAL(fy_guard_audit(guard, at, text + length, sizeof before - length, &told), FY_DONE);
+        length += told;
+    }
+    return length;
+}
+
+enum { OPEN, KILL, UP, HEAL, ACT, AUDIT, CALLS };
+
+static fy_status call(int which, fy_guard *guard, size_t line)
+{
+    char buffer[1024];
+    size_t told;
+    uint32_t refusal;
+    fy_guard other;
+    fy_status status;
+    switch (which) {
+    case OPEN:
+        status = fy_guard_open(SIX, strlen(SIX), &other);
+        fy_guard_close(&other);
+        return status;
+    case KILL:
+        return fy_guard_kill(guard, 1, FY_PROCESS, "p4", FY_REBOOT, FY_REBOOT, 0, &struck, &rule, &named);
+    case UP:
+        return fy_guard_up(guard, 0, 4, &refusal);
+    case HEAL:
+        return fy_guard_heal(guard, 0, 4, &refusal);
+    case ACT:
+        return fy_guard_act(guard, LINES[line], strlen(LINES[line]), buffer, sizeof buffer, &told);
+    default:
+        return fy_guard_audit(guard, 0, buffer, sizeof buffer, &told);
+    }
+}
+
+int main(void)
+{
+    long held = live, refused = 0, unmade = 0;
+    size_t lines = sizeof LINES / sizeof *LINES;
+    for (int which = 0; which < CALLS; which++) {
+        for (size_t line = 0; line < (which == ACT ? lines : 1); line++) {
+            for (long request = 0;; request++) {
+                fy_guard guard = open_guard(SIX);
+                for (size_t i = 0; i < (which == ACT ? line : lines); i++)
+                    EQUAL(call(ACT, &guard, i), FY_DONE);
+                size_t length = audit_of(&guard, before);
+                answered = request;
+                fy_status status = call(which, &guard, line);
+                int met = answered < 0;
+                answered = -1;
+                size_t now = audit_of(&guard, after);
+                refused += met;
+                if (met && status == FY_NO_MEMORY) {
+                    unmade++;
+                    EQUAL(now == length && memcmp(before, after, length) == 0, 1);
+                } else {
+                    EQUAL(status == FY_DONE || status == FY_REFUSED, 1);
+                    EQUAL(now > length, which != OPEN && which != AUDIT);
+                }
+                fy_guard_close(&guard);
+                EQUAL(live, held);
+                if (!met)
+                    break;
+            }
+        }
+    }
+    EQUAL(unmade > 100, 1);
+    printf("memory: %ld requests refused, %ld calls undone by it\n", refused, unmade);
+    return ended("memory");
+}
