@@ -1,1 +1,1 @@
-repeated 10000 '{"a":'; printf 1; repeated 10000 '}'
+repeated 10922 '{"a":'; printf 1; repeated 10922 '}'
