@@ -22,7 +22,7 @@ PREFIX ?= /usr/local
 BUILT := crates/faultyard/out/faultyard
 KIT = $(dir $(shell rt doc))
 
-.PHONY: build run lib merged test format swarm-seeds refused-memory wrong-bodies try-redis look install bench clean
+.PHONY: build run lib merged test format swarm-seeds refused-memory wrong-bodies try-redis look install installed bench clean
 
 # `rt run` proves what changed, builds the program beside its crate and runs it once.
 build:
@@ -92,6 +92,10 @@ look: build
 	tests/show/look bin/faultyard
 
 install: build lib
+	$(MAKE) --no-print-directory installed
+
+# Puts into place what stands in bin.
+installed:
 	mkdir -p $(addprefix $(DESTDIR)$(PREFIX)/,bin include lib/pkgconfig)
 	cp bin/faultyard $(DESTDIR)$(PREFIX)/bin/faultyard
 	cp include/faultyard.h $(DESTDIR)$(PREFIX)/include/faultyard.h
