@@ -1,5 +1,5 @@
 -- which entry acknowledged a record
-use Rattle.std.proofs.Common.{◌≡◌, ◌∙◌, ◌<◌, ◌≤◌, ◌+◌, ◌==◌, ◌&&◌, ◌||◌, ℕ, Bool, true, false, not, inl, inr, Option, Some, None, option_map, is_some, List, [], ◌∷◌, ◌++◌, length, length-append, length-set, take, get_or, get_or-set_same, get_or-set_other, slice_get, slice_set, nat_lt, refl, sym, subst, ap, ap₂, arith, lt-ltb, if◌then◌else◌}
+use Rattle.std.proofs.Common.{◌≡◌, ◌∙◌, ◌<◌, ◌≤◌, ◌+◌, ◌==◌, ◌&&◌, ◌||◌, ℕ, Bool, true, false, inl, inr, Option, Some, None, option_map, is_some, List, [], ◌∷◌, ◌++◌, length, length-append, length-set, take, get_or, slice_get, slice_set, nat_lt, refl, sym, subst, ap, ap₂, arith, lt-ltb, if◌then◌else◌}
 use Rattle.std.specs.Prelude.{IsSomeAnd, option_and_then}
 use Rattle.std.specs.List.{list_all}
 use Rattle.std.specs.Option.{option_map_or}

@@ -86,8 +86,8 @@ fn note(cluster: &Cluster, entry: &Entry, acked_at: &mut Vec<Option<u32>>)
     ensures count { length acked_at.new.items ≡ length acked_at.old.items }
     ensures each { (r : ℕ) → slice_get acked_at.new.items r
         ≡ option_map (noted entry.now.at
-            (says_acked entry.now.reply && acked (history_of cluster.now) r))
-            (slice_get acked_at.old.items r) }
+        (says_acked entry.now.reply && acked (history_of cluster.now) r))
+        (slice_get acked_at.old.items r) }
 {
     if !says_acked(entry.reply) {
         return;
@@ -133,11 +133,7 @@ fn played(
 ///
 /// # Errors
 /// `AllocError` where there is no memory for it.
-pub(crate) fn kept_of(
-    alloc: Global,
-    config: &Config,
-    entries: &[Entry],
-) -> Result<Kept, AllocError>
+pub(crate) fn kept_of(alloc: Global, config: &Config, entries: &[Entry]) -> Result<Kept, AllocError>
     ensures keepers { IfOk result (λ kept. Legal config.now entries.now
         → AreKeepers config.now entries.now kept.keepers.items) }
     ensures acked { IfOk result (λ kept. Legal config.now entries.now

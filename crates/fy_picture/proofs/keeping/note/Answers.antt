@@ -1,7 +1,7 @@
-use Rattle.std.proofs.Common.{◌≡◌, ◌+◌, ◌<◌, ◌≤◌, ◌&&◌, ◌∙◌, true, length, option_map, get_or, slice_get, set, sym, subst, ap, arith}
+use Rattle.std.proofs.Common.{◌≡◌, ◌+◌, ◌<◌, ◌&&◌, ◌∙◌, length, option_map, slice_get, set, sym, subst, ap, arith}
 use Rattle.fy_cluster.specs.Course.{history_of}
 use Rattle.fy_cluster.specs.History.{acked}
-use Rattle.fy_picture.specs.Keeping.{noted, says_acked}
+use Rattle.fy_picture.specs.Keeping.{noted}
 use Rattle.fy_picture.proofs.Acking.{Notes, notes_more, notes_all}
 use Rattle.fy_picture.proofs.keeping.note.Goals as goal
 

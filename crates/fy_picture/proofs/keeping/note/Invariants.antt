@@ -1,4 +1,3 @@
-use Rattle.std.specs.Prelude.{◌&&◌}
 use Rattle.fy_cluster.specs.Course.{history_of}
 use Rattle.fy_cluster.specs.History.{acked}
 use Rattle.fy_picture.specs.Keeping.{noted}
