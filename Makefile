@@ -6,7 +6,7 @@
 #                         command-line cases, swarms of a few seeds, talks with a guard, the tools, and the C library
 #   make format           lays out each crate as the gate wants it
 #   make swarm-seeds      holds the swarms of 200 seeds on each cluster file of examples/ against the rules
-#   make refused-memory   refuses each request for memory of the short tests of commands and of shared clusters in turn
+#   make refused-memory   refuses each request for memory of the short tests of commands, acts, actors and shared clusters in turn
 #   make wrong-bodies     tries every wrong body again, which the prover has to refuse, and records those crates whose are all refused
 #   make try-redis        kills redis servers at random for a minute as a guard answers, and for a minute as was ordered, and counts
 #                         the records that were lost; it needs redis-server
@@ -22,7 +22,7 @@ PREFIX ?= /usr/local
 BUILT := crates/faultyard/out/faultyard
 KIT = $(dir $(shell rt doc))
 
-.PHONY: build run lib merged test format swarm-seeds refused-memory wrong-bodies try-redis look install bench clean
+.PHONY: build run lib merged test format swarm-seeds refused-memory wrong-bodies try-redis look install installed bench clean
 
 # `rt run` proves what changed, builds the program beside its crate and runs it once.
 build:
@@ -78,7 +78,7 @@ swarm-seeds: build
 	tests/swarm/run bin/faultyard --seeds 200
 
 refused-memory:
-	tests/refused-memory faultyard/short:: fy_cluster_tests/short::
+	tests/refused-memory faultyard/short:: fy_cluster_tests/short:: fy_cluster_tests/actors::played:: fy_cluster_tests/actors::stored::
 
 wrong-bodies:
 	tests/wrong-bodies --all --record
@@ -92,6 +92,10 @@ look: build
 	tests/show/look bin/faultyard
 
 install: build lib
+	$(MAKE) --no-print-directory installed
+
+# Puts into place what stands in bin.
+installed:
 	mkdir -p $(addprefix $(DESTDIR)$(PREFIX)/,bin include lib/pkgconfig)
 	cp bin/faultyard $(DESTDIR)$(PREFIX)/bin/faultyard
 	cp include/faultyard.h $(DESTDIR)$(PREFIX)/include/faultyard.h

@@ -32,6 +32,8 @@ for name, (result, arguments) in SHAPES.items():
     getattr(library, name).restype = result
     getattr(library, name).argtypes = arguments
 
+REFUSED, NOT_DESTROYED = 3, 24
+
 with open(sys.argv[2], "rb") as file:
     config = file.read()
 guard = Guard()
@@ -59,7 +61,10 @@ assert [library.fy_is_destroyed(guard, p) for p in range(6)] == [1, 1, 0, 0, 0, 
 left = (c.c_uint64 * 16)(*[2**64 - 1] * 16)
 library.fy_left(guard, left, 16)
 assert list(left) == [0b111100] + [0] * 15
-assert library.fy_journal_len(guard) == 3
+reason = number()
+assert library.fy_up(guard, 0, 3, reason) == 0, "process 3 was rebooted with its zone"
+assert library.fy_heal(guard, 0, 2, reason) == REFUSED and reason.value == NOT_DESTROYED
+assert library.fy_journal_len(guard) == 5
 buffer, told = c.create_string_buffer(512), size()
 assert library.fy_audit(guard, 2, buffer, 512, told) == 0 and buffer.raw[: told.value] == line
 library.fy_close(guard)

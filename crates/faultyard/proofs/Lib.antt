@@ -11,6 +11,8 @@ pub mod Loading
 pub mod Moving
 pub mod Playing
 pub mod Casting
+pub mod Fitting
+pub mod Confirming
 pub mod Swarming
 pub mod WordLemmas
 pub mod StepOnce

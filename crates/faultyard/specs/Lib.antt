@@ -8,6 +8,7 @@ pub use Rattle.fy_lines.specs.Fronts
 pub mod RunTexts
 pub mod GuardTexts
 pub mod CheckTexts
+pub mod Confirmed
 pub mod Outputs
 pub mod ShowTexts
 pub mod Swarm

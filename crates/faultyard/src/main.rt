@@ -5,6 +5,7 @@ mod audit;
 mod check;
 mod guard;
 mod judge;
+mod laws;
 mod load;
 mod run;
 mod show;

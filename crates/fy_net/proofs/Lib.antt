@@ -1,3 +1,4 @@
+pub mod Busy
 pub mod Candidates
 pub mod Chaining
 pub mod Chains

@@ -13,7 +13,7 @@ use Rattle.fy_net.specs.declared.pool.Ends.{Ends}
 use Rattle.fy_net.specs.declared.pool.Pool.{Pool}
 use Rattle.fy_net.specs.declared.slot.Slot.{Slot}
 use Rattle.fy_net.specs.Net.{process_of, is_word_from}
-use Rattle.fy_net.specs.Pool.{chain_of, chain_at, is_there, no_ends, IsFirst, IsThereOf, IsChained, IsPool, IsLike}
+use Rattle.fy_net.specs.Pool.{chain_of, chain_at, is_there, no_ends, IsFirst, IsThereOf, IsChained, IsNoted, IsPool, IsLike}
 use Rattle.fy_net.specs.Slots.{there_of, marked}
 use Rattle.fy_net.proofs.Slots.{there_first, there_pushed, rises_pushed, past_pushed, rises_kept, there_kept, one_fewer, same_marked, past_marked, some_slot}
 
@@ -29,6 +29,12 @@ chain_known processes (s ∷ slots) k lt known =
     let body = (get_or (s ∷ slots) k s).message.body in
     let is : chain_at processes (s ∷ slots) k ≡ chain_of processes body = get_or-map (λ (x : Slot). chain_of processes x.message.body) (s ∷ slots) k s 0 lt in
     omega (arith, is, chain_below processes body (known k s lt))
+
+-- the process of the message in a slot that was read
+pub known_there : (processes : ℕ) (slots : List Slot) (k : ℕ) (s : Slot) → All (λ x. process_of x.message.body < processes) slots → k < length slots → s ≡ get_or slots k s → process_of s.message.body < processes
+known_there processes slots k s known lt is =
+    let here : process_of (get_or slots k s).message.body < processes = known k s lt in
+    omega (arith, ap (λ (x : Slot). process_of x.message.body) is)
 
 -- a word's chain tells whose word it is
 pub word_of_chain : (processes p : ℕ) (body : Body) → process_of body < processes → chain_of processes body ≡ processes + p → is_word_from p body ≡ true
@@ -53,8 +59,8 @@ there_is_shorter (s ∷ ss) =
 
 pub pool_pushed : (old new : Pool) (body : Body) → IsPool old → process_of body < old.processes
     → new.slots.items ≡ old.slots.items ++ record { message = record { number = old.sent; body = body }; there = true } ∷ []
-    → new.sent ≡ old.sent + 1 → new.there ≡ old.there + 1 → new.processes ≡ old.processes → IsChained (length new.slots.items) new → IsPool new
-pool_pushed old new body pool known slots sent there processes chained =
+    → new.sent ≡ old.sent + 1 → new.there ≡ old.there + 1 → new.processes ≡ old.processes → IsChained (length new.slots.items) new → ((p : ℕ) → IsNoted new p) → IsPool new
+pool_pushed old new body pool known slots sent there processes chained noted =
     let ss = old.slots.items in
     let m : Message = record { number = old.sent; body = body } in
     let s : Slot = record { message = m; there = true } in
@@ -65,6 +71,7 @@ pool_pushed old new body pool known slots sent there processes chained =
       known = simp (slots, processes) (All-push (λ (x : Slot). process_of x.message.body < old.processes) ss s pool.known known);
       counted = omega (arith, there, pool.counted, ap length came, length_push (there_of ss) m);
       chained = chained;
+      noted = noted;
     }
 
 -- ---- what leaves
@@ -123,11 +130,11 @@ module _ (old new : List Slot) where
       go : k < length (filter (λ s. s.there) old) → is_there new k ≡ true
       go within = rw is (get_or-map (λ (x : Slot). x.there) (filter (λ s. s.there) old) k some_slot false within ∙ filter_passes (λ s. s.there) old k some_slot within)
 
-  pub kept_known : (processes : ℕ) → (k : ℕ) → new ≡ filter (λ s. s.there) old → All (λ s. process_of s.message.body < processes) old → k < length new → chain_at processes new k < processes + processes
-  kept_known processes k is known lt = chain_known processes new k lt (rw is (All-filter (λ (s : Slot). s.there) (λ (s : Slot). process_of s.message.body < processes) old known))
+  pub kept_known : (processes : ℕ) → new ≡ filter (λ s. s.there) old → All (λ s. process_of s.message.body < processes) old → All (λ s. process_of s.message.body < processes) new
+  kept_known processes is known = rw is (All-filter (λ (s : Slot). s.there) (λ (s : Slot). process_of s.message.body < processes) old known)
 
-pub pool_kept : (old new : Pool) → IsPool old → new.slots.items ≡ filter (λ s. s.there) old.slots.items → new.there ≡ old.there → new.sent ≡ old.sent → new.processes ≡ old.processes → IsChained (length new.slots.items) new → IsPool new
-pool_kept old new pool slots there sent processes chained =
+pub pool_kept : (old new : Pool) → IsPool old → new.slots.items ≡ filter (λ s. s.there) old.slots.items → new.there ≡ old.there → new.sent ≡ old.sent → new.processes ≡ old.processes → IsChained (length new.slots.items) new → ((p : ℕ) → IsNoted new p) → IsPool new
+pool_kept old new pool slots there sent processes chained noted =
     let ss = old.slots.items in
     let same : there_of new.slots.items ≡ there_of ss = ap there_of slots ∙ there_kept ss in
     record {
@@ -136,6 +143,7 @@ pool_kept old new pool slots there sent processes chained =
       known = simp (slots, processes) (All-filter (λ (s : Slot). s.there) (λ (s : Slot). process_of s.message.body < old.processes) ss pool.known);
       counted = omega (arith, there, pool.counted, ap length same);
       chained = chained;
+      noted = noted;
     }
 
 -- ---- one that leaves
@@ -145,8 +153,8 @@ pub slot_there : (ss : List Slot) (place : ℕ) (d : Slot) → place < length ss
 slot_there ss place d within there = sym (get_or-map (λ (x : Slot). x.there) ss place d false within) ∙ there
 
 pub pool_left : (old new : Pool) (place : ℕ) (s : Slot) → IsPool old → place < length old.slots.items → s ≡ get_or old.slots.items place s → is_there old.slots.items place ≡ true
-    → new.slots.items ≡ set old.slots.items place (marked s) → new.there ≡ old.there - 1 → new.sent ≡ old.sent → new.processes ≡ old.processes → IsChained (length new.slots.items) new → IsPool new
-pool_left old new place s pool within is there slots count sent processes chained =
+    → new.slots.items ≡ set old.slots.items place (marked s) → new.there ≡ old.there - 1 → new.sent ≡ old.sent → new.processes ≡ old.processes → IsChained (length new.slots.items) new → ((p : ℕ) → IsNoted new p) → IsPool new
+pool_left old new place s pool within is there slots count sent processes chained noted =
     let ss = old.slots.items in
     let here : process_of (get_or ss place s).message.body < old.processes = pool.known place s within in
     let fewer : length (there_of ss) ≡ length (there_of (set ss place (marked s))) + 1 = one_fewer ss place s within (slot_there ss place s within there) ∙ ap (λ x. length (there_of (set ss place (marked x))) + 1) (sym is) in
@@ -156,6 +164,7 @@ pool_left old new place s pool within is there slots count sent processes chaine
       known = simp (slots, processes) (All-set (λ (x : Slot). process_of x.message.body < old.processes) ss place (marked s) (omega (arith, ap (λ (x : Slot). process_of x.message.body) is)) pool.known);
       counted = omega (arith, count, pool.counted, fewer, ap (λ xs. length (there_of xs)) slots);
       chained = chained;
+      noted = noted;
     }
 
 -- ---- words

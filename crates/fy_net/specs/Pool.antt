@@ -1,7 +1,9 @@
 -- the pool of messages, and the chains that lead through its slots
-use Rattle.std.specs.Prelude.{◌≡◌, ℕ, ◌+◌, ◌<◌, ◌≤◌, min, Bool, true, false, List, length, map, slice_index, slice_index_or, slice_set, Option, Some, None, vec_len, ◌⊎◌}
+use Rattle.std.specs.Prelude.{◌≡◌, ℕ, ◌+◌, ◌<◌, ◌≤◌, min, Bool, true, false, ◌&&◌, ◌||◌, nat_lt, List, length, map, slice_index, slice_index_or, slice_set, Option, Some, None, is_some, vec_len, ◌⊎◌}
 use Rattle.std.specs.List.{All}
 use Rattle.std.specs.Vec.{vec_capacity}
+use Rattle.std.specs.FinSet as sets
+use Rattle.fy_locality.specs.declared.TheConstants.{MOST_PROCESSES}
 use Rattle.fy_net.specs.declared.message.Body.{Body}
 use Rattle.fy_net.specs.declared.message.Body.TheVariants.{Store, Synced}
 use Rattle.fy_net.specs.declared.pool.Ends.{Ends}
@@ -66,6 +68,11 @@ abbrev pub IsReachedOf : ℕ → List Slot → ℕ → Bool → ℕ → Type 0
 IsReachedOf processes slots p up k =
     IsThereOf processes slots (processes + p) k ⊎ (IsThereOf processes slots p k × (up ≡ true))
 
+-- process p isn't clogged, and a message of it is there that finds it up where it has to be
+abbrev pub IsFreeOf : List ℕ → ℕ → (ℕ → Bool) → ℕ → List Slot → ℕ → ℕ → Type 0
+IsFreeOf until now up processes slots p k =
+    (nat_lt now (slice_index until p) ≡ false) × IsReachedOf processes slots p (up p) k
+
 -- among the first n slots each link names the next slot of the same chain
 abbrev pub AreLinked : ℕ → ℕ → List Slot → List (Option ℕ) → Type 0
 AreLinked n processes slots links = (i : ℕ) → i < n →
@@ -89,14 +96,30 @@ abbrev pub IsChained : ℕ → Pool → Type 0
 IsChained n pool =
     AreChained n pool.processes pool.slots.items pool.links.items pool.ends.items
 
+-- whether a chain has a first slot whose message is there
+abbrev pub has_first : List Ends → ℕ → Bool
+has_first ends c = is_some (slice_index_or ends c no_ends).first
+
+-- whether one of the two chains of process p has a first slot, p being a process that is there and
+-- one that a set can have
+abbrev pub is_busy : ℕ → List Ends → ℕ → Bool
+is_busy processes ends p =
+    nat_lt p MOST_PROCESSES && nat_lt p processes
+    && (has_first ends p || has_first ends (processes + p))
+
+-- process p is in the set exactly where a message of it is there
+abbrev pub IsNoted : Pool → ℕ → Type 0
+IsNoted pool p = sets.contains pool.busy p ≡ is_busy pool.processes pool.ends.items p
+
 -- numbers rise below the next one, messages are of processes that are there, those that haven't
--- left are counted, and every slot is in its chain
+-- left are counted, every slot is in its chain, and each process is noted
 pub record IsPool (pool : Pool) : Type 0 where
   pub rising : Rises 0 (messages_of pool.slots.items)
   pub past : All (λ slot. slot.message.number < pool.sent) pool.slots.items
   pub known : All (λ slot. process_of slot.message.body < pool.processes) pool.slots.items
   pub counted : pool.there ≡ length (there_of pool.slots.items)
   pub chained : IsChained (length pool.slots.items) pool
+  pub noted : (p : ℕ) → IsNoted pool p
 
 -- there is memory for n more messages
 abbrev pub HasRoom : ℕ → Pool → Type 0

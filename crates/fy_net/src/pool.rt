@@ -1,5 +1,6 @@
 //! The pool of the messages in flight, and the chains that lead through it.
 ghost use Rattle.std.specs.Prelude.{◌≡◌, ℕ, ◌+◌, ◌-◌, ◌^◌, ◌<◌, ◌≤◌, true, [], ◌∷◌, ◌++◌, length, slice_set, slice_index_or, filter, not, find, option_map, vec_len, IfOk, IfSome, IfNone, OnOk, IsOk, None};
+ghost use Rattle.std.specs.List.{All};
 ghost use Rattle.std.specs.Vec.{vec_capacity};
 ghost use Rattle.std.specs.FinSet as sets;
 ghost use Rattle.fy_net.specs.Net.{body_of, process_of, is_word_from, without};
@@ -7,12 +8,12 @@ ghost use Rattle.fy_net.specs.Places.{may_be_taken};
 ghost use Rattle.fy_net.specs.Slots.{there_of, marked, IsThereAt};
 ghost use Rattle.fy_net.specs.declared.pool.Pool.{Pool};
 ghost use Rattle.fy_net.specs.declared.slot.Slot.{Slot};
-ghost use Rattle.fy_net.specs.Pool.{chain_of, chain_at, is_there, healed, lower_of, IsFirst, IsThereOf, IsReachedOf, AreLinked, IsChained, IsPool, HasRoom, IsLike};
+ghost use Rattle.fy_net.specs.Pool.{chain_of, chain_at, is_there, healed, lower_of, IsFirst, IsThereOf, IsReachedOf, IsFreeOf, AreLinked, IsChained, IsNoted, IsPool, HasRoom, IsLike};
 
 use crate::places::lasts;
 use crate::slot::{Slot, place_there};
 use crate::{Body, Message};
-use fy_locality::{ProcId, ProcSet};
+use fy_locality::{MOST_PROCESSES, ProcId, ProcSet};
 use std::alloc::{AllocError, Global};
 
 /// The ends of a chain.
@@ -38,6 +39,8 @@ pub(crate) struct Pool {
     /// Of each process's stores, and then of each process's words.
     pub(crate) ends: Vec<Ends>,
     pub(crate) processes: u32,
+    /// The processes below 1024 of which a message is there. A set has no others.
+    pub(crate) busy: ProcSet,
 }
 
 /// The number of a message's chain.
@@ -90,6 +93,7 @@ impl Pool {
             links: Vec::new(alloc),
             ends,
             processes,
+            busy: ProcSet::empty(),
         })
     }
 
@@ -134,6 +138,7 @@ impl Pool {
             first: None,
             last: None,
         });
+        self.busy = ProcSet::empty();
         for _place in 0..self.slots.len() {
             self.attach();
         }
@@ -144,17 +149,20 @@ impl Pool {
         requires chained { IsChained (vec_len self.old.links) self.old }
         requires within { vec_len self.old.links < vec_len self.old.slots }
         requires there { is_there self.old.slots.items (vec_len self.old.links) ≡ true }
-        requires known { chain_at self.old.processes self.old.slots.items (vec_len self.old.links)
-            < vec_len self.old.ends }
+        requires known { All (λ slot. process_of slot.message.body < self.old.processes)
+            self.old.slots.items }
+        requires noted { (p : ℕ) → IsNoted self.old p }
         requires room { vec_len self.old.links < vec_capacity self.old.links }
         ensures chained { IsChained (vec_len self.old.links + 1) self.new }
-        ensures rest { self.new
-            ≡ record self.old { links = self.new.links; ends = self.new.ends } }
+        ensures noted { (p : ℕ) → IsNoted self.new p }
+        ensures rest { self.new ≡ record self.old
+            { links = self.new.links; ends = self.new.ends; busy = self.new.busy } }
         ensures len { vec_len self.new.links ≡ vec_len self.old.links + 1 }
         ensures capacity { vec_capacity self.new.links ≡ vec_capacity self.old.links }
     {
         let place = self.links.len();
-        let chain = chain(self.processes, self.slots[place].message.body);
+        let body = self.slots[place].message.body;
+        let chain = chain(self.processes, body);
         let ends = self.ends[chain];
         heal(&mut self.links, ends.last, place);
         self.links.push_reserved(None);
@@ -162,6 +170,28 @@ impl Pool {
             first: ends.first.or(Some(place)),
             last: Some(place),
         };
+        self.note(body.process());
+    }
+
+    /// Puts a process into the set of the busy or takes it out, as its chains say.
+    fn note(&mut self, p: ProcId)
+        requires wide { vec_len self.old.ends ≡ self.old.processes + self.old.processes }
+        requires process { p.0 < self.old.processes }
+        requires others { (q : ℕ) → (q ≡ p.0 → ⊥) → IsNoted self.old q }
+        ensures noted { (q : ℕ) → IsNoted self.new q }
+        ensures rest { self.new ≡ record self.old { busy = self.new.busy } }
+    {
+        // no set has a process from 1024 on
+        self.busy.invariant();
+        if p.0 >= MOST_PROCESSES {
+            return;
+        }
+        let word = self.ends[self.processes as usize + p.0 as usize].first;
+        if lower(self.ends[p.0 as usize].first, word).is_some() {
+            self.busy.put(p);
+        } else {
+            self.busy.drop_one(p);
+        }
     }
 
     /// Puts a message behind all others and answers its number.
@@ -261,6 +291,7 @@ impl Pool {
         let chain = chain(self.processes, body);
         if self.ends[chain].first == Some(place) {
             self.ends[chain].first = self.next_there(place);
+            self.note(body.process());
         }
         body
     }
@@ -297,7 +328,23 @@ impl Pool {
         }
     }
 
-    /// The number of the first message that isn't clogged and finds its process up.
+    /// The first place of a message of a process that isn't clogged and that it finds up where it
+    /// has to be.
+    fn free_of(&self, p: ProcId, until: &[u64], now: u64, up: &ProcSet) -> Option<usize>
+        requires pool { IsPool self.now }
+        requires process { p.0 < self.now.processes }
+        ensures { IsFirst (IsFreeOf until.now now (sets.contains up.now) self.now.processes
+            self.now.slots.items p.0) 0 (vec_len self.now.slots) result }
+    {
+        if !lasts(until, now, p) {
+            self.first_of(p, up.contains(p))
+        } else {
+            None
+        }
+    }
+
+    /// The number of the first message that isn't clogged and finds its process up. Only the
+    /// processes of which a message is there are asked, and those from 1024 on.
     pub(crate) fn first_free(&self, until: &[u64], now: u64, up: &ProcSet) -> Option<u64>
         requires pool { IsPool self.now }
         requires clogs { length until.now ≡ self.now.processes }
@@ -306,11 +353,11 @@ impl Pool {
             (there_of self.now.slots.items)) }
     {
         let mut first = None;
-        for p in 0..self.processes {
-            let p = ProcId(p);
-            if !lasts(until, now, p) {
-                first = lower(first, self.first_of(p, up.contains(p)));
-            }
+        for p in self.busy.iter() {
+            first = lower(first, self.free_of(p, until, now, up));
+        }
+        for beyond in MOST_PROCESSES..self.processes {
+            first = lower(first, self.free_of(ProcId(beyond), until, now, up));
         }
         match first {
             Some(place) => Some(self.slots[place].message.number),

@@ -1,13 +1,16 @@
-use Rattle.std.proofs.Common.{◌≡◌, ◌∙◌, ◌+◌, ◌<◌, length, filter, replicate, refl, ap, rules, arith}
+use Rattle.std.proofs.Common.{◌≡◌, ℕ, ◌∙◌, ◌+◌, ◌<◌, length, filter, replicate, refl, ap, rules, arith}
+use Rattle.std.specs.FinSet as sets
 use Rattle.std.specs.List.{All}
+use Rattle.std.specs.Ordering.{nat_cmp}
 use Rattle.std.specs.Prelude.{vec_len}
 use Rattle.std.specs.Vec.{vec_capacity}
 use Rattle.std.proofs.lemmas.Fn.{filter_same}
 use Rattle.fy_net.specs.declared.pool.Pool.{Pool}
 use Rattle.fy_net.specs.declared.slot.Slot.{Slot}
 use Rattle.fy_net.specs.Net.{process_of}
-use Rattle.fy_net.specs.Pool.{no_ends, AreChained, IsChained}
+use Rattle.fy_net.specs.Pool.{no_ends, is_busy, AreChained, IsChained}
 use Rattle.fy_net.specs.Slots.{there_of}
+use Rattle.fy_net.proofs.Busy.{noted_none}
 use Rattle.fy_net.proofs.Chaining.{chained_none}
 use Rattle.fy_net.proofs.Slots.{there_kept}
 use Rattle.fy_net.proofs.Pooling.{kept_there, kept_known, pool_kept}
@@ -19,7 +22,8 @@ loop-place-init c =
     let wide : vec_len pool.ends ≡ pool.processes + pool.processes = omega (arith, pool.ends.ok.0, c.requires.chained.wide) in
     let ends : c.fill.new.self.items ≡ replicate (pool.processes + pool.processes) no_ends = rw wide at (c.fill.ensures.items (λ y is. search rules)) in
     let chained : AreChained 0 pool.processes c.retain.new.self.items c.clear.new.self.items c.fill.new.self.items = rw c.clear.ensures.items (chained_none pool.processes c.retain.new.self.items c.fill.new.self.items ends) in
-    (chained, refl, refl, refl, refl, refl)
+    let noted : (p : ℕ) → sets.contains c.empty-self.result p ≡ is_busy pool.processes c.fill.new.self.items p = λ p. ap (λ (s : sets.FinSet nat_cmp). sets.contains s p) c.empty-self.ensures ∙ noted_none pool.processes (pool.processes + pool.processes) p c.fill.new.self.items ends in
+    (chained, refl, refl, refl, refl, refl, noted)
 
 -- how many slots are in their chains
 pub attach-requires-clause-chained : goal.attach-requires-clause-chained
@@ -46,7 +50,10 @@ attach-requires-clause-known c =
     let left : c.retain.new.self.items ≡ filter (λ (s : Slot). s.there) c.args.self.now.slots.items = filter_same _ (λ (s : Slot). s.there) _ (λ s b f' called. search rules) _ _ c.retain.ensures.filtered in
     let slots : pool.slots.items ≡ filter (λ (s : Slot). s.there) c.args.self.now.slots.items = ap (λ v. v.items) c.loop-place.invariant.1 ∙ left in
     let known : All (λ (s : Slot). process_of s.message.body < pool.processes) c.args.self.now.slots.items = rw c.loop-place.invariant.4 c.requires.known in
-    omega (arith, kept_known c.args.self.now.slots.items pool.slots.items pool.processes (vec_len pool.links) slots known (omega (arith, attach-requires-clause-within c, pool.slots.ok.0)), c.loop-place.invariant.0.wide, pool.ends.ok.0)
+    kept_known c.args.self.now.slots.items pool.slots.items pool.processes slots known
+
+pub attach-requires-clause-noted : goal.attach-requires-clause-noted
+attach-requires-clause-noted c = c.loop-place.invariant.6
 
 pub attach-requires-clause-room : goal.attach-requires-clause-room
 attach-requires-clause-room c =
@@ -60,7 +67,7 @@ loop-place-preserved c =
     let was = c.loop-place.invariant in
     let links : vec_len c.loop-place.self.links ≡ c.loop-place._place = omega (arith, was.0.many, c.loop-place.self.links.ok.0) in
     let chained : IsChained (c.loop-place._place + 1) c.attach.new.self = rw links at c.attach.ensures.chained in
-    (chained, ap (λ (p : Pool). p.slots) rest ∙ was.1, ap (λ (p : Pool). p.there) rest ∙ was.2, ap (λ (p : Pool). p.sent) rest ∙ was.3, ap (λ (p : Pool). p.processes) rest ∙ was.4, c.attach.ensures.capacity ∙ was.5)
+    (chained, ap (λ (p : Pool). p.slots) rest ∙ was.1, ap (λ (p : Pool). p.there) rest ∙ was.2, ap (λ (p : Pool). p.sent) rest ∙ was.3, ap (λ (p : Pool). p.processes) rest ∙ was.4, c.attach.ensures.capacity ∙ was.5, c.attach.ensures.noted)
 
 pub returns-clause-same : goal.returns-clause-same
 returns-clause-same c =
@@ -74,7 +81,7 @@ returns-clause-pool c =
     let left : c.retain.new.self.items ≡ filter (λ (s : Slot). s.there) c.args.self.now.slots.items = filter_same _ (λ (s : Slot). s.there) _ (λ s b f' called. search rules) _ _ c.retain.ensures.filtered in
     let all : c.loop-place._place ≡ length pool.slots.items = omega (arith, c.loop-place-test.false, c.loop-place.auto._place-end, c.len-place-end.ensures, ap vec_len was.1, pool.slots.ok.0) in
     let chained : IsChained (length pool.slots.items) pool = rw all at was.0 in
-    pool_kept c.args.self.now pool c.requires (ap (λ v. v.items) was.1 ∙ left) was.2 was.3 was.4 chained
+    pool_kept c.args.self.now pool c.requires (ap (λ v. v.items) was.1 ∙ left) was.2 was.3 was.4 chained was.6
 
 pub returns-clause-like : goal.returns-clause-like
 returns-clause-like c =

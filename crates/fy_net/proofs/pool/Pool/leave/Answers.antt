@@ -1,12 +1,16 @@
-use Rattle.std.proofs.Common.{◌≡◌, ◌≢◌, ◌∙◌, ◌-◌, ◌<◌, length, get_or, set, Some, refl, sym, ap, arith}
+use Rattle.std.proofs.Common.{◌≡◌, ◌≢◌, ℕ, ◌∙◌, ◌-◌, ◌<◌, length, get_or, set, Some, refl, sym, ap, arith}
+use Rattle.std.specs.FinSet as sets
 use Rattle.std.specs.Prelude.{vec_len}
 use Rattle.std.specs.Vec.{with_item}
 use Rattle.std.proofs.lemmas.List.{get_or_default, length-set}
 use Rattle.fy_net.specs.declared.pool.Ends.{Ends}
-use Rattle.fy_net.specs.Pool.{chain_at, no_ends, AreChained}
+use Rattle.fy_net.specs.declared.pool.Pool.{Pool}
+use Rattle.fy_net.specs.Net.{process_of}
+use Rattle.fy_net.specs.Pool.{chain_at, is_busy, no_ends, AreChained}
 use Rattle.fy_net.specs.Slots.{marked}
+use Rattle.fy_net.proofs.Busy.{busy_elsewhere}
 use Rattle.fy_net.proofs.Chaining.{chain_there, left_linked, left_behind, left_first, marked_chains, marked_stays, marked_left, head_is, head_other}
-use Rattle.fy_net.proofs.Pooling.{chain_known, slot_there, pool_left}
+use Rattle.fy_net.proofs.Pooling.{chain_known, known_there, slot_there, pool_left}
 use Rattle.fy_net.proofs.Slots.{one_fewer}
 use Rattle.fy_net.proofs.pool.Pool.leave.Goals as goal
 
@@ -28,6 +32,19 @@ next_there-requires-clause-linked c =
     let chained : AreChained (vec_len pool.slots) pool.processes ss pool.links.items pool.ends.items = rw n at c.requires.pool.chained in
     left_linked (vec_len pool.slots) pool.processes ss (set ss c.args.place (marked s)) pool.links.items pool.ends.items chained c.args.place c.requires.within
     (marked_chains ss c.args.place s is pool.processes) (marked_stays ss c.args.place s is) (marked_left ss c.args.place s is within)
+
+pub note-requires-clause-others : goal.note-requires-clause-others
+note-requires-clause-others c =
+    let pool = c.args.self.now in
+    let s = c.index.result.now in
+    let e = c.index_mut-then-eq.result.now in
+    let known : process_of s.message.body < pool.processes = known_there pool.processes pool.slots.items c.args.place s c.requires.pool.known (omega (arith, pool.slots.ok.0, c.requires.within)) c.index.ensures in
+    λ q other. c.requires.pool.noted q ∙ sym (rw c.chain-chain.ensures (busy_elsewhere pool.processes pool.ends.items s.message.body (record e { first = c.next_there.result }) q known (λ same. other (same ∙ sym c.process.ensures))))
+
+pub note-requires-clause-process : goal.note-requires-clause-process
+note-requires-clause-process c =
+    let pool = c.args.self.now in
+    omega (arith, c.process.ensures, known_there pool.processes pool.slots.items c.args.place c.index.result.now c.requires.pool.known (omega (arith, pool.slots.ok.0, c.requires.within)) c.index.ensures)
 
 pub returns-then-eq-clause-pool : goal.returns-then-eq-clause-pool
 returns-then-eq-clause-pool c =
@@ -52,7 +69,9 @@ returns-then-eq-clause-pool c =
     let done = left_first (vec_len pool.slots) pool.processes ss new pool.links.items pool.ends.items chained place c.requires.within same (marked_stays ss place s is) (marked_left ss place s is within) e c.next_there.result known e_is head c.next_there.ensures in
     let all : vec_len pool.slots ≡ length new = sym n ∙ sym (length-set ss place (marked s)) in
     let chained' : AreChained (length new) pool.processes new pool.links.items (set pool.ends.items c.chain-chain.result (record e { first = c.next_there.result })) = rw own (rw all at done) in
-    pool_left pool (record pool { slots = with_item pool.slots place (marked s); there = pool.there - 1; ends = with_item pool.ends c.chain-chain.result (record e { first = c.next_there.result }) }) place s c.requires.pool within is c.requires.there refl refl refl refl chained'
+    let noted : (q : ℕ) → sets.contains c.note.new.self.busy q ≡ is_busy pool.processes (set pool.ends.items c.chain-chain.result (record e { first = c.next_there.result })) q =
+    λ q. c.note.ensures.noted q ∙ ap (λ (x : Pool). is_busy x.processes x.ends.items q) c.note.ensures.rest in
+    rw c.note.ensures.rest (pool_left pool (record pool { slots = with_item pool.slots place (marked s); there = pool.there - 1; ends = with_item pool.ends c.chain-chain.result (record e { first = c.next_there.result }); busy = c.note.new.self.busy }) place s c.requires.pool within is c.requires.there refl refl refl refl chained' noted)
 
 pub returns-else-eq-clause-pool : goal.returns-else-eq-clause-pool
 returns-else-eq-clause-pool c =
@@ -75,4 +94,4 @@ returns-else-eq-clause-pool c =
     let done = left_behind (vec_len pool.slots) pool.processes ss new pool.links.items pool.ends.items chained place c.requires.within same (marked_stays ss place s is) (marked_left ss place s is within) other in
     let all : vec_len pool.slots ≡ length new = sym n ∙ sym (length-set ss place (marked s)) in
     let chained' : AreChained (length new) pool.processes new pool.links.items pool.ends.items = rw all at done in
-    pool_left pool (record pool { slots = with_item pool.slots place (marked s); there = pool.there - 1 }) place s c.requires.pool within is c.requires.there refl refl refl refl chained'
+    pool_left pool (record pool { slots = with_item pool.slots place (marked s); there = pool.there - 1 }) place s c.requires.pool within is c.requires.there refl refl refl refl chained' c.requires.pool.noted
