@@ -1,3 +1,4 @@
+mod Acking
 mod Afters
 mod Following
 mod Lines

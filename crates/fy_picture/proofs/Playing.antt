@@ -1,17 +1,20 @@
 -- a journal whose acts are made once more
-use Rattle.std.proofs.Common.{◌≡◌, ◌∙◌, ◌<◌, ◌≤◌, ◌+◌, ℕ, cond, List, [], ◌∷◌, ◌++◌, length, length-append, take, drop, get_or, slice_get, Option, Some, None, is_some, refl, sym, subst, ap, arith}
-use Rattle.std.specs.Prelude.{option_to_list}
-use Rattle.std.proofs.lemmas.List.{take-append-drop}
+use Rattle.std.proofs.Common.{◌≡◌, ◌∙◌, ◌<◌, ◌≤◌, ◌+◌, ℕ, cond, List, [], ◌∷◌, ◌++◌, length, length-append, take, drop, get_or, replicate, slice_get, Option, Some, None, is_some, option_map, ◌&&◌, refl, sym, subst, ap, arith}
+use Rattle.std.specs.Prelude.{option_to_list, IsSomeAnd}
+use Rattle.std.proofs.lemmas.Option.{slice_get-get_or}
+use Rattle.std.proofs.lemmas.List.{take-append-drop, get_or-replicate, length-replicate}
 use Rattle.fy_locality.specs.declared.ProcId.{ProcId}
 use Rattle.fy_acts.specs.declared.act.Act.{Act}
 use Rattle.fy_acts.specs.declared.reply.Reply.{Reply}
 use Rattle.fy_acts.specs.declared.entry.Entry.{Entry}
 use Rattle.fy_cluster.specs.Setup.{Setup}
 use Rattle.fy_cluster.specs.Course.{Course, entered, history_of}
-use Rattle.fy_cluster.specs.History.{History, begins, records, moment, after, history, keeper}
+use Rattle.fy_cluster.specs.History.{History, begins, records, moment, after, history, acked, keeper}
 use Rattle.fy_cluster.specs.Replies.{Legal, IsNext, reply}
 use Rattle.fy_cluster.specs.Survival.{FrontsLegal, NextLegal}
-use Rattle.fy_picture.proofs.Afters.{one_more, after_next}
+use Rattle.fy_picture.specs.Keeping.{IsAckedAt, says_acked, noted}
+use Rattle.fy_picture.proofs.Afters.{one_more, after_next, after-append}
+use Rattle.fy_picture.proofs.Acking.{acked_at_more, never, some_and-map}
 
 -- ---- how many records
 
@@ -81,6 +84,44 @@ never_full fronts next c entries i e course l is full plays legal =
     let room : length (take i entries) < c.limit = (next_of fronts next c entries i e l is legal).0 in
     let full_at : c.limit ≤ length (take i entries) = subst (λ (x : Course). x.setup.limit ≤ length x.journal) (plays legal) full in
     omega arith
+
+-- ---- who acknowledged
+
+-- what a loop over the entries keeps: the cluster has those so far, and of so many records it is noted which of them acknowledged them
+pub record PlaysOn (c : Setup) (entries : List Entry) (size i : ℕ) (course : Course) (places : List (Option ℕ)) : Type 0 where
+  pub plays : Plays c entries i course
+  pub count : length places ≡ size
+  pub acked : Legal c entries → (r : ℕ) → r < size → IsSomeAnd (slice_get places r) (IsAckedAt c (take i entries) r)
+
+-- before any entry nothing is noted
+pub none_noted : (c : Setup) (entries : List Entry) (size : ℕ) (places : List (Option ℕ)) → places ≡ replicate size None → (r : ℕ) → r < size → IsSomeAnd (slice_get places r) (IsAckedAt c (take 0 entries) r)
+none_noted c entries size places is r l =
+    let n : length places ≡ size = ap length is ∙ length-replicate size None in
+    let none : slice_get places r ≡ Some None = slice_get-get_or places r None (omega arith) ∙ ap (λ xs. Some (get_or xs r None)) is ∙ ap Some (get_or-replicate size r None None l) in
+    subst (λ o. IsSomeAnd o (IsAckedAt c [] r)) (sym none) (never c r)
+
+-- the next act makes the next entry, and what it acknowledges is noted
+pub plays_on : FrontsLegal → NextLegal → (c : Setup) (entries : List Entry) (size i : ℕ) (e : Entry) (act : Act) (old new : Course) (olds news : List (Option ℕ)) → i < length entries → e ≡ get_or entries i e → act ≡ e.act
+    → new ≡ entered old e.by act → length news ≡ length olds
+    → ((r : ℕ) → slice_get news r ≡ option_map (noted e.at (says_acked e.reply && acked (history_of new) r)) (slice_get olds r))
+    → PlaysOn c entries size i old olds → PlaysOn c entries size (i + 1) new news
+plays_on fronts next c entries size i e act old new olds news l is same made size_is noted_is k = record {
+  plays = plays_next fronts next c entries i e act old new l is same made k.plays;
+  count = size_is ∙ k.count;
+  acked = λ legal r within.
+      let may = (next_of fronts next c entries i e l is legal).1 in
+      let place : e.at ≡ length (take i entries) = may.place ∙ length-history c (take i entries) in
+      let with = one_more entries i e l is in
+      let course : new ≡ course_at c entries (i + 1) = plays_next fronts next c entries i e act old new l is same made k.plays legal in
+      let then : history_of new ≡ moment c (history c (take i entries)) e ∷ history c (take i entries) =
+      ap history_of course ∙ ap (history c) with ∙ after-append c [] (take i entries) (e ∷ []) in
+      subst (λ xs. IsSomeAnd (slice_get news r) (IsAckedAt c xs r)) (sym with)
+      (some_and-map (noted e.at (says_acked e.reply && acked (moment c (history c (take i entries)) e ∷ history c (take i entries)) r))
+      (IsAckedAt c (take i entries) r) (IsAckedAt c (take i entries ++ e ∷ []) r)
+      (acked_at_more c (take i entries) e r may place) (slice_get olds r) (slice_get news r)
+      (noted_is r ∙ ap (λ h. option_map (noted e.at (says_acked e.reply && acked h r)) (slice_get olds r)) then)
+      (k.acked legal r within));
+}
 
 -- ---- the keepers
 

@@ -1,9 +1,11 @@
--- which process keeps each record behind a journal
-use Rattle.std.specs.Prelude.{◌≡◌, ◌<◌, ℕ, List, length, min, slice_get, Option, Some}
+-- which process keeps each record behind a journal, and which entry acknowledged it
+use Rattle.std.specs.Prelude.{◌≡◌, ◌<◌, ℕ, Bool, false, List, length, min, take, nat_lt, slice_get, Option, Some, None, IsSomeAnd, if◌then◌else◌}
 use Rattle.fy_locality.specs.declared.ProcId.{ProcId}
+use Rattle.fy_acts.specs.declared.reply.Reply.{Reply}
+use Rattle.fy_acts.specs.declared.reply.Reply.TheVariants.{Marked}
 use Rattle.fy_acts.specs.declared.entry.Entry.{Entry}
 use Rattle.fy_cluster.specs.Setup.{Setup}
-use Rattle.fy_cluster.specs.History.{history, records, keeper}
+use Rattle.fy_cluster.specs.History.{some_is, history, records, acked, keeper}
 use Rattle.fy_picture.specs.declared.TheConstants.{MOST_KEPT}
 
 -- of each of the first records, by number, its keeper in the history of the whole journal: of an
@@ -13,3 +15,25 @@ pub record AreKeepers (c : Setup) (journal : List Entry) (keepers : List (Option
     pub count : length keepers ≡ min (length (records (history c journal))) MOST_KEPT
     pub each : (r : ℕ) → r < length keepers
         → slice_get keepers r ≡ Some (keeper c (history c journal) r)
+
+-- the entry at this place acknowledged the record: of so many entries, whatever their number, the
+-- record is acknowledged exactly where that one is among them; where no entry did, it never is
+pub record IsAckedAt (c : Setup) (journal : List Entry) (r : ℕ) (place : Option ℕ) : Type 0 where
+  pub since : (count : ℕ)
+      → acked (history c (take count journal)) r ≡ some_is (λ at. nat_lt at count) place
+
+-- of each of the first records, by number, the place of the entry that acknowledged it
+pub record AreAckedAt (c : Setup) (journal : List Entry) (places : List (Option ℕ)) : Type 0 where
+  pub count : length places ≡ min (length (records (history c journal))) MOST_KEPT
+  pub each : (r : ℕ) → r < length places → IsSomeAnd (slice_get places r) (IsAckedAt c journal r)
+
+-- the reply says that a record is acknowledged now
+abbrev pub says_acked : Reply → Bool
+says_acked (Marked acked) = acked
+says_acked _ = false
+
+-- the place noted of a record behind one more entry: the one that was, or else that of the entry
+-- where the record is acknowledged now
+abbrev pub noted : (at : ℕ) → (is_acked : Bool) → Option ℕ → Option ℕ
+noted at is_acked (Some place) = Some place
+noted at is_acked None = if is_acked then Some at else None

@@ -10,7 +10,7 @@ use Rattle.fy_picture.specs.declared.bearing.Line.{Line}
 use Rattle.fy_picture.specs.Rows.{IsRow}
 use Rattle.fy_cluster.specs.Replies.{Legal}
 use Rattle.fy_picture.specs.Bearing.{IsLine}
-use Rattle.fy_picture.specs.Keeping.{AreKeepers}
+use Rattle.fy_picture.specs.Keeping.{AreKeepers, AreAckedAt}
 
 -- a row for each process
 pub record AreRows (c : Setup) (journal : List Entry) (width columns : ℕ)
@@ -27,10 +27,12 @@ pub record AreLines (c : Setup) (journal : List Entry) (width columns : ℕ)
       → IsSomeAnd (slice_get lines place) (λ line. IsLine c journal width columns P line.counts.items)
 
 -- a picture of the journal: few columns that have room for each entry, a row for each process, a
--- line for each policy, and of a legal journal the keepers of its records
+-- line for each policy, and of a legal journal the keepers of its records and the entries that
+-- acknowledged them
 pub record IsPicture (c : Setup) (journal : List Entry) (picture : Picture) : Type 0 where
   pub few : picture.columns ≤ MOST_COLUMNS
   pub room : length journal ≤ picture.columns * picture.width
   pub rows : AreRows c journal picture.width picture.columns picture.rows.items
   pub lines : AreLines c journal picture.width picture.columns picture.lines.items
   pub keepers : Legal c journal → AreKeepers c journal picture.keepers.items
+  pub acked : Legal c journal → AreAckedAt c journal picture.acked_at.items

@@ -8,7 +8,7 @@ ghost use Rattle.fy_picture.specs.Rows.{IsRow};
 
 use crate::MOST_COLUMNS;
 use crate::bearing::{Line, lines_of};
-use crate::keeping::keepers_of;
+use crate::keeping::{Kept, kept_of};
 use crate::life::Life;
 use crate::row::Row;
 use fy_cluster::Config;
@@ -30,6 +30,8 @@ pub struct Picture {
     /// Of each record that was begun, by its number and up to `MOST_KEPT` of them, which process
     /// keeps it at the end.
     pub keepers: Vec<Option<ProcId>>,
+    /// Of each of these records at which entry it was acknowledged.
+    pub acked_at: Vec<Option<u32>>,
 }
 
 /// The row of a process, in so many columns of so many entries.
@@ -110,12 +112,13 @@ pub fn draw(alloc: Global, config: &Config, entries: &[Entry]) -> Result<Picture
     let columns = columns_of(entries.len(), width);
     let rows = rows_of(alloc, config.map(), entries, width, columns)?;
     let lines = lines_of(alloc, config.map(), config.policies(), &rows, columns)?;
-    let keepers = keepers_of(alloc, config, entries)?;
+    let Kept { keepers, acked_at } = kept_of(alloc, config, entries)?;
     Ok(Picture {
         width,
         columns,
         rows,
         lines,
         keepers,
+        acked_at,
     })
 }

@@ -1,4 +1,4 @@
-//! The glyphs of orders at those whom they name, and the marks of ticks and acknowledged records.
+//! The glyphs of orders at those whom they name.
 use crate::layout::{ROW, middle_of, y_of};
 use crate::words::write_order;
 use fy_cluster::Config;
@@ -170,37 +170,4 @@ pub(crate) fn write_glyphs(
         }
     }
     write_column(text, entries, &mut hits, rows, column)
-}
-
-/// A mark below the rows for each word that acknowledges a record, and one at the head for each
-/// tick.
-pub(crate) fn write_marks(
-    text: &mut String,
-    entries: &[Entry],
-    rows: usize,
-    width: usize,
-) -> Result<(), AllocError> {
-    for (place, entry) in entries.iter().enumerate() {
-        let column = place.checked_div(width).unwrap_or(0);
-        let x = middle_of(column);
-        let at = entry.at;
-        match entry.reply {
-            Reply::Marked { acked: true } => {
-                let y = y_of(rows.saturating_add(1)).saturating_add(ROW / 2);
-                write!(text, "<path class=\"acked\" data-entry=\"{at}\" ")?;
-                write!(text, "d=\"M{x} {y}m-4 0l3 4 6-8\"><title>entry {at}: ")?;
-                text.push_str("a record is acknowledged</title></path>\n")?;
-            }
-            Reply::Time { now } => {
-                let y = y_of(0).saturating_sub(12);
-                write!(
-                    text,
-                    "<path class=\"tick\" data-entry=\"{at}\" d=\"M{x} {y}v8\">"
-                )?;
-                writeln!(text, "<title>entry {at}: the time is {now}</title></path>")?;
-            }
-            _ => {}
-        }
-    }
-    Ok(())
 }

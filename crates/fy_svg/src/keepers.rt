@@ -1,6 +1,7 @@
 //! Which process keeps each record at the end.
 use crate::lanes::Lane;
 use crate::layout::{ROW, x_of, y_of};
+use crate::words::write_numbers;
 use fy_locality::ProcId;
 use fy_picture::Picture;
 use std::alloc::{AllocError, Global};
@@ -13,31 +14,20 @@ fn kept_by(
     alloc: Global,
     keepers: &[Option<ProcId>],
     process: u32,
-) -> Result<Vec<usize>, AllocError> {
+) -> Result<Vec<u64>, AllocError> {
     let mut kept = Vec::new(alloc);
     for (rec, keeper) in keepers.iter().enumerate() {
         if let Some(p) = keeper
             && p.0 == process
         {
-            kept.push(rec)?;
+            kept.push(rec as u64)?;
         }
     }
     Ok(kept)
 }
 
-/// Numbers, with a comma between two.
-fn write_numbers(text: &mut String, numbers: &[usize]) -> Result<(), AllocError> {
-    for (place, number) in numbers.iter().enumerate() {
-        if place > 0 {
-            text.push_str(", ")?;
-        }
-        write!(text, "{number}")?;
-    }
-    Ok(())
-}
-
 /// The records that a process keeps, behind its row.
-fn write_kept(text: &mut String, kept: &[usize], x: u64, y: u64) -> Result<(), AllocError> {
+fn write_kept(text: &mut String, kept: &[u64], x: u64, y: u64) -> Result<(), AllocError> {
     if kept.is_empty() {
         return Ok(());
     }

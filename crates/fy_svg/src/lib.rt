@@ -8,6 +8,7 @@ mod glyphs;
 mod keepers;
 mod lanes;
 mod layout;
+mod marks;
 mod policies;
 mod sheet;
 mod words;

@@ -4,10 +4,11 @@ use crate::frame::{
     lines_of, write_axis, write_bad, write_head, write_last_names, write_legend, write_names,
     write_orders,
 };
-use crate::glyphs::{write_glyphs, write_marks};
+use crate::glyphs::write_glyphs;
 use crate::keepers::write_keepers;
 use crate::lanes::{Lane, lanes_of, rows_of};
 use crate::layout::y_of;
+use crate::marks::write_marks;
 use crate::policies::write_policies;
 use fy_cluster::Config;
 use fy_journal::Entry;
@@ -64,7 +65,7 @@ pub fn svg(
     write_rows(&mut text, config.map(), &picture, &lanes)?;
     write_last_names(&mut text, lanes.len())?;
     write_glyphs(alloc, &mut text, config, entries, &rows, picture.width)?;
-    write_marks(&mut text, entries, lanes.len(), picture.width)?;
+    write_marks(alloc, &mut text, &picture, entries, lanes.len())?;
     write_keepers(alloc, &mut text, &picture, &lanes)?;
     write_policies(alloc, &mut text, config, &picture)?;
     if let Some(at) = bad {

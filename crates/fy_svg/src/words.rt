@@ -1,8 +1,19 @@
-//! What is said of an order in words.
-use fy_journal::{Act, Entry, Reply};
+//! What is said in words, of an order first of all.
+use fy_journal::{Act, Entry, Refusal, Reply};
 use fy_kinds::{Kind, Rule, Target};
 use fy_picture::rule_of;
 use std::alloc::AllocError;
+
+/// Numbers, with a comma between two.
+pub(crate) fn write_numbers(text: &mut String, numbers: &[u64]) -> Result<(), AllocError> {
+    for (place, number) in numbers.iter().enumerate() {
+        if place > 0 {
+            text.push_str(", ")?;
+        }
+        write!(text, "{number}")?;
+    }
+    Ok(())
+}
 
 /// The rule that stands against an order, as a clause behind `since`.
 fn write_rule(text: &mut String, rule: Rule) -> Result<(), AllocError> {
@@ -43,12 +54,22 @@ fn write_struck(text: &mut String, struck: Option<Kind>) -> Result<(), AllocErro
     }
 }
 
+/// That an order was refused, and why: where the journal is legal, it is a stranger's.
+fn write_refused(text: &mut String, reply: Reply) -> Result<(), AllocError> {
+    match reply {
+        Reply::No(Refusal::Stranger) => {
+            text.push_str(": refused as Stranger, since there is no such actor")
+        }
+        _ => text.push_str(": refused"),
+    }
+}
+
 /// What came of a clog, or of its end.
 fn write_ruled(text: &mut String, reply: Reply) -> Result<(), AllocError> {
     match reply {
         Reply::Ruled { rule: Some(_) } => text.push_str(": barred"),
         Reply::Ruled { rule: None } => text.push_str(": done"),
-        _ => text.push_str(": refused"),
+        _ => write_refused(text, reply),
     }
 }
 
@@ -61,7 +82,7 @@ fn write_deed(text: &mut String, entry: &Entry) -> Result<(), AllocError> {
             write_target(text, order.target())?;
             match entry.reply {
                 Reply::Verdict(verdict) => write_struck(text, verdict.struck),
-                _ => text.push_str(": refused"),
+                reply => write_refused(text, reply),
             }
         }
         Act::Clog { target, ticks } => {

@@ -19,5 +19,6 @@ returns c =
           (subst (λ processes. AreShownLines processes setup.policies c.in_ok-rows.rows.items columns c.in_ok-lines.lines.items) c.map-2.ensures
           (subst (λ policies. AreShownLines c.map-2.result.now policies c.in_ok-rows.rows.items columns c.in_ok-lines.lines.items) c.policies.ensures
           (subst (λ rows. AreShownLines c.map-2.result.now c.policies.result.now rows columns c.in_ok-lines.lines.items) c.deref.ensures.value c.in_ok-lines.ensures)));
-      keepers = c.in_ok-keepers.ensures;
+      keepers = c.in_ok-keepers.ensures.keepers;
+      acked = c.in_ok-keepers.ensures.acked;
     }
