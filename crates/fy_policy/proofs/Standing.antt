@@ -412,20 +412,6 @@ asked processes all policy set node was s answer result alike is =
     ∙ root-same processes policy (sets.contains answer)
 
 -- ---- a set of one process
-pub only-one : (s : sets.FinSet nat_cmp) (p : ℕ) → sets.contains s p ≡ true → sets.remove s p ≡ sets.empty → s ≡ sets.insert sets.empty p
-only-one s p there emptied = sets.same_set nat_cmp_total sets.nat_cmp-IsAntisymmetric s (sets.insert sets.empty p) (λ q.
-    (elim (cases_eq q p) [ inl same ↦ ap (sets.contains s) same ∙ there ∙ itself q p same | inr other ↦ apart q p (sets.contains s q) other (gone q) ])
-    ∙ sym (sets.contains-insert nat_cmp_total sets.empty p q ∙ (λ i. unsigned_tied q p i || sets.contains-empty nat_cmp q i)))
-  where
-    gone : (q : ℕ) → (not (eqb q p) && sets.contains s q) ≡ false
-    gone q = sym (sets.contains-remove nat_cmp_total s p q ∙ ap (λ b. not b && sets.contains s q) (unsigned_tied q p)) ∙ ap (λ t. sets.contains t q) emptied ∙ sets.contains-empty nat_cmp q
-
-    itself : (q p : ℕ) → q ≡ p → true ≡ (eqb q p || false)
-    itself q p e = grind (arith, nat_tests)
-
-    apart : (q p : ℕ) (b : Bool) → q ≢ p → (not (eqb q p) && b) ≡ false → b ≡ (eqb q p || false)
-    apart q p b ne e = grind (arith, nat_tests)
-
 in-one : (given : sets.FinSet nat_cmp) (p q : ℕ) → given ≡ sets.insert sets.empty p → sets.contains given q ≡ eqb q p
 in-one given p q is = ap (λ t. sets.contains t q) is ∙ sets.contains-insert nat_cmp_total sets.empty p q ∙ (λ i. unsigned_tied q p i || sets.contains-empty nat_cmp q i) ∙ alone (eqb q p)
   where

@@ -8,7 +8,7 @@ ghost use Rattle.fy_policy.specs.Sat.{satisfies};
 use crate::Policy;
 use crate::node::{Node, met, met_alone, met_turned, turn, zeros};
 use crate::planted::planted;
-use fy_locality::{Map, ProcId, ProcSet};
+use fy_locality::{Map, ProcId, ProcSet, SET_WORDS};
 use std::alloc::{AllocError, Global};
 use std::marker::Model;
 use std::sync::Arc;
@@ -173,13 +173,22 @@ impl Tally {
     }
 }
 
-/// The process of a set that has no other.
+/// The process of a set that has no other. Looks at each word once.
 fn sole(given: &ProcSet) -> Option<ProcId>
     ensures small { IfSome result (λ p. p.0 < MOST_PROCESSES) }
     ensures alone { IfSome result (λ p. given.now ≡ sets.insert sets.empty p.0) }
 {
-    let p = given.least()?;
-    let mut others = *given;
-    others.drop_one(p);
-    if others.is_empty() { Some(p) } else { None }
+    let words = given.words();
+    let mut found = None;
+    for k in 0..SET_WORDS {
+        let word = words[k];
+        if word != 0 {
+            let bit = word.trailing_zeros();
+            if found.is_some() || word != 1 << bit {
+                return None;
+            }
+            found = Some(ProcId(k as u32 * 64 + bit));
+        }
+    }
+    found
 }
