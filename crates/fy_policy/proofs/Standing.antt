@@ -355,16 +355,9 @@ tallied-turned processes all policy set set' node node' p comes was groups same 
   right = right-alike processes (λ _. 0) (turned (sets.contains set) p comes) (sets.contains set') (λ x _. is x) node' right;
 }
 
--- nothing was counted: the process was there, or is none of the map
-pub tallied-kept : (processes : List Locality) (all : sets.FinSet nat_cmp) (policy : Tree) (set set' : sets.FinSet nat_cmp) (node : Node) (p : ℕ) (comes : Bool) → IsTallied processes all policy set node → ((x : ℕ) → turned (sets.contains set) p comes x ≡ sets.contains set' x)
-    → (p < length processes → sets.contains set p ≡ comes) → IsTallied processes all policy set' node
-tallied-kept processes all policy set set' node p comes was is there = record {
-  few = was.few;
-  everyone = was.everyone;
-  same = was.same;
-  groups = was.groups;
-  right = right-alike processes (λ _. 0) (sets.contains set) (sets.contains set') (λ x small. elim (cases_eq x p) [ inl here ↦ kept x p comes (sets.contains set x) here (ap (sets.contains set) here ∙ there (moved x p _ here small)) ∙ is x | inr other ↦ left x p comes (sets.contains set x) other ∙ is x ]) node was.right;
-}
+-- a process that was there, or is none of the map, turns none of the map
+pub unturned : (set : sets.FinSet nat_cmp) (p n : ℕ) (comes : Bool) → (p < n → sets.contains set p ≡ comes) → (x : ℕ) → x < n → sets.contains set x ≡ turned (sets.contains set) p comes x
+unturned set p n comes there x small = elim (cases_eq x p) [ inl here ↦ kept x p comes (sets.contains set x) here (ap (sets.contains set) here ∙ there (moved x p n here small)) | inr other ↦ left x p comes (sets.contains set x) other ]
   where
     moved : (x p n : ℕ) → x ≡ p → x < n → p < n
     moved x p n e h = omega arith
@@ -374,6 +367,17 @@ tallied-kept processes all policy set set' node p comes was is there = record {
 
     left : (x p : ℕ) (c b : Bool) → x ≢ p → b ≡ cond (eqb x p) c b
     left x p c b ne = grind (arith, nat_tests)
+
+-- nothing was counted: the process was there, or is none of the map
+pub tallied-kept : (processes : List Locality) (all : sets.FinSet nat_cmp) (policy : Tree) (set set' : sets.FinSet nat_cmp) (node : Node) (p : ℕ) (comes : Bool) → IsTallied processes all policy set node → ((x : ℕ) → turned (sets.contains set) p comes x ≡ sets.contains set' x)
+    → (p < length processes → sets.contains set p ≡ comes) → IsTallied processes all policy set' node
+tallied-kept processes all policy set set' node p comes was is there = record {
+  few = was.few;
+  everyone = was.everyone;
+  same = was.same;
+  groups = was.groups;
+  right = right-alike processes (λ _. 0) (sets.contains set) (sets.contains set') (λ x small. unturned set p (length processes) comes there x small ∙ is x) node was.right;
+}
 
 pub came : (all has here : Bool) (p n : ℕ) → (all && not has) ≡ true → all ≡ ltb p n → has ≡ here → (here ≡ false) × (p < n)
 came true true here p n e f g = absurd (true≢false (sym e))
@@ -395,18 +399,52 @@ pub not-not : (b : Bool) → not (not b) ≡ b
 not-not true = refl
 not-not false = refl
 
+-- ---- what a tree answers of a set that has these processes of the map
+pub asked : (processes : List Locality) (all : sets.FinSet nat_cmp) (policy : Tree) (set : sets.FinSet nat_cmp) (node : Node) → IsTallied processes all policy set node
+    → (s : ℕ → Bool) (answer : sets.FinSet nat_cmp) (result : Bool)
+    → ((q : ℕ) → q < length processes → s q ≡ sets.contains answer q)
+    → result ≡ satisfies processes (tree_of_node node) (within processes (λ _. 0) 0 s)
+    → result ≡ satisfies processes policy (sets.contains answer)
+asked processes all policy set node was s answer result alike is =
+    is
+    ∙ ap (satisfies processes (tree_of_node node)) (within-alike processes (λ _. 0) s (sets.contains answer) alike 0)
+    ∙ was.same _
+    ∙ root-same processes policy (sets.contains answer)
+
+-- ---- a set of one process
+in-one : (given : sets.FinSet nat_cmp) (p q : ℕ) → given ≡ sets.insert sets.empty p → sets.contains given q ≡ eqb q p
+in-one given p q is = ap (λ t. sets.contains t q) is ∙ sets.contains-insert nat_cmp_total sets.empty p q ∙ (λ i. unsigned_tied q p i || sets.contains-empty nat_cmp q i) ∙ alone (eqb q p)
+  where
+    alone : (b : Bool) → (b || false) ≡ b
+    alone true = refl
+    alone false = refl
+
+pub with-one : (set given : sets.FinSet nat_cmp) (p : ℕ) → given ≡ sets.insert sets.empty p → sets.insert set p ≡ sets.union set given
+with-one set given p is = sets.same_set nat_cmp_total sets.nat_cmp-IsAntisymmetric (sets.insert set p) (sets.union set given) (λ q.
+    sets.contains-insert nat_cmp_total set p q ∙ ap (λ b. b || sets.contains set q) (unsigned_tied q p) ∙ either (eqb q p) (sets.contains set q)
+    ∙ ap (λ b. sets.contains set q || b) (sym (in-one given p q is))
+    ∙ sym (sets.contains-union nat_cmp_total set given q))
+  where
+    either : (a b : Bool) → (a || b) ≡ (b || a)
+    either true true = refl
+    either true false = refl
+    either false true = refl
+    either false false = refl
+
+pub without-one : (set given : sets.FinSet nat_cmp) (p : ℕ) → given ≡ sets.insert sets.empty p → sets.remove set p ≡ sets.difference set given
+without-one set given p is = sets.same_set nat_cmp_total sets.nat_cmp-IsAntisymmetric (sets.remove set p) (sets.difference set given) (λ q.
+    sets.contains-remove nat_cmp_total set p q ∙ ap (λ b. not b && sets.contains set q) (unsigned_tied q p) ∙ both-ways (not (eqb q p)) (sets.contains set q)
+    ∙ ap (λ b. sets.contains set q && not b) (sym (in-one given p q is))
+    ∙ sym (sets.contains-difference nat_cmp_total set given q))
+  where
+    both-ways : (a b : Bool) → (a && b) ≡ (b && a)
+    both-ways true true = refl
+    both-ways true false = refl
+    both-ways false true = refl
+    both-ways false false = refl
+
 -- ---- the set with some, and without some
 module _ (processes : List Locality) (all : sets.FinSet nat_cmp) (policy : Tree) (set given : sets.FinSet nat_cmp) (node : Node) (was : IsTallied processes all policy set node) where
-  asked : (comes : Bool) (those answer : sets.FinSet nat_cmp) (result : Bool)
-      → ((q : ℕ) → q < length processes → turned_by (sets.contains set) (sets.contains those) comes q ≡ sets.contains answer q)
-      → result ≡ satisfies processes (tree_of_node node) (within processes (λ _. 0) 0 (turned_by (sets.contains set) (sets.contains those) comes))
-      → result ≡ satisfies processes policy (sets.contains answer)
-  asked comes those answer result alike is =
-      is
-      ∙ ap (satisfies processes (tree_of_node node)) (within-alike processes (λ _. 0) _ (sets.contains answer) alike 0)
-      ∙ was.same _
-      ∙ root-same processes policy (sets.contains answer)
-
   known : (q : ℕ) → sets.contains all q ≡ true → q < length processes
   known q e = low q (length processes) (sym (was.everyone q) ∙ e)
     where
@@ -451,7 +489,7 @@ module _ (processes : List Locality) (all : sets.FinSet nat_cmp) (policy : Tree)
 
     pub with-comers : (result : Bool) → result ≡ satisfies processes (tree_of_node node) (within processes (λ _. 0) 0 (turned_by (sets.contains set) (sets.contains comers) true))
         → result ≡ satisfies processes policy (sets.contains (sets.union set given))
-    with-comers result e = asked true comers (sets.union set given) result (λ q low.
+    with-comers result e = asked processes all policy set node was (turned_by (sets.contains set) (sets.contains comers) true) (sets.union set given) result (λ q low.
         ap (λ b. cond b true (sets.contains set q)) (in-comers q ∙ ap (λ b. (sets.contains given q && b) && not (sets.contains set q)) (present q low))
         ∙ joined (sets.contains given q) (sets.contains set q)
         ∙ sym (sets.contains-union nat_cmp_total set given q)) e
@@ -475,7 +513,7 @@ module _ (processes : List Locality) (all : sets.FinSet nat_cmp) (policy : Tree)
 
     pub without-goers : (result : Bool) → result ≡ satisfies processes (tree_of_node node) (within processes (λ _. 0) 0 (turned_by (sets.contains set) (sets.contains goers) false))
         → result ≡ satisfies processes policy (sets.contains (sets.difference set given))
-    without-goers result e = asked false goers (sets.difference set given) result (λ q low.
+    without-goers result e = asked processes all policy set node was (turned_by (sets.contains set) (sets.contains goers) false) (sets.difference set given) result (λ q low.
         ap (λ b. cond b false (sets.contains set q)) (in-goers q ∙ ap (λ b. (sets.contains given q && b) && sets.contains set q) (present q low))
         ∙ parted (sets.contains given q) (sets.contains set q)
         ∙ sym (sets.contains-difference nat_cmp_total set given q)) e

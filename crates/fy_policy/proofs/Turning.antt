@@ -654,25 +654,3 @@ module _ (processes : List Locality) (at : ℕ → ℕ) (s : ℕ → Bool) (p : 
         go : (some : Bool) → is_some (value_of processes key p) ≡ some → not comes ≡ satisfies processes (tree_of_node node) (within processes at g (turned s p comes))
         go true some = stays comes count wanted before after more less ∙ keyed-alone differ occur some before after refl refl (count + cond after 1 0 - cond before 1 0) (λ _ room. back count (cond before 1 0) (cond after 1 0) room)
         go false none = still comes count wanted more less ∙ keyless-alone none
-
--- a set of one process
-pub only-one : (s : sets.FinSet nat_cmp) (p : ℕ) → sets.contains s p ≡ true → sets.len s ≡ 1 → (q : ℕ) → eqb q p ≡ sets.contains s q
-only-one s p there alone q = elim (cases_eq q p) [
-  | inl same ↦ itself q p same ∙ sym (ap (sets.contains s) same ∙ there)
-  | inr other ↦ away q p other ∙ sym (keep q p (sets.contains s q) other ∙ sym (ap (λ b. not b && sets.contains s q) (unsigned_tied q p)) ∙ sym (sets.contains-remove nat_cmp_total s p q) ∙ ap (λ t. sets.contains t q) none ∙ sets.contains-empty nat_cmp q)
-]
-  where
-    nothing : (n : ℕ) → n ≡ 1 → n - 1 ≡ 0
-    nothing n e = omega arith
-
-    none : sets.remove s p ≡ sets.empty
-    none = sets.empty_of_len (sets.remove s p) (sets.len-remove nat_cmp_total s p ∙ ap (λ b. cond b (sets.len s - 1) (sets.len s)) there ∙ nothing _ alone)
-
-    itself : (q p : ℕ) → q ≡ p → eqb q p ≡ true
-    itself q p e = grind (arith, nat_tests)
-
-    away : (q p : ℕ) → q ≢ p → eqb q p ≡ false
-    away q p e = grind (arith, nat_tests)
-
-    keep : (q p : ℕ) (b : Bool) → q ≢ p → b ≡ (not (eqb q p) && b)
-    keep q p b e = grind (arith, nat_tests)

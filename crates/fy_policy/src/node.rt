@@ -96,26 +96,9 @@ pub(crate) fn turn(node: &mut Node, map: &Map, group: u32, p: ProcId, comes: boo
     }
 }
 
-/// Whether the set would satisfy the policy at a group after these of its processes came or went.
-/// One process is followed through the nodes alone.
-pub(crate) fn met_after(node: &Node, map: &Map, group: u32, those: &ProcSet, comes: bool) -> bool
-    requires groups { HasGroups (length map.now) node.now }
-    requires group { group ≤ length map.now }
-    ensures { (at : ℕ → ℕ) (s : ℕ → Bool) → IsRightAt map.now at s group node.now
-        → CanTurn map.now at group s (sets.contains those.now) comes
-        → result ≡ satisfies map.now (tree_of_node node.now)
-        (within map.now at group (turned_by s (sets.contains those.now) comes)) }
-{
-    if those.len() == 1 {
-        if let Some(p) = those.least() {
-            return met_alone(node, map, group, p, comes);
-        }
-    }
-    met_turned(node, map, group, those, comes)
-}
-
-/// The same by value after value of these processes.
-fn met_turned(node: &Node, map: &Map, group: u32, those: &ProcSet, comes: bool) -> bool
+/// Whether the set would satisfy the policy at a group after these of its processes came or went,
+/// by value after value of theirs.
+pub(crate) fn met_turned(node: &Node, map: &Map, group: u32, those: &ProcSet, comes: bool) -> bool
     requires groups { HasGroups (length map.now) node.now }
     requires group { group ≤ length map.now }
     ensures { (at : ℕ → ℕ) (s : ℕ → Bool) → IsRightAt map.now at s group node.now
@@ -157,7 +140,7 @@ fn met_turned(node: &Node, map: &Map, group: u32, those: &ProcSet, comes: bool) 
 }
 
 /// The same for one process, of which no set need be made.
-fn met_alone(node: &Node, map: &Map, group: u32, p: ProcId, comes: bool) -> bool
+pub(crate) fn met_alone(node: &Node, map: &Map, group: u32, p: ProcId, comes: bool) -> bool
     requires groups { HasGroups (length map.now) node.now }
     requires group { group ≤ length map.now }
     ensures { (at : ℕ → ℕ) (s : ℕ → Bool) → IsRightAt map.now at s group node.now

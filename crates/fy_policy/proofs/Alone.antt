@@ -1,0 +1,109 @@
+-- the one process of a set, found among its words
+use Rattle.std.proofs.Common.{inl, inr, ◌≡◌, ◌≢◌, ℕ, ◌+◌, ◌*◌, ◌/◌, ◌%◌, ◌^◌, ◌<◌, ◌≤◌, Bool, true, false, true≢false, ltb, eqb, ◌&&◌, ◌||◌, List, Option, Some, None, get_or, refl, sym, ap, subst, ◌∙◌, arith}
+use Rattle.std.specs.Prelude.{is_some, IfSome}
+use Rattle.std.specs.Ordering.{nat_cmp}
+use Rattle.std.specs.Int.{bit_at, w64, trailing_zeros}
+use Rattle.std.specs.FinSet as sets
+use Rattle.std.specs.Cmp.{nat_cmp_total, unsigned_tied}
+use Rattle.std.proofs.lemmas.Bool.{cases_eq, cases_lt}
+use Rattle.std.proofs.lemmas.Bool.Decides.{nat_tests}
+use Rattle.std.proofs.lemmas.Nat.Bits.{bit_at-zero, bit_at-pow_same, bit_at-pow_other, bit_at-trailing_zeros}
+use Rattle.std.proofs.lemmas.Nat.{pow_below}
+use Rattle.fy_locality.specs.declared.ProcId.{ProcId}
+use Rattle.fy_locality.specs.Members.{has_bit, members}
+use Rattle.fy_locality.specs.MembersInverse.{contains-members}
+
+abbrev pub is_found : Option ProcId → ℕ → Bool
+is_found None q = false
+is_found (Some p) q = eqb q p.0
+
+-- of the first k words only the one that was found has a bit
+pub record HaveFound (ws : List ℕ) (k : ℕ) (found : Option ProcId) : Type 0 where
+  pub before : (q : ℕ) → is_found found q ≡ true → q < k * 64
+  pub each : (q : ℕ) → q < k * 64 → has_bit ws q ≡ is_found found q
+
+pub found-first : (ws : List ℕ) → HaveFound ws 0 None
+found-first ws = record {
+  before = λ q e. absurd (true≢false (sym e));
+  each = λ q h. absurd (let x : ⊥ = omega arith in x);
+}
+
+bit-in : (ws : List ℕ) (k q : ℕ) → k * 64 ≤ q → q < (k + 1) * 64 → has_bit ws q ≡ eqb (bit_at (get_or ws k 0) (q % 64)) 1
+bit-in ws k q low high = let at : q / 64 ≡ k = omega arith in ap (λ j. eqb (bit_at (get_or ws j 0) (q % 64)) 1) at
+
+pub found-none : (ws : List ℕ) (k : ℕ) (found : Option ProcId) → HaveFound ws k found → get_or ws k 0 ≡ 0 → HaveFound ws (k + 1) found
+found-none ws k found was zeros = record {
+  before = λ q e. let h : q < k * 64 = was.before q e in omega arith;
+  each = λ q h. elim (cases_lt q (k * 64)) [
+    | inl low ↦ was.each q low
+    | inr high ↦ bit-in ws k q high h ∙ ap (λ w. eqb (bit_at w (q % 64)) 1) zeros ∙ ap (λ b. eqb b 1) (bit_at-zero (q % 64)) ∙ sym (away q high (is_found found q) refl)
+  ];
+}
+  where
+    away : (q : ℕ) → k * 64 ≤ q → (b : Bool) → is_found found q ≡ b → b ≡ false
+    away q high true e = let h : q < k * 64 = was.before q e in absurd (let x : ⊥ = omega arith in x)
+    away q high false e = refl
+
+found-one : (ws : List ℕ) (k t : ℕ) (p : ProcId) → HaveFound ws k None → get_or ws k 0 ≡ 2 ^ t → t < 64 → p.0 ≡ k * 64 + t → HaveFound ws (k + 1) (Some p)
+found-one ws k t p was power small is = record {
+  before = λ q e. within q p.0 is e;
+  each = λ q h. elim (cases_lt q (k * 64)) [
+    | inl low ↦ was.each q low ∙ under q p.0 is low
+    | inr high ↦ bit-in ws k q high h ∙ ap (λ w. eqb (bit_at w (q % 64)) 1) power ∙ (elim (cases_eq (q % 64) t) [
+      | inl same ↦ ap (λ i. eqb (bit_at (2 ^ t) i) 1) same ∙ ap (λ b. eqb b 1) (bit_at-pow_same t) ∙ here q p.0 is high h same
+      | inr other ↦ ap (λ b. eqb b 1) (bit_at-pow_other t (q % 64) other) ∙ there q p.0 is other
+    ])
+  ];
+}
+  where
+    within : (q n : ℕ) → n ≡ k * 64 + t → eqb q n ≡ true → q < (k + 1) * 64
+    within q n is e = let same : q ≡ n = grind (arith, nat_tests) in omega arith
+
+    under : (q n : ℕ) → n ≡ k * 64 + t → q < k * 64 → false ≡ eqb q n
+    under q n is low = let other : q ≢ n = (λ e. let x : ⊥ = omega arith in x) in grind (arith, nat_tests)
+
+    here : (q n : ℕ) → n ≡ k * 64 + t → k * 64 ≤ q → q < (k + 1) * 64 → q % 64 ≡ t → true ≡ eqb q n
+    here q n is low high same = let e : q ≡ n = omega arith in grind (arith, nat_tests)
+
+    there : (q n : ℕ) → n ≡ k * 64 + t → q % 64 ≢ t → false ≡ eqb q n
+    there q n is other = let ne : q ≢ n = (λ e. other (let r : q % 64 ≡ t = omega arith in r)) in grind (arith, nat_tests)
+
+-- a word with one bit, after words with none
+pub found-next : (ws : List ℕ) (k : ℕ) (found : Option ProcId) (p : ProcId) → HaveFound ws k found → is_some found ≡ false → get_or ws k 0 ≢ 0 → get_or ws k 0 < 2 ^ 64
+    → get_or ws k 0 ≡ 1 * 2 ^ trailing_zeros w64 (get_or ws k 0) % 2 ^ 64 → p.0 ≡ k * 64 + trailing_zeros w64 (get_or ws k 0) → HaveFound ws (k + 1) (Some p)
+found-next ws k found p was vacant some fits one is =
+    let positive : 0 < get_or ws k 0 = omega arith in
+    let low = bit_at-trailing_zeros w64 (get_or ws k 0) positive fits in
+    let power : 2 ^ trailing_zeros w64 (get_or ws k 0) < 2 ^ 64 = pow_below (trailing_zeros w64 (get_or ws k 0)) 64 low.0 in
+    found-one ws k (trailing_zeros w64 (get_or ws k 0)) p (subst (HaveFound ws k) (nothing found vacant) was) (one ∙ small (2 ^ trailing_zeros w64 (get_or ws k 0)) power) low.0 is
+  where
+    small : (n : ℕ) → n < 2 ^ 64 → 1 * n % 2 ^ 64 ≡ n
+    small n h = omega arith
+
+    nothing : (o : Option ProcId) → is_some o ≡ false → o ≡ None
+    nothing None e = refl
+    nothing (Some q) e = absurd (true≢false e)
+
+pub found-small : (ws : List ℕ) (found : Option ProcId) → HaveFound ws 16 found → IfSome found (λ p. p.0 < 1024)
+found-small ws None was = tt
+found-small ws (Some p) was = was.before p.0 (itself p.0)
+  where
+    itself : (n : ℕ) → eqb n n ≡ true
+    itself n = grind (arith, nat_tests)
+
+pub found-alone : (ws : List ℕ) (given : sets.FinSet nat_cmp) (found : Option ProcId) → members ws ≡ given → HaveFound ws 16 found → IfSome found (λ p. given ≡ sets.insert sets.empty p.0)
+found-alone ws given None is was = tt
+found-alone ws given (Some p) is was = sets.same_set nat_cmp_total sets.nat_cmp-IsAntisymmetric given (sets.insert sets.empty p.0) (λ q.
+    ap (λ s. sets.contains s q) (sym is)
+    ∙ contains-members ws q
+    ∙ (elim (cases_lt q 1024) [ inl low ↦ ap (λ b. ltb q 1024 && b) (was.each q low) ∙ inside q p.0 low | inr high ↦ outside q p.0 (has_bit ws q) high (was.before p.0 (itself p.0)) ])
+    ∙ sym (sets.contains-insert nat_cmp_total sets.empty p.0 q ∙ (λ i. unsigned_tied q p.0 i || sets.contains-empty nat_cmp q i)))
+  where
+    itself : (n : ℕ) → eqb n n ≡ true
+    itself n = grind (arith, nat_tests)
+
+    inside : (q n : ℕ) → q < 1024 → (ltb q 1024 && eqb q n) ≡ (eqb q n || false)
+    inside q n low = grind (arith, nat_tests)
+
+    outside : (q n : ℕ) (b : Bool) → 1024 ≤ q → n < 1024 → (ltb q 1024 && b) ≡ (eqb q n || false)
+    outside q n b high low = let ne : q ≢ n = (λ e. let x : ⊥ = omega arith in x) in grind (arith, nat_tests)
