@@ -87,6 +87,7 @@ impl Attrition {
     /// writes that `tear` says.
     ///
     /// # Errors
+    ///
     /// In this order: `Floor` where the floor is above the kind; `NoMemory`.
     pub fn make(
         alloc: Global,

@@ -36,6 +36,7 @@ pub trait FaultActor: Drop {
     /// receipts. A turn makes the act that comes next in the actor's part, if one is left.
     ///
     /// # Errors
+    ///
     /// The fault of an act.
     fn turn(&mut self, desk: &mut Desk) -> Result<Turn, Fault>
         ensures plays { PlaysTurn (part self.old, desk.old) (part self.new, desk.new) result }
@@ -153,6 +154,7 @@ impl Desk {
     /// the last receipt.
     ///
     /// # Errors
+    ///
     /// In this order: `JournalFull` where the journal has as many entries as it may have;
     /// `NoMemory`. The cluster and the receipts are then as they were.
     pub fn act(&mut self, act: Act) -> Result<Reply, Fault>

@@ -108,6 +108,7 @@ fn chosen(alloc: Global, words: &[u32], candidates: &[ProcId]) -> Result<Vec<Pro
 /// with `m` chosen it takes `n + max(m - 1, 0)` words; further words are ignored.
 ///
 /// # Errors
+///
 /// In this order: `WordsShort` where there are fewer words than that, with `need` being `n` where
 /// there are fewer than `n`, and else that sum; `NoMemory`.
 pub fn swizzle_plan(
@@ -150,6 +151,7 @@ fn machines(alloc: Global, map: &Map) -> Result<Vec<Name>, AllocError>
 /// takes `max(n - 1, 0)` words; further words are ignored.
 ///
 /// # Errors
+///
 /// In this order: `WordsShort` where there are fewer words than that; `NoMemory`.
 pub fn attrition_plan(
     alloc: Global,

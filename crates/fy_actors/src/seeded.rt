@@ -21,6 +21,7 @@ fn seed_bytes(seed: u64) -> [u8; 32]
 /// bytes, the low one first, followed by 24 zero bytes. Each actor may have a stream of its own.
 ///
 /// # Errors
+///
 /// `AllocError` only where the memory for them is refused.
 #[tactic(auto, using(crate::proofs::Drawing::no_words, crate::proofs::Drawing::one_word_more))]
 pub fn words(alloc: Global, seed: u64, stream: u64, count: usize) -> Result<Vec<u32>, AllocError>

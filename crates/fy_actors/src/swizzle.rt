@@ -78,6 +78,7 @@ impl Swizzle {
     /// Asks that each process of the plan is in the map.
     ///
     /// # Errors
+    ///
     /// `AllocError` only where memory is refused.
     pub fn make(
         alloc: Global,

@@ -64,6 +64,7 @@ impl Replayer {
     /// Begins with a cluster of this configuration, for a journal of the version.
     ///
     /// # Errors
+    ///
     /// `AllocError` where there is no memory for the cluster.
     pub fn begin(alloc: Global, config: Config, version: Version) -> Result<Replayer, AllocError>
         ensures begun { IfOk result (HasReplayed config []) }
@@ -88,6 +89,7 @@ impl Replayer {
     /// Takes the next entry. Behind the first bad one nothing is done.
     ///
     /// # Errors
+    ///
     /// `AllocError` where there is no memory for its act: it was not taken then.
     pub fn enter(&mut self, entry: Entry) -> Result<(), AllocError>
         requires { self.old.first_bad ≡ None → entry.at ≡ length self.old.course.journal }
@@ -114,6 +116,7 @@ impl Replayer {
 /// are made once more by a cluster of this configuration, so the time is that of the run.
 ///
 /// # Errors
+///
 /// `BadEntry` at the first entry whose reply isn't the one that the rules give, whose act the
 /// version doesn't have, or whose place is the journal limit. `NoMemory`, in place of any answer,
 /// where there is no memory for the cluster or for one of its acts.

@@ -74,6 +74,7 @@ fn put_last(steps: &mut Vec<Step>, step: Step) -> Result<(), AllocError>
 /// than some hundred entries are for `replay`, which has the same contract.
 ///
 /// # Errors
+///
 /// `BadEntry` at the first entry whose reply isn't the one that the rules give, whose act the
 /// version doesn't have, or whose place is the journal limit. `NoMemory`, in place of any answer,
 /// where there is no memory for what is read off.

@@ -56,6 +56,7 @@ impl Cluster {
     /// A cluster in which nothing happened yet. A configuration that is refused is dropped.
     ///
     /// # Errors
+    ///
     /// `AllocError` where there is no memory for it.
     pub fn make(alloc: Global, config: Config) -> Result<Cluster, AllocError>
         ensures { IfOk result (λ cluster. cluster ≡ opened config) }
@@ -74,6 +75,7 @@ impl Cluster {
     /// and enters both into the journal.
     ///
     /// # Errors
+    ///
     /// In this order: `JournalFull` where the journal has as many entries as it may have;
     /// `NoMemory`. The cluster is then as it was.
     pub fn apply(&mut self, by: u32, act: Act) -> Result<Reply, Fault>
@@ -96,6 +98,7 @@ impl Cluster {
     /// What was entered before it stands.
     ///
     /// # Errors
+    ///
     /// At an act, in this order: `JournalFull` where the journal has as many entries as it may
     /// have; `NoMemory`.
     pub fn run(&mut self, acts: &[(u32, Act)]) -> Result<(), Fault>

@@ -129,6 +129,7 @@ impl Config {
     /// The configuration of these parts. Takes no memory.
     ///
     /// # Errors
+    ///
     /// In this order: `Limit` where a number is outside its range, or where a grant or protection
     /// is of an actor or process that isn't there; `PolicyUnmet` with the place of the first policy
     /// that all processes together don't satisfy.

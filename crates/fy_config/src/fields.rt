@@ -208,6 +208,7 @@ fn journal_limit_at(table: &Table) -> Option<Option<u32>>
 /// What the parts of a file spell.
 ///
 /// # Errors
+///
 /// `Field` with the first part at fault, in the order of parts; `NoMemory`.
 pub fn fields_of<'t>(alloc: Global, table: &'t Table) -> Result<GivenFields<'t>, ConfigFault>
     ensures { AreKept result (fields_of (table_view table.now)) }

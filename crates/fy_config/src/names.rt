@@ -25,6 +25,7 @@ use std::alloc::{AllocError, Global};
 /// its name.
 ///
 /// # Errors
+///
 /// Want of memory.
 fn push_process(map: &mut Map, process: Option<Locality>) -> Result<bool, AllocError>
     requires { length map.old < MOST_PROCESSES }
@@ -47,6 +48,7 @@ fn push_process(map: &mut Map, process: Option<Locality>) -> Result<bool, AllocE
 /// The processes by number.
 ///
 /// # Errors
+///
 /// `Name` at the first whose texts aren't names or that has the name of an earlier one; `NoMemory`.
 pub fn map_of(alloc: Global, given: &[Option<Locality>]) -> Result<Map, ConfigFault>
     requires { length given.now ≤ MOST_PROCESSES }
@@ -68,6 +70,7 @@ pub fn map_of(alloc: Global, given: &[Option<Locality>]) -> Result<Map, ConfigFa
 /// The roles of the actors.
 ///
 /// # Errors
+///
 /// Want of memory.
 pub fn roles_of(alloc: Global, actors: &[GivenActor]) -> Result<Vec<Role>, AllocError>
     ensures { IfOk result (λ roles. roles.items ≡ map_list (λ actor. actor.role) actors.now) }
@@ -87,6 +90,7 @@ fn push_grant(grants: &mut Vec<Grant>, grant: Grant) -> Result<(), AllocError>
 /// where one isn't, only those before it were put.
 ///
 /// # Errors
+///
 /// Want of memory.
 fn push_grants(grants: &mut Vec<Grant>, number: u32, actor: &GivenActor) -> Result<bool, AllocError>
     ensures good { IfOk result (λ pushed. pushed ≡ have_scopes actor.now.grants.items) }
@@ -110,6 +114,7 @@ fn push_grants(grants: &mut Vec<Grant>, number: u32, actor: &GivenActor) -> Resu
 /// The grants of all actors in order.
 ///
 /// # Errors
+///
 /// `Name` at the first actor with a value that is no name; `NoMemory`.
 pub fn grants_of(alloc: Global, actors: &[GivenActor]) -> Result<Vec<Grant>, ConfigFault>
     requires { length actors.now ≤ MOST_ACTORS }
@@ -156,6 +161,7 @@ fn push_protection(
 /// The protections by the numbers of their processes.
 ///
 /// # Errors
+///
 /// `Name` at the first whose process isn't there or was named before; `NoMemory`.
 pub fn protections_of(
     alloc: Global,
@@ -191,6 +197,7 @@ pub fn protections_of(
 /// The policy of a text, where it is of one.
 ///
 /// # Errors
+///
 /// Want of memory.
 fn policy_of(alloc: Global, text: &str) -> Result<Option<Policy>, AllocError>
     ensures { IfOk result (λ found. MatchOption found (IsRefused text.now)
@@ -207,6 +214,7 @@ fn policy_of(alloc: Global, text: &str) -> Result<Option<Policy>, AllocError>
 /// The policies that texts spell.
 ///
 /// # Errors
+///
 /// `Policy` at the first text that is of none; `NoMemory`.
 pub fn policies_of(alloc: Global, texts: &[&str]) -> Result<Vec<Policy>, ConfigFault>
     ensures { let spelt = map_list (λ text. text.now) texts.now in

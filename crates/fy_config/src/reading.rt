@@ -66,6 +66,7 @@ fn first_outside(fields: &GivenFields) -> Option<Part>
 /// The configuration of parts that are in their ranges.
 ///
 /// # Errors
+///
 /// `PolicyUnmet` for the first policy that all processes together don't satisfy.
 fn config_made(
     map: Map,
@@ -109,6 +110,7 @@ fn config_of(alloc: Global, table: &Table) -> Result<Config, ConfigFault>
 /// What a cluster file begins a cluster with.
 ///
 /// # Errors
+///
 /// The first that holds, in this order; of one kind the first part, and of one part the least
 /// place:
 /// - `TooLong` over 1,048,576 bytes;

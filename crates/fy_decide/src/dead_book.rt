@@ -145,6 +145,7 @@ impl DeadBook {
     /// Nobody is destroyed and everyone is left.
     ///
     /// # Errors
+    ///
     /// In this order: `Unmet` with the place of the first policy that all processes together don't
     /// satisfy; `NoMemory`.
     pub fn make(alloc: Global, map: &Map, policies: &[Policy]) -> Result<DeadBook, MakeFault>

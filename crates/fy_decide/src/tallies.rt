@@ -14,6 +14,7 @@ use std::sync::Arc;
 /// A tally of the set by each policy.
 ///
 /// # Errors
+///
 /// Want of memory.
 pub(crate) fn tallies_of(
     alloc: Global,

@@ -68,6 +68,7 @@ impl Book {
     /// A book for so many actors and the processes of a map, without grants and protections.
     ///
     /// # Errors
+    ///
     /// Where there is no memory.
     pub fn make(alloc: Global, actors: u32, map: &Map) -> Result<Book, AllocError>
         ensures { IfOk result (λ book. book ≡ no_rights actors map.now) }
@@ -98,6 +99,7 @@ impl Book {
     /// One more grant, last in its actor's list.
     ///
     /// # Errors
+    ///
     /// In this order: `NoActor`; `Full` where [`MOST_GRANTS`] are there already; `NoMemory`. A
     /// refused grant leaves the book as it was.
     pub fn give(&mut self, grant: Grant) -> Result<(), BookFault>
@@ -124,6 +126,7 @@ impl Book {
     /// Takes a grant away, by its place in its actor's list, which closes up.
     ///
     /// # Errors
+    ///
     /// In this order: `NoActor`; `NoSuch` where the actor has no grant at this place.
     pub fn take(&mut self, actor: u32, index: u32) -> Result<(), BookFault>
         ensures refused { (fault : BookFault)

@@ -55,6 +55,7 @@ impl KillOrder {
     /// `i` of `tear` is 1.
     ///
     /// # Errors
+    ///
     /// `Floor` where the floor is above the kind.
     pub fn make(target: Target, kind: Kind, floor: Kind, tear: u64) -> Result<KillOrder, Floor>
         ensures refused { IsErr result ↔ (rank kind < rank floor) }

@@ -21,6 +21,7 @@ impl Locality {
     /// The locality that five texts spell.
     ///
     /// # Errors
+    ///
     /// `BadName` where one of them is no name.
     pub fn make(
         process: &str,

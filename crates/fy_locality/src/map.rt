@@ -192,6 +192,7 @@ impl Map {
     /// An equal map.
     ///
     /// # Errors
+    ///
     /// Want of memory.
     pub fn try_copy(&self, alloc: Global) -> Result<Map, AllocError>
         ensures { IfOk result (λ copy. copy ≡ self.now) }
@@ -219,6 +220,7 @@ impl Map {
     /// One more process, which gets the next number. A refused process leaves the map as it was.
     ///
     /// # Errors
+    ///
     /// In this order: `Name` for a text that is no name; `Twice` for an `id` that is there already;
     /// `TooMany` where 1024 processes are there already; `NoMemory`.
     pub fn add(
@@ -262,6 +264,7 @@ impl Map {
     /// One more process whose names are known, as `add` does.
     ///
     /// # Errors
+    ///
     /// In this order: `Twice` where its name is there already; `TooMany` where 1024 processes are
     /// there already; `NoMemory`.
     pub fn push(&mut self, locality: Locality) -> Result<ProcId, MapFault>
@@ -349,6 +352,7 @@ impl<T: Drop> From<AllocFailed<T>> for MapFault {
 /// The same values again with their processes, in memory of their own.
 ///
 /// # Errors
+///
 /// Want of memory.
 fn copied(index: &IndexMap<Name, ProcSet>) -> Result<IndexMap<Name, ProcSet>, AllocError>
     ensures { IfOk result (λ copy. copy.entries ≡ index.now.entries) }
@@ -362,6 +366,7 @@ type Copies = (IndexMap<Name, ProcSet>, IndexMap<Name, ProcSet>);
 /// Two of them at once.
 ///
 /// # Errors
+///
 /// Want of memory.
 fn both_copied(
     first: &IndexMap<Name, ProcSet>,
@@ -378,6 +383,7 @@ fn both_copied(
 /// Four of them at once, two by two.
 ///
 /// # Errors
+///
 /// Want of memory.
 fn four_copied(
     first: &IndexMap<Name, ProcSet>,

@@ -64,6 +64,7 @@ impl Name {
     /// The name that a text spells.
     ///
     /// # Errors
+    ///
     /// `BadName` for any other text.
     pub fn make(text: &str) -> Result<Name, BadName>
         ensures accepted { IsOk result ↔ IsTrue (is_name text.now) }
@@ -75,6 +76,7 @@ impl Name {
     /// The name that bytes spell.
     ///
     /// # Errors
+    ///
     /// `BadName` for any other bytes.
     pub fn from_bytes(given: &[u8]) -> Result<Name, BadName>
         ensures accepted { IsOk result ↔ IsTrue (is_name given.now) }
@@ -114,6 +116,7 @@ impl Name {
 /// The name that a text spells, where there is a text.
 ///
 /// # Errors
+///
 /// `BadName` for a text that is no name.
 pub(crate) fn known(text: Option<&str>) -> Result<Option<Name>, BadName>
     ensures accepted { IsOk result

@@ -132,6 +132,7 @@ fn played(
 /// the last entry, and at which entry it was acknowledged.
 ///
 /// # Errors
+///
 /// `AllocError` where there is no memory for it.
 pub(crate) fn kept_of(alloc: Global, config: &Config, entries: &[Entry]) -> Result<Kept, AllocError>
     ensures keepers { IfOk result (λ kept. Legal config.now entries.now

@@ -104,6 +104,7 @@ fn rows_of(
 /// The picture of entries that begin a journal under this configuration.
 ///
 /// # Errors
+///
 /// `AllocError` where there is no memory for it.
 pub fn draw(alloc: Global, config: &Config, entries: &[Entry]) -> Result<Picture, AllocError>
     ensures { IfOk result (IsPicture config.now entries.now) }

@@ -10,6 +10,7 @@ use std::alloc::{AllocError, Global};
 /// An equal shape, in memory of its own.
 ///
 /// # Errors
+///
 /// Want of memory.
 fn copied(alloc: Global, shape: &Shape) -> Result<Shape, AllocError>
     ensures { IfOk result (λ copy. tree_of copy ≡ tree_of shape.now) }
@@ -35,6 +36,7 @@ impl Policy {
     /// An equal policy.
     ///
     /// # Errors
+    ///
     /// Want of memory.
     pub fn try_copy(&self, alloc: Global) -> Result<Policy, AllocError>
         ensures equal { IfOk result (λ copy. copy ≡ self.now) }
@@ -48,6 +50,7 @@ impl Policy {
 /// The same policies, in memory of their own.
 ///
 /// # Errors
+///
 /// Want of memory.
 pub fn try_copy_all(alloc: Global, policies: &[Policy]) -> Result<Vec<Policy>, AllocError>
     ensures { IfOk result (λ copies. copies.items ≡ policies.now) }

@@ -19,6 +19,7 @@ use std::alloc::Global;
 /// The policy of a text such as `Across(3,zoneid,One())`: its text is this one.
 ///
 /// # Errors
+///
 /// In this order: `TooLong` over 4096 bytes; `Syntax` where no policy, whatever its counts, has
 /// this text; `Count` where one is outside 1 to 1024; `Depth` over 8; `Nodes` over 64. `NoMemory`
 /// can take the place of any answer.

@@ -59,6 +59,7 @@ impl Tally {
     /// The empty set, of the processes of a map and by a policy. It keeps a copy of the map.
     ///
     /// # Errors
+    ///
     /// Want of memory.
     pub fn make(alloc: Global, policy: &Policy, map: &Map) -> Result<Tally, AllocError>
         ensures { IfOk result (λ t. (t.processes ≡ map.now)
@@ -71,6 +72,7 @@ impl Tally {
     /// The same over a map that others share, of which no copy is made.
     ///
     /// # Errors
+    ///
     /// Want of memory.
     pub fn make_shared(alloc: Global, policy: &Policy, map: &Arc<Map>) -> Result<Tally, AllocError>
         ensures { IfOk result (λ t. (t.processes ≡ arc_value map.now)

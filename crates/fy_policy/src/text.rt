@@ -11,6 +11,7 @@ use std::alloc::{AllocError, Global};
 /// `MOST_TEXT_BYTES` long.
 ///
 /// # Errors
+///
 /// Want of memory.
 pub fn policy_text(alloc: Global, policy: &Policy) -> Result<String, AllocError>
     ensures { IfOk result (λ written. string_bytes written ≡ text policy.now) }

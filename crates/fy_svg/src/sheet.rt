@@ -41,6 +41,7 @@ fn write_rows(
 /// journal whose entry behind them isn't what the rules give, the place of that.
 ///
 /// # Errors
+///
 /// `AllocError` where there is no memory for it.
 pub fn svg(
     alloc: Global,

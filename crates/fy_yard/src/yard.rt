@@ -252,6 +252,7 @@ impl Shared {
     /// Shares a cluster in which nothing happened yet, and gives a seat for each actor, by number.
     ///
     /// # Errors
+    ///
     /// The cluster, as it was, where there is no memory.
     pub fn open(alloc: Global, cluster: Cluster) -> Result<(Shared, Vec<Seat>), Cluster>
         requires { cluster.journal ≡ [] }
@@ -279,6 +280,7 @@ impl Shared {
     /// journal up to the act's entry.
     ///
     /// # Errors
+    ///
     /// In this order: `JournalFull` where the journal has as many entries as it may have;
     /// `NoMemory`. Cluster and receipts are then as they were before the act.
     pub fn order<R: Wait>(&self, rt: &R, seat: &mut Seat, act: Act) -> Result<Receipt, Fault>
@@ -319,6 +321,7 @@ impl Shared {
     /// The turn is one of the part that the boxed actor plays.
     ///
     /// # Errors
+    ///
     /// The actor's. What the turn did before it stands.
     pub fn turn<R: Wait>(
         &self,
@@ -379,6 +382,7 @@ impl Shared {
     /// nobody.
     ///
     /// # Errors
+    ///
     /// `SeatsMissing` exactly where some actor's seat isn't handed in, with all that was.
     pub fn close(self, mut seats: Vec<Seat>) -> Result<Closed, CloseFault>
         requires { All (λ seat. seat.of ≡ Some self) seats.items }
