@@ -1,3 +1,4 @@
+pub mod Alone
 pub mod Deciding
 pub mod Judging
 pub mod Sent

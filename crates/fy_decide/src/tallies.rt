@@ -1,12 +1,13 @@
 //! Tallies of one set of processes, one by each policy.
-ghost use Rattle.std.specs.Prelude.{◌≡◌, not, map, IfOk};
+ghost use Rattle.std.specs.Prelude.{◌≡◌, ◌<◌, not, map, IfOk, IfSome};
 ghost use Rattle.std.specs.Arc.{arc_value};
 ghost use Rattle.std.specs.FinSet as sets;
 ghost use Rattle.std.specs.List.{position};
+ghost use Rattle.fy_locality.specs.declared.TheConstants.{MOST_PROCESSES};
 ghost use Rattle.fy_policy.specs.Sat.{satisfies};
 ghost use Rattle.fy_decide.specs.Tallies.{tallied, with_all, without_all};
 
-use fy_locality::{Map, ProcSet};
+use fy_locality::{Map, ProcId, ProcSet, SET_WORDS};
 use fy_policy::{Policy, Tally};
 use std::alloc::{AllocError, Global};
 use std::sync::Arc;
@@ -74,13 +75,46 @@ pub(crate) fn drop_from_each(tallies: &mut [Tally], set: &ProcSet)
     }
 }
 
+/// The process of a set that has no other. Looks at each word once.
+fn sole(given: &ProcSet) -> Option<ProcId>
+    ensures small { IfSome result (λ p. p.0 < MOST_PROCESSES) }
+    ensures alone { IfSome result (λ p. given.now ≡ sets.insert sets.empty p.0) }
+{
+    let words = given.words();
+    let mut found = None;
+    for k in 0..SET_WORDS {
+        let word = words[k];
+        if word != 0 {
+            let bit = word.trailing_zeros();
+            if found.is_some() || word != 1 << bit {
+                return None;
+            }
+            found = Some(ProcId(k as u32 * 64 + bit));
+        }
+    }
+    found
+}
+
 /// The place of the first policy that the tallies' set with this one satisfies. Takes no memory.
 pub(crate) fn first_satisfied_with(tallies: &[Tally], set: &ProcSet) -> Option<usize>
     ensures { result ≡ position (λ tally.
         satisfies tally.processes tally.policy (sets.contains (sets.union tally.set set.now)))
         tallies.now }
 {
-    tallies.iter().position(|tally| tally.satisfied_with(set))
+    match sole(set) {
+        Some(p) => first_satisfied_with_one(tallies, p),
+        None => tallies.iter().position(|tally| tally.satisfied_with(set)),
+    }
+}
+
+/// The same of one process.
+fn first_satisfied_with_one(tallies: &[Tally], p: ProcId) -> Option<usize>
+    requires { p.0 < MOST_PROCESSES }
+    ensures { result ≡ position (λ tally.
+        satisfies tally.processes tally.policy (sets.contains (sets.insert tally.set p.0)))
+        tallies.now }
+{
+    tallies.iter().position(|tally| tally.satisfied_with_one(p))
 }
 
 /// The place of the first policy that the tallies' set without this one is short of. Takes no
@@ -90,7 +124,22 @@ pub(crate) fn first_short_without(tallies: &[Tally], set: &ProcSet) -> Option<us
         (satisfies tally.processes tally.policy
         (sets.contains (sets.difference tally.set set.now)))) tallies.now }
 {
+    match sole(set) {
+        Some(p) => first_short_without_one(tallies, p),
+        None => tallies
+            .iter()
+            .position(|tally| !tally.satisfied_without(set)),
+    }
+}
+
+/// The same of one process.
+fn first_short_without_one(tallies: &[Tally], p: ProcId) -> Option<usize>
+    requires { p.0 < MOST_PROCESSES }
+    ensures { result ≡ position (λ tally. not
+        (satisfies tally.processes tally.policy (sets.contains (sets.remove tally.set p.0))))
+        tallies.now }
+{
     tallies
         .iter()
-        .position(|tally| !tally.satisfied_without(set))
+        .position(|tally| !tally.satisfied_without_one(p))
 }

@@ -1,4 +1,3 @@
-pub mod Alone
 pub mod Answered
 pub mod Bounds
 pub mod Counts

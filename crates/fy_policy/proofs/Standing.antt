@@ -411,38 +411,6 @@ asked processes all policy set node was s answer result alike is =
     ∙ was.same _
     ∙ root-same processes policy (sets.contains answer)
 
--- ---- a set of one process
-in-one : (given : sets.FinSet nat_cmp) (p q : ℕ) → given ≡ sets.insert sets.empty p → sets.contains given q ≡ eqb q p
-in-one given p q is = ap (λ t. sets.contains t q) is ∙ sets.contains-insert nat_cmp_total sets.empty p q ∙ (λ i. unsigned_tied q p i || sets.contains-empty nat_cmp q i) ∙ alone (eqb q p)
-  where
-    alone : (b : Bool) → (b || false) ≡ b
-    alone true = refl
-    alone false = refl
-
-pub with-one : (set given : sets.FinSet nat_cmp) (p : ℕ) → given ≡ sets.insert sets.empty p → sets.insert set p ≡ sets.union set given
-with-one set given p is = sets.same_set nat_cmp_total sets.nat_cmp-IsAntisymmetric (sets.insert set p) (sets.union set given) (λ q.
-    sets.contains-insert nat_cmp_total set p q ∙ ap (λ b. b || sets.contains set q) (unsigned_tied q p) ∙ either (eqb q p) (sets.contains set q)
-    ∙ ap (λ b. sets.contains set q || b) (sym (in-one given p q is))
-    ∙ sym (sets.contains-union nat_cmp_total set given q))
-  where
-    either : (a b : Bool) → (a || b) ≡ (b || a)
-    either true true = refl
-    either true false = refl
-    either false true = refl
-    either false false = refl
-
-pub without-one : (set given : sets.FinSet nat_cmp) (p : ℕ) → given ≡ sets.insert sets.empty p → sets.remove set p ≡ sets.difference set given
-without-one set given p is = sets.same_set nat_cmp_total sets.nat_cmp-IsAntisymmetric (sets.remove set p) (sets.difference set given) (λ q.
-    sets.contains-remove nat_cmp_total set p q ∙ ap (λ b. not b && sets.contains set q) (unsigned_tied q p) ∙ both-ways (not (eqb q p)) (sets.contains set q)
-    ∙ ap (λ b. sets.contains set q && not b) (sym (in-one given p q is))
-    ∙ sym (sets.contains-difference nat_cmp_total set given q))
-  where
-    both-ways : (a b : Bool) → (a && b) ≡ (b && a)
-    both-ways true true = refl
-    both-ways true false = refl
-    both-ways false true = refl
-    both-ways false false = refl
-
 -- ---- the set with some, and without some
 module _ (processes : List Locality) (all : sets.FinSet nat_cmp) (policy : Tree) (set given : sets.FinSet nat_cmp) (node : Node) (was : IsTallied processes all policy set node) where
   known : (q : ℕ) → sets.contains all q ≡ true → q < length processes

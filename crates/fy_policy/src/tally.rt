@@ -1,5 +1,5 @@
 //! A set of processes with whether it satisfies a policy, kept while processes come and go.
-ghost use Rattle.std.specs.Prelude.{◌≡◌, ◌<◌, IfOk, IfSome};
+ghost use Rattle.std.specs.Prelude.{◌≡◌, ◌<◌, IfOk};
 ghost use Rattle.std.specs.Arc.{arc_value};
 ghost use Rattle.std.specs.FinSet as sets;
 ghost use Rattle.fy_locality.specs.declared.TheConstants.{MOST_PROCESSES};
@@ -8,7 +8,7 @@ ghost use Rattle.fy_policy.specs.Sat.{satisfies};
 use crate::Policy;
 use crate::node::{Node, met, met_alone, met_turned, turn, zeros};
 use crate::planted::planted;
-use fy_locality::{Map, ProcId, ProcSet, SET_WORDS};
+use fy_locality::{Map, ProcId, ProcSet};
 use std::alloc::{AllocError, Global};
 use std::marker::Model;
 use std::sync::Arc;
@@ -129,15 +129,12 @@ impl Tally {
         ensures { result ≡ satisfies self.now.processes self.now.policy
             (sets.contains (sets.union self.now.set given.now)) }
     {
-        if let Some(p) = sole(given) {
-            return self.satisfied_with_one(p);
-        }
         let comers = given.intersection(&self.everyone).difference(&self.set);
         met_turned(&self.node, &self.map, 0, &comers, true)
     }
 
-    /// The same for one process, of which no set is made.
-    fn satisfied_with_one(&self, p: ProcId) -> bool
+    /// Whether the set with one process would satisfy the policy. Takes no memory, and makes no set.
+    pub fn satisfied_with_one(&self, p: ProcId) -> bool
         requires { p.0 < MOST_PROCESSES }
         ensures { result ≡ satisfies self.now.processes self.now.policy
             (sets.contains (sets.insert self.now.set p.0)) }
@@ -154,15 +151,13 @@ impl Tally {
         ensures { result ≡ satisfies self.now.processes self.now.policy
             (sets.contains (sets.difference self.now.set given.now)) }
     {
-        if let Some(p) = sole(given) {
-            return self.satisfied_without_one(p);
-        }
         let goers = given.intersection(&self.everyone).intersection(&self.set);
         met_turned(&self.node, &self.map, 0, &goers, false)
     }
 
-    /// The same for one process, of which no set is made.
-    fn satisfied_without_one(&self, p: ProcId) -> bool
+    /// Whether the set without one process would satisfy the policy. Takes no memory, and makes no
+    /// set.
+    pub fn satisfied_without_one(&self, p: ProcId) -> bool
         requires { p.0 < MOST_PROCESSES }
         ensures { result ≡ satisfies self.now.processes self.now.policy
             (sets.contains (sets.remove self.now.set p.0)) }
@@ -173,24 +168,4 @@ impl Tally {
             met(&self.node, 0)
         }
     }
-}
-
-/// The process of a set that has no other. Looks at each word once.
-fn sole(given: &ProcSet) -> Option<ProcId>
-    ensures small { IfSome result (λ p. p.0 < MOST_PROCESSES) }
-    ensures alone { IfSome result (λ p. given.now ≡ sets.insert sets.empty p.0) }
-{
-    let words = given.words();
-    let mut found = None;
-    for k in 0..SET_WORDS {
-        let word = words[k];
-        if word != 0 {
-            let bit = word.trailing_zeros();
-            if found.is_some() || word != 1 << bit {
-                return None;
-            }
-            found = Some(ProcId(k as u32 * 64 + bit));
-        }
-    }
-    found
 }

@@ -1,13 +1,9 @@
-use Rattle.std.proofs.Common.{◌≡◌, ℕ, Bool, true, ap, subst, ◌∙◌, arith}
+use Rattle.std.proofs.Common.{◌≡◌, ℕ, Bool, true, subst, arith}
 use Rattle.std.specs.FinSet as sets
 use Rattle.fy_policy.specs.Counted.{tree_of_node, within, turned_by, CanTurn, IsRightAt}
 use Rattle.fy_policy.specs.Sat.{satisfies}
-use Rattle.fy_policy.proofs.Standing.{comers-can, with-comers, with-one}
+use Rattle.fy_policy.proofs.Standing.{comers-can, with-comers}
 use Rattle.fy_policy.proofs.tally.Tally.satisfied_with.Goals as goal
-
-pub returns-in-Some : goal.returns-in-Some
-returns-in-Some c =
-    c.satisfied_with_one.ensures ∙ ap (λ s. satisfies c.args.self.now.processes c.args.self.now.policy (sets.contains s)) (with-one c.args.self.now.set c.args.given.now c.in-Some.p.0 c.in-Some.ensures.alone)
 
 pub returns : goal.returns
 returns c =

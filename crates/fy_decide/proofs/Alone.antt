@@ -1,5 +1,5 @@
 -- the one process of a set, found among its words
-use Rattle.std.proofs.Common.{inl, inr, ◌≡◌, ◌≢◌, ℕ, ◌+◌, ◌*◌, ◌/◌, ◌%◌, ◌^◌, ◌<◌, ◌≤◌, Bool, true, false, true≢false, ltb, eqb, ◌&&◌, ◌||◌, List, Option, Some, None, get_or, refl, sym, ap, subst, ◌∙◌, arith}
+use Rattle.std.proofs.Common.{inl, inr, ◌≡◌, ◌≢◌, ℕ, ◌+◌, ◌*◌, ◌/◌, ◌%◌, ◌^◌, ◌<◌, ◌≤◌, Bool, true, false, true≢false, ltb, eqb, ◌&&◌, ◌||◌, not, List, Option, Some, None, get_or, refl, sym, ap, subst, ◌∙◌, arith}
 use Rattle.std.specs.Prelude.{is_some, IfSome}
 use Rattle.std.specs.Ordering.{nat_cmp}
 use Rattle.std.specs.Int.{bit_at, w64, trailing_zeros}
@@ -107,3 +107,35 @@ found-alone ws given (Some p) is was = sets.same_set nat_cmp_total sets.nat_cmp-
 
     outside : (q n : ℕ) (b : Bool) → 1024 ≤ q → n < 1024 → (ltb q 1024 && b) ≡ (eqb q n || false)
     outside q n b high low = let ne : q ≢ n = (λ e. let x : ⊥ = omega arith in x) in grind (arith, nat_tests)
+
+-- ---- a set of one process
+in-one : (given : sets.FinSet nat_cmp) (p q : ℕ) → given ≡ sets.insert sets.empty p → sets.contains given q ≡ eqb q p
+in-one given p q is = ap (λ t. sets.contains t q) is ∙ sets.contains-insert nat_cmp_total sets.empty p q ∙ (λ i. unsigned_tied q p i || sets.contains-empty nat_cmp q i) ∙ alone (eqb q p)
+  where
+    alone : (b : Bool) → (b || false) ≡ b
+    alone true = refl
+    alone false = refl
+
+pub with-one : (set given : sets.FinSet nat_cmp) (p : ℕ) → given ≡ sets.insert sets.empty p → sets.insert set p ≡ sets.union set given
+with-one set given p is = sets.same_set nat_cmp_total sets.nat_cmp-IsAntisymmetric (sets.insert set p) (sets.union set given) (λ q.
+    sets.contains-insert nat_cmp_total set p q ∙ ap (λ b. b || sets.contains set q) (unsigned_tied q p) ∙ either (eqb q p) (sets.contains set q)
+    ∙ ap (λ b. sets.contains set q || b) (sym (in-one given p q is))
+    ∙ sym (sets.contains-union nat_cmp_total set given q))
+  where
+    either : (a b : Bool) → (a || b) ≡ (b || a)
+    either true true = refl
+    either true false = refl
+    either false true = refl
+    either false false = refl
+
+pub without-one : (set given : sets.FinSet nat_cmp) (p : ℕ) → given ≡ sets.insert sets.empty p → sets.remove set p ≡ sets.difference set given
+without-one set given p is = sets.same_set nat_cmp_total sets.nat_cmp-IsAntisymmetric (sets.remove set p) (sets.difference set given) (λ q.
+    sets.contains-remove nat_cmp_total set p q ∙ ap (λ b. not b && sets.contains set q) (unsigned_tied q p) ∙ both-ways (not (eqb q p)) (sets.contains set q)
+    ∙ ap (λ b. sets.contains set q && not b) (sym (in-one given p q is))
+    ∙ sym (sets.contains-difference nat_cmp_total set given q))
+  where
+    both-ways : (a b : Bool) → (a && b) ≡ (b && a)
+    both-ways true true = refl
+    both-ways true false = refl
+    both-ways false true = refl
+    both-ways false false = refl
