@@ -1,3 +1,4 @@
+pub mod Acknowledging
 pub mod Copying
 pub mod Deliverable
 pub mod Delivered

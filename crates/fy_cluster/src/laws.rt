@@ -1,4 +1,10 @@
 //! What every legal journal keeps, over the definitions alone.
+ghost use Rattle.std.specs.Prelude.{◌≡◌, ◌≢◌, ◌∷◌, ℕ, true};
+ghost use Rattle.fy_acts.specs.declared.entry.Entry.{Entry};
+ghost use Rattle.fy_acts.specs.declared.reply.Reply.TheVariants.{Marked};
+ghost use Rattle.fy_cluster.specs.Setup.{Setup};
+ghost use Rattle.fy_cluster.specs.History.{History, acked, moment};
+ghost use Rattle.fy_cluster.specs.Replies.{IsNext};
 ghost use Rattle.fy_cluster.specs.Survival.{DestroyedShort, LeftSatisfy, KillsJudged, RulesNamed, RecordsKept, KeepersFound, JournalsSurvive, FrontsLegal, MomentsEntered, NextLegal, NoneUnmet, SameActsSameJournal};
 ghost use Rattle.fy_cluster.specs.Versions.{SecondKnowsAll, NextLegalUnder};
 ghost use Rattle.fy_cluster.specs.Earlier.{EarlierRulesHold};
@@ -44,6 +50,13 @@ pub fn records_kept()
     fy_policy::laws::more_satisfies();
     destroyed_short();
 }
+
+/// A record is acknowledged only by an entry whose reply says so.
+pub fn acknowledged_by_reply()
+    ensures { (setup : Setup) (before : History) (entry : Entry) → IsNext setup before entry →
+        entry.reply ≢ Marked true → (rec : ℕ) →
+        acked (moment setup before entry ∷ before) rec ≡ acked before rec }
+{}
 
 /// There is a keeper of exactly the acknowledged records: the least member that isn't destroyed and
 /// has the record synced.

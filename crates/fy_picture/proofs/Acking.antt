@@ -1,87 +1,26 @@
 -- which entry acknowledged a record
-use Rattle.std.proofs.Common.{◌≡◌, ◌∙◌, ◌<◌, ◌≤◌, ◌+◌, ◌==◌, ◌&&◌, ◌||◌, ℕ, Bool, true, false, inl, inr, Option, Some, None, option_map, is_some, List, [], ◌∷◌, ◌++◌, length, length-append, length-set, take, get_or, slice_get, slice_set, nat_lt, refl, sym, subst, ap, ap₂, arith, lt-ltb, if◌then◌else◌}
-use Rattle.std.specs.Prelude.{IsSomeAnd, option_and_then}
-use Rattle.std.specs.List.{list_all}
-use Rattle.std.specs.Option.{option_map_or}
-use Rattle.std.proofs.lemmas.Bool.{false≢true, cases_lt, le-ltb, eqb-true, eqb-false, and_parts, and_from, and_right, or_parts, or_cases, or_left, or_right, false_from_ne_true, both_ways}
-use Rattle.std.proofs.lemmas.List.{take_all, take-append-le}
+use Rattle.std.proofs.Common.{◌≡◌, ◌≢◌, ◌∙◌, ◌<◌, ◌≤◌, ◌+◌, ◌==◌, ◌&&◌, ℕ, Bool, true, false, inl, inr, Option, Some, None, option_map, List, [], ◌∷◌, ◌++◌, length, length-append, length-set, take, get_or, slice_get, slice_set, nat_lt, refl, sym, subst, ap, arith, lt-ltb, if◌then◌else◌}
+use Rattle.std.specs.Prelude.{IsSomeAnd}
+use Rattle.std.proofs.lemmas.Bool.{false≢true, cases_lt, le-ltb, eqb-true, eqb-false, and_right, or_left}
+use Rattle.std.proofs.lemmas.List.{take_all, take-append-le, get_or-set_same, get_or-set_other}
 use Rattle.std.proofs.lemmas.Option.{slice_get_past, slice_get-get_or}
-use Rattle.fy_locality.specs.declared.ProcId.{ProcId}
-use Rattle.fy_net.specs.declared.message.Body.{Body}
-use Rattle.fy_net.specs.declared.message.Body.TheVariants.{Store, Synced}
-use Rattle.fy_acts.specs.declared.act.Act.{Act}
-use Rattle.fy_acts.specs.declared.act.Act.TheVariants.{Deliver}
 use Rattle.fy_acts.specs.declared.reply.Reply.{Reply}
-use Rattle.fy_acts.specs.declared.reply.Reply.TheVariants.{Marked, Done}
+use Rattle.fy_acts.specs.declared.reply.Reply.TheVariants.{Marked}
 use Rattle.fy_acts.specs.declared.entry.Entry.{Entry}
 use Rattle.fy_cluster.specs.Setup.{Setup}
-use Rattle.fy_cluster.specs.History.{History, Moment, moment, history, some_is, is_accepted, delivers, message_of, word_of, sent, marks, tells, marked, marked_after, acked, members_for}
-use Rattle.fy_cluster.specs.Replies.{IsNext, answer, on_delivery, is_acked_with}
-use Rattle.fy_cluster.proofs.Strikes.{accepted}
-use Rattle.fy_cluster.proofs.Still.{acked_kept, or_nothing}
-use Rattle.fy_cluster.proofs.Losing.{swap_eq}
-use Rattle.fy_cluster.proofs.Delivered.{after_set}
+use Rattle.fy_cluster.specs.History.{History, moment, history, some_is, acked}
+use Rattle.fy_cluster.specs.Replies.{IsNext}
 use Rattle.fy_picture.specs.Keeping.{IsAckedAt, says_acked, noted}
 use Rattle.fy_picture.proofs.Afters.{after-append}
 
 -- ---- only a reply that says so acknowledges a record
 
-delivers_is : (act : Act) (r : Reply) → is_some (delivers act r) ≡ true → (n : ℕ) × (act ≡ Deliver n) × (is_accepted r ≡ true)
-delivers_is (Deliver n) r s = (n, refl, at (is_accepted r) s)
-  where
-    at : (b : Bool) → is_some (if b then Some n else None) ≡ true → b ≡ true
-    at true s = refl
-    at false s = s
-delivers_is _ r s = absurd (false≢true s)
+abbrev pub ByReply : Type 0
+ByReply = (c : Setup) (h : History) (e : Entry) → IsNext c h e → e.reply ≢ Marked true → (r : ℕ) → acked (moment c h e ∷ h) r ≡ acked h r
 
-word_is : (r : ℕ) (o : Option Body) → some_is (λ w. w.0 == r) (option_and_then word_of o) ≡ true → (from : ProcId) × (o ≡ Some (Synced r from))
-word_is r None s = absurd (false≢true s)
-word_is r (Some (Store q to)) s = absurd (false≢true s)
-word_is r (Some (Synced q from)) s = (from, ap (λ k. Some (Synced k from)) (eqb-true q r s))
-
-answered : (c : Setup) (h : History) (by n r : ℕ) (from : ProcId) → slice_get (sent h) n ≡ Some (Synced r from) → answer c h by (Deliver n) ≡ Marked (is_acked_with h r from.0)
-unfolding answer
-answered c h by n r from s = ap (λ o. option_map_or (on_delivery h) o Done) s
-
-list_all-more : {X : Type 0} (f g : X → Bool) → ((x : X) → f x ≡ true → g x ≡ true) → (xs : List X) → list_all f xs ≡ true → list_all g xs ≡ true
-list_all-more f g w [] a = refl
-list_all-more f g w (x ∷ xs) a = let both = and_parts (f x) (list_all f xs) a in and_from (g x) (list_all g xs) (w x both.0) (list_all-more f g w xs both.1)
-
--- who has a mark once a word is delivered had one, or sent the word
-mark_from : (m : Moment) (h : History) (r : ℕ) (from : ProcId) → m.message ≡ Some (Synced r from) → (q : ProcId)
-    → marked_after m r q.0 (acked h r) (marked h r q.0) ≡ true → (marked h r q.0 || q.0 == from.0) ≡ true
-mark_from m h r from is q k = elim (or_cases (marks m r q.0) _ k) [
-  | inl a ↦
-      let own : (r == r && from.0 == q.0) ≡ true =
-      (subst (λ o. some_is (λ w. w.0 == r && w.1 == q.0) (option_and_then word_of o) ≡ true) is (and_parts (is_some (delivers m.entry.act m.entry.reply)) _ a).1) in
-      or_right (marked h r q.0) _ (swap_eq from.0 q.0 ∙ (and_parts (r == r) _ own).1)
-  | inr a ↦ or_left _ _ (and_parts _ (marked h r q.0) a).1
-]
-
--- behind an entry whose reply doesn't say so, a record is acknowledged as it was
-pub acked_only : (c : Setup) (h : History) (e : Entry) → IsNext c h e → (r : ℕ) → says_acked e.reply ≡ false → acked (moment c h e ∷ h) r ≡ acked h r
-acked_only c h e next r quiet = at (tells m r) refl
-  where
-    m : Moment
-    m = moment c h e
-
-    all_then : Bool
-    all_then = list_all (λ q. marked_after m r q.0 (acked h r) (marked h r q.0)) (members_for h r)
-
-    at : (b : Bool) → tells m r ≡ b → acked (m ∷ h) r ≡ acked h r
-    at false s = acked_kept m h r s
-    at true s =
-        let parts = and_parts (is_some (delivers e.act e.reply)) _ s in
-        let is = delivers_is e.act e.reply parts.0 in
-        let word = word_is r (message_of h e.act) parts.1 in
-        let there : slice_get (sent h) is.0 ≡ Some (Synced r word.0) = sym (ap (message_of h) is.1) ∙ word.1 in
-        let told : e.reply ≡ Marked (is_acked_with h r word.0.0) =
-        (accepted c h e next is.2).1 ∙ ap (answer c h e.by) is.1 ∙ answered c h e.by is.0 r word.0 there in
-        let not_with : is_acked_with h r word.0.0 ≡ false = sym (ap says_acked told) ∙ quiet in
-        let not_all : list_all (λ q. marked h r q.0 || q.0 == word.0.0) (members_for h r) ≡ false = (or_parts (acked h r) _ not_with).1 in
-        let none : all_then ≡ false =
-        false_from_ne_true all_then (λ all. both_ways _ not_all (list_all-more _ _ (mark_from m h r word.0 word.1) (members_for h r) all)) in
-        ap₂ (λ t a. acked h r || t && a) s none ∙ or_nothing (acked h r)
+-- a reply that doesn't say so isn't the one that does
+silent : (reply : Reply) → says_acked reply ≡ false → reply ≢ Marked true
+silent reply quiet is = false≢true (sym quiet ∙ ap says_acked is)
 
 -- ---- the place of the entry that did
 
@@ -94,7 +33,7 @@ and_true : (a b : Bool) → b ≡ true → (a && b) ≡ a
 and_true true b e = e
 and_true false b e = refl
 
-module _ (c : Setup) (xs : List Entry) (e : Entry) (r : ℕ) (next : IsNext c (history c xs) e) (place : e.at ≡ length xs) where
+module _ (by_reply : ByReply) (c : Setup) (xs : List Entry) (e : Entry) (r : ℕ) (next : IsNext c (history c xs) e) (place : e.at ≡ length xs) where
   abbrev behind : History
   behind = moment c (history c xs) e ∷ history c xs
 
@@ -132,7 +71,7 @@ module _ (c : Setup) (xs : List Entry) (e : Entry) (r : ℕ) (next : IsNext c (h
     where
       at : (b : Bool) → says_acked e.reply ≡ b → acked behind r ≡ (b && acked behind r)
       at true s = refl
-      at false s = acked_only c (history c xs) e next r s ∙ not_yet
+      at false s = by_reply c (history c xs) e next (silent e.reply s) r ∙ not_yet
 
   -- of one that was not
   later : IsAckedAt c xs r None → IsAckedAt c more r (noted e.at now_acked None)
@@ -165,6 +104,16 @@ unnoted at (Some (Some place)) = refl
 pub record Notes (f : ℕ → Option ℕ → Option ℕ) (old : List (Option ℕ)) (i : ℕ) (new : List (Option ℕ)) : Type 0 where
   pub count : length new ≡ length old
   pub each : (r : ℕ) → slice_get new r ≡ (if nat_lt r i then option_map (f r) (slice_get old r) else slice_get old r)
+
+-- a list after one element was written over
+after_set : {X : Type 0} (xs : List X) (i p : ℕ) (x other : X) → i < length xs → p < length xs → slice_get (slice_set xs i x) p ≡ (if p == i then Some x else slice_get xs p)
+after_set xs i p x other l w = at (p == i) refl
+  where
+    at : (b : Bool) → (p == i) ≡ b → slice_get (slice_set xs i x) p ≡ (if b then Some x else slice_get xs p)
+    at true e = let same : p ≡ i = eqb-true p i e in rw same (slice_get-get_or (slice_set xs i x) i other (let n = length-set xs i x in omega arith) ∙ ap Some (get_or-set_same xs i x other l))
+    at false e =
+        let apart : p ≡ i → ⊥ = eqb-false p i e in
+        slice_get-get_or (slice_set xs i x) p other (let n = length-set xs i x in omega arith) ∙ ap Some (get_or-set_other xs i p x other apart) ∙ sym (slice_get-get_or xs p other w)
 
 pub notes_begin : (f : ℕ → Option ℕ → Option ℕ) (old : List (Option ℕ)) → Notes f old 0 old
 notes_begin f old = record { count = refl; each = λ r. sym (ap (λ b. if b then option_map (f r) (slice_get old r) else slice_get old r) (le-ltb r 0 (omega arith))) }

@@ -14,7 +14,7 @@ use Rattle.fy_cluster.specs.Replies.{Legal, IsNext, reply}
 use Rattle.fy_cluster.specs.Survival.{FrontsLegal, NextLegal}
 use Rattle.fy_picture.specs.Keeping.{IsAckedAt, says_acked, noted}
 use Rattle.fy_picture.proofs.Afters.{one_more, after_next, after-append}
-use Rattle.fy_picture.proofs.Acking.{acked_at_more, never, some_and-map}
+use Rattle.fy_picture.proofs.Acking.{ByReply, acked_at_more, never, some_and-map}
 
 -- ---- how many records
 
@@ -101,11 +101,11 @@ none_noted c entries size places is r l =
     subst (λ o. IsSomeAnd o (IsAckedAt c [] r)) (sym none) (never c r)
 
 -- the next act makes the next entry, and what it acknowledges is noted
-pub plays_on : FrontsLegal → NextLegal → (c : Setup) (entries : List Entry) (size i : ℕ) (e : Entry) (act : Act) (old new : Course) (olds news : List (Option ℕ)) → i < length entries → e ≡ get_or entries i e → act ≡ e.act
+pub plays_on : FrontsLegal → NextLegal → ByReply → (c : Setup) (entries : List Entry) (size i : ℕ) (e : Entry) (act : Act) (old new : Course) (olds news : List (Option ℕ)) → i < length entries → e ≡ get_or entries i e → act ≡ e.act
     → new ≡ entered old e.by act → length news ≡ length olds
     → ((r : ℕ) → slice_get news r ≡ option_map (noted e.at (says_acked e.reply && acked (history_of new) r)) (slice_get olds r))
     → PlaysOn c entries size i old olds → PlaysOn c entries size (i + 1) new news
-plays_on fronts next c entries size i e act old new olds news l is same made size_is noted_is k = record {
+plays_on fronts next by_reply c entries size i e act old new olds news l is same made size_is noted_is k = record {
   plays = plays_next fronts next c entries i e act old new l is same made k.plays;
   count = size_is ∙ k.count;
   acked = λ legal r within.
@@ -118,7 +118,7 @@ plays_on fronts next c entries size i e act old new olds news l is same made siz
       subst (λ xs. IsSomeAnd (slice_get news r) (IsAckedAt c xs r)) (sym with)
       (some_and-map (noted e.at (says_acked e.reply && acked (moment c (history c (take i entries)) e ∷ history c (take i entries)) r))
       (IsAckedAt c (take i entries) r) (IsAckedAt c (take i entries ++ e ∷ []) r)
-      (acked_at_more c (take i entries) e r may place) (slice_get olds r) (slice_get news r)
+      (acked_at_more by_reply c (take i entries) e r may place) (slice_get olds r) (slice_get news r)
       (noted_is r ∙ ap (λ h. option_map (noted e.at (says_acked e.reply && acked h r)) (slice_get olds r)) then)
       (k.acked legal r within));
 }

@@ -114,6 +114,7 @@ fn played(
         → IsSomeAnd (slice_get replay.acked_at.items r) (IsAckedAt config.now entries.now r)) }
 {
     laws::one_entry_more();
+    laws::acknowledged_by_reply();
     let mut cluster = Cluster::make(alloc, config.try_copy(alloc)?)?;
     let mut acked_at = vec![in alloc; None; count]?;
     for entry in entries {

@@ -20,6 +20,6 @@ loop-entry-init c =
 
 pub loop-entry-preserved : goal.loop-entry-preserved
 loop-entry-preserved c =
-    plays_on c.one_entry_more.ensures.fronts c.one_entry_more.ensures.next c.args.config.now c.args.entries.now c.args.count
+    plays_on c.one_entry_more.ensures.fronts c.one_entry_more.ensures.next c.acknowledged_by_reply.ensures c.args.config.now c.args.entries.now c.args.count
     c.loop-entry.entry-index c.entry-item.result c.in_ok-act.act c.loop-entry.cluster c.apply.new.self c.loop-entry.acked_at.items c.note.new.acked_at.items
     c.loop-entry-test.true c.entry-item.is c.in_ok-act.ensures.equal c.in-Ok.ensures.entered c.note.ensures.count c.note.ensures.each c.loop-entry.invariant
