@@ -1,5 +1,5 @@
 -- what one piece after another makes
-use Rattle.std.proofs.Common.{◌≡◌, ◌∙◌, ap, sym, List, ℕ, [], ◌++◌, append_assoc, append-nil, Result, Ok, Err, OnOk, IsErrAnd}
+use Rattle.std.proofs.Common.{◌≡◌, ◌∙◌, ap, sym, List, ℕ, [], ◌++◌, append_assoc, append-nil, Result, Ok, Err, IsErrAnd}
 use Rattle.fy_spelling.specs.Puts.{StandsAtFront, Puts}
 
 -- two pieces, one after the other
@@ -32,8 +32,3 @@ refused Q (Err e) t o q is kept = kept
 pub joins : {E : Type 0} (r : Result (Unit {0}) E) (a b o p q : List ℕ) → p ≡ o ++ a → Puts r p q b → Puts r o q (a ++ b)
 joins (Ok x) a b o p q e text = joined a b o p q e text
 joins (Err e) a b o p q is kept = stands_behind a o p q is kept
-
--- a piece that was written is the same in other words
-pub said : {E B : Type 0} (r : Result (Unit {0}) E) (a b o q : List ℕ) → (B → a ≡ b) → Puts r o q a → OnOk r B → Puts r o q b
-said (Ok x) a b o q same text bare = text ∙ ap (λ x. o ++ x) (same bare)
-said (Err e) a b o q same kept bare = kept

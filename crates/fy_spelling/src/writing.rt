@@ -1,5 +1,5 @@
 //! Texts of acts, replies, entries and commands, written after what a buffer has.
-ghost use Rattle.std.specs.Prelude.{◌≡◌, ◌++◌, OnOk, IfOk, decimal, codes, string_bytes};
+ghost use Rattle.std.specs.Prelude.{◌≡◌, ◌++◌, OnOk, OnErr, IfOk, decimal, codes, string_bytes};
 ghost use Rattle.fy_spelling.specs.Values.{text_of};
 ghost use Rattle.fy_spelling.specs.Puts.{Puts};
 ghost use Rattle.fy_spelling.specs.Pieces.{one_text, last_text, asked_text, front_text, entry_pieces, IsBare};
@@ -79,12 +79,19 @@ fn put_pieces(out: &mut Vec<u8>, command: &Command) -> Result<(), AllocError>
 ///
 /// # Errors
 ///
-/// `AllocError` where there is no memory for it; a part of it may be put then, behind all that the
-/// buffer had.
+/// `AllocError` where there is no memory for it; the buffer then has what it had.
 pub fn put_command(out: &mut Vec<u8>, command: &Command) -> Result<(), AllocError>
-    ensures { Puts result out.old.items out.new.items (command_text command.now) }
+    ensures ok { OnOk result (out.new.items ≡ out.old.items ++ command_text command.now) }
+    ensures err { OnErr result (out.new.items ≡ out.old.items) }
 {
-    put_pieces(out, command)
+    let length = out.len();
+    match put_pieces(out, command) {
+        Ok(()) => Ok(()),
+        Err(refused) => {
+            out.truncate(length);
+            Err(refused)
+        }
+    }
 }
 
 fn put_front(out: &mut Vec<u8>, entry: &Entry) -> Result<(), AllocError>
@@ -109,12 +116,19 @@ fn put_entry_pieces(out: &mut Vec<u8>, entry: &Entry) -> Result<(), AllocError>
 ///
 /// # Errors
 ///
-/// `AllocError` where there is no memory for it; a part of it may be put then, behind all that the
-/// buffer had.
+/// `AllocError` where there is no memory for it; the buffer then has what it had.
 pub fn put_entry(out: &mut Vec<u8>, entry: &Entry) -> Result<(), AllocError>
-    ensures { Puts result out.old.items out.new.items (text_of entry.now) }
+    ensures ok { OnOk result (out.new.items ≡ out.old.items ++ text_of entry.now) }
+    ensures err { OnErr result (out.new.items ≡ out.old.items) }
 {
-    put_entry_pieces(out, entry)
+    let length = out.len();
+    match put_entry_pieces(out, entry) {
+        Ok(()) => Ok(()),
+        Err(refused) => {
+            out.truncate(length);
+            Err(refused)
+        }
+    }
 }
 
 /// The one text of an entry, without a line end.

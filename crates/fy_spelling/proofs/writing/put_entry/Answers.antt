@@ -1,6 +1,8 @@
-use Rattle.fy_spelling.proofs.Joined.{said}
+use Rattle.std.proofs.Common.{◌++◌, ◌∙◌, ap}
 use Rattle.fy_spelling.proofs.Same.{entry_same}
 use Rattle.fy_spelling.proofs.writing.put_entry.Goals as goal
 
-pub returns : goal.returns
-returns c = said c.put_entry_pieces.result _ _ _ _ (entry_same c.args.entry.now) c.put_entry_pieces.ensures.text c.put_entry_pieces.ensures.bare
+pub returns-in-Ok-clause-ok : goal.returns-in-Ok-clause-ok
+returns-in-Ok-clause-ok c =
+    let same = entry_same c.args.entry.now c.in-Ok.ensures.bare in
+    c.in-Ok.ensures.text ∙ ap (λ text. c.args.out.now.items ++ text) same
