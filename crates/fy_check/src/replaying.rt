@@ -79,6 +79,18 @@ impl Replayer {
         })
     }
 
+    /// Makes room for so many entries more, as far as the journal may have them, and changes nothing
+    /// else. `enter` makes room by itself, step by step.
+    ///
+    /// # Errors
+    ///
+    /// `AllocError` where there is no memory for it.
+    pub fn make_room(&mut self, count: usize) -> Result<(), AllocError>
+        ensures { self.new ≡ self.old }
+    {
+        self.cluster.make_room(count)
+    }
+
     /// The place of the first bad entry so far; `None` where the entries are a legal journal.
     pub fn first_bad(&self) -> Option<u32>
         ensures { result ≡ self.now.first_bad }
@@ -125,6 +137,7 @@ pub fn replay(alloc: Global, config: &Config, journal: &Journal) -> Result<(), C
 {
     journal.invariant();
     let mut replayer = Replayer::begin(alloc, config.try_copy(alloc)?, journal.version())?;
+    replayer.make_room(journal.len())?;
     for entry in journal.entries() {
         replayer.enter(Entry {
             at: entry.at,

@@ -94,6 +94,24 @@ impl Cluster {
             .enter(&mut self.journal, self.alloc, &self.config, by, act)
     }
 
+    /// Makes room in the journal for so many entries more, as far as it may have them, and changes
+    /// nothing else. `apply` makes room by itself, step by step: who knows how many acts are to
+    /// come spares it the steps.
+    ///
+    /// # Errors
+    ///
+    /// `AllocError` where there is no memory for it.
+    pub fn make_room(&mut self, count: usize) -> Result<(), AllocError>
+        ensures { self.new ≡ self.old }
+    {
+        let limit = self.config.journal_limit() as usize;
+        let most = limit.saturating_sub(self.journal.len());
+        match self.journal.reserve(count.min(most)) {
+            Ok(()) => Ok(()),
+            Err(_) => Err(AllocError),
+        }
+    }
+
     /// Applies acts one after another, each by the actor beside it, and stops at the first fault.
     /// What was entered before it stands.
     ///

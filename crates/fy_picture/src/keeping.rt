@@ -116,6 +116,7 @@ fn played(
     laws::one_entry_more();
     laws::acknowledged_by_reply();
     let mut cluster = Cluster::make(alloc, config.try_copy(alloc)?)?;
+    cluster.make_room(entries.len())?;
     let mut acked_at = vec![in alloc; None; count]?;
     for entry in entries {
         let act = entry.act.try_copy(alloc)?;

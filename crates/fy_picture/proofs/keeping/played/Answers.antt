@@ -13,7 +13,7 @@ pub loop-entry-init : goal.loop-entry-init
 loop-entry-init c =
     let none : c.in_ok-acked_at.acked_at.items ≡ replicate c.args.count None = c.in_ok-acked_at.ensures.items_if_clones_equal (none_from _ (λ x k. k)) in
     record {
-      plays = λ legal. c.in_ok-cluster.ensures ∙ ap opened c.in_ok-try_copy.ensures;
+      plays = λ legal. c.make_room.ensures ∙ c.in_ok-cluster.ensures ∙ ap opened c.in_ok-try_copy.ensures;
       count = ap length none ∙ length-replicate c.args.count None;
       acked = λ legal r l. none_noted c.args.config.now c.args.entries.now c.args.count c.in_ok-acked_at.acked_at.items none r l;
     }
