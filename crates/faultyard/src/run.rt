@@ -68,6 +68,9 @@ fn played(alloc: Global, config: &Config, commands: Vec<Command>) -> Result<Clus
     let Ok(mut cluster) = Cluster::make(alloc, config) else {
         return Err(Stop::NoMemory);
     };
+    let Ok(()) = cluster.make_room(commands.len()) else {
+        return Err(Stop::NoMemory);
+    };
     match apply_all(&mut cluster, commands) {
         Ok(()) => Ok(cluster),
         Err(_) => Err(Stop::NoMemory),
