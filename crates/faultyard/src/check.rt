@@ -60,10 +60,6 @@ pub(crate) struct Finding {
     pub(crate) first_bad: Option<u32>,
 }
 
-/// No line of an entry has fewer bytes: an audit has at most as many entries as lines of this
-/// length.
-const LEAST_LINE_BYTES: usize = 58;
-
 /// Reads an audit entry by entry, and has each checked as it is read. Behind a bad entry the rest
 /// is read for its faults.
 pub(crate) fn find(alloc: Global, config: &Config, bytes: &[u8]) -> Result<Finding, Stop>
@@ -84,8 +80,6 @@ pub(crate) fn find(alloc: Global, config: &Config, bytes: &[u8]) -> Result<Findi
     let Ok(mut replayer) = Replayer::begin(alloc, config, reader.version()) else {
         return Err(Stop::NoMemory);
     };
-    // Where there is no memory for all at once, there may be for one entry after another.
-    let _ = replayer.make_room(bytes.len() / LEAST_LINE_BYTES);
     while !reader.is_at_end() {
         let entry = match reader.next_entry() {
             Ok(entry) => entry,

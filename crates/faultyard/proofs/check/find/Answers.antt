@@ -1,5 +1,5 @@
-use Rattle.std.proofs.Common.{rules, ◌≡◌, ◌∙◌, [], ◌∷◌, ◌++◌, sym, ap, subst}
-use Rattle.fy_check.specs.Replayed.{Replayed, HasReplayed, HasFirstBad}
+use Rattle.std.proofs.Common.{rules, ◌≡◌, ◌∙◌, [], ◌∷◌, ◌++◌, sym, subst}
+use Rattle.fy_check.specs.Replayed.{HasReplayed, HasFirstBad}
 use Rattle.faultyard.proofs.Checking.{stop_is_told}
 use Rattle.faultyard.proofs.check.find.Goals as goal
 
@@ -7,11 +7,9 @@ pub loop-reader-init : goal.loop-reader-init
 loop-reader-init c = (
   [],
   c.in-Ok.ensures.begun,
-  subst (HasReplayed c.args.config.now []) (sym c.make_room.ensures)
-      (subst (λ setup. HasReplayed setup [] c.in-Ok-begin.replayer) c.in-Ok-try_copy.ensures
-      c.in-Ok-begin.ensures.begun),
-  ap (λ (replayed : Replayed). replayed.version) c.make_room.ensures
-      ∙ c.in-Ok-begin.ensures.version ∙ c.version.ensures,
+  subst (λ setup. HasReplayed setup [] c.in-Ok-begin.replayer) c.in-Ok-try_copy.ensures
+      c.in-Ok-begin.ensures.begun,
+  c.in-Ok-begin.ensures.version ∙ c.version.ensures,
 )
 
 pub returns-in-Err-next_entry-clause-refused : goal.returns-in-Err-next_entry-clause-refused
