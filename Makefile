@@ -6,7 +6,7 @@
 #                         command-line cases, swarms of a few seeds, talks with a guard, the tools, and the C library
 #   make format           lays out each crate as the gate wants it
 #   make swarm-seeds      holds the swarms of 200 seeds on each cluster file of examples/ against the rules
-#   make refused-memory   refuses each request for memory of the short tests of commands, acts, actors and shared clusters in turn
+#   make refused-memory   refuses each request for memory of the short tests of commands, texts, acts, actors and shared clusters in turn
 #   make wrong-bodies     tries every wrong body again, which the prover has to refuse, and records those crates whose are all refused
 #   make try-redis        kills redis servers at random for a minute as a guard answers, and for a minute as was ordered, and counts
 #                         the records that were lost; it needs redis-server
@@ -78,7 +78,7 @@ swarm-seeds: build
 	tests/swarm/run bin/faultyard --seeds 200
 
 refused-memory:
-	tests/refused-memory faultyard/short:: fy_cluster_tests/short:: fy_cluster_tests/actors::played:: fy_cluster_tests/actors::stored::
+	tests/refused-memory faultyard/short:: fy_tests/a_buffer_keeps fy_cluster_tests/short:: fy_cluster_tests/actors::played:: fy_cluster_tests/actors::stored::
 
 wrong-bodies:
 	tests/wrong-bodies --all --record
