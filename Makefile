@@ -1,7 +1,7 @@
 # faultyard: proved, built and tested by the command `rt` of the Rattle toolchain.
 #
 #   make                  proves and builds the program, and leaves it at bin/faultyard
-#   make run              builds the program without its proofs, and asks it about examples/c6.judge (yes, yes, no, gone)
+#   make run              builds examples/first.rt.in without its proofs: which of six processes may be destroyed? (yes, yes, no, gone)
 #   make test             all that CI runs: every proof from nothing, the wrong bodies of crates that changed, each test, and the
 #                         command-line cases, swarms of a few seeds, talks with a guard, the tools, and the C library
 #   make format           lays out each crate as the gate wants it
@@ -31,7 +31,7 @@ build:
 	cp $(BUILT) bin/faultyard
 
 run:
-	@echo "make run: this build is not proved yet; 'make' proves it and leaves bin/faultyard"
+	@echo "make run: this build is not proved yet; 'make' proves the program and leaves bin/faultyard"
 	@examples/first-answer
 
 # `rt lib` proves what changed.
