@@ -108,7 +108,7 @@ impl Cluster {
         let most = limit.saturating_sub(self.journal.len());
         match self.journal.reserve(count.min(most)) {
             Ok(()) => Ok(()),
-            // Want of memory: the limit is below what any journal holds.
+            // Want of memory, since a cluster's limit is far below that of the type.
             Err(_) => Err(AllocError),
         }
     }

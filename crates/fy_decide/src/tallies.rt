@@ -107,7 +107,7 @@ pub(crate) fn first_satisfied_with(tallies: &[Tally], set: &ProcSet) -> Option<u
     }
 }
 
-/// The same of one process.
+/// The place of the first policy that the tallies' set with one process satisfies. Takes no memory.
 fn first_satisfied_with_one(tallies: &[Tally], p: ProcId) -> Option<usize>
     requires { p.0 < MOST_PROCESSES }
     ensures { result ≡ position (λ tally.
@@ -132,7 +132,8 @@ pub(crate) fn first_short_without(tallies: &[Tally], set: &ProcSet) -> Option<us
     }
 }
 
-/// The same of one process.
+/// The place of the first policy that the tallies' set without one process is short of. Takes no
+/// memory.
 fn first_short_without_one(tallies: &[Tally], p: ProcId) -> Option<usize>
     requires { p.0 < MOST_PROCESSES }
     ensures { result ≡ position (λ tally. not
