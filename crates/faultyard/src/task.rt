@@ -162,7 +162,7 @@ fn bare<'a>(alloc: Global) -> Command<'a>
             "Injects faults into a simulated storage cluster, as far as its replication bears them",
         )
         .after_help(EXAMPLES)
-        .version("0.1.0")
+        .version("1.0.0")
         .subcommand_required(true)
 }
 

@@ -1,5 +1,5 @@
-//! The example of the README: a cluster of six, as somebody makes and asks it who has only read
-//! that page.
+//! The example of docs/LIBRARY.md: a cluster of six, as somebody makes and asks it who has only
+//! read that page.
 use fy_acts::{Act, Reply};
 use fy_cluster::{Cluster, Config, Role};
 use fy_disk::Payload;

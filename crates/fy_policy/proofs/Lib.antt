@@ -2,6 +2,7 @@ pub mod Answered
 pub mod Bounds
 pub mod Counts
 pub mod Leaders
+pub mod Left
 pub mod Numerals
 pub mod Planting
 pub mod Readings

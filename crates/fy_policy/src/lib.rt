@@ -23,5 +23,6 @@ pub use limits::{
 };
 pub use policy::{Policy, satisfied};
 pub use reading::read_policy;
+pub use shape::Shape;
 pub use tally::Tally;
 pub use text::policy_text;

@@ -49,8 +49,8 @@ impl Policy {
         let _shape = &self.shape;
     }
 
-    /// Its shape.
-    pub(crate) fn shape(&self) -> &Shape
+    /// Its tree.
+    pub fn shape(&self) -> &Shape
         ensures shape { tree_of result.now ≡ self.now }
         ensures policy { IsPolicy self.now }
     {

@@ -8,6 +8,7 @@ use Rattle.fy_acts.specs.declared.reply.Reply.{Reply}
 use Rattle.fy_acts.specs.declared.reply.Reply.TheVariants.{Verdict, Begun, Stored, Marked, Sent, Done, No}
 use Rattle.fy_cluster.specs.Replies.{Legal}
 use Rattle.fy_worked.specs.Clusters.{six, four, process, struck, weakened, barred}
+use Rattle.fy_worked.specs.Targets.{centers}
 use Rattle.fy_worked.specs.Wrong as wrong
 use Rattle.fy_worked.proofs.Played.{cluster_on_literals}
 
@@ -42,6 +43,31 @@ protection_or_grant e = let rules : Some (Protected (process 1)) ≡ Some (NoGra
 pub protection_named_first : Legal six wrong.protection_named_first → ⊥
 unfolding cluster_on_literals
 protection_named_first l = protection_or_grant l.1.1.0.right
+
+replication_or_grant : barred (TooManyDestroyed 0) ≡ barred (NoGrant (process 2)) → ⊥
+replication_or_grant e = let rules : Some (TooManyDestroyed 0) ≡ Some (NoGrant (process 2)) = ap rule_of e in absurd (cc)
+
+pub replication_before_grant : Legal six wrong.replication_before_grant → ⊥
+unfolding cluster_on_literals
+replication_before_grant l = replication_or_grant l.1.1.0.right
+
+replication_or_protection : weakened Reboot (TooManyDestroyed 0) ≡ weakened Reboot (Protected (process 3)) → ⊥
+replication_or_protection e = let rules : Some (TooManyDestroyed 0) ≡ Some (Protected (process 3)) = ap rule_of e in absurd (cc)
+
+pub replication_before_protection : Legal six wrong.replication_before_protection → ⊥
+unfolding cluster_on_literals
+replication_before_protection l = replication_or_protection l.1.1.1.0.right
+
+pub two_zones_by_center : Legal centers wrong.two_zones_by_center → ⊥
+unfolding cluster_on_literals
+two_zones_by_center l = killed_or_rebooted l.1.0.right
+
+rebooted_or_barred : struck Reboot ≡ barred (NoGrant (process 4)) → ⊥
+rebooted_or_barred e = let rules : None ≡ Some (NoGrant (process 4)) = ap rule_of e in absurd (cc)
+
+pub covered_in_part : Legal centers wrong.covered_in_part → ⊥
+unfolding cluster_on_literals
+covered_in_part l = rebooted_or_barred l.1.1.0.right
 
 from_one_or_nought : Begun 0 1 ≡ Begun 0 0 → ⊥
 from_one_or_nought e = absurd (cc)

@@ -1,9 +1,9 @@
 -- journals of grants and protections: who may do what to whom
 use Rattle.std.specs.Prelude.{ℕ, true, List, [], ◌∷◌, Some, codes, replicate}
 use Rattle.fy_locality.specs.declared.key.Key.TheVariants.{DataHall}
-use Rattle.fy_kinds.specs.declared.kind.Kind.TheVariants.{RebootProcess, Reboot, KillInstantly}
+use Rattle.fy_kinds.specs.declared.kind.Kind.TheVariants.{RebootProcess, Reboot, RebootAndDelete, KillInstantly}
 use Rattle.fy_kinds.specs.declared.kind_set.KindSet.{KindSet}
-use Rattle.fy_kinds.specs.declared.verdict.Rule.TheVariants.{NoTarget, NoGrant, Protected}
+use Rattle.fy_kinds.specs.declared.verdict.Rule.TheVariants.{NoTarget, NoGrant, Protected, TooManyDestroyed}
 use Rattle.fy_kinds.specs.Kinds.{Striking, Clogging, only, no_deed}
 use Rattle.fy_grants.specs.declared.grant.Grant.{Grant}
 use Rattle.fy_grants.specs.declared.grant.Scope.{Scope}
@@ -13,7 +13,7 @@ use Rattle.fy_acts.specs.declared.reply.Refusal.TheVariants.{NoSuch, Full}
 use Rattle.fy_acts.specs.declared.reply.Reply.TheVariants.{Ruled, Done, No}
 use Rattle.fy_acts.specs.declared.entry.Entry.{Entry}
 use Rattle.fy_cluster.specs.Setup.{Setup}
-use Rattle.fy_worked.specs.Clusters.{six, guarded_six, entry, process, zone_named, process_named, kill, reboot, reboot_or_restart, struck, weakened, barred}
+use Rattle.fy_worked.specs.Clusters.{six, guarded_six, entry, process, zone_named, process_named, kill, empty, reboot, reboot_or_restart, struck, weakened, barred}
 
 abbrev pub destroying : KindSet
 destroying = record no_deed { reboot_and_delete = true; kill_instantly = true }
@@ -38,6 +38,17 @@ protected =
     ∷ entry 1 1 (kill (zone_named (codes "z0"))) (weakened Reboot (Protected (process 1)))
     ∷ entry 2 3 (kill (zone_named (codes "z0"))) (barred (NoGrant (process 0)))
     ∷ entry 3 3 (kill (process_named (codes "p1"))) (barred (NoGrant (process 1)))
+    ∷ []
+
+-- replication bars a kill of a second zone; on the same order a missing grant is named first, and so
+-- is a protection
+abbrev pub first_of_the_rules : List Entry
+first_of_the_rules =
+    entry 0 1 (empty (process_named (codes "p0"))) (struck RebootAndDelete)
+    ∷ entry 1 1 (kill (zone_named (codes "z1"))) (weakened Reboot (TooManyDestroyed 0))
+    ∷ entry 2 3 (kill (zone_named (codes "z1"))) (barred (NoGrant (process 2)))
+    ∷ entry 3 4 (Protect (process 3) destroying) Done
+    ∷ entry 4 1 (kill (zone_named (codes "z1"))) (weakened Reboot (Protected (process 3)))
     ∷ []
 
 -- a grant is given and taken, and a protection made and ended; nobody is in a hall

@@ -6,4 +6,5 @@ pub mod Messages
 pub mod Refused
 pub mod Healed
 pub mod Replaced
+pub mod Targets
 pub mod Wrong

@@ -1,14 +1,14 @@
 -- journals of records: what is written, synced, torn off and acknowledged
-use Rattle.std.specs.Prelude.{ℕ, true, false, List, [], ◌∷◌, ◌++◌, codes}
+use Rattle.std.specs.Prelude.{ℕ, zero, suc, ◌+◌, true, false, List, [], ◌∷◌, ◌++◌, codes}
 use Rattle.fy_locality.specs.declared.ProcId.{ProcId}
 use Rattle.fy_kinds.specs.declared.kind.Kind.TheVariants.{RebootProcess, Reboot, RebootAndDelete, KillInstantly}
 use Rattle.fy_kinds.specs.declared.verdict.Rule.TheVariants.{TooManyDestroyed}
 use Rattle.fy_disk.specs.declared.item.Item.{Item}
 use Rattle.fy_acts.specs.declared.act.Act.TheVariants.{Form, Begin, Deliver, Resend, Sync, Up}
-use Rattle.fy_acts.specs.declared.reply.Refusal.TheVariants.{Acked, NotUp, NotMember}
+use Rattle.fy_acts.specs.declared.reply.Refusal.TheVariants.{Acked, NotUp, NotMember, NoCopy}
 use Rattle.fy_acts.specs.declared.reply.Reply.TheVariants.{Formed, Begun, Stored, Marked, Sent, Synced, Done, No}
 use Rattle.fy_acts.specs.declared.entry.Entry.{Entry}
-use Rattle.fy_worked.specs.Clusters.{entry, process, process_named, kill, empty, empty_or_tear, reboot, restart, struck, weakened}
+use Rattle.fy_worked.specs.Clusters.{entry, process, process_named, kill, empty, empty_or_tear, reboot, restart, copy, struck, weakened}
 
 -- the members of the one team of these journals
 abbrev pub pair : List ProcId
@@ -114,6 +114,34 @@ counted_anew_after_sync =
     ∷ entry 8 0 (Resend 1 (process 0)) (Sent 9)
     ∷ entry 9 0 (Deliver 9) Stored
     ∷ entry 10 1 (reboot (process_named (codes "p0")) 1) (struck Reboot)
+    ∷ []
+
+-- a record is sent again so many times, by messages from this number on, at places from this one on
+abbrev pub sent_again : (count at message : ℕ) → List Entry
+sent_again zero at message = []
+sent_again (suc count) at message =
+    entry at 0 (Resend 0 (process 0)) (Sent message) ∷ sent_again count (at + 1) (message + 1)
+
+-- so many messages are delivered and stored
+abbrev pub stored : (count at message : ℕ) → List Entry
+stored zero at message = []
+stored (suc count) at message =
+    entry at 0 (Deliver message) Stored ∷ stored count (at + 1) (message + 1)
+
+-- 65 writes: of the first record at the places 0 to 62, then one each of two more records; a reboot
+-- has the bits 0 and 63, and the second record can be copied, and not the third
+abbrev pub last_bit_kept : List Entry
+last_bit_kept =
+    entry 0 0 (Form (process 0 ∷ []) 0) (Formed 0)
+    ∷ entry 1 0 (Begin 0 (10 ∷ [])) (Begun 0 0)
+    ∷ sent_again 62 2 1
+    ++ entry 64 0 (Begin 0 (11 ∷ [])) (Begun 1 63)
+    ∷ entry 65 0 (Begin 0 (12 ∷ [])) (Begun 2 64)
+    ∷ stored 65 66 0
+    ++ entry 131 1 (reboot (process_named (codes "p0")) 9223372036854775809) (struck Reboot)
+    ∷ entry 132 0 (Up (process 0)) Done
+    ∷ entry 133 0 (copy 0 2 1) (No NoCopy)
+    ∷ entry 134 0 (copy 0 1 1) (Sent 65)
     ∷ []
 
 -- a process that is only restarted keeps its unsynced writes

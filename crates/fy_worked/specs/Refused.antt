@@ -8,7 +8,7 @@ use Rattle.fy_acts.specs.declared.act.Act.TheVariants.{Clog, Unclog, Form, Begin
 use Rattle.fy_acts.specs.declared.reply.Refusal.TheVariants.{Stranger, WrongRole, NoPolicy, NoProcess, Gone, TeamShort, NoTeam, NotUp, IsUp, ClockEnd, NoActor, Payload, NoRecord, NotMember}
 use Rattle.fy_acts.specs.declared.reply.Reply.TheVariants.{Ruled, Formed, Begun, Time, Done, No}
 use Rattle.fy_acts.specs.declared.entry.Entry.{Entry}
-use Rattle.fy_worked.specs.Clusters.{every_kind, entry, process, zone_named, process_named, kill, struck, barred}
+use Rattle.fy_worked.specs.Clusters.{every_kind, entry, process, zone_named, process_named, kill, copy, replace, struck, barred}
 use Rattle.fy_worked.specs.Records.{pair, hi, written_and_synced}
 
 -- acts that name what isn't there, or that their actor may not make; the clock gets to its end
@@ -98,6 +98,16 @@ roles_apart =
     ∷ entry 25 1 (Protect (process 0) every_kind) (No WrongRole)
     ∷ entry 26 0 (Unprotect (process 1) every_kind) (No WrongRole)
     ∷ entry 27 1 (Unprotect (process 1) every_kind) (No WrongRole)
+    ∷ []
+
+-- nor does an operator copy a record or put a process into a team, be there one or not
+abbrev pub operator_moves_nothing : List Entry
+operator_moves_nothing =
+    entry 0 4 (copy 0 0 1) (No WrongRole)
+    ∷ entry 1 4 (replace 0 0 1) (No WrongRole)
+    ∷ entry 2 0 (Form pair 0) (Formed 0)
+    ∷ entry 3 4 (replace 0 0 1) (No WrongRole)
+    ∷ entry 4 0 (replace 0 0 1) Done
     ∷ []
 
 -- a team names a policy of several, and has to meet that one alone

@@ -2,13 +2,15 @@
 use Rattle.std.specs.Prelude.{true, false, List, [], ◌∷◌, ◌++◌, codes}
 use Rattle.fy_kinds.specs.declared.kind.Kind.TheVariants.{Reboot, RebootAndDelete, KillInstantly}
 use Rattle.fy_kinds.specs.declared.verdict.Rule.TheVariants.{NoGrant, Protected, TooManyDestroyed}
-use Rattle.fy_acts.specs.declared.act.Act.TheVariants.{Form, Begin, Deliver, Resend, Up, Tick, Protect}
+use Rattle.fy_grants.specs.declared.grant.Scope.TheVariants.{Where}
+use Rattle.fy_acts.specs.declared.act.Act.TheVariants.{Form, Begin, Deliver, Resend, Up, Tick, Give, Protect}
 use Rattle.fy_acts.specs.declared.reply.Refusal.TheVariants.{Acked}
 use Rattle.fy_acts.specs.declared.reply.Reply.TheVariants.{Formed, Begun, Stored, Marked, Sent, Time, Done, No}
 use Rattle.fy_acts.specs.declared.entry.Entry.{Entry}
 use Rattle.fy_cluster.specs.Setup.{Setup}
 use Rattle.fy_worked.specs.Clusters.{entry, process, zone_named, process_named, kill, empty, reboot, copy, replace, heal, struck, weakened, barred, cluster, six_processes, in_two_zones}
-use Rattle.fy_worked.specs.Leave.{destroying}
+use Rattle.fy_worked.specs.Leave.{leave, destroying, rebooting}
+use Rattle.fy_worked.specs.Targets.{center_named}
 use Rattle.fy_worked.specs.Records.{pair, hi, written_and_synced, forgotten}
 use Rattle.fy_worked.specs.Messages.{begun}
 use Rattle.fy_worked.specs.Healed.{healed, sent_and_healed, marked_and_healed}
@@ -40,6 +42,32 @@ abbrev pub protection_named_first : List Entry
 protection_named_first =
     entry 0 4 (Protect (process 1) destroying) Done
     ∷ entry 1 3 (kill (zone_named (codes "z0"))) (barred (Protected (process 1)))
+    ∷ []
+
+-- who has no grant is told of replication
+abbrev pub replication_before_grant : List Entry
+replication_before_grant =
+    entry 0 1 (empty (process_named (codes "p0"))) (struck RebootAndDelete)
+    ∷ entry 1 3 (kill (zone_named (codes "z1"))) (barred (TooManyDestroyed 0))
+    ∷ []
+
+-- of a protected process replication is told
+abbrev pub replication_before_protection : List Entry
+replication_before_protection =
+    entry 0 1 (empty (process_named (codes "p0"))) (struck RebootAndDelete)
+    ∷ entry 1 4 (Protect (process 3) destroying) Done
+    ∷ entry 2 1 (kill (zone_named (codes "z1"))) (weakened Reboot (TooManyDestroyed 0))
+    ∷ []
+
+-- a data centre is killed that has a process in each of two zones
+abbrev pub two_zones_by_center : List Entry
+two_zones_by_center = entry 0 1 (kill (center_named (codes "d1"))) (struck KillInstantly) ∷ []
+
+-- one grant covers a data centre of which it covers a part
+abbrev pub covered_in_part : List Entry
+covered_in_part =
+    entry 0 4 (Give (leave rebooting (Where (zone_named (codes "z1"))))) Done
+    ∷ entry 1 3 (reboot (center_named (codes "d1")) 0) (struck Reboot)
     ∷ []
 
 -- the first message has number 1

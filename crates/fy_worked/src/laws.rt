@@ -8,5 +8,6 @@ pub mod records;
 pub mod refused;
 pub mod replaced;
 pub mod strikes;
+pub mod targets;
 pub mod versions;
 pub mod wrong;

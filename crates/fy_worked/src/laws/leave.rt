@@ -7,13 +7,20 @@ ghost use Rattle.fy_cluster.specs.History.{history, destroyed, up, clogged};
 ghost use Rattle.fy_cluster.specs.Rules.{grants, is_protected};
 ghost use Rattle.fy_cluster.specs.Replies.{Legal};
 ghost use Rattle.fy_worked.specs.Clusters.{six, members, kill_and_reboot};
-ghost use Rattle.fy_worked.specs.Leave.{protected, given_and_taken, closed_up, one_zone_granted, half_unprotected, protected_from_the_start, full_of_grants, leave, rebooting, guarded, granted};
+ghost use Rattle.fy_worked.specs.Leave.{protected, first_of_the_rules, given_and_taken, closed_up, one_zone_granted, half_unprotected, protected_from_the_start, full_of_grants, leave, rebooting, guarded, granted};
 
 /// A protection bars its kinds for the whole target. Whoever has no grant is told of that first,
 /// also of a process that is protected.
 pub fn protected()
     ensures legal { Legal six protected }
     ensures destroyed { members (destroyed (history six protected)) ≡ [] }
+{}
+
+/// Of several rules that bar an order the first is named: a missing grant, a protection, and only
+/// then replication.
+pub fn first_of_the_rules()
+    ensures legal { Legal six first_of_the_rules }
+    ensures destroyed { members (destroyed (history six first_of_the_rules)) ≡ 0 ∷ [] }
 {}
 
 /// A grant holds from its Give to its Take, and a protection from its Protect to its Unprotect.

@@ -4,7 +4,7 @@ ghost use Rattle.fy_net.specs.declared.message.Body.TheVariants.{Store};
 ghost use Rattle.fy_cluster.specs.History.{history, destroyed, gone, up, members_for, sent, synced, unsynced, in_flight, marked, acked, keeper};
 ghost use Rattle.fy_cluster.specs.Replies.{Legal};
 ghost use Rattle.fy_worked.specs.Clusters.{six, four_of_one, members, process};
-ghost use Rattle.fy_worked.specs.Records.{written_and_synced, forgotten, and_back, acknowledged, spared, three_written, torn, torn_and_back, torn_once, counted_anew, counted_anew_after_sync, emptied_unsynced, weakened_and_torn, restarted, not_synced_while_down, restarted_and_torn, one_word_each, first_acknowledged, written_again, second_team, item, hi};
+ghost use Rattle.fy_worked.specs.Records.{written_and_synced, forgotten, and_back, acknowledged, spared, three_written, torn, torn_and_back, torn_once, counted_anew, counted_anew_after_sync, last_bit_kept, emptied_unsynced, weakened_and_torn, restarted, not_synced_while_down, restarted_and_torn, one_word_each, first_acknowledged, written_again, second_team, item, hi};
 
 /// A record is acknowledged once each member's word of it has come. Its keeper is the member that
 /// isn't destroyed.
@@ -91,6 +91,15 @@ pub fn counted_anew_after_sync()
     ensures legal { Legal six counted_anew_after_sync }
     ensures synced { synced (history six counted_anew_after_sync) 0
         ≡ item 0 (10 ∷ []) ∷ item 1 (11 ∷ []) ∷ item 2 (12 ∷ []) ∷ item 1 (11 ∷ []) ∷ [] }
+{}
+
+/// The last of the 64 bits is that of the place 63. The write at the place 64 has no bit, and is torn
+/// off.
+pub fn last_bit_kept()
+    ensures legal { Legal four_of_one last_bit_kept }
+    ensures synced { synced (history four_of_one last_bit_kept) 0
+        ≡ item 0 (10 ∷ []) ∷ item 1 (11 ∷ []) ∷ [] }
+    ensures unsynced { unsynced (history four_of_one last_bit_kept) 0 ≡ [] }
 {}
 
 /// An emptied disk keeps nothing, whatever the bits say.

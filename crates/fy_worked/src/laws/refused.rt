@@ -8,7 +8,7 @@ ghost use Rattle.fy_cluster.specs.Replies.{Legal};
 ghost use Rattle.fy_worked.specs.Clusters.{six, members, process};
 ghost use Rattle.fy_worked.specs.Strikes.{three_and_two};
 ghost use Rattle.fy_worked.specs.Leave.{protected};
-ghost use Rattle.fy_worked.specs.Refused.{nobody_formed, gone_protected, refused_before_anything, refused_of_the_gone, refused_in_order, roles_apart, team_by_policy, no_member_of_acknowledged};
+ghost use Rattle.fy_worked.specs.Refused.{nobody_formed, gone_protected, refused_before_anything, refused_of_the_gone, refused_in_order, roles_apart, operator_moves_nothing, team_by_policy, no_member_of_acknowledged};
 
 /// An act that names what isn't there is refused and changes nothing. The clock stops at its last
 /// tick.
@@ -57,6 +57,13 @@ pub fn roles_apart()
         (Striking Reboot)) ≡ 1 ∷ [] }
     ensures not_given { grants six (history six roles_apart) 0 ≡ [] }
     ensures not_taken { length (grants six (history six roles_apart) 1) ≡ 1 }
+{}
+
+/// An operator copies no record and changes no team.
+pub fn operator_moves_nothing()
+    ensures legal { Legal six operator_moves_nothing }
+    ensures teams { teams (history six operator_moves_nothing)
+        ≡ record { members = process 1 ∷ process 2 ∷ []; policy = 0 } ∷ [] }
 {}
 
 /// A team has to meet the policy that it names, and no other.

@@ -1,0 +1,48 @@
+//! A dead book from which on losses are counted.
+ghost use Rattle.std.specs.Prelude.{◌≡◌, IfOk};
+
+use fy_decide::{DeadBook, Loss, MakeFault};
+use fy_locality::{Map, ProcSet};
+use fy_policy::Policy;
+use std::alloc::Global;
+
+/// What a cluster has lost so far.
+#[derive(Clone, Copy)]
+pub struct Losses {
+    /// Emptied or killed for good, and not healed since.
+    pub destroyed: ProcSet,
+    /// Killed for good.
+    pub gone: ProcSet,
+    /// Not running, the gone not counted.
+    pub down: ProcSet,
+}
+
+/// The dead book of a cluster after such losses.
+///
+/// # Errors
+///
+/// Those of `DeadBook::make`.
+pub fn book_of(
+    alloc: Global,
+    map: &Map,
+    policies: &[Policy],
+    losses: &Losses,
+) -> Result<DeadBook, MakeFault>
+    ensures processes { IfOk result (λ dead. dead.processes ≡ map.now) }
+    ensures policies { IfOk result (λ dead. dead.policies ≡ policies.now) }
+{
+    let mut dead = DeadBook::make(alloc, map, policies)?;
+    strike_as_allowed(&mut dead, &losses.gone, Loss::Gone);
+    strike_as_allowed(&mut dead, &losses.destroyed, Loss::Emptied);
+    Ok(dead)
+}
+
+/// Takes a loss down. A legal journal has none that may not be.
+fn strike_as_allowed(dead: &mut DeadBook, set: &ProcSet, loss: Loss)
+    ensures processes { dead.new.processes ≡ dead.old.processes }
+    ensures policies { dead.new.policies ≡ dead.old.policies }
+{
+    if dead.may_destroy(set, loss) {
+        dead.strike(set, loss);
+    }
+}
