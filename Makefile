@@ -1,28 +1,37 @@
 # faultyard: proved, built and tested by the command `rt` of the Rattle toolchain.
 #
 #   make                  proves and builds the program, and leaves it at bin/faultyard
-#   make run              builds examples/first.rt.in without its proofs: which of six processes may be destroyed? (yes, yes, no, gone)
-#   make test             all that CI runs: every proof from nothing, the wrong bodies of crates that changed, each test, and the
-#                         command-line cases, swarms of a few seeds, talks with a guard, the tools, and the C library
+#   make run              builds the program without its proofs, and shows judge, run and check on the examples
+#   make quick            all tests that need no proof, on the program built without proofs
+#   make test             all that CI runs: the unit tests, every proof from nothing, the suites of tests on the proved program and
+#                         the C library, and the mutants of crates that changed
 #   make format           lays out each crate as the gate wants it
 #   make swarm-seeds      holds the swarms of 200 seeds on each cluster file of examples/ against the rules
-#   make refused-memory   refuses each request for memory of the short tests of commands, texts, acts, actors and shared clusters in turn
+#   make refused-memory   makes each allocation fail once, one run each, in the short tests of commands, texts, acts, actors, checks and
+#                         shared clusters, which `make test` does too, and in those of a buffer and of whole runs of actors
 #   make wrong-bodies     tries every wrong body again, which the prover has to refuse, and records those crates whose are all refused
-#   make try-redis        kills redis servers at random for a minute as a guard answers, and for a minute as was ordered, and counts
-#                         the records that were lost; it needs redis-server
+#   make try-stores       runs faultyard-nemesis on redis, etcd and PostgreSQL, a minute guarded and a minute unguarded with two
+#                         seeds each, and prints a table: guarded none may be lost; it takes a quarter of an hour
+#   make nemesis-aborts   aborts a hundred runs of faultyard-nemesis at random moments: no process may be left
 #   make look             draws a picture and takes a screenshot of it in light and in dark; it needs chromium
 #   make lib              proves and builds the C library, and leaves it at bin/libfaultyard.a and bin/libfaultyard.so
-#   make install          puts the program into $(PREFIX)/bin, and the library with its header and its pkg-config file beside it;
-#                         by default PREFIX is /usr/local
+#   make install          puts the program, its tools, the library, man pages, completions and pages below $(PREFIX), which is
+#                         /usr/local by default; `make uninstall` takes them away
+#   make dist             proves and builds all, and leaves a release in dist/: an archive, a Debian package, SHA256SUMS
+#   make static           proves the program, and links it with the C library of Debian's libc6-dev into bin/faultyard-static, which
+#                         needs no library of the machine that it runs on
+#   make try-dist         tries what is in dist/ in bare roots without the toolchain; it needs mmdebstrap, and to be root
 #   make bench            times the program on generated inputs, beside another if BESIDE is its path; and verdicts, acts,
 #                         turns, orders, cluster files and kills from C by programs of their own
 #   make clean            removes what was built, and what earlier checks kept
 
 PREFIX ?= /usr/local
+VERSION := $(shell release/version)
 BUILT := crates/faultyard/out/faultyard
+UNPROVED := bin/unproved/faultyard
 KIT = $(dir $(shell rt doc))
 
-.PHONY: build run lib merged test format swarm-seeds refused-memory wrong-bodies try-redis look install installed bench clean
+.PHONY: build run lib merged test quick format swarm-seeds refused-memory wrong-bodies try-stores nemesis-aborts look install installed uninstall static dist packaged try-dist bench clean
 
 # `rt run` proves what changed, builds the program beside its crate and runs it once.
 build:
@@ -30,9 +39,14 @@ build:
 	mkdir -p bin
 	cp $(BUILT) bin/faultyard
 
+# One build serves all that is shown, and what is tested without proofs.
 run:
-	@echo "make run: this build is not proved yet; 'make' proves the program and leaves bin/faultyard"
-	@examples/first-answer
+	@echo "make run: builds the program without its proofs, once, as $(UNPROVED): some 90 seconds on four processors"
+	@$(MAKE) --no-print-directory --silent $(UNPROVED)
+	@examples/tour $(UNPROVED)
+
+$(UNPROVED): $(shell find crates -name '*.rt' -not -path '*/out/*') crates.txt tests/layout tests/keep-program.c tests/build-unproved
+	@tests/build-unproved $@
 
 # `rt lib` proves what changed.
 lib:
@@ -40,36 +54,25 @@ lib:
 	$(MAKE) --no-print-directory merged
 
 # The library is the crate's one object beside those of the toolchain's archive for memory, so that a program links with one
-# file. Without a C compiler there is no shared library.
+# file. The shared library exports what the header declares. Without a C compiler there is none.
 merged:
 	rm -rf bin/objects
 	mkdir -p bin/objects
 	cd bin/objects && ar x ../../crates/fy_c/out/libfy_c.a && ar x $(KIT)/c/liblibc_c.a
-	rm -f bin/libfaultyard.a bin/libfaultyard.so
-	ar rcs bin/libfaultyard.a bin/objects/*.o
-	if command -v $(CC) > /dev/null; then $(CC) -shared -o bin/libfaultyard.so bin/objects/*.o; fi
+	rm -f bin/libfaultyard.*
+	ar rcsD bin/libfaultyard.a bin/objects/*.o
+	if command -v $(CC) > /dev/null; then \
+		$(CC) -shared -Wl,-soname,libfaultyard.so.1 -Wl,--version-script=release/libfaultyard.map \
+			-o bin/libfaultyard.so.$(VERSION) bin/objects/*.o && \
+		ln -s libfaultyard.so.$(VERSION) bin/libfaultyard.so.1 && \
+		ln -s libfaultyard.so.$(VERSION) bin/libfaultyard.so; \
+	fi
 
-# `rt ci` leaves the program and the libraries that it proved beside their crates, so that but for the C library's own crate
-# nothing is proved again.
 test:
-	rt ci
-	mkdir -p bin
-	cp $(BUILT) bin/faultyard
-	tests/cli/run bin/faultyard
-	tests/pipes/run bin/faultyard
-	tests/swarm/run bin/faultyard
-	tests/guard/run bin/faultyard
-	tests/sweep/run bin/faultyard
-	tests/shrink/run bin/faultyard
-	tests/cookbook/run bin/faultyard
-	tests/show/run bin/faultyard
-	tests/examples/run
-	tests/c/archive > /dev/null
-	$(MAKE) --no-print-directory merged
-	tests/c/run bin/faultyard
-	tests/run
-	tests/refused-memory faultyard/short::
-	tests/wrong-bodies
+	tests/suites test
+
+quick:
+	tests/suites quick
 
 format:
 	for crate in crates/*; do (cd "$$crate" && rt fmt) || exit 1; done
@@ -78,15 +81,16 @@ swarm-seeds: build
 	tests/swarm/run bin/faultyard --seeds 200
 
 refused-memory:
-	tests/refused-memory faultyard/short:: fy_tests/a_buffer_keeps fy_cluster_tests/short:: fy_cluster_tests/actors::played:: fy_cluster_tests/actors::stored::
+	tests/refused-memory faultyard/short:: fy_tests/a_buffer_keeps fy_cluster_tests/short::,actors::played::,actors::stored::
 
 wrong-bodies:
 	tests/wrong-bodies --all --record
 
-# Guarded none may be lost, and unguarded some are.
-try-redis: build
-	examples/redis/chaos bin/faultyard
-	! examples/redis/chaos --unguarded bin/faultyard
+try-stores: build
+	tests/stores/run --table bin/faultyard
+
+nemesis-aborts:
+	tests/nemesis/run --aborts 100 bin/faultyard Trees.test_aborted_runs_leave_nothing
 
 look: build
 	tests/show/look bin/faultyard
@@ -94,13 +98,27 @@ look: build
 install: build lib
 	$(MAKE) --no-print-directory installed
 
-# Puts into place what stands in bin.
+# Puts into place what stands in bin, by the list release/layout.
 installed:
-	mkdir -p $(addprefix $(DESTDIR)$(PREFIX)/,bin include lib/pkgconfig)
-	cp bin/faultyard $(DESTDIR)$(PREFIX)/bin/faultyard
-	cp include/faultyard.h $(DESTDIR)$(PREFIX)/include/faultyard.h
-	cp bin/libfaultyard.* $(DESTDIR)$(PREFIX)/lib/
-	sed 's|@PREFIX@|$(PREFIX)|' include/faultyard.pc.in > $(DESTDIR)$(PREFIX)/lib/pkgconfig/faultyard.pc
+	release/install "$(DESTDIR)" "$(PREFIX)"
+
+uninstall:
+	release/install --remove "$(DESTDIR)" "$(PREFIX)"
+
+# `rt run` leaves the proved object beside the program.
+static: build
+	$(CC) -static -o bin/faultyard-static crates/faultyard/out/faultyard.o $(KIT)/c/libos_c.a $(KIT)/c/liblibc_c.a
+
+# Two builds of one commit give the same bytes.
+dist: build lib
+	$(MAKE) --no-print-directory packaged
+
+# Packages what stands in bin.
+packaged:
+	release/dist dist
+
+try-dist:
+	tests/dist/try dist
 
 # Beside the same command in plain Rust, where there is a rustc; and where BESIDE is the path of
 # another program of this command line, `run`, `check` and `swarm` beside its own.
@@ -124,4 +142,4 @@ bench: build lib
 	if command -v $(CC) > /dev/null; then bench/kills.sh $(BESIDE); fi
 
 clean:
-	rm -rf bin crates/*/out
+	rm -rf bin dist crates/*/out

@@ -1,0 +1,417 @@
+import java.io.BufferedReader;
+import java.io.IOException;
+import java.io.InputStreamReader;
+import java.nio.charset.StandardCharsets;
+import java.nio.file.Files;
+import java.nio.file.Path;
+import java.nio.file.attribute.PosixFilePermissions;
+import java.time.Duration;
+import java.util.ArrayList;
+import java.util.Arrays;
+import java.util.EnumSet;
+import java.util.List;
+import java.util.Set;
+import java.util.concurrent.Callable;
+import java.util.concurrent.ExecutorService;
+import java.util.concurrent.Executors;
+import java.util.concurrent.Future;
+import java.util.stream.Collectors;
+
+/**
+ * Tests of Guard.java, which test_java.py runs.
+ *
+ * <pre>
+ * GuardTest play PROGRAM CONFIG            makes each act of standard input, and writes the audit
+ * GuardTest threads PROGRAM CONFIG         eight threads share a guard; writes the audit
+ * GuardTest cases PROGRAM CONFIG FOLDER    each error once; writes how many cases passed
+ * </pre>
+ */
+final class GuardTest {
+    private static final int ORDERS = 250;
+
+    private final String program;
+    private final Path config;
+    private final Path folder;
+    private int passed;
+
+    private GuardTest(String program, Path config, Path folder) {
+        this.program = program;
+        this.config = config;
+        this.folder = folder;
+    }
+
+    public static void main(String[] words) throws Exception {
+        Path config = Path.of(words[2]);
+        switch (words[0]) {
+            case "play":
+                play(words[1], config);
+                break;
+            case "threads":
+                threads(words[1], config);
+                break;
+            default:
+                new GuardTest(words[1], config, Path.of(words[3])).cases();
+        }
+    }
+
+    /** Each line has an actor, the name of an act, and its members in the order of their names. */
+    private static void play(String program, Path config) throws IOException {
+        BufferedReader lines = new BufferedReader(new InputStreamReader(System.in, StandardCharsets.US_ASCII));
+        try (Guard guard = new Guard(config, program)) {
+            for (String line = lines.readLine(); line != null; line = lines.readLine()) {
+                String[] words = line.split("\t", -1);
+                try {
+                    make(guard, Integer.parseInt(words[0]), words);
+                } catch (Guard.ActRefused refused) {
+                    // The audit has it.
+                }
+            }
+            System.out.print(guard.audit());
+        }
+    }
+
+    private static void make(Guard guard, int by, String[] words) {
+        switch (words[1]) {
+            case "kill":
+                guard.kill(by, key(words[3]), words[6], kind(words[4]), kind(words[2]), unsigned(words[5]));
+                break;
+            case "clog":
+                guard.clog(by, key(words[2]), words[4], unsigned(words[3]));
+                break;
+            case "unclog":
+                guard.unclog(by, key(words[2]), words[3]);
+                break;
+            case "form":
+                guard.form(by, split(words[2]).stream().map(Integer::valueOf).collect(Collectors.toList()), whole(words[3]));
+                break;
+            case "begin":
+                guard.begin(by, whole(words[3]), bytes(words[2]));
+                break;
+            case "deliver":
+                guard.deliver(by, unsigned(words[2]));
+                break;
+            case "lose":
+                guard.lose(by, unsigned(words[2]));
+                break;
+            case "resend":
+                guard.resend(by, whole(words[3]), whole(words[2]));
+                break;
+            case "sync":
+                guard.sync(by, whole(words[2]));
+                break;
+            case "up":
+                guard.up(by, whole(words[2]));
+                break;
+            case "heal":
+                guard.heal(by, whole(words[2]));
+                break;
+            case "tick":
+                guard.tick(by, unsigned(words[2]));
+                break;
+            case "give":
+                if (words.length == 5) {
+                    guard.give(by, whole(words[2]), kinds(words[3]));
+                } else {
+                    guard.give(by, whole(words[2]), kinds(words[3]), key(words[4]), words[5]);
+                }
+                break;
+            case "take":
+                guard.take(by, whole(words[2]), whole(words[3]));
+                break;
+            case "protect":
+                guard.protect(by, whole(words[3]), kinds(words[2]));
+                break;
+            case "unprotect":
+                guard.unprotect(by, whole(words[3]), kinds(words[2]));
+                break;
+            case "copy":
+                guard.copy(by, whole(words[3]), whole(words[2]), whole(words[4]));
+                break;
+            case "replace":
+                guard.replace(by, whole(words[4]), whole(words[3]), whole(words[2]));
+                break;
+            default:
+                throw new AssertionError(words[1]);
+        }
+    }
+
+    private static int whole(String word) {
+        return Integer.parseInt(word);
+    }
+
+    private static long unsigned(String word) {
+        return Long.parseUnsignedLong(word);
+    }
+
+    private static Guard.Key key(String word) {
+        return Arrays.stream(Guard.Key.values()).filter(it -> it.word.equals(word)).findFirst().orElseThrow();
+    }
+
+    private static Guard.Kind kind(String word) {
+        return Arrays.stream(Guard.Kind.values()).filter(it -> it.word.equals(word)).findFirst().orElseThrow();
+    }
+
+    private static List<String> split(String words) {
+        return words.isEmpty() ? List.of() : List.of(words.split(","));
+    }
+
+    private static Set<Guard.Kind> kinds(String words) {
+        return split(words).stream().map(GuardTest::kind).collect(Collectors.toSet());
+    }
+
+    private static byte[] bytes(String digits) {
+        byte[] read = new byte[digits.length() / 2];
+        for (int at = 0; at < read.length; at++) {
+            read[at] = (byte) Integer.parseInt(digits.substring(2 * at, 2 * at + 2), 16);
+        }
+        return read;
+    }
+
+    /** Actors 1 to 8 kill from a thread each. What each was answered has to be its entries. */
+    private static void threads(String program, Path config) throws Exception {
+        ExecutorService pool = Executors.newFixedThreadPool(8);
+        try (Guard guard = new Guard(config, program)) {
+            List<Future<List<String>>> heard = new ArrayList<>();
+            for (int number = 1; number <= 8; number++) {
+                int actor = number;
+                heard.add(pool.submit(() -> orders(guard, actor)));
+            }
+            List<List<String>> answers = new ArrayList<>();
+            for (Future<List<String>> one : heard) {
+                answers.add(one.get());
+            }
+            String audit = guard.audit();
+            for (int actor = 1; actor <= 8; actor++) {
+                String by = ",\"by\":" + actor + ",\"reply\":";
+                List<String> entries =
+                    audit.lines().filter(line -> line.contains(by))
+                        .map(line -> line.substring(line.indexOf(by) + by.length(), line.length() - 1))
+                        .collect(Collectors.toList());
+                require(entries.equals(answers.get(actor - 1)), "the answers of actor " + actor);
+            }
+            System.out.print(audit);
+        } finally {
+            pool.shutdown();
+        }
+    }
+
+    private static List<String> orders(Guard guard, int actor) {
+        List<String> answers = new ArrayList<>();
+        for (int number = 0; number < ORDERS; number++) {
+            Guard.Verdict verdict =
+                guard.kill(actor, Guard.Key.PROCESS, "p" + number % 6, Guard.Kind.REBOOT_AND_DELETE, Guard.Kind.REBOOT, number);
+            String rule =
+                verdict.rule().map(it -> "[\"" + it.word + "\""
+                    + (verdict.named().isPresent() ? "," + verdict.named().getAsInt() : "") + "]").orElse("null");
+            String struck = verdict.struck().map(it -> "\"" + it.word + "\"").orElse("null");
+            answers.add("{\"verdict\":{\"rule\":" + rule + ",\"struck\":" + struck + "}}");
+        }
+        return answers;
+    }
+
+    private void cases() throws Exception {
+        verdicts();
+        refusals();
+        arguments();
+        replies();
+        configs();
+        fullJournal();
+        ends();
+        silence();
+        System.out.println(passed + " passed");
+    }
+
+    private Guard open() {
+        return new Guard(config, program);
+    }
+
+    private void verdicts() {
+        try (Guard guard = open()) {
+            Guard.Verdict first = guard.kill(1, Guard.Key.ZONE, "z0", Guard.Kind.KILL_INSTANTLY, Guard.Kind.REBOOT, 0);
+            check(first.struck().orElseThrow() == Guard.Kind.KILL_INSTANTLY && first.rule().isEmpty(), "z0 goes");
+            Guard.Verdict second = guard.kill(1, Guard.Key.ZONE, "z1", Guard.Kind.KILL_INSTANTLY);
+            check(second.struck().orElseThrow() == Guard.Kind.REBOOT, "z1 is rebooted");
+            check(second.rule().orElseThrow() == Guard.Rule.TOO_MANY_DESTROYED, "since too many would be destroyed");
+            check(second.named().orElseThrow() == 0, "by policy 0");
+            Guard.Verdict third =
+                guard.kill(1, Guard.Key.ZONE, "z2", Guard.Kind.KILL_INSTANTLY, Guard.Kind.KILL_INSTANTLY, 0);
+            check(third.struck().isEmpty(), "z2 lives");
+            Guard.Ruling nobody = guard.unclog(1, Guard.Key.DATA_HALL, "h0");
+            check(nobody.rule().orElseThrow() == Guard.Rule.NO_TARGET && nobody.named().isEmpty(), "nobody is in a hall");
+        }
+    }
+
+    private void refusals() {
+        try (Guard guard = open()) {
+            Guard.ActRefused up = thrown(Guard.ActRefused.class, () -> guard.up(0, 2));
+            check(up.refusal() == Guard.Refusal.IS_UP && up.named().isEmpty(), "p2 is up");
+            Guard.ActRefused form = thrown(Guard.ActRefused.class, () -> guard.form(0, List.of(0, 1), 0));
+            check(form.refusal() == Guard.Refusal.TEAM_SHORT && form.named().orElseThrow() == 0, "one zone is short");
+            Guard.ActRefused role = thrown(Guard.ActRefused.class, () -> guard.heal(1, 0));
+            check(role.refusal() == Guard.Refusal.WRONG_ROLE, "an actor of role fault heals nobody");
+            check(guard.journalLength() == 3, "refusals stand in the journal");
+        }
+    }
+
+    private void arguments() {
+        try (Guard guard = open()) {
+            List<Callable<?>> bad =
+                List.of(
+                    () -> guard.kill(1, Guard.Key.ZONE, "no name", Guard.Kind.REBOOT),
+                    () -> guard.kill(1, Guard.Key.ZONE, "-z", Guard.Kind.REBOOT),
+                    () -> guard.kill(1, Guard.Key.ZONE, "z".repeat(33), Guard.Kind.REBOOT),
+                    () -> guard.kill(1, Guard.Key.ZONE, "z0\n", Guard.Kind.REBOOT),
+                    () -> guard.kill(1, Guard.Key.ZONE, "z0", Guard.Kind.CLOG),
+                    () -> guard.kill(1, Guard.Key.ZONE, "z0", Guard.Kind.REBOOT, Guard.Kind.KILL_INSTANTLY, 0),
+                    () -> guard.tick(-1, 1),
+                    () -> guard.sync(0, -1),
+                    () -> guard.begin(0, 0, new byte[32_768]),
+                    () -> guard.form(0, java.util.stream.IntStream.range(0, 1025).boxed().collect(Collectors.toList()), 0));
+            for (Callable<?> one : bad) {
+                thrown(IllegalArgumentException.class, one::call);
+            }
+            check(guard.audit().equals("{\"audit\":2}\n"), "nothing was sent");
+            check(guard.tick(0, 9) == 9, "the guard goes on");
+        }
+    }
+
+    private void replies() {
+        try (Guard guard = open()) {
+            check(guard.form(0, List.of(2, 0), 0) == 0, "team 0");
+            Guard.Begun begun = guard.begin(0, 0, new byte[] {1, -1});
+            check(begun.record == 0 && begun.first == 0, "record 0");
+            check(guard.deliver(0, 0) == Guard.Delivery.STORED, "p0 stores");
+            check(guard.deliver(0, 1) == Guard.Delivery.STORED, "p2 stores");
+            Guard.Synced synced = guard.sync(0, 0);
+            check(synced.count == 1 && synced.first == 2, "p0 syncs");
+            check(guard.sync(0, 2).first == 3, "p2 syncs");
+            check(guard.deliver(0, 2) == Guard.Delivery.MARKED, "one zone isn't enough");
+            check(guard.deliver(0, 3) == Guard.Delivery.ACKNOWLEDGED, "two zones are");
+            check(guard.copy(0, 0, 0, 4) == 4, "message 4 goes to p4");
+            guard.lose(0, 4);
+            guard.protect(4, 1, EnumSet.of(Guard.Kind.REBOOT));
+            check(guard.kill(1, Guard.Key.PROCESS, "p1", Guard.Kind.REBOOT).rule().orElseThrow() == Guard.Rule.PROTECTED, "p1 is protected");
+        }
+    }
+
+    private void configs() throws IOException {
+        String text = Files.readString(config);
+        String[][] faults = {
+            {"config: Toml", "="},
+            {"config: Limit JournalLimit", text.replaceFirst("journal_limit = \\d+", "journal_limit = 0")},
+            {"config: Policy 0", text.replace("Across(2,zoneid,One())", "Across(2, zoneid,One())")},
+            {"config: PolicyUnmet 0", text.replace("Across(2,", "Across(4,")},
+        };
+        for (String[] one : faults) {
+            Path bad = Files.writeString(folder.resolve("bad.toml"), one[1]);
+            Guard.ConfigRefused refused = thrown(Guard.ConfigRefused.class, () -> new Guard(bad, program));
+            check(refused.getMessage().equals(one[0]), refused.getMessage());
+        }
+        Guard.GuardEnded ended = thrown(Guard.GuardEnded.class, () -> new Guard(folder.resolve("none.toml"), program));
+        check(ended.fault().equals("read fault"), ended.getMessage());
+    }
+
+    private void fullJournal() throws IOException {
+        String text = Files.readString(config).replaceFirst("journal_limit = \\d+", "journal_limit = 2");
+        Path small = Files.writeString(folder.resolve("small.toml"), text);
+        try (Guard guard = new Guard(small, program)) {
+            guard.tick(0, 1);
+            guard.tick(0, 1);
+            thrown(Guard.JournalFull.class, () -> guard.tick(0, 1));
+            thrown(Guard.JournalFull.class, () -> guard.up(0, 1));
+            check(guard.journalLength() == 2 && guard.audit().lines().count() == 3, "two entries stand");
+        }
+    }
+
+    private void ends() throws IOException {
+        Guard closed = open();
+        closed.tick(0, 1);
+        closed.close();
+        closed.close();
+        thrown(Guard.GuardEnded.class, () -> closed.tick(0, 1));
+        check(closed.journalLength() == 1, "the audit stays");
+        check(children() == 0, "nothing runs");
+        Guard killed = open();
+        ProcessHandle.current().children().forEach(ProcessHandle::destroyForcibly);
+        thrown(Guard.GuardEnded.class, () -> killed.tick(0, 1));
+        thrown(Guard.GuardEnded.class, () -> killed.tick(0, 1));
+        killed.close();
+        Guard untold = open();
+        ProcessHandle.current().children().forEach(ProcessHandle::destroyForcibly);
+        thrown(Guard.GuardEnded.class, () -> {
+            untold.close();
+            return null;
+        });
+        thrown(Guard.GuardEnded.class, () -> new Guard(config, folder.resolve("none").toString()));
+        thrown(Guard.GuardEnded.class, () -> new Guard(config, "/bin/echo"));
+        thrown(Guard.GuardEnded.class, () -> new Guard(config, "/bin/false"));
+        String odd = script("odd", "echo '{\"audit\":2}'\nread line\necho '{\"act\":1}'\nread line\n");
+        try (Guard guard = new Guard(config, odd)) {
+            thrown(Guard.GuardEnded.class, () -> guard.tick(0, 1));
+        }
+        String loud = script("loud", "head -c 1000000 /dev/zero >&2\nexec " + program + " \"$@\"\n");
+        try (Guard guard = new Guard(config, loud)) {
+            check(guard.tick(0, 1) == 1, "much on standard error blocks nothing");
+        }
+        check(children() == 0, "nothing runs");
+    }
+
+    private void silence() throws IOException {
+        String silent = script("silent", "echo '{\"audit\":2}'\nexec sleep 600\n");
+        try (Guard guard = new Guard(config, silent, Duration.ofMillis(500))) {
+            Guard.GuardEnded ended = thrown(Guard.GuardEnded.class, () -> guard.tick(0, 1));
+            check(ended.getMessage().startsWith("no answer in "), ended.getMessage());
+        }
+        check(children() == 0, "nothing runs");
+    }
+
+    private String script(String name, String text) throws IOException {
+        Path path = Files.writeString(folder.resolve(name), "#!/bin/sh\n" + text);
+        Files.setPosixFilePermissions(path, PosixFilePermissions.fromString("rwxr-xr-x"));
+        return path.toString();
+    }
+
+    private static long children() {
+        return ProcessHandle.current().children().filter(ProcessHandle::isAlive).count();
+    }
+
+    /** A call that may throw, with or without an answer. */
+    private interface Call {
+        Object make() throws Exception;
+    }
+
+    private interface Act {
+        void make() throws Exception;
+    }
+
+    private <T extends Throwable> T thrown(Class<T> kind, Act act) {
+        return thrown(kind, (Call) () -> {
+            act.make();
+            return null;
+        });
+    }
+
+    private <T extends Throwable> T thrown(Class<T> kind, Call call) {
+        try {
+            call.make();
+        } catch (Throwable fault) {
+            if (kind.isInstance(fault)) {
+                passed++;
+                return kind.cast(fault);
+            }
+            throw new AssertionError("another fault than " + kind, fault);
+        }
+        throw new AssertionError("nothing was thrown, and " + kind + " was to be");
+    }
+
+    private void check(boolean holds, String what) {
+        require(holds, what);
+        passed++;
+    }
+
+    private static void require(boolean holds, String what) {
+        if (!holds) {
+            throw new AssertionError(what);
+        }
+    }
+}

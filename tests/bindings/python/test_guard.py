@@ -1,0 +1,430 @@
+"""The guard of the Python binding, over the pipe and over the library."""
+
+import collections
+import json
+import threading
+import unittest
+
+import common
+import faultyard
+from faultyard import Guard, Key, Kind, Refusal, Rule
+
+# The typed call of each act, and the act as docs/FORMATS.md writes it.
+CALLS = [
+    (
+        lambda g: g.kill(Key.ZONE, "z0", Kind.KILL_INSTANTLY, floor=Kind.REBOOT, by=1),
+        '{"kill":{"floor":"Reboot","key":"zoneid","kind":"KillInstantly","tear":0,"value":"z0"}}',
+    ),
+    (
+        lambda g: g.clog(Key.PROCESS, "p0", 10, by=1),
+        '{"clog":{"key":"processid","ticks":10,"value":"p0"}}',
+    ),
+    (lambda g: g.unclog(Key.PROCESS, "p0", by=1), '{"unclog":{"key":"processid","value":"p0"}}'),
+    (lambda g: g.form([0, 2], 0, by=0), '{"form":{"members":[0,2],"policy":0}}'),
+    (lambda g: g.begin(0, b"hi", by=0), '{"begin":{"payload":"6869","team":0}}'),
+    (lambda g: g.deliver(0, by=0), '{"deliver":{"message":0}}'),
+    (lambda g: g.lose(0, by=0), '{"lose":{"message":0}}'),
+    (lambda g: g.resend(0, 0, by=0), '{"resend":{"process":0,"record":0}}'),
+    (lambda g: g.sync(0, by=0), '{"sync":{"process":0}}'),
+    (lambda g: g.up(0, by=0), '{"up":{"process":0}}'),
+    (lambda g: g.heal(0, by=0), '{"heal":{"process":0}}'),
+    (lambda g: g.tick(9, by=0), '{"tick":{"ticks":9}}'),
+    (
+        lambda g: g.give(3, [Kind.REBOOT], by=4),
+        '{"give":{"actor":3,"kinds":["Reboot"],"scope":"all"}}',
+    ),
+    (
+        lambda g: g.give(3, [Kind.CLOG], (Key.ZONE, "z0"), by=4),
+        '{"give":{"actor":3,"kinds":["Clog"],"scope":{"key":"zoneid","value":"z0"}}}',
+    ),
+    (lambda g: g.take(3, 0, by=4), '{"take":{"actor":3,"index":0}}'),
+    (lambda g: g.protect(1, [Kind.REBOOT], by=4), '{"protect":{"kinds":["Reboot"],"process":1}}'),
+    (
+        lambda g: g.unprotect(1, [Kind.REBOOT], by=4),
+        '{"unprotect":{"kinds":["Reboot"],"process":1}}',
+    ),
+    (lambda g: g.copy(0, 2, 1, by=0), '{"copy":{"from":2,"record":0,"to":1}}'),
+    (lambda g: g.replace(0, 0, 1, by=0), '{"replace":{"into":1,"out":0,"team":0}}'),
+]
+
+# What the typed call of an act takes, from the act's members as a script has them.
+TYPED = {
+    "kill": lambda m: (
+        (Key(m["key"]), m["value"], Kind(m["kind"])),
+        {"floor": Kind(m["floor"]), "tear": m["tear"]},
+    ),
+    "clog": lambda m: ((Key(m["key"]), m["value"], m["ticks"]), {}),
+    "unclog": lambda m: ((Key(m["key"]), m["value"]), {}),
+    "form": lambda m: ((m["members"], m["policy"]), {}),
+    "begin": lambda m: ((m["team"], bytes.fromhex(m["payload"])), {}),
+    "resend": lambda m: ((m["record"], m["process"]), {}),
+    "give": lambda m: (
+        (
+            m["actor"],
+            map(Kind, m["kinds"]),
+            None if m["scope"] == "all" else (Key(m["scope"]["key"]), m["scope"]["value"]),
+        ),
+        {},
+    ),
+    "take": lambda m: ((m["actor"], m["index"]), {}),
+    "protect": lambda m: ((m["process"], map(Kind, m["kinds"])), {}),
+    "unprotect": lambda m: ((m["process"], map(Kind, m["kinds"])), {}),
+    "copy": lambda m: ((m["record"], m["from"], m["to"]), {}),
+    "replace": lambda m: ((m["team"], m["out"], m["into"]), {}),
+}
+
+
+def call(guard, by, act):
+    """Makes an act by its typed call; what it answers, or the refusal that it raises."""
+    ((name, members),) = act.items()
+    words, named = TYPED.get(name, lambda m: (tuple(m.values()), {}))(members)
+    try:
+        return getattr(guard, name)(*words, by=by, **named)
+    except faultyard.ActRefused as refused:
+        return refused
+
+
+def told(answer, reply):
+    """What a typed call has to answer where the entry has this reply."""
+    if isinstance(reply, faultyard.Refused):
+        return isinstance(answer, faultyard.ActRefused) and (answer.refusal, answer.named) == (
+            reply.refusal,
+            reply.named,
+        )
+    if isinstance(reply, (faultyard.Formed, faultyard.Sent, faultyard.Time)):
+        (reply,) = vars(reply).values()
+    return answer == (None if isinstance(reply, faultyard.Done) else reply)
+
+
+class GuardTests(common.Folder):
+    """Each test runs over the pipe, and over the library where one is given."""
+
+    transport = ""
+
+    def guard(self, config=common.SIX):
+        made = Guard(config, transport=self.transport)
+        self.addCleanup(made.close)
+        return made
+
+    def test_verdicts_say_what_struck_and_why(self):
+        guard = self.guard()
+        first = guard.kill(Key.ZONE, "z0", Kind.KILL_INSTANTLY, floor=Kind.REBOOT, by=1)
+        second = guard.kill(Key.ZONE, "z1", Kind.KILL_INSTANTLY, floor=Kind.REBOOT, by=1)
+        third = guard.kill(Key.ZONE, "z2", Kind.KILL_INSTANTLY, floor=Kind.KILL_INSTANTLY, by=1)
+        self.assertEqual(first, faultyard.Verdict(Kind.KILL_INSTANTLY, None, None))
+        self.assertEqual(second, faultyard.Verdict(Kind.REBOOT, Rule.TOO_MANY_DESTROYED, 0))
+        self.assertEqual(third, faultyard.Verdict(None, Rule.TOO_MANY_DESTROYED, 0))
+        nobody = guard.kill(Key.DATA_HALL, "h0", Kind.REBOOT, by=1)
+        self.assertEqual(nobody, faultyard.Verdict(None, Rule.NO_TARGET, None))
+        stranger = guard.kill(Key.PROCESS, "p4", Kind.REBOOT, by=3)
+        self.assertEqual(stranger, faultyard.Verdict(None, Rule.NO_GRANT, 4))
+        guard.protect(5, [Kind.REBOOT], by=4)
+        self.assertEqual(
+            guard.kill(Key.PROCESS, "p5", Kind.REBOOT, by=1),
+            faultyard.Verdict(Kind.REBOOT_PROCESS, Rule.PROTECTED, 5),
+        )
+
+    def test_each_typed_call_makes_the_act_of_the_page(self):
+        page = (common.ROOT / "docs/FORMATS.md").read_text()
+        self.assertEqual(len({json.loads(act).popitem()[0] for _, act in CALLS}), 18)
+        guard = self.guard()
+        for make, act in CALLS:
+            name = json.loads(act).popitem()[0]
+            # The page has `deliver` and `sync` stand for others of the same members.
+            self.assertTrue(f"`{act}`" in page or name in ("lose", "up", "heal", "unprotect"), act)
+            try:
+                make(guard)
+            except faultyard.ActRefused as refused:
+                self.assertEqual(refused.act, name)
+            last = guard.audit().splitlines()[-1]
+            self.assertTrue(last.startswith(f'{{"act":{act},"at":'), last)
+
+    def test_ten_thousand_random_acts_give_the_audit_that_run_gives(self):
+        config = common.six_with(self.folder, 10_000)
+        acts = list(common.random_acts(51, 10_000))
+        wanted = common.run_script(config, acts)
+        self.assertEqual(faultyard.check(config, wanted), 10_000)
+        met = collections.Counter()
+        guard = self.guard(config)
+        for number, (by, act) in enumerate(acts):
+            # Every third act is made by the general call.
+            answer = guard.act(by, act).reply if number % 3 == 0 else call(guard, by, act)
+            met[type(answer).__name__] += 1
+        self.assertEqual(guard.audit(), wanted)
+        self.assertEqual(guard.journal_len(), 10_000)
+        for shape in (
+            "Verdict",
+            "Ruling",
+            "Begun",
+            "Stored",
+            "Marked",
+            "Synced",
+            "ActRefused",
+            "Refused",
+        ):
+            self.assertGreater(met[shape], 10, met)
+
+    def test_answers_are_the_replies_of_the_entries(self):
+        config = common.six_with(self.folder, 2_000)
+        typed, plain = self.guard(config), self.guard(config)
+        acts = list(common.random_acts(7, 2_000))
+        for (by, act), line in zip(acts, common.run_script(config, acts).splitlines()[1:]):
+            entry, wanted = plain.act(by, act), json.loads(line)
+            self.assertEqual((entry.at, entry.by, entry.act), (wanted["at"], by, act))
+            self.assertEqual(words(entry.reply), wanted["reply"])
+            self.assertTrue(told(call(typed, by, act), entry.reply), (entry, act))
+
+    def test_refusals_raise_and_stand_in_the_journal(self):
+        guard = self.guard()
+        with self.assertRaises(faultyard.ActRefused) as caught:
+            guard.up(2, by=0)
+        self.assertEqual((caught.exception.refusal, caught.exception.named), (Refusal.IS_UP, None))
+        with self.assertRaises(faultyard.ActRefused) as caught:
+            guard.form([0, 1], 0, by=0)
+        self.assertEqual(
+            (caught.exception.refusal, caught.exception.named), (Refusal.TEAM_SHORT, 0)
+        )
+        for make, refusal in (
+            (lambda: guard.kill(Key.ZONE, "z0", Kind.REBOOT, by=9), Refusal.STRANGER),
+            (lambda: guard.heal(0, by=1), Refusal.WRONG_ROLE),
+            (lambda: guard.heal(0, by=0), Refusal.NOT_DESTROYED),
+            (lambda: guard.begin(0, bytes(3), by=0), Refusal.NO_TEAM),
+        ):
+            with self.assertRaises(faultyard.ActRefused) as caught:
+                make()
+            self.assertIs(caught.exception.refusal, refusal)
+        self.assertEqual(
+            guard.act(0, {"up": {"process": 2}}).reply, faultyard.Refused(Refusal.IS_UP, None)
+        )
+        self.assertEqual(guard.journal_len(), 7)
+
+    def test_an_act_that_cannot_be_read_is_told_before_it_is_sent(self):
+        bad = [
+            lambda g: g.kill(Key.ZONE, "no name", Kind.REBOOT, by=1),
+            lambda g: g.kill(Key.ZONE, "-z", Kind.REBOOT, by=1),
+            lambda g: g.kill(Key.ZONE, "z" * 33, Kind.REBOOT, by=1),
+            lambda g: g.kill(Key.ZONE, "z0\n", Kind.REBOOT, by=1),
+            lambda g: g.kill("rack", "z0", Kind.REBOOT, by=1),
+            lambda g: g.kill(Key.ZONE, "z0", Kind.CLOG, by=1),
+            lambda g: g.kill(Key.ZONE, "z0", Kind.REBOOT, floor=Kind.KILL_INSTANTLY, by=1),
+            lambda g: g.kill(Key.ZONE, "z0", Kind.REBOOT, tear=2**64, by=1),
+            lambda g: g.up(-1, by=0),
+            lambda g: g.up(2**32, by=0),
+            lambda g: g.up(1.0, by=0),
+            lambda g: g.up(0, by="storage"),
+            lambda g: g.form(range(1025), 0, by=0),
+            lambda g: g.form(3, 0, by=0),
+            lambda g: g.begin(0, bytes(32_768), by=0),
+            lambda g: g.begin(0, "6A", by=0),
+            lambda g: g.protect(0, "Reboot", by=4),
+            lambda g: g.protect(0, ["Rebot"], by=4),
+            lambda g: g.give(3, [], "zone", by=4),
+            lambda g: g.act(0, {"destroy": {"process": 0}}),
+            lambda g: g.act(0, {"up": {}}),
+            lambda g: g.act(0, {"up": {"process": 0, "force": 1}}),
+            lambda g: g.act(0, {}),
+            lambda g: g.is_destroyed(-1),
+        ]
+        guard = self.guard()
+        for number, make in enumerate(bad):
+            with self.subTest(number=number), self.assertRaises(faultyard.InvalidAct):
+                make(guard)
+        self.assertEqual(guard.audit(), common.HEADER)
+        self.assertEqual(guard.tick(1, by=0), 1)
+
+    def test_the_longest_line_and_its_longer_answer(self):
+        guard = self.guard()
+        # The line has exactly 65,536 bytes: 58 beside the digits. One more byte of payload is too long.
+        begin = {"payload": "6b" * 32_739, "team": 1000000000}
+        self.assertEqual(
+            len(json.dumps({"by": 10, "act": {"begin": begin}}, separators=(",", ":"))), 65_536
+        )
+        self.assertIs(guard.act(10, {"begin": begin}).reply.refusal, Refusal.STRANGER)
+        with self.assertRaises(faultyard.InvalidAct):
+            guard.begin(1000000000, bytes(32_740), by=10)
+        self.assertEqual(guard.tick(2, by=0), 2)
+
+    def test_the_largest_team(self):
+        guard = self.guard()
+        entry = guard.act(0, {"form": {"members": range(1023, -1, -1), "policy": 0}})
+        self.assertIs(entry.reply.refusal, Refusal.NO_PROCESS)
+        self.assertEqual(entry.act["form"]["members"], list(range(1024)))
+
+    def test_a_full_journal_is_told_each_time_and_keeps_its_audit(self):
+        config = common.six_with(self.folder, 3)
+        with Guard(config, transport=self.transport) as guard:
+            for _ in range(3):
+                guard.tick(1, by=0)
+            before = guard.audit()
+            for make in (
+                lambda: guard.tick(1, by=0),
+                lambda: guard.kill(Key.ZONE, "z0", Kind.REBOOT, by=1),
+                lambda: guard.up(0, by=0),
+                lambda: guard.act(0, {"heal": {"process": 0}}),
+            ):
+                with self.assertRaises(faultyard.JournalFull):
+                    make()
+            self.assertFalse(guard.is_destroyed(0))
+        self.assertEqual(guard.audit(), before)
+        self.assertEqual(faultyard.check(config, before), 3)
+
+    def test_a_refused_cluster_file_is_told_with_its_fault(self):
+        six = common.SIX.read_text()
+        texts = {
+            "config: Toml": "=",
+            "config: Field Unknown": six + 'name = "six"\n',
+            "config: Limit JournalLimit": six.replace("journal_limit = 1000", "journal_limit = 0"),
+            "config: Name Process 0": six.replace('"p0"', '"p 0"'),
+            "config: Policy 0": six.replace("Across(2,zoneid,One())", "Across(2, zoneid,One())"),
+            "config: PolicyUnmet 0": six.replace("Across(2,", "Across(4,"),
+            "config: TooLong": "#" * 1_048_577,
+        }
+        for fault, text in texts.items():
+            path = common.written(self.folder, "bad.toml", text)
+            with self.subTest(fault=fault), self.assertRaises(faultyard.ConfigRefused) as caught:
+                Guard(path, transport=self.transport)
+            # The library names no place.
+            self.assertEqual(
+                caught.exception.fault,
+                fault if self.transport == "pipe" else " ".join(fault.split()[:2]),
+            )
+
+    def test_a_cluster_file_that_cannot_be_opened(self):
+        with self.assertRaises(FileNotFoundError):
+            Guard(f"{self.folder}/none.toml", transport=self.transport)
+        with self.assertRaises(IsADirectoryError):
+            Guard(self.folder, transport=self.transport)
+
+    def test_who_is_destroyed_and_who_is_left(self):
+        guard = self.guard()
+        self.assertEqual(guard.left(), frozenset(range(6)))
+        guard.kill(Key.PROCESS, "p0", Kind.KILL_INSTANTLY, by=1)
+        guard.kill(Key.PROCESS, "p1", Kind.REBOOT_AND_DELETE, by=1)
+        guard.kill(
+            Key.PROCESS, "p2", Kind.KILL_INSTANTLY, by=1
+        )  # a reboot, since zone z0 is destroyed
+        guard.kill(Key.PROCESS, "p3", Kind.KILL_INSTANTLY, floor=Kind.KILL_INSTANTLY, by=1)
+        self.assertEqual([guard.is_destroyed(p) for p in range(7)], [True, True] + [False] * 5)
+        self.assertEqual(guard.left(), frozenset(range(1, 6)))
+        guard.up(1, by=0)
+        self.assertTrue(guard.is_destroyed(1))
+        guard.heal(1, by=0)
+        with self.assertRaises(faultyard.ActRefused):
+            guard.heal(0, by=0)
+        self.assertEqual([guard.is_destroyed(p) for p in range(3)], [True, False, False])
+        # A kill of a zone passes by who is gone already.
+        guard.kill(Key.ZONE, "z0", Kind.REBOOT_AND_DELETE, by=1)
+        self.assertEqual([guard.is_destroyed(p) for p in range(3)], [True, True, False])
+        self.assertEqual(guard.left(), frozenset(range(1, 6)))
+
+    def test_eight_threads_share_a_guard_and_each_gets_its_own_answers(self):
+        config = common.eight_actors(self.folder)
+        guard = self.guard(config)
+        heard = [self.heard_by(guard, actor) for actor in range(1, 9)]
+        threads = [thread for thread, _ in heard]
+        for thread in threads:
+            thread.start()
+        for thread in threads:
+            thread.join(60)
+            self.assertFalse(thread.is_alive())
+        audit = guard.audit()
+        self.assertEqual(faultyard.check(config, audit), 8 * 250)
+        entries = [json.loads(line) for line in audit.splitlines()[1:]]
+        told = {entry.at: (entry.by, entry.act) for _, mine in heard for entry in mine}
+        self.assertEqual(told, {entry["at"]: (entry["by"], entry["act"]) for entry in entries})
+        for actor, (_, mine) in enumerate(heard, 1):
+            self.assertEqual([entry.by for entry in mine], [actor] * 250)
+            self.assertEqual([entry.at for entry in mine], sorted(entry.at for entry in mine))
+            replies = [entry["reply"] for entry in entries if entry["by"] == actor]
+            self.assertEqual([words(entry.reply) for entry in mine], replies)
+
+    def heard_by(self, guard, actor):
+        """A thread that kills as this actor, and the entries that it gets."""
+        mine = []
+
+        def play():
+            for number in range(250):
+                order = {
+                    "key": "processid",
+                    "value": f"p{number % 6}",
+                    "kind": "RebootAndDelete",
+                    "floor": "Reboot",
+                    "tear": actor * 1000 + number,
+                }
+                mine.append(guard.act(actor, {"kill": order}))
+
+        return threading.Thread(target=play), mine
+
+    def test_after_its_end_a_guard_answers_nothing_but_its_audit(self):
+        with Guard(common.SIX, transport=self.transport) as guard:
+            guard.tick(1, by=0)
+        guard.close()
+        for make in (lambda: guard.tick(1, by=0), lambda: guard.is_destroyed(0), guard.left):
+            with self.assertRaises(faultyard.GuardClosed):
+                make()
+        self.assertEqual(guard.journal_len(), 1)
+        self.assertEqual(faultyard.check(common.SIX, guard.audit()), 1)
+
+    def test_what_the_body_raises_flies_on(self):
+        with self.assertRaises(ZeroDivisionError):
+            with Guard(common.SIX, transport=self.transport) as guard:
+                guard.tick(1 // 0, by=0)
+        with self.assertRaises(faultyard.GuardClosed):
+            guard.tick(1, by=0)
+
+
+def words(reply):
+    """A reply as an audit writes it."""
+    shape, members = type(reply), dict(vars(reply))
+    if shape in (faultyard.Done, faultyard.Stored):
+        return shape.__name__.lower()
+    if shape is faultyard.Refused:
+        return {"no": listed(members["refusal"], members["named"])}
+    if shape in (faultyard.Verdict, faultyard.Ruling):
+        rule = members["rule"] and listed(members["rule"], members["named"])
+        struck = members.get("struck")
+        return (
+            {"ruled": rule}
+            if shape is faultyard.Ruling
+            else {"verdict": {"rule": rule, "struck": struck and struck.value}}
+        )
+    if len(members) == 1:
+        (members,) = members.values()
+    return {shape.__name__.lower(): members}
+
+
+def listed(word, number):
+    """A rule or a refusal as an audit writes it."""
+    return [word.value] if number is None else [word.value, number]
+
+
+class OverThePipe(GuardTests, unittest.TestCase):
+    transport = "pipe"
+
+
+@unittest.skipUnless(common.LIBRARY, common.WITHOUT)
+class OverTheLibrary(GuardTests, unittest.TestCase):
+    transport = "library"
+
+
+@unittest.skipUnless(common.LIBRARY, common.WITHOUT)
+class BothTransports(common.Folder, unittest.TestCase):
+    """What the pipe follows by itself is what the library knows."""
+
+    def test_who_is_destroyed_and_left_after_each_random_act(self):
+        config = common.six_with(self.folder, 4_000)
+        for seed in range(4):
+            with Guard(config) as pipe, Guard(config, transport="library") as library:
+                for by, act in common.random_acts(seed, 1_000):
+                    self.assertEqual(pipe.act(by, act), library.act(by, act))
+                    self.assertEqual(
+                        [pipe.is_destroyed(p) for p in range(7)],
+                        [library.is_destroyed(p) for p in range(7)],
+                    )
+                    self.assertEqual(pipe.left(), library.left())
+
+
+class NoTransport(unittest.TestCase):
+    def test_a_transport_that_is_none(self):
+        with self.assertRaises(ValueError):
+            Guard(common.SIX, transport="socket")

@@ -1,0 +1,160 @@
+"""The library through ctypes: its table of calls against the header, and what only a guard in this process can meet."""
+
+import ctypes
+import gc
+import os
+import re
+import subprocess
+import sys
+import threading
+import unittest
+from unittest import mock
+
+import common
+import faultyard
+from faultyard import Guard, library
+
+HEADER = (common.ROOT / "include/faultyard.h").read_text()
+# The types of the header, as ctypes has them.
+TYPES = {
+    "void": None,
+    "uint32_t": ctypes.c_uint32,
+    "uint64_t": ctypes.c_uint64,
+    "size_t": ctypes.c_size_t,
+    "uint32_t *": ctypes.POINTER(ctypes.c_uint32),
+    "uint64_t *": ctypes.POINTER(ctypes.c_uint64),
+    "size_t *": ctypes.POINTER(ctypes.c_size_t),
+    "uint8_t *": ctypes.c_char_p,
+    "const uint8_t *": ctypes.c_char_p,
+    "fy_guard": library._Guard,
+    "fy_guard *": ctypes.POINTER(library._Guard),
+}
+
+
+def types(words):
+    """The types of a list of arguments, without their names."""
+    return [TYPES[re.sub(r"\w+$", "", word.strip()).strip()] for word in words.split(",")]
+
+
+def declared():
+    """The library's own calls: what each answers and takes."""
+    found = re.findall(r"^(\w+) (fy_\w+)\(([^)]*)\);$", HEADER, re.M)
+    return {name: (TYPES[answer], types(takes)) for answer, name, takes in found}
+
+
+class Table(unittest.TestCase):
+    def test_each_call_is_declared_so(self):
+        there = declared()
+        self.assertGreaterEqual(len(there), 10)
+        for name, call in library.CALLS.items():
+            self.assertEqual(call, there[name], name)
+
+    def test_each_number_is_the_headers(self):
+        statuses = dict(re.findall(r"^    FY_(\w+) = (\d+),", HEADER, re.M))
+        for name in ("DONE", "NO_MEMORY", "JOURNAL_FULL", "REFUSED", "SHORT", "UNWRITTEN"):
+            self.assertEqual(getattr(library, name), int(statuses[name]))
+        faults = {
+            "TOO_LONG": "TooLong",
+            "TOML": "Toml",
+            "FIELD": "Field",
+            "LIMIT": "Limit",
+            "NAME": "Name",
+            "POLICY": "Policy",
+            "UNMET": "PolicyUnmet",
+        }
+        wanted = {int(statuses[f"CONFIG_{it}"]): f"config: {word}" for it, word in faults.items()}
+        self.assertEqual(library.CONFIG_FAULTS, wanted)
+        defined = dict(re.findall(r"^#define FY_(\w+) (\d+)$", HEADER, re.M))
+        self.assertEqual(library.MOST_REPLY, int(defined["MOST_REPLY"]))
+        self.assertEqual(library.SET_WORDS, int(defined["SET_WORDS"]))
+
+    def test_a_library_that_is_none(self):
+        with self.assertRaises(FileNotFoundError) as caught:
+            Guard(common.SIX, transport="library", library="/none/libfaultyard.so")
+        self.assertIsInstance(caught.exception, faultyard.NotFound)
+        with self.assertRaises(faultyard.ProtocolError):
+            Guard(common.SIX, transport="library", library="libc.so.6")
+
+
+@unittest.skipUnless(common.LIBRARY, common.WITHOUT)
+class InThisProcess(common.Folder, unittest.TestCase):
+    def guard(self, config=common.SIX):
+        return Guard(config, transport="library")
+
+    def test_where_the_library_is_looked_for(self):
+        with mock.patch.dict(os.environ):
+            os.environ["FAULTYARD_LIB"] = f"{self.folder}/none.so"
+            with self.assertRaises(faultyard.NotFound):
+                self.guard()
+            Guard(common.SIX, transport="library", library=common.LIBRARY).close()
+
+    def test_the_systems_loader_finds_it(self):
+        os.symlink(common.LIBRARY, f"{self.folder}/libfaultyard.so.1")
+        text = (
+            f"import faultyard; faultyard.Guard({str(common.SIX)!r}, transport='library').close()"
+        )
+        environment = {name: it for name, it in os.environ.items() if name != "FAULTYARD_LIB"}
+        for where, status in ((self.folder, 0), ("/none", 1)):
+            environment["LD_LIBRARY_PATH"] = where
+            ran = subprocess.run(
+                [sys.executable, "-c", text], env=environment, capture_output=True, timeout=60
+            )
+            self.assertEqual(ran.returncode, status, ran.stderr)
+
+    def test_its_thread_ends_with_it(self):
+        before = threading.active_count()
+        with self.guard() as guard:
+            self.assertEqual(threading.active_count(), before + 1)
+            guard.tick(1, by=0)
+        self.assertEqual(threading.active_count(), before)
+        with self.assertRaises(faultyard.ConfigRefused):
+            self.guard(common.written(self.folder, "bad.toml", "="))
+        self.assertEqual(threading.active_count(), before)
+
+    def test_a_guard_that_nobody_closed_is_freed(self):
+        before = threading.active_count()
+        guard = self.guard()
+        guard.tick(1, by=0)
+        del guard
+        gc.collect()
+        self.assertEqual(threading.active_count(), before)
+
+    def test_the_end_of_the_interpreter_waits_for_nothing(self):
+        text = (
+            "import faultyard\n"
+            f"guard = faultyard.Guard({str(common.SIX)!r}, transport='library')\n"
+            "print(guard.tick(1, by=0))\n"
+        )
+        ran = subprocess.run(
+            [sys.executable, "-c", text], capture_output=True, text=True, timeout=60, check=True
+        )
+        self.assertEqual((ran.stdout, ran.stderr), ("1\n", ""))
+
+    def test_a_forked_child_is_refused(self):
+        with self.guard() as guard:
+            child = os.fork()
+            if child == 0:
+                try:
+                    guard.tick(1, by=0)
+                except faultyard.GuardClosed:
+                    guard.close()
+                    guard._transport._finalizer()
+                    os._exit(7)
+                os._exit(1)
+            self.assertEqual(os.waitstatus_to_exitcode(os.waitpid(child, 0)[1]), 7)
+            self.assertEqual(guard.tick(1, by=0), 1)
+
+    def test_an_entry_that_is_longer_than_the_first_buffer(self):
+        with self.guard() as guard:
+            guard.form(range(6), 0, by=0)
+            guard.begin(0, bytes(256), by=0)
+            entry = guard.act(0, {"begin": {"payload": bytes(256), "team": 0}})
+            self.assertGreater(len(guard.audit().splitlines()[2]), 512)
+            self.assertEqual(entry.act["begin"]["payload"], "00" * 256)
+        self.assertEqual(faultyard.check(common.SIX, guard.audit()), 3)
+
+    def test_two_guards_have_nothing_in_common(self):
+        with self.guard() as one, self.guard() as other:
+            one.tick(5, by=0)
+            self.assertEqual(other.tick(1, by=0), 1)
+            self.assertEqual((one.journal_len(), other.journal_len()), (1, 1))

@@ -1,0 +1,163 @@
+"""A store of three small servers, as hooks: each record goes to two of them, and is acknowledged by both.
+
+    store.py HOOK [N] ..
+
+STORE_FAULT in the environment plants a fault: `unsynced` acknowledges a record up to half a second
+before it is written; `forgetful` says that an emptied server is whole at once, and copies nothing to it.
+"""
+import os
+import random
+import socket
+import socketserver
+import sys
+import threading
+import time
+from pathlib import Path
+
+FAULT = os.environ.get("STORE_FAULT", "")
+COUNT, PORT = int(os.environ["FY_COUNT"]), int(os.environ["FY_PORT"])
+NET = os.environ.get("STORE_NET", "")  # a network in which each server has an address of its own
+Records = dict[str, str]
+
+
+def address(number: int) -> tuple[str, int]:
+    return f"{NET}{number + 1}" if NET else "127.0.0.1", PORT + 4 * number
+
+
+class Server(socketserver.ThreadingTCPServer):
+    """Answers `put KEY VALUE ..` with `ok`, once all is on the disk, and `all` with its records and a dot."""
+
+    allow_reuse_address = daemon_threads = True
+
+    def __init__(self, number: int) -> None:
+        path = Path(os.environ["FY_DIR"], str(number), "log")
+        self.lock = threading.Lock()
+        self.records = read_log(path)
+        self.log = path.open("a", 1 << 20)
+        super().__init__(address(number), Handler)
+        if FAULT == "unsynced":
+            threading.Thread(target=self.sync_late, daemon=True).start()
+
+    def put(self, records: Records) -> None:
+        with self.lock:
+            self.records |= records
+            self.log.writelines(f"{key} {value}\n" for key, value in records.items())
+            if FAULT != "unsynced":
+                self.sync()
+
+    def sync(self) -> None:
+        self.log.flush()
+        os.fdatasync(self.log.fileno())
+
+    def sync_late(self) -> None:
+        while True:
+            time.sleep(0.5)
+            with self.lock:
+                self.sync()
+
+
+class Handler(socketserver.StreamRequestHandler):
+    server: Server
+
+    def handle(self) -> None:
+        for line in self.rfile:
+            words = line.decode().split()
+            if words[0] == "put":
+                self.server.put(dict(zip(words[1::2], words[2::2])))
+                self.wfile.write(b"ok\n")
+            else:
+                with self.server.lock:
+                    told = "".join(f"{key} {value}\n" for key, value in self.server.records.items())
+                self.wfile.write(told.encode() + b".\n")
+
+
+def read_log(path: Path) -> Records:
+    """Whole lines; the last may be torn."""
+    text = path.read_text() if path.exists() else ""
+    return dict(pair for line in text.split("\n")[:-1] if len(pair := line.split()) == 2)  # type: ignore[misc]
+
+
+class Link:
+    """A connection to a server, made when it is wanted."""
+
+    def __init__(self, number: int) -> None:
+        self.number = number
+        self.link: socket.socket | None = None
+
+    def ask(self, line: str) -> list[str]:
+        """The lines of the answer; OSError where there is none."""
+        try:
+            if self.link is None:
+                self.link = socket.create_connection(address(self.number), 1)
+            self.link.sendall(line.encode() + b"\n")
+            told = b""
+            while not told.endswith((b"ok\n", b".\n")):
+                if not (more := self.link.recv(1 << 16)):
+                    raise ConnectionError("it ended")
+                told += more
+            return told.decode().splitlines()
+        except OSError:
+            if self.link:
+                self.link.close()
+            self.link = None
+            raise
+
+    def records(self) -> Records:
+        return dict(pair for line in self.ask("all")[:-1] if len(pair := line.split()) == 2)  # type: ignore[misc]
+
+
+def able() -> list[int]:
+    return [int(number) for number in os.environ["FY_ABLE"].split()]
+
+
+def write() -> None:
+    links = [Link(number) for number in range(COUNT)]
+    for line in sys.stdin:
+        key, acknowledged = line.split()[0], 0
+        for link in random.sample(links, COUNT):
+            try:
+                acknowledged += acknowledged < 2 and link.ask(f"put {line.strip()}") == ["ok"]
+            except OSError:
+                pass
+        print(f"ok {int(key[2:])}" if acknowledged == 2 else "no", flush=True)
+
+
+def everything() -> Records:
+    found: Records = {}
+    for number in able():
+        found |= Link(number).records()
+    return found
+
+
+def whole(number: int) -> None:
+    """Copies to it what it lacks of all that is left."""
+    link = Link(number)
+    have = link.records()
+    lacks = {key: value for key, value in everything().items() if key not in have}
+    if lacks and FAULT != "forgetful":
+        link.ask(" ".join(["put", *(f"{key} {value}" for key, value in lacks.items())]))
+
+
+def main() -> None:
+    match sys.argv[1:]:
+        case ["hooks"]:
+            print("start ready whole write read")
+        case ["start", number]:
+            Server(int(number)).serve_forever()
+        case ["ready", number]:
+            Link(int(number)).ask("put ready yes")
+        case ["whole", number, _]:
+            whole(int(number))
+        case ["write"]:
+            write()
+        case ["read"]:
+            sys.stdout.writelines(f"{key} {value}\n" for key, value in everything().items())
+        case _:
+            sys.exit(64)
+
+
+if __name__ == "__main__":
+    try:
+        main()
+    except OSError:
+        sys.exit(1)
