@@ -1,0 +1,752 @@
+import java.io.BufferedInputStream;
+import java.io.ByteArrayOutputStream;
+import java.io.IOException;
+import java.io.InputStream;
+import java.io.OutputStream;
+import java.lang.ref.Cleaner;
+import java.nio.charset.StandardCharsets;
+import java.nio.file.Files;
+import java.nio.file.Path;
+import java.time.Duration;
+import java.util.Collection;
+import java.util.EnumSet;
+import java.util.List;
+import java.util.Objects;
+import java.util.Optional;
+import java.util.OptionalInt;
+import java.util.Set;
+import java.util.TreeSet;
+import java.util.concurrent.Future;
+import java.util.concurrent.ScheduledThreadPoolExecutor;
+import java.util.concurrent.TimeUnit;
+import java.util.function.Function;
+import java.util.regex.Pattern;
+import java.util.stream.Collectors;
+
+/**
+ * Answers each order to kill with the hardest kill that the policies tolerate: {@code faultyard
+ * guard}, held by its pipe. Java 11 or later, this file alone.
+ *
+ * <pre>{@code
+ * try (Guard guard = new Guard(Path.of("two.toml"))) {
+ *     Guard.Verdict verdict = guard.kill(1, Guard.Key.PROCESS, "p0", Guard.Kind.REBOOT_AND_DELETE);
+ *     verdict.struck().ifPresent(kind -> ...); // do this to p0, and then
+ *     guard.up(0, 0);
+ * }
+ * }</pre>
+ *
+ * <p>The first argument of each act is the number of its actor in the cluster file. An act that the
+ * guard refuses throws {@link ActRefused}, since it wasn't made. A kill that a rule bars isn't
+ * refused: its verdict says what to do. An argument that no guard reads throws {@code
+ * IllegalArgumentException}, and nothing is sent.
+ *
+ * <p>Threads may share a guard: each call waits for the one before, and gets its own answer.
+ */
+public final class Guard implements AutoCloseable {
+    private static final String HEADER = "{\"audit\":2}\n";
+    private static final int MOST_LINE = 65_536;
+    private static final int MOST_MEMBERS = 1024;
+    private static final int MOST_FAULT = 65_536;
+    private static final Duration PATIENCE = Duration.ofSeconds(10);
+    private static final Pattern NAME = Pattern.compile("[A-Za-z0-9_][A-Za-z0-9_-]{0,31}");
+    private static final Cleaner CLEANER = Cleaner.create();
+    private static final ScheduledThreadPoolExecutor WATCH = watch();
+
+    /** What a fault does to a process, from the mildest to the hardest. {@code CLOG} is no kill. */
+    public enum Kind {
+        /** Down; nothing on its disk is lost. */
+        REBOOT_PROCESS("RebootProcess"),
+        /** Down; what its disk hasn't synced may be lost. */
+        REBOOT("Reboot"),
+        /** Down, and its disk is emptied. */
+        REBOOT_AND_DELETE("RebootAndDelete"),
+        /** Gone for good, and its disk is emptied. */
+        KILL_INSTANTLY("KillInstantly"),
+        /** Its messages are held. It stands in grants and protections only. */
+        CLOG("Clog");
+
+        /** The word in an audit. */
+        public final String word;
+
+        Kind(String word) {
+            this.word = word;
+        }
+
+        /** Whether the data of the process goes. */
+        public boolean emptiesDisk() {
+            return this == REBOOT_AND_DELETE || this == KILL_INSTANTLY;
+        }
+
+        /** Whether the process never comes back. */
+        public boolean isFinal() {
+            return this == KILL_INSTANTLY;
+        }
+    }
+
+    /** The part of a process's place by which an order names it. */
+    public enum Key {
+        PROCESS("processid"),
+        MACHINE("machineid"),
+        ZONE("zoneid"),
+        DATA_HALL("data_hall"),
+        DATA_CENTER("dcid");
+
+        /** The word in an audit. */
+        public final String word;
+
+        Key(String word) {
+            this.word = word;
+        }
+    }
+
+    /** Why the kind that was ordered is barred: the first rule that holds. */
+    public enum Rule {
+        /** No process that is left has the value. */
+        NO_TARGET("NoTarget"),
+        /** No grant of the actor covers the process that is named. */
+        NO_GRANT("NoGrant"),
+        /** The process that is named is protected. */
+        PROTECTED("Protected"),
+        /** The destroyed processes would satisfy the policy that is named. */
+        TOO_MANY_DESTROYED("TooManyDestroyed"),
+        /** The processes left wouldn't satisfy the policy that is named. */
+        TOO_FEW_LEFT("TooFewLeft");
+
+        /** The word in an audit. */
+        public final String word;
+
+        Rule(String word) {
+            this.word = word;
+        }
+    }
+
+    /** Why an act is refused: the first reason that holds. docs/FORMATS.md says when each does. */
+    public enum Refusal {
+        STRANGER("Stranger"),
+        WRONG_ROLE("WrongRole"),
+        TOO_MANY("TooMany"),
+        NO_POLICY("NoPolicy"),
+        NO_PROCESS("NoProcess"),
+        GONE("Gone"),
+        TEAM_SHORT("TeamShort"),
+        NO_TEAM("NoTeam"),
+        PAYLOAD("Payload"),
+        NET_FULL("NetFull"),
+        NO_MESSAGE("NoMessage"),
+        CLOGGED("Clogged"),
+        NOT_UP("NotUp"),
+        NO_RECORD("NoRecord"),
+        NOT_MEMBER("NotMember"),
+        ACKED("Acked"),
+        IS_UP("IsUp"),
+        CLOCK_END("ClockEnd"),
+        NO_ACTOR("NoActor"),
+        FULL("Full"),
+        NO_SUCH("NoSuch"),
+        NO_COPY("NoCopy"),
+        IS_MEMBER("IsMember"),
+        NOT_DESTROYED("NotDestroyed"),
+        STILL_NEEDS("StillNeeds");
+
+        /** The word in an audit. */
+        public final String word;
+
+        Refusal(String word) {
+            this.word = word;
+        }
+    }
+
+    /** What the delivery of a message did. */
+    public enum Delivery {
+        /** It was a store message. */
+        STORED,
+        /** It was an acknowledgement, and the record isn't acknowledged yet. */
+        MARKED,
+        /** It was an acknowledgement, and the record is acknowledged now. */
+        ACKNOWLEDGED
+    }
+
+    /** The rule that bars an order, or none. */
+    public static class Ruling {
+        private final Rule rule;
+        private final int named;
+
+        private Ruling(Rule rule, int named) {
+            this.rule = rule;
+            this.named = named;
+        }
+
+        /** The rule that bars what was ordered; empty where nothing does. */
+        public Optional<Rule> rule() {
+            return Optional.ofNullable(rule);
+        }
+
+        /** The number of the process or of the policy that the rule names. */
+        public OptionalInt named() {
+            return named < 0 ? OptionalInt.empty() : OptionalInt.of(named);
+        }
+
+        @Override
+        public String toString() {
+            return "rule " + (rule == null ? "none" : rule + (named < 0 ? "" : " " + named));
+        }
+    }
+
+    /** The reply to a kill. */
+    public static final class Verdict extends Ruling {
+        private final Kind struck;
+
+        private Verdict(Ruling ruling, Kind struck) {
+            super(ruling.rule, ruling.named);
+            this.struck = struck;
+        }
+
+        /** Do this to every process of the target that isn't gone. Where it is empty, do nothing. */
+        public Optional<Kind> struck() {
+            return Optional.ofNullable(struck);
+        }
+
+        @Override
+        public String toString() {
+            return "struck " + (struck == null ? "none" : struck) + ", " + super.toString();
+        }
+    }
+
+    /** A new record. */
+    public static final class Begun {
+        /** The number of the record. */
+        public final int record;
+        /** The number of its first store message, as an unsigned number. */
+        public final long first;
+
+        private Begun(int record, long first) {
+            this.record = record;
+            this.first = first;
+        }
+    }
+
+    /** What a sync did. */
+    public static final class Synced {
+        /** How many writes were synced. */
+        public final int count;
+        /** The number of their first acknowledgement message, as an unsigned number. */
+        public final long first;
+
+        private Synced(int count, long first) {
+            this.count = count;
+            this.first = first;
+        }
+    }
+
+    /** The base of all that a guard throws, but for {@code IllegalArgumentException}. */
+    public static class GuardException extends RuntimeException {
+        private static final long serialVersionUID = 1;
+
+        private GuardException(String message, Throwable cause) {
+            super(message, cause);
+        }
+    }
+
+    /** The cluster file is refused; the message is the fault line, as {@code config: Policy 0}. */
+    public static final class ConfigRefused extends GuardException {
+        private static final long serialVersionUID = 1;
+
+        private ConfigRefused(String fault) {
+            super(fault, null);
+        }
+    }
+
+    /** The guard refused an act; the journal has its entry. */
+    public static final class ActRefused extends GuardException {
+        private static final long serialVersionUID = 1;
+        private final Refusal refusal;
+        private final int named;
+
+        private ActRefused(Refusal refusal, int named) {
+            super("refused: " + refusal.word + (named < 0 ? "" : " " + named), null);
+            this.refusal = refusal;
+            this.named = named;
+        }
+
+        /** The reason. */
+        public Refusal refusal() {
+            return refusal;
+        }
+
+        /** The policy of {@code TEAM_SHORT}, or the record of {@code STILL_NEEDS}. */
+        public OptionalInt named() {
+            return named < 0 ? OptionalInt.empty() : OptionalInt.of(named);
+        }
+    }
+
+    /** The journal has as many entries as the cluster file allows. */
+    public static final class JournalFull extends GuardException {
+        private static final long serialVersionUID = 1;
+
+        private JournalFull(String fault) {
+            super(fault, null);
+        }
+    }
+
+    /** The program isn't there, ended by itself, or isn't faultyard. */
+    public static final class GuardEnded extends GuardException {
+        private static final long serialVersionUID = 1;
+        private final String fault;
+
+        private GuardEnded(String why, String fault, Throwable cause) {
+            super(fault.isEmpty() ? why : why + ": " + fault, cause);
+            this.fault = fault;
+        }
+
+        /** The fault line of the program, or nothing. */
+        public String fault() {
+            return fault;
+        }
+    }
+
+    private final Process process;
+    private final Duration timeout;
+    private final OutputStream acts;
+    private final InputStream answers;
+    private final InputStream errors;
+    private final ByteArrayOutputStream audit = new ByteArrayOutputStream();
+    private int entries;
+    private boolean closed;
+    private GuardException end;
+
+    /** Opens a guard by the program that FAULTYARD names, else the one on PATH. */
+    public Guard(Path config) {
+        this(config, Objects.requireNonNullElse(System.getenv("FAULTYARD"), "faultyard"));
+    }
+
+    /** Opens a guard by this program, which has a minute for each answer. */
+    public Guard(Path config, String program) {
+        this(config, program, Duration.ofMinutes(1));
+    }
+
+    /** Opens a guard by this program, which is ended where an answer takes longer than this. */
+    public Guard(Path config, String program, Duration timeout) {
+        this.timeout = timeout;
+        ProcessBuilder builder = new ProcessBuilder(program, "guard", config.toString());
+        try {
+            // A file can't fill up, as a pipe that nobody reads would. Its name goes at once.
+            Path file = Files.createTempFile("faultyard", null);
+            try {
+                errors = Files.newInputStream(file);
+                process = builder.redirectError(file.toFile()).start();
+            } finally {
+                Files.delete(file);
+            }
+        } catch (IOException fault) {
+            throw new GuardEnded("the program can't be started", fault.getMessage(), fault);
+        }
+        CLEANER.register(this, process::destroyForcibly);
+        acts = process.getOutputStream();
+        answers = new BufferedInputStream(process.getInputStream());
+        String header = exchange("");
+        if (!header.equals(HEADER)) {
+            process.destroyForcibly();
+            throw ended("no header of an audit: " + header.trim(), null);
+        }
+    }
+
+    // Orders of role fault.
+
+    /** Orders a kill, with the mildest kind as its floor. */
+    public Verdict kill(int by, Key key, String value, Kind kind) {
+        return kill(by, key, value, kind, Kind.REBOOT_PROCESS, 0);
+    }
+
+    /**
+     * Orders a kill of the processes whose key has the value, by {@code kind}, or where that is
+     * barred by the hardest kind down to {@code floor} that isn't. {@code tear}, an unsigned number,
+     * chooses the unsynced writes that a simulated disk keeps.
+     */
+    public Verdict kill(int by, Key key, String value, Kind kind, Kind floor, long tear) {
+        require(kind != Kind.CLOG, "no kind of kill: " + kind);
+        require(floor.compareTo(kind) <= 0, "the floor " + floor + " is above the kind " + kind);
+        String order =
+            "\"floor\":\"" + floor.word + "\",\"key\":\"" + key.word + "\",\"kind\":\"" + kind.word
+                + "\",\"tear\":" + Long.toUnsignedString(tear) + ",\"value\":\"" + name(value) + "\"";
+        return make(by, "kill", order, reply -> {
+            reply.expect("{\"verdict\":{\"rule\":");
+            Ruling ruling = ruling(reply);
+            reply.expect(",\"struck\":");
+            Kind struck = reply.take("null") ? null : find(Kind.values(), k -> k.word, reply.word());
+            reply.expect("}}");
+            return new Verdict(ruling, struck);
+        });
+    }
+
+    /** Holds the messages of each process of the target for so many ticks. */
+    public Ruling clog(int by, Key key, String value, long ticks) {
+        String order = "\"key\":\"" + key.word + "\",\"ticks\":" + Long.toUnsignedString(ticks);
+        return make(by, "clog", order + ",\"value\":\"" + name(value) + "\"", Guard::ruled);
+    }
+
+    /** Ends the clogs of each process of the target. */
+    public Ruling unclog(int by, Key key, String value) {
+        String order = "\"key\":\"" + key.word + "\",\"value\":\"" + name(value) + "\"";
+        return make(by, "unclog", order, Guard::ruled);
+    }
+
+    // Reports and acts of role storage.
+
+    /** Reports that a process runs again. */
+    public void up(int by, int process) {
+        done(by, "up", "\"process\":" + number(process));
+    }
+
+    /** Reports that a destroyed process has every acknowledged record on its disk again. */
+    public void heal(int by, int process) {
+        done(by, "heal", "\"process\":" + number(process));
+    }
+
+    /** Forms a team of processes under a policy; the team's number. */
+    public int form(int by, Collection<Integer> members, int policy) {
+        require(members.size() <= MOST_MEMBERS, "over " + MOST_MEMBERS + " members");
+        String rising =
+            new TreeSet<>(members).stream().map(Guard::number).collect(Collectors.joining(","));
+        String act = "\"members\":[" + rising + "],\"policy\":" + number(policy);
+        return make(by, "form", act, reply -> (int) single(reply, "formed"));
+    }
+
+    /** Begins a record for a team, and sends a store message to each member. */
+    public Begun begin(int by, int team, byte[] payload) {
+        StringBuilder digits = new StringBuilder(2 * payload.length);
+        for (byte one : payload) {
+            digits.append(Character.forDigit((one >> 4) & 15, 16)).append(Character.forDigit(one & 15, 16));
+        }
+        String act = "\"payload\":\"" + digits + "\",\"team\":" + number(team);
+        return make(by, "begin", act, reply -> {
+            reply.expect("{\"begun\":{\"first\":");
+            long first = reply.number();
+            reply.expect(",\"record\":");
+            int record = (int) reply.number();
+            reply.expect("}}");
+            return new Begun(record, first);
+        });
+    }
+
+    /** Delivers a message, whose number is unsigned. */
+    public Delivery deliver(int by, long message) {
+        String act = "\"message\":" + Long.toUnsignedString(message);
+        return make(by, "deliver", act, reply -> {
+            if (reply.take("\"stored\"")) {
+                return Delivery.STORED;
+            }
+            reply.expect("{\"marked\":");
+            Delivery marked = reply.take("true") ? Delivery.ACKNOWLEDGED : Delivery.MARKED;
+            reply.expect(marked == Delivery.MARKED ? "false}" : "}");
+            return marked;
+        });
+    }
+
+    /** Drops a message, whose number is unsigned. */
+    public void lose(int by, long message) {
+        done(by, "lose", "\"message\":" + Long.toUnsignedString(message));
+    }
+
+    /** Sends a member the store message of a record again; the message's number, unsigned. */
+    public long resend(int by, int record, int process) {
+        String act = "\"process\":" + number(process) + ",\"record\":" + number(record);
+        return make(by, "resend", act, reply -> single(reply, "sent"));
+    }
+
+    /** Syncs what a process has written, and sends an acknowledgement of each write. */
+    public Synced sync(int by, int process) {
+        return make(by, "sync", "\"process\":" + number(process), reply -> {
+            reply.expect("{\"synced\":{\"count\":");
+            int count = (int) reply.number();
+            reply.expect(",\"first\":");
+            long first = reply.number();
+            reply.expect("}}");
+            return new Synced(count, first);
+        });
+    }
+
+    /** Sends a record from a process that has it synced to another; the message's number. */
+    public long copy(int by, int record, int from, int to) {
+        String act = "\"from\":" + number(from) + ",\"record\":" + number(record) + ",\"to\":" + number(to);
+        return make(by, "copy", act, reply -> single(reply, "sent"));
+    }
+
+    /** Puts the process {@code into} into a team, in place of its member {@code out}. */
+    public void replace(int by, int team, int out, int into) {
+        done(by, "replace", "\"into\":" + number(into) + ",\"out\":" + number(out) + ",\"team\":" + number(team));
+    }
+
+    /** Lets time pass, by an unsigned number of ticks; the time then. */
+    public long tick(int by, long ticks) {
+        return make(by, "tick", "\"ticks\":" + Long.toUnsignedString(ticks), reply -> single(reply, "time"));
+    }
+
+    // Acts of role operator.
+
+    /** Bars kinds on a process, for every actor. */
+    public void protect(int by, int process, Set<Kind> kinds) {
+        done(by, "protect", "\"kinds\":" + words(kinds) + ",\"process\":" + number(process));
+    }
+
+    /** Ends the protection of a process from kinds. */
+    public void unprotect(int by, int process, Set<Kind> kinds) {
+        done(by, "unprotect", "\"kinds\":" + words(kinds) + ",\"process\":" + number(process));
+    }
+
+    /** Gives an actor a grant for all processes. */
+    public void give(int by, int actor, Set<Kind> kinds) {
+        give(by, actor, kinds, "\"all\"");
+    }
+
+    /** Gives an actor a grant for the processes whose key has the value. */
+    public void give(int by, int actor, Set<Kind> kinds, Key key, String value) {
+        give(by, actor, kinds, "{\"key\":\"" + key.word + "\",\"value\":\"" + name(value) + "\"}");
+    }
+
+    private void give(int by, int actor, Set<Kind> kinds, String scope) {
+        done(by, "give", "\"actor\":" + number(actor) + ",\"kinds\":" + words(kinds) + ",\"scope\":" + scope);
+    }
+
+    /** Takes away an actor's grant, by its place. */
+    public void take(int by, int actor, int index) {
+        done(by, "take", "\"actor\":" + number(actor) + ",\"index\":" + number(index));
+    }
+
+    // Questions, and the end.
+
+    /** The audit so far, with its header. It is answered after the end too. */
+    public synchronized String audit() {
+        return audit.toString(StandardCharsets.UTF_8);
+    }
+
+    /** How many entries the journal has. */
+    public synchronized int journalLength() {
+        return entries;
+    }
+
+    /**
+     * Ends the guard. Throws {@link GuardEnded} where the program ended with another status than 0,
+     * unless a call has told that already.
+     */
+    @Override
+    public synchronized void close() {
+        if (closed) {
+            return;
+        }
+        closed = true;
+        if (end == null) {
+            GuardException told = ended("the guard ended by itself", null);
+            if (process.exitValue() != 0) {
+                throw told;
+            }
+        }
+    }
+
+    // How an act goes.
+
+    private void done(int by, String name, String members) {
+        make(by, name, members, reply -> {
+            reply.expect("\"done\"");
+            return null;
+        });
+    }
+
+    private synchronized <T> T make(int by, String name, String members, Function<Text, T> read) {
+        String act = "{\"" + name + "\":{" + members + "}}";
+        String line = "{\"by\":" + number(by) + ",\"act\":" + act + "}";
+        require(line.length() <= MOST_LINE, "the line would have over " + MOST_LINE + " bytes");
+        if (closed) {
+            throw new GuardEnded("the guard is closed", "", null);
+        }
+        Text entry = new Text(exchange(line + "\n"));
+        try {
+            entry.expect("{\"act\":" + act + ",\"at\":" + entries + ",\"by\":" + by + ",\"reply\":");
+            entries++;
+            if (entry.take("{\"no\":[")) {
+                Refusal refusal = find(Refusal.values(), it -> it.word, entry.word());
+                int named = entry.take(",") ? (int) entry.number() : -1;
+                entry.expect("]}}\n");
+                throw new ActRefused(refusal, named);
+            }
+            T reply = read.apply(entry);
+            entry.expect("}\n");
+            return reply;
+        } catch (Misread fault) {
+            process.destroyForcibly();
+            throw ended("no entry of an audit: " + fault.getMessage(), fault);
+        }
+    }
+
+    /** Sends a line, and waits for one. The guard is ended where none comes in time. */
+    private String exchange(String line) {
+        if (end != null) {
+            throw end;
+        }
+        long begun = System.nanoTime();
+        Future<?> watch =
+            WATCH.schedule(process::destroyForcibly, timeout.toMillis(), TimeUnit.MILLISECONDS);
+        try {
+            acts.write(line.getBytes(StandardCharsets.US_ASCII));
+            acts.flush();
+            ByteArrayOutputStream answer = new ByteArrayOutputStream();
+            for (int one = answers.read(); one >= 0; one = answers.read()) {
+                answer.write(one);
+                if (one == '\n') {
+                    answer.writeTo(audit);
+                    return answer.toString(StandardCharsets.US_ASCII);
+                }
+            }
+            throw new IOException("the guard has ended");
+        } catch (IOException fault) {
+            boolean late = System.nanoTime() - begun >= timeout.toNanos();
+            throw ended(late ? "no answer in " + timeout : "the guard has ended", fault);
+        } finally {
+            watch.cancel(false);
+        }
+    }
+
+    /** Waits for the end of the process, and tells why it ended. */
+    private GuardException ended(String why, Throwable cause) {
+        String fault = "";
+        try (acts; answers; errors) {
+            acts.close();
+            if (!process.waitFor(PATIENCE.toSeconds(), TimeUnit.SECONDS)) {
+                process.destroyForcibly().waitFor();
+            }
+            fault = new String(errors.readNBytes(MOST_FAULT), StandardCharsets.UTF_8).trim();
+        } catch (IOException broken) {
+            // What is closed or read here is of a process that has ended.
+        } catch (InterruptedException interrupted) {
+            process.destroyForcibly();
+            Thread.currentThread().interrupt();
+        }
+        if (fault.startsWith("config: ")) {
+            end = new ConfigRefused(fault);
+        } else if (fault.equals("script: JournalFull")) {
+            end = new JournalFull(fault);
+        } else {
+            end = new GuardEnded(why, fault, cause);
+        }
+        return end;
+    }
+
+    private static ScheduledThreadPoolExecutor watch() {
+        ScheduledThreadPoolExecutor made =
+            new ScheduledThreadPoolExecutor(1, work -> {
+                Thread thread = new Thread(work, "faultyard-timeout");
+                thread.setDaemon(true);
+                return thread;
+            });
+        made.setRemoveOnCancelPolicy(true);
+        return made;
+    }
+
+    // The words of acts and replies.
+
+    private static void require(boolean holds, String what) {
+        if (!holds) {
+            throw new IllegalArgumentException(what);
+        }
+    }
+
+    private static String number(int value) {
+        require(value >= 0, "a number below 0: " + value);
+        return Integer.toString(value);
+    }
+
+    private static String name(String value) {
+        require(NAME.matcher(value).matches(), "no name of 1 to 32 characters A-Z a-z 0-9 _ -: " + value);
+        return value;
+    }
+
+    private static String words(Set<Kind> kinds) {
+        // A set of an enum goes through it in order, as an audit has the kinds.
+        Set<Kind> rising = kinds.isEmpty() ? Set.of() : EnumSet.copyOf(kinds);
+        return rising.stream().map(kind -> "\"" + kind.word + "\"").collect(Collectors.joining(",", "[", "]"));
+    }
+
+    private static Ruling ruled(Text reply) {
+        reply.expect("{\"ruled\":");
+        Ruling ruling = ruling(reply);
+        reply.expect("}");
+        return ruling;
+    }
+
+    private static Ruling ruling(Text reply) {
+        if (reply.take("null")) {
+            return new Ruling(null, -1);
+        }
+        reply.expect("[");
+        Rule rule = find(Rule.values(), it -> it.word, reply.word());
+        int named = reply.take(",") ? (int) reply.number() : -1;
+        reply.expect("]");
+        return new Ruling(rule, named);
+    }
+
+    private static long single(Text reply, String member) {
+        reply.expect("{\"" + member + "\":");
+        long number = reply.number();
+        reply.expect("}");
+        return number;
+    }
+
+    private static <T> T find(T[] among, Function<T, String> word, String wanted) {
+        return List.of(among).stream()
+            .filter(one -> word.apply(one).equals(wanted))
+            .findFirst()
+            .orElseThrow(() -> new Misread("the word " + wanted));
+    }
+
+    /** What answered isn't the entry of the act that was sent. */
+    private static final class Misread extends RuntimeException {
+        private static final long serialVersionUID = 1;
+
+        Misread(String what) {
+            super(what);
+        }
+    }
+
+    /** A text that is read from its front. An entry has one spelling, so this is all it takes. */
+    private static final class Text {
+        private final String text;
+        private int at;
+
+        Text(String text) {
+            this.text = text;
+        }
+
+        boolean take(String wanted) {
+            boolean isNext = text.startsWith(wanted, at);
+            at += isNext ? wanted.length() : 0;
+            return isNext;
+        }
+
+        void expect(String wanted) {
+            if (!take(wanted)) {
+                throw new Misread("no " + wanted + " at " + at + " of " + text);
+            }
+        }
+
+        long number() {
+            int from = at;
+            while (at < text.length() && text.charAt(at) >= '0' && text.charAt(at) <= '9') {
+                at++;
+            }
+            try {
+                return Long.parseUnsignedLong(text.substring(from, at));
+            } catch (NumberFormatException fault) {
+                throw new Misread("no number at " + from + " of " + text);
+            }
+        }
+
+        String word() {
+            expect("\"");
+            int from = at;
+            at = text.indexOf('"', at);
+            if (at < 0) {
+                throw new Misread("no word at " + from + " of " + text);
+            }
+            return text.substring(from, at++);
+        }
+    }
+}

@@ -1,0 +1,271 @@
+"""The guard: one API over the pipe and over the library."""
+
+from __future__ import annotations
+
+import os
+import threading
+from types import TracebackType
+from typing import Any, FrozenSet, Iterable, Literal, Mapping, Optional, Tuple, Type, TypeVar, Union
+
+from . import acts
+from .enums import Key, Kind
+from .errors import ActRefused, FaultyardError, GuardClosed, InvalidAct, ProtocolError
+from .library import Library
+from .pipe import Pipe
+from .programs import StrPath
+from .replies import Begun, Done, Entry, Formed, Marked, Refused, Ruling, Sent, Stored, Synced
+from .replies import Time, Verdict, read_entry
+from .transport import Transport
+
+_Reply = TypeVar("_Reply")
+
+
+def _open(
+    config: StrPath,
+    transport: str,
+    program: Optional[StrPath],
+    library: Optional[StrPath],
+    timeout: Optional[float],
+) -> Transport:
+    if transport == "pipe":
+        return Pipe(config, program, timeout)
+    if transport == "library":
+        return Library(config, library)
+    raise ValueError(f"transport is neither 'pipe' nor 'library': {transport!r}")
+
+
+class Guard:
+    """Answers each order to kill with the hardest kill that the policies tolerate.
+
+        with Guard("two.toml") as guard:
+            verdict = guard.kill(Key.PROCESS, "p0", Kind.REBOOT_AND_DELETE, by=1)
+
+    `by` is the number of the actor in the cluster file, from 0. An act that the guard refuses
+    raises `ActRefused`, since it wasn't made. A kill that a rule bars isn't refused: its verdict
+    says what to do. `act` raises for neither.
+
+    Threads may share a guard: a lock puts their calls in order, and each gets its own answer. No
+    call may come from a signal handler, nor from a forked child.
+    """
+
+    def __init__(
+        self,
+        config: StrPath,
+        *,
+        transport: Literal["pipe", "library"] = "pipe",
+        program: Optional[StrPath] = None,
+        library: Optional[StrPath] = None,
+        timeout: Optional[float] = 60.0,
+    ) -> None:
+        """Opens a guard of a cluster in which nothing happened yet.
+
+        `config` is the path of a cluster file. Over `"pipe"`, `program` is the path of `faultyard`
+        (else FAULTYARD, else the one on PATH), and a guard that doesn't answer within `timeout`
+        seconds is ended. Over `"library"`, `library` is the path of libfaultyard.so (else
+        FAULTYARD_LIB, else what the system's loader finds).
+        """
+        self._lock = threading.Lock()
+        self._opener = os.getpid()
+        self._closed = False
+        self._transport = _open(config, transport, program, library, timeout)
+
+    # The end.
+
+    def close(self) -> None:
+        """Ends the guard. Closing twice is closing once; `audit` answers afterwards too.
+
+        Raises `GuardEnded` where the program ended with another status than 0, unless a call has
+        told that already.
+        """
+        with self._lock:
+            if not self._closed and os.getpid() == self._opener:
+                self._closed = True
+                self._transport.close()
+
+    def __enter__(self) -> Guard:
+        return self
+
+    def __exit__(
+        self,
+        kind: Optional[Type[BaseException]],
+        fault: Optional[BaseException],
+        trace: Optional[TracebackType],
+    ) -> None:
+        try:
+            self.close()
+        except FaultyardError:
+            # What the body raised came first, and is what its caller has to see.
+            if fault is None:
+                raise
+
+    # Orders of role fault.
+
+    def kill(
+        self,
+        key: Key,
+        value: str,
+        kind: Kind,
+        *,
+        by: int,
+        floor: Kind = Kind.REBOOT_PROCESS,
+        tear: int = 0,
+    ) -> Verdict:
+        """Orders a kill of the processes whose key has the value.
+
+        It strikes by `kind`, or where that is barred by the hardest kind down to `floor` that
+        isn't. `tear` chooses the unsynced writes that a simulated disk keeps.
+        """
+        order = {"key": key, "value": value, "kind": kind, "floor": floor, "tear": tear}
+        return self._expect(Verdict, by, "kill", order)
+
+    def clog(self, key: Key, value: str, ticks: int, *, by: int) -> Ruling:
+        """Holds the messages of each process of the target for so many ticks."""
+        return self._expect(Ruling, by, "clog", {"key": key, "value": value, "ticks": ticks})
+
+    def unclog(self, key: Key, value: str, *, by: int) -> Ruling:
+        """Ends the clogs of each process of the target."""
+        return self._expect(Ruling, by, "unclog", {"key": key, "value": value})
+
+    # Reports and acts of role storage.
+
+    def up(self, process: int, *, by: int) -> None:
+        """Reports that a process runs again."""
+        self._expect(Done, by, "up", {"process": process})
+
+    def heal(self, process: int, *, by: int) -> None:
+        """Reports that a destroyed process has every acknowledged record on its disk again."""
+        self._expect(Done, by, "heal", {"process": process})
+
+    def form(self, members: Iterable[int], policy: int, *, by: int) -> int:
+        """Forms a team of processes under a policy; the team's number."""
+        return self._expect(Formed, by, "form", {"members": members, "policy": policy}).team
+
+    def begin(self, team: int, payload: bytes, *, by: int) -> Begun:
+        """Begins a record for a team, and sends a store message to each member."""
+        return self._expect(Begun, by, "begin", {"payload": payload, "team": team})
+
+    def deliver(self, message: int, *, by: int) -> Union[Stored, Marked]:
+        """Delivers a message: `Stored` for a store message, `Marked` for an acknowledgement."""
+        reply = self._make(by, "deliver", {"message": message})
+        if isinstance(reply, (Stored, Marked)):
+            return reply
+        raise ProtocolError(f"deliver was answered {reply!r}")
+
+    def lose(self, message: int, *, by: int) -> None:
+        """Drops a message."""
+        self._expect(Done, by, "lose", {"message": message})
+
+    def resend(self, record: int, process: int, *, by: int) -> int:
+        """Sends a member the store message of a record again; the message's number."""
+        return self._expect(Sent, by, "resend", {"process": process, "record": record}).message
+
+    def sync(self, process: int, *, by: int) -> Synced:
+        """Syncs what a process has written, and sends an acknowledgement of each write."""
+        return self._expect(Synced, by, "sync", {"process": process})
+
+    def copy(self, record: int, source: int, target: int, *, by: int) -> int:
+        """Sends a record from a process that has it synced to another; the message's number."""
+        members = {"from": source, "record": record, "to": target}
+        return self._expect(Sent, by, "copy", members).message
+
+    def replace(self, team: int, out: int, into: int, *, by: int) -> None:
+        """Puts the process `into` into a team, in place of its member `out`."""
+        self._expect(Done, by, "replace", {"into": into, "out": out, "team": team})
+
+    def tick(self, ticks: int, *, by: int) -> int:
+        """Lets time pass; the time then."""
+        return self._expect(Time, by, "tick", {"ticks": ticks}).now
+
+    # Acts of role operator.
+
+    def protect(self, process: int, kinds: Iterable[Kind], *, by: int) -> None:
+        """Bars kinds on a process, for every actor."""
+        self._expect(Done, by, "protect", {"kinds": kinds, "process": process})
+
+    def unprotect(self, process: int, kinds: Iterable[Kind], *, by: int) -> None:
+        """Ends the protection of a process from kinds."""
+        self._expect(Done, by, "unprotect", {"kinds": kinds, "process": process})
+
+    def give(
+        self,
+        actor: int,
+        kinds: Iterable[Kind],
+        scope: Optional[Tuple[Key, str]] = None,
+        *,
+        by: int,
+    ) -> None:
+        """Gives an actor a grant, for the processes of the scope; without one, for all."""
+        self._expect(Done, by, "give", {"actor": actor, "kinds": kinds, "scope": scope})
+
+    def take(self, actor: int, index: int, *, by: int) -> None:
+        """Takes away an actor's grant, by its place."""
+        self._expect(Done, by, "take", {"actor": actor, "index": index})
+
+    # Any act.
+
+    def act(self, by: int, act: Mapping[str, Mapping[str, Any]]) -> Entry:
+        """Makes any act, given as a script has it; its entry, with a refusal as its reply.
+
+        entry = guard.act(0, {"up": {"process": 1}})
+        entry = guard.act(**json.loads(line_of_a_script))
+        """
+        if len(act) != 1:
+            raise InvalidAct(f"an act has one member, its name: {act!r}")
+        ((name, members),) = act.items()
+        text = acts.line(acts.number(by), name, acts.checked(name, members))
+        with self._lock:
+            answer = self._at_work().exchange(text)
+        return read_entry(answer)
+
+    # Questions.
+
+    def is_destroyed(self, process: int) -> bool:
+        """Whether a process was emptied or killed for good, and not healed since.
+
+        Over the pipe this follows the journal by the cluster file. That takes Python 3.11 or the
+        package `tomli`, else it raises `NotOffered`.
+        """
+        process = acts.number(process)
+        with self._lock:
+            return self._at_work().is_destroyed(process)
+
+    def left(self) -> FrozenSet[int]:
+        """The processes that aren't gone for good; over the pipe as for `is_destroyed`."""
+        with self._lock:
+            return self._at_work().left()
+
+    def journal_len(self) -> int:
+        """How many entries the journal has."""
+        with self._lock:
+            return self._transport.journal_len()
+
+    def audit(self) -> str:
+        """The audit so far, with its header: what `faultyard check` and `show` read."""
+        with self._lock:
+            return self._transport.audit().decode()
+
+    # Below: how a call goes.
+
+    def _at_work(self) -> Transport:
+        if self._closed:
+            raise GuardClosed("the guard is closed")
+        if os.getpid() != self._opener:
+            raise GuardClosed("the guard was opened by another process")
+        return self._transport
+
+    def _make(self, by: int, name: str, members: Mapping[str, Any]) -> object:
+        by = acts.number(by)
+        read = acts.checked(name, members)
+        with self._lock:
+            reply = self._at_work().reply(by, name, read)
+        if isinstance(reply, Refused):
+            raise ActRefused(name, reply.refusal, reply.named)
+        return reply
+
+    def _expect(
+        self, shape: Type[_Reply], by: int, name: str, members: Mapping[str, Any]
+    ) -> _Reply:
+        reply = self._make(by, name, members)
+        if not isinstance(reply, shape):
+            raise ProtocolError(f"{name} was answered {reply!r}")
+        return reply

@@ -1,0 +1,194 @@
+"""A guard in a process of its own, asked through two pipes."""
+
+from __future__ import annotations
+
+import os
+import select
+import subprocess
+import tempfile
+import time
+import weakref
+from typing import FrozenSet, List, Optional
+
+from .errors import ConfigRefused, FaultyardError, GuardEnded, JournalFull, OutOfMemory
+from .errors import ProtocolError
+from .losses import Losses
+from .programs import StrPath, find_program
+from .replies import read_entry
+from .transport import HEADER, Transport
+
+PATIENCE = 10.0
+"""How many seconds a guard may take to end once its input is closed."""
+MOST_FAULT = 65_536
+"""How much of what a program writes to standard error is read."""
+
+
+def _kill(process: "subprocess.Popen[bytes]", opener: int) -> None:
+    """Ends a guard that nobody closed; a forked child leaves its parent's guard alone."""
+    if os.getpid() == opener and process.poll() is None:
+        process.kill()
+        process.wait()
+
+
+class Pipe(Transport):
+    """`faultyard guard` as a child process.
+
+    A line is sent only once the line before is answered. So neither side waits for the other with
+    a full pipe. Standard error goes to a file without a name, which can't fill up.
+    """
+
+    def __init__(self, config: StrPath, program: Optional[StrPath], timeout: Optional[float]):
+        with open(config, "rb") as file:
+            self._config = file.read()
+        self._timeout = timeout
+        self._audit: List[bytes] = []
+        self._pending = b""
+        self._end: Optional[GuardEnded] = None
+        self._losses: Optional[Losses] = None
+        self._followed = 0
+        words = [find_program(program), "guard", os.fspath(config)]
+        self._errors = tempfile.TemporaryFile()
+        try:
+            # In a session of its own, Ctrl-C at a terminal ends the test and not its guard.
+            self._process = subprocess.Popen(
+                words,
+                stdin=subprocess.PIPE,
+                stdout=subprocess.PIPE,
+                stderr=self._errors,
+                bufsize=0,
+                start_new_session=True,
+            )
+        except BaseException:
+            self._errors.close()
+            raise
+        self._finalizer = weakref.finalize(self, _kill, self._process, os.getpid())
+        assert self._process.stdin is not None and self._process.stdout is not None
+        self._stdin, self._stdout = self._process.stdin, self._process.stdout
+        os.set_blocking(self._stdin.fileno(), False)
+        self._begin()
+
+    def _begin(self) -> None:
+        """Reads the header, which is there before anything is sent."""
+        try:
+            header = self._hear()
+            if header != HEADER:
+                raise ProtocolError(f"{self._process.args!r} began with {header!r}")
+            self._audit.append(header)
+        except BaseException:
+            self._abandon("the guard didn't begin")
+            self._errors.close()
+            raise
+
+    def exchange(self, text: bytes) -> bytes:
+        if self._end is not None:
+            raise self._told(self._end)
+        try:
+            self._tell(text)
+            answer = self._hear()
+        except FaultyardError:
+            raise
+        except BaseException:
+            # The answer that was waited for would be taken for the next line's.
+            self._abandon("a call was interrupted before its answer was read")
+            raise
+        self._audit.append(answer)
+        return answer
+
+    def is_destroyed(self, process: int) -> bool:
+        return process in self._follow().destroyed
+
+    def left(self) -> FrozenSet[int]:
+        losses = self._follow()
+        return frozenset(range(len(losses))) - losses.gone
+
+    def _follow(self) -> Losses:
+        """Reads the entries since the last question."""
+        if self._losses is None:
+            self._losses = Losses(self._config)
+        for text in self._audit[1 + self._followed :]:
+            self._losses.read(read_entry(text))
+            self._followed += 1
+        return self._losses
+
+    def journal_len(self) -> int:
+        return len(self._audit) - 1
+
+    def audit(self) -> bytes:
+        return b"".join(self._audit)
+
+    def close(self) -> None:
+        if self._end is None:
+            self._stdin.close()
+            ended = self._wait("the guard didn't end by itself")
+            self._errors.close()
+            if ended.status != 0:
+                raise self._told(ended)
+        self._errors.close()
+
+    def _tell(self, text: bytes) -> None:
+        left = memoryview(text)
+        until = self._deadline()
+        while left:
+            try:
+                left = left[os.write(self._stdin.fileno(), left) :]
+            except BlockingIOError:
+                self._await(self._stdin.fileno(), select.POLLOUT, until)
+            except BrokenPipeError:
+                raise self._told(self._wait("the guard has ended")) from None
+
+    def _hear(self) -> bytes:
+        """The next line."""
+        until = self._deadline()
+        while b"\n" not in self._pending:
+            self._await(self._stdout.fileno(), select.POLLIN, until)
+            more = os.read(self._stdout.fileno(), 1 << 16)
+            if not more:
+                raise self._told(self._wait("the guard has ended"))
+            self._pending += more
+        answer, self._pending = self._pending.split(b"\n", 1)
+        return answer + b"\n"
+
+    def _deadline(self) -> Optional[float]:
+        return None if self._timeout is None else time.monotonic() + self._timeout
+
+    def _await(self, descriptor: int, event: int, until: Optional[float]) -> None:
+        """Waits until the descriptor is ready. At the deadline the guard is ended."""
+        poll = select.poll()
+        poll.register(descriptor, event)
+        left = None if until is None else max(0.0, (until - time.monotonic()) * 1000)
+        if not poll.poll(left):
+            raise self._told(self._abandon(f"no answer in {self._timeout} seconds"))
+
+    def _abandon(self, why: str) -> GuardEnded:
+        """Ends the process at once."""
+        if self._end is None and self._process.poll() is None:
+            self._process.kill()
+        return self._wait(why)
+
+    def _wait(self, why: str) -> GuardEnded:
+        """Waits for the end of the process, and keeps what it told."""
+        if self._end is not None:
+            return self._end
+        try:
+            status = self._process.wait(PATIENCE)
+        except subprocess.TimeoutExpired:
+            self._process.kill()
+            status = self._process.wait()
+        finally:
+            self._finalizer()
+        self._stdin.close()
+        self._stdout.close()
+        self._errors.seek(0)
+        fault = self._errors.read(MOST_FAULT).decode(errors="replace").strip()
+        self._end = GuardEnded(why, fault, status)
+        return self._end
+
+    def _told(self, end: GuardEnded) -> FaultyardError:
+        """The error that tells how the guard ended."""
+        if end.status == 1 and end.fault.startswith("config: "):
+            return ConfigRefused(end.fault)
+        if end.status == 1 and end.fault == "script: JournalFull":
+            return JournalFull(end.fault)
+        if end.status == 4:
+            return OutOfMemory(end.fault)
+        return GuardEnded(end.why, end.fault, end.status)
