@@ -1,0 +1,17 @@
+# Completion of faultyard-nemesis for fish.
+
+complete -c faultyard-nemesis -s h -l help -d "Print help"
+complete -c faultyard-nemesis -l seed -x -d "The orders are drawn from this seed"
+complete -c faultyard-nemesis -l seconds -x -d "How long records are written"
+complete -c faultyard-nemesis -l plan -x -a "mixed attrition swizzle rolling" -d "How orders are drawn"
+complete -c faultyard-nemesis -l kinds -x -d "How often each kind is drawn"
+complete -c faultyard-nemesis -l pauses -x -d "Pauses between mixed orders"
+complete -c faultyard-nemesis -l replay -r -d "Do the orders of this events.jsonl"
+complete -c faultyard-nemesis -l unguarded -d "Do what was ordered, whatever the guard says"
+complete -c faultyard-nemesis -l check-hooks -d "Kill and empty each process once"
+complete -c faultyard-nemesis -l writers -x -d "How many write hooks run"
+complete -c faultyard-nemesis -l hook-timeout -x -d "How long a hook may take"
+complete -c faultyard-nemesis -l socket -r -d "A Unix socket by which others ask the guard"
+complete -c faultyard-nemesis -l out -r -d "The folder of the run"
+complete -c faultyard-nemesis -l keep -d "Keep the data of the processes"
+complete -c faultyard-nemesis -l quiet -d "Print the summary alone"

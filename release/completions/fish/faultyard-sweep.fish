@@ -1,0 +1,5 @@
+# Completion of faultyard-sweep for fish.
+
+complete -c faultyard-sweep -s h -l help -d "Print help"
+complete -c faultyard-sweep -n "test (count (commandline -opc)) -eq 1" -f -k -a "(__fish_complete_suffix .toml)" -d "Cluster file"
+complete -c faultyard-sweep -n "test (count (commandline -opc)) -eq 4" -f -a "(__fish_complete_directories)" -d "Folder of the results"

@@ -1,0 +1,17 @@
+# Completion of faultyard for fish.
+
+set -l commands judge run check swarm guard show help
+
+complete -c faultyard -f
+complete -c faultyard -s h -l help -d "Print help"
+complete -c faultyard -n "not __fish_seen_subcommand_from $commands" -s V -l version -d "Print version"
+complete -c faultyard -n "not __fish_seen_subcommand_from $commands" -a judge -d "Reads policies, processes and asks from standard input, and answers each ask"
+complete -c faultyard -n "not __fish_seen_subcommand_from $commands" -a run -d "Runs the script on standard input on the cluster of a file, and writes the audit"
+complete -c faultyard -n "not __fish_seen_subcommand_from $commands" -a check -d "Checks the audit on standard input: is each reply what the rules give?"
+complete -c faultyard -n "not __fish_seen_subcommand_from $commands" -a swarm -d "Lets every actor of a cluster file loose, each on a thread, and writes the audit"
+complete -c faultyard -n "not __fish_seen_subcommand_from $commands" -a guard -d "Answers each line of a script at once: what may be done to real processes?"
+complete -c faultyard -n "not __fish_seen_subcommand_from $commands" -a show -d "Draws the audit on standard input as a picture, an SVG file"
+complete -c faultyard -n "not __fish_seen_subcommand_from $commands" -a help -d "Print this message or the help of the given subcommand(s)"
+complete -c faultyard -n "__fish_seen_subcommand_from run check swarm guard show" -k -a "(__fish_complete_suffix .toml)"
+complete -c faultyard -n "__fish_seen_subcommand_from swarm" -l seed -x -d "What the plans of the actors are drawn from, from 0 to 2^64 - 1"
+complete -c faultyard -n "__fish_seen_subcommand_from help" -a "judge run check swarm guard show"
