@@ -1,4 +1,4 @@
-"""Draws faults for a real store, asks `faultyard guard`, does what it answers, counts lost records."""
+"""Draws faults for a real store, does those that a guard allows, and counts lost records."""
 import argparse
 import asyncio
 import os
@@ -6,12 +6,11 @@ import shutil
 import signal
 import sys
 import tempfile
-from asyncio.subprocess import PIPE
 from pathlib import Path
 
 from .guard import Guard
 from .plan import PLANS
-from .process import GUARD, NONE_LOST, PR_SET_CHILD_SUBREAPER, PRCTL, USAGE, Fault, end_children, running
+from .process import NONE_LOST, USAGE, Fault, adopt_orphans, end_children
 from .report import report
 from .run import Run
 
@@ -39,8 +38,8 @@ def parsed() -> argparse.Namespace:
     add("--pauses", type=numbers, default=PAUSES, metavar="SECONDS", help=text)
     text = "do the orders of an events.jsonl at their times"
     add("--replay", type=Path, metavar="EVENTS", help=text)
-    add("--unguarded", action="store_true", help="ask the guard, and do what was ordered all the same")
-    add("--check-hooks", action="store_true", help="call each hook on a calm cluster")
+    add("--unguarded", action="store_true", help="do what was ordered, whatever the guard says")
+    add("--check-hooks", action="store_true", help="have each hook called on a calm cluster")
     add("--writers", type=int, default=3, help="how many write hooks run (3)")
     text = "how long a hook may take; setup, join, elect and read six times as long (10)"
     add("--hook-timeout", type=float, default=10.0, metavar="SECONDS", help=text)
@@ -55,7 +54,7 @@ def parsed() -> argparse.Namespace:
     return words
 
 
-def program() -> str:
+def find_program() -> str:
     """FAULTYARD, or the program of a checkout or beside the tool, or of the PATH."""
     here = Path(sys.argv[0]).resolve().parent
     places = [str(it) for it in (here.parent / "bin/faultyard", here / "faultyard") if it.is_file()]
@@ -64,11 +63,12 @@ def program() -> str:
     raise Fault(USAGE, "there is no program faultyard; the variable FAULTYARD may name it")
 
 
-def folder_of(words: argparse.Namespace) -> Path:
-    """The folder for all files of the run."""
+def make_folder(words: argparse.Namespace) -> Path:
+    """The folder for all files of the run, once the words are right."""
     for path in (words.config, words.hooks, words.replay):
         if path and not path.is_file():
             raise Fault(USAGE, f"there is no file {path}")
+    words.program = find_program()
     words.config, words.hooks = words.config.resolve(), words.hooks.resolve()
     if not os.access(words.hooks, os.X_OK):
         raise Fault(USAGE, f"{words.hooks} is no executable")
@@ -79,7 +79,7 @@ def folder_of(words: argparse.Namespace) -> Path:
     words.out.mkdir(parents=True, exist_ok=True)
     if any(words.out.iterdir()):
         raise Fault(USAGE, f"{words.out} is not empty")
-    return words.out.resolve()
+    return Path(words.out.resolve())
 
 
 async def chaos(words: argparse.Namespace) -> int:
@@ -88,22 +88,17 @@ async def chaos(words: argparse.Namespace) -> int:
 
     def stop(number: int) -> None:
         caught.append(number)
+        assert task
         task.cancel()
 
     for number in (signal.SIGINT, signal.SIGTERM, signal.SIGHUP):
         asyncio.get_running_loop().add_signal_handler(number, stop, number)
-    words.program = program()
-    folder = folder_of(words)
+    folder = make_folder(words)
     try:
-        with (folder / "guard.log").open("wb") as log:
-            files = {"stdin": PIPE, "stdout": PIPE, "stderr": log}
-            async with running(words.program, "guard", words.config, **files) as process:
-                guard = Guard(process, folder)
-                if await guard.hear() != b'{"audit":2}\n':
-                    raise Fault(GUARD, "the guard printed another header than of an audit")
-                run = Run(words, folder, guard)
-                await run.whole()
-                status = await report(run)
+        async with Guard.begun(words.program, words.config, folder) as guard:
+            run = Run(words, folder, guard)
+            await run.whole()
+            status = await report(run)
     except asyncio.CancelledError:
         print(f"faultyard-nemesis: interrupted; {folder}", file=sys.stderr)
         return 128 + caught[0]
@@ -118,15 +113,15 @@ async def chaos(words: argparse.Namespace) -> int:
 
 
 def main() -> int:
-    """Runs what the words say; all that it started ends before this returns."""
+    """Does what the words say; all that it started ends before this returns."""
     words = parsed()
-    PRCTL(PR_SET_CHILD_SUBREAPER, 1)
+    adopt_orphans()
     if sys.version_info < (3, 12):  # later it is the default
         asyncio.set_child_watcher(asyncio.PidfdChildWatcher())
     try:
         return asyncio.run(chaos(words))
     except Fault as fault:
         print(f"faultyard-nemesis: {fault.args[1]}", file=sys.stderr)
-        return fault.args[0]
+        return int(fault.args[0])
     finally:
         end_children()

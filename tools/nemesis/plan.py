@@ -1,11 +1,10 @@
 """Orders, drawn from a seed or read from the events of another run."""
 import json
 from collections.abc import Iterator
-from dataclasses import dataclass, replace
 from itertools import cycle
 from pathlib import Path
 from random import Random
-from typing import Any
+from typing import Any, NamedTuple
 
 from .process import USAGE, Fault
 
@@ -16,15 +15,14 @@ PLANS = ("mixed", "attrition", "swizzle", "rolling")
 FIRST = 1.0  # seconds before the first order
 
 
-@dataclass(frozen=True)
-class Order:
+class Order(NamedTuple):
     kind: str
     key: str
     value: str
-    at: float = 0.0  # as a plan has it, seconds after the order before
+    at: float = 0.0  # as a plan draws it, seconds after the order before
     clogged: float = 0.0  # seconds of a clog
 
-    def act(self) -> dict[str, Any]:
+    def act(self) -> dict[str, dict[str, Any]]:
         """A clog's ticks are milliseconds; the guard's clock stands, and the tool tells its end."""
         target: dict[str, Any] = {"key": self.key, "value": self.value}
         if self.kind == CLOG:
@@ -32,9 +30,8 @@ class Order:
         return {"kill": {**target, "kind": self.kind, "floor": RESTART, "tear": 0}}
 
 
-@dataclass(frozen=True)
-class Draw:
-    """Draws the orders of a plan."""
+class Draw(NamedTuple):
+    """Draws orders by plans."""
 
     dice: Random
     places: list[dict[str, str]]
@@ -48,9 +45,19 @@ class Draw:
             at = round(at + order.at, 3)
             if at >= seconds:
                 return
-            yield replace(order, at=at)
+            yield order._replace(at=at)
 
-    def _any(self, pauses: list[float], kinds: tuple[str, ...], *keys: str) -> Order:
+    def mixed(self) -> Iterator[Order]:
+        """Any kind of a random process, machine or zone, after a random pause."""
+        while True:
+            yield self._any(KINDS, ["processid", "processid", "machineid", "zoneid"], self.pauses)
+
+    def attrition(self) -> Iterator[Order]:
+        """Destroys a process or machine after the other, faster than they are filled again."""
+        while True:
+            yield self._any(DESTROYING, ["processid", "machineid"], [0.1, 0.2, 0.5])
+
+    def _any(self, kinds: tuple[str, ...], keys: list[str], pauses: list[float]) -> Order:
         """One of those kinds, by their weights; the first where none has any."""
         weights = [self.weights.get(kind, 0) for kind in kinds]
         kind = self.dice.choices(kinds, weights)[0] if sum(weights) else kinds[0]
@@ -58,17 +65,6 @@ class Draw:
         value = self.dice.choice(self.places)[key]
         clogged = self.dice.choice([0.5, 1.0, 2.0, 5.0])
         return Order(kind, key, value, self.dice.choice(pauses), clogged)
-
-    def mixed(self) -> Iterator[Order]:
-        """Any kind of a random process, machine or zone, after a random pause."""
-        keys = ("processid", "processid", "machineid", "zoneid")
-        while True:
-            yield self._any(self.pauses, KINDS, *keys)
-
-    def attrition(self) -> Iterator[Order]:
-        """Destroys a process or machine after the other, faster than they are filled again."""
-        while True:
-            yield self._any([0.1, 0.2, 0.5], DESTROYING, "processid", "machineid")
 
     def swizzle(self) -> Iterator[Order]:
         """Stops some of them one by one, and lets them go on in another order; then a pause."""
@@ -93,8 +89,7 @@ def replayed(path: Path) -> Iterator[Order]:
         try:
             event = json.loads(line)
             if event["what"] == "order":
-                kind = KINDS[KINDS.index(event["order"])]
-                clogged = event.get("clogged", 0.0)
+                kind, clogged = KINDS[KINDS.index(event["order"])], event.get("clogged", 0.0)
                 yield Order(kind, event["key"], event["value"], event["t"], clogged)
         except (ValueError, KeyError, TypeError) as fault:
             raise Fault(USAGE, f"{path}: line {number} is no event: {fault!r}") from None

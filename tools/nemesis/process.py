@@ -31,8 +31,13 @@ def signal_below(pid: int, number: int) -> None:
                 signal_below(child, number)
 
 
+def adopt_orphans() -> None:
+    """Makes this process the parent of all that is orphaned below it, in whatever session."""
+    PRCTL(PR_SET_CHILD_SUBREAPER, 1)
+
+
 def end_children() -> None:
-    """Kills all below this process, a subreaper: each that ends leaves its own children to it."""
+    """Kills all below this process, which adopts orphans."""
     with suppress(ChildProcessError):
         while True:
             signal_below(os.getpid(), signal.SIGKILL)
@@ -42,11 +47,11 @@ def end_children() -> None:
 def keep(tool: int) -> None:
     """Called in a child of the tool, it forks, and returns in the new child, which runs a command.
 
-    The old child is its keeper: a subreaper, below which all stays that the command starts. It ends
-    all of that once the command has ended, or at SIGTERM, which the kernel sends once the tool is gone.
+    The old child is its keeper: it kills all that the command has started once the command has
+    ended, or at SIGTERM, which the kernel sends once the tool is gone.
     """
     signal.pthread_sigmask(signal.SIG_BLOCK, AWAITED)
-    PRCTL(PR_SET_CHILD_SUBREAPER, 1)
+    adopt_orphans()
     PRCTL(PR_SET_PDEATHSIG, signal.SIGTERM)
     if os.getppid() != tool:
         os._exit(1)
@@ -57,7 +62,7 @@ def keep(tool: int) -> None:
         return
     with open("/proc/self/stat") as file:
         start, end = map(int, file.read().rpartition(")")[2].split()[45:47])
-    ctypes.memset(start, 0, end - start)  # `pkill -f` of the tool's name is to spare it
+    ctypes.memset(start, 0, end - start)  # `pkill -f` of the tool's name is to spare the keeper
     os.closerange(0, os.sysconf("SC_OPEN_MAX"))
     ended, status = 0, int(signal.SIGTERM)
     while ended != command and signal.sigwait(AWAITED) == signal.SIGCHLD:

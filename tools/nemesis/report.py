@@ -6,7 +6,7 @@ from asyncio.subprocess import PIPE, STDOUT
 from typing import Any
 
 from .process import GUARD, LOST, NONE_LOST, output, running
-from .records import say
+from .ledger import say
 from .run import Run
 
 SHOWN = 5  # lost records that are told on the terminal; lost.jsonl has all
@@ -23,7 +23,7 @@ async def report(run: Run) -> int:
     lines = summary(run, beyond) + run.notes + [told(it) for it in lost[:SHOWN]]
     if len(lost) > SHOWN:
         lines.append(f"lost: {len(lost) - SHOWN} more, in lost.jsonl")
-    acked = len(run.journal.records)
+    acked = len(run.ledger.records)
     lines.append(f"{acked} acknowledged, {len(lost)} lost; audit {checked}; {run.folder}")
     say("\n".join(lines))
     if checked != f"legal {run.guard.entries}":
@@ -40,7 +40,7 @@ def summary(run: Run, beyond: dict[str, Any] | None) -> list[str]:
     lines = [
         f"{mode}, seed {run.words.seed}: {len(run.orders)} orders, {lessened} lessened, "
         f"{barred} barred; {destroying} destroying; {len(healed)} healed{median}; "
-        f"longest without a write {run.journal.longest:.1f} s"
+        f"longest without a write {run.ledger.longest:.1f} s"
     ]
     if beyond:
         said, done = beyond["verdict"] or "nothing", f"{beyond['does']} of {beyond['value']}"
@@ -51,7 +51,7 @@ def summary(run: Run, beyond: dict[str, Any] | None) -> list[str]:
 
 def loss(run: Run, key: str) -> dict[str, Any]:
     """A lost record: who could hold it, and which entries destroyed these first."""
-    record, first = run.journal.records[key], dict[int, int]()
+    record, first = run.ledger.records[key], dict[int, int]()
     for at, number, entry in run.store.destroyed:
         if at >= record.t and number in record.able:
             first.setdefault(number, entry)

@@ -2,6 +2,7 @@
 import asyncio
 import json
 import os
+import time
 from argparse import Namespace
 from asyncio import StreamReader, StreamWriter
 from asyncio.subprocess import PIPE, STDOUT
@@ -11,11 +12,11 @@ from pathlib import Path
 from random import Random
 from typing import Any
 
-from .guard import Cluster, Guard, Member
-from .hooks import Answer, Hooks
+from .cluster import Answer, Cluster, Hooks, Member
+from .guard import Act, Guard
+from .ledger import Ledger, write
 from .plan import CLOG, EMPTY, GONE, KINDS, REBOOT, Draw, Order, replayed
 from .process import HOOK, USAGE, Fault, cancelled, output, running
-from .records import Journal, write
 from .store import Store
 
 OTHERS = {"kill", "clog", "unclog", "protect", "unprotect", "give", "take"}  # may ask these
@@ -24,14 +25,14 @@ OTHERS = {"kill", "clog", "unclog", "protect", "unprotect", "give", "take"}  # m
 class Run:
     def __init__(self, words: Namespace, folder: Path, guard: Guard) -> None:
         self.words, self.folder, self.guard = words, folder, guard
-        self.cluster = Cluster.read(words.config)
+        self.cluster = Cluster(words.config)
         self.hooks = Hooks(words.hooks, self.cluster, folder, words.hook_timeout)
-        self.journal = Journal(folder, self.cluster, guard, words.quiet)
-        self.store = Store(self.hooks, guard, self.journal)
+        self.ledger = Ledger(folder, self.cluster, guard, words.quiet)
+        self.store = Store(self.hooks, guard, self.ledger)
         self.orders: list[dict[str, Any]] = []  # that were asked, as in the events
         self.lost: list[str] = []
         self.notes: list[str] = []  # who was not back at the end, and why nothing could be read
-        self._background: list[asyncio.Task[None]] = []
+        self._behind: list[asyncio.Task[None]] = []  # writers, and who asks by the socket
         self._clogs: list[asyncio.Task[None]] = []
         self._over = asyncio.get_running_loop().create_future()
 
@@ -42,7 +43,8 @@ class Run:
         try:
             async with asyncio.TaskGroup() as self._tasks:
                 await self.store.begin(self._tasks)
-                self.journal.begin()
+                self.ledger.began = time.monotonic()
+                self.ledger.write("ready")
                 await self._chaos(orders)
                 await self._read()
                 await self.store.end()
@@ -53,34 +55,32 @@ class Run:
         words = self.words
         if words.replay:
             return list(replayed(words.replay))
-        weights = dict(zip(KINDS, words.kinds))
-        granted = {kind: weights.get(kind, 0.0) for kind in self.cluster.kinds}
-        places = [member.place for member in self.cluster.members]
-        draw = Draw(Random(words.seed), places, granted, words.pauses)
+        weights = {kind: it for kind, it in zip(KINDS, words.kinds) if kind in self.cluster.kinds}
+        draw = Draw(Random(words.seed), self.cluster.places, weights, words.pauses)
         return list(draw.orders(words.plan, words.seconds))
 
     async def _chaos(self, orders: list[Order]) -> None:
         """Writes and orders, until all that was clogged is let go again."""
         for number in range(self.words.writers):
             dice = Random(f"{self.words.seed}-{number}")
-            self._behind(write(self.hooks, self.journal, dice))
+            self._begin(write(self.hooks, self.ledger, dice))
         if self.words.socket:
-            self._behind(self._open_door())
+            self._begin(self._serve(self.words.socket))
         await (self._check_hooks() if self.words.check_hooks else self._order(orders))
         async with self.guard.turn:
-            await cancelled(self._background)
+            await cancelled(self._behind)
         self._over.set_result(None)
         await asyncio.gather(*self._clogs)
 
-    def _behind(self, work: Coroutine[Any, Any, None]) -> None:
-        self._background.append(self._tasks.create_task(work))
+    def _begin(self, work: Coroutine[Any, Any, None]) -> None:
+        self._behind.append(self._tasks.create_task(work))
 
     async def _order(self, orders: list[Order]) -> None:
         """Asks and does each order at its time."""
         for order in orders:
-            await asyncio.sleep(order.at - self.journal.now())
-            await self.obey(self.cluster.fault, order.act())
-        await asyncio.sleep(self.words.seconds - self.journal.now())
+            await asyncio.sleep(order.at - self.ledger.now())
+            await self._obey(self.cluster.fault, order.act())
+        await asyncio.sleep(self.words.seconds - self.ledger.now())
 
     async def _check_hooks(self) -> None:
         """Has each hook called on a calm cluster; each time all has to come back."""
@@ -92,16 +92,16 @@ class Run:
         for member, kind in strikes:
             await asyncio.sleep(1)
             order = Order(kind, "processid", member.name, clogged=1.0)
-            await self.obey(self.cluster.fault, order.act())
+            await self._obey(self.cluster.fault, order.act())
             if self.orders[-1]["does"] != kind:
                 rule = self.orders[-1]["rule"]
                 raise Fault(USAGE, f"{kind} of {member.name} is barred by {rule}")
             await asyncio.gather(*self._clogs)
             await self.store.calm()
-            self.journal.show(f"{member.name} is {'out' if kind == GONE else 'back'} after {kind}")
+            self.ledger.show(f"{member.name} is {'out' if kind == GONE else 'back'} after {kind}")
 
-    async def obey(self, by: int, act: dict[str, Any]) -> str:
-        """Asks the guard, and does what it answers; unguarded, what was asked. Returns the entry."""
+    async def _obey(self, by: int, act: Act) -> str:
+        """Asks the guard, and does what it answers, or what was asked if unguarded: the entry."""
         async with self.guard.turn:
             entry, reply, line = await self.guard.ask(by, act)
             [(name, target)] = act.items()
@@ -114,7 +114,7 @@ class Run:
                     event["clogged"] = target["ticks"] / 1000
                     await self._do(event, CLOG, None if rule else CLOG, rule)
                 case _:
-                    self.journal.write(name, by=by, act=act, entry=entry, reply=reply)
+                    self.ledger.write(name, by=by, act=act, entry=entry, reply=reply)
                     if name == "unclog" and (reply == {"ruled": None} or self.words.unguarded):
                         await self.store.freeze(self._targets(event), False)
         return line
@@ -125,13 +125,11 @@ class Run:
     async def _do(self, event: dict[str, Any], ordered: str, said: str | None, rule: Any) -> None:
         """Strikes; the order goes into the events, and is shown."""
         does = ordered if self.words.unguarded else said
-        members = self._targets(event)
-        numbers = [member.number for member in members]
-        event |= {"order": ordered, "verdict": said, "rule": rule, "does": does}
-        event |= {"acked": len(self.journal.records), "targets": numbers}
-        event |= {"beyond": True} if does != said else {}
+        members, acked = self._targets(event), len(self.ledger.records)
+        event |= {"order": ordered, "verdict": said, "rule": rule, "does": does, "acked": acked}
+        event |= {"targets": [member.number for member in members], "beyond": does != said}
         self.orders.append(event)
-        self.journal.write("order", **event)
+        self.ledger.write("order", **event)
         done = "done" if does == ordered else does or "nothing"
         if does != said:
             done += f"; the guard said {said or 'nothing'}"
@@ -139,7 +137,7 @@ class Run:
             done += f": {' '.join(map(str, rule))}"
         names = " ".join(member.name for member in members) or "nobody"
         order = f"{ordered} {event['value']} ({names})"
-        self.journal.show(f"{order:<40}{done:<40} acked {event['acked']}")
+        self.ledger.show(f"{order:<40}{done:<40} acked {acked}")
         if does == CLOG:
             await self.store.freeze(members, True)
             self._clogs.append(self._tasks.create_task(self._unclog(event)))
@@ -148,21 +146,20 @@ class Run:
 
     async def _unclog(self, event: dict[str, Any]) -> None:
         await asyncio.wait([self._over], timeout=event["clogged"])
-        await self.obey(event["by"], {"unclog": {"key": event["key"], "value": event["value"]}})
+        await self._obey(event["by"], {"unclog": {"key": event["key"], "value": event["value"]}})
 
-    async def _open_door(self) -> None:
-        """A Unix socket by which others ask the same guard, until this is cancelled."""
-        path = self.words.socket
+    async def _serve(self, path: str) -> None:
+        """Lets others ask the same guard by a Unix socket."""
         server = await asyncio.start_unix_server(
-            lambda reader, writer: self._behind(self._serve(reader, writer)), path
+            lambda reader, writer: self._begin(self._talk(reader, writer)), path
         )
         try:
             await server.serve_forever()
         finally:
             os.unlink(path)
 
-    async def _serve(self, reader: StreamReader, writer: StreamWriter) -> None:
-        """Answers each line of a script with its entry, once that is done."""
+    async def _talk(self, reader: StreamReader, writer: StreamWriter) -> None:
+        """Takes the lines of a script, and gives the entry of each once it is done."""
         with closing(writer), suppress(ConnectionError, ValueError):
             while line := await reader.readline():
                 writer.write(f"{await self._answer(line)}\n".encode())
@@ -170,7 +167,7 @@ class Run:
 
     async def _answer(self, line: bytes) -> str:
         """A faulty line would end the guard for all, so `run` reads each before."""
-        words = [self.words.program, "run", self.words.config]
+        words = (self.words.program, "run", self.words.config)
         async with running(*words, stdin=PIPE, stdout=PIPE, stderr=STDOUT) as process:
             assert process.stdin
             process.stdin.write(line)
@@ -179,12 +176,12 @@ class Run:
         if status != 0:
             return json.dumps({"refused": said.strip()})
         asked = json.loads(line)
-        if not OTHERS & set(asked["act"]):
-            return json.dumps({"refused": "only the tool starts, heals and writes"})
-        return await self.obey(asked["by"], asked["act"])
+        if OTHERS & asked["act"].keys():
+            return await self._obey(asked["by"], asked["act"])
+        return json.dumps({"refused": "only the tool starts, heals and writes"})
 
     async def _read(self) -> None:
-        """Asks what is left, which may need some tries, and finds what of the records is not."""
+        """Asks what is left, which may need some tries, and finds which records are not."""
         seconds, answer = self.hooks.seconds("read"), Answer(False, "", "read hung")
         with suppress(TimeoutError):
             async with asyncio.timeout(seconds):
@@ -193,7 +190,7 @@ class Run:
         if not answer.yes:
             when = f"in {seconds:g} seconds" if self.cluster.able() else "and all are destroyed"
             self.notes = [f"nothing could be read {when}: {answer.end}"]
-        found, records = {}, self.journal.records
+        found, records = {}, self.ledger.records
         for line in answer.text.splitlines() if answer.yes else []:
             if len(pair := line.split()) != 2:
                 raise Fault(HOOK, f"read printed {line[:80]!r}; it has to print 'KEY VALUE' lines")
@@ -203,4 +200,4 @@ class Run:
             raise Fault(HOOK, text)
         self.lost = [key for key, record in records.items() if found.get(key) != record.value]
         self.notes += [f"at the end {text}" for text in self.store.waiting()]
-        self.journal.write("read", acked=len(records), found=len(found), lost=len(self.lost))
+        self.ledger.write("read", acked=len(records), found=len(found), lost=len(self.lost))

@@ -6,13 +6,12 @@ import signal
 import time
 from asyncio.subprocess import DEVNULL
 from contextlib import suppress
-from typing import Any
 
-from .guard import Guard, Member
-from .hooks import Hooks
+from .cluster import Hooks, Member
+from .guard import Guard
+from .ledger import Ledger
 from .plan import DESTROYING, GONE, REBOOT, Order
 from .process import HOOK, Fault, cancelled, signal_below
-from .records import Journal
 
 AGAIN = 0.1  # seconds until a hook that said no is asked again
 ALONE = 20.0  # seconds for which a member that joined has to be ready before another may join
@@ -20,11 +19,11 @@ LIVES = 0.5  # seconds after which a process counts as ready where no hook tells
 
 
 class Store:
-    def __init__(self, hooks: Hooks, guard: Guard, journal: Journal) -> None:
-        self._hooks, self._guard, self._journal = hooks, guard, journal
+    def __init__(self, hooks: Hooks, guard: Guard, ledger: Ledger) -> None:
+        self._hooks, self._guard, self._ledger = hooks, guard, ledger
         self._cluster, self._folder = hooks.cluster, hooks.folder
         self._elected = 0  # how many of the destructions an election has seen
-        self._election = ""  # how the last one ended
+        self._election = "it was not asked for"
         self.destroyed: list[tuple[float, int, int]] = []  # when, which, by which entry
         self.healed: list[float] = []  # how long each took
 
@@ -47,35 +46,45 @@ class Store:
                 while self.waiting():
                     await asyncio.sleep(AGAIN)
         for text in self.waiting():
-            logs = f"the logs in {self._folder} may say why"
-            raise Fault(HOOK, f"after {seconds:g} seconds {text}; {logs}")
+            text = f"after {seconds:g} seconds {text}; the logs in {self._folder} may say why"
+            raise Fault(HOOK, text)
 
     def waiting(self) -> list[str]:
         """Who is not up or not whole, or has not left, and what each waits for."""
-        if not self._settled():
+        if not self._is_settled():
             return [f"there is no election: {self._election}"]
-        back = [it for it in self._cluster.members if not it.gone and (it.destroyed or not it.up)]
-        left = [it for it in self._cluster.members if it.gone and it.emptied]
-        lines = [f"{it.name} is not back: {it.waits}" for it in back]
-        return lines + [f"{it.name} has not left: {it.waits}" for it in left]
+        due = [it for it in self._cluster.members if not it.is_settled]
+        return [f"{it.name} is not {'out' if it.gone else 'back'}: {it.waits}" for it in due]
 
     async def end(self) -> None:
         """Ends all; nothing is told to the guard then."""
         async with self._guard.turn:
-            await cancelled([self._electing])
-            await self._stop(self._cluster.members)
+            await cancelled([self._electing, *(it.task for it in self._cluster.members)])
 
     async def strike(self, members: list[Member], kind: str, entry: int) -> None:
         """Does to them what a kind says."""
-        await self._stop(members)
+        await self._take_down(members, kind in DESTROYING)
+        for member in members if kind in DESTROYING else []:
+            member.gone = kind == GONE
+            member.destroyed, member.destroyed_at = True, self._ledger.now()
+            member.sent = self._ledger.sent
+            self.destroyed.append((member.destroyed_at, member.number, entry))
+
+    async def _take_down(self, members: list[Member], emptied: bool) -> None:
+        """Ends them all at once, with the hooks that work for them, to be brought back."""
+        await cancelled([member.task for member in members])
         for member in members:
-            member.up, member.gone = False, kind == GONE
-            if kind in DESTROYING:
+            member.up = False
+            if emptied:
                 self._empty(member)
-                member.destroyed, member.destroyed_at = True, self._journal.now()
-                member.sent = self._journal.sent
-                self.destroyed.append((member.destroyed_at, member.number, entry))
             member.task = self._tasks.create_task(self._keep(member))
+
+    def _empty(self, member: Member) -> None:
+        data = self._folder / str(member.number)
+        shutil.rmtree(data, ignore_errors=True)
+        if data.exists() or data.is_symlink():
+            raise Fault(HOOK, f"{data} can't be removed; it has to be a folder")
+        member.emptied, member.alone_until = True, 0.0
 
     async def freeze(self, members: list[Member], frozen: bool) -> None:
         """Stops or continues all that they run, or has a hook cut them off."""
@@ -88,17 +97,6 @@ class Store:
             elif member.process and member.runs:
                 signal_below(member.process.pid, number)
 
-    async def _stop(self, members: list[Member]) -> None:
-        """Ends them all at once, with the hooks that work for them."""
-        await cancelled([member.task for member in members if member.task])
-
-    def _empty(self, member: Member) -> None:
-        data = self._folder / str(member.number)
-        shutil.rmtree(data, ignore_errors=True)
-        if data.exists() or data.is_symlink():
-            raise Fault(HOOK, f"{data} can't be removed; it has to be a folder")
-        member.emptied, member.alone_until = True, 0.0
-
     async def _keep(self, member: Member) -> None:
         """Brings a member back, and again each time that it ends by itself."""
         if member.emptied:
@@ -110,9 +108,9 @@ class Store:
                     while member.runs:
                         await self._ask_after(member)
                         await asyncio.sleep(AGAIN)
-            self._journal.write("ended", process=member.number, status=member.process.returncode)
-            async with self._guard.turn:
-                if member.up:
+            self._ledger.write("ended", process=member.number, status=member.process.returncode)
+            if member.up:
+                async with self._guard.turn:
                     await self._tell("ended by itself", member)
 
     async def _join(self, member: Member) -> None:
@@ -121,7 +119,7 @@ class Store:
         others = [it for it in self._cluster.members if it is not member]
         while True:
             now = time.monotonic()
-            if self._settled() and all(it.up or it.alone_until < now for it in others):
+            if self._is_settled() and all(it.up or it.alone_until < now for it in others):
                 self._empty(member)
                 member.alone_until = math.inf
                 if not member.gone:
@@ -129,8 +127,9 @@ class Store:
                 if hook not in self._hooks.names or await self._says(hook, member):
                     break
             await asyncio.sleep(AGAIN)
-        member.emptied, member.alone_until = False, 0.0 if member.gone else time.monotonic() + ALONE
-        self._journal.write(hook, process=member.number)
+        member.emptied = False
+        member.alone_until = 0.0 if member.gone else time.monotonic() + ALONE
+        self._ledger.write(hook, process=member.number)
 
     async def _says(self, hook: str, member: Member, *more: int) -> bool:
         answer = await self._hooks.call(hook, member.number, *more)
@@ -147,39 +146,41 @@ class Store:
     async def _ask_after(self, member: Member) -> None:
         """Asks whether it is ready, and later whether it is whole, and tells the guard.
 
-        It is whole with all records up to the mark. A later one it holds itself or others do, unless
-        the write was sent before it was destroyed: then an answer counts no more.
+        It is whole with all records up to the mark. A later one it holds itself or others do,
+        unless the write was sent before it was destroyed: then an answer counts no more.
         """
         if not member.up:
             if await self._is_ready(member) and member.runs:
                 async with self._guard.turn:
                     await self._tell("up", member)
-        elif member.destroyed and self._settled():
-            if await self._says("whole", member, self._journal.mark):
+        elif member.destroyed and self._is_settled():
+            if await self._says("whole", member, self._ledger.mark):
                 async with self._guard.turn:
-                    if member.runs and self._settled():
+                    if member.runs and self._is_settled():
                         await self._tell("heal", member)
+                        member.destroyed = False
+                        self._ledger.late = max(self._ledger.late, member.sent)
+                        self.healed.append(self._ledger.now() - member.destroyed_at)
 
     async def _tell(self, what: str, member: Member) -> None:
         """Tells the guard that a process is up or healed, or that it ended: then as a reboot."""
         by, act = self._cluster.fault, Order(REBOOT, "processid", member.name).act()
-        if what in ("up", "heal"):
-            by, act = self._cluster.storage, {what: {"process": member.number}}
         member.up = what in ("up", "heal")
-        if what == "heal":
-            member.destroyed = False
-            self._journal.late = max(self._journal.late, member.sent)
-            self.healed.append(self._journal.now() - member.destroyed_at)
-        if self._journal.began is not None:  # before, the guard takes all for up
+        if member.up:
+            by, act = self._cluster.storage, {what: {"process": member.number}}
+        if self._ledger.began is not None:  # before, the guard takes all for up
             entry, reply, _ = await self._guard.ask(by, act)
-            self._journal.write(what, process=member.number, entry=entry, reply=reply)
+            self._ledger.write(what, process=member.number, entry=entry, reply=reply)
+
+    def _is_settled(self) -> bool:
+        return "elect" not in self._hooks.names or self._elected == len(self.destroyed)
 
     async def _elect(self) -> None:
         """After each destruction a hook may choose a primary, before any joins or is healed."""
         while True:
             await asyncio.sleep(AGAIN)
             seen = len(self.destroyed)
-            if self._settled():
+            if self._is_settled():
                 continue
             answer = await self._hooks.call("elect")
             self._election = answer.end
@@ -188,12 +189,9 @@ class Store:
                     await self._elect_says(line)
                 self._elected = seen
 
-    def _settled(self) -> bool:
-        return "elect" not in self._hooks.names or self._elected == len(self.destroyed)
-
     async def _elect_says(self, line: str) -> None:
         """Does what a line of the hook says."""
-        numbers = {str(member.number): member for member in self._cluster.members}
+        numbers = {str(it.number): it for it in self._cluster.members}
         match line.split():
             case ["empty" | "restart" as what, number] if number in numbers:
                 member = numbers[number]
@@ -204,10 +202,6 @@ class Store:
             text = f"elect said {line!r}, and {member.name} was not destroyed"
             raise Fault(HOOK, f"{text}: the guard counts on its records")
         async with self._guard.turn:
-            if member.gone:
-                return
-            await self._stop([member])
-            await self._tell("restart", member)
-            if what == "empty":
-                self._empty(member)
-            member.task = self._tasks.create_task(self._keep(member))
+            if not member.gone:
+                await self._take_down([member], what == "empty")
+                await self._tell("restart", member)

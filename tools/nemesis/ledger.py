@@ -1,17 +1,17 @@
 """What happened when, and which records writers were told are stored."""
 import asyncio
-import contextlib
 import itertools
 import json
 import os
 import time
 from asyncio.subprocess import PIPE, Process
+from contextlib import suppress
 from pathlib import Path
 from random import Random
 from typing import Any, NamedTuple
 
-from .guard import Cluster, Guard
-from .hooks import Hooks
+from .cluster import Cluster, Hooks
+from .guard import Guard
 from .process import HOOK, Fault
 
 MUTE = 20  # so often in a row may a writer end or hang without any answer
@@ -24,34 +24,25 @@ class Record(NamedTuple):
     able: list[int]  # who was not destroyed then: only these can hold it
 
 
-def say(text: str) -> None:
-    """Prints a text, as long as somebody reads."""
-    with contextlib.suppress(BrokenPipeError):
-        os.write(1, f"{text}\n".encode())
-
-
-class Journal:
+class Ledger:
     """Events, each a line of JSON, and the records that were acknowledged."""
 
     def __init__(self, folder: Path, cluster: Cluster, guard: Guard, quiet: bool) -> None:
-        self._file, self._quiet = (folder / "events.jsonl").open("w"), quiet
-        self._cluster, self._guard = cluster, guard
-        self.records: dict[str, Record] = {}
+        self._file, self._cluster, self._guard = (folder / "events.jsonl").open("w"), cluster, guard
+        self._quiet = quiet
         self.began: float | None = None  # when the first record was written
+        self.records: dict[str, Record] = {}
         self.mark = 0  # the largest that a writer was told
         self.sent = 0  # how many writes were sent
         self.late = 0  # an answer to a write up to this one comes too late to count
         self.longest = self.last = 0.0  # seconds without a write, and when the last was
 
-    def begin(self) -> None:
-        self.began = time.monotonic()
-        self.write("ready")
-
     def now(self) -> float:
         return 0.0 if self.began is None else round(time.monotonic() - self.began, 3)
 
     def write(self, what: str, **more: Any) -> None:
-        event = {"t": self.now(), "what": what, **more, "up": self._cluster.up()}
+        up = [it.number for it in self._cluster.members if it.up]
+        event = {"t": self.now(), "what": what, **more, "up": up}
         print(json.dumps(event), file=self._file, flush=True)
 
     def show(self, text: str) -> None:
@@ -66,27 +57,33 @@ class Journal:
             self.longest, self.last = max(self.longest, now - self.last), now
 
 
-async def write(hooks: Hooks, journal: Journal, dice: Random) -> None:
+def say(text: str) -> None:
+    """Prints a text, as long as somebody reads."""
+    with suppress(BrokenPipeError):
+        os.write(1, f"{text}\n".encode())
+
+
+async def write(hooks: Hooks, ledger: Ledger, dice: Random) -> None:
     """Runs a writer, and another where it ends or hangs."""
     mute = 0
     while True:
         async with hooks.running("write", stdin=PIPE, stdout=PIPE) as writer:
-            answers, end = await feed(hooks, journal, dice, writer)
+            answers, end = await feed(writer, hooks.limit, ledger, dice)
         mute = 0 if answers else mute + 1
         if mute == MUTE:
             raise Fault(HOOK, f"write {end}, {MUTE} times in a row")
         await asyncio.sleep(0.1)
 
 
-async def feed(hooks: Hooks, journal: Journal, dice: Random, writer: Process) -> tuple[int, str]:
-    """Writes records until the writer ends or hangs; how many it answered, and how it ended."""
+async def feed(writer: Process, limit: float, ledger: Ledger, dice: Random) -> tuple[int, str]:
+    """Writes records until the writer ends or hangs: how many it answered, and how it ended."""
     assert writer.stdin and writer.stdout
     for answers in itertools.count():
-        journal.sent += 1
-        number, key, value = journal.sent, f"r/{journal.sent:09d}", f"{dice.getrandbits(64):016x}"
+        ledger.sent += 1
+        number, key, value = ledger.sent, f"r/{ledger.sent:09d}", f"{dice.getrandbits(64):016x}"
         writer.stdin.write(f"{key} {value}\n".encode())
         try:
-            async with asyncio.timeout(hooks.limit):
+            async with asyncio.timeout(limit):
                 line = await writer.stdout.readline()
         except TimeoutError:
             return answers, "hung"
@@ -94,11 +91,12 @@ async def feed(hooks: Hooks, journal: Journal, dice: Random, writer: Process) ->
             line = b"a line that does not end\n"
         match line.split():
             case [b"ok", mark] if mark.isdigit():
-                journal.acknowledge(number, key, value, int(mark))
+                ledger.acknowledge(number, key, value, int(mark))
             case [b"no"]:
                 await asyncio.sleep(0.05)
             case _ if line.endswith(b"\n"):
                 told = line.decode(errors="replace").strip()[:80]
                 raise Fault(HOOK, f"write printed {told!r}; it has to be 'ok MARK' or 'no'")
             case _:
-                return answers, f"ended with status {await writer.wait()}"
+                break
+    return answers, f"ended with status {await writer.wait()}"
