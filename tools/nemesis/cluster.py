@@ -33,6 +33,7 @@ class Member:
     sent: int = 0  # how many writes were sent when it was destroyed
     gone: bool = False
     waits: str = "it was not started"
+    ended: str = ""  # how its process last ended by itself, until it is up
 
     @property
     def runs(self) -> bool:

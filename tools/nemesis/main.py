@@ -10,7 +10,7 @@ from pathlib import Path
 
 from .guard import Guard
 from .plan import PLANS
-from .process import NONE_LOST, USAGE, Fault, adopt_orphans, end_children
+from .process import NONE_LOST, PR_SET_CHILD_SUBREAPER, PRCTL, USAGE, Fault, end_children
 from .report import report
 from .run import Run
 
@@ -115,7 +115,7 @@ async def chaos(words: argparse.Namespace) -> int:
 def main() -> int:
     """Does what the words say; all that it started ends before this returns."""
     words = parsed()
-    adopt_orphans()
+    PRCTL(PR_SET_CHILD_SUBREAPER, 1)
     if sys.version_info < (3, 12):  # later it is the default
         asyncio.set_child_watcher(asyncio.PidfdChildWatcher())
     try:

@@ -31,13 +31,8 @@ def signal_below(pid: int, number: int) -> None:
                 signal_below(child, number)
 
 
-def adopt_orphans() -> None:
-    """Makes this process the parent of all that is orphaned below it, in whatever session."""
-    PRCTL(PR_SET_CHILD_SUBREAPER, 1)
-
-
 def end_children() -> None:
-    """Kills all below this process, which adopts orphans."""
+    """Kills all below this process, which is a subreaper: orphans become its children."""
     with suppress(ChildProcessError):
         while True:
             signal_below(os.getpid(), signal.SIGKILL)
@@ -51,7 +46,7 @@ def keep(tool: int) -> None:
     ended, or at SIGTERM, which the kernel sends once the tool is gone.
     """
     signal.pthread_sigmask(signal.SIG_BLOCK, AWAITED)
-    adopt_orphans()
+    PRCTL(PR_SET_CHILD_SUBREAPER, 1)
     PRCTL(PR_SET_PDEATHSIG, signal.SIGTERM)
     if os.getppid() != tool:
         os._exit(1)

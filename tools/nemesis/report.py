@@ -5,8 +5,8 @@ import statistics
 from asyncio.subprocess import PIPE, STDOUT
 from typing import Any
 
-from .process import GUARD, LOST, NONE_LOST, output, running
 from .ledger import say
+from .process import GUARD, LOST, NONE_LOST, output, running
 from .run import Run
 
 SHOWN = 5  # lost records that are told on the terminal; lost.jsonl has all
@@ -15,7 +15,7 @@ SHOWN = 5  # lost records that are told on the terminal; lost.jsonl has all
 async def report(run: Run) -> int:
     """Prints what a run comes to, and how the tool ends."""
     checked, picture = await said_of_audit(run, "check"), await said_of_audit(run, "show")
-    beyond = next((order for order in run.orders if order.get("beyond")), None)
+    beyond = next((order for order in run.orders if order["beyond"]), None)
     (run.folder / "picture.svg").write_text(marked(picture, beyond), "utf-8")
     lost = [loss(run, key) for key in run.lost]
     if lost:

@@ -12,7 +12,7 @@ from pathlib import Path
 from random import Random
 from typing import Any
 
-from .cluster import Answer, Cluster, Hooks, Member
+from .cluster import Answer, Cluster, Hooks
 from .guard import Act, Guard
 from .ledger import Ledger, write
 from .plan import CLOG, EMPTY, GONE, KINDS, REBOOT, Draw, Order, replayed
@@ -105,27 +105,25 @@ class Run:
         async with self.guard.turn:
             entry, reply, line = await self.guard.ask(by, act)
             [(name, target)] = act.items()
-            event = {"by": by, "entry": entry}
-            event |= {key: target[key] for key in ("key", "value") if key in target}
             match reply:
                 case {"verdict": {"struck": said, "rule": rule}}:
-                    await self._do(event, target["kind"], said, rule)
+                    await self._do(target["kind"], target, said, rule, by, entry)
                 case {"ruled": rule} if name == "clog":
-                    event["clogged"] = target["ticks"] / 1000
-                    await self._do(event, CLOG, None if rule else CLOG, rule)
+                    await self._do(CLOG, target, None if rule else CLOG, rule, by, entry)
                 case _:
                     self.ledger.write(name, by=by, act=act, entry=entry, reply=reply)
                     if name == "unclog" and (reply == {"ruled": None} or self.words.unguarded):
-                        await self.store.freeze(self._targets(event), False)
+                        await self.store.freeze(self.cluster.targets(**target), False)
         return line
 
-    def _targets(self, event: dict[str, Any]) -> list[Member]:
-        return self.cluster.targets(event["key"], event["value"])
-
-    async def _do(self, event: dict[str, Any], ordered: str, said: str | None, rule: Any) -> None:
+    async def _do(
+        self, ordered: str, target: dict[str, Any], said: str | None, rule: Any, by: int, entry: int
+    ) -> None:
         """Strikes; the order goes into the events, and is shown."""
+        key, value, clogged = target["key"], target["value"], target.get("ticks", 0) / 1000
         does = ordered if self.words.unguarded else said
-        members, acked = self._targets(event), len(self.ledger.records)
+        members, acked = self.cluster.targets(key, value), len(self.ledger.records)
+        event = {"by": by, "entry": entry, "key": key, "value": value, "clogged": clogged}
         event |= {"order": ordered, "verdict": said, "rule": rule, "does": does, "acked": acked}
         event |= {"targets": [member.number for member in members], "beyond": does != said}
         self.orders.append(event)
@@ -136,13 +134,13 @@ class Run:
         if rule:
             done += f": {' '.join(map(str, rule))}"
         names = " ".join(member.name for member in members) or "nobody"
-        order = f"{ordered} {event['value']} ({names})"
+        order = f"{ordered} {value} ({names})"
         self.ledger.show(f"{order:<40}{done:<40} acked {acked}")
         if does == CLOG:
             await self.store.freeze(members, True)
             self._clogs.append(self._tasks.create_task(self._unclog(event)))
         elif does:
-            await self.store.strike(members, does, event["entry"])
+            await self.store.strike(members, does, entry)
 
     async def _unclog(self, event: dict[str, Any]) -> None:
         await asyncio.wait([self._over], timeout=event["clogged"])

@@ -54,7 +54,9 @@ class Store:
         if not self._is_settled():
             return [f"there is no election: {self._election}"]
         due = [it for it in self._cluster.members if not it.is_settled]
-        return [f"{it.name} is not {'out' if it.gone else 'back'}: {it.waits}" for it in due]
+        return [
+            f"{it.name} is not {'out' if it.gone else 'back'}: {it.waits}{it.ended}" for it in due
+        ]
 
     async def end(self) -> None:
         """Ends all; nothing is told to the guard then."""
@@ -108,7 +110,9 @@ class Store:
                     while member.runs:
                         await self._ask_after(member)
                         await asyncio.sleep(AGAIN)
-            self._ledger.write("ended", process=member.number, status=member.process.returncode)
+            status = member.process.returncode
+            self._ledger.write("ended", process=member.number, status=status)
+            member.ended = f"; its last process ended with status {status}"
             if member.up:
                 async with self._guard.turn:
                     await self._tell("ended by itself", member)
@@ -167,6 +171,7 @@ class Store:
         by, act = self._cluster.fault, Order(REBOOT, "processid", member.name).act()
         member.up = what in ("up", "heal")
         if member.up:
+            member.ended = ""
             by, act = self._cluster.storage, {what: {"process": member.number}}
         if self._ledger.began is not None:  # before, the guard takes all for up
             entry, reply, _ = await self._guard.ask(by, act)
