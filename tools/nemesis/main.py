@@ -10,7 +10,7 @@ from pathlib import Path
 
 from .guard import Guard
 from .plan import PLANS
-from .process import NONE_LOST, PR_SET_CHILD_SUBREAPER, PRCTL, USAGE, Fault, end_children
+from .process import NONE_LOST, PR_SET_CHILD_SUBREAPER, PRCTL, TOOL, USAGE, Fault, end_children
 from .report import report
 from .run import Run
 
@@ -120,8 +120,9 @@ def main() -> int:
         asyncio.set_child_watcher(asyncio.PidfdChildWatcher())
     try:
         return asyncio.run(chaos(words))
-    except Fault as fault:
-        print(f"faultyard-nemesis: {fault.args[1]}", file=sys.stderr)
-        return int(fault.args[0])
+    except (Fault, OSError) as fault:
+        status, text = fault.args if isinstance(fault, Fault) else (TOOL, fault)
+        print(f"faultyard-nemesis: {text}", file=sys.stderr)
+        return int(status)
     finally:
         end_children()

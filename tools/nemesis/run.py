@@ -1,7 +1,6 @@
 """A run: orders are asked and done while records are written; then what is left is read."""
 import asyncio
 import json
-import os
 import time
 from argparse import Namespace
 from asyncio import StreamReader, StreamWriter
@@ -48,7 +47,7 @@ class Run:
                 await self._chaos(orders)
                 await self._read()
                 await self.store.end()
-        except* Fault as faults:
+        except* (Fault, OSError) as faults:
             raise faults.exceptions[0] from None
 
     def _planned(self) -> list[Order]:
@@ -148,13 +147,13 @@ class Run:
 
     async def _serve(self, path: str) -> None:
         """Lets others ask the same guard by a Unix socket."""
-        server = await asyncio.start_unix_server(
-            lambda reader, writer: self._begin(self._talk(reader, writer)), path
-        )
         try:
+            server = await asyncio.start_unix_server(
+                lambda reader, writer: self._begin(self._talk(reader, writer)), path
+            )
             await server.serve_forever()
         finally:
-            os.unlink(path)
+            Path(path).unlink(missing_ok=True)
 
     async def _talk(self, reader: StreamReader, writer: StreamWriter) -> None:
         """Takes the lines of a script, and gives the entry of each once it is done."""
