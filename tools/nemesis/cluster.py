@@ -13,7 +13,7 @@ from typing import Any, NamedTuple
 from .process import TOOL, USAGE, Fault, output, running
 
 NEEDED = {"start", "whole", "write", "read"}
-OPTIONAL = {"setup", "ready", "join", "leave", "elect", "pause", "resume"}
+KNOWN = NEEDED | {"hooks", "setup", "ready", "join", "leave", "elect", "pause", "resume"}
 SLOW = {"hooks", "setup", "join", "elect", "read"}  # some copy: they have six times as long
 PORTS = 4  # for each process
 
@@ -44,18 +44,34 @@ class Member:
         return not self.emptied if self.gone else self.up and not self.destroyed
 
 
+class Answer(NamedTuple):
+    yes: bool
+    text: str
+    end: str  # which hook it was, and how it ended
+
+
 class Cluster:
-    def __init__(self, path: Path) -> None:
-        """Takes from a cluster file what the tool needs; the guard has read it before."""
-        document = tomllib.loads(path.read_text("utf-8"))
+    def __init__(self, config: Path, hooks: Path, folder: Path, limit: float) -> None:
+        self._path, self.folder, self.limit = hooks, folder, limit
+        document = tomllib.loads(config.read_text("utf-8"))  # which the guard has read before
         self.places: list[dict[str, str]] = document["process"]
         self.members = [Member(n, it["processid"], it) for n, it in enumerate(self.places)]
         roles = [actor["role"] for actor in document["actor"]]
         for role in {"storage", "fault"} - {*roles}:
-            raise Fault(USAGE, f"{path} has no actor with the role {role}")
+            raise Fault(USAGE, f"{config} has no actor with the role {role}")
         self.storage, self.fault = roles.index("storage"), roles.index("fault")
         grants = document["actor"][self.fault].get("grants", [])
         self.kinds = {kind for grant in grants for kind in grant["kinds"]}
+        self.hooks: set[str] = set()  # which there are
+        self._log = (folder / "hooks.log").open("ab")
+        port, self._held = free_ports(PORTS * len(self.places))
+        self._env = os.environ | {
+            "FY_DIR": str(folder),
+            "FY_PORT": str(port),
+            "FY_COUNT": str(len(self.places)),
+            "FY_NAMES": " ".join(place["processid"] for place in self.places),
+            "FY_ZONES": " ".join(place["zoneid"] for place in self.places),
+        }
 
     def able(self) -> list[int]:
         return [it.number for it in self.members if not it.destroyed]
@@ -63,37 +79,16 @@ class Cluster:
     def targets(self, key: str, value: str) -> list[Member]:
         return [it for it in self.members if it.place.get(key) == value and not it.gone]
 
-
-class Answer(NamedTuple):
-    yes: bool
-    text: str
-    end: str  # which hook it was, and how it ended
-
-
-class Hooks:
-    def __init__(self, path: Path, cluster: Cluster, folder: Path, limit: float) -> None:
-        self.path, self.cluster, self.folder, self.limit = path, cluster, folder, limit
-        self.names: set[str] = set()
-        self._log = (folder / "hooks.log").open("ab")
-        port, self._held = free_ports(PORTS * len(cluster.members))
-        self._env = os.environ | {
-            "FY_DIR": str(folder),
-            "FY_PORT": str(port),
-            "FY_COUNT": str(len(cluster.members)),
-            "FY_NAMES": " ".join(it.name for it in cluster.members),
-            "FY_ZONES": " ".join(place["zoneid"] for place in cluster.places),
-        }
-
     async def learn(self) -> None:
         """Asks which hooks there are."""
         answer = await self.call("hooks")
-        self.names = set(answer.text.split())
-        wrong = [f"hooks: there is no hook named {it}" for it in self.names - NEEDED - OPTIONAL]
-        wrong += [f"hooks: {it} is missing" for it in NEEDED - self.names]
+        self.hooks = set(answer.text.split())
+        wrong = [f"hooks: there is no hook named {it}" for it in sorted(self.hooks - KNOWN)]
+        wrong += [f"hooks: {it} is missing" for it in sorted(NEEDED - self.hooks)]
         if not answer.yes:
             wrong = [f"{answer.end}; it has to print the names of all hooks that there are"]
         for text in wrong:
-            raise Fault(USAGE, f"{self.path}: {text}")
+            raise Fault(USAGE, f"{self._path}: {text}")
 
     def seconds(self, name: str) -> float:
         return self.limit * (6 if name in SLOW else 1)
@@ -101,10 +96,10 @@ class Hooks:
     def running(
         self, name: str, *numbers: int, **files: Any
     ) -> AbstractAsyncContextManager[Process]:
-        env = {**self._env, "FY_ABLE": " ".join(map(str, self.cluster.able()))}
+        env = {**self._env, "FY_ABLE": " ".join(map(str, self.able()))}
         for number in numbers[:1]:
-            env["FY_ZONE"] = self.cluster.places[number]["zoneid"]
-        return running(self.path, name, *numbers, env=env, **{"stderr": self._log, **files})
+            env["FY_ZONE"] = self.places[number]["zoneid"]
+        return running(self._path, name, *numbers, env=env, **{"stderr": self._log, **files})
 
     async def call(self, name: str, *numbers: int) -> Answer:
         """Runs a hook to its end, or until its time is over."""

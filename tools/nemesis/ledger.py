@@ -6,11 +6,10 @@ import os
 import time
 from asyncio.subprocess import PIPE, Process
 from contextlib import suppress
-from pathlib import Path
 from random import Random
 from typing import Any, NamedTuple
 
-from .cluster import Cluster, Hooks
+from .cluster import Cluster
 from .guard import Guard
 from .process import HOOK, Fault
 
@@ -27,9 +26,9 @@ class Record(NamedTuple):
 class Ledger:
     """Events, each a line of JSON, and the records that were acknowledged."""
 
-    def __init__(self, folder: Path, cluster: Cluster, guard: Guard, quiet: bool) -> None:
-        self._file, self._cluster, self._guard = (folder / "events.jsonl").open("w"), cluster, guard
-        self._quiet = quiet
+    def __init__(self, cluster: Cluster, guard: Guard, quiet: bool) -> None:
+        self._cluster, self._guard, self._quiet = cluster, guard, quiet
+        self._file = (cluster.folder / "events.jsonl").open("w")
         self.began: float | None = None  # when the first record was written
         self.records: dict[str, Record] = {}
         self.mark = 0  # the largest that a writer was told
@@ -63,12 +62,12 @@ def say(text: str) -> None:
         os.write(1, f"{text}\n".encode())
 
 
-async def write(hooks: Hooks, ledger: Ledger, dice: Random) -> None:
+async def write(cluster: Cluster, ledger: Ledger, dice: Random) -> None:
     """Runs a writer, and another where it ends or hangs."""
     mute = 0
     while True:
-        async with hooks.running("write", stdin=PIPE, stdout=PIPE) as writer:
-            answers, end = await feed(writer, hooks.limit, ledger, dice)
+        async with cluster.running("write", stdin=PIPE, stdout=PIPE) as writer:
+            answers, end = await feed(writer, cluster.limit, ledger, dice)
         mute = 0 if answers else mute + 1
         if mute == MUTE:
             raise Fault(HOOK, f"write {end}, {MUTE} times in a row")

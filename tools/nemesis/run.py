@@ -11,7 +11,7 @@ from pathlib import Path
 from random import Random
 from typing import Any
 
-from .cluster import Answer, Cluster, Hooks
+from .cluster import Answer, Cluster
 from .guard import Act, Guard
 from .ledger import Ledger, write
 from .plan import CLOG, EMPTY, GONE, KINDS, REBOOT, Draw, Order, replayed
@@ -24,10 +24,9 @@ OTHERS = {"kill", "clog", "unclog", "protect", "unprotect", "give", "take"}  # m
 class Run:
     def __init__(self, words: Namespace, folder: Path, guard: Guard) -> None:
         self.words, self.folder, self.guard = words, folder, guard
-        self.cluster = Cluster(words.config)
-        self.hooks = Hooks(words.hooks, self.cluster, folder, words.hook_timeout)
-        self.ledger = Ledger(folder, self.cluster, guard, words.quiet)
-        self.store = Store(self.hooks, guard, self.ledger)
+        self.cluster = Cluster(words.config, words.hooks, folder, words.hook_timeout)
+        self.ledger = Ledger(self.cluster, guard, words.quiet)
+        self.store = Store(self.cluster, guard, self.ledger)
         self.orders: list[dict[str, Any]] = []  # that were asked, as in the events
         self.lost: list[str] = []
         self.notes: list[str] = []  # who was not back at the end, and why nothing could be read
@@ -38,7 +37,7 @@ class Run:
     async def whole(self) -> None:
         """The run from its first process to what could be read."""
         orders = self._planned()
-        await self.hooks.learn()
+        await self.cluster.learn()
         try:
             async with asyncio.TaskGroup() as self._tasks:
                 await self.store.begin(self._tasks)
@@ -62,7 +61,7 @@ class Run:
         """Writes and orders, until all that was clogged is let go again."""
         for number in range(self.words.writers):
             dice = Random(f"{self.words.seed}-{number}")
-            self._begin(write(self.hooks, self.ledger, dice))
+            self._begin(write(self.cluster, self.ledger, dice))
         if self.words.socket:
             self._begin(self._serve(self.words.socket))
         await (self._check_hooks() if self.words.check_hooks else self._order(orders))
@@ -83,7 +82,7 @@ class Run:
 
     async def _check_hooks(self) -> None:
         """Has each hook called on a calm cluster; each time all has to come back."""
-        names, kinds = self.hooks.names, self.cluster.kinds
+        names, kinds = self.cluster.hooks, self.cluster.kinds
         clog = [CLOG] if {"pause", "resume"} & names and CLOG in kinds else []
         strikes = [(it, kind) for it in self.cluster.members for kind in (*clog, REBOOT, EMPTY)]
         if "leave" in names and GONE in kinds:
@@ -179,10 +178,10 @@ class Run:
 
     async def _read(self) -> None:
         """Asks what is left, which may need some tries, and finds which records are not."""
-        seconds, answer = self.hooks.seconds("read"), Answer(False, "", "read hung")
+        seconds, answer = self.cluster.seconds("read"), Answer(False, "", "read hung")
         with suppress(TimeoutError):
             async with asyncio.timeout(seconds):
-                while not (answer := await self.hooks.call("read")).yes and self.cluster.able():
+                while not (answer := await self.cluster.call("read")).yes and self.cluster.able():
                     await asyncio.sleep(0.5)
         if not answer.yes:
             when = f"in {seconds:g} seconds" if self.cluster.able() else "and all are destroyed"

@@ -7,7 +7,7 @@ import time
 from asyncio.subprocess import DEVNULL
 from contextlib import suppress
 
-from .cluster import Hooks, Member
+from .cluster import Cluster, Member
 from .guard import Guard
 from .ledger import Ledger
 from .plan import DESTROYING, GONE, REBOOT, Order
@@ -19,9 +19,8 @@ LIVES = 0.5  # seconds after which a process counts as ready where no hook tells
 
 
 class Store:
-    def __init__(self, hooks: Hooks, guard: Guard, ledger: Ledger) -> None:
-        self._hooks, self._guard, self._ledger = hooks, guard, ledger
-        self._cluster, self._folder = hooks.cluster, hooks.folder
+    def __init__(self, cluster: Cluster, guard: Guard, ledger: Ledger) -> None:
+        self._cluster, self._guard, self._ledger = cluster, guard, ledger
         self._elected = 0  # how many of the destructions an election has seen
         self._election = "it was not asked for"
         self.destroyed: list[tuple[float, int, int]] = []  # when, which, by which entry
@@ -29,29 +28,29 @@ class Store:
 
     async def begin(self, tasks: asyncio.TaskGroup) -> None:
         """Sets the store up, and waits for all of it."""
-        if "setup" in self._hooks.names and not (answer := await self._hooks.call("setup")).yes:
-            raise Fault(HOOK, f"{answer.end}; {self._folder}/hooks.log may say why")
+        if "setup" in self._cluster.hooks and not (answer := await self._cluster.call("setup")).yes:
+            raise Fault(HOOK, f"{answer.end}; {self._cluster.folder}/hooks.log may say why")
         self._tasks = tasks
         self._electing = tasks.create_task(self._elect())
         for member in self._cluster.members:
-            (self._folder / str(member.number)).mkdir(exist_ok=True)
+            (self._cluster.folder / str(member.number)).mkdir(exist_ok=True)
             member.task = tasks.create_task(self._keep(member))
         await self.calm()
 
     async def calm(self) -> None:
         """Waits until all are up and whole."""
-        seconds = self._hooks.seconds("join")
+        seconds = self._cluster.seconds("join")
         with suppress(TimeoutError):
             async with asyncio.timeout(seconds):
                 while self.waiting():
                     await asyncio.sleep(AGAIN)
         for text in self.waiting():
-            text = f"after {seconds:g} seconds {text}; the logs in {self._folder} may say why"
-            raise Fault(HOOK, text)
+            logs = f"the logs in {self._cluster.folder} may say why"
+            raise Fault(HOOK, f"after {seconds:g} seconds {text}; {logs}")
 
     def waiting(self) -> list[str]:
         """Who is not up or not whole, or has not left, and what each waits for."""
-        if not self._is_settled():
+        if not self._is_elected():
             return [f"there is no election: {self._election}"]
         due = [it for it in self._cluster.members if not it.is_settled]
         return [
@@ -82,7 +81,7 @@ class Store:
             member.task = self._tasks.create_task(self._keep(member))
 
     def _empty(self, member: Member) -> None:
-        data = self._folder / str(member.number)
+        data = self._cluster.folder / str(member.number)
         shutil.rmtree(data, ignore_errors=True)
         if data.exists() or data.is_symlink():
             raise Fault(HOOK, f"{data} can't be removed; it has to be a folder")
@@ -92,8 +91,8 @@ class Store:
         """Stops or continues all that they run, or has a hook cut them off."""
         hook, number = ("pause", signal.SIGSTOP) if frozen else ("resume", signal.SIGCONT)
         for member in members:
-            if hook in self._hooks.names:
-                answer = await self._hooks.call(hook, member.number)
+            if hook in self._cluster.hooks:
+                answer = await self._cluster.call(hook, member.number)
                 if not answer.yes and member.runs:
                     raise Fault(HOOK, f"{answer.end}; it may not fail")
             elif member.process and member.runs:
@@ -104,9 +103,9 @@ class Store:
         if member.emptied:
             await self._join(member)
         while not member.gone:
-            with (self._folder / f"{member.name}.log").open("ab") as log:
+            with (self._cluster.folder / f"{member.name}.log").open("ab") as log:
                 files = {"stdin": DEVNULL, "stdout": log, "stderr": log}
-                async with self._hooks.running("start", member.number, **files) as member.process:
+                async with self._cluster.running("start", member.number, **files) as member.process:
                     while member.runs:
                         await self._ask_after(member)
                         await asyncio.sleep(AGAIN)
@@ -123,12 +122,12 @@ class Store:
         others = [it for it in self._cluster.members if it is not member]
         while True:
             now = time.monotonic()
-            if self._is_settled() and all(it.up or it.alone_until < now for it in others):
+            if self._is_elected() and all(it.up or it.alone_until < now for it in others):
                 self._empty(member)
                 member.alone_until = math.inf
                 if not member.gone:
-                    (self._folder / str(member.number)).mkdir()
-                if hook not in self._hooks.names or await self._says(hook, member):
+                    (self._cluster.folder / str(member.number)).mkdir()
+                if hook not in self._cluster.hooks or await self._says(hook, member):
                     break
             await asyncio.sleep(AGAIN)
         member.emptied = False
@@ -136,12 +135,12 @@ class Store:
         self._ledger.write(hook, process=member.number)
 
     async def _says(self, hook: str, member: Member, *more: int) -> bool:
-        answer = await self._hooks.call(hook, member.number, *more)
+        answer = await self._cluster.call(hook, member.number, *more)
         member.waits = answer.end
         return answer.yes
 
     async def _is_ready(self, member: Member) -> bool:
-        if "ready" in self._hooks.names:
+        if "ready" in self._cluster.hooks:
             return await self._says("ready", member)
         await asyncio.sleep(LIVES)
         member.waits = f"start {member.number} ended"
@@ -157,10 +156,10 @@ class Store:
             if await self._is_ready(member) and member.runs:
                 async with self._guard.turn:
                     await self._tell("up", member)
-        elif member.destroyed and self._is_settled():
+        elif member.destroyed and self._is_elected():
             if await self._says("whole", member, self._ledger.mark):
                 async with self._guard.turn:
-                    if member.runs and self._is_settled():
+                    if member.runs and self._is_elected():
                         await self._tell("heal", member)
                         member.destroyed = False
                         self._ledger.late = max(self._ledger.late, member.sent)
@@ -177,17 +176,17 @@ class Store:
             entry, reply, _ = await self._guard.ask(by, act)
             self._ledger.write(what, process=member.number, entry=entry, reply=reply)
 
-    def _is_settled(self) -> bool:
-        return "elect" not in self._hooks.names or self._elected == len(self.destroyed)
+    def _is_elected(self) -> bool:
+        return "elect" not in self._cluster.hooks or self._elected == len(self.destroyed)
 
     async def _elect(self) -> None:
         """After each destruction a hook may choose a primary, before any joins or is healed."""
         while True:
             await asyncio.sleep(AGAIN)
             seen = len(self.destroyed)
-            if self._is_settled():
+            if self._is_elected():
                 continue
-            answer = await self._hooks.call("elect")
+            answer = await self._cluster.call("elect")
             self._election = answer.end
             if answer.yes:
                 for line in answer.text.splitlines():
