@@ -150,19 +150,19 @@ class Store:
         """Asks whether it is ready, and later whether it is whole, and tells the guard.
 
         It is whole with all records up to the mark. A later one it holds itself or others do,
-        unless the write was sent before it was destroyed: then an answer counts no more.
+        unless the write was sent before it was destroyed: from now on such an answer is too late.
         """
         if not member.up:
             if await self._is_ready(member) and member.runs:
                 async with self._guard.turn:
                     await self._tell("up", member)
         elif member.destroyed and self._is_elected():
+            self._ledger.late = max(self._ledger.late, member.sent)
             if await self._says("whole", member, self._ledger.mark):
                 async with self._guard.turn:
                     if member.runs and self._is_elected():
                         await self._tell("heal", member)
                         member.destroyed = False
-                        self._ledger.late = max(self._ledger.late, member.sent)
                         self.healed.append(self._ledger.now() - member.destroyed_at)
 
     async def _tell(self, what: str, member: Member) -> None:
@@ -177,6 +177,7 @@ class Store:
             self._ledger.write(what, process=member.number, entry=entry, reply=reply)
 
     def _is_elected(self) -> bool:
+        """Whether no election is due."""
         return "elect" not in self._cluster.hooks or self._elected == len(self.destroyed)
 
     async def _elect(self) -> None:
