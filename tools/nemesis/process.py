@@ -58,7 +58,7 @@ def keep(tool: int) -> None:
     with open("/proc/self/stat") as file:
         start, end = map(int, file.read().rpartition(")")[2].split()[45:47])
     ctypes.memset(start, 0, end - start)  # `pkill -f` of the tool's name is to spare the keeper
-    os.closerange(0, os.sysconf("SC_OPEN_MAX"))
+    os.closerange(0, max(map(int, os.listdir("/proc/self/fd"))) + 1)
     ended, status = 0, int(signal.SIGTERM)
     while ended != command and signal.sigwait(AWAITED) == signal.SIGCHLD:
         ended, status = os.waitpid(-1, os.WNOHANG)

@@ -11,7 +11,7 @@ from pathlib import Path
 from random import Random
 from typing import Any
 
-from .cluster import Answer, Cluster
+from .cluster import Cluster
 from .guard import Act, Guard
 from .ledger import Ledger, write
 from .plan import CLOG, EMPTY, GONE, KINDS, REBOOT, Draw, Order, replayed
@@ -178,14 +178,13 @@ class Run:
 
     async def _read(self) -> None:
         """Asks what is left, which may need some tries, and finds which records are not."""
-        seconds, answer = self.cluster.seconds("read"), Answer(False, "", "read hung")
-        with suppress(TimeoutError):
-            async with asyncio.timeout(seconds):
-                while not (answer := await self.cluster.call("read")).yes and self.cluster.able():
-                    await asyncio.sleep(0.5)
-        if not answer.yes:
-            when = f"in {seconds:g} seconds" if self.cluster.able() else "and all are destroyed"
-            self.notes = [f"nothing could be read {when}: {answer.end}"]
+        seconds, began, able = self.cluster.seconds("read"), time.monotonic(), self.cluster.able
+        while not (answer := await self.cluster.call("read")).yes:
+            if time.monotonic() > began + seconds or not able():
+                when = f"in {seconds:g} seconds" if able() else "and every process is destroyed"
+                self.notes = [f"nothing could be read {when}: {answer.end}"]
+                break
+            await asyncio.sleep(0.5)
         found, records = {}, self.ledger.records
         for line in answer.text.splitlines() if answer.yes else []:
             if len(pair := line.split()) != 2:

@@ -5,7 +5,6 @@ import shutil
 import signal
 import time
 from asyncio.subprocess import DEVNULL
-from contextlib import suppress
 
 from .cluster import Cluster, Member
 from .guard import Guard
@@ -39,14 +38,12 @@ class Store:
 
     async def calm(self) -> None:
         """Waits until all are up and whole."""
-        seconds = self._cluster.seconds("join")
-        with suppress(TimeoutError):
-            async with asyncio.timeout(seconds):
-                while self.waiting():
-                    await asyncio.sleep(AGAIN)
-        for text in self.waiting():
-            logs = f"the logs in {self._cluster.folder} may say why"
-            raise Fault(HOOK, f"after {seconds:g} seconds {text}; {logs}")
+        seconds, began = self._cluster.seconds("join"), time.monotonic()
+        while waiting := self.waiting():
+            if time.monotonic() > began + seconds:
+                logs = f"the logs in {self._cluster.folder} may say why"
+                raise Fault(HOOK, f"after {seconds:g} seconds {waiting[0]}; {logs}")
+            await asyncio.sleep(AGAIN)
 
     def waiting(self) -> list[str]:
         """Who is not up or not whole, or has not left, and what each waits for."""
@@ -85,6 +82,7 @@ class Store:
         shutil.rmtree(data, ignore_errors=True)
         if data.exists() or data.is_symlink():
             raise Fault(HOOK, f"{data} can't be removed; it has to be a folder")
+        data.mkdir()
         member.emptied, member.alone_until = True, 0.0
 
     async def freeze(self, members: list[Member], frozen: bool) -> None:
@@ -125,8 +123,6 @@ class Store:
             if self._is_elected() and all(it.up or it.alone_until < now for it in others):
                 self._empty(member)
                 member.alone_until = math.inf
-                if not member.gone:
-                    (self._cluster.folder / str(member.number)).mkdir()
                 if hook not in self._cluster.hooks or await self._says(hook, member):
                     break
             await asyncio.sleep(AGAIN)
