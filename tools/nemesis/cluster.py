@@ -1,17 +1,20 @@
-"""The processes of a cluster file, and the user's hooks, called as HOOKS NAME [N] .."""
+"""Whom the tool talks to: the cluster's processes by the user's hooks, and `faultyard guard`."""
 import asyncio
+import json
 import os
 import socket
 import tomllib
 from asyncio.subprocess import DEVNULL, PIPE, Process
-from contextlib import AbstractAsyncContextManager, suppress
+from collections.abc import AsyncIterator
+from contextlib import AbstractAsyncContextManager, asynccontextmanager, suppress
 from dataclasses import dataclass, field
 from pathlib import Path
 from random import SystemRandom
 from typing import Any, NamedTuple
 
-from .process import TOOL, USAGE, Fault, output, running
+from .process import GUARD, TOOL, USAGE, Fault, output, running
 
+Act = dict[str, dict[str, Any]]
 NEEDED = {"start", "whole", "write", "read"}
 KNOWN = NEEDED | {"hooks", "setup", "ready", "join", "leave", "elect", "pause", "resume"}
 SLOW = {"hooks", "setup", "join", "elect", "read"}  # some copy: they have six times as long
@@ -51,6 +54,8 @@ class Answer(NamedTuple):
 
 
 class Cluster:
+    """The processes of a cluster file, and the hooks, called as HOOKS NAME [N] .."""
+
     def __init__(self, config: Path, hooks: Path, folder: Path, limit: float) -> None:
         self._path, self.folder, self.limit = hooks, folder, limit
         document = tomllib.loads(config.read_text("utf-8"))  # which the guard has read before
@@ -110,6 +115,45 @@ class Cluster:
         except TimeoutError:
             return Answer(False, "", f"{hook} hung")
         return Answer(status == 0, text, f"{hook} ended with status {status}")
+
+
+class Guard:
+    """`faultyard guard` by a pipe: one order of decisions for all who ask."""
+
+    def __init__(self, process: Process, folder: Path) -> None:
+        assert process.stdin and process.stdout
+        self._in, self._out, self._log = process.stdin, process.stdout, folder / "guard.log"
+        self._audit = (folder / "audit").open("wb", buffering=0)
+        self.turn = asyncio.Lock()  # is held while one asks and does what is answered
+        self.entries = 0
+
+    async def ask(self, by: int, act: Act) -> tuple[int, Any, str]:
+        """The number of the entry, its reply, and its line; for whose turn it is."""
+        assert self.turn.locked()
+        self._in.write(json.dumps({"by": by, "act": act}, separators=(",", ":")).encode() + b"\n")
+        line = await self._hear()
+        self.entries += 1
+        return self.entries - 1, json.loads(line)["reply"], line.decode().strip()
+
+    async def _hear(self) -> bytes:
+        if not (line := await self._out.readline()).endswith(b"\n"):
+            said = self._log.read_text(errors="replace").strip()
+            status = USAGE if said.startswith("config:") else GUARD
+            raise Fault(status, f"the guard ended: {said or 'it said nothing'}")
+        self._audit.write(line)
+        return line
+
+    @classmethod
+    @asynccontextmanager
+    async def begun(cls, program: str, config: Path, folder: Path) -> AsyncIterator["Guard"]:
+        """A guard that has read a cluster file."""
+        with (folder / "guard.log").open("wb") as log:
+            files = {"stdin": PIPE, "stdout": PIPE, "stderr": log}
+            async with running(program, "guard", config, **files) as process:
+                guard = cls(process, folder)
+                if await guard._hear() != b'{"audit":2}\n':
+                    raise Fault(GUARD, "the guard printed another header than of an audit")
+                yield guard
 
 
 def free_ports(count: int) -> tuple[int, socket.socket]:

@@ -9,8 +9,7 @@ from contextlib import suppress
 from random import Random
 from typing import Any, NamedTuple
 
-from .cluster import Cluster
-from .guard import Guard
+from .cluster import Cluster, Guard
 from .process import HOOK, Fault
 
 MUTE = 20  # so often in a row may a writer end or hang without any answer

@@ -8,7 +8,7 @@ import sys
 import tempfile
 from pathlib import Path
 
-from .guard import Guard
+from .cluster import Guard
 from .plan import PLANS
 from .process import NONE_LOST, PR_SET_CHILD_SUBREAPER, PRCTL, TOOL, USAGE, Fault, end_children
 from .report import report

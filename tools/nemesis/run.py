@@ -11,8 +11,7 @@ from pathlib import Path
 from random import Random
 from typing import Any
 
-from .cluster import Cluster
-from .guard import Act, Guard
+from .cluster import Act, Cluster, Guard
 from .ledger import Ledger, write
 from .plan import CLOG, EMPTY, GONE, KINDS, REBOOT, Draw, Order, replayed
 from .process import HOOK, USAGE, Fault, cancelled, output, running

@@ -6,8 +6,7 @@ import signal
 import time
 from asyncio.subprocess import DEVNULL
 
-from .cluster import Cluster, Member
-from .guard import Guard
+from .cluster import Cluster, Guard, Member
 from .ledger import Ledger
 from .plan import DESTROYING, GONE, REBOOT, Order
 from .process import HOOK, Fault, cancelled, signal_below
