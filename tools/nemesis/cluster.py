@@ -86,7 +86,10 @@ class Cluster:
 
     async def learn(self) -> None:
         """Asks which hooks there are."""
-        answer = await self.call("hooks")
+        try:
+            answer = await self.call("hooks")
+        except OSError as fault:
+            raise Fault(USAGE, f"{self._path} can't be run: {fault.strerror}") from None
         self.hooks = set(answer.text.split())
         wrong = [f"hooks: there is no hook named {it}" for it in sorted(self.hooks - KNOWN)]
         wrong += [f"hooks: {it} is missing" for it in sorted(NEEDED - self.hooks)]

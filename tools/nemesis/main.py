@@ -36,8 +36,7 @@ def parsed() -> argparse.Namespace:
     add("--kinds", type=numbers, default=KINDS, metavar="WEIGHTS", help=text)
     text = f"between mixed orders ({PAUSES})"
     add("--pauses", type=numbers, default=PAUSES, metavar="SECONDS", help=text)
-    text = "do the orders of an events.jsonl at their times"
-    add("--replay", type=Path, metavar="EVENTS", help=text)
+    add("--replay", type=Path, metavar="EVENTS", help="do the orders of an events.jsonl again")
     add("--unguarded", action="store_true", help="do what was ordered, whatever the guard says")
     add("--check-hooks", action="store_true", help="have each hook called on a calm cluster")
     add("--writers", type=int, default=3, help="how many write hooks run (3)")
