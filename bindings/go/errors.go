@@ -68,7 +68,7 @@ var statusTexts = []string{
 	ErrLineSyntax:    "the line is no command of a script",
 	ErrConfigTooLong: "the cluster file has more than 1,048,576 bytes",
 	ErrConfigToml:    "the cluster file is no TOML document in UTF-8",
-	ErrConfigField:   "a key of the cluster file is missing, unknown or of another type, or a word is unknown",
+	ErrConfigField:   "a key of the cluster file is missing, unknown or wrong, or a word is unknown",
 	ErrConfigLimit:   "a number or a length of the cluster file is outside its range",
 	ErrConfigName:    "a text of the cluster file is no name, or names what is taken or isn't there",
 	ErrConfigPolicy:  "a text of the cluster file is no policy",

@@ -1,8 +1,8 @@
 // Package faultyard decides which faults a cluster tolerates.
 //
-// A Guard is opened with a cluster file, and asked before each kill. It answers the hardest kill that
-// the replication policy tolerates, and keeps a journal of all that was asked and answered. It calls
-// the C library in this process.
+// A Guard is opened with a cluster file, and asked before each kill. It answers the hardest kill
+// that the replication policy tolerates, and keeps a journal of all that was asked and answered. It
+// calls the C library in this process.
 package faultyard
 
 // #cgo pkg-config: faultyard

@@ -298,10 +298,12 @@ def archive_serves_cpp_and_go() -> None:
     need("c++", "go", "pkg-config")
     env = environment(PKG_CONFIG_PATH=str(unpacked() / "lib/pkgconfig"))
     flags = said("pkg-config", "--cflags", "--libs", "faultyard", env=env).split()
-    (room() / "open.cpp").write_text('#include <faultyard.hpp>\nint main() { faultyard::Guard(""); }\n')
-    said("c++", "-std=c++17", room() / "open.cpp", *flags, "-o", room() / "open")
+    source, program = room() / "open.cpp", room() / "open"
+    source.write_text('#include <faultyard.hpp>\nint main() { faultyard::Guard(""); }\n')
+    said("c++", "-std=c++17", source, *flags, "-o", program)
     env |= {"GOCACHE": f"{room()}/go", "GOPATH": f"{room()}/go", "GOENV": "off", "GOPROXY": "off"}
-    said("go", "build", "-mod=readonly", ".", cwd=unpacked() / "share/faultyard/bindings/go", env=env)
+    package = unpacked() / "share/faultyard/bindings/go"
+    said("go", "build", "-mod=readonly", ".", cwd=package, env=env)
 
 
 def installed_and_uninstalled() -> None:

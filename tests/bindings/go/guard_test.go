@@ -64,7 +64,9 @@ func fails(t *testing.T, err, wanted error) {
 }
 
 // kill orders a kill that is made or barred.
-func kill(t *testing.T, guard *faultyard.Guard, actor uint32, order faultyard.Order) faultyard.Verdict {
+func kill(
+	t *testing.T, guard *faultyard.Guard, actor uint32, order faultyard.Order,
+) faultyard.Verdict {
 	t.Helper()
 	verdict, err := guard.Kill(actor, order)
 	if err != nil {
@@ -101,8 +103,9 @@ func audit(t *testing.T, guard *faultyard.Guard) string {
 	return string(text)
 }
 
-const killedZone = `{"act":{"kill":{"floor":"Reboot","key":"zoneid","kind":"KillInstantly","tear":0,` +
-	`"value":"z0"}},"at":0,"by":1,"reply":{"verdict":{"rule":null,"struck":"KillInstantly"}}}` + "\n"
+const killedZone = `{"act":{"kill":{"floor":"Reboot","key":"zoneid","kind":"KillInstantly",` +
+	`"tear":0,"value":"z0"}},"at":0,"by":1,` +
+	`"reply":{"verdict":{"rule":null,"struck":"KillInstantly"}}}` + "\n"
 
 func TestZoneZ0MayGoAndThenZ1IsRebooted(t *testing.T) {
 	guard := opened(t, six(t))
@@ -236,8 +239,8 @@ func TestAnErrorEntersNothing(t *testing.T) {
 		_, err := guard.Kill(1, order)
 		fails(t, err, bad.status)
 	}
-	above := `{"by":1,"act":{"kill":{"floor":"Reboot","key":"zoneid","kind":"RebootProcess","tear":0,` +
-		`"value":"z0"}}}`
+	above := `{"by":1,"act":{"kill":{"floor":"Reboot","key":"zoneid","kind":"RebootProcess",` +
+		`"tear":0,"value":"z0"}}}`
 	for _, bad := range []struct {
 		status faultyard.Status
 		line   []byte

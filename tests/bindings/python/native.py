@@ -1,4 +1,4 @@
-"""What the tests of the bindings for C++ and for Go share: both call the C library in their own process."""
+"""What the tests of the bindings for C++ and Go share: both call the library in their process."""
 
 import os
 import subprocess
@@ -18,7 +18,7 @@ def run(*command, given="", **more):
 
 
 def installed(folder):
-    """Variables by which pkg-config and the loader find the header and the library, as after `make install`."""
+    """Variables by which pkg-config and the loader find what `make install` puts into place."""
     prefix = Path(folder, "prefix")
     prefix.mkdir()
     Path(prefix, "include").symlink_to(common.ROOT / "include")
@@ -30,7 +30,7 @@ def installed(folder):
 
 
 def example(folder, page, language):
-    """Puts the example of a page and its cluster file into a folder; its command, and what that prints."""
+    """Puts the example of a page into a folder; its command, and what the page says it prints."""
     found = blocks(page)
     at = [language for language, _ in found].index(language)
     command, _, wanted = found[at + 1][1].partition("\n")

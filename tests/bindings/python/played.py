@@ -2,13 +2,19 @@
 
 A line of acts is one of these, its words parted by tabs:
 
-    kill ACTOR KEY VALUE KIND FLOOR TEAR    made by the binding's call of that name, as are the next two
+    kill ACTOR KEY VALUE KIND FLOOR TEAR
     up ACTOR PROCESS
     heal ACTOR PROCESS
-    act LINE                                a line of a script, made by the general call
+    act LINE
 
-A line of answers has three parts, parted by tabs: what the call answered, a digit for each of the processes 0 to 6, 1 where it is
-destroyed, and the set of those that aren't gone as a number with a bit for each. A call answers one of these:
+The first three are made by the binding's call of that name, and LINE, which is a line of a script,
+by its general call. A line of answers has three parts, parted by tabs:
+
+1. what the call answered;
+2. a digit for each of the processes 0 to 6: 1 where it is destroyed;
+3. the set of the processes that aren't gone, as a number with a bit for each.
+
+A call answers one of these:
 
     verdict STRUCK RULE NAMED    with - for each that isn't there
     done
@@ -58,7 +64,7 @@ def told(reply):
 
 
 def answers(config, acts, audit):
-    """The lines of answers, by the audit that `faultyard run` gives and by a guard over the pipe."""
+    """The lines of answers, by the audit of `faultyard run` and by a guard over the pipe."""
     text = []
     with faultyard.Guard(config) as guard:
         for number, ((by, act), line) in enumerate(zip(acts, audit.splitlines()[1:])):
@@ -71,7 +77,7 @@ def answers(config, acts, audit):
 
 
 def compare(test, found, wanted):
-    """Compares two texts by the first line that differs: the whole difference would take a minute."""
+    """Compares two texts by the first line that differs: all differences would take a minute."""
     for number, (one, other) in enumerate(zip(found.splitlines(), wanted.splitlines())):
         test.assertEqual(one, other, f"line {number}")
     test.assertEqual(len(found), len(wanted))

@@ -17,35 +17,36 @@ PAGE = PACKAGE / "README.md"
 C_HEADER = common.ROOT / "include/faultyard.h"
 
 
-class Room(common.Folder):
-    """Go fetches nothing, and writes nothing but below a folder of the class."""
-
-    @classmethod
-    def setUpClass(cls):
-        common.need("the binding for Go", "go", "cc", "pkg-config")
-        made = tempfile.TemporaryDirectory(prefix="bindings-go-")
-        cls.addClassCleanup(made.cleanup)
-        cls.room = Path(made.name)
-        cls.environment = {
-            **installed(cls.room),
-            "HOME": made.name,
-            "GOCACHE": f"{cls.room}/cache",
-            "GOPATH": f"{cls.room}/path",
-            "GOTMPDIR": made.name,
-            "GOENV": "off",
-            "GOPROXY": "off",
-            "GOFLAGS": "-mod=readonly -buildvcs=false",
-        }
-
-    def go(self, *words, cwd=TESTS, **more):
-        return run("go", *words, cwd=cwd, env={**self.environment, **more})
+ENVIRONMENT = {}
 
 
-class Sources(Room, unittest.TestCase):
+def setUpModule():
+    """Go fetches nothing, and writes below one folder, so that it builds each package once."""
+    common.need("the binding for Go", "go", "cc", "pkg-config")
+    made = tempfile.TemporaryDirectory(prefix="bindings-go-")
+    unittest.addModuleCleanup(made.cleanup)
+    ENVIRONMENT.update(
+        installed(made.name),
+        HOME=made.name,
+        GOCACHE=f"{made.name}/cache",
+        GOPATH=f"{made.name}/path",
+        GOTMPDIR=made.name,
+        GOENV="off",
+        GOPROXY="off",
+        GOFLAGS="-mod=readonly -buildvcs=false",
+    )
+
+
+def go(*words, cwd=TESTS, **more):
+    """What the go command writes."""
+    return run("go", *words, cwd=cwd, env={**ENVIRONMENT, **more})
+
+
+class Sources(unittest.TestCase):
     def test_gofmt_and_vet_find_nothing(self):
         for folder in (PACKAGE, TESTS):
             self.assertEqual(run("gofmt", "-l", folder), "")
-            self.assertEqual(self.go("vet", "./...", cwd=folder), "")
+            self.assertEqual(go("vet", "./...", cwd=folder), "")
 
     def test_each_value_is_the_c_headers(self):
         text = "".join((PACKAGE / it).read_text() for it in ("words.go", "errors.go"))
@@ -77,12 +78,12 @@ class Sources(Room, unittest.TestCase):
 
 
 @unittest.skipUnless(common.LIBRARY, common.WITHOUT)
-class Go(Room, unittest.TestCase):
+class Go(common.Folder, unittest.TestCase):
     """The tests and programs are linked with the library that is given."""
 
     def test_the_tests_of_the_package_under_the_race_detector(self):
         audit = Path(self.folder, "audit")
-        told = self.go("test", "-race", "-count=1", "-v", ".", FAULTYARD_SHARED_AUDIT=str(audit))
+        told = go("test", "-race", "-count=1", "-v", ".", FAULTYARD_SHARED_AUDIT=str(audit))
         wanted = re.findall(r"^func (Test\w+)\(", (TESTS / "guard_test.go").read_text(), re.M)
         self.assertEqual(re.findall(r"^--- PASS: (\w+) ", told, re.M), wanted)
         self.assertNotIn("--- SKIP", told)
@@ -93,9 +94,9 @@ class Go(Room, unittest.TestCase):
         config = common.six_with(self.folder, 10_000)
         acts = list(common.random_acts(54, 10_000))
         program, audit = Path(self.folder, "play"), Path(self.folder, "audit")
-        self.go("build", "-race", "-o", program, "./play")
+        go("build", "-race", "-o", program, "./play")
         lines = played.lines(acts)
-        told = run(program, config, audit, given=lines, env=self.environment)
+        told = run(program, config, audit, given=lines, env=ENVIRONMENT)
         wanted = common.run_script(config, acts)
         self.assertTrue(audit.read_text() == wanted, "another audit")
         self.assertEqual(faultyard.check(config, audit.read_text()), 10_000)
@@ -103,11 +104,11 @@ class Go(Room, unittest.TestCase):
 
     def test_want_of_memory_and_a_line_that_is_lost(self):
         program, library = Path(self.folder, "poor"), Path(self.folder, "libfaultyard.so.1")
-        self.go("build", "-o", program, "./poor")
-        command = [os.environ.get("CC", "cc"), "-Wall", "-Wextra", "-Werror", "-shared", "-fPIC"]
+        go("build", "-o", program, "./poor")
+        command = [os.environ.get("CC", "cc"), "-Wall", "-Werror", "-shared", "-fPIC"]
         source = TESTS / "poor_library/poor.c"
         run(*command, f"-I{common.ROOT}/include", "-o", library, source)
-        told = run(program, env={**self.environment, "LD_LIBRARY_PATH": self.folder})
+        told = run(program, env={**ENVIRONMENT, "LD_LIBRARY_PATH": self.folder})
         calls = ("Open", "Kill", "Up", "Heal", "Act", "Entry", "Audit")
         wanted = dict.fromkeys(calls, "faultyard: there was no memory")
         wanted["Act"] = "faultyard: the act is made, but its line could not be written"
@@ -120,6 +121,6 @@ class Go(Room, unittest.TestCase):
         edit = edit.replace("/usr/local/share/faultyard/bindings/go", str(PACKAGE))
         self.assertIn(str(PACKAGE), edit)
         script = f"set -e; go mod init guarded 2> said; {edit}; {command}"
-        told = run("bash", "-c", script, cwd=self.folder, env=self.environment)
+        told = run("bash", "-c", script, cwd=self.folder, env=ENVIRONMENT)
         self.assertEqual(told, wanted)
         self.assertEqual(command, "go run guarded.go")

@@ -110,7 +110,8 @@ func killed(guard *faultyard.Guard, actor uint32, words []string) (string, error
 	return fmt.Sprintf("verdict %s %s %s", struck, rule, named), err
 }
 
-// losses are a digit for each of seven processes, 1 where it is destroyed, and the set of those left.
+// losses are a digit for each of seven processes, 1 where it is destroyed, and the set of those
+// that aren't gone.
 func losses(guard *faultyard.Guard) (string, uint64, error) {
 	destroyed := ""
 	for process := uint32(0); process < 7; process++ {
