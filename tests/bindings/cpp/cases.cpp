@@ -188,19 +188,22 @@ static void errors()
     HOLDS(guard.audit() == before);
 }
 
-/* Where the library has no memory, nothing changes. */
+/* Where the library has no memory, nothing changes. The first entry of a journal needs some. */
 static void want_of_memory()
 {
-    Guard guard(SIX);
+    Guard first(SIX), guard(SIX);
     guard.act("{\"by\":0,\"act\":{\"tick\":{\"ticks\":5}}}");
     const std::string before = guard.audit();
     has_no_memory = true;
     THROWS(NoMemory, Guard{SIX});
-    THROWS(NoMemory, (void)guard.kill(1, Key::Process, "p0", Kind::Reboot));
+    THROWS(NoMemory, (void)first.kill(1, Key::Process, "p0", Kind::Reboot));
+    THROWS(NoMemory, first.up(0, 0));
+    THROWS(NoMemory, first.heal(0, 0));
     THROWS(NoMemory, guard.act("{\"by\":0,\"act\":{\"tick\":{\"ticks\":5}}}"));
     THROWS(NoMemory, guard.entry(0));
     THROWS(NoMemory, guard.audit());
     has_no_memory = false;
+    EQUAL(first.journal_len(), 0);
     HOLDS(guard.audit() == before);
 }
 

@@ -106,6 +106,7 @@ class Go(common.Folder, unittest.TestCase):
         program, library = Path(self.folder, "poor"), Path(self.folder, "libfaultyard.so.1")
         go("build", "-o", program, "./poor")
         command = [os.environ.get("CC", "cc"), "-Wall", "-Werror", "-shared", "-fPIC"]
+        command += [f"-Wl,--version-script={common.ROOT}/release/libfaultyard.map"]
         source = TESTS / "poor_library/poor.c"
         run(*command, f"-I{common.ROOT}/include", "-o", library, source)
         told = run(program, env={**ENVIRONMENT, "LD_LIBRARY_PATH": self.folder})
