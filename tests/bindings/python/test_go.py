@@ -102,18 +102,18 @@ class Go(common.Folder, unittest.TestCase):
         self.assertEqual(faultyard.check(config, audit.read_text()), 10_000)
         played.compare(self, told, played.answers(config, acts, wanted))
 
-    def test_want_of_memory_and_a_line_that_is_lost(self):
+    def test_want_of_memory_a_lost_line_and_the_thread_of_each_call(self):
         program, library = Path(self.folder, "poor"), Path(self.folder, "libfaultyard.so.1")
         go("build", "-o", program, "./poor")
         command = [os.environ.get("CC", "cc"), "-Wall", "-Werror", "-shared", "-fPIC"]
-        command += [f"-Wl,--version-script={common.ROOT}/release/libfaultyard.map"]
+        command += [f"-Wl,--version-script={common.ROOT}/release/libfaultyard.map", "-pthread"]
         source = TESTS / "poor_library/poor.c"
         run(*command, f"-I{common.ROOT}/include", "-o", library, source)
         told = run(program, env={**ENVIRONMENT, "LD_LIBRARY_PATH": self.folder})
         calls = ("Open", "Kill", "Up", "Heal", "Act", "Entry", "Audit")
         wanted = dict.fromkeys(calls, "faultyard: there was no memory")
         wanted["Act"] = "faultyard: the act is made, but its line could not be written"
-        wanted["Close"] = "<nil>"
+        wanted |= dict.fromkeys(("IsDestroyed", "Left", "Close"), "<nil>")
         self.assertEqual(dict(line.split(": ", 1) for line in told.splitlines()), wanted)
 
     def test_the_example_of_its_page_prints_what_the_page_says(self):

@@ -1,9 +1,12 @@
-// Command poor asks the library of poor_library/poor.c, and tells the error of each call.
+// Command poor asks the library of poor_library/poor.c, and tells the error of each call. That
+// library aborts where a call isn't made on the thread that opened the guard.
 package main
 
 import (
+	"errors"
 	"fmt"
 	"log"
+	"runtime"
 
 	"faultyard"
 )
@@ -25,5 +28,28 @@ func main() {
 	fmt.Println("Entry:", err)
 	_, err = guard.Audit()
 	fmt.Println("Audit:", err)
+	_, err = guard.IsDestroyed(0)
+	fmt.Println("IsDestroyed:", err)
+	_, err = guard.Left()
+	fmt.Println("Left:", err)
+	for i := 0; i < 1000; i++ {
+		onItsOwnThread(func() {
+			if err := guard.Up(0, 0); !errors.Is(err, faultyard.ErrNoMemory) {
+				log.Fatal(err)
+			}
+		})
+	}
 	fmt.Println("Close:", guard.Close())
+}
+
+// onItsOwnThread makes a call on a thread that makes no other, and waits for it.
+func onItsOwnThread(call func()) {
+	done := make(chan struct{})
+	go func() {
+		// The thread ends with the goroutine.
+		runtime.LockOSThread()
+		call()
+		close(done)
+	}()
+	<-done
 }
