@@ -118,8 +118,8 @@ class Go(common.Folder, unittest.TestCase):
 
     def test_the_example_of_its_page_prints_what_the_page_says(self):
         command, wanted = example(self.folder, PAGE, "go")
-        (edit,) = re.findall(r"^ +\$ (go mod edit .*)$", PAGE.read_text(), re.M)
-        edit = edit.replace("/usr/local/share/faultyard/bindings/go", str(PACKAGE))
+        (edit,) = re.findall(r"^\$ (go mod edit .*)$", PAGE.read_text(), re.M)
+        edit = edit.replace("/usr/share/faultyard/bindings/go", str(PACKAGE))
         self.assertIn(str(PACKAGE), edit)
         script = f"set -e; go mod init guarded 2> said; {edit}; {command}"
         told = run("bash", "-c", script, cwd=self.folder, env=ENVIRONMENT)
