@@ -1,4 +1,5 @@
 mod Begun
 mod Lines
 mod Orders
+mod Sent
 mod Values

@@ -1,12 +1,9 @@
 -- what a guard is opened with, or why it stays closed
 use Rattle.std.specs.Prelude.{◌≡◌, ◌≢◌, ℕ, List, Ok, Err}
 use Rattle.std.specs.Ptr.{null_ptr}
-use Rattle.std.specs.FinSet as sets
-use Rattle.fy_locality.specs.Members.{members}
 use Rattle.fy_config.specs.Config.{ConfigOf}
 use Rattle.fy_config.specs.declared.fault.ConfigFault.{ConfigFault}
-use Rattle.fy_cluster.specs.Course.{Course, history_of, opened}
-use Rattle.fy_cluster.specs.History.{left}
+use Rattle.fy_cluster.specs.Course.{Course, opened}
 use Rattle.fy_c.specs.Statuses.{config_status}
 use Rattle.fy_c.specs.declared.handle.FyGuard.{FyGuard}
 use Rattle.fy_c.specs.declared.status.Status.{Status}
@@ -26,8 +23,3 @@ pub data NotOpened (bytes : List ℕ) : Status → Type 0 where
 pub data Opens (bytes : List ℕ) (old new : FyGuard) : Status → Type 0 where
   begins : new.at ≢ null_ptr → Begins bytes new.value → Opens bytes old new Done
   refused : (status : Status) → NotOpened bytes status → new ≡ old → Opens bytes old new status
-
--- the words have the bit of each process that is left, and no other
-abbrev pub AreLeft : Course → List ℕ → Type 0
-AreLeft course words =
-    (p : ℕ) → sets.contains (members words) p ≡ left course.setup (history_of course) p
