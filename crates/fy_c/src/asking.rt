@@ -105,13 +105,13 @@ pub extern "C" fn fy_sight(guard: &mut FyGuard, seen: &mut FySeen)
     *seen = told_seen(guard.cluster().sight());
 }
 
-/// The library's version: 10,000 times the first number, 100 times the second, and the third.
-pub const VERSION: u32 = 10_000;
+/// The three numbers of the library's version.
+const VERSION: [u32; 3] = [1, 0, 0];
 
-/// The library's version.
+/// The library's version: 10,000 times its first number, 100 times the second, and the third.
 #[unsafe(no_mangle)]
 pub extern "C" fn fy_version() -> u32
     ensures { result ≡ 10000 }
 {
-    VERSION
+    VERSION[0] * 10_000 + VERSION[1] * 100 + VERSION[2]
 }
