@@ -265,7 +265,8 @@ static inline fy_status fy_guard_heal(fy_guard *guard, uint32_t actor, uint32_t 
 
 /* Makes any act: `line` is a line of a script (docs/FORMATS.md). The line of its entry, which ends
  * with a line feed and has no zero behind it, is written to the front of the buffer, and `*told` is
- * how many bytes it has. It is what `faultyard guard` answers to the same line.
+ * how many bytes it has. What is behind it in the buffer stays as it was. It is what `faultyard
+ * guard` answers to the same line.
  *
  * FY_SHORT where the buffer has fewer than `length` + FY_MOST_REPLY bytes: `*told` is that sum, and
  * nothing is done, whatever the line is. Then in this order: FY_LINE_TOO_LONG, FY_LINE_SYNTAX,
