@@ -1,4 +1,6 @@
 mod Begun
+mod Bits
+mod Finding
 mod Lines
 mod Orders
 mod Sent

@@ -2,7 +2,7 @@
 ghost use Rattle.std.specs.Prelude.{◌≡◌, ◌≢◌, ◌≤◌, ◌+◌, length, IsTrue, IsFalse, IfOk, IfErr, OnOk, OnErr};
 ghost use Rattle.std.specs.Ptr.{null_ptr};
 ghost use Rattle.fy_audit.specs.AuditText.{entry_line};
-ghost use Rattle.fy_c.specs.Acting.{entry_of, IsMade, NotMade, NoAnswer, NoLine, IsAnswered, Tells, IsShort, Acts, HasLine, NotRead, Reads, line_status, command_status};
+ghost use Rattle.fy_c.specs.Acting.{entry_of, HasRoom, IsMade, NotMade, NoAnswer, NoLine, IsAnswered, Tells, IsShort, Acts, HasLine, NotRead, Reads, line_status, command_status};
 ghost use Rattle.fy_c.specs.Statuses.{Answers};
 
 use crate::handle::FyGuard;
@@ -48,6 +48,7 @@ fn put_line(text: &mut Vec<u8>, entry: &Entry) -> Result<(), AllocError>
 /// Applies a command.
 fn make(cluster: &mut Cluster, command: Command) -> Result<(), Status>
     ensures made { OnOk result (IsMade cluster.old cluster.new command) }
+    ensures room { OnOk result (HasRoom cluster.old) }
     ensures not_made { IfErr result (NotMade cluster.old) }
     ensures kept { OnErr result (cluster.new ≡ cluster.old) }
 {
@@ -62,6 +63,7 @@ fn make(cluster: &mut Cluster, command: Command) -> Result<(), Status>
 /// Applies a command, and puts its entry's line into a text.
 fn answer(cluster: &mut Cluster, command: Command, text: &mut Vec<u8>) -> Result<(), Status>
     ensures made { OnOk result (IsMade cluster.old cluster.new command) }
+    ensures room { OnOk result (HasRoom cluster.old) }
     ensures text { OnOk result (text.new.items ≡ entry_line (entry_of cluster.old command)) }
     ensures err { IfErr result (NoAnswer cluster.old cluster.new command) }
 {
@@ -108,7 +110,7 @@ fn act(alloc: Global, guard: &mut FyGuard, line: &[u8], room: usize) -> Result<V
 
 /// Copies a text into the front of a buffer and says so, where it fits; tells how long it is.
 fn tell(text: &[u8], buffer: &mut [u8], told: &mut usize) -> bool
-    ensures told { IsTrue result → Tells buffer.new told.new text.now }
+    ensures told { IsTrue result → Tells buffer.old buffer.new told.new text.now }
     ensures short { IsFalse result → IsShort buffer.old (length text.now) told.new }
     ensures kept { IsFalse result → buffer.new ≡ buffer.old }
 {
@@ -194,8 +196,8 @@ pub extern "C" fn fy_audit(
     told: &mut usize,
 ) -> u32
     requires { guard.old.at ≢ null_ptr }
-    ensures open { guard.new.at ≢ null_ptr }
     ensures kept { guard.new.value ≡ guard.old.value }
+    ensures place { guard.new.at ≡ guard.old.at }
     ensures read { Answers result (Reads guard.old.value.journal at
         buffer.old buffer.new told.new) }
 {
@@ -214,8 +216,8 @@ pub extern "C" fn fy_audit(
 #[unsafe(no_mangle)]
 pub extern "C" fn fy_journal_len(guard: &mut FyGuard) -> usize
     requires { guard.old.at ≢ null_ptr }
-    ensures open { guard.new.at ≢ null_ptr }
     ensures kept { guard.new.value ≡ guard.old.value }
+    ensures place { guard.new.at ≡ guard.old.at }
     ensures len { result ≡ length guard.old.value.journal }
 {
     guard.cluster().journal().len()

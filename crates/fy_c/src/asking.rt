@@ -26,7 +26,8 @@ fn numbered(map: &Map, name: &[u8]) -> u32
 #[unsafe(no_mangle)]
 pub extern "C" fn fy_process(guard: &mut FyGuard, name: &[u8]) -> u32
     requires { guard.old.at ≢ null_ptr }
-    ensures kept { guard.new ≡ guard.old }
+    ensures kept { guard.new.value ≡ guard.old.value }
+    ensures place { guard.new.at ≡ guard.old.at }
     ensures found { Finds guard.old.value.setup.processes name.now result }
 {
     numbered(guard.cluster().config().map(), name)
@@ -36,7 +37,8 @@ pub extern "C" fn fy_process(guard: &mut FyGuard, name: &[u8]) -> u32
 #[unsafe(no_mangle)]
 pub extern "C" fn fy_process_count(guard: &mut FyGuard) -> u32
     requires { guard.old.at ≢ null_ptr }
-    ensures kept { guard.new ≡ guard.old }
+    ensures kept { guard.new.value ≡ guard.old.value }
+    ensures place { guard.new.at ≡ guard.old.at }
     ensures count { result ≡ length guard.old.value.setup.processes }
 {
     guard.cluster().config().map().len()
@@ -47,7 +49,8 @@ pub extern "C" fn fy_process_count(guard: &mut FyGuard) -> u32
 #[unsafe(no_mangle)]
 pub extern "C" fn fy_keeper(guard: &mut FyGuard, rec: u32) -> u32
     requires { guard.old.at ≢ null_ptr }
-    ensures kept { guard.new ≡ guard.old }
+    ensures kept { guard.new.value ≡ guard.old.value }
+    ensures place { guard.new.at ≡ guard.old.at }
     ensures keeper { result ≡ process_number
         (keeper guard.old.value.setup (history_of guard.old.value) rec) }
 {
@@ -58,7 +61,8 @@ pub extern "C" fn fy_keeper(guard: &mut FyGuard, rec: u32) -> u32
 #[unsafe(no_mangle)]
 pub extern "C" fn fy_is_acked(guard: &mut FyGuard, rec: u32) -> u32
     requires { guard.old.at ≢ null_ptr }
-    ensures kept { guard.new ≡ guard.old }
+    ensures kept { guard.new.value ≡ guard.old.value }
+    ensures place { guard.new.at ≡ guard.old.at }
     ensures acked { result ≡ (if acked (history_of guard.old.value) rec then 1 else 0) }
 {
     match guard.cluster().keeper(rec) {
@@ -99,7 +103,8 @@ fn told_seen(sight: Sight) -> FySeen
 #[unsafe(no_mangle)]
 pub extern "C" fn fy_sight(guard: &mut FyGuard, seen: &mut FySeen)
     requires { guard.old.at ≢ null_ptr }
-    ensures kept { guard.new ≡ guard.old }
+    ensures kept { guard.new.value ≡ guard.old.value }
+    ensures place { guard.new.at ≡ guard.old.at }
     ensures shown { Shows guard.old.value seen.new }
 {
     *seen = told_seen(guard.cluster().sight());

@@ -27,7 +27,8 @@ fn write_set(set: &ProcSet, words: &mut [u64])
 #[unsafe(no_mangle)]
 pub extern "C" fn fy_is_destroyed(guard: &mut FyGuard, process: u32) -> u32
     requires { guard.old.at ≢ null_ptr }
-    ensures kept { guard.new ≡ guard.old }
+    ensures kept { guard.new.value ≡ guard.old.value }
+    ensures place { guard.new.at ≡ guard.old.at }
     ensures told { result ≡ (if destroyed (history_of guard.old.value) process then 1 else 0) }
 {
     if guard.cluster().destroyed().contains(ProcId(process)) {
@@ -43,7 +44,8 @@ pub extern "C" fn fy_is_destroyed(guard: &mut FyGuard, process: u32) -> u32
 pub extern "C" fn fy_left(guard: &mut FyGuard, set: &mut [u64])
     requires open { guard.old.at ≢ null_ptr }
     requires room { length set.old ≡ SET_WORDS }
-    ensures kept { guard.new ≡ guard.old }
+    ensures kept { guard.new.value ≡ guard.old.value }
+    ensures place { guard.new.at ≡ guard.old.at }
     ensures told { AreBitsOf set.new (left_in guard.old.value) }
 {
     write_set(&guard.cluster().left(), set);
@@ -54,7 +56,8 @@ pub extern "C" fn fy_left(guard: &mut FyGuard, set: &mut [u64])
 pub extern "C" fn fy_destroyed_set(guard: &mut FyGuard, set: &mut [u64])
     requires open { guard.old.at ≢ null_ptr }
     requires room { length set.old ≡ SET_WORDS }
-    ensures kept { guard.new ≡ guard.old }
+    ensures kept { guard.new.value ≡ guard.old.value }
+    ensures place { guard.new.at ≡ guard.old.at }
     ensures told { AreBitsOf set.new (destroyed_in guard.old.value) }
 {
     write_set(&guard.cluster().destroyed(), set);
@@ -76,7 +79,8 @@ fn gone(cluster: &Cluster) -> ProcSet
 pub extern "C" fn fy_gone_set(guard: &mut FyGuard, set: &mut [u64])
     requires open { guard.old.at ≢ null_ptr }
     requires room { length set.old ≡ SET_WORDS }
-    ensures kept { guard.new ≡ guard.old }
+    ensures kept { guard.new.value ≡ guard.old.value }
+    ensures place { guard.new.at ≡ guard.old.at }
     ensures told { AreBitsOf set.new (gone_in guard.old.value) }
 {
     write_set(&gone(guard.cluster()), set);
@@ -122,7 +126,8 @@ fn found(cluster: &Cluster, target: &Target) -> ProcSet
 pub extern "C" fn fy_targets(guard: &mut FyGuard, key: u32, value: &[u8], set: &mut [u64]) -> u32
     requires open { guard.old.at ≢ null_ptr }
     requires room { length set.old ≡ SET_WORDS }
-    ensures kept { guard.new ≡ guard.old }
+    ensures kept { guard.new.value ≡ guard.old.value }
+    ensures place { guard.new.at ≡ guard.old.at }
     ensures told { Answers result
         (Targets guard.old.value key value.now set.old set.new) }
 {
