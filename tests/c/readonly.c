@@ -66,12 +66,12 @@ static void freeze(fy_guard *guard)
 /* Each call that only asks. */
 static void ask(const fy_guard *guard)
 {
-    uint64_t set[FY_SET_WORDS];
-    uint32_t process;
-    int is;
-    fy_seen seen;
+    uint64_t set[FY_SET_WORDS] = {77};
+    uint32_t process = 77;
+    int is = 77;
+    fy_seen seen = {77, 77, 77, 77};
     char buffer[512];
-    size_t told;
+    size_t told = 77;
     EQUAL(fy_guard_is_open(guard), 1);
     EQUAL(fy_guard_process(guard, "p3", &process), FY_DONE);
     EQUAL(process, 3);
