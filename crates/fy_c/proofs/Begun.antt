@@ -26,7 +26,7 @@ had_none : (bytes : List ℕ) (answer : Result Setup ConfigFault) → IsLong byt
     NotOpened bytes status.NoMemory
 had_none bytes answer long text not_long not_toml =
     elim (cases_lt MOST_FILE_BYTES (length bytes)) [
-      inl over ↦ absurd (not_long (long over))
+      | inl over ↦ absurd (not_long (long over))
       | inr few ↦ NotOpened.no_memory few (λ none. not_toml (text few none))
     ]
 
