@@ -11,9 +11,9 @@
  * a test go on as if the act were made. A refused act throws too, with `Status::Refused` and its
  * reason. A kill that a rule bars is an answer, and throws nothing.
  *
- * A guard stays on the thread that opened it, and one call at a time is made with it. Guards of
- * different threads share nothing. No call may come from a signal handler, nor from a child that a
- * process with threads forked.
+ * A guard may move to another thread, and one call at a time is made with it: threads that share one
+ * take turns, by a mutex. Guards of different threads share nothing. No call may come from a signal
+ * handler, nor from a child that a process with threads forked.
  */
 #ifndef FAULTYARD_HPP
 #define FAULTYARD_HPP
@@ -297,7 +297,7 @@ using Processes = std::bitset<std::size_t{64} * FY_SET_WORDS>;
 /* A guard. It is moved and never copied. After `close`, and after it was moved from, each call
  * throws Closed.
  *
- * No call is const: each takes the cluster out of its handle, and no two may be made at once. */
+ * The const calls write nothing of it, so they may be made at once while no other call is. */
 class Guard {
 public:
     /* Opens a guard of a cluster in which nothing happened yet, by the text of a cluster file.
@@ -388,10 +388,13 @@ public:
 
     /* Whether a process is destroyed: struck by a kind that empties its disk, and not healed since.
      * Throws Closed. */
-    bool is_destroyed(std::uint32_t process) { return fy_is_destroyed(opened(), process) != 0; }
+    bool is_destroyed(std::uint32_t process) const
+    {
+        return fy_is_destroyed(opened(), process) != 0;
+    }
 
     /* The processes that aren't gone for good, emptied or not. Throws Closed. */
-    Processes left()
+    Processes left() const
     {
         std::uint64_t words[FY_SET_WORDS] = {};
         fy_left(opened(), words, FY_SET_WORDS);
@@ -402,13 +405,13 @@ public:
     }
 
     /* How many entries the journal has. Throws Closed. */
-    std::size_t journal_len() { return fy_journal_len(opened()); }
+    std::size_t journal_len() const { return fy_journal_len(opened()); }
 
     /* The line of the entry at a place of the journal, from 0; it ends with a line feed.
      * Throws in order Closed, NoEntry, NoMemory. */
-    std::string entry(std::size_t at)
+    std::string entry(std::size_t at) const
     {
-        fy_guard *const guard = opened();
+        const fy_guard *const guard = opened();
         std::string line = room_for(USUAL_LINE);
         std::size_t told = 0;
         std::uint32_t status = fy_audit(guard, at, bytes_of(line), line.size(), &told);
@@ -423,7 +426,7 @@ public:
 
     /* The audit that `faultyard check` reads: its header and the line of each entry.
      * Throws Closed, NoMemory. */
-    std::string audit()
+    std::string audit() const
     {
         const std::size_t count = journal_len();
         try {
@@ -442,9 +445,20 @@ private:
 
     fy_guard *opened()
     {
+        require_open();
+        return &guard_;
+    }
+
+    const fy_guard *opened() const
+    {
+        require_open();
+        return &guard_;
+    }
+
+    void require_open() const
+    {
         if (!is_open())
             throw Error(Status::Closed);
-        return &guard_;
     }
 
     static void require(std::uint32_t status, std::uint32_t refusal = FY_NOT_REFUSED)

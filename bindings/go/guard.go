@@ -22,84 +22,43 @@ const Header = C.FY_AUDIT_HEADER
 const usualLine = 512
 
 // Guard is a guard. Goroutines may share it: a mutex puts their calls in order.
-//
-// The library's guard stays on the thread that opened it. So a goroutine of its own, locked to its
-// thread, makes each call.
 type Guard struct {
-	lock  sync.Mutex
-	owner *owner // nil once it is closed
-}
-
-// owner is the goroutine that makes the calls of a guard, one at a time.
-type owner struct {
-	calls chan func(*C.fy_guard)
-	done  chan struct{}
+	lock    sync.Mutex
+	library C.fy_guard // its pointer is nil once it is closed
 }
 
 // Open opens a guard of a cluster in which nothing happened yet, by the text of a cluster file.
 //
 // Its error is ErrNoMemory, or the first of ErrConfigTooLong to ErrConfigUnmet that holds.
 func Open(config []byte) (*Guard, error) {
-	its := &owner{make(chan func(*C.fy_guard)), make(chan struct{})}
-	opened := make(chan error)
-	go its.serve(config, opened)
-	if err := <-opened; err != nil {
+	guard := new(Guard)
+	text, length := bytesOf(config)
+	if err := errorOf(C.fy_open(text, length, &guard.library)); err != nil {
 		return nil, err
 	}
-	guard := &Guard{owner: its}
 	// A guard that nobody closed and nobody can reach is freed too.
-	runtime.SetFinalizer(guard, func(guard *Guard) { guard.owner.end() })
+	runtime.SetFinalizer(guard, func(guard *Guard) { C.fy_close(guard.library) })
 	return guard, nil
 }
 
-// serve opens the library's guard, makes each call, and frees the guard when there are no more.
-func (its *owner) serve(config []byte, opened chan<- error) {
-	runtime.LockOSThread()
-	defer runtime.UnlockOSThread()
-	defer close(its.done)
-	var guard C.fy_guard
-	text, length := bytesOf(config)
-	err := errorOf(C.fy_open(text, length, &guard))
-	opened <- err
-	if err != nil {
-		return
-	}
-	for call := range its.calls {
-		call(&guard)
-		its.done <- struct{}{}
-	}
-	C.fy_close(guard)
-}
-
-// end has the owner free its guard, and waits until it has.
-func (its *owner) end() {
-	close(its.calls)
-	<-its.done
-}
-
-// do makes a call on the thread of the guard.
+// do makes a call of the library in its turn. Threads may take turns with a guard.
 func (guard *Guard) do(call func(*C.fy_guard)) error {
 	guard.lock.Lock()
 	defer guard.lock.Unlock()
-	if guard.owner == nil {
+	if guard.library.at == nil {
 		return ErrClosed
 	}
-	guard.owner.calls <- call
-	<-guard.owner.done
+	call(&guard.library)
 	return nil
 }
 
 // Close frees what the guard holds. Each later call answers ErrClosed, as does a second Close.
 func (guard *Guard) Close() error {
-	guard.lock.Lock()
-	defer guard.lock.Unlock()
-	if guard.owner == nil {
-		return ErrClosed
-	}
-	runtime.SetFinalizer(guard, nil)
-	guard.owner.end()
-	guard.owner = nil
-	return nil
+	return guard.do(func(its *C.fy_guard) {
+		runtime.SetFinalizer(guard, nil)
+		C.fy_close(*its)
+		its.at = nil
+	})
 }
 
 // Order is an order to kill the processes whose Key has the Value.

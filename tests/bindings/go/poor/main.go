@@ -1,12 +1,12 @@
 // Command poor asks the library of poor_library/poor.c, and tells the error of each call. That
-// library aborts where a call isn't made on the thread that opened the guard.
+// library aborts where two calls are made at once.
 package main
 
 import (
 	"errors"
 	"fmt"
 	"log"
-	"runtime"
+	"sync"
 
 	"faultyard"
 )
@@ -32,24 +32,16 @@ func main() {
 	fmt.Println("IsDestroyed:", err)
 	_, err = guard.Left()
 	fmt.Println("Left:", err)
+	var group sync.WaitGroup
 	for i := 0; i < 1000; i++ {
-		onItsOwnThread(func() {
+		group.Add(1)
+		go func() {
+			defer group.Done()
 			if err := guard.Up(0, 0); !errors.Is(err, faultyard.ErrNoMemory) {
 				log.Fatal(err)
 			}
-		})
+		}()
 	}
+	group.Wait()
 	fmt.Println("Close:", guard.Close())
-}
-
-// onItsOwnThread makes a call on a thread that makes no other, and waits for it.
-func onItsOwnThread(call func()) {
-	done := make(chan struct{})
-	go func() {
-		// The thread ends with the goroutine.
-		runtime.LockOSThread()
-		call()
-		close(done)
-	}()
-	<-done
 }
