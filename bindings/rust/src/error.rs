@@ -153,3 +153,43 @@ impl From<Error> for io::Error {
         io::Error::new(kind, error)
     }
 }
+
+#[cfg(test)]
+mod tests {
+    use super::*;
+
+    /// Those that no call meets: tests/calls has the others.
+    #[test]
+    fn statuses_that_no_call_meets() {
+        assert_eq!(done(5), Err(Error::Unwritten));
+        let unknown = Err(Error::Protocol("a status"));
+        for status in [4, 7, 19, u32::MAX] {
+            assert_eq!(done(status), unknown);
+        }
+        assert_eq!(done(3), unknown);
+        assert_eq!(accepted(3, 26), Err(Error::Protocol("a refusal")));
+    }
+
+    #[test]
+    fn each_refusal_by_its_number() {
+        for (at, refusal) in (1..).zip(Refusal::ALL) {
+            assert_eq!(accepted(3, at), Err(Error::Refused(*refusal)));
+        }
+        assert_eq!(accepted(0, 0), Ok(()));
+        assert_eq!(accepted(2, 0), Err(Error::JournalFull));
+    }
+
+    #[test]
+    fn an_error_says_what_is_wrong() {
+        let refused = Error::Refused(Refusal::StillNeeds);
+        assert_eq!(refused.to_string(), "the act is refused: StillNeeds");
+        let config = Error::Config(ConfigFault::Policy);
+        assert_eq!(
+            config.to_string(),
+            "the text is no cluster file: a text is no policy"
+        );
+        let io = io::Error::from(Error::NoMemory);
+        assert_eq!(io.kind(), io::ErrorKind::OutOfMemory);
+        assert_eq!(io::Error::from(refused).kind(), io::ErrorKind::Other);
+    }
+}

@@ -113,3 +113,32 @@ impl fmt::Display for Rule {
         }
     }
 }
+
+#[cfg(test)]
+mod tests {
+    use super::*;
+
+    #[test]
+    fn numbers_that_no_library_of_this_version_answers() {
+        let unknown = |what| Err(Error::Protocol(what));
+        assert_eq!(Verdict::of(5, 0, 0), unknown("a kind"));
+        assert_eq!(Verdict::of(0, 6, 0), unknown("a rule"));
+        assert_eq!(Verdict::of(0, 4, 1 << 32), unknown("a number"));
+    }
+
+    #[test]
+    fn each_rule_by_its_number() {
+        let rules = [
+            Rule::NoTarget,
+            Rule::NoGrant { process: 7 },
+            Rule::Protected { process: 7 },
+            Rule::TooManyDestroyed { policy: 7 },
+            Rule::TooFewLeft { policy: 7 },
+        ];
+        for (number, rule) in (1..).zip(rules) {
+            let named = u64::from(rule.named().unwrap_or(0));
+            let verdict = Verdict::of(0, number, named).unwrap();
+            assert_eq!((verdict.struck, verdict.rule), (None, Some(rule)));
+        }
+    }
+}
