@@ -40,6 +40,7 @@ WANTED = [
     "share/doc/faultyard/examples/c6.toml",
     "share/doc/faultyard/examples/redis/hooks",
     "share/faultyard/bindings/python/pyproject.toml",
+    "share/faultyard/bindings/rust/Cargo.toml",
     "share/man/man1/faultyard.1",
     *(f"share/man/man1/faultyard-{it}.1" for it in COMMANDS + TOOLS),
 ]
@@ -291,6 +292,29 @@ def archive_is_found_by_pkg_config() -> None:
     assert (Path(library.removeprefix("-L")) / "libfaultyard.so").is_file(), library
 
 
+def archive_builds_the_python_package() -> None:
+    need("pip3")
+    package, site = unpacked() / "share/faultyard/bindings/python", room() / "site"
+    words = "--quiet --isolated --no-index --disable-pip-version-check --root-user-action ignore"
+    said("pip3", "install", *words.split(), "--target", site, package)
+    env = environment(PYTHONPATH=str(site))
+    said("python3", "-c", "import faultyard; faultyard.Guard", env=env, cwd=room())
+
+
+def archive_builds_the_rust_crate() -> None:
+    """And all its tests pass, on the library that pkg-config finds."""
+    need("cargo", "rustc", "pkg-config")
+    env = environment(
+        PKG_CONFIG_PATH=str(unpacked() / "lib/pkgconfig"), CARGO_TARGET_DIR=str(room() / "rust")
+    )
+    env.pop("FAULTYARD_LIB_DIR", None)
+    crate = unpacked() / "share/faultyard/bindings/rust"
+    before = files_below(crate)
+    told = said("cargo", "test", "--offline", "--locked", cwd=crate, env=env)
+    assert re.search(r"^test result: ok\. [1-9]\d* passed; 0 failed", told, re.MULTILINE), told
+    assert files_below(crate) == before, "the build wrote into the crate"
+
+
 def installed_and_uninstalled() -> None:
     root = room() / "installed"
     said(
@@ -351,6 +375,8 @@ CHECKS = [
     archive_runs_where_it_lies,
     archive_sweeps,
     archive_is_found_by_pkg_config,
+    archive_builds_the_python_package,
+    archive_builds_the_rust_crate,
     installed_and_uninstalled,
     nothing_without_its_files,
 ]

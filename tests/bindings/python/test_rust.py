@@ -119,16 +119,19 @@ class Table(unittest.TestCase):
 
 
 class Cargo(common.Folder, unittest.TestCase):
-    """Cargo, without a network, and with a target folder of its own for each class of tests."""
+    """Cargo, without a network, and with one target folder for all tests."""
+
+    target = None
 
     @classmethod
     def setUpClass(cls):
         if common.LIBRARY is None:
             raise unittest.SkipTest(common.WITHOUT)
         common.need("the binding for Rust", "cargo", "rustc")
-        made = tempfile.TemporaryDirectory(prefix="bindings-rust-")
-        cls.addClassCleanup(made.cleanup)
-        cls.target = Path(made.name)
+        if Cargo.target is None:
+            made = tempfile.TemporaryDirectory(prefix="bindings-rust-")
+            unittest.addModuleCleanup(made.cleanup)
+            Cargo.target = Path(made.name)
 
     @classmethod
     def cargo(cls, *words, at=CRATE, status=0, **more):
@@ -180,6 +183,26 @@ class Crate(Cargo):
             for folder in (empty, None):
                 ran = self.cargo("check", status=101, FAULTYARD_LIB_DIR=folder, PKG_CONFIG="false")
                 self.assertIn("set FAULTYARD_LIB_DIR to the folder of libfaultyard.a", ran.stderr)
+
+
+class Page(Cargo):
+    def test_a_project_of_its_reader_prints_what_the_page_says(self):
+        page = (CRATE / "README.md").read_text()
+        example = re.search(r"^```rust,no_run\n(.*?)^```$", page, re.M | re.S)[1]
+        shown = r"^```text\n\$ FAULTYARD_LIB_DIR=bin cargo run --quiet\n(.*?)^```$"
+        wanted = re.search(shown, page, re.M | re.S)[1]
+        depends = re.search(r"^```toml\n(\[dependencies\]\nfaultyard = .*)\n```$", page, re.M)[1]
+        manifest = '[package]\nname = "guarded"\nversion = "0.0.0"\nedition = "2021"\n\n' + depends
+        manifest = manifest.replace("/usr/share/faultyard/bindings/rust", str(CRATE))
+        guide = (common.ROOT / "docs/GUARD.md").read_text()
+        two = re.search(r"^```toml\n(.*?)^```$", guide, re.M | re.S)[1]
+        Path(self.folder, "src").mkdir()
+        for name, text in (("Cargo.toml", manifest), ("src/main.rs", example), ("two.toml", two)):
+            common.written(self.folder, name, text)
+        self.assertIn(str(CRATE), manifest)
+        subprocess.run(["cargo", "generate-lockfile", "--offline"], cwd=self.folder, check=True)
+        ran = self.cargo("run", "--quiet", at=self.folder)
+        self.assertEqual((ran.stdout, ran.stderr), (wanted, ""))
 
 
 class Played(Cargo):
