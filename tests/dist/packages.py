@@ -114,7 +114,7 @@ def copied(name: str) -> Path:
             shutil.copytree(source, target, symlinks=True)
         else:
             shutil.copy(source, target)
-    (copy / ".gitignore").write_text("bin/\n")
+    (copy / ".gitignore").write_text("bin/\ntarget/\n")
     said("git", "init", "--quiet", cwd=copy)
     said("git", "add", "--all", cwd=copy)
     return copy

@@ -127,55 +127,32 @@ fn run(options: &Options) -> Vec<Outcome> {
 
 fn print_summary(options: &Options, outcomes: &[Outcome]) {
     let sum = |of: fn(&Outcome) -> u64| outcomes.iter().map(of).sum::<u64>();
-    let seeds = |verdict| {
-        let those = outcomes.iter().filter(move |it| it.verdict == verdict);
-        those.map(|it| it.seed).collect::<Vec<u64>>()
+    let guarded = match options.is_guarded {
+        true => "guarded",
+        false => "unguarded",
     };
-    let (lost, no_leader) = (seeds(Verdict::Lost), seeds(Verdict::NoLeader));
-    let guarded = if options.is_guarded {
-        "guarded"
-    } else {
-        "unguarded"
-    };
-    println!(
-        "{guarded}, bug {:?}, {} seeds from {}",
-        options.bug, options.seeds, options.first
-    );
-    println!(
-        "lost acknowledged writes: {} seeds{}",
-        lost.len(),
-        first_of(&lost)
-    );
-    println!(
-        "without a leader: {} seeds{}",
-        no_leader.len(),
-        first_of(&no_leader)
-    );
-    println!(
-        "{} writes acknowledged, {} lost",
-        sum(|it| it.acknowledged as u64),
-        sum(|it| it.lost as u64)
-    );
-    println!(
-        "{} kills ordered, {} lessened",
-        sum(|it| it.orders),
-        sum(|it| it.lessened)
-    );
-    println!(
-        "{} nodes rejoined, {} leaders elected",
-        sum(|it| it.rejoined),
-        sum(|it| it.elected)
-    );
-    let trace = outcomes
-        .iter()
-        .fold(0, |all: u64, it| all.rotate_left(5) ^ it.trace);
-    println!("{} events, trace {trace:016x}", sum(|it| it.events));
+    let (bug, seeds, first) = (options.bug, options.seeds, options.first);
+    println!("{guarded}, bug {bug:?}, {seeds} seeds from {first}");
+    print_seeds("lost acknowledged writes", Verdict::Lost, outcomes);
+    print_seeds("without a leader", Verdict::NoLeader, outcomes);
+    let (acknowledged, lost) = (sum(|it| it.acknowledged), sum(|it| it.lost));
+    println!("{acknowledged} writes acknowledged, {lost} lost");
+    let (orders, lessened) = (sum(|it| it.orders), sum(|it| it.lessened));
+    println!("{orders} kills ordered, {lessened} lessened");
+    let (rejoined, elected) = (sum(|it| it.rejoined), sum(|it| it.elected));
+    println!("{rejoined} nodes rejoined, {elected} leaders elected");
+    let events = sum(|it| it.events);
+    let traces = outcomes.iter().map(|it| it.trace);
+    let trace = traces.fold(0, |all: u64, trace| all.rotate_left(5) ^ trace);
+    println!("{events} events, trace {trace:016x}");
 }
 
-/// The first few of some seeds, behind a blank.
-fn first_of(seeds: &[u64]) -> String {
+/// How many seeds ended so, and the first few of them.
+fn print_seeds(name: &str, verdict: Verdict, outcomes: &[Outcome]) {
+    let those = outcomes.iter().filter(|it| it.verdict == verdict);
+    let seeds: Vec<u64> = those.map(|it| it.seed).collect();
     match seeds.len() {
-        0 => String::new(),
-        count => format!(" {:?}", &seeds[..count.min(8)]),
+        0 => println!("{name}: 0 seeds"),
+        count => println!("{name}: {count} seeds {:?}", &seeds[..count.min(8)]),
     }
 }

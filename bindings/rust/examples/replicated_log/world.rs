@@ -10,15 +10,15 @@ const CLUSTER: &str = include_str!("cluster.toml");
 /// Actors of the cluster file.
 const STORAGE: u32 = 0;
 const FAULT: u32 = 1;
-/// The zones of the cluster file. A target is named by text, and its processes by number: so this
-/// table has to agree with that file.
-const ZONES: [(&str, &[usize]); 3] = [("z0", &[0, 1]), ("z1", &[2, 3]), ("z2", &[4])];
 
 /// Times are in microseconds.
 const MS: u64 = 1000;
 const LAST_KILL: u64 = 10_000 * MS;
 /// By then the store has to have recovered.
 const END: u64 = 14_000 * MS;
+
+const FNV_BASIS: u64 = 0xCBF2_9CE4_8422_2325;
+const FNV_PRIME: u64 = 0x100_0000_01B3;
 
 enum Event {
     Tick {
@@ -44,10 +44,17 @@ enum Event {
     Client,
 }
 
+/// Where a process lies, by the cluster file.
+#[derive(Clone, Copy)]
+struct Place {
+    name: &'static str,
+    zone: &'static str,
+}
+
 /// A kill that was drawn.
 struct Order {
     key: Key,
-    value: String,
+    value: &'static str,
     targets: Vec<usize>,
     kind: Kind,
     tear: u64,
@@ -55,8 +62,9 @@ struct Order {
     down: u64,
 }
 
-#[derive(Clone, Copy, Debug, PartialEq, Eq)]
+#[derive(Clone, Copy, Debug, Default, PartialEq, Eq)]
 pub enum Verdict {
+    #[default]
     Sound,
     /// An acknowledged write isn't served, or on no disk where nobody leads.
     Lost,
@@ -65,11 +73,12 @@ pub enum Verdict {
 }
 
 /// What came of a seed.
+#[derive(Default)]
 pub struct Outcome {
     pub seed: u64,
     pub verdict: Verdict,
-    pub acknowledged: usize,
-    pub lost: usize,
+    pub acknowledged: u64,
+    pub lost: u64,
     pub orders: u64,
     /// How many orders struck with less than was ordered, or not at all.
     pub lessened: u64,
@@ -89,6 +98,7 @@ pub struct World {
     weather: Random,
     faults: Random,
     nodes: Vec<Node>,
+    places: Vec<Place>,
     /// How many disks there were beside the first five.
     disks: u64,
     /// Whether each write of the client is acknowledged.
@@ -108,11 +118,16 @@ impl World {
             weather: Random::new(seed),
             faults: Random::new(!seed),
             nodes: (0..NODES).map(|me| Node::new(me, bug)).collect(),
+            places: places(),
             disks: 0,
             writes: Vec::new(),
             guard,
             bug,
-            outcome: Outcome::of(seed),
+            outcome: Outcome {
+                seed,
+                trace: FNV_BASIS,
+                ..Outcome::default()
+            },
         };
         (0..NODES).for_each(|node| world.start(node));
         world.after(200 * MS, Event::Client);
@@ -144,9 +159,9 @@ impl World {
         self.queue.insert((self.now + delay, self.scheduled), event);
     }
 
-    /// Takes a number into the hash (FNV-1a, by words).
+    /// Takes a number into the hash: FNV-1a, by words.
     fn note(&mut self, word: u64) {
-        self.outcome.trace = (self.outcome.trace ^ word).wrapping_mul(0x100_0000_01B3);
+        self.outcome.trace = (self.outcome.trace ^ word).wrapping_mul(FNV_PRIME);
     }
 
     fn happen(&mut self, event: Event) {
@@ -296,11 +311,12 @@ impl World {
 
     fn draw_order(&mut self) -> Order {
         let faults = &mut self.faults;
-        let (zone, nodes) = ZONES[faults.between(0, 3) as usize];
         let node = faults.between(0, NODES as u64) as usize;
+        let Place { name, zone } = self.places[node];
+        let is_neighbor = |it: &usize| self.places[*it].zone == zone;
         let (key, value, targets) = match faults.between(0, 100) {
-            0..=29 => (Key::Zone, zone.to_owned(), nodes.to_vec()),
-            _ => (Key::Process, format!("p{node}"), vec![node]),
+            0..=29 => (Key::Zone, zone, (0..NODES).filter(is_neighbor).collect()),
+            _ => (Key::Process, name, vec![node]),
         };
         let kind = match faults.between(0, 100) {
             0..=14 => Kind::RebootProcess,
@@ -328,8 +344,8 @@ impl World {
             None => Some(order.kind),
             Some(guard) => {
                 let floor = Kind::RebootProcess;
-                let value = &order.value;
-                let answer = guard.kill(FAULT, order.key, value, order.kind, floor, order.tear);
+                let answer =
+                    guard.kill(FAULT, order.key, order.value, order.kind, floor, order.tear);
                 answer.expect("a verdict").struck
             }
         };
@@ -395,8 +411,8 @@ impl World {
                 .for_each(|node| keep(&node.disk.log[..node.disk.synced])),
         }
         let writes = || self.writes.iter().zip(&is_kept);
-        self.outcome.acknowledged = writes().filter(|(acknowledged, _)| **acknowledged).count();
-        self.outcome.lost = writes().filter(|it| matches!(it, (true, false))).count();
+        self.outcome.acknowledged = writes().filter(|it| *it.0).count() as u64;
+        self.outcome.lost = writes().filter(|it| *it.0 && !it.1).count() as u64;
         self.outcome.verdict = match (self.outcome.lost, leader) {
             (0, Some(_)) => Verdict::Sound,
             (0, None) => Verdict::NoLeader,
@@ -405,20 +421,16 @@ impl World {
     }
 }
 
-impl Outcome {
-    fn of(seed: u64) -> Outcome {
-        Outcome {
-            seed,
-            verdict: Verdict::Sound,
-            acknowledged: 0,
-            lost: 0,
-            orders: 0,
-            lessened: 0,
-            rejoined: 0,
-            elected: 0,
-            events: 0,
-            trace: 0xCBF2_9CE4_8422_2325,
-            audit: None,
-        }
-    }
+/// The places of all processes, read from the cluster file: the guard names a target by text, and
+/// the simulator strikes nodes by number, so both have to mean the same.
+fn places() -> Vec<Place> {
+    let lines = CLUSTER
+        .lines()
+        .map(|line| line.split('"').collect::<Vec<&str>>());
+    let processes = lines.filter(|words| words[0].trim() == "{processid =");
+    let places = processes.map(|words| Place {
+        name: words[1],
+        zone: words[5],
+    });
+    places.collect()
 }
