@@ -155,10 +155,12 @@ fn a_process_without_its_record_is_not_healed() {
     );
     assert_eq!(guard.up(0, 0), Ok(()));
     assert_eq!(guard.heal(0, 0), refused(Refusal::StillNeeds));
-    make(
-        &mut guard,
-        &[r#"{"by":0,"act":{"copy":{"from":2,"record":0,"to":0}}}"#],
-    );
+    let copied = [
+        r#"{"by":0,"act":{"copy":{"from":2,"record":0,"to":0}}}"#,
+        r#"{"by":0,"act":{"deliver":{"message":4}}}"#,
+        r#"{"by":0,"act":{"sync":{"process":0}}}"#,
+    ];
+    make(&mut guard, &copied);
     assert_eq!(guard.heal(0, 0), Ok(()));
 }
 
