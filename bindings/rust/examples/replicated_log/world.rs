@@ -10,6 +10,8 @@ const CLUSTER: &str = include_str!("cluster.toml");
 /// Actors of the cluster file.
 const STORAGE: u32 = 0;
 const FAULT: u32 = 1;
+/// That of all processes.
+const DATA_CENTER: &str = "d0";
 
 /// Times are in microseconds.
 const MS: u64 = 1000;
@@ -289,7 +291,7 @@ impl World {
         if !it.is_syncing {
             it.is_syncing = true;
             let (life, cuts, upto) = (it.life, it.cuts, it.disk.log.len());
-            let delay = self.weather.between(200, 5 * MS);
+            let delay = self.weather.between(200, 20 * MS);
             self.after(
                 delay,
                 Event::Synced {
@@ -315,7 +317,8 @@ impl World {
         let Place { name, zone } = self.places[node];
         let is_neighbor = |it: &usize| self.places[*it].zone == zone;
         let (key, value, targets) = match faults.between(0, 100) {
-            0..=29 => (Key::Zone, zone, (0..NODES).filter(is_neighbor).collect()),
+            0..=4 => (Key::DataCenter, DATA_CENTER, (0..NODES).collect()),
+            5..=34 => (Key::Zone, zone, (0..NODES).filter(is_neighbor).collect()),
             _ => (Key::Process, name, vec![node]),
         };
         let kind = match faults.between(0, 100) {
@@ -324,7 +327,7 @@ impl World {
             55..=95 => Kind::RebootAndDelete,
             _ => Kind::KillInstantly,
         };
-        let tear = faults.word() | faults.word();
+        let tear = faults.word();
         let down = faults.between(30 * MS, 300 * MS);
         Order {
             key,
