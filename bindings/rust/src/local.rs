@@ -171,7 +171,9 @@ impl LocalGuard {
     ///
     /// [`Error::NoEntry`] or [`Error::NoMemory`].
     pub fn entry(&self, at: usize) -> Result<String, Error> {
-        text(self.lines(at..at.saturating_add(1))?)
+        let mut bytes = Vec::new();
+        self.append_entry(at, &mut bytes)?;
+        text(bytes)
     }
 
     /// The lines of all entries so far, in their order.

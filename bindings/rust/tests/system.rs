@@ -117,9 +117,8 @@ fn until_it_asks<T>(mut act: impl FnMut() -> Result<T, Error>) -> Error {
 
 macro_rules! no_memory {
     ($guard:ident) => {
-        let opened = without_memory(|| $guard::open(CONFIG));
-        assert_eq!(opened.err(), Some(Error::NoMemory));
         let mut guard = $guard::open(CONFIG).unwrap();
+        assert_eq!(guard.up(0, 0), Err(Error::Refused(Refusal::IsUp)));
         let by_number = |guard: &mut $guard, number: usize| match number {
             0 => guard.up(0, 0),
             1 => guard.heal(0, 0),
@@ -160,9 +159,10 @@ fn threads() -> usize {
         .count()
 }
 
-fn kilobytes() -> u64 {
+/// A line of /proc/self/status.
+fn kilobytes(name: &str) -> u64 {
     let status = fs::read_to_string("/proc/self/status").unwrap();
-    let line = status.lines().find_map(|line| line.strip_prefix("VmRSS:"));
+    let line = status.lines().find_map(|line| line.strip_prefix(name));
     let number = line.unwrap().trim().trim_end_matches(" kB");
     number.parse().unwrap()
 }
@@ -179,8 +179,9 @@ fn no_thread() {
     let mut limits = [0; 2];
     // SAFETY: both calls are given a local of two numbers.
     assert_eq!(unsafe { getrlimit(ADDRESS_SPACE, &mut limits) }, 0);
-    let none = [1, limits[1]];
-    assert_eq!(unsafe { setrlimit(ADDRESS_SPACE, &none) }, 0);
+    // Room for all that is asked for, but for the stack of a thread, which has 2 MiB.
+    let most = [1024 * (kilobytes("VmSize:") + 1024), limits[1]];
+    assert_eq!(unsafe { setrlimit(ADDRESS_SPACE, &most) }, 0);
     let opened = Guard::open(CONFIG);
     assert_eq!(unsafe { setrlimit(ADDRESS_SPACE, &limits) }, 0);
     assert_eq!(
@@ -192,9 +193,9 @@ fn no_thread() {
 fn memory_is_given_back() {
     let round = || drop(LocalGuard::open(CONFIG).unwrap());
     (0..200).for_each(|_| round());
-    let before = kilobytes();
+    let before = kilobytes("VmRSS:");
     (0..2000).for_each(|_| round());
-    let more = kilobytes().saturating_sub(before);
+    let more = kilobytes("VmRSS:").saturating_sub(before);
     assert!(more < 4096, "2,000 guards leave {more} KiB");
 }
 
@@ -204,6 +205,9 @@ fn what_the_system_refuses() {
     no_thread();
     threads_end();
     memory_is_given_back();
+    // A `Guard` isn't opened so: std asks `malloc` for what it keeps of a thread.
+    let opened = without_memory(|| LocalGuard::open(CONFIG));
+    assert_eq!(opened.err(), Some(Error::NoMemory));
     no_memory!(LocalGuard);
     no_memory!(Guard);
 }
