@@ -134,7 +134,7 @@ class Cargo(common.Folder, unittest.TestCase):
             Cargo.target = Path(made.name)
 
     @classmethod
-    def cargo(cls, *words, at=CRATE, status=0, **more):
+    def cargo(cls, *words, at=CRATE, status=0, locked=True, **more):
         environment = {
             **os.environ,
             "CARGO_TARGET_DIR": str(cls.target),
@@ -142,7 +142,7 @@ class Cargo(common.Folder, unittest.TestCase):
             "FAULTYARD_LIB_DIR": str(Path(common.LIBRARY).parent),
             **more,
         }
-        flags = ["--offline", "--locked"]
+        flags = ["--offline", "--locked"] if locked else ["--offline"]
         ran = subprocess.run(
             ["cargo", words[0], *flags, *words[1:]],
             cwd=at,
@@ -200,7 +200,7 @@ class Page(Cargo):
         for name, text in (("Cargo.toml", manifest), ("src/main.rs", example), ("two.toml", two)):
             common.written(self.folder, name, text)
         self.assertIn(str(CRATE), manifest)
-        subprocess.run(["cargo", "generate-lockfile", "--offline"], cwd=self.folder, check=True)
+        self.cargo("generate-lockfile", at=self.folder, locked=False)
         ran = self.cargo("run", "--quiet", at=self.folder)
         self.assertEqual((ran.stdout, ran.stderr), (wanted, ""))
 
@@ -251,7 +251,8 @@ class Played(Cargo):
     def test_valgrind_finds_nothing(self):
         common.need("valgrind on the binding for Rust", "valgrind")
         under = ["valgrind", "--quiet", "--error-exitcode=9", "--leak-check=full"]
-        under += ["--errors-for-leak-kinds=definite"]
+        # What std keeps of a thread that runs is told as possibly lost.
+        under += ["--show-leak-kinds=definite", "--errors-for-leak-kinds=definite"]
         config = common.six_with(self.folder, 10_000)
         acts = list(common.random_acts(65, 500))
         for mode in ("local", "moved"):
