@@ -214,7 +214,7 @@ impl LocalGuard {
         Ok(bytes)
     }
 
-    /// Puts the line of an entry behind what is there.
+    /// Puts the line of an entry behind what is there, which after an error is of no use.
     fn append_entry(&self, at: usize, bytes: &mut Vec<u8>) -> Result<(), Error> {
         let front = bytes.len();
         let mut told = USUAL_LINE;
@@ -228,9 +228,9 @@ impl LocalGuard {
             if status == sys::SHORT && front + told > bytes.len() {
                 continue;
             }
-            let read = done(status);
-            bytes.truncate(if read.is_ok() { front + told } else { front });
-            return read;
+            done(status)?;
+            bytes.truncate(front + told);
+            return Ok(());
         }
     }
 }

@@ -8,6 +8,7 @@ use faultyard::{Error, Guard, Key, Kind, LocalGuard, Refusal};
 use std::alloc::{GlobalAlloc, Layout};
 use std::ffi::c_void;
 use std::sync::atomic::{AtomicBool, AtomicUsize, Ordering::SeqCst};
+use std::time::{Duration, Instant};
 use std::{fs, io, ptr};
 
 const CONFIG: &str = include_str!("cluster.toml");
@@ -15,10 +16,19 @@ const LINE: &str = r#"{"by":0,"act":{"up":{"process":0}}}"#;
 /// `RLIMIT_AS` of Linux.
 const ADDRESS_SPACE: i32 = 9;
 
+/// `struct mallinfo2` of glibc.
+#[repr(C)]
+struct MemoryCounts([usize; 10]);
+
+/// `uordblks` and `hblkhd` among them.
+const HEAP_IN_USE: usize = 7;
+const MAPPED_IN_USE: usize = 4;
+
 extern "C" {
     fn posix_memalign(at: *mut *mut c_void, align: usize, size: usize) -> i32;
     fn malloc_usable_size(at: *mut c_void) -> usize;
     fn free(at: *mut c_void);
+    fn mallinfo2() -> MemoryCounts;
     fn getrlimit(resource: i32, limits: *mut [u64; 2]) -> i32;
     fn setrlimit(resource: i32, limits: *const [u64; 2]) -> i32;
 }
@@ -159,20 +169,27 @@ fn threads() -> usize {
         .count()
 }
 
-/// A line of /proc/self/status.
-fn kilobytes(name: &str) -> u64 {
-    let status = fs::read_to_string("/proc/self/status").unwrap();
-    let line = status.lines().find_map(|line| line.strip_prefix(name));
-    let number = line.unwrap().trim().trim_end_matches(" kB");
-    number.parse().unwrap()
-}
-
 fn threads_end() {
     let guards: Vec<Guard> = (0..3).map(|_| Guard::open(CONFIG).unwrap()).collect();
     assert_eq!(threads(), 3);
     drop(guards);
     assert!(Guard::open("process = [").is_err());
-    assert_eq!(threads(), 0);
+    // A thread is seen for a moment after it was waited for.
+    let began = Instant::now();
+    while threads() > 0 {
+        assert!(
+            began.elapsed() < Duration::from_secs(60),
+            "a thread goes on"
+        );
+    }
+}
+
+/// How much of the address space this process has, in KiB.
+fn address_space() -> u64 {
+    let status = fs::read_to_string("/proc/self/status").unwrap();
+    let line = status.lines().find_map(|line| line.strip_prefix("VmSize:"));
+    let number = line.unwrap().trim().trim_end_matches(" kB");
+    number.parse().unwrap()
 }
 
 fn no_thread() {
@@ -180,7 +197,7 @@ fn no_thread() {
     // SAFETY: both calls are given a local of two numbers.
     assert_eq!(unsafe { getrlimit(ADDRESS_SPACE, &mut limits) }, 0);
     // Room for all that is asked for, but for the stack of a thread, which has 2 MiB.
-    let most = [1024 * (kilobytes("VmSize:") + 1024), limits[1]];
+    let most = [1024 * (address_space() + 1024), limits[1]];
     assert_eq!(unsafe { setrlimit(ADDRESS_SPACE, &most) }, 0);
     let opened = Guard::open(CONFIG);
     assert_eq!(unsafe { setrlimit(ADDRESS_SPACE, &limits) }, 0);
@@ -190,13 +207,28 @@ fn no_thread() {
     );
 }
 
-fn memory_is_given_back() {
-    let round = || drop(LocalGuard::open(CONFIG).unwrap());
-    (0..200).for_each(|_| round());
-    let before = kilobytes("VmRSS:");
-    (0..2000).for_each(|_| round());
-    let more = kilobytes("VmRSS:").saturating_sub(before);
-    assert!(more < 4096, "2,000 guards leave {more} KiB");
+/// How many bytes of all that was asked for aren't given back.
+fn in_use() -> usize {
+    // SAFETY: it reads what glibc counts.
+    let MemoryCounts(counts) = unsafe { mallinfo2() };
+    counts[HEAP_IN_USE] + counts[MAPPED_IN_USE]
+}
+
+fn memory_is_given_back<G>(open: fn() -> G, up: fn(&mut G) -> Result<(), Error>) {
+    let round = || {
+        let mut guard = open();
+        for _ in 0..2000 {
+            assert!(up(&mut guard).is_err());
+        }
+    };
+    round();
+    let before = in_use();
+    (0..5).for_each(|_| {
+        round();
+        // A dropped `Guard` has waited for its thread, which gave back the journal.
+        let more = in_use().saturating_sub(before);
+        assert!(more < 100_000, "{more} bytes are left");
+    });
 }
 
 #[test]
@@ -204,7 +236,8 @@ fn what_the_system_refuses() {
     // First, while there is no stack of a thread that ended.
     no_thread();
     threads_end();
-    memory_is_given_back();
+    memory_is_given_back(|| LocalGuard::open(CONFIG).unwrap(), |it| it.up(0, 0));
+    memory_is_given_back(|| Guard::open(CONFIG).unwrap(), |it| it.up(0, 0));
     // A `Guard` isn't opened so: std asks `malloc` for what it keeps of a thread.
     let opened = without_memory(|| LocalGuard::open(CONFIG));
     assert_eq!(opened.err(), Some(Error::NoMemory));
