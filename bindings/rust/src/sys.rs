@@ -1,6 +1,8 @@
 //! The library's own calls, as `include/faultyard.h` declares them.
 //!
 //! Every pointer is non-null, also where a length is 0, and a guard is open but for `fy_open`.
+//!
+//! A new call of the header is declared here, made in local.rs, and sent to its thread in guard.rs.
 
 use std::ffi::c_void;
 
