@@ -43,6 +43,7 @@ WANTED = [
     "share/faultyard/bindings/cpp/README.md",
     "share/faultyard/bindings/go/go.mod",
     "share/faultyard/bindings/python/pyproject.toml",
+    "share/faultyard/bindings/rust/Cargo.toml",
     "share/man/man1/faultyard.1",
     *(f"share/man/man1/faultyard-{it}.1" for it in COMMANDS + TOOLS),
 ]
@@ -116,7 +117,7 @@ def copied(name: str) -> Path:
             shutil.copytree(source, target, symlinks=True)
         else:
             shutil.copy(source, target)
-    (copy / ".gitignore").write_text("bin/\n")
+    (copy / ".gitignore").write_text("bin/\ntarget/\n")
     said("git", "init", "--quiet", cwd=copy)
     said("git", "add", "--all", cwd=copy)
     return copy
@@ -306,6 +307,29 @@ def archive_serves_cpp_and_go() -> None:
     said("go", "build", "-mod=readonly", ".", cwd=package, env=env)
 
 
+def archive_builds_the_python_package() -> None:
+    need("pip3")
+    package, site = unpacked() / "share/faultyard/bindings/python", room() / "site"
+    words = "--quiet --isolated --no-index --disable-pip-version-check --root-user-action ignore"
+    said("pip3", "install", *words.split(), "--target", site, package)
+    env = environment(PYTHONPATH=str(site))
+    said("python3", "-c", "import faultyard; faultyard.Guard", env=env, cwd=room())
+
+
+def archive_builds_the_rust_crate() -> None:
+    """And all its tests pass, on the library that pkg-config finds."""
+    need("cargo", "rustc", "pkg-config")
+    env = environment(
+        PKG_CONFIG_PATH=str(unpacked() / "lib/pkgconfig"), CARGO_TARGET_DIR=str(room() / "rust")
+    )
+    env.pop("FAULTYARD_LIB_DIR", None)
+    crate = unpacked() / "share/faultyard/bindings/rust"
+    before = files_below(crate)
+    told = said("cargo", "test", "--offline", "--locked", cwd=crate, env=env)
+    assert re.search(r"^test result: ok\. [1-9]\d* passed; 0 failed", told, re.MULTILINE), told
+    assert files_below(crate) == before, "the build wrote into the crate"
+
+
 def installed_and_uninstalled() -> None:
     root = room() / "installed"
     said(
@@ -367,6 +391,8 @@ CHECKS = [
     archive_sweeps,
     archive_is_found_by_pkg_config,
     archive_serves_cpp_and_go,
+    archive_builds_the_python_package,
+    archive_builds_the_rust_crate,
     installed_and_uninstalled,
     nothing_without_its_files,
 ]

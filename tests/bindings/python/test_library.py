@@ -28,11 +28,14 @@ TYPES = {
     "const uint8_t *": ctypes.c_char_p,
     "fy_guard": library._Guard,
     "fy_guard *": ctypes.POINTER(library._Guard),
+    "const fy_guard *": ctypes.POINTER(library._Guard),
 }
 
 
 def types(words):
     """The types of a list of arguments, without their names."""
+    if words == "void":
+        return []
     return [TYPES[re.sub(r"\w+$", "", word.strip()).strip()] for word in words.split(",")]
 
 

@@ -1,0 +1,195 @@
+//! Why a call failed.
+
+use crate::words::by_number;
+use crate::Refusal;
+use std::{fmt, io};
+
+/// Why a call failed.
+///
+/// After [`Refused`](Error::Refused) and [`Unwritten`](Error::Unwritten) the act stands in the
+/// journal. After any other nothing changed.
+#[derive(Clone, Copy, Debug, PartialEq, Eq, Hash)]
+#[non_exhaustive]
+pub enum Error {
+    /// There was no memory.
+    NoMemory,
+    /// The journal has as many entries as the cluster file allows.
+    JournalFull,
+    /// The act is refused.
+    Refused(Refusal),
+    /// The act is made, but its line could not be written. No test has met it.
+    Unwritten,
+    /// The journal has no entry at this place.
+    NoEntry,
+    /// The value of the target is no name: 1 to 32 of `A-Z a-z 0-9 _ -`, the first not `-`.
+    Name,
+    /// The floor of the kill is above its kind.
+    Floor,
+    /// The line has more than 65,536 bytes.
+    LineTooLong,
+    /// The line is no command of a script.
+    LineSyntax,
+    /// The text is no cluster file.
+    Config(ConfigFault),
+    /// The system started no thread for a [`Guard`](crate::Guard).
+    NoThread(io::ErrorKind),
+    /// The library answered what this crate doesn't know, so it is of another version.
+    Protocol(&'static str),
+}
+
+/// Why a text is no cluster file. `faultyard run FILE < /dev/null` says where.
+#[derive(Clone, Copy, Debug, PartialEq, Eq, Hash)]
+#[non_exhaustive]
+pub enum ConfigFault {
+    /// It has more than 1,048,576 bytes.
+    TooLong,
+    /// It is no TOML document in UTF-8.
+    Toml,
+    /// A key is missing, unknown or of another type, or a word is none of those that may stand
+    /// there.
+    Field,
+    /// A number or a length is outside its range.
+    Limit,
+    /// A text is no name, or names what is taken or isn't there.
+    Name,
+    /// A text is no policy.
+    Policy,
+    /// All processes together don't satisfy one of the policies.
+    Unmet,
+}
+
+impl Error {
+    /// What a status that isn't `FY_DONE` tells, where no refusal is known.
+    fn of(status: u32) -> Error {
+        match status {
+            1 => Error::NoMemory,
+            2 => Error::JournalFull,
+            5 => Error::Unwritten,
+            6 => Error::NoEntry,
+            8 => Error::Name,
+            9 => Error::Floor,
+            10 => Error::LineTooLong,
+            11 => Error::LineSyntax,
+            12 => Error::Config(ConfigFault::TooLong),
+            13 => Error::Config(ConfigFault::Toml),
+            14 => Error::Config(ConfigFault::Field),
+            15 => Error::Config(ConfigFault::Limit),
+            16 => Error::Config(ConfigFault::Name),
+            17 => Error::Config(ConfigFault::Policy),
+            18 => Error::Config(ConfigFault::Unmet),
+            // No call of this crate meets FY_SHORT, FY_ARGUMENT or FY_CLOSED.
+            _ => Error::Protocol("a status"),
+        }
+    }
+}
+
+/// `FY_DONE` as `Ok`, and any other status as the error that it tells.
+pub(crate) fn done(status: u32) -> Result<(), Error> {
+    match status {
+        0 => Ok(()),
+        status => Err(Error::of(status)),
+    }
+}
+
+/// The same, of a call that tells the number of its refusal beside `FY_REFUSED`.
+pub(crate) fn accepted(status: u32, refusal: u32) -> Result<(), Error> {
+    match status {
+        3 => {
+            Err(by_number(Refusal::ALL, refusal)
+                .map_or(Error::Protocol("a refusal"), Error::Refused))
+        }
+        status => done(status),
+    }
+}
+
+impl fmt::Display for Error {
+    fn fmt(&self, f: &mut fmt::Formatter<'_>) -> fmt::Result {
+        match self {
+            Error::NoMemory => write!(f, "there was no memory"),
+            Error::JournalFull => write!(f, "the journal is full: see journal_limit"),
+            Error::Refused(refusal) => write!(f, "the act is refused: {refusal}"),
+            Error::Unwritten => write!(f, "the act is made, but its line could not be written"),
+            Error::NoEntry => write!(f, "the journal has no entry at this place"),
+            Error::Name => write!(f, "the value of the target is no name"),
+            Error::Floor => write!(f, "the floor of the kill is above its kind"),
+            Error::LineTooLong => write!(f, "the line has more than 65,536 bytes"),
+            Error::LineSyntax => write!(f, "the line is no command of a script"),
+            Error::Config(fault) => write!(f, "the text is no cluster file: {fault}"),
+            Error::NoThread(why) => write!(f, "no thread could be started: {why:?}"),
+            Error::Protocol(what) => {
+                write!(
+                    f,
+                    "libfaultyard is of another version: {what} isn't known here"
+                )
+            }
+        }
+    }
+}
+
+impl fmt::Display for ConfigFault {
+    fn fmt(&self, f: &mut fmt::Formatter<'_>) -> fmt::Result {
+        f.pad(match self {
+            ConfigFault::TooLong => "it has more than 1,048,576 bytes",
+            ConfigFault::Toml => "it is no TOML document in UTF-8",
+            ConfigFault::Field => "a key or a word of it is wrong or missing",
+            ConfigFault::Limit => "a number or a length is outside its range",
+            ConfigFault::Name => "a text is no name, or names what is taken or isn't there",
+            ConfigFault::Policy => "a text is no policy",
+            ConfigFault::Unmet => "all processes together don't satisfy a policy",
+        })
+    }
+}
+
+impl std::error::Error for Error {}
+
+impl std::error::Error for ConfigFault {}
+
+impl From<Error> for io::Error {
+    fn from(error: Error) -> io::Error {
+        let kind = match error {
+            Error::NoMemory => io::ErrorKind::OutOfMemory,
+            _ => io::ErrorKind::Other,
+        };
+        io::Error::new(kind, error)
+    }
+}
+
+#[cfg(test)]
+mod tests {
+    use super::*;
+
+    /// Those that no call meets: tests/calls has the others.
+    #[test]
+    fn statuses_that_no_call_meets() {
+        assert_eq!(done(5), Err(Error::Unwritten));
+        let unknown = Err(Error::Protocol("a status"));
+        for status in [4, 7, 19, u32::MAX] {
+            assert_eq!(done(status), unknown);
+        }
+        assert_eq!(done(3), unknown);
+        assert_eq!(accepted(3, 26), Err(Error::Protocol("a refusal")));
+    }
+
+    #[test]
+    fn each_refusal_by_its_number() {
+        for (at, refusal) in (1..).zip(Refusal::ALL) {
+            assert_eq!(accepted(3, at), Err(Error::Refused(*refusal)));
+        }
+        assert_eq!(accepted(0, 0), Ok(()));
+        assert_eq!(accepted(2, 0), Err(Error::JournalFull));
+    }
+
+    #[test]
+    fn an_error_says_what_is_wrong() {
+        let refused = Error::Refused(Refusal::StillNeeds);
+        assert_eq!(refused.to_string(), "the act is refused: StillNeeds");
+        let config = Error::Config(ConfigFault::Policy);
+        assert_eq!(
+            config.to_string(),
+            "the text is no cluster file: a text is no policy"
+        );
+        let io = io::Error::from(Error::NoMemory);
+        assert_eq!(io.kind(), io::ErrorKind::OutOfMemory);
+        assert_eq!(io::Error::from(refused).kind(), io::ErrorKind::Other);
+    }
+}

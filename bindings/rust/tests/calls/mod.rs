@@ -1,0 +1,285 @@
+//! Each call and each error that a test can meet, of the guard that the file above names.
+
+use crate::Tested;
+use faultyard::{ConfigFault, Error, Key, Kind, Refusal, Rule, Verdict, AUDIT_HEADER};
+
+pub const CONFIG: &str = include_str!("../cluster.toml");
+
+fn opened() -> Tested {
+    Tested::open(CONFIG).unwrap()
+}
+
+/// An order whose floor is its kind.
+fn strictly(guard: &mut Tested, key: Key, value: &str, kind: Kind) -> Verdict {
+    guard.kill(1, key, value, kind, kind, 0).unwrap()
+}
+
+fn refused<T>(refusal: Refusal) -> Result<T, Error> {
+    Err(Error::Refused(refusal))
+}
+
+/// Makes acts by their lines, none of which is refused.
+fn make(guard: &mut Tested, lines: &[&str]) {
+    for line in lines {
+        let entry = guard.act(line).unwrap();
+        assert!(!entry.contains(r#""reply":{"no":"#), "{entry}");
+    }
+}
+
+#[test]
+fn the_second_zone_is_only_rebooted() {
+    let mut guard = opened();
+    let mut order = |zone| {
+        let verdict = guard.kill(1, Key::Zone, zone, Kind::KillInstantly, Kind::Reboot, 0);
+        verdict.unwrap()
+    };
+    let first = order("z0");
+    assert_eq!(
+        (first.struck, first.rule),
+        (Some(Kind::KillInstantly), None)
+    );
+    let second = order("z1");
+    assert_eq!(second.struck, Some(Kind::Reboot));
+    assert_eq!(second.rule, Some(Rule::TooManyDestroyed { policy: 0 }));
+}
+
+#[test]
+fn nothing_strikes_below_the_floor() {
+    let mut guard = opened();
+    assert!(strictly(&mut guard, Key::Zone, "z0", Kind::KillInstantly)
+        .struck
+        .is_some());
+    let verdict = strictly(&mut guard, Key::Zone, "z1", Kind::KillInstantly);
+    assert_eq!(verdict.struck, None);
+}
+
+#[test]
+fn each_rule_and_what_it_names() {
+    let mut guard = opened();
+    let none = strictly(&mut guard, Key::Process, "nobody", Kind::Reboot);
+    assert_eq!(none.rule, Some(Rule::NoTarget));
+    let stranger = guard
+        .kill(2, Key::Zone, "z1", Kind::Reboot, Kind::Reboot, 0)
+        .unwrap();
+    assert_eq!(stranger.rule, Some(Rule::NoGrant { process: 2 }));
+    make(
+        &mut guard,
+        &[r#"{"by":3,"act":{"protect":{"kinds":["Reboot"],"process":3}}}"#],
+    );
+    for (key, value) in [(Key::Machine, "m3"), (Key::DataHall, "h0")] {
+        let verdict = strictly(&mut guard, key, value, Kind::Reboot);
+        assert_eq!(verdict.rule, Some(Rule::Protected { process: 3 }));
+    }
+    let all = strictly(&mut guard, Key::DataCenter, "d0", Kind::KillInstantly);
+    assert_eq!(all.rule, Some(Rule::TooManyDestroyed { policy: 0 }));
+    assert_eq!(
+        strictly(&mut guard, Key::DataCenter, "d1", Kind::KillInstantly).rule,
+        None
+    );
+}
+
+/// Of three zones two have to be left, and only all three would be too many destroyed.
+#[test]
+fn too_few_may_be_left() {
+    let three = CONFIG.replace("\"Across(2,zoneid,One())\"", "\"Across(3,zoneid,One())\"");
+    let mut guard = Tested::open(three).unwrap();
+    let order = |guard: &mut Tested, kind| guard.kill(1, Key::Zone, "z0", kind, kind, 0).unwrap();
+    let gone = order(&mut guard, Kind::KillInstantly);
+    assert_eq!(
+        (gone.struck, gone.rule),
+        (None, Some(Rule::TooFewLeft { policy: 0 }))
+    );
+    assert_eq!(order(&mut guard, Kind::RebootAndDelete).rule, None);
+}
+
+#[test]
+fn what_is_no_order_leaves_no_entry() {
+    let mut guard = opened();
+    let long = "a".repeat(33);
+    for value in ["", "-x", "a b", long.as_str(), "z\0", "ä"] {
+        let answer = guard.kill(1, Key::Zone, value, Kind::Reboot, Kind::Reboot, 0);
+        assert_eq!(answer, Err(Error::Name), "{value:?}");
+    }
+    let above = guard.kill(1, Key::Zone, "z0", Kind::Reboot, Kind::KillInstantly, 0);
+    assert_eq!(above, Err(Error::Floor));
+    assert_eq!(guard.journal_len(), 0);
+    let stranger = guard.kill(9, Key::Zone, "z0", Kind::Reboot, Kind::Reboot, 0);
+    assert_eq!(stranger, refused(Refusal::Stranger));
+    assert_eq!(guard.journal_len(), 1);
+}
+
+#[test]
+fn up_and_heal_are_refused() {
+    let mut guard = opened();
+    assert_eq!(guard.up(9, 0), refused(Refusal::Stranger));
+    assert_eq!(guard.up(1, 0), refused(Refusal::WrongRole));
+    assert_eq!(guard.up(0, 6), refused(Refusal::NoProcess));
+    assert_eq!(guard.up(0, 0), refused(Refusal::IsUp));
+    assert_eq!(guard.heal(0, 0), refused(Refusal::NotDestroyed));
+    assert!(
+        strictly(&mut guard, Key::Process, "p0", Kind::RebootAndDelete)
+            .struck
+            .is_some()
+    );
+    assert!(guard.is_destroyed(0));
+    assert_eq!(guard.heal(0, 0), refused(Refusal::NotUp));
+    assert_eq!(guard.up(0, 0), Ok(()));
+    assert_eq!(guard.heal(0, 0), Ok(()));
+    assert!(!guard.is_destroyed(0));
+    assert!(
+        strictly(&mut guard, Key::Process, "p0", Kind::KillInstantly)
+            .struck
+            .is_some()
+    );
+    assert_eq!(guard.up(0, 0), refused(Refusal::Gone));
+}
+
+#[test]
+fn a_process_without_its_record_is_not_healed() {
+    let mut guard = opened();
+    let story = [
+        r#"{"by":0,"act":{"form":{"members":[0,2],"policy":0}}}"#,
+        r#"{"by":0,"act":{"begin":{"payload":"00","team":0}}}"#,
+        r#"{"by":0,"act":{"deliver":{"message":0}}}"#,
+        r#"{"by":0,"act":{"deliver":{"message":1}}}"#,
+        r#"{"by":0,"act":{"sync":{"process":0}}}"#,
+        r#"{"by":0,"act":{"sync":{"process":2}}}"#,
+        r#"{"by":0,"act":{"deliver":{"message":2}}}"#,
+        r#"{"by":0,"act":{"deliver":{"message":3}}}"#,
+    ];
+    make(&mut guard, &story);
+    assert!(
+        strictly(&mut guard, Key::Process, "p0", Kind::RebootAndDelete)
+            .struck
+            .is_some()
+    );
+    assert_eq!(guard.up(0, 0), Ok(()));
+    assert_eq!(guard.heal(0, 0), refused(Refusal::StillNeeds));
+    let copied = [
+        r#"{"by":0,"act":{"copy":{"from":2,"record":0,"to":0}}}"#,
+        r#"{"by":0,"act":{"deliver":{"message":4}}}"#,
+        r#"{"by":0,"act":{"sync":{"process":0}}}"#,
+    ];
+    make(&mut guard, &copied);
+    assert_eq!(guard.heal(0, 0), Ok(()));
+}
+
+#[test]
+fn who_is_left_and_who_is_destroyed() {
+    let mut guard = opened();
+    assert!(guard.left().iter().eq(0..6));
+    assert!(
+        strictly(&mut guard, Key::Process, "p1", Kind::KillInstantly)
+            .struck
+            .is_some()
+    );
+    assert!(
+        strictly(&mut guard, Key::Process, "p0", Kind::RebootAndDelete)
+            .struck
+            .is_some()
+    );
+    let left = guard.left();
+    assert_eq!(format!("{left:?}"), "{0, 2, 3, 4, 5}");
+    assert_eq!((left.len(), left.is_empty()), (5, false));
+    assert!(left.contains(0) && !left.contains(1) && !left.contains(u32::MAX));
+    let destroyed: Vec<u32> = (0..2000).filter(|it| guard.is_destroyed(*it)).collect();
+    assert_eq!(destroyed, [0, 1]);
+}
+
+#[test]
+fn an_act_is_answered_with_its_line() {
+    let mut guard = opened();
+    let wanted = r#"{"act":{"up":{"process":0}},"at":0,"by":0,"reply":{"no":["IsUp"]}}"#;
+    let wanted = format!("{wanted}\n");
+    assert_eq!(
+        guard
+            .act(r#" {"act":{"up":{"process":0}},"by":0} "#)
+            .unwrap(),
+        wanted
+    );
+    assert_eq!(guard.entry(0).unwrap(), wanted);
+    assert_eq!(guard.entry(1), Err(Error::NoEntry));
+    assert_eq!(guard.entry(usize::MAX), Err(Error::NoEntry));
+    for line in ["", "{}", "{\"by\":0}\n{\"by\":0}", "up 0"] {
+        assert_eq!(guard.act(line), Err(Error::LineSyntax), "{line:?}");
+    }
+    assert_eq!(guard.act(&" ".repeat(65_537)), Err(Error::LineTooLong));
+    let order = r#""key":"zoneid","value":"z0","kind":"Reboot","floor":"KillInstantly","tear":0"#;
+    assert_eq!(
+        guard.act(&format!(r#"{{"by":1,"act":{{"kill":{{{order}}}}}}}"#)),
+        Err(Error::Floor)
+    );
+    assert_eq!(guard.journal_len(), 1);
+}
+
+#[test]
+fn a_long_entry_is_read_whole() {
+    let mut guard = opened();
+    let payload = "ab".repeat(20_000);
+    let begin = format!(r#"{{"begin":{{"payload":"{payload}","team":0}}}}"#);
+    let wanted =
+        format!("{{\"act\":{begin},\"at\":0,\"by\":0,\"reply\":{{\"no\":[\"NoTeam\"]}}}}\n");
+    assert!(guard.act(&format!(r#"{{"by":0,"act":{begin}}}"#)).unwrap() == wanted);
+    assert!(guard.entry(0).unwrap() == wanted);
+}
+
+#[test]
+fn a_full_journal_takes_nothing() {
+    let mut guard = Tested::open(CONFIG.replace("20000", "2")).unwrap();
+    assert_eq!(guard.up(0, 0), refused(Refusal::IsUp));
+    assert_eq!(guard.up(0, 0), refused(Refusal::IsUp));
+    assert_eq!(guard.up(0, 0), Err(Error::JournalFull));
+    assert_eq!(guard.heal(0, 0), Err(Error::JournalFull));
+    let kill = guard.kill(1, Key::Zone, "z0", Kind::KillInstantly, Kind::Reboot, 0);
+    assert_eq!(kill, Err(Error::JournalFull));
+    let act = guard.act(r#"{"by":0,"act":{"up":{"process":0}}}"#);
+    assert_eq!(act, Err(Error::JournalFull));
+    assert_eq!((guard.left().len(), guard.journal_len()), (6, 2));
+}
+
+#[test]
+fn a_cluster_file_is_refused_by_its_fault() {
+    let fault = |text: &[u8]| match Tested::open(text) {
+        Err(Error::Config(fault)) => fault,
+        other => panic!("{other:?}"),
+    };
+    assert_eq!(
+        fault("#".repeat(1_048_577).as_bytes()),
+        ConfigFault::TooLong
+    );
+    assert_eq!(fault(b"process = ["), ConfigFault::Toml);
+    assert_eq!(fault(&[0xff, 0xfe]), ConfigFault::Toml);
+    assert_eq!(fault(b""), ConfigFault::Field);
+    let changed = |from: &str, to: &str| fault(CONFIG.replace(from, to).as_bytes());
+    assert_eq!(changed("20000", "0"), ConfigFault::Limit);
+    assert_eq!(changed("\"p1\"", "\"p0\""), ConfigFault::Name);
+    assert_eq!(changed("One()", "Two()"), ConfigFault::Policy);
+    assert_eq!(changed("Across(2", "Across(4"), ConfigFault::Unmet);
+}
+
+#[test]
+fn the_journal_is_the_audit_without_its_header() {
+    let mut guard = opened();
+    for at in 0..3000_u32 {
+        // Refused or not, each leaves an entry.
+        let _ = guard.up(0, at % 7);
+    }
+    let audit = guard.audit().unwrap();
+    let lines: String = guard.journal().map(Result::unwrap).collect();
+    assert!(audit == format!("{AUDIT_HEADER}{lines}"));
+    let mut written = Vec::new();
+    guard.write_audit(&mut written).unwrap();
+    assert!(written == audit.as_bytes());
+    assert_eq!(guard.journal().len(), 3000);
+    assert_eq!(guard.journal().next_back().unwrap(), guard.entry(2999));
+    let mut short = [0; 100];
+    let full = guard.write_audit(&mut short[..]).unwrap_err();
+    assert_eq!(full.kind(), std::io::ErrorKind::WriteZero);
+}
+
+#[test]
+fn a_guard_is_seen_by_the_length_of_its_journal() {
+    let mut guard = opened();
+    assert!(guard.up(0, 0).is_err());
+    assert!(format!("{guard:?}").contains("Guard { journal_len: 1, .."));
+}

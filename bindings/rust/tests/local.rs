@@ -1,0 +1,5 @@
+//! `LocalGuard`: each call.
+
+mod calls;
+
+use faultyard::LocalGuard as Tested;

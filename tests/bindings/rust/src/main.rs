@@ -1,0 +1,217 @@
+//! Plays acts on guards, for tests/bindings/python/test_rust.py, and writes an audit.
+//!
+//!     play local CONFIG < ACTS     on a `LocalGuard`
+//!     play moved CONFIG < ACTS     on a `Guard`, each hundred acts in another thread
+//!     play apart CONFIG < ACTS     on eight guards in eight threads at once: all audits are one
+//!     play shared CONFIG < ACTS    on one guard behind a mutex, by eight threads in any order
+//!
+//! A line of ACTS is a line of a script, or `kill`, `up` or `heal` with its numbers behind tabs. Each
+//! answer is held against its entry in the journal.
+
+use faultyard::{Error, Guard, Key, Kind, LocalGuard, Verdict};
+use std::io::Read;
+use std::sync::Mutex;
+use std::{env, fs, io, thread};
+
+const THREADS: usize = 8;
+
+/// What both kinds of guard do.
+trait Guarded {
+    fn kill(&mut self, actor: u32, order: &Order) -> Result<Verdict, Error>;
+    fn up(&mut self, actor: u32, process: u32) -> Result<(), Error>;
+    fn heal(&mut self, actor: u32, process: u32) -> Result<(), Error>;
+    fn act(&mut self, line: &str) -> Result<String, Error>;
+    fn last(&self) -> String;
+}
+
+macro_rules! guarded {
+    ($guard:ident) => {
+        impl Guarded for $guard {
+            fn kill(&mut self, actor: u32, order: &Order) -> Result<Verdict, Error> {
+                let Order {
+                    key,
+                    value,
+                    kind,
+                    floor,
+                    tear,
+                } = order;
+                $guard::kill(self, actor, *key, value, *kind, *floor, *tear)
+            }
+
+            fn up(&mut self, actor: u32, process: u32) -> Result<(), Error> {
+                $guard::up(self, actor, process)
+            }
+
+            fn heal(&mut self, actor: u32, process: u32) -> Result<(), Error> {
+                $guard::heal(self, actor, process)
+            }
+
+            fn act(&mut self, line: &str) -> Result<String, Error> {
+                $guard::act(self, line)
+            }
+
+            fn last(&self) -> String {
+                self.entry(self.journal_len() - 1).expect("an entry")
+            }
+        }
+    };
+}
+
+guarded!(Guard);
+guarded!(LocalGuard);
+
+struct Order {
+    key: Key,
+    value: String,
+    kind: Kind,
+    floor: Kind,
+    tear: u64,
+}
+
+enum Asked {
+    Kill(u32, Order),
+    Up(u32, u32),
+    Heal(u32, u32),
+    Line(String),
+}
+
+fn asked(line: &str) -> Asked {
+    let words: Vec<&str> = line.split('\t').collect();
+    let number = |at: usize| words[at].parse().expect("a number");
+    let kind = |at: usize| Kind::from_word(words[at]).expect("a kind");
+    match words[0] {
+        "kill" => {
+            let order = Order {
+                key: Key::from_word(words[2]).expect("a key"),
+                value: words[3].to_owned(),
+                kind: kind(4),
+                floor: kind(5),
+                tear: words[6].parse().expect("64 bits"),
+            };
+            Asked::Kill(number(1), order)
+        }
+        "up" => Asked::Up(number(1), number(2)),
+        "heal" => Asked::Heal(number(1), number(2)),
+        _ => Asked::Line(line.to_owned()),
+    }
+}
+
+/// Makes an act, and holds what the guard answers against the entry.
+fn play(guard: &mut impl Guarded, asked: &Asked) {
+    let reply = match asked {
+        Asked::Kill(actor, order) => reply_of_kill(guard.kill(*actor, order)),
+        Asked::Up(actor, process) => reply_of_report(guard.up(*actor, *process)),
+        Asked::Heal(actor, process) => reply_of_report(guard.heal(*actor, *process)),
+        Asked::Line(line) => {
+            let entry = guard.act(line).expect(line);
+            assert_eq!(entry, guard.last());
+            return;
+        }
+    };
+    let entry = guard.last();
+    let (_, told) = entry.split_once("\"reply\":").expect("a reply");
+    assert!(told.starts_with(&reply), "{reply} is answered, and {entry}");
+}
+
+/// What an entry has as the reply to a kill, whole.
+fn reply_of_kill(answer: Result<Verdict, Error>) -> String {
+    let verdict = match answer {
+        Ok(verdict) => verdict,
+        Err(error) => return refusal(error),
+    };
+    let rule = match verdict.rule.map(|rule| (rule.word(), rule.named())) {
+        None => "null".to_owned(),
+        Some((word, None)) => format!("[\"{word}\"]"),
+        Some((word, Some(number))) => format!("[\"{word}\",{number}]"),
+    };
+    let struck = match verdict.struck {
+        None => "null".to_owned(),
+        Some(kind) => format!("\"{kind}\""),
+    };
+    format!("{{\"verdict\":{{\"rule\":{rule},\"struck\":{struck}}}}}}}\n")
+}
+
+fn reply_of_report(answer: Result<(), Error>) -> String {
+    match answer {
+        Ok(()) => "\"done\"}\n".to_owned(),
+        Err(error) => refusal(error),
+    }
+}
+
+/// What the reply begins with; a refusal may name a record behind it.
+fn refusal(error: Error) -> String {
+    match error {
+        Error::Refused(refusal) => format!("{{\"no\":[\"{refusal}\""),
+        other => panic!("{other}"),
+    }
+}
+
+fn local(config: &str, acts: &[Asked]) -> String {
+    let mut guard = LocalGuard::open(config).expect("a cluster file");
+    acts.iter().for_each(|act| play(&mut guard, act));
+    guard.audit().expect("an audit")
+}
+
+fn moved(config: &str, acts: &[Asked]) -> Guard {
+    let mut guard = Guard::open(config).expect("a cluster file");
+    for some in acts.chunks(100) {
+        let turn = move || {
+            some.iter().for_each(|act| play(&mut guard, act));
+            guard
+        };
+        guard = thread::scope(|scope| scope.spawn(turn).join().expect("no panic"));
+    }
+    guard
+}
+
+fn apart(config: &str, acts: &[Asked]) -> String {
+    let audits = Mutex::new(Vec::new());
+    thread::scope(|scope| {
+        for number in 0..THREADS {
+            let audits = &audits;
+            scope.spawn(move || {
+                let audit = match number % 2 {
+                    0 => local(config, acts),
+                    _ => moved(config, acts).audit().expect("an audit"),
+                };
+                audits.lock().expect("no panic").push(audit);
+            });
+        }
+    });
+    let mut audits = audits.into_inner().expect("no panic");
+    assert_eq!(audits.len(), THREADS);
+    audits.dedup();
+    assert_eq!(audits.len(), 1, "the guards differ");
+    audits.remove(0)
+}
+
+fn shared(config: &str, acts: &[Asked]) -> Guard {
+    let guard = Mutex::new(Guard::open(config).expect("a cluster file"));
+    thread::scope(|scope| {
+        for first in 0..THREADS {
+            let guard = &guard;
+            scope.spawn(move || {
+                for act in acts.iter().skip(first).step_by(THREADS) {
+                    play(&mut *guard.lock().expect("no panic"), act);
+                }
+            });
+        }
+    });
+    guard.into_inner().expect("no panic")
+}
+
+fn main() -> io::Result<()> {
+    let words: Vec<String> = env::args().skip(1).collect();
+    let config = fs::read_to_string(&words[1])?;
+    let mut text = String::new();
+    io::stdin().read_to_string(&mut text)?;
+    let acts: Vec<Asked> = text.lines().map(asked).collect();
+    match words[0].as_str() {
+        "local" => print!("{}", local(&config, &acts)),
+        "apart" => print!("{}", apart(&config, &acts)),
+        "moved" => moved(&config, &acts).write_audit(io::stdout())?,
+        "shared" => shared(&config, &acts).write_audit(io::stdout())?,
+        other => panic!("there is no {other}"),
+    }
+    Ok(())
+}
