@@ -24,7 +24,7 @@ use lost::losses_after;
 use std::alloc::Global;
 use std::io::{Read, Write};
 
-/// What the cluster bears, as a text. Where there were losses before, it bears so much more.
+/// What the cluster bears as a text, after losses where there were some.
 fn told(
     alloc: Global,
     config: &Config,
@@ -39,7 +39,7 @@ fn told(
         down: ProcSet::empty(),
     });
     let (map, policies) = (config.map(), config.policies());
-    // All processes of a configuration satisfy its policies, so that no book is want of memory.
+    // All processes of a configuration satisfy its policies, so only memory can lack.
     let Ok(dead) = book_of(alloc, map, policies, &losses) else {
         return Err(Stop::NoMemory);
     };

@@ -15,7 +15,7 @@ use fy_picture::Aim;
 /// What the entries so far have done.
 #[derive(Clone, Copy)]
 pub(crate) struct Lost {
-    /// Who can still be named: whoever isn't gone.
+    /// The processes that an order can still name: all but the gone.
     aim: Aim,
     /// Emptied or killed for good, and not healed since.
     destroyed: ProcSet,
@@ -93,7 +93,7 @@ fn with_if(set: ProcSet, named: &ProcSet, is_struck: bool) -> ProcSet
         ≡ (is_struck && sets.contains named.now p || sets.contains set p) }
 {
     if is_struck {
-        set.union(named)
+        named.union(&set)
     } else {
         set
     }
