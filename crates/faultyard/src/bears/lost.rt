@@ -8,6 +8,7 @@ ghost use Rattle.faultyard.specs.BearsTexts.{IsLost, AreLosses};
 
 use fy_acts::{Act, Entry, Reply};
 use fy_bears::Losses;
+use fy_cluster::laws;
 use fy_kinds::Kind;
 use fy_locality::{Map, ProcId, ProcSet};
 use fy_picture::Aim;
@@ -90,7 +91,7 @@ fn without(set: ProcSet, gone: Option<ProcId>) -> ProcSet
 /// The set, and those named where they are struck.
 fn with_if(set: ProcSet, named: &ProcSet, is_struck: bool) -> ProcSet
     ensures { (p : ℕ) → sets.contains result p
-        ≡ (is_struck && sets.contains named.now p || sets.contains set p) }
+        ≡ (sets.contains named.now p && is_struck || sets.contains set p) }
 {
     if is_struck {
         named.union(&set)
@@ -151,6 +152,7 @@ impl Lost {
 pub(crate) fn losses_after(map: &Map, entries: &[Entry]) -> Losses
     ensures { (c : Setup) → c.processes ≡ map.now → AreLosses c (history c entries.now) result }
 {
+    laws::one_entry_more();
     let mut lost = Lost::begin(map);
     for entry in entries {
         lost = lost.after(map, entry);
