@@ -45,7 +45,7 @@ plain_is_local c plain = by (is_empty (out-Command c).groups.items) (out-Command
 -- the subcommand takes a cluster file
 abbrev TakesConfig : Text → Type 0
 TakesConfig name =
-    (name ≡ codes "run") ⊎ ((name ≡ codes "check") ⊎ ((name ≡ codes "swarm") ⊎ ((name ≡ codes "guard") ⊎ (name ≡ codes "show"))))
+    (name ≡ codes "run") ⊎ ((name ≡ codes "check") ⊎ ((name ≡ codes "swarm") ⊎ ((name ≡ codes "guard") ⊎ ((name ≡ codes "show") ⊎ (name ≡ codes "bears")))))
 
 abbrev HasConfig : List Row → Type 0
 HasConfig rows = is_some (first_of (codes "CONFIG") rows) ≡ true
@@ -119,12 +119,17 @@ known_task s words known other none =
         λ swarm. absurd (no_swarm s.name (codes "guard") (ap (λ t. t.name) guard) (λ e. omega arith) swarm),
       )
       | inr (inr (inr (inr (inr (inl show))))) ↦ inr (
-        inr (inr (inr (inr (ap (λ t. t.name) show)))),
+        inr (inr (inr (inr (inl (ap (λ t. t.name) show))))),
         config_given s _ words show ((refl, refl, refl), ((refl, refl, refl), tt)) (inl (refl, refl)) refl none,
         λ swarm. absurd (no_show s.name (ap (λ t. t.name) show) swarm),
       )
-      | inr (inr (inr (inr (inr (inr (inl help)))))) ↦ absurd (other (ap (λ t. t.name) help) (ap (λ t. t.aliases) help))
-      | inr (inr (inr (inr (inr (inr (inr none)))))) ↦ absurd none
+      | inr (inr (inr (inr (inr (inr (inl bears)))))) ↦ inr (
+        inr (inr (inr (inr (inr (ap (λ t. t.name) bears))))),
+        config_given s _ words bears ((refl, refl, refl), ((refl, refl, refl), ((refl, refl, refl), ((refl, refl, refl), tt)))) (inl (refl, refl)) refl none,
+        λ swarm. absurd (no_swarm s.name (codes "bears") (ap (λ t. t.name) bears) (λ e. omega arith) swarm),
+      )
+      | inr (inr (inr (inr (inr (inr (inr (inl help))))))) ↦ absurd (other (ap (λ t. t.name) help) (ap (λ t. t.aliases) help))
+      | inr (inr (inr (inr (inr (inr (inr (inr none))))))) ↦ absurd none
     ]
 
 meets_task : (words : List Text) → fault_of faultyard_command words ≡ [] → IsSomeAnd (subcommand_of faultyard_command words) IsTask

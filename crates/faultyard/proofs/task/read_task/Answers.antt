@@ -21,6 +21,9 @@ returns-in-guard-clause-refused c = faultless _ (map string_bytes c.args.words.n
 pub returns-in-show-clause-refused : goal.returns-in-show-clause-refused
 returns-in-show-clause-refused c = faultless _ (map string_bytes c.args.words.now) c.in_ok-faultyard.ensures c.in_ok-matches.ensures.kinds
 
+pub returns-in-bears-clause-refused : goal.returns-in-bears-clause-refused
+returns-in-bears-clause-refused c = faultless _ (map string_bytes c.args.words.now) c.in_ok-faultyard.ensures c.in_ok-matches.ensures.kinds
+
 pub config_of-requires-in-check : goal.config_of-requires-in-check
 config_of-requires-in-check c = has_config c.in-Some.name.now c.in-Some.given.now c.in-check.not-judge
     (met_task _ (map string_bytes c.args.words.now) c.in_ok-matches.matches c.in-Some.name.now c.in-Some.given.now c.in_ok-faultyard.ensures
@@ -38,6 +41,11 @@ config_of-requires-in-guard c = has_config c.in-Some.name.now c.in-Some.given.no
 
 pub config_of-requires-in-show : goal.config_of-requires-in-show
 config_of-requires-in-show c = has_config c.in-Some.name.now c.in-Some.given.now c.in-show.not-judge
+    (met_task _ (map string_bytes c.args.words.now) c.in_ok-matches.matches c.in-Some.name.now c.in-Some.given.now c.in_ok-faultyard.ensures
+    c.in_ok-matches.ensures.kinds c.in_ok-matches.ensures.matches c.in-Some.ensures.name c.in-Some.ensures.rows)
+
+pub config_of-requires-in-bears : goal.config_of-requires-in-bears
+config_of-requires-in-bears c = has_config c.in-Some.name.now c.in-Some.given.now c.in-bears.not-judge
     (met_task _ (map string_bytes c.args.words.now) c.in_ok-matches.matches c.in-Some.name.now c.in-Some.given.now c.in_ok-faultyard.ensures
     c.in_ok-matches.ensures.kinds c.in_ok-matches.ensures.matches c.in-Some.ensures.name c.in-Some.ensures.rows)
 
@@ -62,6 +70,7 @@ unreachable-requires-in_default-name c =
         | inr (inl check) ↦ absurd (c.in_default-name.not-check check)
         | inr (inr (inl swarm)) ↦ absurd (c.in_default-name.not-swarm swarm)
         | inr (inr (inr (inl guard))) ↦ absurd (c.in_default-name.not-guard guard)
-        | inr (inr (inr (inr show))) ↦ absurd (c.in_default-name.not-show show)
+        | inr (inr (inr (inr (inl show)))) ↦ absurd (c.in_default-name.not-show show)
+        | inr (inr (inr (inr (inr bears)))) ↦ absurd (c.in_default-name.not-bears bears)
       ]
     ]
