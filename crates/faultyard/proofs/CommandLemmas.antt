@@ -16,7 +16,10 @@ use Rattle.clap.specs.declared.parser.matches.ArgMatches.TheViews.{out-ArgMatche
 use Rattle.clap.proofs.OnLiterals.{clap_on_literals}
 use Rattle.clap.specs.declared.builder.value_parser.ValueParser.TheVariants.{Unsigned}
 use Rattle.clap.proofs.ValueTestLemmas.{accepts-Accepts}
-use Rattle.faultyard.specs.Commands.{faultyard_command, IsSeed, largest_seed, seed_in}
+use Rattle.clap.specs.Kinds.{HasKind}
+use Rattle.clap.specs.declared.error.Error.{Error}
+use Rattle.faultyard.specs.declared.task.Task.{Task}
+use Rattle.faultyard.specs.Commands.{faultyard_command, IsSeed, IsTaskOf, StandsFor, largest_seed, seed_in}
 use Rattle.faultyard.proofs.RowLemmas.{AreFilling, HasValue, Requires, required_value}
 use Rattle.faultyard.proofs.EnterLemmas.{IsIn, words_enter}
 
@@ -161,6 +164,20 @@ pub met_task : (command : App) (words : List Text) (m : ArgMatches) (name : Text
 met_task command words m name given is none rows named held =
     let same : subcommand_rows_of m ≡ subcommand_of faultyard_command words = (rows (ap is_simple is ∙ is_simple_command)).1 ∙ ap (λ a. subcommand_of a words) is in
     subst (λ o. IsSomeAnd o IsTask) (met_by words m name (rows_of (found_of given)) same named held) (meets_task words (faultless command words is none))
+
+-- a task that stands for that name and these rows is the task of the words
+pub is_task_of : (command : App) (words : List Text) (m : ArgMatches) (name : Text) (given : ArgMatches) (task : Task) → command ≡ faultyard_command
+    → (is_simple command ≡ true → (rows_of (found_of m) ≡ matches_of command words) × (subcommand_rows_of m ≡ subcommand_of command words))
+    → Some name ≡ subcommand_name_of m → Some (rows_of (found_of given)) ≡ option_map (λ p. p.1) (subcommand_rows_of m)
+    → StandsFor (name, rows_of (found_of given)) task → IsTaskOf (subcommand_of faultyard_command words) task
+is_task_of command words m name given task is rows named held stands =
+    let same : subcommand_rows_of m ≡ subcommand_of faultyard_command words = (rows (ap is_simple is ∙ is_simple_command)).1 ∙ ap (λ a. subcommand_of a words) is in
+    subst (λ o. IsTaskOf o task) (sym (met_by words m name (rows_of (found_of given)) same named held)) stands
+
+-- an error of the words has a kind of their fault
+pub fails_by : (command : App) (words : List Text) (error : Error) → command ≡ faultyard_command → (is_simple_and_free command ≡ true → HasKind (fault_of command words) error)
+    → HasKind (fault_of faultyard_command words) error
+fails_by command words error is has = subst (λ a. HasKind (fault_of a words) error) is (has (ap is_simple_and_free is ∙ command_is_simple))
 
 -- and so one that is not `judge` has its cluster file
 pub has_config : (name : Text) (given : ArgMatches) → (name ≡ codes "judge" → ⊥) → IsTask (name, rows_of (found_of given)) → is_some (first_of (codes "CONFIG") (rows_of (found_of given))) ≡ true
