@@ -1,9 +1,32 @@
--- who is lost behind one entry more, and behind a list of them
-use Rattle.std.proofs.Common.{◌≡◌, ◌&&◌, ◌||◌, not, ℕ, Bool, true, false, Option, None, Some, refl}
+-- who is lost behind one entry more, and sets of processes
+use Rattle.std.proofs.Common.{◌≡◌, ◌∙◌, ◌==◌, ◌&&◌, ◌||◌, not, ℕ, Bool, true, false, Option, None, Some, refl, sym, ap, eqb-true, eq-eqb, ne_eqb}
+use Rattle.std.proofs.lemmas.Bool.{eqb-false}
 use Rattle.std.specs.Prelude.{if◌then◌else◌, is_none, is_some}
+use Rattle.std.specs.Ordering.{nat_cmp}
+use Rattle.std.specs.FinSet as sets
+use Rattle.std.specs.Cmp.{nat_cmp_total, unsigned_tied}
 use Rattle.fy_kinds.specs.declared.kind.Kind.{Kind}
 use Rattle.fy_kinds.specs.Kinds.{is_destroying}
 use Rattle.fy_cluster.specs.History.{some_is}
+
+-- ---- sets
+
+equal_turned : (a b : ℕ) → (a == b) ≡ (b == a)
+equal_turned a b = by (a == b) refl
+  where
+    by : (x : Bool) → (a == b) ≡ x → (a == b) ≡ (b == a)
+    by true is = is ∙ sym (eq-eqb b a (sym (eqb-true a b is)))
+    by false is = is ∙ sym (ne_eqb b a (λ e. eqb-false a b is (sym e)))
+
+-- a set without one member
+pub removed_has : (s : sets.FinSet nat_cmp) (p q : ℕ) → sets.contains (sets.remove s p) q ≡ (not (p == q) && sets.contains s q)
+removed_has s p q = sets.contains-remove nat_cmp_total s p q ∙ ap (λ b. not b && sets.contains s q) (unsigned_tied q p ∙ equal_turned q p)
+
+pub and_true : (a b : Bool) → b ≡ true → a ≡ (a && b)
+and_true true b is = sym is
+and_true false b is = refl
+
+-- ---- one entry more
 
 -- the destroyed: those that the entry destroys, and those that were and that it doesn't heal
 pub destroyed_next : (struck : Option Kind) (named healed was : Bool) →

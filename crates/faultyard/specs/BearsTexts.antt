@@ -25,4 +25,4 @@ pub record AreLosses (c : Setup) (h : History) (losses : Losses) : Type 0 where
 pub record HasLosses (setup : Setup) (bytes : List ℕ) (losses : Losses) : Type 0 where
   pub audit : Audit
   pub read : AuditOf bytes (Ok audit)
-  pub losses : AreLosses setup (history setup audit.entries) losses
+  pub those : AreLosses setup (history setup audit.entries) losses

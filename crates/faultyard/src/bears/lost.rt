@@ -48,6 +48,16 @@ fn struck_by(entry: &Entry) -> Option<Kind>
     }
 }
 
+/// Whether a kind struck, and destroys.
+fn destroys(struck: Option<Kind>) -> bool
+    ensures { result ≡ some_is is_destroying struck }
+{
+    match struck {
+        Some(kind) => kind.is_destroying(),
+        None => false,
+    }
+}
+
 /// The process that the entry starts.
 fn ups(entry: &Entry) -> Option<ProcId>
     ensures { option_map (λ p. p.0) result ≡ ups entry.now.act entry.now.reply }
@@ -80,6 +90,7 @@ fn without(set: ProcSet, gone: Option<ProcId>) -> ProcSet
         ≡ (not (some_is (λ q. q == p) (option_map (λ q. q.0) gone)) && sets.contains set p) }
 {
     let mut fewer = set;
+    fewer.invariant();
     if let Some(p) = gone {
         if fewer.contains(p) {
             fewer.drop_one(p);
@@ -120,13 +131,12 @@ impl Lost {
         let mut aim = self.aim;
         let named = aim.next(map, entry);
         let struck = struck_by(entry);
-        let is_destroying = struck.is_some_and(Kind::is_destroying);
         Lost {
             aim,
             destroyed: with_if(
                 without(self.destroyed, heals(entry)),
                 &named,
-                is_destroying,
+                destroys(struck),
             ),
             asleep: without(
                 with_if(self.asleep, &named, struck.is_some()),
