@@ -25,12 +25,7 @@ use std::alloc::Global;
 use std::io::{Read, Write};
 
 /// What the cluster bears as a text, after losses where there were some.
-fn told(
-    alloc: Global,
-    config: &Config,
-    before: Option<Losses>,
-    form: Form,
-) -> Result<String, Stop>
+fn told(alloc: Global, config: &Config, before: Option<Losses>, form: Form) -> Result<String, Stop>
     ensures { IfErr result (λ stop. stop ≡ Stop.NoMemory) }
 {
     let losses = before.unwrap_or(Losses {

@@ -48,11 +48,7 @@ fn main(rt: HostRuntime) -> ExitCode {
         Ok(Task::Check(path)) => check_file(&rt, path),
         Ok(Task::Guard(path)) => guard_file(&rt, path),
         Ok(Task::Show(path)) => show_file(&rt, path),
-        Ok(Task::Bears {
-            config,
-            form,
-            after,
-        }) => bears_file(&rt, config, form, after),
+        Ok(Task::Bears(path, form, after)) => bears_file(&rt, path, form, after),
         // Threads are main's to give.
         Ok(Task::Swarm(path, seed)) => match open_config(&rt, path) {
             Ok(config) => run_swarm(&rt, rt.alloc(), &config, seed, &mut rt.stdout()),
@@ -92,12 +88,7 @@ fn show_file(rt: &HostRuntime, path: &str) -> Result<bool, Stop> {
 }
 
 /// Says what the cluster of a file bears, after an audit where one is named.
-fn bears_file(
-    rt: &HostRuntime,
-    path: &str,
-    form: Form,
-    after: Option<&str>,
-) -> Result<bool, Stop> {
+fn bears_file(rt: &HostRuntime, path: &str, form: Form, after: Option<&str>) -> Result<bool, Stop> {
     let config = match open_config(rt, path) {
         Ok(config) => config,
         Err(stop) => return Err(stop),
@@ -106,13 +97,7 @@ fn bears_file(
         return run_bears(rt.alloc(), &config, form, &mut rt.stdout());
     };
     match open_file(rt, after) {
-        Ok(mut audit) => run_bears_after(
-            rt.alloc(),
-            &config,
-            form,
-            &mut audit,
-            &mut rt.stdout(),
-        ),
+        Ok(mut audit) => run_bears_after(rt.alloc(), &config, form, &mut audit, &mut rt.stdout()),
         Err(stop) => Err(stop),
     }
 }

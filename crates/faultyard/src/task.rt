@@ -63,11 +63,7 @@ pub enum Task<'a> {
     Show(&'a str),
     /// `faultyard bears CONFIG`: say what the cluster of a file bears, with `--json` in that form,
     /// and with `--after AUDIT` from the end of an audit on.
-    Bears {
-        config: &'a str,
-        form: Form,
-        after: Option<&'a str>,
-    },
+    Bears(&'a str, Form, Option<&'a str>),
 }
 
 /// The subcommand `judge`, with its help.
@@ -252,11 +248,7 @@ pub fn read_task<'a>(alloc: Global, words: &'a [String]) -> Result<Task<'a>, cla
         "swarm" => Ok(Task::Swarm(config_of(given), seed_of(given))),
         "guard" => Ok(Task::Guard(config_of(given))),
         "show" => Ok(Task::Show(config_of(given))),
-        "bears" => Ok(Task::Bears {
-            config: config_of(given),
-            form: form_of(given),
-            after: after_of(given),
-        }),
+        "bears" => Ok(Task::Bears(config_of(given), form_of(given), after_of(given))),
         _ => unreachable!(),
     }
 }

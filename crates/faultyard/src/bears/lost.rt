@@ -104,11 +104,7 @@ fn with_if(set: ProcSet, named: &ProcSet, is_struck: bool) -> ProcSet
     ensures { (p : ℕ) → sets.contains result p
         ≡ (sets.contains named.now p && is_struck || sets.contains set p) }
 {
-    if is_struck {
-        named.union(&set)
-    } else {
-        set
-    }
+    if is_struck { named.union(&set) } else { set }
 }
 
 impl Lost {
@@ -138,10 +134,7 @@ impl Lost {
                 &named,
                 destroys(struck),
             ),
-            asleep: without(
-                with_if(self.asleep, &named, struck.is_some()),
-                ups(entry),
-            ),
+            asleep: without(with_if(self.asleep, &named, struck.is_some()), ups(entry)),
         }
     }
 

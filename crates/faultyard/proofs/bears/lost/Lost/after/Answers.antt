@@ -16,13 +16,13 @@ returns c = λ s h e was.
           c.with_if.ensures p
           ∙ ap₂ (λ a b. a && b || sets.contains c.without.result p) (named p) (c.destroys.ensures ∙ ap (some_is is_destroying) c.struck_by-struck.ensures)
           ∙ ap (λ b. targets_of s h act p && some_is is_destroying (struck_by act reply) || b)
-              (c.without.ensures p ∙ ap₂ (λ a b. not a && b) (ap (some_is (λ q. q == p)) c.heals.ensures) (was.destroyed p))
+          (c.without.ensures p ∙ ap₂ (λ a b. not a && b) (ap (some_is (λ q. q == p)) c.heals.ensures) (was.destroyed p))
           ∙ destroyed_next (struck_by act reply) (targets_of s h act p) (some_is (λ q. q == p) (heals act reply)) (destroyed h p);
       asleep = λ p.
           c.without-2.ensures p
           ∙ ap₂ (λ a b. not a && b) (ap (some_is (λ q. q == p)) c.ups.ensures)
-              (c.with_if-2.ensures p
-              ∙ ap₂ (λ a b. a && b || sets.contains c.args.self.asleep p) (named p) (c.is_some.ensures ∙ ap is_some c.struck_by-struck.ensures)
-              ∙ ap (λ b. targets_of s h act p && is_some (struck_by act reply) || b) (was.asleep p))
+          (c.with_if-2.ensures p
+          ∙ ap₂ (λ a b. a && b || sets.contains c.args.self.asleep p) (named p) (c.is_some.ensures ∙ ap is_some c.struck_by-struck.ensures)
+          ∙ ap (λ b. targets_of s h act p && is_some (struck_by act reply) || b) (was.asleep p))
           ∙ asleep_next (struck_by act reply) (targets_of s h act p) (some_is (λ q. q == p) (ups act reply)) (up h p);
     }
