@@ -25,20 +25,21 @@ use std::alloc::Global;
 use std::io::{Read, Write};
 
 /// What the cluster bears as a text, after losses where there were some.
-fn told(alloc: Global, config: &Config, before: Option<Losses>, form: Form) -> Result<String, Stop>
+fn told(alloc: Global, config: &Config, before: Option<&Losses>, form: Form) -> Result<String, Stop>
     ensures { IfErr result (λ stop. stop ≡ Stop.NoMemory) }
 {
-    let losses = before.unwrap_or(Losses {
+    let nobody = Losses {
         destroyed: ProcSet::empty(),
         gone: ProcSet::empty(),
         down: ProcSet::empty(),
-    });
+    };
+    let losses = before.unwrap_or(&nobody);
     let (map, policies) = (config.map(), config.policies());
     // All processes of a configuration satisfy its policies, so only memory can lack.
-    let Ok(dead) = book_of(alloc, map, policies, &losses) else {
+    let Ok(dead) = book_of(alloc, map, policies, losses) else {
         return Err(Stop::NoMemory);
     };
-    match report(alloc, &dead, map, policies, before, form) {
+    match report(alloc, &dead, map, policies, before.copied(), form) {
         Ok(text) => Ok(text),
         Err(_) => Err(Stop::NoMemory),
     }
@@ -134,7 +135,7 @@ pub fn run_bears_after<R: Read, W: Write>(
         Ok(losses) => losses,
         Err(stop) => return Err(stop),
     };
-    let text = match told(alloc, config, Some(losses), form) {
+    let text = match told(alloc, config, Some(&losses), form) {
         Ok(text) => text,
         Err(stop) => return Err(stop),
     };
