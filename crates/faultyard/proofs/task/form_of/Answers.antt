@@ -1,4 +1,4 @@
-use Rattle.std.proofs.Common.{rules, ◌≡◌, ◌∙◌, Option, None, Some, codes, refl, sym, ap, option_map}
+use Rattle.std.proofs.Common.{rules, ◌≡◌, ◌∙◌, None, Some, codes, refl, sym, ap, option_map}
 use Rattle.clap.specs.Words.{found_of}
 use Rattle.clap.proofs.WalkLemmas.{first_value-rows}
 use Rattle.fy_bears.specs.declared.telling.Form.TheVariants.{Json, Text}

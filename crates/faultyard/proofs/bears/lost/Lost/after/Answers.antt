@@ -1,4 +1,4 @@
-use Rattle.std.proofs.Common.{◌≡◌, ◌==◌, ◌&&◌, ◌||◌, not, ℕ, Bool, is_some, ap, ap₂, ◌∙◌, option_map}
+use Rattle.std.proofs.Common.{◌≡◌, ◌==◌, ◌&&◌, ◌||◌, not, ℕ, is_some, ap, ap₂, ◌∙◌}
 use Rattle.std.specs.FinSet as sets
 use Rattle.fy_kinds.specs.Kinds.{is_destroying}
 use Rattle.fy_cluster.specs.History.{destroyed, heals, some_is, struck_by, targets_of, up, ups}
