@@ -1,9 +1,9 @@
 //! Who is destroyed, gone and down after the entries of a journal.
-ghost use Rattle.std.specs.Prelude.{◌≡◌, ◌==◌, ◌&&◌, ◌||◌, ◌∷◌, [], ℕ, None, is_some, is_none, not, length, if◌then◌else◌, option_map};
+ghost use Rattle.std.specs.Prelude.{◌≡◌, ◌==◌, ◌&&◌, ◌||◌, ◌∷◌, [], ℕ, not, option_map};
 ghost use Rattle.std.specs.FinSet as sets;
 ghost use Rattle.fy_kinds.specs.Kinds.{is_destroying};
 ghost use Rattle.fy_cluster.specs.Setup.{Setup};
-ghost use Rattle.fy_cluster.specs.History.{History, after, moment, is_accepted, struck_by, ups, heals, some_is, history};
+ghost use Rattle.fy_cluster.specs.History.{History, moment, is_accepted, struck_by, ups, heals, some_is, history};
 ghost use Rattle.faultyard.specs.BearsTexts.{IsLost, AreLosses};
 
 use fy_acts::{Act, Entry, Reply};
