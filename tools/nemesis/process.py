@@ -1,145 +1,103 @@
-"""Commands that run below the keeper."""
+"""Commands, each below a keeper of its own, and how the tool itself ends."""
 import asyncio
-import contextlib
-import json
+import ctypes
 import os
-import socket
-import subprocess
-import sys
-from enum import IntEnum
+import signal
+from asyncio.subprocess import Process
+from collections.abc import AsyncIterator
+from contextlib import asynccontextmanager, suppress
+from functools import partial
 from pathlib import Path
+from typing import Any
 
-from .keeper import FREEZE, THAW
-
-
-class Status(IntEnum):
-    """How the tool ends."""
-
-    NONE_LOST = 0
-    LOST = 1
-    USAGE = 2  # the words, the cluster file or the list of hooks
-    HOOK = 3  # a hook hung, failed or printed what it may not
-    GUARD = 4  # the guard ended, or its audit isn't legal
-    TOOL = 5  # a process of the tool's own was ended, or there are no ports
+NONE_LOST, LOST, USAGE, HOOK, GUARD, TOOL = range(6)  # how the tool ends
+MOST_PRINTED = 1 << 26
+PR_SET_PDEATHSIG, PR_SET_CHILD_SUBREAPER = 1, 36
+PRCTL = ctypes.CDLL(None).prctl
+AWAITED = {signal.SIGCHLD, signal.SIGTERM}
 
 
 class Fault(Exception):
-    """What ends a run before its time."""
-
-    def __init__(self, status: Status, text: str) -> None:
-        super().__init__(text)
-        self.status = status
+    """What ends a run before its time: how the tool ends, and why."""
 
 
-def reader_of(file: int, most: int | None = None) -> asyncio.StreamReader:
-    """What comes out of a pipe, of which this takes the end; it is closed behind `most` bytes."""
-    loop, reader, left = asyncio.get_running_loop(), asyncio.StreamReader(1 << 16), most
-
-    def feed() -> None:
-        nonlocal left
-        data = os.read(file, 1 << 16)
-        left = None if left is None else left - len(data)
-        if data and (left is None or left > 0):
-            reader.feed_data(data)
-        else:
-            loop.remove_reader(file)
-            os.close(file)
-            reader.feed_eof()
-
-    loop.add_reader(file, feed)
-    return reader
+def signal_below(pid: int, number: int) -> None:
+    """Sends a signal to all processes below one, parents first."""
+    for path in Path("/proc").glob(f"{pid}/task/*/children"):
+        with suppress(OSError):  # it may just have ended, as a child may
+            for child in map(int, path.read_text().split()):
+                with suppress(OSError):
+                    os.kill(child, number)
+                signal_below(child, number)
 
 
-class Process:
-    """A command, with all that it has started."""
-
-    def __init__(self, control: socket.socket) -> None:
-        self._ended: asyncio.Future[int] = asyncio.get_running_loop().create_future()
-        self._control, self._told = control, b""
-        self._stdin: int | None = None
-        self.out = asyncio.StreamReader()
-        asyncio.get_running_loop().add_reader(control, self._hear)
-
-    def _hear(self) -> None:
-        try:
-            told = self._control.recv(64)
-        except ConnectionResetError:  # who held it was killed
-            told = b""
-        self._told += told
-        if not told:
-            asyncio.get_running_loop().remove_reader(self._control)
-            self._control.close()
-            self.close_input()
-            self._ended.set_result(int(self._told or -9))
-
-    def tell(self, line: str) -> None:
-        """Writes a line to it; where it has ended, nobody reads it."""
-        if self._stdin is not None:
-            with contextlib.suppress(BrokenPipeError):
-                os.write(self._stdin, line.encode() + b"\n")
-
-    @property
-    def lives(self) -> bool:
-        return not self._ended.done()
-
-    def freeze(self, frozen: bool) -> None:
-        if self.lives:
-            with contextlib.suppress(BrokenPipeError):  # it may just have ended
-                self._control.send(FREEZE if frozen else THAW)
-
-    async def wait(self) -> int:
-        """Its status, once all of it is gone."""
-        return await asyncio.shield(self._ended)
-
-    async def kill(self) -> int:
-        if self.lives:
-            self._control.shutdown(socket.SHUT_WR)
-        return await self.wait()
-
-    def close_input(self) -> None:
-        if self._stdin is not None:
-            os.close(self._stdin)
-            self._stdin = None
+def end_children() -> None:
+    """Kills all below this process, which is a subreaper: orphans become its children."""
+    with suppress(ChildProcessError):
+        while True:
+            signal_below(os.getpid(), signal.SIGKILL)
+            os.wait()
 
 
-class Keeper:
-    """The process below which all others run, and whose end ends them."""
+def keep(tool: int) -> None:
+    """Called in a child of the tool, it forks, and returns in the new child, which runs a command.
 
-    def __init__(self) -> None:
-        self._requests, given = socket.socketpair(socket.AF_UNIX, socket.SOCK_SEQPACKET)
-        words = [sys.executable, "-I", "-S", str(Path(__file__).with_name("keeper.py"))]
-        with given:
-            self._child = subprocess.Popen(words, stdin=given.fileno(), start_new_session=True)
+    The old child is its keeper: it kills all that the command has started once the command has
+    ended, or at SIGTERM, which the kernel sends once the tool is gone.
+    """
+    signal.pthread_sigmask(signal.SIG_BLOCK, AWAITED)
+    PRCTL(PR_SET_CHILD_SUBREAPER, 1)
+    PRCTL(PR_SET_PDEATHSIG, signal.SIGTERM)
+    if os.getppid() != tool:
+        os._exit(1)
+    if (command := os.fork()) == 0:
+        os.setsid()
+        PRCTL(PR_SET_PDEATHSIG, signal.SIGKILL)
+        signal.pthread_sigmask(signal.SIG_UNBLOCK, AWAITED)
+        return
+    with open("/proc/self/stat") as file:
+        start, end = map(int, file.read().rpartition(")")[2].split()[45:47])
+    ctypes.memset(start, 0, end - start)  # `pkill -f` of the tool's name is to spare the keeper
+    os.closerange(0, max(map(int, os.listdir("/proc/self/fd"))) + 1)
+    ended, status = 0, int(signal.SIGTERM)
+    while ended != command and signal.sigwait(AWAITED) == signal.SIGCHLD:
+        ended, status = os.waitpid(-1, os.WNOHANG)
+        while ended not in (0, command):
+            ended, status = os.waitpid(-1, os.WNOHANG)
+    end_children()
+    code = os.waitstatus_to_exitcode(status)
+    os._exit(code if code >= 0 else 128 - code)
 
-    def run(
-        self, words: list[str], env: dict[str, str], stdin: int, stdout: int, stderr: int
-    ) -> Process:
-        control, given = socket.socketpair()
-        request = json.dumps([words, env]).encode()
-        with given:
-            try:
-                files = [given.fileno(), stdin, stdout, stderr]
-                socket.send_fds(self._requests, [request], files)
-            except OSError as fault:
-                raise Fault(
-                    Status.TOOL, f"a process that holds the others was ended: {fault}"
-                ) from fault
-        return Process(control)
 
-    def talk(
-        self, words: list[str], env: dict[str, str], stderr: int | None, most: int | None = None
-    ) -> Process:
-        """Runs a command whose input and output are pipes; without `stderr`, faults go to its output."""
-        (stdin, told), (heard, stdout) = os.pipe(), os.pipe()
-        try:
-            process = self.run(words, env, stdin, stdout, stdout if stderr is None else stderr)
-        finally:
-            os.close(stdin)
-            os.close(stdout)
-        process._stdin, process.out = told, reader_of(heard, most)
-        return process
+@asynccontextmanager
+async def running(*words: object, **more: Any) -> AsyncIterator[Process]:
+    """A command below a keeper. When the block ends, all that it has started is killed."""
+    more |= {"start_new_session": True, "preexec_fn": partial(keep, os.getpid())}
+    starting = asyncio.create_task(asyncio.create_subprocess_exec(*map(str, words), **more))
+    try:
+        yield await asyncio.shield(starting)
+    finally:
+        process = await starting
+        with suppress(ProcessLookupError):
+            if process.returncode is None:
+                os.kill(process.pid, signal.SIGTERM)
+        await process.communicate()  # its end waits until all that it said is read
+        if process.returncode == -signal.SIGKILL:
+            raise Fault(TOOL, "a process that keeps others was killed")
 
-    def close(self) -> None:
-        """Ends all that runs."""
-        self._requests.close()
-        self._child.wait()
+
+async def output(process: Process) -> tuple[int, str]:
+    """The status of a command, and what it prints. It hangs where it prints too much."""
+    assert process.stdout
+    try:
+        printed = await process.stdout.readexactly(MOST_PRINTED)
+    except asyncio.IncompleteReadError as whole:
+        printed = whole.partial
+    return await process.wait(), printed.decode(errors="replace")
+
+
+async def cancelled(tasks: list[asyncio.Task[None]]) -> None:
+    """Ends tasks, with the commands that run for them."""
+    for task in tasks:
+        task.cancel()
+    await asyncio.gather(*tasks, return_exceptions=True)
