@@ -14,13 +14,17 @@
  * Link with libfaultyard.a, or with -lfaultyard. The library asks malloc, realloc and free for its
  * memory, and nothing else of the system: it opens no file and starts no thread.
  *
- * Every call answers a fy_status. But for FY_DONE, FY_REFUSED and FY_UNWRITTEN nothing changed then,
- * save what the pointers for answers point to.
+ * Every call answers a fy_status. But for FY_DONE, FY_REFUSED and FY_UNWRITTEN the guard is as it
+ * was; what pointers for answers point to may be written all the same, as the call says.
  *
- * A guard stays on the thread that opened it, and one call at a time is made with it; guards of
- * different threads have nothing in common. No call may come from a signal handler, nor from a
- * child that a process with threads forked. Of a guard there is one copy that is used: a copy of
- * the struct is no second guard.
+ * A guard may be moved to another thread, and one call at a time is made with it: threads that share
+ * one take turns, by a mutex. Guards of different threads have nothing in common. Calls that take a
+ * `const fy_guard *` write neither the struct nor what it points to, so they may be made at once
+ * while no other call is. No call may come from a signal handler, nor from a child that a process
+ * with threads forked.
+ *
+ * The struct may be moved in memory. Of a guard there is one copy that is used: a copy of the struct
+ * is no second guard.
  */
 #ifndef FAULTYARD_H
 #define FAULTYARD_H
@@ -32,6 +36,11 @@
 #ifdef __cplusplus
 extern "C" {
 #endif
+
+/* The version of this header: 10,000 times its first number, 100 times the second, and the third.
+ * fy_version answers that of the library. */
+#define FAULTYARD_VERSION 10000
+#define FAULTYARD_VERSION_TEXT "1.0.0"
 
 /* A guard. Only the calls below write it; all zeros, it is closed. */
 typedef struct fy_guard {
@@ -49,7 +58,7 @@ typedef enum fy_status {
                                written: fy_guard_audit reads it. No test has met it, since the memory
                                for a line is asked for before its act is made. */
     FY_NO_ENTRY = 6,        /* The journal has no entry at this place. */
-    FY_ARGUMENT = 7,        /* The number for a key, a kind or a floor is that of none. */
+    FY_ARGUMENT = 7,        /* A number for a key, a kind or a floor is that of none. */
     FY_NAME = 8,            /* The value of the target is no name: 1 to 32 of A-Z a-z 0-9 _ -, the
                                first not -. */
     FY_FLOOR = 9,           /* The floor of the kill is above its kind. */
@@ -134,12 +143,26 @@ typedef enum fy_refusal {
 /* How many words of 64 bits have a bit for each process, the first process lowest in the first. */
 #define FY_SET_WORDS 16
 
+/* What stands for a process and for a message where there is none. */
+#define FY_NOBODY UINT32_MAX
+#define FY_NOTHING UINT64_MAX
+
+/* The time, and what there is to do next. */
+typedef struct fy_seen {
+    uint64_t now;         /* The time, in ticks. */
+    uint64_t deliverable; /* The least message that a deliver would accept now, or FY_NOTHING. */
+    uint32_t unsynced;    /* The least process that is up and has unsynced writes, or FY_NOBODY. */
+    uint32_t sleeping;    /* The least process that is neither up nor gone, or FY_NOBODY. */
+} fy_seen;
+
 /* ---- The library's own calls, for other languages and for the calls below
  *
  * Nothing in them asks whether a guard is open or a pointer null: whoever calls them sees to it.
  * Pointers are never null, also where a length is 0. fy_open takes a closed guard, all zeros. The
- * guard that fy_close took is not used again. The words that fy_left fills are FY_SET_WORDS.
+ * guard that fy_close took is not used again. A `set` has FY_SET_WORDS words. What each answers
+ * stands at the call of the same name below.
  */
+uint32_t fy_version(void);
 uint32_t fy_open(const uint8_t *config, size_t config_length, fy_guard *guard);
 void fy_close(fy_guard guard);
 uint32_t fy_kill(fy_guard *guard, uint32_t actor, uint32_t key, const uint8_t *value, size_t value_length,
@@ -149,10 +172,19 @@ uint32_t fy_up(fy_guard *guard, uint32_t actor, uint32_t process, uint32_t *refu
 uint32_t fy_heal(fy_guard *guard, uint32_t actor, uint32_t process, uint32_t *refusal);
 uint32_t fy_act(fy_guard *guard, const uint8_t *line, size_t line_length, uint8_t *buffer,
                 size_t buffer_length, size_t *told);
-uint32_t fy_is_destroyed(fy_guard *guard, uint32_t process);
-void fy_left(fy_guard *guard, uint64_t *left, size_t words);
-size_t fy_journal_len(fy_guard *guard);
-uint32_t fy_audit(fy_guard *guard, size_t at, uint8_t *buffer, size_t buffer_length, size_t *told);
+uint32_t fy_process(const fy_guard *guard, const uint8_t *name, size_t name_length);
+uint32_t fy_process_count(const fy_guard *guard);
+uint32_t fy_targets(const fy_guard *guard, uint32_t key, const uint8_t *value, size_t value_length,
+                    uint64_t *set, size_t words);
+uint32_t fy_is_destroyed(const fy_guard *guard, uint32_t process);
+void fy_left(const fy_guard *guard, uint64_t *set, size_t words);
+void fy_destroyed_set(const fy_guard *guard, uint64_t *set, size_t words);
+void fy_gone_set(const fy_guard *guard, uint64_t *set, size_t words);
+uint32_t fy_is_acked(const fy_guard *guard, uint32_t record);
+uint32_t fy_keeper(const fy_guard *guard, uint32_t record);
+void fy_sight(const fy_guard *guard, fy_seen *seen);
+size_t fy_journal_len(const fy_guard *guard);
+uint32_t fy_audit(const fy_guard *guard, size_t at, uint8_t *buffer, size_t buffer_length, size_t *told);
 
 /* ---- The calls of a C program */
 
@@ -189,9 +221,11 @@ static inline int fy_guard_is_open(const fy_guard *guard)
 
 /* Orders a kill: by this actor, of the processes whose key has the value (a text that ends with a
  * zero), by the kind, or where it is barred by a milder one down to the floor. Bit i of `tear` is
- * 1 where a reboot keeps the unsynced write i.
+ * 1 where a reboot keeps the unsynced write i of each process that it strikes; from write 64 on it
+ * keeps none.
  *
- * `*struck` is the fy_kind that struck: do that to each process of the target that isn't gone.
+ * `*struck` is the fy_kind that struck: do that to each process of the target that isn't gone, the
+ * set of which fy_guard_targets writes before the kill.
  * `*rule` is the fy_rule that bars the kind that was ordered, and `*named` the number of the process
  * (FY_NO_GRANT, FY_PROTECTED) or of the policy (FY_TOO_MANY_DESTROYED, FY_TOO_FEW_LEFT) that it
  * names. All three are 0 after any status but FY_DONE and FY_CLOSED.
@@ -231,7 +265,8 @@ static inline fy_status fy_guard_heal(fy_guard *guard, uint32_t actor, uint32_t 
 
 /* Makes any act: `line` is a line of a script (docs/FORMATS.md). The line of its entry, which ends
  * with a line feed and has no zero behind it, is written to the front of the buffer, and `*told` is
- * how many bytes it has. It is what `faultyard guard` answers to the same line.
+ * how many bytes it has. What is behind it in the buffer stays as it was. It is what `faultyard
+ * guard` answers to the same line.
  *
  * FY_SHORT where the buffer has fewer than `length` + FY_MOST_REPLY bytes: `*told` is that sum, and
  * nothing is done, whatever the line is. Then in this order: FY_LINE_TOO_LONG, FY_LINE_SYNTAX,
@@ -246,9 +281,41 @@ static inline fy_status fy_guard_act(fy_guard *guard, const char *line, size_t l
                              told);
 }
 
+/* The number of the process whose processid is a name (a text that ends with a zero), or FY_NOBODY.
+ * FY_CLOSED, else FY_DONE. */
+static inline fy_status fy_guard_process(const fy_guard *guard, const char *name, uint32_t *process)
+{
+    if (!fy_guard_is_open(guard) || name == NULL || process == NULL)
+        return FY_CLOSED;
+    *process = fy_process(guard, (const uint8_t *)name, strlen(name));
+    return FY_DONE;
+}
+
+/* How many processes there are; they are numbered from 0. FY_CLOSED, else FY_DONE. */
+static inline fy_status fy_guard_process_count(const fy_guard *guard, uint32_t *count)
+{
+    if (!fy_guard_is_open(guard) || count == NULL)
+        return FY_CLOSED;
+    *count = fy_process_count(guard);
+    return FY_DONE;
+}
+
+/* Whom a kill of this key and value is about, as fy_guard_left writes a set: each process that has
+ * the value and isn't gone for good, emptied or not.
+ *
+ * In this order: FY_CLOSED, FY_ARGUMENT, FY_NAME. Nothing is written then. */
+static inline fy_status fy_guard_targets(const fy_guard *guard, fy_key key, const char *value,
+                                         uint64_t set[FY_SET_WORDS])
+{
+    if (!fy_guard_is_open(guard) || value == NULL || set == NULL)
+        return FY_CLOSED;
+    return (fy_status)fy_targets(guard, (uint32_t)key, (const uint8_t *)value, strlen(value), set,
+                                 FY_SET_WORDS);
+}
+
 /* Whether a process is destroyed, 1 or 0: struck by a kind that empties its disk, and not healed
  * since. FY_CLOSED, else FY_DONE. */
-static inline fy_status fy_guard_is_destroyed(fy_guard *guard, uint32_t process, int *destroyed)
+static inline fy_status fy_guard_is_destroyed(const fy_guard *guard, uint32_t process, int *destroyed)
 {
     if (!fy_guard_is_open(guard) || destroyed == NULL)
         return FY_CLOSED;
@@ -258,16 +325,63 @@ static inline fy_status fy_guard_is_destroyed(fy_guard *guard, uint32_t process,
 
 /* Who is left: bit p % 64 of word p / 64 is 1 where there is a process p that isn't gone for good,
  * emptied or not. FY_CLOSED, else FY_DONE. */
-static inline fy_status fy_guard_left(fy_guard *guard, uint64_t left[FY_SET_WORDS])
+static inline fy_status fy_guard_left(const fy_guard *guard, uint64_t set[FY_SET_WORDS])
 {
-    if (!fy_guard_is_open(guard) || left == NULL)
+    if (!fy_guard_is_open(guard) || set == NULL)
         return FY_CLOSED;
-    fy_left(guard, left, FY_SET_WORDS);
+    fy_left(guard, set, FY_SET_WORDS);
+    return FY_DONE;
+}
+
+/* Who is destroyed, gone for good or not; the set is written as fy_guard_left writes it. FY_CLOSED,
+ * else FY_DONE. */
+static inline fy_status fy_guard_destroyed_set(const fy_guard *guard, uint64_t set[FY_SET_WORDS])
+{
+    if (!fy_guard_is_open(guard) || set == NULL)
+        return FY_CLOSED;
+    fy_destroyed_set(guard, set, FY_SET_WORDS);
+    return FY_DONE;
+}
+
+/* Who is gone for good; the set is written as fy_guard_left writes it. FY_CLOSED, else FY_DONE. */
+static inline fy_status fy_guard_gone_set(const fy_guard *guard, uint64_t set[FY_SET_WORDS])
+{
+    if (!fy_guard_is_open(guard) || set == NULL)
+        return FY_CLOSED;
+    fy_gone_set(guard, set, FY_SET_WORDS);
+    return FY_DONE;
+}
+
+/* Whether a record is acknowledged, 1 or 0. FY_CLOSED, else FY_DONE. */
+static inline fy_status fy_guard_is_acked(const fy_guard *guard, uint32_t record, int *acked)
+{
+    if (!fy_guard_is_open(guard) || acked == NULL)
+        return FY_CLOSED;
+    *acked = fy_is_acked(guard, record) != 0;
+    return FY_DONE;
+}
+
+/* Who keeps an acknowledged record: the least member of its team that isn't destroyed and has the
+ * record synced. FY_NOBODY for any other record. FY_CLOSED, else FY_DONE. */
+static inline fy_status fy_guard_keeper(const fy_guard *guard, uint32_t record, uint32_t *process)
+{
+    if (!fy_guard_is_open(guard) || process == NULL)
+        return FY_CLOSED;
+    *process = fy_keeper(guard, record);
+    return FY_DONE;
+}
+
+/* The time, and what there is to do next. FY_CLOSED, else FY_DONE. */
+static inline fy_status fy_guard_sight(const fy_guard *guard, fy_seen *seen)
+{
+    if (!fy_guard_is_open(guard) || seen == NULL)
+        return FY_CLOSED;
+    fy_sight(guard, seen);
     return FY_DONE;
 }
 
 /* How many entries the journal has. FY_CLOSED, else FY_DONE. */
-static inline fy_status fy_guard_journal_len(fy_guard *guard, size_t *count)
+static inline fy_status fy_guard_journal_len(const fy_guard *guard, size_t *count)
 {
     if (!fy_guard_is_open(guard) || count == NULL)
         return FY_CLOSED;
@@ -276,13 +390,13 @@ static inline fy_status fy_guard_journal_len(fy_guard *guard, size_t *count)
 }
 
 /* Writes the line of the entry at a place of the journal, from 0, to the front of the buffer, and to
- * `*told` how many bytes it has. FY_AUDIT_HEADER and these lines are the audit that `faultyard check`
- * reads.
+ * `*told` how many bytes it has. What is behind it in the buffer stays as it was. FY_AUDIT_HEADER
+ * and these lines are the audit that `faultyard check` reads.
  *
  * In this order: FY_CLOSED; FY_NO_ENTRY; FY_NO_MEMORY; FY_SHORT where the buffer has fewer bytes than
  * the line, and `*told` is how many that has. */
-static inline fy_status fy_guard_audit(fy_guard *guard, size_t at, char *buffer, size_t buffer_length,
-                                       size_t *told)
+static inline fy_status fy_guard_audit(const fy_guard *guard, size_t at, char *buffer,
+                                       size_t buffer_length, size_t *told)
 {
     if (!fy_guard_is_open(guard) || buffer == NULL || told == NULL)
         return FY_CLOSED;

@@ -124,6 +124,159 @@ static void refusals(void)
     fy_guard_close(&guard);
 }
 
+/* A set of processes below 64, which is all that it has. */
+#define SET(found, wanted)                \
+    do {                                  \
+        EQUAL((found)[0], wanted);        \
+        for (int word = 1; word < FY_SET_WORDS; word++) \
+            EQUAL((found)[word], 0);      \
+    } while (0)
+
+/* The sets of a guard: who is left, destroyed and gone. */
+static void sets_are(const fy_guard *guard, uint64_t left, uint64_t destroyed, uint64_t gone)
+{
+    uint64_t set[FY_SET_WORDS];
+    memset(set, 0xff, sizeof set);
+    EQUAL(fy_guard_left(guard, set), FY_DONE);
+    SET(set, left);
+    memset(set, 0xff, sizeof set);
+    EQUAL(fy_guard_destroyed_set(guard, set), FY_DONE);
+    SET(set, destroyed);
+    memset(set, 0xff, sizeof set);
+    EQUAL(fy_guard_gone_set(guard, set), FY_DONE);
+    SET(set, gone);
+}
+
+/* Whom a target means. */
+static void targets_are(const fy_guard *guard, fy_key key, const char *value, uint64_t wanted)
+{
+    uint64_t set[FY_SET_WORDS];
+    memset(set, 0xff, sizeof set);
+    EQUAL(fy_guard_targets(guard, key, value, set), FY_DONE);
+    SET(set, wanted);
+}
+
+/* Whom a kill would be about, and what has become of whom: emptied is destroyed and left, killed for good is gone, and a
+ * process that is healed is neither. */
+static void sets(void)
+{
+    fy_guard guard = open_guard(SIX);
+    uint32_t refusal;
+    uint64_t set[FY_SET_WORDS];
+    sets_are(&guard, 0x3f, 0, 0);
+    targets_are(&guard, FY_ZONE, "z0", 0x03);
+    targets_are(&guard, FY_PROCESS, "p5", 0x20);
+    targets_are(&guard, FY_MACHINE, "m2", 0x04);
+    targets_are(&guard, FY_DATA_CENTER, "d0", 0x3f);
+    targets_are(&guard, FY_DATA_HALL, "d0", 0);
+    targets_are(&guard, FY_ZONE, "p5", 0);
+    EQUAL(kill(&guard, 1, FY_PROCESS, "p1", FY_KILL_INSTANTLY, FY_KILL_INSTANTLY), FY_DONE);
+    EQUAL(struck, FY_KILL_INSTANTLY);
+    sets_are(&guard, 0x3d, 0x02, 0x02);
+    targets_are(&guard, FY_ZONE, "z0", 0x01);
+    EQUAL(kill(&guard, 1, FY_ZONE, "z0", FY_REBOOT_AND_DELETE, FY_REBOOT_AND_DELETE), FY_DONE);
+    EQUAL(struck, FY_REBOOT_AND_DELETE);
+    sets_are(&guard, 0x3d, 0x03, 0x02);
+    targets_are(&guard, FY_ZONE, "z0", 0x01);
+    EQUAL(fy_guard_up(&guard, 0, 0, &refusal), FY_DONE);
+    EQUAL(fy_guard_heal(&guard, 0, 0, &refusal), FY_DONE);
+    sets_are(&guard, 0x3d, 0x02, 0x02);
+    /* What is no target writes nothing. */
+    memset(set, 0x55, sizeof set);
+    EQUAL(fy_guard_targets(&guard, (fy_key)0, "z0", set), FY_ARGUMENT);
+    EQUAL(fy_guard_targets(&guard, (fy_key)6, "", set), FY_ARGUMENT);
+    EQUAL(fy_guard_targets(&guard, FY_ZONE, "", set), FY_NAME);
+    EQUAL(fy_guard_targets(&guard, FY_ZONE, "z 0", set), FY_NAME);
+    for (int word = 0; word < FY_SET_WORDS; word++)
+        EQUAL(set[word], 0x5555555555555555);
+    fy_guard_close(&guard);
+}
+
+/* Processes by their names. */
+static void names(void)
+{
+    fy_guard guard = open_guard(SIX);
+    uint32_t process = 77;
+    char name[8];
+    EQUAL(fy_guard_process_count(&guard, &process), FY_DONE);
+    EQUAL(process, 6);
+    for (uint32_t p = 0; p < 6; p++) {
+        snprintf(name, sizeof name, "p%u", (unsigned)p);
+        EQUAL(fy_guard_process(&guard, name, &process), FY_DONE);
+        EQUAL(process, p);
+    }
+    static const char *const none[] = {"p6", "m0", "P0", "p", "", "p 0", "-p0", "a23456789012345678901234567890123"};
+    for (size_t i = 0; i < sizeof none / sizeof *none; i++) {
+        process = 77;
+        EQUAL(fy_guard_process(&guard, none[i], &process), FY_DONE);
+        EQUAL(process, FY_NOBODY);
+    }
+    fy_guard_close(&guard);
+}
+
+static void act(fy_guard *guard, const char *line)
+{
+    char buffer[512];
+    size_t told = 0;
+    EQUAL(fy_guard_act(guard, line, strlen(line), buffer, sizeof buffer, &told), FY_DONE);
+    if (strstr(line, "\"act\"") == NULL || told == 0)
+        return;
+    buffer[told] = 0;
+    EQUAL(strstr(buffer, "\"no\"") == NULL, 1);
+}
+
+static void seen_is(const fy_guard *guard, uint64_t now, uint64_t deliverable, uint32_t unsynced, uint32_t sleeping)
+{
+    fy_seen seen;
+    memset(&seen, 0x55, sizeof seen);
+    EQUAL(fy_guard_sight(guard, &seen), FY_DONE);
+    EQUAL(seen.now, now);
+    EQUAL(seen.deliverable, deliverable);
+    EQUAL(seen.unsynced, unsynced);
+    EQUAL(seen.sleeping, sleeping);
+}
+
+static void record_is(const fy_guard *guard, uint32_t record, int acked, uint32_t keeper)
+{
+    int found = 77;
+    uint32_t process = 77;
+    EQUAL(fy_guard_is_acked(guard, record, &found), FY_DONE);
+    EQUAL(found, acked);
+    EQUAL(fy_guard_keeper(guard, record, &process), FY_DONE);
+    EQUAL(process, keeper);
+}
+
+/* A record of processes 0 and 2 is acknowledged by the second word, and kept by the least of them that isn't destroyed. */
+static void records(void)
+{
+    fy_guard guard = open_guard(SIX);
+    seen_is(&guard, 0, FY_NOTHING, FY_NOBODY, FY_NOBODY);
+    record_is(&guard, 0, 0, FY_NOBODY);
+    act(&guard, "{\"by\":0,\"act\":{\"form\":{\"members\":[0,2],\"policy\":0}}}");
+    act(&guard, "{\"by\":0,\"act\":{\"begin\":{\"payload\":\"6869\",\"team\":0}}}");
+    seen_is(&guard, 0, 0, FY_NOBODY, FY_NOBODY);
+    act(&guard, "{\"by\":0,\"act\":{\"deliver\":{\"message\":0}}}");
+    seen_is(&guard, 0, 1, 0, FY_NOBODY);
+    act(&guard, "{\"by\":0,\"act\":{\"deliver\":{\"message\":1}}}");
+    act(&guard, "{\"by\":0,\"act\":{\"sync\":{\"process\":0}}}");
+    seen_is(&guard, 0, 2, 2, FY_NOBODY);
+    act(&guard, "{\"by\":0,\"act\":{\"sync\":{\"process\":2}}}");
+    act(&guard, "{\"by\":0,\"act\":{\"tick\":{\"ticks\":9}}}");
+    seen_is(&guard, 9, 2, FY_NOBODY, FY_NOBODY);
+    act(&guard, "{\"by\":0,\"act\":{\"deliver\":{\"message\":2}}}");
+    record_is(&guard, 0, 0, FY_NOBODY);
+    act(&guard, "{\"by\":0,\"act\":{\"deliver\":{\"message\":3}}}");
+    record_is(&guard, 0, 1, 0);
+    record_is(&guard, 1, 0, FY_NOBODY);
+    record_is(&guard, UINT32_MAX, 0, FY_NOBODY);
+    seen_is(&guard, 9, FY_NOTHING, FY_NOBODY, FY_NOBODY);
+    EQUAL(kill(&guard, 1, FY_PROCESS, "p0", FY_REBOOT_AND_DELETE, FY_REBOOT_AND_DELETE), FY_DONE);
+    EQUAL(struck, FY_REBOOT_AND_DELETE);
+    record_is(&guard, 0, 1, 2);
+    seen_is(&guard, 9, FY_NOTHING, FY_NOBODY, 0);
+    fy_guard_close(&guard);
+}
+
 /* Each error that enters nothing. */
 static void errors(void)
 {
@@ -158,10 +311,15 @@ static void errors(void)
     EQUAL(fy_guard_journal_len(&guard, &count), FY_DONE);
     EQUAL(count, 0);
     EQUAL(fy_guard_act(&guard, KILL_ZONE, length, room, length + FY_MOST_REPLY, &told), FY_DONE);
-    EQUAL(room[length + FY_MOST_REPLY], 'x');
+    for (size_t i = told; i < sizeof room; i++)
+        EQUAL(room[i], 'x');
     size_t line = told;
     EQUAL(fy_guard_audit(&guard, 0, room, line - 1, &told), FY_SHORT);
     EQUAL(told, line);
+    memset(room, 'y', sizeof room);
+    EQUAL(fy_guard_audit(&guard, 0, room, sizeof room, &told), FY_DONE);
+    for (size_t i = told; i < sizeof room; i++)
+        EQUAL(room[i], 'y');
     EQUAL(fy_guard_audit(&guard, 0, room, line, &told), FY_DONE);
     EQUAL(told, line);
     EQUAL(fy_guard_audit(&guard, 1, room, sizeof room, &told), FY_NO_ENTRY);
@@ -220,6 +378,8 @@ static void closed(void)
     int destroyed = 2;
     uint64_t left[FY_SET_WORDS];
     char buffer[256];
+    uint32_t process;
+    fy_seen seen;
     fy_guard_close(&guard);
     fy_guard_close(NULL);
     EQUAL(fy_guard_open(NULL, 0, &guard), FY_CLOSED);
@@ -232,6 +392,14 @@ static void closed(void)
         EQUAL(fy_guard_act(none, "", 0, buffer, sizeof buffer, &told), FY_CLOSED);
         EQUAL(fy_guard_is_destroyed(none, 0, &destroyed), FY_CLOSED);
         EQUAL(fy_guard_left(none, left), FY_CLOSED);
+        EQUAL(fy_guard_destroyed_set(none, left), FY_CLOSED);
+        EQUAL(fy_guard_gone_set(none, left), FY_CLOSED);
+        EQUAL(fy_guard_targets(none, FY_ZONE, "z0", left), FY_CLOSED);
+        EQUAL(fy_guard_process(none, "p0", &process), FY_CLOSED);
+        EQUAL(fy_guard_process_count(none, &process), FY_CLOSED);
+        EQUAL(fy_guard_is_acked(none, 0, &destroyed), FY_CLOSED);
+        EQUAL(fy_guard_keeper(none, 0, &process), FY_CLOSED);
+        EQUAL(fy_guard_sight(none, &seen), FY_CLOSED);
         EQUAL(fy_guard_journal_len(none, &told), FY_CLOSED);
         EQUAL(fy_guard_audit(none, 0, buffer, sizeof buffer, &told), FY_CLOSED);
     }
@@ -243,6 +411,16 @@ static void closed(void)
     EQUAL(fy_guard_act(&guard, "", 0, NULL, 0, &told), FY_CLOSED);
     EQUAL(fy_guard_is_destroyed(&guard, 0, NULL), FY_CLOSED);
     EQUAL(fy_guard_left(&guard, NULL), FY_CLOSED);
+    EQUAL(fy_guard_destroyed_set(&guard, NULL), FY_CLOSED);
+    EQUAL(fy_guard_gone_set(&guard, NULL), FY_CLOSED);
+    EQUAL(fy_guard_targets(&guard, FY_ZONE, "z0", NULL), FY_CLOSED);
+    EQUAL(fy_guard_targets(&guard, FY_ZONE, NULL, left), FY_CLOSED);
+    EQUAL(fy_guard_process(&guard, "p0", NULL), FY_CLOSED);
+    EQUAL(fy_guard_process(&guard, NULL, &process), FY_CLOSED);
+    EQUAL(fy_guard_process_count(&guard, NULL), FY_CLOSED);
+    EQUAL(fy_guard_is_acked(&guard, 0, NULL), FY_CLOSED);
+    EQUAL(fy_guard_keeper(&guard, 0, NULL), FY_CLOSED);
+    EQUAL(fy_guard_sight(&guard, NULL), FY_CLOSED);
     EQUAL(fy_guard_journal_len(&guard, NULL), FY_CLOSED);
     EQUAL(fy_guard_audit(&guard, 0, NULL, 0, &told), FY_CLOSED);
     fy_guard_close(&guard);
@@ -255,8 +433,12 @@ int main(void)
     worked_kill();
     rules();
     refusals();
+    sets();
+    names();
+    records();
     errors();
     cluster_files();
     closed();
+    EQUAL(fy_version(), FAULTYARD_VERSION);
     return ended("guard");
 }

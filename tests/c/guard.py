@@ -16,15 +16,31 @@ library = c.CDLL(sys.argv[1])
 at = c.POINTER(Guard)
 number, numbers = c.c_uint32, c.POINTER(c.c_uint32)
 size, sizes = c.c_size_t, c.POINTER(c.c_size_t)
+
+
+class Seen(c.Structure):
+    _fields_ = [("now", c.c_uint64), ("deliverable", c.c_uint64), ("unsynced", number), ("sleeping", number)]
+
+
+words = c.POINTER(c.c_uint64)
 SHAPES = {
+    "fy_version": (number, []),
     "fy_open": (number, [c.c_char_p, size, at]),
     "fy_close": (None, [Guard]),
     "fy_kill": (number, [at, number, number, c.c_char_p, size, number, number, c.c_uint64, numbers, numbers, c.POINTER(c.c_uint64)]),
     "fy_up": (number, [at, number, number, numbers]),
     "fy_heal": (number, [at, number, number, numbers]),
     "fy_act": (number, [at, c.c_char_p, size, c.c_char_p, size, sizes]),
+    "fy_process": (number, [at, c.c_char_p, size]),
+    "fy_process_count": (number, [at]),
+    "fy_targets": (number, [at, number, c.c_char_p, size, words, size]),
     "fy_is_destroyed": (number, [at, number]),
-    "fy_left": (None, [at, c.POINTER(c.c_uint64), size]),
+    "fy_left": (None, [at, words, size]),
+    "fy_destroyed_set": (None, [at, words, size]),
+    "fy_gone_set": (None, [at, words, size]),
+    "fy_is_acked": (number, [at, number]),
+    "fy_keeper": (number, [at, number]),
+    "fy_sight": (None, [at, c.POINTER(Seen)]),
     "fy_journal_len": (size, [at]),
     "fy_audit": (number, [at, size, c.c_char_p, size, sizes]),
 }
@@ -61,6 +77,17 @@ assert [library.fy_is_destroyed(guard, p) for p in range(6)] == [1, 1, 0, 0, 0, 
 left = (c.c_uint64 * 16)(*[2**64 - 1] * 16)
 library.fy_left(guard, left, 16)
 assert list(left) == [0b111100] + [0] * 15
+for call, wanted in (("fy_destroyed_set", 0b11), ("fy_gone_set", 0b11)):
+    left[0] = 77
+    getattr(library, call)(guard, left, 16)
+    assert list(left) == [wanted] + [0] * 15, call
+assert library.fy_targets(guard, 3, b"z1", 2, left, 16) == 0 and left[0] == 0b1100
+assert library.fy_version() == 10000 and library.fy_process_count(guard) == 6
+assert (library.fy_process(guard, b"p5", 2), library.fy_process(guard, b"p6", 2)) == (5, 2**32 - 1)
+assert (library.fy_is_acked(guard, 0), library.fy_keeper(guard, 0)) == (0, 2**32 - 1)
+seen = Seen()
+library.fy_sight(guard, seen)
+assert (seen.now, seen.deliverable, seen.unsynced, seen.sleeping) == (0, 2**64 - 1, 2**32 - 1, 3)
 reason = number()
 assert library.fy_up(guard, 0, 3, reason) == 0, "process 3 was rebooted with its zone"
 assert library.fy_heal(guard, 0, 2, reason) == REFUSED and reason.value == NOT_DESTROYED

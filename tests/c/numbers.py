@@ -1,6 +1,7 @@
 #!/usr/bin/env python3
 """Holds each number of include/faultyard.h against the one by which crates/fy_c, which is proved, knows it."""
 import re
+import subprocess
 from pathlib import Path
 
 # What only the header answers, and 'none'.
@@ -8,13 +9,20 @@ OWN = {"FY_CLOSED": 19, "FY_NONE": 0, "FY_NO_RULE": 0, "FY_NOT_REFUSED": 0}
 
 top = Path(__file__).resolve().parents[2]
 header = dict(re.findall(r"^    (FY_\w+) = (\d+),", (top / "include/faultyard.h").read_text(), re.M))
-sources = "".join((top / "crates/fy_c/src" / f"{it}.rt").read_text() for it in ("status", "entering", "killing"))
+sources = "".join((top / "crates/fy_c/src" / f"{it}.rt").read_text() for it in ("status", "entering", "numbers"))
 known = re.findall(r"(?:Status|Refusal|Kind|Rule)::(\w+)(?: \{ \.\. \})?\)? => (\d+),", sources)
 known += [(name, number) for number, name in re.findall(r"(\d+) => Some\((?:Key|Kind)::(\w+)\)", sources)]
 # A rule that names nothing is 0 in that sense alone.
 wanted = {"FY_" + re.sub(r"(?<=.)([A-Z])", r"_\1", it).upper(): int(n) for it, n in known if (it, n) != ("NoTarget", "0")}
 found = {name: int(number) for name, number in header.items()}
 assert found == wanted | OWN, sorted(set(found.items()) ^ set((wanted | OWN).items()))
+
+version = subprocess.run([top / "release/version"], capture_output=True, check=True, text=True).stdout.strip()
+first, second, third = map(int, version.split("."))
+defined = dict(re.findall(r"^#define (FAULTYARD_\w+) (\S+)$", (top / "include/faultyard.h").read_text(), re.M))
+number = first * 10000 + second * 100 + third
+assert defined == {"FAULTYARD_VERSION": str(number), "FAULTYARD_VERSION_TEXT": f'"{version}"'}, defined
+
 limit = re.search(r"MOST_REPLY_BYTES: usize = (\d+);", (top / "crates/fy_c/src/acting.rt").read_text())[1]
 assert f"#define FY_MOST_REPLY {limit}\n" in (top / "include/faultyard.h").read_text()
 print(f"numbers.py: {len(found)} numbers")

@@ -26,6 +26,7 @@ WANTED = [
     "bin/faultyard",
     *(f"bin/faultyard-{it}" for it in TOOLS),
     "include/faultyard.h",
+    "include/faultyard.hpp",
     "lib/libfaultyard.a",
     "lib/libfaultyard.so",
     "lib/libfaultyard.so.1",
@@ -39,6 +40,8 @@ WANTED = [
     "share/doc/faultyard/docs/GUARD.md",
     "share/doc/faultyard/examples/c6.toml",
     "share/doc/faultyard/examples/redis/hooks",
+    "share/faultyard/bindings/cpp/README.md",
+    "share/faultyard/bindings/go/go.mod",
     "share/faultyard/bindings/python/pyproject.toml",
     "share/man/man1/faultyard.1",
     *(f"share/man/man1/faultyard-{it}.1" for it in COMMANDS + TOOLS),
@@ -291,6 +294,18 @@ def archive_is_found_by_pkg_config() -> None:
     assert (Path(library.removeprefix("-L")) / "libfaultyard.so").is_file(), library
 
 
+def archive_serves_cpp_and_go() -> None:
+    need("c++", "go", "pkg-config")
+    env = environment(PKG_CONFIG_PATH=str(unpacked() / "lib/pkgconfig"))
+    flags = said("pkg-config", "--cflags", "--libs", "faultyard", env=env).split()
+    source, program = room() / "open.cpp", room() / "open"
+    source.write_text('#include <faultyard.hpp>\nint main() { faultyard::Guard(""); }\n')
+    said("c++", "-std=c++17", source, *flags, "-o", program)
+    env |= {"GOCACHE": f"{room()}/go", "GOPATH": f"{room()}/go", "GOENV": "off", "GOPROXY": "off"}
+    package = unpacked() / "share/faultyard/bindings/go"
+    said("go", "build", "-mod=readonly", ".", cwd=package, env=env)
+
+
 def installed_and_uninstalled() -> None:
     root = room() / "installed"
     said(
@@ -351,6 +366,7 @@ CHECKS = [
     archive_runs_where_it_lies,
     archive_sweeps,
     archive_is_found_by_pkg_config,
+    archive_serves_cpp_and_go,
     installed_and_uninstalled,
     nothing_without_its_files,
 ]

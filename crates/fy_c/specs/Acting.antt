@@ -1,5 +1,5 @@
 -- what a line comes to, and which bytes are told of it
-use Rattle.std.specs.Prelude.{◌≡◌, ◌+◌, ◌<◌, ◌≤◌, ℕ, List, length, take, slice_get, Ok, Err, Some}
+use Rattle.std.specs.Prelude.{◌≡◌, ◌+◌, ◌++◌, ◌<◌, ◌≤◌, ℕ, List, length, drop, slice_get, Ok, Err, Some}
 use Rattle.fy_acts.specs.declared.entry.Entry.{Entry}
 use Rattle.fy_spelling.specs.Command.{LineOf}
 use Rattle.fy_spelling.specs.declared.command.Command.{Command}
@@ -35,6 +35,10 @@ entry_of course command = record {
   reply = replied course command.by command.act;
 }
 
+-- the journal has fewer entries than it may have
+abbrev pub HasRoom : Course → Type 0
+HasRoom course = length course.journal < course.setup.limit
+
 -- the command is entered, and no acknowledged record is lost
 pub record IsMade (old new : Course) (command : Command) : Type 0 where
   pub entered : new ≡ entered old command.by command.act
@@ -43,50 +47,64 @@ pub record IsMade (old new : Course) (command : Command) : Type 0 where
 -- why a command makes no entry: the journal is full, or there was no memory
 pub data NotMade (old : Course) : Status → Type 0 where
   full : old.setup.limit ≤ length old.journal → NotMade old JournalFull
-  no_memory : (old.setup.limit ≤ length old.journal → ⊥) → NotMade old NoMemory
+  no_memory : HasRoom old → NotMade old NoMemory
 
 -- a command has no answer: it makes no entry, or its entry's line could not be had
 pub data NoAnswer (old new : Course) (command : Command) : Status → Type 0 where
   not_made : (status : Status) → NotMade old status → new ≡ old → NoAnswer old new command status
-  unwritten : IsMade old new command → NoAnswer old new command Unwritten
+  unwritten : HasRoom old → IsMade old new command → NoAnswer old new command Unwritten
 
--- a line has no answer: it is no command, there was no memory to read it, or its command has none
+-- why a line makes no entry: it is no command, the journal is full, or there was no memory
+pub data NotEntered (old : Course) (line : List ℕ) : Status → Type 0 where
+  faulty : (fault : LineFault) → LineOf line (Err fault) → NotEntered old line (line_status fault)
+  full : (command : Command) → LineOf line (Ok command) → old.setup.limit ≤ length old.journal →
+      NotEntered old line JournalFull
+  no_memory : NotEntered old line NoMemory
+
+-- a line has no answer: it makes no entry, or its command's line could not be had
 pub data NoLine (old new : Course) (line : List ℕ) : Status → Type 0 where
-  faulty : (fault : LineFault) → LineOf line (Err fault) → new ≡ old →
-      NoLine old new line (line_status fault)
-  no_memory : new ≡ old → NoLine old new line NoMemory
-  no_answer : (command : Command) (status : Status) → LineOf line (Ok command) →
-      NoAnswer old new command status → NoLine old new line status
+  not_entered : (status : Status) → NotEntered old line status → new ≡ old →
+      NoLine old new line status
+  unwritten : (command : Command) → LineOf line (Ok command) → HasRoom old →
+      IsMade old new command → NoLine old new line Unwritten
 
--- a line is answered by a text: it is a command, which is entered, and the text is its entry's line
+-- a line is answered by a text: it is a command, which is entered where there is room, and the text
+-- is its entry's line
 pub record IsAnswered (old new : Course) (line text : List ℕ) : Type 0 where
   pub command : Command
   pub asked : LineOf line (Ok command)
+  pub room : HasRoom old
   pub made : IsMade old new command
   pub text_is : text ≡ entry_line (entry_of old command)
 
--- the first bytes of a buffer are these, as many as is told
-pub record Tells (buffer : List ℕ) (told : ℕ) (text : List ℕ) : Type 0 where
-  pub fits : length text ≤ length buffer
+-- the text is written to the front of a buffer, whose other bytes stay, and its length is told
+pub record Tells (before after : List ℕ) (told : ℕ) (text : List ℕ) : Type 0 where
+  pub fits : length text ≤ length before
   pub count : told ≡ length text
-  pub front : take told buffer ≡ text
+  pub bytes : after ≡ text ++ drop (length text) before
 
 -- the buffer is too short, and this many bytes are asked for
 pub record IsShort (buffer : List ℕ) (asked told : ℕ) : Type 0 where
   pub asked_is : told ≡ asked
   pub short : length buffer < asked
 
--- a line came to an act whose entry's line is told; or to none, and nothing changed; or to one
--- whose entry's line could not be told
+-- how many bytes a buffer has to have for a line
+abbrev pub room_for : List ℕ → ℕ
+room_for line = length line + MOST_REPLY_BYTES
+
+-- what a line came to. Where the buffer has too few bytes, nothing else is looked at. Else it came
+-- to an act whose entry's line is told; to an act whose entry's line could not be had; or to none,
+-- and nothing changed
 pub data Acts (old new : Course) (line before after : List ℕ) (told : ℕ) : Status → Type 0 where
-  answered : (text : List ℕ) → IsAnswered old new line text → Tells after told text →
-      Acts old new line before after told Done
-  short : IsShort before (length line + MOST_REPLY_BYTES) told → new ≡ old → after ≡ before →
+  short : IsShort before (room_for line) told → new ≡ old → after ≡ before →
       Acts old new line before after told Short
-  unwritten : (text : List ℕ) → IsAnswered old new line text → after ≡ before →
+  answered : room_for line ≤ length before → (text : List ℕ) → IsAnswered old new line text →
+      Tells before after told text → Acts old new line before after told Done
+  unwritten : room_for line ≤ length before → (command : Command) → LineOf line (Ok command) →
+      HasRoom old → IsMade old new command → after ≡ before →
       Acts old new line before after told Unwritten
-  no_line : (status : Status) → NoLine old new line status → after ≡ before →
-      Acts old new line before after told status
+  not_entered : room_for line ≤ length before → (status : Status) → NotEntered old line status →
+      new ≡ old → after ≡ before → Acts old new line before after told status
 
 -- the journal has an entry at this place, and this is its line
 pub record HasLine (journal : List Entry) (at : ℕ) (line : List ℕ) : Type 0 where
@@ -94,15 +112,15 @@ pub record HasLine (journal : List Entry) (at : ℕ) (line : List ℕ) : Type 0 
   pub there : slice_get journal at ≡ Some entry
   pub line_is : line ≡ entry_line entry
 
--- why the line of an entry isn't had: there is no entry at this place, or no memory
+-- why the line of an entry isn't had: there is no entry at this place; or there is, and no memory
 pub data NotRead (journal : List Entry) (at : ℕ) : Status → Type 0 where
   no_entry : length journal ≤ at → NotRead journal at NoEntry
-  no_memory : NotRead journal at NoMemory
+  no_memory : at < length journal → NotRead journal at NoMemory
 
 -- the line of an entry is told, or why not
 pub data Reads (journal : List Entry) (at : ℕ) (before after : List ℕ) (told : ℕ)
     : Status → Type 0 where
-  read : (line : List ℕ) → HasLine journal at line → Tells after told line →
+  read : (line : List ℕ) → HasLine journal at line → Tells before after told line →
       Reads journal at before after told Done
   short : (line : List ℕ) → HasLine journal at line → IsShort before (length line) told →
       after ≡ before → Reads journal at before after told Short

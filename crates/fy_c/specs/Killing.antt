@@ -28,19 +28,29 @@ pub record Given : Type 0 where
 pub record IsOrderOf (given : Given) (order : Order) : Type 0 where
   pub key : given.key ≡ key_number order.target.key
   pub value : given.value ≡ order.target.value
+  pub name : IsTrue (is_name given.value)
   pub kind : given.kind ≡ kind_number order.kind
   pub floor : given.floor ≡ kind_number order.floor
   pub tear : given.tear ≡ order.tear
 
--- why no order is given: a number is of no key or kind, the value is no name, or the floor is above
--- the kind
+-- the three numbers are those of a key and of two kinds
+pub record AreNumbers (given : Given) : Type 0 where
+  pub key : Key
+  pub kind : Kind
+  pub floor : Kind
+  pub key_is : given.key ≡ key_number key
+  pub kind_is : given.kind ≡ kind_number kind
+  pub floor_is : given.floor ≡ kind_number floor
+
+-- why no order is given, the first that holds: a number is of no key or kind, the value is no name,
+-- or the floor is above the kind
 pub data NoOrder (given : Given) : Status → Type 0 where
   no_key : ((key : Key) → given.key ≢ key_number key) → NoOrder given Argument
   no_kind : ((kind : Kind) → given.kind ≢ kind_number kind) → NoOrder given Argument
   no_floor : ((kind : Kind) → given.floor ≢ kind_number kind) → NoOrder given Argument
-  no_name : (IsTrue (is_name given.value) → ⊥) → NoOrder given Name
-  above : (kind floor : Kind) → given.kind ≡ kind_number kind → given.floor ≡ kind_number floor →
-      rank kind < rank floor → NoOrder given Floor
+  no_name : AreNumbers given → (IsTrue (is_name given.value) → ⊥) → NoOrder given Name
+  above : (numbers : AreNumbers given) → IsTrue (is_name given.value) →
+      rank numbers.kind < rank numbers.floor → NoOrder given Floor
 
 -- nothing to tell
 abbrev pub untold : Told

@@ -1,6 +1,9 @@
 pub mod Acting
+pub mod Asking
 pub mod Entering
+pub mod Handles
 pub mod Killing
 pub mod Numbers
 pub mod Opening
+pub mod Sets
 pub mod Statuses

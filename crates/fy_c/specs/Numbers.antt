@@ -1,5 +1,6 @@
--- the numbers by which C knows keys, kinds, rules and refusals
+-- the numbers by which C knows keys, kinds, rules, processes, messages and refusals
 use Rattle.std.specs.Prelude.{ℕ, ◌+◌, Option, Some, None, Result, Ok, Err}
+use Rattle.fy_locality.specs.declared.ProcId.{ProcId}
 use Rattle.fy_locality.specs.declared.key.Key.{Key}
 use Rattle.fy_locality.specs.declared.key.Key.TheVariants.{Process, Machine, Zone, DataHall, DataCenter}
 use Rattle.fy_kinds.specs.declared.kind.Kind.{Kind}
@@ -43,6 +44,16 @@ named_by (Some (rule.NoGrant process)) = process.0
 named_by (Some (rule.Protected process)) = process.0
 named_by (Some (rule.TooManyDestroyed policy)) = policy
 named_by (Some (rule.TooFewLeft policy)) = policy
+
+-- the process, 2 ^ 32 - 1 where there is none
+abbrev pub process_number : Option ProcId → ℕ
+process_number None = 4294967295
+process_number (Some process) = process.0
+
+-- the message, 2 ^ 64 - 1 where there is none
+abbrev pub message_number : Option ℕ → ℕ
+message_number None = 18446744073709551615
+message_number (Some message) = message
 
 -- refusals, from 1
 abbrev pub refusal_number : Refusal → ℕ

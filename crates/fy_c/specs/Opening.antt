@@ -1,12 +1,10 @@
 -- what a guard is opened with, or why it stays closed
-use Rattle.std.specs.Prelude.{◌≡◌, ◌≢◌, ℕ, List, Ok, Err}
+use Rattle.std.specs.Prelude.{◌≡◌, ◌≢◌, ◌≤◌, ℕ, List, length, IsUtf8, Ok, Err}
 use Rattle.std.specs.Ptr.{null_ptr}
-use Rattle.std.specs.FinSet as sets
-use Rattle.fy_locality.specs.Members.{members}
 use Rattle.fy_config.specs.Config.{ConfigOf}
 use Rattle.fy_config.specs.declared.fault.ConfigFault.{ConfigFault}
-use Rattle.fy_cluster.specs.Course.{Course, history_of, opened}
-use Rattle.fy_cluster.specs.History.{left}
+use Rattle.fy_config.specs.declared.limits.TheConstants.{MOST_FILE_BYTES}
+use Rattle.fy_cluster.specs.Course.{Course, opened}
 use Rattle.fy_c.specs.Statuses.{config_status}
 use Rattle.fy_c.specs.declared.handle.FyGuard.{FyGuard}
 use Rattle.fy_c.specs.declared.status.Status.{Status}
@@ -16,18 +14,15 @@ use Rattle.fy_c.specs.declared.status.Status.TheVariants.{Done, NoMemory}
 abbrev pub Begins : List ℕ → Course → Type 0
 Begins bytes course = ConfigOf bytes (Ok course.setup) × (course ≡ opened course.setup)
 
--- why no guard is opened for these bytes
+-- why no guard is opened for these bytes: they are no cluster file, by the first reason that holds;
+-- or there was no memory, which is asked for once they are known to be few enough and UTF-8
 pub data NotOpened (bytes : List ℕ) : Status → Type 0 where
   refused : (fault : ConfigFault) → ConfigOf bytes (Err fault) →
       NotOpened bytes (config_status fault)
-  no_memory : NotOpened bytes NoMemory
+  no_memory : length bytes ≤ MOST_FILE_BYTES → ((IsUtf8 bytes → ⊥) → ⊥) →
+      NotOpened bytes NoMemory
 
 -- the guard is open and its cluster begins as the bytes say, or it is what it was
 pub data Opens (bytes : List ℕ) (old new : FyGuard) : Status → Type 0 where
   begins : new.at ≢ null_ptr → Begins bytes new.value → Opens bytes old new Done
   refused : (status : Status) → NotOpened bytes status → new ≡ old → Opens bytes old new status
-
--- the words have the bit of each process that is left, and no other
-abbrev pub AreLeft : Course → List ℕ → Type 0
-AreLeft course words =
-    (p : ℕ) → sets.contains (members words) p ≡ left course.setup (history_of course) p

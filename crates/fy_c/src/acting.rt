@@ -2,12 +2,11 @@
 ghost use Rattle.std.specs.Prelude.{◌≡◌, ◌≢◌, ◌≤◌, ◌+◌, length, IsTrue, IsFalse, IfOk, IfErr, OnOk, OnErr};
 ghost use Rattle.std.specs.Ptr.{null_ptr};
 ghost use Rattle.fy_audit.specs.AuditText.{entry_line};
-ghost use Rattle.fy_c.specs.Acting.{entry_of, IsMade, NotMade, NoAnswer, NoLine, IsAnswered, Tells, IsShort, Acts, HasLine, NotRead, Reads, line_status, command_status};
+ghost use Rattle.fy_c.specs.Acting.{entry_of, HasRoom, IsMade, NotMade, NoAnswer, NoLine, IsAnswered, Tells, IsShort, Acts, HasLine, NotRead, Reads, line_status, command_status};
 ghost use Rattle.fy_c.specs.Statuses.{Answers};
 
-use crate::handle::{FyGuard, closed_up, opened_up};
+use crate::handle::FyGuard;
 use crate::status::Status;
-use core::mem::replace_with;
 use fy_cluster::{Cluster, Fault};
 use fy_journal::Journal;
 use fy_spelling::{Command, CommandFault, Entry, LineFault, put_entry, read_command};
@@ -49,6 +48,7 @@ fn put_line(text: &mut Vec<u8>, entry: &Entry) -> Result<(), AllocError>
 /// Applies a command.
 fn make(cluster: &mut Cluster, command: Command) -> Result<(), Status>
     ensures made { OnOk result (IsMade cluster.old cluster.new command) }
+    ensures room { OnOk result (HasRoom cluster.old) }
     ensures not_made { IfErr result (NotMade cluster.old) }
     ensures kept { OnErr result (cluster.new ≡ cluster.old) }
 {
@@ -63,6 +63,7 @@ fn make(cluster: &mut Cluster, command: Command) -> Result<(), Status>
 /// Applies a command, and puts its entry's line into a text.
 fn answer(cluster: &mut Cluster, command: Command, text: &mut Vec<u8>) -> Result<(), Status>
     ensures made { OnOk result (IsMade cluster.old cluster.new command) }
+    ensures room { OnOk result (HasRoom cluster.old) }
     ensures text { OnOk result (text.new.items ≡ entry_line (entry_of cluster.old command)) }
     ensures err { IfErr result (NoAnswer cluster.old cluster.new command) }
 {
@@ -77,26 +78,6 @@ fn answer(cluster: &mut Cluster, command: Command, text: &mut Vec<u8>) -> Result
         Ok(()) => Ok(()),
         Err(_) => Err(Status::Unwritten),
     }
-}
-
-fn answer_in(
-    guard: FyGuard,
-    asked: (Global, Command, Vec<u8>),
-) -> (FyGuard, Result<Vec<u8>, Status>)
-    requires { guard.at ≢ null_ptr }
-    ensures open { result.0.at ≢ null_ptr }
-    ensures made { OnOk result.1 (IsMade guard.value result.0.value asked.1) }
-    ensures text { IfOk result.1 (λ text. text.items
-        ≡ entry_line (entry_of guard.value asked.1)) }
-    ensures err { IfErr result.1 (NoAnswer guard.value result.0.value asked.1) }
-{
-    let (alloc, command, mut text) = asked;
-    let mut cluster = opened_up(alloc, guard);
-    let answered = match answer(&mut cluster, command, &mut text) {
-        Ok(()) => Ok(text),
-        Err(status) => Err(status),
-    };
-    (closed_up(cluster), answered)
 }
 
 /// Applies the command of a line, and gives the line of its entry. The room is how many bytes that
@@ -114,19 +95,22 @@ fn act(alloc: Global, guard: &mut FyGuard, line: &[u8], room: usize) -> Result<V
         IsAnswered guard.old.value guard.new.value line.now text.items) }
     ensures err { IfErr result (NoLine guard.old.value guard.new.value line.now) }
 {
-    let Ok(text) = Vec::with_capacity(alloc, room) else {
+    let Ok(mut text) = Vec::with_capacity(alloc, room) else {
         return Err(Status::NoMemory);
     };
     let command = match read_command(alloc, line) {
         Ok(command) => command,
         Err(fault) => return Err(command_status(fault)),
     };
-    replace_with(guard, (alloc, command, text), answer_in)
+    match answer(guard.cluster(), command, &mut text) {
+        Ok(()) => Ok(text),
+        Err(status) => Err(status),
+    }
 }
 
 /// Copies a text into the front of a buffer and says so, where it fits; tells how long it is.
 fn tell(text: &[u8], buffer: &mut [u8], told: &mut usize) -> bool
-    ensures told { IsTrue result → Tells buffer.new told.new text.now }
+    ensures told { IsTrue result → Tells buffer.old buffer.new told.new text.now }
     ensures short { IsFalse result → IsShort buffer.old (length text.now) told.new }
     ensures kept { IsFalse result → buffer.new ≡ buffer.old }
 {
@@ -196,19 +180,6 @@ fn line_of(alloc: Global, journal: &Journal, at: usize) -> Result<Vec<u8>, Statu
     }
 }
 
-fn line_in(guard: FyGuard, asked: (Global, usize)) -> (FyGuard, Result<Vec<u8>, Status>)
-    requires { guard.at ≢ null_ptr }
-    ensures open { result.0.at ≢ null_ptr }
-    ensures kept { result.0.value ≡ guard.value }
-    ensures line { IfOk result.1 (λ line. HasLine guard.value.journal asked.1 line.items) }
-    ensures err { IfErr result.1 (NotRead guard.value.journal asked.1) }
-{
-    let (alloc, at) = asked;
-    let cluster = opened_up(alloc, guard);
-    let line = line_of(alloc, cluster.journal(), at);
-    (closed_up(cluster), line)
-}
-
 /// Writes the line of the entry at a place of the journal, from 0, with its line feed, into the
 /// front of a buffer; its length goes to `told`.
 ///
@@ -225,12 +196,12 @@ pub extern "C" fn fy_audit(
     told: &mut usize,
 ) -> u32
     requires { guard.old.at ≢ null_ptr }
-    ensures open { guard.new.at ≢ null_ptr }
     ensures kept { guard.new.value ≡ guard.old.value }
+    ensures place { guard.new.at ≡ guard.old.at }
     ensures read { Answers result (Reads guard.old.value.journal at
         buffer.old buffer.new told.new) }
 {
-    let line = match replace_with(guard, (alloc, at), line_in) {
+    let line = match line_of(alloc, guard.cluster().journal(), at) {
         Ok(line) => line,
         Err(status) => return status.number(),
     };
@@ -241,24 +212,13 @@ pub extern "C" fn fy_audit(
     }
 }
 
-fn len_in(guard: FyGuard, alloc: Global) -> (FyGuard, usize)
-    requires { guard.at ≢ null_ptr }
-    ensures open { result.0.at ≢ null_ptr }
-    ensures kept { result.0.value ≡ guard.value }
-    ensures len { result.1 ≡ length guard.value.journal }
-{
-    let cluster = opened_up(alloc, guard);
-    let len = cluster.journal().len();
-    (closed_up(cluster), len)
-}
-
 /// How many entries the journal has.
 #[unsafe(no_mangle)]
-pub extern "C" fn fy_journal_len(alloc: Global, guard: &mut FyGuard) -> usize
+pub extern "C" fn fy_journal_len(guard: &mut FyGuard) -> usize
     requires { guard.old.at ≢ null_ptr }
-    ensures open { guard.new.at ≢ null_ptr }
     ensures kept { guard.new.value ≡ guard.old.value }
+    ensures place { guard.new.at ≡ guard.old.at }
     ensures len { result ≡ length guard.old.value.journal }
 {
-    replace_with(guard, alloc, len_in)
+    guard.cluster().journal().len()
 }

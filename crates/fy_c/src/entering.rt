@@ -5,36 +5,23 @@ ghost use Rattle.fy_acts.specs.declared.act.Act.TheVariants.{Up, Heal};
 ghost use Rattle.fy_c.specs.Entering.{Applies, Enters, status_of, refusal_of};
 ghost use Rattle.fy_c.specs.Numbers.{refusal_number};
 
-use crate::handle::{FyGuard, closed_up, opened_up};
+use crate::handle::FyGuard;
 use crate::status::Status;
-use core::mem::replace_with;
 use fy_acts::{Act, Refusal, Reply};
 use fy_cluster::Fault;
 use fy_locality::ProcId;
-use std::alloc::Global;
-
-fn apply_to(guard: FyGuard, asked: (Global, u32, Act)) -> (FyGuard, Result<Reply, Fault>)
-    requires { guard.at ≢ null_ptr }
-    ensures open { result.0.at ≢ null_ptr }
-    ensures applied { Applies guard.value result.0.value asked.1 asked.2 result.1 }
-{
-    let (alloc, by, act) = asked;
-    let mut cluster = opened_up(alloc, guard);
-    let answer = cluster.apply(by, act);
-    (closed_up(cluster), answer)
-}
 
 /// Applies an act by an actor to the cluster of an open guard.
 ///
 /// # Errors
 ///
 /// In order: `JournalFull`, `NoMemory`. The cluster is then as it was.
-pub(crate) fn apply(alloc: Global, guard: &mut FyGuard, by: u32, act: Act) -> Result<Reply, Fault>
+pub(crate) fn apply(guard: &mut FyGuard, by: u32, act: Act) -> Result<Reply, Fault>
     requires { guard.old.at ≢ null_ptr }
     ensures open { guard.new.at ≢ null_ptr }
     ensures applied { Applies guard.old.value guard.new.value by act result }
 {
-    replace_with(guard, (alloc, by, act), apply_to)
+    guard.cluster().apply(by, act)
 }
 
 /// The status of an act.
@@ -99,20 +86,14 @@ fn refusal_of(answer: Result<Reply, Fault>) -> u32
 /// `Refused`, and the act stands in the journal all the same; `JournalFull` and `NoMemory`, in this
 /// order, where nothing changed.
 #[unsafe(no_mangle)]
-pub extern "C" fn fy_up(
-    alloc: Global,
-    guard: &mut FyGuard,
-    actor: u32,
-    process: u32,
-    refusal: &mut u32,
-) -> u32
+pub extern "C" fn fy_up(guard: &mut FyGuard, actor: u32, process: u32, refusal: &mut u32) -> u32
     requires { guard.old.at ≢ null_ptr }
     ensures open { guard.new.at ≢ null_ptr }
     ensures entered { Enters guard.old.value guard.new.value actor (Up (record { 0 = process }))
         result refusal.new }
 {
     let process = ProcId(process);
-    let answer = apply(alloc, guard, actor, Act::Up { process });
+    let answer = apply(guard, actor, Act::Up { process });
     *refusal = refusal_of(answer);
     status_of(answer).number()
 }
@@ -125,20 +106,14 @@ pub extern "C" fn fy_up(
 /// `Refused`, and the act stands in the journal all the same; `JournalFull` and `NoMemory`, in this
 /// order, where nothing changed.
 #[unsafe(no_mangle)]
-pub extern "C" fn fy_heal(
-    alloc: Global,
-    guard: &mut FyGuard,
-    actor: u32,
-    process: u32,
-    refusal: &mut u32,
-) -> u32
+pub extern "C" fn fy_heal(guard: &mut FyGuard, actor: u32, process: u32, refusal: &mut u32) -> u32
     requires { guard.old.at ≢ null_ptr }
     ensures open { guard.new.at ≢ null_ptr }
     ensures entered { Enters guard.old.value guard.new.value actor (Heal (record { 0 = process }))
         result refusal.new }
 {
     let process = ProcId(process);
-    let answer = apply(alloc, guard, actor, Act::Heal { process });
+    let answer = apply(guard, actor, Act::Heal { process });
     *refusal = refusal_of(answer);
     status_of(answer).number()
 }

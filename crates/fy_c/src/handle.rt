@@ -9,7 +9,7 @@ ghost use Rattle.fy_cluster.specs.contracts.cluster.Cluster as held;
 use crate::loose::Loose;
 use fy_cluster::Cluster;
 use std::alloc::Global;
-use std::marker::Model;
+use std::marker::{Model, Send};
 
 /// A cluster that another program holds; closed where it is null.
 #[repr(C)]
@@ -29,6 +29,25 @@ impl Model for FyGuard {
 
     ghost also_owns = { λ guard. if_non_null guard.at
         (box_owns (ghosts.dealloc_token guard.alloc) e.the_row guard.at guard.value) };
+}
+
+// Its cluster may go to another thread, and any thread may free its block.
+unsafe impl Send for FyGuard {}
+
+impl FyGuard {
+    ghost use Rattle.std.specs.Prelude.{◌≡◌, ◌≢◌};
+    ghost use Rattle.std.specs.Borrow.{sem};
+    ghost use Rattle.std.specs.Ptr.{null_ptr};
+    ghost use Rattle.fy_c.specs.Handles.{guard_follows};
+
+    /// The cluster of an open guard. It writes nothing.
+    pub(crate) fn cluster(&mut self) -> &mut Cluster
+        requires { self.old.at ≢ null_ptr }
+        ensures* writes_back { sem 𝓛 (guard_follows self.entry result) }
+        ensures value { result.now ≡ self.old.value }
+    {
+        unsafe { &mut *(self.at as *mut Cluster) }
+    }
 }
 
 fn to_handle(loose: Loose<Cluster, Global>) -> FyGuard

@@ -1,20 +1,17 @@
 //! Kills, ordered and answered by numbers.
-ghost use Rattle.std.specs.Prelude.{◌≡◌, ◌≢◌, IfOk, IfErr, IfSome, IfNone};
+ghost use Rattle.std.specs.Prelude.{◌≡◌, ◌≢◌, IfOk, IfErr};
 ghost use Rattle.std.specs.Ptr.{null_ptr};
-ghost use Rattle.fy_locality.specs.declared.key.Key.{Key};
-ghost use Rattle.fy_kinds.specs.declared.kind.Kind.{Kind};
 ghost use Rattle.fy_c.specs.Killing.{IsOrderOf, NoOrder, IsKilled, Kills, told_of, untold};
-ghost use Rattle.fy_c.specs.Numbers.{key_number, kind_number, struck_number, rule_number, named_by};
 ghost use Rattle.fy_c.specs.Statuses.{Answers};
 
 use crate::entering::{apply, status_of};
 use crate::handle::FyGuard;
+use crate::numbers::{key_of, kind_of, named_by, rule_number, struck_number};
 use crate::status::Status;
 use fy_acts::{Act, Reply};
 use fy_cluster::Fault;
-use fy_kinds::{KillOrder, Kind, Rule, Target};
-use fy_locality::{Key, Name};
-use std::alloc::Global;
+use fy_kinds::{KillOrder, Target};
+use fy_locality::Name;
 
 /// What C is told of a verdict.
 #[derive(Clone, Copy, PartialEq, Eq)]
@@ -33,84 +30,6 @@ const UNTOLD: Told = Told {
     rule: 0,
     named: 0,
 };
-
-/// The key with a number.
-fn key_of(number: u32) -> Option<Key>
-    ensures some { IfSome result (λ key. number ≡ key_number key) }
-    ensures none { IfNone result ((key : Key) → number ≢ key_number key) }
-{
-    match number {
-        1 => Some(Key::Process),
-        2 => Some(Key::Machine),
-        3 => Some(Key::Zone),
-        4 => Some(Key::DataHall),
-        5 => Some(Key::DataCenter),
-        _ => None,
-    }
-}
-
-/// The kind with a number.
-fn kind_of(number: u32) -> Option<Kind>
-    ensures some { IfSome result (λ kind. number ≡ kind_number kind) }
-    ensures none { IfNone result ((kind : Kind) → number ≢ kind_number kind) }
-{
-    match number {
-        1 => Some(Kind::RebootProcess),
-        2 => Some(Kind::Reboot),
-        3 => Some(Kind::RebootAndDelete),
-        4 => Some(Kind::KillInstantly),
-        _ => None,
-    }
-}
-
-/// The number of a kind.
-fn kind_number(kind: Kind) -> u32
-    ensures { result ≡ kind_number kind }
-{
-    match kind {
-        Kind::RebootProcess => 1,
-        Kind::Reboot => 2,
-        Kind::RebootAndDelete => 3,
-        Kind::KillInstantly => 4,
-    }
-}
-
-/// The number of the kind that struck, 0 where none did.
-fn struck_number(struck: Option<Kind>) -> u32
-    ensures { result ≡ struck_number struck }
-{
-    match struck {
-        Some(kind) => kind_number(kind),
-        None => 0,
-    }
-}
-
-/// The number of a rule, 0 for none.
-fn rule_number(rule: Option<Rule>) -> u32
-    ensures { result ≡ rule_number rule }
-{
-    match rule {
-        None => 0,
-        Some(Rule::NoTarget) => 1,
-        Some(Rule::NoGrant { .. }) => 2,
-        Some(Rule::Protected { .. }) => 3,
-        Some(Rule::TooManyDestroyed { .. }) => 4,
-        Some(Rule::TooFewLeft { .. }) => 5,
-    }
-}
-
-/// The process or the policy that a rule names, 0 where it names none.
-fn named_by(rule: Option<Rule>) -> u64
-    ensures { result ≡ named_by rule }
-{
-    match rule {
-        None | Some(Rule::NoTarget) => 0,
-        Some(Rule::NoGrant { process }) | Some(Rule::Protected { process }) => process.0 as u64,
-        Some(Rule::TooManyDestroyed { policy }) | Some(Rule::TooFewLeft { policy }) => {
-            policy as u64
-        }
-    }
-}
 
 /// What C is told of an answer to a kill.
 fn told_of(answer: Result<Reply, Fault>) -> Told
@@ -157,12 +76,7 @@ fn order_of(key: u32, value: &[u8], kind: u32, floor: u32, tear: u64) -> Result<
 }
 
 /// Orders a kill, and applies it where an order is given.
-fn kill(
-    alloc: Global,
-    guard: &mut FyGuard,
-    actor: u32,
-    order: Result<KillOrder, Status>,
-) -> (Status, Told)
+fn kill(guard: &mut FyGuard, actor: u32, order: Result<KillOrder, Status>) -> (Status, Told)
     requires { guard.old.at ≢ null_ptr }
     ensures open { guard.new.at ≢ null_ptr }
     ensures given { IfOk order (λ order. IsKilled guard.old.value guard.new.value actor order result.0 result.1) }
@@ -173,7 +87,7 @@ fn kill(
         Ok(order) => order,
         Err(status) => return (status, UNTOLD),
     };
-    let answer = apply(alloc, guard, actor, Act::Kill { order });
+    let answer = apply(guard, actor, Act::Kill { order });
     (status_of(answer), told_of(answer))
 }
 
@@ -190,7 +104,6 @@ fn kill(
 /// same.
 #[unsafe(no_mangle)]
 pub extern "C" fn fy_kill(
-    alloc: Global,
     guard: &mut FyGuard,
     actor: u32,
     key: u32,
@@ -209,7 +122,7 @@ pub extern "C" fn fy_kill(
         (record { struck = struck.new; rule = rule.new; named = named.new })) }
 {
     let order = order_of(key, value, kind, floor, tear);
-    let (status, told) = kill(alloc, guard, actor, order);
+    let (status, told) = kill(guard, actor, order);
     *struck = told.struck;
     *rule = told.rule;
     *named = told.named;

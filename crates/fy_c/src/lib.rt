@@ -3,9 +3,13 @@
 #![tactic(auto)]
 
 mod acting;
+mod asking;
 mod entering;
 mod handle;
 mod killing;
+pub mod laws;
 mod loose;
+mod numbers;
 mod opening;
+mod sets;
 mod status;

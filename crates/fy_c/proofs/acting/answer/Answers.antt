@@ -6,4 +6,5 @@ returns-in-Err-clause-err c =
     NoAnswer.not_made c.in-Err.status c.in-Err.ensures.not_made c.in-Err.ensures.kept
 
 pub returns-in-Err-put_line-clause-err : goal.returns-in-Err-put_line-clause-err
-returns-in-Err-put_line-clause-err c = NoAnswer.unwritten c.in-Ok.ensures.made
+returns-in-Err-put_line-clause-err c =
+    NoAnswer.unwritten c.in-Ok.ensures.room c.in-Ok.ensures.made

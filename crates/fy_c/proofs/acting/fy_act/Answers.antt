@@ -1,6 +1,7 @@
 use Rattle.std.proofs.Common.{refl, subst}
 use Rattle.fy_c.specs.Acting.{Acts, Tells}
 use Rattle.fy_c.specs.declared.status.Status.TheVariants.{Done, Short, Unwritten}
+use Rattle.fy_c.proofs.Lines.{acts_none}
 use Rattle.fy_c.proofs.acting.fy_act.Goals as goal
 
 pub returns-then-buffer-room-clause-acted : goal.returns-then-buffer-room-clause-acted
@@ -14,21 +15,24 @@ pub returns-in-Err-clause-acted : goal.returns-in-Err-clause-acted
 returns-in-Err-clause-acted c = (
   c.in-Err.status,
   c.number-in-Err.ensures,
-  Acts.no_line c.in-Err.status c.in-Err.ensures.err refl,
+  acts_none c.args.guard.now.value c.act.new.guard.value c.args.line.now c.args.buffer.now
+      c.args.buffer.now _ c.in-Err.status c.if-buffer-room.false refl c.in-Err.ensures.err,
 )
 
 pub returns-then-tell-clause-acted : goal.returns-then-tell-clause-acted
 returns-then-tell-clause-acted c = (
   Done,
   c.number-then-tell.ensures,
-  Acts.answered c.in-Ok.text.items c.in-Ok.ensures.answered
-      (subst (Tells c.tell.new.buffer c.tell.new.told) c.deref.ensures.value
+  Acts.answered c.if-buffer-room.false c.in-Ok.text.items c.in-Ok.ensures.answered
+      (subst (Tells c.args.buffer.now c.tell.new.buffer c.tell.new.told) c.deref.ensures.value
       (c.if-tell.ensures.told refl)),
 )
 
 pub returns-clause-acted : goal.returns-clause-acted
-returns-clause-acted c = (
-  Unwritten,
-  c.number-else-tell.ensures,
-  Acts.unwritten c.in-Ok.text.items c.in-Ok.ensures.answered (c.if-tell.ensures.kept refl),
-)
+returns-clause-acted c =
+    let it = c.in-Ok.ensures.answered in (
+      Unwritten,
+      c.number-else-tell.ensures,
+      Acts.unwritten c.if-buffer-room.false it.command it.asked it.room it.made
+          (c.if-tell.ensures.kept refl),
+    )

@@ -1,5 +1,5 @@
 use Rattle.fy_c.specs.Acting.{NotRead}
-use Rattle.fy_c.proofs.Lines.{past_end}
+use Rattle.fy_c.proofs.Lines.{past_end, within}
 use Rattle.fy_c.proofs.acting.line_of.Goals as goal
 
 pub returns-in_default-clause-err : goal.returns-in_default-clause-err
@@ -7,4 +7,6 @@ returns-in_default-clause-err c =
     NotRead.no_entry (past_end c.args.journal.now.entries c.args.at c.in_default.ensures.entry)
 
 pub returns-in-Err-clause-err : goal.returns-in-Err-clause-err
-returns-in-Err-clause-err c = NotRead.no_memory
+returns-in-Err-clause-err c =
+    NotRead.no_memory
+    (within c.args.journal.now.entries c.args.at c.in-Some.entry.now c.in-Some.ensures.entry)

@@ -1,6 +1,6 @@
 use Rattle.std.proofs.Common.{refl}
 use Rattle.std.proofs.lemmas.Bool.{false≢true}
-use Rattle.fy_c.specs.Killing.{NoOrder}
+use Rattle.fy_c.specs.Killing.{AreNumbers, NoOrder}
 use Rattle.fy_c.proofs.killing.order_of.Goals as goal
 
 pub returns-in_default-clause-none : goal.returns-in_default-clause-none
@@ -14,9 +14,27 @@ returns-in_default-kind_of-2-clause-none c = NoOrder.no_floor c.in_default-kind_
 
 pub returns-in_default-from_bytes-clause-none : goal.returns-in_default-from_bytes-clause-none
 returns-in_default-from_bytes-clause-none c =
-    NoOrder.no_name (λ is. absurd (false≢true (c.in_default-from_bytes.ensures.accepted.1 is)))
+    NoOrder.no_name
+    (record {
+      key = c.in-Some.key;
+      kind = c.in-Some-kind_of.kind;
+      floor = c.in-Some-kind_of-2.floor;
+      key_is = c.in-Some.ensures.some;
+      kind_is = c.in-Some-kind_of.ensures.some;
+      floor_is = c.in-Some-kind_of-2.ensures.some;
+    })
+    (λ is. absurd (false≢true (c.in_default-from_bytes.ensures.accepted.1 is)))
 
 pub returns-in-Err-clause-none : goal.returns-in-Err-clause-none
 returns-in-Err-clause-none c =
-    NoOrder.above c.in-Some-kind_of.kind c.in-Some-kind_of-2.floor c.in-Some-kind_of.ensures.some
-    c.in-Some-kind_of-2.ensures.some (c.in-Err.ensures.refused.0 refl)
+    NoOrder.above
+    (record {
+      key = c.in-Some.key;
+      kind = c.in-Some-kind_of.kind;
+      floor = c.in-Some-kind_of-2.floor;
+      key_is = c.in-Some.ensures.some;
+      kind_is = c.in-Some-kind_of.ensures.some;
+      floor_is = c.in-Some-kind_of-2.ensures.some;
+    })
+    (c.in-Ok.ensures.accepted.0 refl)
+    (c.in-Err.ensures.refused.0 refl)

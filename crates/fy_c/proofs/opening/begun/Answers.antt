@@ -1,15 +1,20 @@
 use Rattle.std.proofs.Common.{subst, sym}
 use Rattle.fy_c.specs.Opening.{NotOpened}
-use Rattle.fy_c.proofs.Begun.{not_begun}
+use Rattle.fy_c.proofs.Begun.{not_begun, had_none_left}
 use Rattle.fy_c.proofs.opening.begun.Goals as goal
 
 pub returns-in-Err-clause-refused : goal.returns-in-Err-clause-refused
 returns-in-Err-clause-refused c =
     subst (NotOpened c.args.config.now) (sym c.config_status.ensures)
-    (not_begun c.args.config.now c.in-Err.fault c.in-Err.ensures.answers)
+    (not_begun c.args.config.now c.read_config.result c.in-Err.fault c.in-Err.is
+    c.read_config.ensures.too_long c.read_config.ensures.not_text c.in-Err.ensures.answers)
 
 pub returns-in_default-clause-refused : goal.returns-in_default-clause-refused
-returns-in_default-clause-refused c = NotOpened.no_memory
+returns-in_default-clause-refused c =
+    had_none_left c.args.config.now c.read_config.result c.in-Ok.config c.in-Ok.is
+    c.read_config.ensures.too_long c.read_config.ensures.not_text
 
 pub returns-clause-refused : goal.returns-clause-refused
-returns-clause-refused c = NotOpened.no_memory
+returns-clause-refused c =
+    had_none_left c.args.config.now c.read_config.result c.in-Ok.config c.in-Ok.is
+    c.read_config.ensures.too_long c.read_config.ensures.not_text

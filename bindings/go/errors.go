@@ -1,0 +1,160 @@
+package faultyard
+
+// #include <faultyard.h>
+import "C"
+
+// Status is how a call ended that did not do what it says. It is an error:
+//
+//	if errors.Is(err, faultyard.ErrJournalFull) { .. }
+//
+// Unless it is ErrUnwritten, nothing changed.
+type Status uint32
+
+// The statuses.
+const (
+	// ErrNoMemory is: there was no memory.
+	ErrNoMemory Status = C.FY_NO_MEMORY
+	// ErrJournalFull is: the journal has as many entries as the cluster file allows.
+	ErrJournalFull Status = C.FY_JOURNAL_FULL
+	// ErrRefused is: the act is refused, and stands in the journal with its refusal. No call
+	// answers it; each Refusal is it by errors.Is.
+	ErrRefused Status = C.FY_REFUSED
+	// ErrUnwritten is: the act is made and stands in the journal, but its line could not be
+	// written. Entry reads it.
+	ErrUnwritten Status = C.FY_UNWRITTEN
+	// ErrNoEntry is: the journal has no entry at this place.
+	ErrNoEntry Status = C.FY_NO_ENTRY
+	// ErrArgument is: there is no such key, kind or floor.
+	ErrArgument Status = C.FY_ARGUMENT
+	// ErrName is: the value of the target is no name.
+	ErrName Status = C.FY_NAME
+	// ErrFloor is: the floor of the kill is above its kind.
+	ErrFloor Status = C.FY_FLOOR
+	// ErrLineTooLong is: the line has more than 65,536 bytes.
+	ErrLineTooLong Status = C.FY_LINE_TOO_LONG
+	// ErrLineSyntax is: the line is no command of a script.
+	ErrLineSyntax Status = C.FY_LINE_SYNTAX
+	// ErrConfigTooLong is: the cluster file has more than 1,048,576 bytes.
+	ErrConfigTooLong Status = C.FY_CONFIG_TOO_LONG
+	// ErrConfigToml is: the cluster file is no TOML document in UTF-8.
+	ErrConfigToml Status = C.FY_CONFIG_TOML
+	// ErrConfigField is: a key of the cluster file is missing, unknown or of another type, or a
+	// word is none of those that may stand there.
+	ErrConfigField Status = C.FY_CONFIG_FIELD
+	// ErrConfigLimit is: a number or a length of the cluster file is outside its range.
+	ErrConfigLimit Status = C.FY_CONFIG_LIMIT
+	// ErrConfigName is: a text of the cluster file is no name, or names what is taken or isn't
+	// there.
+	ErrConfigName Status = C.FY_CONFIG_NAME
+	// ErrConfigPolicy is: a text of the cluster file is no policy.
+	ErrConfigPolicy Status = C.FY_CONFIG_POLICY
+	// ErrConfigUnmet is: all processes of the cluster file together don't satisfy one of its
+	// policies.
+	ErrConfigUnmet Status = C.FY_CONFIG_UNMET
+	// ErrClosed is: the guard is closed.
+	ErrClosed Status = C.FY_CLOSED
+)
+
+var statusTexts = []string{
+	ErrNoMemory:      "there was no memory",
+	ErrJournalFull:   "the journal has as many entries as the cluster file allows",
+	ErrRefused:       "the act is refused",
+	ErrUnwritten:     "the act is made, but its line could not be written",
+	ErrNoEntry:       "the journal has no entry at this place",
+	ErrArgument:      "there is no such key, kind or floor",
+	ErrName:          "the value of the target is no name",
+	ErrFloor:         "the floor of the kill is above its kind",
+	ErrLineTooLong:   "the line has more than 65,536 bytes",
+	ErrLineSyntax:    "the line is no command of a script",
+	ErrConfigTooLong: "the cluster file has more than 1,048,576 bytes",
+	ErrConfigToml:    "the cluster file is no TOML document in UTF-8",
+	ErrConfigField:   "a key of the cluster file is missing, unknown or wrong, or a word is unknown",
+	ErrConfigLimit:   "a number or a length of the cluster file is outside its range",
+	ErrConfigName:    "a text of the cluster file is no name, or names what is taken or isn't there",
+	ErrConfigPolicy:  "a text of the cluster file is no policy",
+	ErrConfigUnmet:   "all processes of the cluster file together don't satisfy one of its policies",
+	ErrClosed:        "the guard is closed",
+}
+
+// Error says what the status means.
+func (status Status) Error() string {
+	return "faultyard: " + wordOf("status", statusTexts, uint32(status))
+}
+
+// Refusal is why an act is refused; the act stands in the journal with it. It is an error:
+//
+//	if errors.Is(err, faultyard.RefusalIsUp) { .. }
+//	if errors.Is(err, faultyard.ErrRefused) { .. } // whatever the reason is
+type Refusal uint32
+
+// The refusals.
+const (
+	RefusalStranger     Refusal = C.FY_STRANGER
+	RefusalWrongRole    Refusal = C.FY_WRONG_ROLE
+	RefusalTooMany      Refusal = C.FY_TOO_MANY
+	RefusalNoPolicy     Refusal = C.FY_NO_POLICY
+	RefusalNoProcess    Refusal = C.FY_NO_PROCESS
+	RefusalGone         Refusal = C.FY_GONE
+	RefusalTeamShort    Refusal = C.FY_TEAM_SHORT
+	RefusalNoTeam       Refusal = C.FY_NO_TEAM
+	RefusalPayload      Refusal = C.FY_PAYLOAD
+	RefusalNetFull      Refusal = C.FY_NET_FULL
+	RefusalNoMessage    Refusal = C.FY_NO_MESSAGE
+	RefusalClogged      Refusal = C.FY_CLOGGED
+	RefusalNotUp        Refusal = C.FY_NOT_UP
+	RefusalNoRecord     Refusal = C.FY_NO_RECORD
+	RefusalNotMember    Refusal = C.FY_NOT_MEMBER
+	RefusalAcked        Refusal = C.FY_ACKED
+	RefusalIsUp         Refusal = C.FY_IS_UP
+	RefusalClockEnd     Refusal = C.FY_CLOCK_END
+	RefusalNoActor      Refusal = C.FY_NO_ACTOR
+	RefusalFull         Refusal = C.FY_FULL
+	RefusalNoSuch       Refusal = C.FY_NO_SUCH
+	RefusalNoCopy       Refusal = C.FY_NO_COPY
+	RefusalIsMember     Refusal = C.FY_IS_MEMBER
+	RefusalNotDestroyed Refusal = C.FY_NOT_DESTROYED
+	RefusalStillNeeds   Refusal = C.FY_STILL_NEEDS
+)
+
+var refusalWords = []string{
+	RefusalStranger:     "Stranger",
+	RefusalWrongRole:    "WrongRole",
+	RefusalTooMany:      "TooMany",
+	RefusalNoPolicy:     "NoPolicy",
+	RefusalNoProcess:    "NoProcess",
+	RefusalGone:         "Gone",
+	RefusalTeamShort:    "TeamShort",
+	RefusalNoTeam:       "NoTeam",
+	RefusalPayload:      "Payload",
+	RefusalNetFull:      "NetFull",
+	RefusalNoMessage:    "NoMessage",
+	RefusalClogged:      "Clogged",
+	RefusalNotUp:        "NotUp",
+	RefusalNoRecord:     "NoRecord",
+	RefusalNotMember:    "NotMember",
+	RefusalAcked:        "Acked",
+	RefusalIsUp:         "IsUp",
+	RefusalClockEnd:     "ClockEnd",
+	RefusalNoActor:      "NoActor",
+	RefusalFull:         "Full",
+	RefusalNoSuch:       "NoSuch",
+	RefusalNoCopy:       "NoCopy",
+	RefusalIsMember:     "IsMember",
+	RefusalNotDestroyed: "NotDestroyed",
+	RefusalStillNeeds:   "StillNeeds",
+}
+
+// String is the word of audits, which docs/FORMATS.md explains.
+func (refusal Refusal) String() string {
+	return wordOf("Refusal", refusalWords, uint32(refusal))
+}
+
+// Error says that the act is refused, and why.
+func (refusal Refusal) Error() string {
+	return "faultyard: the act is refused: " + refusal.String()
+}
+
+// Is says that each refusal is ErrRefused.
+func (refusal Refusal) Is(target error) bool {
+	return target == ErrRefused
+}

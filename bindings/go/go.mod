@@ -1,0 +1,3 @@
+module faultyard
+
+go 1.19

@@ -1,0 +1,281 @@
+// Package faultyard decides which faults a cluster tolerates.
+//
+// A Guard is opened with a cluster file, and asked before each kill. It answers the hardest kill
+// that the replication policy tolerates, and keeps a journal of all that was asked and answered. It
+// calls the C library in this process.
+package faultyard
+
+// #cgo pkg-config: faultyard
+// #include <faultyard.h>
+import "C"
+
+import (
+	"runtime"
+	"sync"
+	"unsafe"
+)
+
+// Header is the first line of an audit; the line of each entry follows.
+const Header = C.FY_AUDIT_HEADER
+
+// usualLine is how many bytes most lines have at most; a longer one is read again.
+const usualLine = 512
+
+// Guard is a guard. Goroutines may share it: a mutex puts their calls in order.
+type Guard struct {
+	lock    sync.Mutex
+	library C.fy_guard // its pointer is nil once it is closed
+}
+
+// Open opens a guard of a cluster in which nothing happened yet, by the text of a cluster file.
+//
+// Its error is ErrNoMemory, or the first of ErrConfigTooLong to ErrConfigUnmet that holds.
+func Open(config []byte) (*Guard, error) {
+	guard := new(Guard)
+	text, length := bytesOf(config)
+	if err := errorOf(C.fy_open(text, length, &guard.library)); err != nil {
+		return nil, err
+	}
+	// A guard that nobody closed and nobody can reach is freed too.
+	runtime.SetFinalizer(guard, func(guard *Guard) { C.fy_close(guard.library) })
+	return guard, nil
+}
+
+// do makes a call of the library in its turn. Threads may take turns with a guard.
+func (guard *Guard) do(call func(*C.fy_guard)) error {
+	guard.lock.Lock()
+	defer guard.lock.Unlock()
+	if guard.library.at == nil {
+		return ErrClosed
+	}
+	call(&guard.library)
+	return nil
+}
+
+// Close frees what the guard holds. Each later call answers ErrClosed, as does a second Close.
+func (guard *Guard) Close() error {
+	return guard.do(func(its *C.fy_guard) {
+		runtime.SetFinalizer(guard, nil)
+		C.fy_close(*its)
+		its.at = nil
+	})
+}
+
+// Order is an order to kill the processes whose Key has the Value.
+type Order struct {
+	Key   Key
+	Value string
+	// Kind is what is ordered.
+	Kind Kind
+	// Floor is the mildest kind that may take its place where it is barred: RebootProcess if it is
+	// left out.
+	Floor Kind
+	// Tear has the bit i where a reboot keeps the unsynced write i.
+	Tear uint64
+}
+
+// Verdict is the answer to an order.
+type Verdict struct {
+	// Struck is what to do to each process of the target that isn't gone; None is nothing.
+	Struck Kind
+	// Rule bars the kind that was ordered; NoRule where that struck.
+	Rule Rule
+	// Named is the process (NoGrant, Protected) or the policy (TooManyDestroyed, TooFewLeft) that
+	// the rule names.
+	Named uint64
+}
+
+// Kill orders a kill by an actor. A kill that a rule bars is no error.
+//
+// Its error is the first of ErrClosed, ErrArgument, ErrName, ErrFloor, ErrJournalFull, ErrNoMemory;
+// or RefusalStranger where there is no such actor.
+func (guard *Guard) Kill(actor uint32, order Order) (Verdict, error) {
+	floor := order.Floor
+	if floor == None {
+		floor = RebootProcess
+	}
+	value, length := bytesOf([]byte(order.Value))
+	var status, struck, rule C.uint32_t
+	var named C.uint64_t
+	err := guard.do(func(its *C.fy_guard) {
+		status = C.fy_kill(its, C.uint32_t(actor), C.uint32_t(order.Key), value, length,
+			C.uint32_t(order.Kind), C.uint32_t(floor), C.uint64_t(order.Tear),
+			&struck, &rule, &named)
+	})
+	if err == nil {
+		err = reportOf(status, C.FY_STRANGER)
+	}
+	if err != nil {
+		return Verdict{}, err
+	}
+	return Verdict{Kind(struck), Rule(rule), uint64(named)}, nil
+}
+
+// Up reports that a process runs again, by an actor whose role is storage.
+//
+// Its error is the first of ErrClosed, ErrJournalFull, ErrNoMemory; or a Refusal where the process
+// is up, gone or not there, or where the actor may not say so.
+func (guard *Guard) Up(actor, process uint32) error {
+	var status, refusal C.uint32_t
+	err := guard.do(func(its *C.fy_guard) {
+		status = C.fy_up(its, C.uint32_t(actor), C.uint32_t(process), &refusal)
+	})
+	if err != nil {
+		return err
+	}
+	return reportOf(status, refusal)
+}
+
+// Heal reports that a destroyed process has every acknowledged record on its disk again, by an
+// actor whose role is storage. Its errors are as Up's.
+func (guard *Guard) Heal(actor, process uint32) error {
+	var status, refusal C.uint32_t
+	err := guard.do(func(its *C.fy_guard) {
+		status = C.fy_heal(its, C.uint32_t(actor), C.uint32_t(process), &refusal)
+	})
+	if err != nil {
+		return err
+	}
+	return reportOf(status, refusal)
+}
+
+// Act makes any act, given as its line of a script, and answers the line of its entry, which ends
+// with a line feed. A refused act is answered too, and is no error: the line has the refusal.
+//
+// Its error is the first of ErrClosed, ErrLineTooLong, ErrLineSyntax, ErrFloor, ErrJournalFull;
+// ErrNoMemory may take the place of any but the first. After ErrUnwritten the act stands in the
+// journal.
+func (guard *Guard) Act(line []byte) ([]byte, error) {
+	text, length := bytesOf(line)
+	answer := make([]byte, len(line)+C.FY_MOST_REPLY)
+	var status C.uint32_t
+	var told C.size_t
+	err := guard.do(func(its *C.fy_guard) {
+		status = C.fy_act(its, text, length, pointerTo(answer), C.size_t(len(answer)), &told)
+	})
+	if err == nil {
+		err = errorOf(status)
+	}
+	if err != nil {
+		return nil, err
+	}
+	return answer[:told], nil
+}
+
+// IsDestroyed says whether a process is destroyed: struck by a kind that empties its disk, and not
+// healed since. Its error is ErrClosed.
+func (guard *Guard) IsDestroyed(process uint32) (bool, error) {
+	var destroyed bool
+	err := guard.do(func(its *C.fy_guard) {
+		destroyed = C.fy_is_destroyed(its, C.uint32_t(process)) != 0
+	})
+	return destroyed, err
+}
+
+// Left answers the processes that aren't gone for good, emptied or not, in the order of their
+// numbers. Its error is ErrClosed.
+func (guard *Guard) Left() ([]uint32, error) {
+	var words [C.FY_SET_WORDS]C.uint64_t
+	err := guard.do(func(its *C.fy_guard) {
+		C.fy_left(its, &words[0], C.FY_SET_WORDS)
+	})
+	if err != nil {
+		return nil, err
+	}
+	var left []uint32
+	for process := uint32(0); process < 64*C.FY_SET_WORDS; process++ {
+		if words[process/64]>>(process%64)&1 != 0 {
+			left = append(left, process)
+		}
+	}
+	return left, nil
+}
+
+// JournalLen answers how many entries the journal has. Its error is ErrClosed.
+func (guard *Guard) JournalLen() (int, error) {
+	var count int
+	err := guard.do(func(its *C.fy_guard) {
+		count = int(C.fy_journal_len(its))
+	})
+	return count, err
+}
+
+// Entry answers the line of the entry at a place of the journal, from 0; it ends with a line feed.
+//
+// Its error is the first of ErrClosed, ErrNoEntry, ErrNoMemory.
+func (guard *Guard) Entry(at int) ([]byte, error) {
+	var line []byte
+	var failed error
+	err := guard.do(func(its *C.fy_guard) {
+		line, failed = appendEntry(nil, its, at)
+	})
+	if err == nil {
+		err = failed
+	}
+	return line, err
+}
+
+// Audit answers what `faultyard check` reads: the header and the line of each entry.
+//
+// Its error is ErrClosed or ErrNoMemory.
+func (guard *Guard) Audit() ([]byte, error) {
+	audit := []byte(Header)
+	var failed error
+	err := guard.do(func(its *C.fy_guard) {
+		count := int(C.fy_journal_len(its))
+		for at := 0; at < count && failed == nil; at++ {
+			audit, failed = appendEntry(audit, its, at)
+		}
+	})
+	if err == nil {
+		err = failed
+	}
+	if err != nil {
+		return nil, err
+	}
+	return audit, nil
+}
+
+// appendEntry puts the line of an entry behind a text.
+func appendEntry(text []byte, its *C.fy_guard, at int) ([]byte, error) {
+	if at < 0 {
+		return nil, ErrNoEntry
+	}
+	for room := C.size_t(usualLine); ; {
+		line := make([]byte, room)
+		status := C.fy_audit(its, C.size_t(at), pointerTo(line), room, &room)
+		if status == C.FY_SHORT {
+			continue
+		}
+		if err := errorOf(status); err != nil {
+			return nil, err
+		}
+		return append(text, line[:room]...), nil
+	}
+}
+
+// errorOf is the error of a status; nil where the call did what it says.
+func errorOf(status C.uint32_t) error {
+	if status == C.FY_DONE {
+		return nil
+	}
+	return Status(status)
+}
+
+// reportOf is the error of a status and, where the act is refused, of its refusal.
+func reportOf(status, refusal C.uint32_t) error {
+	if status == C.FY_REFUSED {
+		return Refusal(refusal)
+	}
+	return errorOf(status)
+}
+
+// bytesOf is a copy of a text for the library, whose pointer is never null, and its length.
+func bytesOf(text []byte) (*C.uint8_t, C.size_t) {
+	return pointerTo(append(append([]byte{}, text...), 0)), C.size_t(len(text))
+}
+
+// pointerTo is a pointer to the first byte of a text that has one.
+func pointerTo(text []byte) *C.uint8_t {
+	return (*C.uint8_t)(unsafe.Pointer(&text[0]))
+}

@@ -1,0 +1,95 @@
+package faultyard
+
+// #include <faultyard.h>
+import "C"
+
+import "fmt"
+
+// Key is the part of a process's place by which an order names it.
+type Key uint32
+
+// The keys.
+const (
+	Process    Key = C.FY_PROCESS
+	Machine    Key = C.FY_MACHINE
+	Zone       Key = C.FY_ZONE
+	DataHall   Key = C.FY_DATA_HALL
+	DataCenter Key = C.FY_DATA_CENTER
+)
+
+// Kind is what a kill does to a process. A larger kind is harder.
+type Kind uint32
+
+// The kinds, from the mildest to the hardest.
+const (
+	// None is the kind that struck where nothing did.
+	None Kind = C.FY_NONE
+	// RebootProcess is: down; nothing on its disk is lost.
+	RebootProcess Kind = C.FY_REBOOT_PROCESS
+	// Reboot is: down; what its disk hasn't synced may be lost.
+	Reboot Kind = C.FY_REBOOT
+	// RebootAndDelete is: down, and its disk is emptied.
+	RebootAndDelete Kind = C.FY_REBOOT_AND_DELETE
+	// KillInstantly is: gone for good, and its disk is emptied.
+	KillInstantly Kind = C.FY_KILL_INSTANTLY
+)
+
+// EmptiesDisk says whether the data of the process goes.
+func (kind Kind) EmptiesDisk() bool {
+	return kind == RebootAndDelete || kind == KillInstantly
+}
+
+// IsFinal says whether the process never comes back.
+func (kind Kind) IsFinal() bool {
+	return kind == KillInstantly
+}
+
+// Rule is why the kind that was ordered is barred: the first rule that holds.
+type Rule uint32
+
+// The rules.
+const (
+	// NoRule bars nothing: the kind that was ordered struck.
+	NoRule Rule = C.FY_NO_RULE
+	// NoTarget is: no process that is left has the value.
+	NoTarget Rule = C.FY_NO_TARGET
+	// NoGrant is: no grant of the actor covers the process that is named.
+	NoGrant Rule = C.FY_NO_GRANT
+	// Protected is: the process that is named is protected.
+	Protected Rule = C.FY_PROTECTED
+	// TooManyDestroyed is: the destroyed processes would satisfy the policy that is named.
+	TooManyDestroyed Rule = C.FY_TOO_MANY_DESTROYED
+	// TooFewLeft is: the processes left wouldn't satisfy the policy that is named.
+	TooFewLeft Rule = C.FY_TOO_FEW_LEFT
+)
+
+var (
+	keyWords  = []string{"", "processid", "machineid", "zoneid", "data_hall", "dcid"}
+	kindWords = []string{"None", "RebootProcess", "Reboot", "RebootAndDelete", "KillInstantly"}
+	ruleWords = []string{
+		"NoRule", "NoTarget", "NoGrant", "Protected", "TooManyDestroyed", "TooFewLeft",
+	}
+)
+
+// String is the word of scripts and audits.
+func (key Key) String() string {
+	return wordOf("Key", keyWords, uint32(key))
+}
+
+// String is the word of scripts and audits.
+func (kind Kind) String() string {
+	return wordOf("Kind", kindWords, uint32(kind))
+}
+
+// String is the word of audits.
+func (rule Rule) String() string {
+	return wordOf("Rule", ruleWords, uint32(rule))
+}
+
+// wordOf is the word of a number, or tells the number where it has none.
+func wordOf(of string, words []string, number uint32) string {
+	if int64(number) >= int64(len(words)) || words[number] == "" {
+		return fmt.Sprintf("%s(%d)", of, number)
+	}
+	return words[number]
+}

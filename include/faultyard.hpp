@@ -1,0 +1,491 @@
+/* faultyard for C++17: a guard decides which faults a cluster tolerates. Header only.
+ *
+ *     using namespace faultyard;
+ *     Guard guard(text_of_the_cluster_file);
+ *     Verdict verdict = guard.kill(1, Key::Zone, "z0", Kind::KillInstantly);
+ *     if (verdict.struck == Kind::KillInstantly) ...
+ *
+ * It stands on faultyard.h. Link with libfaultyard.a, or with -lfaultyard.
+ *
+ * A call that did not do what it says throws `Error`, and nothing else: an unread result would let
+ * a test go on as if the act were made. A refused act throws too, with `Status::Refused` and its
+ * reason. A kill that a rule bars is an answer, and throws nothing.
+ *
+ * A guard may move to another thread, and one call at a time is made with it: threads that share one
+ * take turns, by a mutex. Guards of different threads share nothing. No call may come from a signal
+ * handler, nor from a child that a process with threads forked.
+ */
+#ifndef FAULTYARD_HPP
+#define FAULTYARD_HPP
+
+#include "faultyard.h"
+
+#include <bitset>
+#include <cstddef>
+#include <cstdint>
+#include <exception>
+#include <new>
+#include <optional>
+#include <string>
+#include <string_view>
+#include <utility>
+
+namespace faultyard {
+
+/* The part of a process's place by which an order names it. */
+enum class Key : std::uint32_t {
+    Process = FY_PROCESS,
+    Machine = FY_MACHINE,
+    Zone = FY_ZONE,
+    DataHall = FY_DATA_HALL,
+    DataCenter = FY_DATA_CENTER,
+};
+
+/* What a kill does to a process, from the mildest to the hardest. */
+enum class Kind : std::uint32_t {
+    RebootProcess = FY_REBOOT_PROCESS,      /* Down; nothing on its disk is lost. */
+    Reboot = FY_REBOOT,                     /* Down; what its disk hasn't synced may be lost. */
+    RebootAndDelete = FY_REBOOT_AND_DELETE, /* Down, and its disk is emptied. */
+    KillInstantly = FY_KILL_INSTANTLY,      /* Gone for good, and its disk is emptied. */
+};
+
+/* Why the kind that was ordered is barred: the first rule that holds. */
+enum class Rule : std::uint32_t {
+    /* No process that is left has the value. */
+    NoTarget = FY_NO_TARGET,
+    /* No grant of the actor covers the process that is named. */
+    NoGrant = FY_NO_GRANT,
+    /* The process that is named is protected. */
+    Protected = FY_PROTECTED,
+    /* The destroyed processes would satisfy the policy that is named. */
+    TooManyDestroyed = FY_TOO_MANY_DESTROYED,
+    /* The processes left wouldn't satisfy the policy that is named. */
+    TooFewLeft = FY_TOO_FEW_LEFT,
+};
+
+/* Why an act is refused. faultyard.h says each in words, and so does `Error::what`. */
+enum class Refusal : std::uint32_t {
+    Stranger = FY_STRANGER,
+    WrongRole = FY_WRONG_ROLE,
+    TooMany = FY_TOO_MANY,
+    NoPolicy = FY_NO_POLICY,
+    NoProcess = FY_NO_PROCESS,
+    Gone = FY_GONE,
+    TeamShort = FY_TEAM_SHORT,
+    NoTeam = FY_NO_TEAM,
+    Payload = FY_PAYLOAD,
+    NetFull = FY_NET_FULL,
+    NoMessage = FY_NO_MESSAGE,
+    Clogged = FY_CLOGGED,
+    NotUp = FY_NOT_UP,
+    NoRecord = FY_NO_RECORD,
+    NotMember = FY_NOT_MEMBER,
+    Acked = FY_ACKED,
+    IsUp = FY_IS_UP,
+    ClockEnd = FY_CLOCK_END,
+    NoActor = FY_NO_ACTOR,
+    Full = FY_FULL,
+    NoSuch = FY_NO_SUCH,
+    NoCopy = FY_NO_COPY,
+    IsMember = FY_IS_MEMBER,
+    NotDestroyed = FY_NOT_DESTROYED,
+    StillNeeds = FY_STILL_NEEDS,
+};
+
+/* How a call ended. `Error` has any but `Done` and `Short`. */
+enum class Status : std::uint32_t {
+    Done = FY_DONE,
+    NoMemory = FY_NO_MEMORY,
+    JournalFull = FY_JOURNAL_FULL,
+    Refused = FY_REFUSED,
+    Short = FY_SHORT,
+    Unwritten = FY_UNWRITTEN,
+    NoEntry = FY_NO_ENTRY,
+    Argument = FY_ARGUMENT,
+    Name = FY_NAME,
+    Floor = FY_FLOOR,
+    LineTooLong = FY_LINE_TOO_LONG,
+    LineSyntax = FY_LINE_SYNTAX,
+    ConfigTooLong = FY_CONFIG_TOO_LONG,
+    ConfigToml = FY_CONFIG_TOML,
+    ConfigField = FY_CONFIG_FIELD,
+    ConfigLimit = FY_CONFIG_LIMIT,
+    ConfigName = FY_CONFIG_NAME,
+    ConfigPolicy = FY_CONFIG_POLICY,
+    ConfigUnmet = FY_CONFIG_UNMET,
+    Closed = FY_CLOSED,
+};
+
+/* Whether the data of the process goes. */
+constexpr bool empties_disk(Kind kind) noexcept
+{
+    return kind == Kind::RebootAndDelete || kind == Kind::KillInstantly;
+}
+
+/* Whether the process never comes back. */
+constexpr bool is_final(Kind kind) noexcept
+{
+    return kind == Kind::KillInstantly;
+}
+
+namespace detail {
+
+inline constexpr std::string_view KEYS[] = {
+    "", "processid", "machineid", "zoneid", "data_hall", "dcid",
+};
+
+inline constexpr std::string_view KINDS[] = {
+    "", "RebootProcess", "Reboot", "RebootAndDelete", "KillInstantly",
+};
+
+inline constexpr std::string_view RULES[] = {
+    "", "NoTarget", "NoGrant", "Protected", "TooManyDestroyed", "TooFewLeft",
+};
+
+/* A word, and what `Error::what` answers for it. */
+struct Text {
+    std::string_view word;
+    const char *says;
+};
+
+inline constexpr Text REFUSALS[] = {
+    {"", ""},
+    {"Stranger", "refused: there is no actor with the number of the one that acts"},
+    {"WrongRole", "refused: the actor's role may not make this act"},
+    {"TooMany", "refused: there are as many teams, or records, as there may be"},
+    {"NoPolicy", "refused: there is no policy with this number"},
+    {"NoProcess", "refused: there is no process with this number"},
+    {"Gone", "refused: the process is gone for good"},
+    {"TeamShort", "refused: the members don't satisfy the policy"},
+    {"NoTeam", "refused: there is no team with this number"},
+    {"Payload", "refused: the payload has more than 256 bytes"},
+    {"NetFull", "refused: there would be too many messages in flight"},
+    {"NoMessage", "refused: no message in flight has this number"},
+    {"Clogged", "refused: the message's process is clogged"},
+    {"NotUp", "refused: the process isn't up"},
+    {"NoRecord", "refused: there is no record with this number"},
+    {"NotMember", "refused: the process is no member of the record's team"},
+    {"Acked", "refused: the record is acknowledged"},
+    {"IsUp", "refused: the process is up already"},
+    {"ClockEnd", "refused: the time would be past its end"},
+    {"NoActor", "refused: there is no actor with the number that the act names"},
+    {"Full", "refused: there are as many grants as there may be"},
+    {"NoSuch", "refused: the actor has no grant at this place"},
+    {"NoCopy", "refused: the process hasn't synced the record that is to be copied"},
+    {"IsMember", "refused: the process is a member of the team already"},
+    {"NotDestroyed", "refused: the process isn't destroyed"},
+    {"StillNeeds", "refused: the process lacks an acknowledged record of its team"},
+};
+
+inline constexpr Text STATUSES[] = {
+    {"Done", "done"},
+    {"NoMemory", "there was no memory"},
+    {"JournalFull", "the journal has as many entries as the cluster file allows"},
+    {"Refused", "refused"},
+    {"Short", "the buffer is too short"},
+    {"Unwritten", "the act is made and stands in the journal, but its line could not be written"},
+    {"NoEntry", "the journal has no entry at this place"},
+    {"Argument", "there is no such key, kind or floor"},
+    {"Name", "the value of the target is no name"},
+    {"Floor", "the floor of the kill is above its kind"},
+    {"LineTooLong", "the line has more than 65,536 bytes"},
+    {"LineSyntax", "the line is no command of a script"},
+    {"ConfigTooLong", "the cluster file has more than 1,048,576 bytes"},
+    {"ConfigToml", "the cluster file is no TOML document in UTF-8"},
+    {"ConfigField", "a key of the cluster file is missing, unknown or of another type, or a word "
+                    "is none of those that may stand there"},
+    {"ConfigLimit", "a number or a length of the cluster file is outside its range"},
+    {"ConfigName", "a text of the cluster file is no name, or names what is taken or isn't there"},
+    {"ConfigPolicy", "a text of the cluster file is no policy"},
+    {"ConfigUnmet", "all processes of the cluster file together don't satisfy one of its policies"},
+    {"Closed", "the guard is closed"},
+};
+
+/* The row of a number, or the other row where it has none, as a number by a cast may. */
+template <typename Row, std::size_t Count, typename Number>
+constexpr Row row_of(const Row (&rows)[Count], Number number, Row other) noexcept
+{
+    const auto at = static_cast<std::size_t>(number);
+    return at < Count ? rows[at] : other;
+}
+
+inline constexpr std::string_view NO_WORD = "unknown";
+inline constexpr Text NO_TEXT = {NO_WORD, "unknown to this header"};
+
+/* The bytes of a text; never null, which the library isn't to be given. */
+inline const std::uint8_t *bytes(std::string_view text) noexcept
+{
+    return reinterpret_cast<const std::uint8_t *>(text.data() == nullptr ? "" : text.data());
+}
+
+} // namespace detail
+
+/* The word that scripts and audits have for it; of a status its name here. */
+constexpr std::string_view to_string(Key key) noexcept
+{
+    return detail::row_of(detail::KEYS, key, detail::NO_WORD);
+}
+
+constexpr std::string_view to_string(Kind kind) noexcept
+{
+    return detail::row_of(detail::KINDS, kind, detail::NO_WORD);
+}
+
+constexpr std::string_view to_string(Rule rule) noexcept
+{
+    return detail::row_of(detail::RULES, rule, detail::NO_WORD);
+}
+
+constexpr std::string_view to_string(Refusal refusal) noexcept
+{
+    return detail::row_of(detail::REFUSALS, refusal, detail::NO_TEXT).word;
+}
+
+constexpr std::string_view to_string(Status status) noexcept
+{
+    return detail::row_of(detail::STATUSES, status, detail::NO_TEXT).word;
+}
+
+/* What a call throws that did not do what it says. But for Refused and Unwritten nothing changed
+ * then. It takes no memory. */
+class Error : public std::exception {
+public:
+    explicit Error(Status status, std::optional<Refusal> refusal = std::nullopt) noexcept
+        : status_(status), refusal_(refusal)
+    {
+    }
+
+    Status status() const noexcept { return status_; }
+
+    /* Why the act is refused, where the status is Refused. */
+    std::optional<Refusal> refusal() const noexcept { return refusal_; }
+
+    const char *what() const noexcept override
+    {
+        return refusal_ ? detail::row_of(detail::REFUSALS, *refusal_, detail::NO_TEXT).says
+                        : detail::row_of(detail::STATUSES, status_, detail::NO_TEXT).says;
+    }
+
+private:
+    Status status_;
+    std::optional<Refusal> refusal_;
+};
+
+/* The answer to a kill. */
+struct Verdict {
+    /* What to do to each process of the target that isn't gone; nothing where it is empty. */
+    std::optional<Kind> struck;
+    /* What bars the kind that was ordered; empty where that struck. */
+    std::optional<Rule> rule;
+    /* The process (NoGrant, Protected) or the policy (TooManyDestroyed, TooFewLeft) it names. */
+    std::optional<std::uint64_t> named;
+
+    friend constexpr bool operator==(const Verdict &one, const Verdict &other) noexcept
+    {
+        return one.struck == other.struck && one.rule == other.rule && one.named == other.named;
+    }
+
+    friend constexpr bool operator!=(const Verdict &one, const Verdict &other) noexcept
+    {
+        return !(one == other);
+    }
+};
+
+/* A set of processes by their numbers. */
+using Processes = std::bitset<std::size_t{64} * FY_SET_WORDS>;
+
+/* A guard. It is moved and never copied. After `close`, and after it was moved from, each call
+ * throws Closed.
+ *
+ * The const calls write nothing of it, so they may be made at once while no other call is. */
+class Guard {
+public:
+    /* Opens a guard of a cluster in which nothing happened yet, by the text of a cluster file.
+     * Throws NoMemory, and ConfigTooLong to ConfigUnmet, the first that holds. */
+    explicit Guard(std::string_view config)
+    {
+        require(fy_open(detail::bytes(config), config.size(), &guard_));
+    }
+
+    Guard(Guard &&other) noexcept : guard_(std::exchange(other.guard_, fy_guard{nullptr})) {}
+
+    Guard &operator=(Guard &&other) noexcept
+    {
+        if (this != &other) {
+            close();
+            guard_ = std::exchange(other.guard_, fy_guard{nullptr});
+        }
+        return *this;
+    }
+
+    Guard(const Guard &) = delete;
+    Guard &operator=(const Guard &) = delete;
+    ~Guard() { close(); }
+
+    /* Frees what it holds. A closed guard stays closed. */
+    void close() noexcept { fy_guard_close(&guard_); }
+
+    bool is_open() const noexcept { return fy_guard_is_open(&guard_) != 0; }
+
+    /* Orders a kill of the processes whose key has the value: by the kind, or where that is barred
+     * by a milder one down to the floor. Bit i of `tear` is 1 where a reboot keeps the unsynced
+     * write i.
+     * Throws in order Closed, Argument, Name, Floor, JournalFull, NoMemory; Refused where there is
+     * no such actor. */
+    [[nodiscard]] Verdict kill(std::uint32_t actor, Key key, std::string_view value, Kind kind,
+                               Kind floor = Kind::RebootProcess, std::uint64_t tear = 0)
+    {
+        std::uint32_t struck = 0, rule = 0;
+        std::uint64_t named = 0;
+        const std::uint32_t status =
+            fy_kill(opened(), actor, static_cast<std::uint32_t>(key), detail::bytes(value),
+                    value.size(), static_cast<std::uint32_t>(kind),
+                    static_cast<std::uint32_t>(floor), tear, &struck, &rule, &named);
+        require(status, FY_STRANGER);
+        Verdict verdict;
+        if (struck != FY_NONE)
+            verdict.struck = static_cast<Kind>(struck);
+        if (rule != FY_NO_RULE)
+            verdict.rule = static_cast<Rule>(rule);
+        if (rule != FY_NO_RULE && rule != FY_NO_TARGET)
+            verdict.named = named;
+        return verdict;
+    }
+
+    /* Reports that a process runs again, by an actor whose role is storage.
+     * Throws in order Closed, JournalFull, NoMemory; Refused where it is up, gone or not there, or
+     * where the actor may not say so. */
+    void up(std::uint32_t actor, std::uint32_t process)
+    {
+        std::uint32_t refusal = 0;
+        const std::uint32_t status = fy_up(opened(), actor, process, &refusal);
+        require(status, refusal);
+    }
+
+    /* Reports that a destroyed process has every acknowledged record on its disk again, by an actor
+     * whose role is storage. Throws as `up` does. */
+    void heal(std::uint32_t actor, std::uint32_t process)
+    {
+        std::uint32_t refusal = 0;
+        const std::uint32_t status = fy_heal(opened(), actor, process, &refusal);
+        require(status, refusal);
+    }
+
+    /* Makes any act, given as its line of a script, and answers the line of its entry, which ends
+     * with a line feed. A refused act is answered too: the line has the refusal.
+     * Throws in order Closed, LineTooLong, LineSyntax, Floor, JournalFull; NoMemory in place of any
+     * but the first. After Unwritten the act stands in the journal, and `entry` reads it. */
+    std::string act(std::string_view line)
+    {
+        fy_guard *const guard = opened();
+        std::string answer = room_for(line.size() + FY_MOST_REPLY);
+        std::size_t told = 0;
+        require(fy_act(guard, detail::bytes(line), line.size(), bytes_of(answer), answer.size(),
+                       &told));
+        answer.resize(told);
+        return answer;
+    }
+
+    /* Whether a process is destroyed: struck by a kind that empties its disk, and not healed since.
+     * Throws Closed. */
+    bool is_destroyed(std::uint32_t process) const
+    {
+        return fy_is_destroyed(opened(), process) != 0;
+    }
+
+    /* The processes that aren't gone for good, emptied or not. Throws Closed. */
+    Processes left() const
+    {
+        std::uint64_t words[FY_SET_WORDS] = {};
+        fy_left(opened(), words, FY_SET_WORDS);
+        Processes left;
+        for (std::size_t process = 0; process < left.size(); process++)
+            left[process] = (words[process / 64] >> process % 64 & 1) != 0;
+        return left;
+    }
+
+    /* How many entries the journal has. Throws Closed. */
+    std::size_t journal_len() const { return fy_journal_len(opened()); }
+
+    /* The line of the entry at a place of the journal, from 0; it ends with a line feed.
+     * Throws in order Closed, NoEntry, NoMemory. */
+    std::string entry(std::size_t at) const
+    {
+        const fy_guard *const guard = opened();
+        std::string line = room_for(USUAL_LINE);
+        std::size_t told = 0;
+        std::uint32_t status = fy_audit(guard, at, bytes_of(line), line.size(), &told);
+        if (status == FY_SHORT) {
+            line = room_for(told);
+            status = fy_audit(guard, at, bytes_of(line), line.size(), &told);
+        }
+        require(status);
+        line.resize(told);
+        return line;
+    }
+
+    /* The audit that `faultyard check` reads: its header and the line of each entry.
+     * Throws Closed, NoMemory. */
+    std::string audit() const
+    {
+        const std::size_t count = journal_len();
+        try {
+            std::string text = FY_AUDIT_HEADER;
+            for (std::size_t at = 0; at < count; at++)
+                text += entry(at);
+            return text;
+        } catch (const std::bad_alloc &) {
+            throw Error(Status::NoMemory);
+        }
+    }
+
+private:
+    /* Most lines have fewer bytes; a longer one is read again. */
+    static constexpr std::size_t USUAL_LINE = 512;
+
+    fy_guard *opened()
+    {
+        require_open();
+        return &guard_;
+    }
+
+    const fy_guard *opened() const
+    {
+        require_open();
+        return &guard_;
+    }
+
+    void require_open() const
+    {
+        if (!is_open())
+            throw Error(Status::Closed);
+    }
+
+    static void require(std::uint32_t status, std::uint32_t refusal = FY_NOT_REFUSED)
+    {
+        if (status == FY_REFUSED)
+            throw Error(Status::Refused, static_cast<Refusal>(refusal));
+        if (status != FY_DONE)
+            throw Error(static_cast<Status>(status));
+    }
+
+    static std::string room_for(std::size_t length)
+    {
+        try {
+            return std::string(length, '\0');
+        } catch (const std::bad_alloc &) {
+            throw Error(Status::NoMemory);
+        }
+    }
+
+    static std::uint8_t *bytes_of(std::string &text) noexcept
+    {
+        return reinterpret_cast<std::uint8_t *>(text.data());
+    }
+
+    fy_guard guard_ = {nullptr};
+};
+
+} // namespace faultyard
+
+#endif

@@ -1,0 +1,342 @@
+/* What each call of faultyard.hpp does, answers and throws, by the words of docs/FORMATS.md. */
+#include <faultyard.hpp>
+
+#include "told.h"
+
+#include <set>
+#include <thread>
+#include <type_traits>
+#include <vector>
+
+using namespace faultyard;
+
+static_assert(!std::is_copy_constructible_v<Guard> && !std::is_copy_assignable_v<Guard>);
+static_assert(std::is_nothrow_move_constructible_v<Guard> &&
+              std::is_nothrow_move_assignable_v<Guard>);
+static_assert(!std::is_convertible_v<std::string_view, Guard>);
+static_assert(std::is_base_of_v<std::exception, Error> &&
+              std::is_nothrow_copy_constructible_v<Error>);
+static_assert(empties_disk(Kind::RebootAndDelete) && empties_disk(Kind::KillInstantly));
+static_assert(!empties_disk(Kind::RebootProcess) && !empties_disk(Kind::Reboot));
+static_assert(is_final(Kind::KillInstantly) && !is_final(Kind::RebootAndDelete));
+
+static std::set<Status> met;
+
+template <typename Call>
+static void throws(int line, Status status, std::optional<Refusal> refusal, Call call)
+{
+    checked++;
+    try {
+        call();
+        fprintf(stderr, "line %d: nothing is thrown\n", line);
+    } catch (const Error &error) {
+        met.insert(error.status());
+        if (error.status() == status && error.refusal() == refusal)
+            return;
+        fprintf(stderr, "line %d: %s\n", line, error.what());
+    }
+    wrong++;
+}
+
+#define HOLDS(condition) EQUAL(condition, true)
+#define THROWS(status, ...) throws(__LINE__, Status::status, std::nullopt, [&] { __VA_ARGS__; })
+#define REFUSES(refusal, ...)                                                                      \
+    throws(__LINE__, Status::Refused, Refusal::refusal, [&] { __VA_ARGS__; })
+
+/* Memory is refused to the library while this is true: the linker has malloc and realloc come here
+ * (--wrap). */
+static bool has_no_memory = false;
+extern "C" {
+void *__real_malloc(size_t size);
+void *__real_realloc(void *block, size_t size);
+void *__wrap_malloc(size_t size)
+{
+    return has_no_memory ? nullptr : __real_malloc(size);
+}
+void *__wrap_realloc(void *block, size_t size)
+{
+    return has_no_memory ? nullptr : __real_realloc(block, size);
+}
+}
+
+static Verdict verdict(std::optional<Kind> struck, std::optional<Rule> barred = {},
+                       std::optional<uint64_t> by = {})
+{
+    return {struck, barred, by};
+}
+
+/* Zone z0 may go for good, and then z1 is rebooted. */
+static void worked_kill()
+{
+    Guard guard(SIX);
+    HOLDS(guard.is_open());
+    HOLDS(guard.audit() == FY_AUDIT_HEADER);
+    HOLDS(guard.left() == Processes(0x3f));
+    HOLDS(guard.kill(1, Key::Zone, "z0", Kind::KillInstantly, Kind::Reboot) ==
+          verdict(Kind::KillInstantly));
+    const Verdict second = guard.kill(1, Key::Zone, "z1", Kind::KillInstantly, Kind::Reboot);
+    HOLDS(second == verdict(Kind::Reboot, Rule::TooManyDestroyed, 0));
+    HOLDS(second != verdict(Kind::Reboot, Rule::TooManyDestroyed, 1));
+    const std::string first_line =
+        "{\"act\":{\"kill\":{\"floor\":\"Reboot\",\"key\":\"zoneid\",\"kind\":\"KillInstantly\","
+        "\"tear\":0,\"value\":\"z0\"}},"
+        "\"at\":0,\"by\":1,\"reply\":{\"verdict\":{\"rule\":null,\"struck\":\"KillInstantly\"}}}\n";
+    HOLDS(guard.entry(0) == first_line);
+    EQUAL(guard.journal_len(), 2);
+    HOLDS(guard.audit() == FY_AUDIT_HEADER + first_line + guard.entry(1));
+    for (uint32_t process = 0; process < 6; process++)
+        EQUAL(guard.is_destroyed(process), process < 2);
+    EQUAL(guard.is_destroyed(UINT32_MAX), false);
+    HOLDS(guard.left() == Processes(0x3c));
+    HOLDS(guard.act("{\"by\":0,\"act\":{\"tick\":{\"ticks\":5}}}") ==
+          "{\"act\":{\"tick\":{\"ticks\":5}},\"at\":2,\"by\":0,\"reply\":{\"time\":5}}\n");
+    HOLDS(guard.act("{\"by\":0,\"act\":{\"up\":{\"process\":5}}}") ==
+          "{\"act\":{\"up\":{\"process\":5}},\"at\":3,\"by\":0,\"reply\":{\"no\":[\"IsUp\"]}}\n");
+}
+
+/* Each rule, with what it names. The floor is RebootProcess where it is left out, and the tear 0.
+ */
+static void rules()
+{
+    Guard guard(SIX);
+    HOLDS(guard.kill(1, Key::Process, "nobody", Kind::Reboot) == verdict({}, Rule::NoTarget));
+    HOLDS(guard.entry(0).find("\"floor\":\"RebootProcess\"") != std::string::npos);
+    HOLDS(guard.entry(0).find("\"tear\":0,") != std::string::npos);
+    HOLDS(guard.kill(3, Key::Machine, "m4", Kind::Reboot) == verdict({}, Rule::NoGrant, 4));
+    guard.act("{\"by\":4,\"act\":{\"protect\":{\"process\":5,\"kinds\":[\"Reboot\","
+              "\"KillInstantly\"]}}}");
+    HOLDS(guard.kill(1, Key::Process, "p5", Kind::KillInstantly) ==
+          verdict(Kind::RebootAndDelete, Rule::Protected, 5));
+    HOLDS(guard.kill(1, Key::Zone, "z0", Kind::RebootAndDelete, Kind::RebootAndDelete) ==
+          verdict({}, Rule::TooManyDestroyed, 0));
+    HOLDS(guard.kill(1, Key::DataCenter, "d0", Kind::RebootProcess) ==
+          verdict(Kind::RebootProcess));
+    HOLDS(guard.kill(1, Key::DataHall, "d0", Kind::Reboot) == verdict({}, Rule::NoTarget));
+    HOLDS(guard.kill(1, Key::Process, "p0", Kind::Reboot, Kind::Reboot, UINT64_MAX) ==
+          verdict(Kind::Reboot));
+    HOLDS(guard.entry(guard.journal_len() - 1).find("\"tear\":18446744073709551615,") !=
+          std::string::npos);
+    Guard three(THREE);
+    HOLDS(three.kill(0, Key::Zone, "z0", Kind::KillInstantly, Kind::KillInstantly) ==
+          verdict({}, Rule::TooFewLeft, 0));
+}
+
+/* What is refused throws with its reason, and stands in the journal all the same. */
+static void refusals()
+{
+    Guard guard(SIX);
+    REFUSES(IsUp, guard.up(0, 0));
+    REFUSES(NoProcess, guard.up(0, 6));
+    REFUSES(Stranger, guard.up(9, 0));
+    REFUSES(WrongRole, guard.up(1, 0));
+    REFUSES(NotDestroyed, guard.heal(0, 0));
+    REFUSES(Stranger, (void)guard.kill(9, Key::Process, "p0", Kind::Reboot));
+    EQUAL(guard.journal_len(), 6);
+    /* A record in a team of p0 and p2 is acknowledged. Then p0 is emptied, and lacks it. */
+    for (const char *act : {"{\"form\":{\"members\":[0,2],\"policy\":0}}",
+                            "{\"begin\":{\"payload\":\"6869\",\"team\":0}}",
+                            "{\"deliver\":{\"message\":0}}", "{\"deliver\":{\"message\":1}}",
+                            "{\"sync\":{\"process\":0}}", "{\"sync\":{\"process\":2}}",
+                            "{\"deliver\":{\"message\":2}}", "{\"deliver\":{\"message\":3}}"})
+        guard.act("{\"by\":0,\"act\":" + std::string(act) + "}");
+    HOLDS(guard.kill(1, Key::Process, "p0", Kind::RebootAndDelete) ==
+          verdict(Kind::RebootAndDelete));
+    REFUSES(NotUp, guard.heal(0, 0));
+    guard.up(0, 0);
+    REFUSES(StillNeeds, guard.heal(0, 0));
+    guard.act("{\"by\":0,\"act\":{\"copy\":{\"from\":2,\"record\":0,\"to\":0}}}");
+    guard.act("{\"by\":0,\"act\":{\"deliver\":{\"message\":4}}}");
+    guard.act("{\"by\":0,\"act\":{\"sync\":{\"process\":0}}}");
+    guard.heal(0, 0);
+    EQUAL(guard.is_destroyed(0), false);
+    HOLDS(guard.kill(1, Key::Process, "p4", Kind::KillInstantly) == verdict(Kind::KillInstantly));
+    REFUSES(Gone, guard.up(0, 4));
+    HOLDS(guard.left() == Processes(0x2f));
+}
+
+/* Each error that enters nothing. */
+static void errors()
+{
+    Guard guard(TWO_PLACES);
+    THROWS(Argument, (void)guard.kill(1, static_cast<Key>(0), "p0", Kind::Reboot));
+    THROWS(Argument, (void)guard.kill(1, Key::Process, "p0", static_cast<Kind>(5)));
+    THROWS(Argument, (void)guard.kill(1, Key::Process, "p0", Kind::Reboot, static_cast<Kind>(0)));
+    THROWS(Name, (void)guard.kill(1, Key::Process, "", Kind::Reboot));
+    THROWS(Name, (void)guard.kill(1, Key::Process, std::string_view(), Kind::Reboot));
+    THROWS(Name, (void)guard.kill(1, Key::Process, std::string_view("p0\0", 3), Kind::Reboot));
+    THROWS(Name, (void)guard.kill(1, Key::Process, std::string(33, 'p'), Kind::Reboot));
+    THROWS(Floor, (void)guard.kill(1, Key::Process, "p0", Kind::Reboot, Kind::KillInstantly));
+    THROWS(LineSyntax, guard.act(std::string_view()));
+    THROWS(LineSyntax, guard.act("{}"));
+    THROWS(Floor, guard.act("{\"by\":1,\"act\":{\"kill\":{\"floor\":\"Reboot\",\"key\":\"zoneid\","
+                            "\"kind\":\"RebootProcess\","
+                            "\"tear\":0,\"value\":\"z0\"}}}"));
+    THROWS(LineSyntax, guard.act(std::string(65536, ' ')));
+    THROWS(LineTooLong, guard.act(std::string(65537, ' ')));
+    THROWS(NoEntry, guard.entry(0));
+    THROWS(NoEntry, guard.entry(SIZE_MAX));
+    EQUAL(guard.journal_len(), 0);
+    /* A name that isn't the end of its text. */
+    HOLDS(guard.kill(1, Key::Process, std::string_view("p0 and more").substr(0, 2), Kind::Reboot) ==
+          verdict(Kind::Reboot));
+    guard.up(0, 0);
+    const std::string before = guard.audit();
+    THROWS(JournalFull, guard.up(0, 0));
+    THROWS(JournalFull, guard.heal(0, 0));
+    THROWS(JournalFull, (void)guard.kill(1, Key::Process, "p0", Kind::Reboot));
+    THROWS(JournalFull, guard.act("{\"by\":0,\"act\":{\"tick\":{\"ticks\":5}}}"));
+    HOLDS(guard.audit() == before);
+}
+
+/* Where the library has no memory, nothing changes. The first entry of a journal needs some. */
+static void want_of_memory()
+{
+    Guard first(SIX), guard(SIX);
+    guard.act("{\"by\":0,\"act\":{\"tick\":{\"ticks\":5}}}");
+    const std::string before = guard.audit();
+    has_no_memory = true;
+    THROWS(NoMemory, Guard{SIX});
+    THROWS(NoMemory, (void)first.kill(1, Key::Process, "p0", Kind::Reboot));
+    THROWS(NoMemory, first.up(0, 0));
+    THROWS(NoMemory, first.heal(0, 0));
+    THROWS(NoMemory, guard.act("{\"by\":0,\"act\":{\"tick\":{\"ticks\":5}}}"));
+    THROWS(NoMemory, guard.entry(0));
+    THROWS(NoMemory, guard.audit());
+    has_no_memory = false;
+    EQUAL(first.journal_len(), 0);
+    HOLDS(guard.audit() == before);
+}
+
+/* A cluster file that is none, one for each reason. */
+static void cluster_files()
+{
+    THROWS(ConfigField, Guard{std::string_view()});
+    THROWS(ConfigField, Guard{""});
+    THROWS(ConfigToml, Guard{"="});
+    THROWS(ConfigToml, Guard{"\xff"});
+    THROWS(ConfigLimit, Guard{"journal_limit = 0\n" REST("Across(2,zoneid,One())", "z1")});
+    THROWS(ConfigName, Guard{"journal_limit = 1\n" REST("Across(2,zoneid,One())", "z 1")});
+    THROWS(ConfigPolicy, Guard{"journal_limit = 1\n" REST("Across(2,zone,One())", "z1")});
+    THROWS(ConfigUnmet, Guard{"journal_limit = 1\n" REST("Across(3,zoneid,One())", "z1")});
+    THROWS(ConfigTooLong, Guard{std::string(1048577, '\n')});
+}
+
+/* Each call answers that the guard is closed. */
+static void assert_closed(Guard &guard)
+{
+    EQUAL(guard.is_open(), false);
+    THROWS(Closed, (void)guard.kill(1, Key::Process, "p0", Kind::Reboot));
+    THROWS(Closed, guard.up(0, 0));
+    THROWS(Closed, guard.heal(0, 0));
+    THROWS(Closed, guard.act("{}"));
+    THROWS(Closed, guard.is_destroyed(0));
+    THROWS(Closed, guard.left());
+    THROWS(Closed, guard.journal_len());
+    THROWS(Closed, guard.entry(0));
+    THROWS(Closed, guard.audit());
+    guard.close();
+    EQUAL(guard.is_open(), false);
+}
+
+/* A guard moves with its journal, and leaves a closed one. */
+static void moves()
+{
+    Guard first(SIX);
+    (void)first.kill(1, Key::Zone, "z0", Kind::KillInstantly);
+    Guard second(std::move(first));
+    assert_closed(first);
+    EQUAL(second.journal_len(), 1);
+    Guard third(THREE);
+    third = std::move(second);
+    assert_closed(second);
+    EQUAL(third.journal_len(), 1);
+    Guard &same = third;
+    third = std::move(same);
+    HOLDS(third.is_open());
+    EQUAL(third.journal_len(), 1);
+    first = std::move(third);
+    HOLDS(first.is_destroyed(0));
+    third = std::move(second);
+    assert_closed(third);
+    std::vector<Guard> guards;
+    guards.push_back(std::move(first));
+    for (int i = 0; i < 9; i++)
+        guards.emplace_back(SIX);
+    EQUAL(guards.front().journal_len(), 1);
+    EQUAL(guards.back().journal_len(), 0);
+    std::swap(guards.front(), guards.back());
+    EQUAL(guards.back().journal_len(), 1);
+    guards.back().close();
+    assert_closed(guards.back());
+}
+
+/* An entry whose line is longer than the first buffer. */
+static void long_lines()
+{
+    Guard guard(SIX);
+    const std::string payload(512, 'a');
+    guard.act("{\"by\":0,\"act\":{\"form\":{\"members\":[0,2],\"policy\":0}}}");
+    const std::string line =
+        guard.act("{\"by\":0,\"act\":{\"begin\":{\"payload\":\"" + payload + "\",\"team\":0}}}");
+    HOLDS(line.size() > 512);
+    HOLDS(guard.entry(1) == line);
+    HOLDS(guard.audit() == FY_AUDIT_HEADER + guard.entry(0) + line);
+}
+
+/* The audit of a guard that this thread opens. */
+static std::string played(uint32_t first)
+{
+    Guard guard(SIX);
+    for (uint32_t i = 0; i < 500; i++) {
+        const uint32_t process = (first + i) % 6;
+        const std::string name = "p" + std::to_string(process);
+        if (guard.kill(1, Key::Process, name, Kind::RebootAndDelete, Kind::RebootProcess, i).struck)
+            guard.up(0, process);
+    }
+    return guard.audit();
+}
+
+/* Eight guards in eight threads, each as if it were alone. */
+static void threads()
+{
+    std::string beside[8];
+    std::vector<std::thread> running;
+    for (uint32_t i = 0; i < 8; i++)
+        running.emplace_back([&beside, i] { beside[i] = played(i); });
+    for (std::thread &thread : running)
+        thread.join();
+    for (uint32_t i = 0; i < 8; i++) {
+        HOLDS(beside[i].size() > 100000);
+        HOLDS(beside[i] == played(i));
+    }
+}
+
+/* What an error says, also of a number that this header doesn't know. */
+static void texts()
+{
+    HOLDS(std::string_view(Error(Status::JournalFull).what()) ==
+          "the journal has as many entries as the cluster file allows");
+    HOLDS(std::string_view(Error(Status::Refused, Refusal::IsUp).what()) ==
+          "refused: the process is up already");
+    HOLDS(std::string_view(Error(static_cast<Status>(20)).what()) == "unknown to this header");
+    HOLDS(to_string(static_cast<Refusal>(26)) == "unknown");
+    HOLDS(to_string(static_cast<Key>(UINT32_MAX)) == "unknown");
+}
+
+int main()
+{
+    worked_kill();
+    rules();
+    refusals();
+    errors();
+    want_of_memory();
+    cluster_files();
+    moves();
+    long_lines();
+    threads();
+    texts();
+    /* Each status but Done, Short, which no call answers, and Unwritten, which nothing brings
+     * about. */
+    EQUAL(met.size(), static_cast<size_t>(Status::Closed) - 2);
+    return ended("cases");
+}

@@ -1,0 +1,477 @@
+// Package faultyard_tests says what each call of the Go binding does and answers, by the words of
+// docs/FORMATS.md.
+package faultyard_tests
+
+import (
+	"bytes"
+	"errors"
+	"fmt"
+	"os"
+	"reflect"
+	"runtime"
+	"strings"
+	"sync"
+	"testing"
+	"time"
+
+	"faultyard"
+)
+
+// six is examples/c6.toml.
+func six(t *testing.T) []byte {
+	t.Helper()
+	config, err := os.ReadFile("../../../examples/c6.toml")
+	if err != nil {
+		t.Fatal(err)
+	}
+	return config
+}
+
+// sixWith is examples/c6.toml with another line in place of one.
+func sixWith(t *testing.T, old, new string) []byte {
+	t.Helper()
+	config := six(t)
+	if bytes.Count(config, []byte(old)) != 1 {
+		t.Fatalf("c6.toml has not one %q", old)
+	}
+	return bytes.Replace(config, []byte(old), []byte(new), 1)
+}
+
+// opened is a guard that is closed when the test ends.
+func opened(t *testing.T, config []byte) *faultyard.Guard {
+	t.Helper()
+	guard, err := faultyard.Open(config)
+	if err != nil {
+		t.Fatal(err)
+	}
+	t.Cleanup(func() { _ = guard.Close() })
+	return guard
+}
+
+func equal(t *testing.T, found, wanted any) {
+	t.Helper()
+	if !reflect.DeepEqual(found, wanted) {
+		t.Errorf("found %v, wanted %v", found, wanted)
+	}
+}
+
+// fails says that an error is the one that is wanted.
+func fails(t *testing.T, err, wanted error) {
+	t.Helper()
+	if !errors.Is(err, wanted) {
+		t.Errorf("found the error %v, wanted %v", err, wanted)
+	}
+}
+
+// kill orders a kill that is made or barred.
+func kill(
+	t *testing.T, guard *faultyard.Guard, actor uint32, order faultyard.Order,
+) faultyard.Verdict {
+	t.Helper()
+	verdict, err := guard.Kill(actor, order)
+	if err != nil {
+		t.Fatal(err)
+	}
+	return verdict
+}
+
+// act makes an act of an actor, and answers the line of its entry.
+func act(t *testing.T, guard *faultyard.Guard, actor int, act string) string {
+	t.Helper()
+	entry, err := guard.Act([]byte(fmt.Sprintf(`{"by":%d,"act":%s}`, actor, act)))
+	if err != nil {
+		t.Fatal(err)
+	}
+	return string(entry)
+}
+
+func journalLen(t *testing.T, guard *faultyard.Guard) int {
+	t.Helper()
+	count, err := guard.JournalLen()
+	if err != nil {
+		t.Fatal(err)
+	}
+	return count
+}
+
+func audit(t *testing.T, guard *faultyard.Guard) string {
+	t.Helper()
+	text, err := guard.Audit()
+	if err != nil {
+		t.Fatal(err)
+	}
+	return string(text)
+}
+
+const killedZone = `{"act":{"kill":{"floor":"Reboot","key":"zoneid","kind":"KillInstantly",` +
+	`"tear":0,"value":"z0"}},"at":0,"by":1,` +
+	`"reply":{"verdict":{"rule":null,"struck":"KillInstantly"}}}` + "\n"
+
+func TestZoneZ0MayGoAndThenZ1IsRebooted(t *testing.T) {
+	guard := opened(t, six(t))
+	equal(t, audit(t, guard), faultyard.Header)
+	order := faultyard.Order{
+		Key: faultyard.Zone, Value: "z0", Kind: faultyard.KillInstantly, Floor: faultyard.Reboot,
+	}
+	equal(t, kill(t, guard, 1, order), faultyard.Verdict{Struck: faultyard.KillInstantly})
+	order.Value = "z1"
+	equal(t, kill(t, guard, 1, order),
+		faultyard.Verdict{Struck: faultyard.Reboot, Rule: faultyard.TooManyDestroyed, Named: 0})
+	for process := uint32(0); process < 7; process++ {
+		destroyed, err := guard.IsDestroyed(process)
+		equal(t, err, nil)
+		equal(t, destroyed, process < 2)
+	}
+	left, err := guard.Left()
+	equal(t, err, nil)
+	equal(t, left, []uint32{2, 3, 4, 5})
+	first, err := guard.Entry(0)
+	equal(t, err, nil)
+	equal(t, string(first), killedZone)
+	second, err := guard.Entry(1)
+	equal(t, err, nil)
+	equal(t, audit(t, guard), faultyard.Header+killedZone+string(second))
+	equal(t, journalLen(t, guard), 2)
+	equal(t, act(t, guard, 0, `{"tick":{"ticks":5}}`),
+		`{"act":{"tick":{"ticks":5}},"at":2,"by":0,"reply":{"time":5}}`+"\n")
+	equal(t, act(t, guard, 0, `{"up":{"process":5}}`),
+		`{"act":{"up":{"process":5}},"at":3,"by":0,"reply":{"no":["IsUp"]}}`+"\n")
+}
+
+func TestEachRuleAndWhatItNames(t *testing.T) {
+	guard := opened(t, six(t))
+	order := func(key faultyard.Key, value string, kind, floor faultyard.Kind) faultyard.Order {
+		return faultyard.Order{Key: key, Value: value, Kind: kind, Floor: floor, Tear: 1<<64 - 1}
+	}
+	told := func(actor uint32, its faultyard.Order, wanted faultyard.Verdict) {
+		t.Helper()
+		equal(t, kill(t, guard, actor, its), wanted)
+	}
+	told(1, order(faultyard.Process, "nobody", faultyard.Reboot, faultyard.Reboot),
+		faultyard.Verdict{Rule: faultyard.NoTarget})
+	told(3, order(faultyard.Machine, "m4", faultyard.Reboot, faultyard.Reboot),
+		faultyard.Verdict{Rule: faultyard.NoGrant, Named: 4})
+	act(t, guard, 4, `{"protect":{"process":5,"kinds":["Reboot","KillInstantly"]}}`)
+	// The floor that is left out is RebootProcess.
+	told(1, order(faultyard.Process, "p5", faultyard.KillInstantly, faultyard.None),
+		faultyard.Verdict{Struck: faultyard.RebootAndDelete, Rule: faultyard.Protected, Named: 5})
+	entry, err := guard.Entry(3)
+	equal(t, err, nil)
+	wanted := `{"act":{"kill":{"floor":"RebootProcess","key":"processid","kind":"KillInstantly",` +
+		`"tear":18446744073709551615,"value":"p5"}},"at":3,"by":1,"reply":`
+	equal(t, strings.HasPrefix(string(entry), wanted), true)
+	told(1, order(faultyard.Zone, "z0", faultyard.RebootAndDelete, faultyard.RebootAndDelete),
+		faultyard.Verdict{Rule: faultyard.TooManyDestroyed, Named: 0})
+	told(1, order(faultyard.DataCenter, "d0", faultyard.RebootProcess, faultyard.RebootProcess),
+		faultyard.Verdict{Struck: faultyard.RebootProcess})
+	told(1, order(faultyard.DataHall, "d0", faultyard.Reboot, faultyard.Reboot),
+		faultyard.Verdict{Rule: faultyard.NoTarget})
+	guard = opened(t, sixWith(t, "Across(2,", "Across(3,"))
+	told(1, order(faultyard.Zone, "z0", faultyard.KillInstantly, faultyard.KillInstantly),
+		faultyard.Verdict{Rule: faultyard.TooFewLeft, Named: 0})
+}
+
+func TestARefusedActIsAnErrorAndStandsInTheJournal(t *testing.T) {
+	guard := opened(t, six(t))
+	refuses := func(err error, wanted faultyard.Refusal) {
+		t.Helper()
+		fails(t, err, wanted)
+		fails(t, err, faultyard.ErrRefused)
+		var refusal faultyard.Refusal
+		equal(t, errors.As(err, &refusal), true)
+		equal(t, refusal, wanted)
+		equal(t, errors.Is(err, faultyard.ErrClosed), false)
+		equal(t, err.Error(), "faultyard: the act is refused: "+wanted.String())
+	}
+	refuses(guard.Up(0, 0), faultyard.RefusalIsUp)
+	refuses(guard.Up(0, 6), faultyard.RefusalNoProcess)
+	refuses(guard.Up(9, 0), faultyard.RefusalStranger)
+	refuses(guard.Up(1, 0), faultyard.RefusalWrongRole)
+	refuses(guard.Heal(0, 0), faultyard.RefusalNotDestroyed)
+	empty := faultyard.Order{Key: faultyard.Process, Value: "p0", Kind: faultyard.RebootAndDelete}
+	verdict, err := guard.Kill(9, empty)
+	refuses(err, faultyard.RefusalStranger)
+	equal(t, verdict, faultyard.Verdict{})
+	equal(t, journalLen(t, guard), 6)
+	// A record in a team of p0 and p2 is acknowledged. Then p0 is emptied, and lacks it.
+	for _, its := range []string{
+		`{"form":{"members":[0,2],"policy":0}}`, `{"begin":{"payload":"6869","team":0}}`,
+		`{"deliver":{"message":0}}`, `{"deliver":{"message":1}}`, `{"sync":{"process":0}}`,
+		`{"sync":{"process":2}}`, `{"deliver":{"message":2}}`, `{"deliver":{"message":3}}`,
+	} {
+		act(t, guard, 0, its)
+	}
+	equal(t, kill(t, guard, 1, empty), faultyard.Verdict{Struck: faultyard.RebootAndDelete})
+	refuses(guard.Heal(0, 0), faultyard.RefusalNotUp)
+	equal(t, guard.Up(0, 0), nil)
+	refuses(guard.Heal(0, 0), faultyard.RefusalStillNeeds)
+	for _, its := range []string{
+		`{"copy":{"from":2,"record":0,"to":0}}`, `{"deliver":{"message":4}}`, `{"sync":{"process":0}}`,
+	} {
+		act(t, guard, 0, its)
+	}
+	equal(t, guard.Heal(0, 0), nil)
+	kill(t, guard, 1, faultyard.Order{
+		Key: faultyard.Process, Value: "p4", Kind: faultyard.KillInstantly,
+	})
+	refuses(guard.Up(0, 4), faultyard.RefusalGone)
+}
+
+func TestAnErrorEntersNothing(t *testing.T) {
+	guard := opened(t, sixWith(t, "journal_limit = 1000\n", "journal_limit = 1\n"))
+	good := faultyard.Order{Key: faultyard.Process, Value: "p0", Kind: faultyard.Reboot}
+	for _, bad := range []struct {
+		status faultyard.Status
+		change func(*faultyard.Order)
+	}{
+		{faultyard.ErrArgument, func(its *faultyard.Order) { its.Key = 0 }},
+		{faultyard.ErrArgument, func(its *faultyard.Order) { its.Key = 6 }},
+		{faultyard.ErrArgument, func(its *faultyard.Order) { its.Kind = faultyard.None }},
+		{faultyard.ErrArgument, func(its *faultyard.Order) { its.Kind = 5 }},
+		{faultyard.ErrArgument, func(its *faultyard.Order) { its.Floor = 5 }},
+		{faultyard.ErrName, func(its *faultyard.Order) { its.Value = "" }},
+		{faultyard.ErrName, func(its *faultyard.Order) { its.Value = "p0\x00" }},
+		{faultyard.ErrName, func(its *faultyard.Order) { its.Value = strings.Repeat("p", 33) }},
+		{faultyard.ErrFloor, func(its *faultyard.Order) { its.Floor = faultyard.KillInstantly }},
+	} {
+		order := good
+		bad.change(&order)
+		_, err := guard.Kill(1, order)
+		fails(t, err, bad.status)
+	}
+	above := `{"by":1,"act":{"kill":{"floor":"Reboot","key":"zoneid","kind":"RebootProcess",` +
+		`"tear":0,"value":"z0"}}}`
+	for _, bad := range []struct {
+		status faultyard.Status
+		line   []byte
+	}{
+		{faultyard.ErrLineSyntax, nil},
+		{faultyard.ErrLineSyntax, []byte("{}")},
+		{faultyard.ErrLineSyntax, bytes.Repeat([]byte(" "), 65_536)},
+		{faultyard.ErrLineTooLong, bytes.Repeat([]byte(" "), 65_537)},
+		{faultyard.ErrFloor, []byte(above)},
+	} {
+		line, err := guard.Act(bad.line)
+		fails(t, err, bad.status)
+		equal(t, line == nil, true)
+	}
+	for _, at := range []int{0, -1, 1 << 40} {
+		_, err := guard.Entry(at)
+		fails(t, err, faultyard.ErrNoEntry)
+	}
+	equal(t, journalLen(t, guard), 0)
+	kill(t, guard, 1, good)
+	before := audit(t, guard)
+	_, err := guard.Kill(1, good)
+	fails(t, err, faultyard.ErrJournalFull)
+	fails(t, guard.Up(0, 0), faultyard.ErrJournalFull)
+	fails(t, guard.Heal(0, 0), faultyard.ErrJournalFull)
+	_, err = guard.Act([]byte(`{"by":0,"act":{"tick":{"ticks":5}}}`))
+	fails(t, err, faultyard.ErrJournalFull)
+	equal(t, audit(t, guard), before)
+}
+
+func TestAClusterFileThatIsNone(t *testing.T) {
+	for _, bad := range []struct {
+		status faultyard.Status
+		config []byte
+	}{
+		{faultyard.ErrConfigField, nil},
+		{faultyard.ErrConfigToml, []byte("=")},
+		{faultyard.ErrConfigToml, []byte("\xff")},
+		{faultyard.ErrConfigLimit, sixWith(t, "journal_limit = 1000\n", "journal_limit = 0\n")},
+		{faultyard.ErrConfigName, sixWith(t, `"p0"`, `"p 0"`)},
+		{faultyard.ErrConfigPolicy, sixWith(t, "Across(2,zoneid", "Across(2,zone")},
+		{faultyard.ErrConfigUnmet, sixWith(t, "Across(2,", "Across(4,")},
+		{faultyard.ErrConfigTooLong, bytes.Repeat([]byte("\n"), 1_048_577)},
+	} {
+		guard, err := faultyard.Open(bad.config)
+		fails(t, err, bad.status)
+		equal(t, guard == nil, true)
+		var status faultyard.Status
+		equal(t, errors.As(err, &status), true)
+		equal(t, errors.Is(err, faultyard.ErrRefused), false)
+	}
+}
+
+// assertClosed says that each call answers that the guard is closed.
+func assertClosed(t *testing.T, guard *faultyard.Guard) {
+	t.Helper()
+	_, err := guard.Kill(1, faultyard.Order{})
+	fails(t, err, faultyard.ErrClosed)
+	fails(t, guard.Up(0, 0), faultyard.ErrClosed)
+	fails(t, guard.Heal(0, 0), faultyard.ErrClosed)
+	_, err = guard.Act(nil)
+	fails(t, err, faultyard.ErrClosed)
+	_, err = guard.IsDestroyed(0)
+	fails(t, err, faultyard.ErrClosed)
+	_, err = guard.Left()
+	fails(t, err, faultyard.ErrClosed)
+	_, err = guard.JournalLen()
+	fails(t, err, faultyard.ErrClosed)
+	_, err = guard.Entry(0)
+	fails(t, err, faultyard.ErrClosed)
+	_, err = guard.Audit()
+	fails(t, err, faultyard.ErrClosed)
+	fails(t, guard.Close(), faultyard.ErrClosed)
+}
+
+func TestAfterItsEndAGuardAnswersThatItIsClosed(t *testing.T) {
+	guard := opened(t, six(t))
+	equal(t, guard.Close(), nil)
+	assertClosed(t, guard)
+	assertClosed(t, new(faultyard.Guard))
+}
+
+func TestACloseBesideOtherCallsEndsThem(t *testing.T) {
+	guard := opened(t, six(t))
+	var all sync.WaitGroup
+	var closes, made sync.Map
+	for number := 0; number < 8; number++ {
+		number := number
+		all.Add(1)
+		go func() {
+			defer all.Done()
+			for count := 0; ; count++ {
+				if _, err := guard.JournalLen(); err != nil {
+					fails(t, err, faultyard.ErrClosed)
+					return
+				}
+				made.Store(number, count)
+				if number < 2 && count == 100 && guard.Close() == nil {
+					closes.Store(number, true)
+				}
+			}
+		}()
+	}
+	all.Wait()
+	count := 0
+	closes.Range(func(any, any) bool { count++; return true })
+	equal(t, count, 1)
+}
+
+func TestAnEntryThatIsLongerThanTheFirstBuffer(t *testing.T) {
+	guard := opened(t, six(t))
+	act(t, guard, 0, `{"form":{"members":[0,2],"policy":0}}`)
+	line := act(t, guard, 0, `{"begin":{"payload":"`+strings.Repeat("a", 512)+`","team":0}}`)
+	equal(t, len(line) > 512, true)
+	entry, err := guard.Entry(1)
+	equal(t, err, nil)
+	equal(t, string(entry), line)
+	equal(t, strings.HasSuffix(audit(t, guard), line), true)
+}
+
+// play kills and starts processes from one on.
+func play(t *testing.T, guard *faultyard.Guard, first uint32, count int) {
+	for i := 0; i < count; i++ {
+		process := (first + uint32(i)) % 6
+		verdict, err := guard.Kill(1, faultyard.Order{
+			Key:   faultyard.Process,
+			Value: fmt.Sprintf("p%d", process),
+			Kind:  faultyard.RebootAndDelete,
+			Tear:  uint64(first)*1000 + uint64(i),
+		})
+		equal(t, err, nil)
+		if verdict.Struck != faultyard.None {
+			// Another goroutine that shares the guard may have started it already.
+			if err := guard.Up(0, process); err != nil {
+				fails(t, err, faultyard.RefusalIsUp)
+			}
+		}
+	}
+}
+
+func TestEightGuardsInEightGoroutinesAreEachAsIfAlone(t *testing.T) {
+	config := sixWith(t, "journal_limit = 1000\n", "journal_limit = 10000\n")
+	var beside [8]string
+	var all sync.WaitGroup
+	for number := range beside {
+		number := number
+		all.Add(1)
+		go func() {
+			defer all.Done()
+			guard, err := faultyard.Open(config)
+			equal(t, err, nil)
+			play(t, guard, uint32(number), 500)
+			text, err := guard.Audit()
+			equal(t, err, nil)
+			beside[number] = string(text)
+			equal(t, guard.Close(), nil)
+		}()
+	}
+	all.Wait()
+	for number := range beside {
+		alone := opened(t, config)
+		play(t, alone, uint32(number), 500)
+		equal(t, len(beside[number]) > 100_000, true)
+		equal(t, beside[number] == audit(t, alone), true)
+	}
+}
+
+func TestManyGoroutinesShareAGuardAndEachGetsItsOwnAnswers(t *testing.T) {
+	guard := opened(t, sixWith(t, "journal_limit = 1000\n", "journal_limit = 100000\n"))
+	const goroutines, ticks = 32, 50
+	var heard [goroutines][]string
+	var all sync.WaitGroup
+	for number := range heard {
+		number := number
+		all.Add(1)
+		go func() {
+			defer all.Done()
+			play(t, guard, uint32(number), 20)
+			for i := 0; i < ticks; i++ {
+				// No other goroutine asks for as many ticks.
+				line := fmt.Sprintf(`{"by":0,"act":{"tick":{"ticks":%d}}}`, number+1)
+				entry, err := guard.Act([]byte(line))
+				equal(t, err, nil)
+				heard[number] = append(heard[number], string(entry))
+			}
+		}()
+	}
+	all.Wait()
+	lines := strings.SplitAfter(audit(t, guard), "\n")[1:]
+	for number := range heard {
+		var wanted []string
+		for _, line := range lines {
+			if strings.HasPrefix(line, fmt.Sprintf(`{"act":{"tick":{"ticks":%d}}`, number+1)) {
+				wanted = append(wanted, line)
+			}
+		}
+		equal(t, len(wanted), ticks)
+		equal(t, heard[number], wanted)
+	}
+	if path := os.Getenv("FAULTYARD_SHARED_AUDIT"); path != "" {
+		equal(t, os.WriteFile(path, []byte(audit(t, guard)), 0o644), nil)
+	}
+}
+
+func TestAGuardThatNobodyClosedIsFreed(t *testing.T) {
+	before := runtime.NumGoroutine()
+	for i := 0; i < 8; i++ {
+		guard, err := faultyard.Open(six(t))
+		equal(t, err, nil)
+		equal(t, guard.Up(0, 9), faultyard.RefusalNoProcess)
+	}
+	for round := 0; runtime.NumGoroutine() > before; round++ {
+		if round == 1000 {
+			t.Fatalf("%d goroutines are left of %d", runtime.NumGoroutine(), before)
+		}
+		runtime.GC()
+		time.Sleep(time.Millisecond)
+	}
+}
+
+func TestWords(t *testing.T) {
+	told := fmt.Sprint(faultyard.Zone, faultyard.RebootAndDelete, faultyard.TooFewLeft, faultyard.None)
+	equal(t, told, "zoneid RebootAndDelete TooFewLeft None")
+	told = fmt.Sprint(faultyard.Key(0), faultyard.Kind(5), faultyard.Rule(1<<31), faultyard.Refusal(0))
+	equal(t, told, "Key(0) Kind(5) Rule(2147483648) faultyard: the act is refused: Refusal(0)")
+	equal(t, faultyard.Status(4).Error(), "faultyard: status(4)")
+	equal(t, faultyard.ErrJournalFull.Error(),
+		"faultyard: the journal has as many entries as the cluster file allows")
+	for _, kind := range []faultyard.Kind{faultyard.None, faultyard.RebootProcess, faultyard.Reboot} {
+		equal(t, kind.EmptiesDisk() || kind.IsFinal(), false)
+	}
+	equal(t, faultyard.RebootAndDelete.EmptiesDisk() && !faultyard.RebootAndDelete.IsFinal(), true)
+	equal(t, faultyard.KillInstantly.EmptiesDisk() && faultyard.KillInstantly.IsFinal(), true)
+}

@@ -1,0 +1,47 @@
+// Command poor asks the library of poor_library/poor.c, and tells the error of each call. That
+// library aborts where two calls are made at once.
+package main
+
+import (
+	"errors"
+	"fmt"
+	"log"
+	"sync"
+
+	"faultyard"
+)
+
+func main() {
+	guard, err := faultyard.Open(nil)
+	if err != nil {
+		log.Fatal(err)
+	}
+	_, err = faultyard.Open(nil)
+	fmt.Println("Open:", err)
+	_, err = guard.Kill(1, faultyard.Order{})
+	fmt.Println("Kill:", err)
+	fmt.Println("Up:", guard.Up(0, 0))
+	fmt.Println("Heal:", guard.Heal(0, 0))
+	_, err = guard.Act(nil)
+	fmt.Println("Act:", err)
+	_, err = guard.Entry(0)
+	fmt.Println("Entry:", err)
+	_, err = guard.Audit()
+	fmt.Println("Audit:", err)
+	_, err = guard.IsDestroyed(0)
+	fmt.Println("IsDestroyed:", err)
+	_, err = guard.Left()
+	fmt.Println("Left:", err)
+	var group sync.WaitGroup
+	for i := 0; i < 1000; i++ {
+		group.Add(1)
+		go func() {
+			defer group.Done()
+			if err := guard.Up(0, 0); !errors.Is(err, faultyard.ErrNoMemory) {
+				log.Fatal(err)
+			}
+		}()
+	}
+	group.Wait()
+	fmt.Println("Close:", guard.Close())
+}

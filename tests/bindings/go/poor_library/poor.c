@@ -1,0 +1,88 @@
+/* A library that has memory for its first guard only, whose journal has an entry, and that loses
+ * the line of an act. A test can't bring that about with the library itself, since the program in
+ * which it runs needs memory too. Two calls at once abort. */
+#include "faultyard.h"
+
+#include <sched.h>
+#include <stdatomic.h>
+#include <stdlib.h>
+
+static int opened;
+static atomic_flag is_called = ATOMIC_FLAG_INIT;
+
+/* Takes its time, so that another call would come meanwhile. */
+static void require_turn(void)
+{
+    if (atomic_flag_test_and_set(&is_called))
+        abort();
+    for (int i = 0; i < 10; i++)
+        sched_yield();
+    atomic_flag_clear(&is_called);
+}
+
+uint32_t fy_open(const uint8_t *config, size_t config_length, fy_guard *guard)
+{
+    if (opened++ > 0)
+        return FY_NO_MEMORY;
+    guard->at = &opened;
+    return FY_DONE;
+}
+
+void fy_close(fy_guard guard)
+{
+    require_turn();
+}
+
+uint32_t fy_kill(fy_guard *guard, uint32_t actor, uint32_t key, const uint8_t *value,
+                 size_t value_length, uint32_t kind, uint32_t floor, uint64_t tear,
+                 uint32_t *struck, uint32_t *rule, uint64_t *named)
+{
+    require_turn();
+    *struck = *rule = 0;
+    *named = 0;
+    return FY_NO_MEMORY;
+}
+
+uint32_t fy_up(fy_guard *guard, uint32_t actor, uint32_t process, uint32_t *refusal)
+{
+    require_turn();
+    *refusal = 0;
+    return FY_NO_MEMORY;
+}
+
+uint32_t fy_heal(fy_guard *guard, uint32_t actor, uint32_t process, uint32_t *refusal)
+{
+    return fy_up(guard, actor, process, refusal);
+}
+
+uint32_t fy_act(fy_guard *guard, const uint8_t *line, size_t line_length, uint8_t *buffer,
+                size_t buffer_length, size_t *told)
+{
+    require_turn();
+    *told = line_length + FY_MOST_REPLY;
+    return FY_UNWRITTEN;
+}
+
+uint32_t fy_is_destroyed(const fy_guard *guard, uint32_t process)
+{
+    require_turn();
+    return 0;
+}
+
+void fy_left(const fy_guard *guard, uint64_t *left, size_t words)
+{
+    require_turn();
+    memset(left, 0, words * sizeof *left);
+}
+
+size_t fy_journal_len(const fy_guard *guard)
+{
+    require_turn();
+    return 1;
+}
+
+uint32_t fy_audit(const fy_guard *guard, size_t at, uint8_t *buffer, size_t buffer_length, size_t *told)
+{
+    require_turn();
+    return FY_NO_MEMORY;
+}
