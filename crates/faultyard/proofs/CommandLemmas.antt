@@ -16,7 +16,10 @@ use Rattle.clap.specs.declared.parser.matches.ArgMatches.TheViews.{out-ArgMatche
 use Rattle.clap.proofs.OnLiterals.{clap_on_literals}
 use Rattle.clap.specs.declared.builder.value_parser.ValueParser.TheVariants.{Unsigned}
 use Rattle.clap.proofs.ValueTestLemmas.{accepts-Accepts}
-use Rattle.faultyard.specs.Commands.{faultyard_command, IsSeed, largest_seed, seed_in}
+use Rattle.clap.specs.Kinds.{HasKind}
+use Rattle.clap.specs.declared.error.Error.{Error}
+use Rattle.faultyard.specs.declared.task.Task.{Task}
+use Rattle.faultyard.specs.Commands.{faultyard_command, IsSeed, IsTaskOf, StandsFor, largest_seed, seed_in}
 use Rattle.faultyard.proofs.RowLemmas.{AreFilling, HasValue, Requires, required_value}
 use Rattle.faultyard.proofs.EnterLemmas.{IsIn, words_enter}
 
@@ -45,7 +48,7 @@ plain_is_local c plain = by (is_empty (out-Command c).groups.items) (out-Command
 -- the subcommand takes a cluster file
 abbrev TakesConfig : Text → Type 0
 TakesConfig name =
-    (name ≡ codes "run") ⊎ ((name ≡ codes "check") ⊎ ((name ≡ codes "swarm") ⊎ ((name ≡ codes "guard") ⊎ (name ≡ codes "show"))))
+    (name ≡ codes "run") ⊎ ((name ≡ codes "check") ⊎ ((name ≡ codes "swarm") ⊎ ((name ≡ codes "guard") ⊎ ((name ≡ codes "show") ⊎ (name ≡ codes "bears")))))
 
 abbrev HasConfig : List Row → Type 0
 HasConfig rows = is_some (first_of (codes "CONFIG") rows) ≡ true
@@ -119,12 +122,17 @@ known_task s words known other none =
         λ swarm. absurd (no_swarm s.name (codes "guard") (ap (λ t. t.name) guard) (λ e. omega arith) swarm),
       )
       | inr (inr (inr (inr (inr (inl show))))) ↦ inr (
-        inr (inr (inr (inr (ap (λ t. t.name) show)))),
+        inr (inr (inr (inr (inl (ap (λ t. t.name) show))))),
         config_given s _ words show ((refl, refl, refl), ((refl, refl, refl), tt)) (inl (refl, refl)) refl none,
         λ swarm. absurd (no_show s.name (ap (λ t. t.name) show) swarm),
       )
-      | inr (inr (inr (inr (inr (inr (inl help)))))) ↦ absurd (other (ap (λ t. t.name) help) (ap (λ t. t.aliases) help))
-      | inr (inr (inr (inr (inr (inr (inr none)))))) ↦ absurd none
+      | inr (inr (inr (inr (inr (inr (inl bears)))))) ↦ inr (
+        inr (inr (inr (inr (inr (ap (λ t. t.name) bears))))),
+        config_given s _ words bears ((refl, refl, refl), ((refl, refl, refl), ((refl, refl, refl), ((refl, refl, refl), tt)))) (inl (refl, refl)) refl none,
+        λ swarm. absurd (no_swarm s.name (codes "bears") (ap (λ t. t.name) bears) (λ e. omega arith) swarm),
+      )
+      | inr (inr (inr (inr (inr (inr (inr (inl help))))))) ↦ absurd (other (ap (λ t. t.name) help) (ap (λ t. t.aliases) help))
+      | inr (inr (inr (inr (inr (inr (inr (inr none))))))) ↦ absurd none
     ]
 
 meets_task : (words : List Text) → fault_of faultyard_command words ≡ [] → IsSomeAnd (subcommand_of faultyard_command words) IsTask
@@ -156,6 +164,20 @@ pub met_task : (command : App) (words : List Text) (m : ArgMatches) (name : Text
 met_task command words m name given is none rows named held =
     let same : subcommand_rows_of m ≡ subcommand_of faultyard_command words = (rows (ap is_simple is ∙ is_simple_command)).1 ∙ ap (λ a. subcommand_of a words) is in
     subst (λ o. IsSomeAnd o IsTask) (met_by words m name (rows_of (found_of given)) same named held) (meets_task words (faultless command words is none))
+
+-- a task that stands for that name and these rows is the task of the words
+pub is_task_of : (command : App) (words : List Text) (m : ArgMatches) (name : Text) (given : ArgMatches) (task : Task) → command ≡ faultyard_command
+    → (is_simple command ≡ true → (rows_of (found_of m) ≡ matches_of command words) × (subcommand_rows_of m ≡ subcommand_of command words))
+    → Some name ≡ subcommand_name_of m → Some (rows_of (found_of given)) ≡ option_map (λ p. p.1) (subcommand_rows_of m)
+    → StandsFor (name, rows_of (found_of given)) task → IsTaskOf (subcommand_of faultyard_command words) task
+is_task_of command words m name given task is rows named held stands =
+    let same : subcommand_rows_of m ≡ subcommand_of faultyard_command words = (rows (ap is_simple is ∙ is_simple_command)).1 ∙ ap (λ a. subcommand_of a words) is in
+    subst (λ o. IsTaskOf o task) (sym (met_by words m name (rows_of (found_of given)) same named held)) stands
+
+-- an error of the words has a kind of their fault
+pub fails_by : (command : App) (words : List Text) (error : Error) → command ≡ faultyard_command → (is_simple_and_free command ≡ true → HasKind (fault_of command words) error)
+    → HasKind (fault_of faultyard_command words) error
+fails_by command words error is has = subst (λ a. HasKind (fault_of a words) error) is (has (ap is_simple_and_free is ∙ command_is_simple))
 
 -- and so one that is not `judge` has its cluster file
 pub has_config : (name : Text) (given : ArgMatches) → (name ≡ codes "judge" → ⊥) → IsTask (name, rows_of (found_of given)) → is_some (first_of (codes "CONFIG") (rows_of (found_of given))) ≡ true

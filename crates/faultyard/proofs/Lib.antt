@@ -7,6 +7,7 @@ pub mod EnterLemmas
 pub mod RowLemmas
 pub mod InputLemmas
 pub mod LineLemmas
+pub mod Losing
 pub mod Loading
 pub mod Moving
 pub mod Playing

@@ -19,7 +19,7 @@ use Rattle.clap.specs.declared.builder.action.ArgAction.{ArgAction}
 use Rattle.clap.specs.declared.builder.action.ArgAction.TheVariants as action
 use Rattle.clap.specs.declared.builder.value_parser.Reading.{Reading}
 use Rattle.clap.specs.declared.builder.value_parser.ValueParser.{ValueParser}
-use Rattle.clap.specs.declared.builder.value_parser.ValueParser.TheVariants.{String, Unsigned}
+use Rattle.clap.specs.declared.builder.value_parser.ValueParser.TheVariants.{Bool as Flag, String, Unsigned}
 use Rattle.clap.specs.declared.parser.matches.ValueSource.{ValueSource}
 use Rattle.clap.specs.declared.parser.matches.ValueSource.TheVariants.{DefaultValue, CommandLine}
 use Rattle.clap.specs.declared.error.kind.ErrorKind.{ErrorKind}
@@ -41,7 +41,9 @@ HasText (v ∷ vs) = Unit {0}
 
 -- the parser of an argument, by its id
 abbrev pub parser_for : Text → ValueParser
-parser_for id = if bytes_eq id (codes "seed") then Unsigned 0 largest_seed else String
+parser_for id =
+    if bytes_eq id (codes "seed") then Unsigned 0 largest_seed
+    else (if bytes_eq id (codes "json") then Flag else String)
 
 -- the parser passes each of these
 abbrev pub PassAll : ValueParser → List Text → Type 0

@@ -1,12 +1,14 @@
 -- The program's command line: one level of subcommands, of which one is wanted.
-use Rattle.std.specs.Prelude.{◌≡◌, ℕ, true, List, Option, Some, IsSomeAnd, codes, option_map}
+use Rattle.std.specs.Prelude.{◌≡◌, ◌↔◌, ℕ, true, List, Option, Some, IsSomeAnd, codes, option_map}
 use Rattle.std.specs.Str.Parse.{digits_value, without_leading_plus}
 use Rattle.clap.specs.Words.{App, IsUnsignedIn, Row, Rule, Text, first_of, one_of, new_app}
 use Rattle.clap.specs.Words.{new_rule, with_rule, with_subcommand}
-use Rattle.clap.specs.declared.builder.action.ArgAction.TheVariants.{Set}
+use Rattle.clap.specs.declared.builder.action.ArgAction.TheVariants.{Set, SetTrue}
 use Rattle.clap.specs.declared.builder.value_parser.ValueParser.TheVariants.{Unsigned}
 use Rattle.faultyard.specs.declared.task.Task.{Task}
-use Rattle.faultyard.specs.declared.task.Task.TheVariants.{Judge, Run, Check, Swarm, Guard, Show}
+use Rattle.faultyard.specs.declared.task.Task.TheVariants.{Judge, Run, Check, Swarm, Guard, Show, Bears}
+use Rattle.fy_bears.specs.declared.telling.Form.{Form}
+use Rattle.fy_bears.specs.declared.telling.Form.TheVariants.{Json}
 
 -- `faultyard` without its subcommands, of which it wants one; it has a version
 abbrev pub bare_command : App
@@ -56,6 +58,26 @@ guard_command = with_rule (new_app (codes "guard")) config_rule
 abbrev pub show_command : App
 show_command = with_rule (new_app (codes "show")) config_rule
 
+-- the flag `--json`
+abbrev pub json_rule : Rule
+json_rule = record (new_rule (codes "json")) {
+  long = Some (codes "json");
+  action = Some SetTrue;
+}
+
+-- the option `--after`, which has the file of an audit
+abbrev pub after_rule : Rule
+after_rule = record (new_rule (codes "after")) {
+  long = Some (codes "after");
+  action = Some Set;
+  value_names = 1;
+}
+
+-- the subcommand `bears`, which takes a cluster file, and may take the two
+abbrev pub bears_command : App
+bears_command =
+    with_rule (with_rule (with_rule (new_app (codes "bears")) config_rule) json_rule) after_rule
+
 -- the command line of `faultyard`
 abbrev pub faultyard_command : App
 faultyard_command =
@@ -63,11 +85,13 @@ faultyard_command =
     (with_subcommand
     (with_subcommand
     (with_subcommand
+    (with_subcommand
     (with_subcommand (with_subcommand bare_command judge_command.top) run_command.top)
     check_command.top)
     swarm_command.top)
     guard_command.top)
-    show_command.top
+    show_command.top)
+    bears_command.top
 
 -- the text of a seed: a whole number of 64 bits
 abbrev pub IsSeed : Text → Type 0
@@ -76,6 +100,10 @@ IsSeed text = IsUnsignedIn 0 largest_seed text
 -- the number that such a text writes
 abbrev pub seed_in : Text → ℕ
 seed_in text = digits_value 10 (without_leading_plus text)
+
+-- the form is that of programs just where the flag is set
+abbrev pub IsFormOf : Option Text → Form → Type 0
+IsFormOf flag form = (flag ≡ Some (codes "true")) ↔ (form ≡ Json)
 
 -- a subcommand's name and its rows, as the matches hold them, stand for the task
 abbrev pub StandsFor : Text × List Row → Task → Type 0
@@ -91,6 +119,10 @@ StandsFor met (Guard config) =
     (met.0 ≡ codes "guard") × (first_of (codes "CONFIG") met.1 ≡ Some config.now)
 StandsFor met (Show config) =
     (met.0 ≡ codes "show") × (first_of (codes "CONFIG") met.1 ≡ Some config.now)
+StandsFor met (Bears config form after) =
+    (met.0 ≡ codes "bears") × (first_of (codes "CONFIG") met.1 ≡ Some config.now)
+    × IsFormOf (first_of (codes "json") met.1) form
+    × (option_map (λ audit. audit.now) after ≡ first_of (codes "after") met.1)
 
 -- the task is the one that the matches' subcommand stands for
 abbrev pub IsTaskOf : Option (Text × List Row) → Task → Type 0

@@ -11,4 +11,5 @@ pub mod CheckTexts
 pub mod Confirmed
 pub mod Outputs
 pub mod ShowTexts
+pub mod BearsTexts
 pub mod Swarm

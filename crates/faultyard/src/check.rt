@@ -96,7 +96,12 @@ pub(crate) fn find(alloc: Global, config: &Config, bytes: &[u8]) -> Result<Findi
 }
 
 /// Writes the line that says whether an audit is legal: its head, and a number.
-fn say<W: Write>(legal: bool, head: &str, number: u64, writer: &mut W) -> Result<bool, Stop>
+pub(crate) fn say<W: Write>(
+    legal: bool,
+    head: &str,
+    number: u64,
+    writer: &mut W,
+) -> Result<bool, Stop>
     ensures said { IfOk result (λ done. (done ≡ legal)
         × Appends (W.contents writer.old) (W.contents writer.new)
         (numbered head.now number (codes "\n"))) }

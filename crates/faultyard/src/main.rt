@@ -2,6 +2,7 @@
 #![tactic(auto)]
 
 mod audit;
+mod bears;
 mod check;
 mod guard;
 mod judge;
@@ -13,13 +14,16 @@ mod stop;
 mod swarm;
 mod task;
 
+use bears::{run_bears, run_bears_after};
 use check::run_check;
+use fy_bears::Form;
 use fy_cluster::Config;
 use guard::run_guard;
 use judge::run_judge;
 use load::load_config;
 use run::run_script;
 use show::run_show;
+use std::fs::File;
 use std::io::{BufReader, ErrorKind};
 use std::process::ExitCode;
 use std::{env, fs};
@@ -30,7 +34,7 @@ use task::{Task, read_task};
 /// The status of a program whose words are no command.
 const USAGE: u8 = 2;
 
-/// The status of `check` and `show` where an entry isn't what the rules give.
+/// The status of `check`, `show` and `bears` where an entry isn't what the rules give.
 const REFUTED: u8 = 5;
 
 fn main(rt: HostRuntime) -> ExitCode {
@@ -44,6 +48,7 @@ fn main(rt: HostRuntime) -> ExitCode {
         Ok(Task::Check(path)) => check_file(&rt, path),
         Ok(Task::Guard(path)) => guard_file(&rt, path),
         Ok(Task::Show(path)) => show_file(&rt, path),
+        Ok(Task::Bears(path, form, after)) => bears_file(&rt, path, form, after),
         // Threads are main's to give.
         Ok(Task::Swarm(path, seed)) => match open_config(&rt, path) {
             Ok(config) => run_swarm(&rt, rt.alloc(), &config, seed, &mut rt.stdout()),
@@ -82,6 +87,21 @@ fn show_file(rt: &HostRuntime, path: &str) -> Result<bool, Stop> {
     }
 }
 
+/// Says what the cluster of a file bears, after an audit where one is named.
+fn bears_file(rt: &HostRuntime, path: &str, form: Form, after: Option<&str>) -> Result<bool, Stop> {
+    let config = match open_config(rt, path) {
+        Ok(config) => config,
+        Err(stop) => return Err(stop),
+    };
+    let Some(after) = after else {
+        return run_bears(rt.alloc(), &config, form, &mut rt.stdout());
+    };
+    match open_file(rt, after) {
+        Ok(mut audit) => run_bears_after(rt.alloc(), &config, form, &mut audit, &mut rt.stdout()),
+        Err(stop) => Err(stop),
+    }
+}
+
 /// Answers the script on standard input, line by line, on the cluster of a file.
 fn guard_file(rt: &HostRuntime, path: &str) -> Result<bool, Stop> {
     let config = match open_config(rt, path) {
@@ -95,14 +115,21 @@ fn guard_file(rt: &HostRuntime, path: &str) -> Result<bool, Stop> {
     run_guard(rt.alloc(), &config, &mut lines, &mut rt.stdout())
 }
 
+/// A file to read, by its path.
+fn open_file(rt: &HostRuntime, path: &str) -> Result<File, Stop> {
+    match fs::open(rt, path) {
+        Ok(file) => Ok(file),
+        Err(error) if error.kind() == ErrorKind::OutOfMemory => Err(Stop::NoMemory),
+        Err(_) => Err(Stop::Read),
+    }
+}
+
 /// The configuration of a cluster file by its path.
 fn open_config(rt: &HostRuntime, path: &str) -> Result<Config, Stop> {
-    let mut file = match fs::open(rt, path) {
-        Ok(file) => file,
-        Err(error) if error.kind() == ErrorKind::OutOfMemory => return Err(Stop::NoMemory),
-        Err(_) => return Err(Stop::Read),
-    };
-    load_config(rt.alloc(), &mut file)
+    match open_file(rt, path) {
+        Ok(mut file) => load_config(rt.alloc(), &mut file),
+        Err(stop) => Err(stop),
+    }
 }
 
 /// The words of the command line, the program's name first, or the status to end with.

@@ -47,7 +47,7 @@ pub enum Stop {
     Audit { fault: AuditFault },
     /// The cluster that a swarm shared can't be closed: a seat is missing.
     SwarmClose,
-    /// A call of `read` failed, or the cluster file can't be opened.
+    /// A call of `read` failed, or a file can't be opened.
     Read,
     /// A call of `write` failed, or took no byte.
     Write,

@@ -8,8 +8,10 @@ ghost use Rattle.clap.specs.Walk.{rule_of};
 ghost use Rattle.faultyard.specs.Commands.{IsTaskOf, faultyard_command, bare_command, judge_command};
 ghost use Rattle.faultyard.specs.Commands.{config_rule, run_command, check_command};
 ghost use Rattle.faultyard.specs.Commands.{seed_rule, swarm_command, guard_command, show_command, IsSeed, seed_in};
+ghost use Rattle.faultyard.specs.Commands.{json_rule, after_rule, bears_command, IsFormOf};
 
 use clap::{Arg, ArgAction, ArgMatches, Command, value_parser};
+use fy_bears::Form;
 use std::alloc::{AllocError, Global};
 
 /// Examples, and behind them the exit statuses, which each help ends with.
@@ -23,9 +25,9 @@ Exit status:
   0  the work is done
   1  the input or the cluster file is refused; standard error says what and where
   2  the command line is refused
-  3  a read or a write failed, or the cluster file can't be opened
+  3  a read or a write failed, or a file can't be opened
   4  memory was refused
-  5  check, show: an entry of the audit isn't what the rules give"
+  5  check, show, bears: an entry of the audit isn't what the rules give"
         )
     };
 }
@@ -38,7 +40,8 @@ const EXAMPLES: &str = with_statuses!(
   faultyard check examples/c6.toml < examples/two-zones.audit
   faultyard swarm examples/c6.toml --seed 7
   faultyard guard examples/c6.toml < examples/two-zones.jsonl
-  faultyard show examples/c6.toml < examples/bad-day.audit > bad-day.svg"
+  faultyard show examples/c6.toml < examples/bad-day.audit > bad-day.svg
+  faultyard bears examples/c6.toml"
 );
 
 /// What the program is asked to do.
@@ -58,6 +61,9 @@ pub enum Task<'a> {
     Guard(&'a str),
     /// `faultyard show CONFIG`: draw the audit on standard input on the cluster of a file.
     Show(&'a str),
+    /// `faultyard bears CONFIG`: say what the cluster of a file bears, with `--json` in that form,
+    /// and with `--after AUDIT` from the end of an audit on.
+    Bears(&'a str, Form, Option<&'a str>),
 }
 
 /// The subcommand `judge`, with its help.
@@ -153,6 +159,43 @@ fn show<'a>(alloc: Global) -> Result<Command<'a>, AllocError>
         .arg(config(alloc))
 }
 
+/// The flag for one JSON object.
+fn json<'a>(alloc: Global) -> Arg<'a>
+    ensures rule { rule_of result ≡ json_rule }
+    ensures own { result.global ≡ false }
+{
+    Arg::new(alloc, "json")
+        .long("json")
+        .action(ArgAction::SetTrue)
+        .help("Writes one JSON object")
+}
+
+/// The option with the audit's file.
+fn after<'a>(alloc: Global) -> Arg<'a>
+    ensures rule { rule_of result ≡ after_rule }
+    ensures own { result.global ≡ false }
+{
+    Arg::new(alloc, "after")
+        .long("after")
+        .value_name("AUDIT")
+        .action(ArgAction::Set)
+        .help("The audit, a file, from whose last entry on losses are counted")
+}
+
+/// The subcommand `bears`, with its help.
+fn bears<'a>(alloc: Global) -> Result<Command<'a>, AllocError>
+    ensures { IfOk result (λ command. app_of command ≡ bears_command) }
+{
+    Command::new(alloc, "bears")
+        .about("Says how many processes, and which machines and zones, a cluster can lose")
+        .after_help(with_statuses!(
+            "Example:\n  faultyard bears examples/c6.toml --after examples/two-zones.audit"
+        ))
+        .arg(config(alloc))?
+        .arg(json(alloc))?
+        .arg(after(alloc))
+}
+
 /// The command line without its subcommands, of which one is wanted.
 fn bare<'a>(alloc: Global) -> Command<'a>
     ensures { app_of result ≡ bare_command }
@@ -176,7 +219,8 @@ fn faultyard<'a>(alloc: Global) -> Result<Command<'a>, AllocError>
         .subcommand(check(alloc)?)?
         .subcommand(swarm(alloc)?)?
         .subcommand(guard(alloc)?)?
-        .subcommand(show(alloc)?)
+        .subcommand(show(alloc)?)?
+        .subcommand(bears(alloc)?)
 }
 
 /// The task that the words ask for; the first word is the program's name.
@@ -190,7 +234,10 @@ pub fn read_task<'a>(alloc: Global, words: &'a [String]) -> Result<Task<'a>, cla
         (IsTaskOf (subcommand_of faultyard_command (map string_bytes words.now))) }
     ensures refused { FailsBy (fault_of faultyard_command (map string_bytes words.now)) result }
 {
-    let matches = faultyard(alloc)?.try_get_matches_from(words)?;
+    let matches = match faultyard(alloc)?.try_get_matches_from(words) {
+        Ok(matches) => matches,
+        Err(error) => return Err(error),
+    };
     let Some((name, given)) = matches.subcommand() else {
         unreachable!();
     };
@@ -201,6 +248,7 @@ pub fn read_task<'a>(alloc: Global, words: &'a [String]) -> Result<Task<'a>, cla
         "swarm" => Ok(Task::Swarm(config_of(given), seed_of(given))),
         "guard" => Ok(Task::Guard(config_of(given))),
         "show" => Ok(Task::Show(config_of(given))),
+        "bears" => Ok(Task::Bears(config_of(given), form_of(given), after_of(given))),
         _ => unreachable!(),
     }
 }
@@ -226,4 +274,22 @@ fn seed_of(given: &ArgMatches<'_>) -> u64
         Some(seed) => seed,
         None => unreachable!(),
     }
+}
+
+/// The form that the words of a subcommand ask for.
+fn form_of(given: &ArgMatches<'_>) -> Form
+    ensures { IsFormOf (first_of (codes "json") (rows_of (found_of given.now))) result }
+{
+    match given.get_str("json") {
+        Some("true") => Form::Json,
+        _ => Form::Text,
+    }
+}
+
+/// The audit among the words of a subcommand, if one is named.
+fn after_of<'a>(given: &ArgMatches<'a>) -> Option<&'a str>
+    ensures { option_map (λ audit. audit.now) result
+        ≡ first_of (codes "after") (rows_of (found_of given.now)) }
+{
+    given.get_str("after")
 }

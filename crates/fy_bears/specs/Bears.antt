@@ -24,6 +24,6 @@ BearsAny dead policy loss count =
 abbrev pub IsTooMany : Casualties → Tree → Loss → (ℕ → Bool) → Type 0
 IsTooMany dead policy loss s = MayLoseBy dead policy s loss → ⊥
 
--- whoever is left of those with a value of a key: a machine, a zone, a hall or a data centre
+-- the processes left that have a value of a key: those of a machine, a zone, a hall or a data centre
 abbrev pub whole : Casualties → Key → List ℕ → ℕ → Bool
 whole dead key value p = sets.contains dead.left p && has_value dead.processes key value p

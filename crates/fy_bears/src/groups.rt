@@ -10,7 +10,7 @@ use fy_decide::{DeadBook, Loss};
 use fy_locality::{Key, Map, Name, ProcSet};
 use std::alloc::{AllocError, Global};
 
-/// Whoever is left of those with a value of a key.
+/// The processes left that have a value of a key.
 fn members_left(dead: &DeadBook, places: &Map, key: Key, value: &Name) -> ProcSet
     requires map { places.now ≡ dead.now.processes }
     ensures { sets.contains result ≡ whole dead.now key value.now }

@@ -1,6 +1,6 @@
 # Completion of faultyard for fish.
 
-set -l commands judge run check swarm guard show help
+set -l commands judge run check swarm guard show bears help
 
 complete -c faultyard -f
 complete -c faultyard -s h -l help -d "Print help"
@@ -11,7 +11,10 @@ complete -c faultyard -n "not __fish_seen_subcommand_from $commands" -a check -d
 complete -c faultyard -n "not __fish_seen_subcommand_from $commands" -a swarm -d "Lets every actor of a cluster file loose, each on a thread, and writes the audit"
 complete -c faultyard -n "not __fish_seen_subcommand_from $commands" -a guard -d "Answers each line of a script at once: what may be done to real processes?"
 complete -c faultyard -n "not __fish_seen_subcommand_from $commands" -a show -d "Draws the audit on standard input as a picture, an SVG file"
+complete -c faultyard -n "not __fish_seen_subcommand_from $commands" -a bears -d "Says how many processes, and which machines and zones, a cluster can lose"
 complete -c faultyard -n "not __fish_seen_subcommand_from $commands" -a help -d "Print this message or the help of the given subcommand(s)"
-complete -c faultyard -n "__fish_seen_subcommand_from run check swarm guard show" -k -a "(__fish_complete_suffix .toml)"
+complete -c faultyard -n "__fish_seen_subcommand_from run check swarm guard show bears" -k -a "(__fish_complete_suffix .toml)"
 complete -c faultyard -n "__fish_seen_subcommand_from swarm" -l seed -x -d "What the plans of the actors are drawn from, from 0 to 2^64 - 1"
-complete -c faultyard -n "__fish_seen_subcommand_from help" -a "judge run check swarm guard show"
+complete -c faultyard -n "__fish_seen_subcommand_from bears" -l json -d "Writes one JSON object"
+complete -c faultyard -n "__fish_seen_subcommand_from bears" -l after -r -F -d "The audit, a file, from whose last entry on losses are counted"
+complete -c faultyard -n "__fish_seen_subcommand_from help" -a "judge run check swarm guard show bears"

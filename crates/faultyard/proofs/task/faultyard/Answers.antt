@@ -1,7 +1,7 @@
 use Rattle.std.proofs.Common.{ap, ap₂, ◌≡◌, ◌∙◌}
 use Rattle.std.proofs.lemmas.Result.{IfOk-weaker}
 use Rattle.clap.specs.Words.{App, app_of, with_subcommand}
-use Rattle.faultyard.specs.Commands.{bare_command, judge_command, run_command, check_command, swarm_command, guard_command}
+use Rattle.faultyard.specs.Commands.{bare_command, judge_command, run_command, check_command, swarm_command, guard_command, show_command}
 use Rattle.faultyard.proofs.CommandLemmas.{plain_is_local}
 use Rattle.faultyard.proofs.task.faultyard.Goals as goal
 
@@ -19,4 +19,6 @@ returns c =
     c.in_ok-subcommand-4.ensures.shape (plain_is_local _ (plain _ _ c.in_ok-swarm.ensures)) ∙ ap₂ with_subcommand third (top _ _ c.in_ok-swarm.ensures) in
     let fifth : app_of c.in_ok-subcommand-5.field-0 ≡ with_subcommand (with_subcommand (with_subcommand (with_subcommand (with_subcommand bare_command judge_command.top) run_command.top) check_command.top) swarm_command.top) guard_command.top =
     c.in_ok-subcommand-5.ensures.shape (plain_is_local _ (plain _ _ c.in_ok-guard.ensures)) ∙ ap₂ with_subcommand fourth (top _ _ c.in_ok-guard.ensures) in
-    IfOk-weaker c.subcommand-6.result _ _ (λ m h. h.shape (plain_is_local _ (plain _ _ c.in_ok-show.ensures)) ∙ ap₂ with_subcommand fifth (top _ _ c.in_ok-show.ensures)) c.subcommand-6.ensures
+    let sixth : app_of c.in_ok-subcommand-6.field-0 ≡ with_subcommand (with_subcommand (with_subcommand (with_subcommand (with_subcommand (with_subcommand bare_command judge_command.top) run_command.top) check_command.top) swarm_command.top) guard_command.top) show_command.top =
+    c.in_ok-subcommand-6.ensures.shape (plain_is_local _ (plain _ _ c.in_ok-show.ensures)) ∙ ap₂ with_subcommand fifth (top _ _ c.in_ok-show.ensures) in
+    IfOk-weaker c.subcommand-7.result _ _ (λ m h. h.shape (plain_is_local _ (plain _ _ c.in_ok-bears.ensures)) ∙ ap₂ with_subcommand sixth (top _ _ c.in_ok-bears.ensures)) c.subcommand-7.ensures

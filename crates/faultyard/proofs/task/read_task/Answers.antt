@@ -1,60 +1,100 @@
 use Rattle.std.proofs.Common.{inl, inr, map}
 use Rattle.std.specs.Prelude.{string_bytes}
-use Rattle.faultyard.proofs.CommandLemmas.{faultless, has_config, has_seed, met_task}
+use Rattle.faultyard.proofs.CommandLemmas.{faultless, fails_by, has_config, has_seed, is_task_of, met_task}
+use Rattle.faultyard.specs.declared.task.Task.TheVariants.{Judge, Run, Check, Swarm, Guard, Show, Bears}
 use Rattle.faultyard.proofs.task.read_task.Goals as goal
 
 pub returns-in-judge-clause-refused : goal.returns-in-judge-clause-refused
-returns-in-judge-clause-refused c = faultless _ (map string_bytes c.args.words.now) c.in_ok-faultyard.ensures c.in_ok-matches.ensures.kinds
+returns-in-judge-clause-refused c = faultless _ (map string_bytes c.args.words.now) c.in_ok-faultyard.ensures c.in-Ok.ensures.kinds
 
 pub returns-in-run-clause-refused : goal.returns-in-run-clause-refused
-returns-in-run-clause-refused c = faultless _ (map string_bytes c.args.words.now) c.in_ok-faultyard.ensures c.in_ok-matches.ensures.kinds
+returns-in-run-clause-refused c = faultless _ (map string_bytes c.args.words.now) c.in_ok-faultyard.ensures c.in-Ok.ensures.kinds
 
 pub returns-in-check-clause-refused : goal.returns-in-check-clause-refused
-returns-in-check-clause-refused c = faultless _ (map string_bytes c.args.words.now) c.in_ok-faultyard.ensures c.in_ok-matches.ensures.kinds
+returns-in-check-clause-refused c = faultless _ (map string_bytes c.args.words.now) c.in_ok-faultyard.ensures c.in-Ok.ensures.kinds
 
 pub returns-in-swarm-clause-refused : goal.returns-in-swarm-clause-refused
-returns-in-swarm-clause-refused c = faultless _ (map string_bytes c.args.words.now) c.in_ok-faultyard.ensures c.in_ok-matches.ensures.kinds
+returns-in-swarm-clause-refused c = faultless _ (map string_bytes c.args.words.now) c.in_ok-faultyard.ensures c.in-Ok.ensures.kinds
 
 pub returns-in-guard-clause-refused : goal.returns-in-guard-clause-refused
-returns-in-guard-clause-refused c = faultless _ (map string_bytes c.args.words.now) c.in_ok-faultyard.ensures c.in_ok-matches.ensures.kinds
+returns-in-guard-clause-refused c = faultless _ (map string_bytes c.args.words.now) c.in_ok-faultyard.ensures c.in-Ok.ensures.kinds
 
 pub returns-in-show-clause-refused : goal.returns-in-show-clause-refused
-returns-in-show-clause-refused c = faultless _ (map string_bytes c.args.words.now) c.in_ok-faultyard.ensures c.in_ok-matches.ensures.kinds
+returns-in-show-clause-refused c = faultless _ (map string_bytes c.args.words.now) c.in_ok-faultyard.ensures c.in-Ok.ensures.kinds
+
+pub returns-in-bears-clause-refused : goal.returns-in-bears-clause-refused
+returns-in-bears-clause-refused c = faultless _ (map string_bytes c.args.words.now) c.in_ok-faultyard.ensures c.in-Ok.ensures.kinds
+
+pub returns-in-Err-clause-refused : goal.returns-in-Err-clause-refused
+returns-in-Err-clause-refused c = fails_by _ (map string_bytes c.args.words.now) c.in-Err.error c.in_ok-faultyard.ensures c.in-Err.ensures.kinds
+
+pub returns-in-judge-clause-task : goal.returns-in-judge-clause-task
+returns-in-judge-clause-task c = is_task_of _ (map string_bytes c.args.words.now) c.in-Ok.matches c.in-Some.name.now c.in-Some.given.now Judge c.in_ok-faultyard.ensures
+    c.in-Ok.ensures.matches c.in-Some.ensures.name c.in-Some.ensures.rows c.in-judge.is
+
+pub returns-in-run-clause-task : goal.returns-in-run-clause-task
+returns-in-run-clause-task c = is_task_of _ (map string_bytes c.args.words.now) c.in-Ok.matches c.in-Some.name.now c.in-Some.given.now (Run c.config_of.result) c.in_ok-faultyard.ensures
+    c.in-Ok.ensures.matches c.in-Some.ensures.name c.in-Some.ensures.rows (c.in-run.is, c.config_of.ensures)
+
+pub returns-in-check-clause-task : goal.returns-in-check-clause-task
+returns-in-check-clause-task c = is_task_of _ (map string_bytes c.args.words.now) c.in-Ok.matches c.in-Some.name.now c.in-Some.given.now (Check c.config_of-in-check.result) c.in_ok-faultyard.ensures
+    c.in-Ok.ensures.matches c.in-Some.ensures.name c.in-Some.ensures.rows (c.in-check.is, c.config_of-in-check.ensures)
+
+pub returns-in-swarm-clause-task : goal.returns-in-swarm-clause-task
+returns-in-swarm-clause-task c = is_task_of _ (map string_bytes c.args.words.now) c.in-Ok.matches c.in-Some.name.now c.in-Some.given.now (Swarm c.config_of-in-swarm.result c.seed_of.result) c.in_ok-faultyard.ensures
+    c.in-Ok.ensures.matches c.in-Some.ensures.name c.in-Some.ensures.rows (c.in-swarm.is, c.config_of-in-swarm.ensures, c.seed_of.ensures)
+
+pub returns-in-guard-clause-task : goal.returns-in-guard-clause-task
+returns-in-guard-clause-task c = is_task_of _ (map string_bytes c.args.words.now) c.in-Ok.matches c.in-Some.name.now c.in-Some.given.now (Guard c.config_of-in-guard.result) c.in_ok-faultyard.ensures
+    c.in-Ok.ensures.matches c.in-Some.ensures.name c.in-Some.ensures.rows (c.in-guard.is, c.config_of-in-guard.ensures)
+
+pub returns-in-show-clause-task : goal.returns-in-show-clause-task
+returns-in-show-clause-task c = is_task_of _ (map string_bytes c.args.words.now) c.in-Ok.matches c.in-Some.name.now c.in-Some.given.now (Show c.config_of-in-show.result) c.in_ok-faultyard.ensures
+    c.in-Ok.ensures.matches c.in-Some.ensures.name c.in-Some.ensures.rows (c.in-show.is, c.config_of-in-show.ensures)
+
+pub returns-in-bears-clause-task : goal.returns-in-bears-clause-task
+returns-in-bears-clause-task c = is_task_of _ (map string_bytes c.args.words.now) c.in-Ok.matches c.in-Some.name.now c.in-Some.given.now (Bears c.config_of-in-bears.result c.form_of.result c.after_of.result) c.in_ok-faultyard.ensures
+    c.in-Ok.ensures.matches c.in-Some.ensures.name c.in-Some.ensures.rows (c.in-bears.is, c.config_of-in-bears.ensures, c.form_of.ensures, c.after_of.ensures)
 
 pub config_of-requires-in-check : goal.config_of-requires-in-check
 config_of-requires-in-check c = has_config c.in-Some.name.now c.in-Some.given.now c.in-check.not-judge
-    (met_task _ (map string_bytes c.args.words.now) c.in_ok-matches.matches c.in-Some.name.now c.in-Some.given.now c.in_ok-faultyard.ensures
-    c.in_ok-matches.ensures.kinds c.in_ok-matches.ensures.matches c.in-Some.ensures.name c.in-Some.ensures.rows)
+    (met_task _ (map string_bytes c.args.words.now) c.in-Ok.matches c.in-Some.name.now c.in-Some.given.now c.in_ok-faultyard.ensures
+    c.in-Ok.ensures.kinds c.in-Ok.ensures.matches c.in-Some.ensures.name c.in-Some.ensures.rows)
 
 pub config_of-requires-in-swarm : goal.config_of-requires-in-swarm
 config_of-requires-in-swarm c = has_config c.in-Some.name.now c.in-Some.given.now c.in-swarm.not-judge
-    (met_task _ (map string_bytes c.args.words.now) c.in_ok-matches.matches c.in-Some.name.now c.in-Some.given.now c.in_ok-faultyard.ensures
-    c.in_ok-matches.ensures.kinds c.in_ok-matches.ensures.matches c.in-Some.ensures.name c.in-Some.ensures.rows)
+    (met_task _ (map string_bytes c.args.words.now) c.in-Ok.matches c.in-Some.name.now c.in-Some.given.now c.in_ok-faultyard.ensures
+    c.in-Ok.ensures.kinds c.in-Ok.ensures.matches c.in-Some.ensures.name c.in-Some.ensures.rows)
 
 pub config_of-requires-in-guard : goal.config_of-requires-in-guard
 config_of-requires-in-guard c = has_config c.in-Some.name.now c.in-Some.given.now c.in-guard.not-judge
-    (met_task _ (map string_bytes c.args.words.now) c.in_ok-matches.matches c.in-Some.name.now c.in-Some.given.now c.in_ok-faultyard.ensures
-    c.in_ok-matches.ensures.kinds c.in_ok-matches.ensures.matches c.in-Some.ensures.name c.in-Some.ensures.rows)
+    (met_task _ (map string_bytes c.args.words.now) c.in-Ok.matches c.in-Some.name.now c.in-Some.given.now c.in_ok-faultyard.ensures
+    c.in-Ok.ensures.kinds c.in-Ok.ensures.matches c.in-Some.ensures.name c.in-Some.ensures.rows)
 
 pub config_of-requires-in-show : goal.config_of-requires-in-show
 config_of-requires-in-show c = has_config c.in-Some.name.now c.in-Some.given.now c.in-show.not-judge
-    (met_task _ (map string_bytes c.args.words.now) c.in_ok-matches.matches c.in-Some.name.now c.in-Some.given.now c.in_ok-faultyard.ensures
-    c.in_ok-matches.ensures.kinds c.in_ok-matches.ensures.matches c.in-Some.ensures.name c.in-Some.ensures.rows)
+    (met_task _ (map string_bytes c.args.words.now) c.in-Ok.matches c.in-Some.name.now c.in-Some.given.now c.in_ok-faultyard.ensures
+    c.in-Ok.ensures.kinds c.in-Ok.ensures.matches c.in-Some.ensures.name c.in-Some.ensures.rows)
+
+pub config_of-requires-in-bears : goal.config_of-requires-in-bears
+config_of-requires-in-bears c = has_config c.in-Some.name.now c.in-Some.given.now c.in-bears.not-judge
+    (met_task _ (map string_bytes c.args.words.now) c.in-Ok.matches c.in-Some.name.now c.in-Some.given.now c.in_ok-faultyard.ensures
+    c.in-Ok.ensures.kinds c.in-Ok.ensures.matches c.in-Some.ensures.name c.in-Some.ensures.rows)
 
 pub seed_of-requires : goal.seed_of-requires
 seed_of-requires c = has_seed c.in-Some.name.now c.in-Some.given.now c.in-swarm.is
-    (met_task _ (map string_bytes c.args.words.now) c.in_ok-matches.matches c.in-Some.name.now c.in-Some.given.now c.in_ok-faultyard.ensures
-    c.in_ok-matches.ensures.kinds c.in_ok-matches.ensures.matches c.in-Some.ensures.name c.in-Some.ensures.rows)
+    (met_task _ (map string_bytes c.args.words.now) c.in-Ok.matches c.in-Some.name.now c.in-Some.given.now c.in_ok-faultyard.ensures
+    c.in-Ok.ensures.kinds c.in-Ok.ensures.matches c.in-Some.ensures.name c.in-Some.ensures.rows)
 
 pub config_of-requires : goal.config_of-requires
 config_of-requires c = has_config c.in-Some.name.now c.in-Some.given.now c.in-run.not-judge
-    (met_task _ (map string_bytes c.args.words.now) c.in_ok-matches.matches c.in-Some.name.now c.in-Some.given.now c.in_ok-faultyard.ensures
-    c.in_ok-matches.ensures.kinds c.in_ok-matches.ensures.matches c.in-Some.ensures.name c.in-Some.ensures.rows)
+    (met_task _ (map string_bytes c.args.words.now) c.in-Ok.matches c.in-Some.name.now c.in-Some.given.now c.in_ok-faultyard.ensures
+    c.in-Ok.ensures.kinds c.in-Ok.ensures.matches c.in-Some.ensures.name c.in-Some.ensures.rows)
 
 pub unreachable-requires-in_default-name : goal.unreachable-requires-in_default-name
 unreachable-requires-in_default-name c =
-    let task = met_task _ (map string_bytes c.args.words.now) c.in_ok-matches.matches c.in-Some.name.now c.in-Some.given.now c.in_ok-faultyard.ensures
-    c.in_ok-matches.ensures.kinds c.in_ok-matches.ensures.matches c.in-Some.ensures.name c.in-Some.ensures.rows in
+    let task = met_task _ (map string_bytes c.args.words.now) c.in-Ok.matches c.in-Some.name.now c.in-Some.given.now c.in_ok-faultyard.ensures
+    c.in-Ok.ensures.kinds c.in-Ok.ensures.matches c.in-Some.ensures.name c.in-Some.ensures.rows in
     elim task [
       | inl judge ↦ absurd (c.in_default-name.not-judge judge)
       | inr has ↦ elim has.0 [
@@ -62,6 +102,7 @@ unreachable-requires-in_default-name c =
         | inr (inl check) ↦ absurd (c.in_default-name.not-check check)
         | inr (inr (inl swarm)) ↦ absurd (c.in_default-name.not-swarm swarm)
         | inr (inr (inr (inl guard))) ↦ absurd (c.in_default-name.not-guard guard)
-        | inr (inr (inr (inr show))) ↦ absurd (c.in_default-name.not-show show)
+        | inr (inr (inr (inr (inl show)))) ↦ absurd (c.in_default-name.not-show show)
+        | inr (inr (inr (inr (inr bears)))) ↦ absurd (c.in_default-name.not-bears bears)
       ]
     ]
