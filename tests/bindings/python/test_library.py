@@ -29,6 +29,7 @@ TYPES = {
     "fy_guard": library._Guard,
     "fy_guard *": ctypes.POINTER(library._Guard),
     "const fy_guard *": ctypes.POINTER(library._Guard),
+    "fy_seen *": ctypes.c_void_p,
 }
 
 
