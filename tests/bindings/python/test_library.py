@@ -33,6 +33,23 @@ TYPES = {
 }
 
 
+class MemoryCounts(ctypes.Structure):
+    """`mallinfo2` of glibc."""
+
+    _fields_ = [
+        (name, ctypes.c_size_t)
+        for name in "arena ordblks smblks hblks hblkhd usmblks fsmblks uordblks fordblks keepcost".split()
+    ]
+
+
+def in_use():
+    """How many bytes that were asked of malloc aren't given back."""
+    count = ctypes.CDLL(None).mallinfo2
+    count.restype = MemoryCounts
+    told = count()
+    return told.uordblks + told.hblkhd
+
+
 def types(words):
     """The types of a list of arguments, without their names."""
     if words == "void":
@@ -105,23 +122,44 @@ class InThisProcess(common.Folder, unittest.TestCase):
             )
             self.assertEqual(ran.returncode, status, ran.stderr)
 
-    def test_its_thread_ends_with_it(self):
+    def test_it_starts_no_thread(self):
         before = threading.active_count()
         with self.guard() as guard:
-            self.assertEqual(threading.active_count(), before + 1)
             guard.tick(1, by=0)
-        self.assertEqual(threading.active_count(), before)
-        with self.assertRaises(faultyard.ConfigRefused):
-            self.guard(common.written(self.folder, "bad.toml", "="))
-        self.assertEqual(threading.active_count(), before)
+            self.assertEqual(threading.active_count(), before)
 
-    def test_a_guard_that_nobody_closed_is_freed(self):
-        before = threading.active_count()
-        guard = self.guard()
-        guard.tick(1, by=0)
-        del guard
-        gc.collect()
-        self.assertEqual(threading.active_count(), before)
+    def test_a_guard_moves_between_threads(self):
+        made = []
+        calls = [
+            lambda: made.append(self.guard()),
+            lambda: made[0].tick(1, by=0),
+            lambda: made[0].close(),
+        ]
+        for call in calls:
+            thread = threading.Thread(target=call)
+            thread.start()
+            thread.join(60)
+        self.assertEqual(made[0].journal_len(), 1)
+        self.assertEqual(faultyard.check(common.SIX, made[0].audit()), 1)
+
+    def test_a_guard_is_freed_closed_or_not(self):
+        config = common.six_with(self.folder, 2_000)
+
+        def play(closes):
+            guard = self.guard(config)
+            for _ in range(2_000):
+                guard.tick(1, by=0)
+            if closes:
+                guard.close()
+
+        for closes in (True, False):
+            play(closes)
+            gc.collect()
+            before = in_use()
+            for _ in range(5):
+                play(closes)
+                gc.collect()
+                self.assertLess(in_use() - before, 100_000)
 
     def test_the_end_of_the_interpreter_waits_for_nothing(self):
         text = (

@@ -5,8 +5,7 @@ from __future__ import annotations
 import ctypes as c
 import os
 import weakref
-from concurrent.futures import ThreadPoolExecutor
-from typing import Any, Callable, Dict, FrozenSet, List, Mapping, Optional, Tuple, TypeVar
+from typing import Any, Dict, FrozenSet, List, Mapping, Optional, Tuple
 
 from .acts import line
 from .enums import Key, Kind, Rule
@@ -15,8 +14,6 @@ from .errors import OutOfMemory, ProtocolError
 from .programs import StrPath
 from .replies import Done, Reply, Verdict, read_entry
 from .transport import HEADER, Transport
-
-_Answer = TypeVar("_Answer")
 
 NAMES = ("libfaultyard.so.1", "libfaultyard.so")
 """What the system's loader is asked for."""
@@ -106,19 +103,15 @@ def _require(status: int) -> None:
         raise _error(status)
 
 
-def _free(owner: ThreadPoolExecutor, library: c.CDLL, guard: _Guard, opener: int) -> None:
-    """Frees a guard on its thread, which then ends. In a forked child neither is there."""
-    if os.getpid() == opener:
-        owner.submit(library.fy_close, guard).result()
-        owner.shutdown()
+def _free(library: c.CDLL, guard: _Guard, opener: int) -> None:
+    """Frees an open guard. A forked child leaves its parent's guard alone."""
+    if guard.at is not None and os.getpid() == opener:
+        library.fy_close(guard)
+        guard.at = None
 
 
 class Library(Transport):
-    """A guard of libfaultyard.
-
-    Such a guard stays on the thread that opened it. So it has a thread of its own, and each call
-    of any thread is made there.
-    """
+    """A guard of libfaultyard, called by whichever thread has its turn."""
 
     def __init__(self, config: StrPath, library: Optional[StrPath]) -> None:
         with open(config, "rb") as file:
@@ -126,39 +119,40 @@ class Library(Transport):
         self._library = load(library)
         self._guard = _Guard()
         self._closed_with: Optional[bytes] = None
-        self._owner = ThreadPoolExecutor(1, "faultyard")
-        try:
-            self._on_owner(lambda: _require(self._library.fy_open(text, len(text), self._guard)))
-        except BaseException:
-            self._owner.shutdown()
-            raise
-        words = (self._owner, self._library, self._guard, os.getpid())
-        self._finalizer = weakref.finalize(self, _free, *words)
-        # By then the interpreter has ended the thread, and the memory goes with the process.
+        self._finalizer = weakref.finalize(self, _free, self._library, self._guard, os.getpid())
+        # At the end of the interpreter the memory goes with the process.
         self._finalizer.atexit = False
+        _require(self._library.fy_open(text, len(text), self._guard))
 
-    def _on_owner(self, call: Callable[[], _Answer]) -> _Answer:
-        try:
-            made = self._owner.submit(call)
-        except RuntimeError as fault:
-            raise GuardClosed("the thread of the guard has ended") from fault
-        return made.result()
+    def _opened(self) -> _Guard:
+        """The guard, which the library asks to be open."""
+        if self._guard.at is None:
+            raise GuardClosed("the guard is closed")
+        return self._guard
 
     def exchange(self, text: bytes) -> bytes:
-        return self._on_owner(lambda: self._act(text))
+        # Without its line feed, which the library would count as a byte of the line.
+        text = text.rstrip(b"\n")
+        buffer, told = c.create_string_buffer(len(text) + MOST_REPLY), _size()
+        status = self._library.fy_act(self._opened(), text, len(text), buffer, len(buffer), told)
+        if status == UNWRITTEN:
+            return self._entry(self.journal_len() - 1)
+        _require(status)
+        return buffer.raw[: told.value]
 
     def reply(self, by: int, name: str, members: Mapping[str, Any]) -> Reply:
         if name == "kill":
-            return self._on_owner(lambda: self._kill(by, members))
+            return self._kill(by, members)
         if name in ("up", "heal"):
-            return self._on_owner(lambda: self._report(f"fy_{name}", by, members["process"]))
+            return self._report(f"fy_{name}", by, members["process"])
         return read_entry(self.exchange(line(by, name, members))).reply
 
     def is_destroyed(self, process: int) -> bool:
-        return self._on_owner(lambda: int(self._library.fy_is_destroyed(self._guard, process))) != 0
+        return int(self._library.fy_is_destroyed(self._opened(), process)) != 0
 
     def left(self) -> FrozenSet[int]:
-        words = self._on_owner(self._left)
+        words = (_u64 * SET_WORDS)()
+        self._library.fy_left(self._opened(), words, SET_WORDS)
         return frozenset(
             64 * at + bit for at, word in enumerate(words) for bit in range(64) if word >> bit & 1
         )
@@ -166,49 +160,28 @@ class Library(Transport):
     def journal_len(self) -> int:
         if self._closed_with is not None:
             return self._closed_with.count(b"\n") - 1
-        return self._on_owner(self._length)
+        return int(self._library.fy_journal_len(self._opened()))
 
     def audit(self) -> bytes:
         if self._closed_with is not None:
             return self._closed_with
-        return self._on_owner(self._read_audit)
+        return HEADER + b"".join(self._entry(at) for at in range(self.journal_len()))
 
     def close(self) -> None:
         try:
-            self._closed_with = self._on_owner(self._read_audit)
+            self._closed_with = self.audit()
         finally:
             self._finalizer()
 
-    # Below: what is called on the guard's own thread.
-
-    def _length(self) -> int:
-        return int(self._library.fy_journal_len(self._guard))
-
-    def _left(self) -> List[int]:
-        words = (_u64 * SET_WORDS)()
-        self._library.fy_left(self._guard, words, SET_WORDS)
-        return list(words)
-
-    def _read_audit(self) -> bytes:
-        return HEADER + b"".join(self._entry(at) for at in range(self._length()))
+    # Below: the calls of the library that take a buffer or more than one answer.
 
     def _entry(self, at: int) -> bytes:
         """The line of an entry."""
         buffer, told = c.create_string_buffer(512), _size()
-        status = self._library.fy_audit(self._guard, at, buffer, len(buffer), told)
+        status = self._library.fy_audit(self._opened(), at, buffer, len(buffer), told)
         if status == SHORT:
             buffer = c.create_string_buffer(told.value)
-            status = self._library.fy_audit(self._guard, at, buffer, len(buffer), told)
-        _require(status)
-        return buffer.raw[: told.value]
-
-    def _act(self, text: bytes) -> bytes:
-        # Without its line feed, which the library would count as a byte of the line.
-        text = text.rstrip(b"\n")
-        buffer, told = c.create_string_buffer(len(text) + MOST_REPLY), _size()
-        status = self._library.fy_act(self._guard, text, len(text), buffer, len(buffer), told)
-        if status == UNWRITTEN:
-            return self._entry(self._length() - 1)
+            status = self._library.fy_audit(self._opened(), at, buffer, len(buffer), told)
         _require(status)
         return buffer.raw[: told.value]
 
@@ -217,7 +190,7 @@ class Library(Transport):
         kind, floor = KINDS[order["kind"]], KINDS[order["floor"]]
         struck, rule, named = _u32(), _u32(), _u64()
         status = self._library.fy_kill(
-            self._guard,
+            self._opened(),
             by,
             KEYS[order["key"]],
             value,
@@ -237,7 +210,7 @@ class Library(Transport):
         return Verdict(STRUCK[struck.value], barred, number)
 
     def _report(self, call: str, by: int, process: int) -> Reply:
-        status = getattr(self._library, call)(self._guard, by, process, _u32())
+        status = getattr(self._library, call)(self._opened(), by, process, _u32())
         if status == REFUSED:
             return self._last_reply()
         _require(status)
@@ -245,4 +218,4 @@ class Library(Transport):
 
     def _last_reply(self) -> Reply:
         """The reply of the last entry, whose refusal names what the call's answer doesn't."""
-        return read_entry(self._entry(self._length() - 1)).reply
+        return read_entry(self._entry(self.journal_len() - 1)).reply
