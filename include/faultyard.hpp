@@ -418,8 +418,9 @@ public:
     /* How many processes there are; they are numbered from 0. Throws Closed. */
     std::uint32_t process_count() const { return fy_process_count(opened()); }
 
-    /* The processes that a kill of this key and value is about: those that have the value and aren't
-     * gone for good, emptied or not. Throws in order Closed, Argument, Name. */
+    /* The processes that a kill of this key and value is about: those that have the value and
+     * aren't gone for good, emptied or not. Ask before the kill, which may be for good.
+     * Throws in order Closed, Argument, Name. */
     Processes targets(Key key, std::string_view value) const
     {
         std::uint64_t words[FY_SET_WORDS] = {};

@@ -200,7 +200,8 @@ func (guard *Guard) Gone() ([]uint32, error) {
 }
 
 // Targets answers the processes that a kill of this key and value is about, in the order of their
-// numbers: those that have the value and aren't gone for good, emptied or not.
+// numbers: those that have the value and aren't gone for good, emptied or not. Ask before the kill,
+// which may be for good.
 //
 // Its error is the first of ErrClosed, ErrArgument, ErrName.
 func (guard *Guard) Targets(key Key, value string) ([]uint32, error) {
@@ -270,8 +271,8 @@ func (guard *Guard) IsAcked(record uint32) (bool, error) {
 	return acked, err
 }
 
-// Keeper answers who keeps an acknowledged record: the least member of its team that isn't destroyed
-// and has the record synced. It is Nobody for any other record. Its error is ErrClosed.
+// Keeper answers who keeps an acknowledged record: the least member of its team that isn't
+// destroyed and has the record synced. It is Nobody for any other record. Its error is ErrClosed.
 func (guard *Guard) Keeper(record uint32) (uint32, error) {
 	keeper := Nobody
 	err := guard.do(func(its *C.fy_guard) {

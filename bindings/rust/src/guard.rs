@@ -169,7 +169,7 @@ impl Guard {
     }
 
     /// The processes that a kill of this key and value is about: those that have the value and
-    /// aren't gone for good, emptied or not.
+    /// aren't gone for good, emptied or not. Ask before the kill, which may be for good.
     ///
     /// # Errors
     ///

@@ -29,17 +29,15 @@ TYPES = {
     "fy_guard": library._Guard,
     "fy_guard *": ctypes.POINTER(library._Guard),
     "const fy_guard *": ctypes.POINTER(library._Guard),
-    "fy_seen *": ctypes.c_void_p,
+    "fy_seen *": ctypes.POINTER(library._Seen),
 }
 
 
 class MemoryCounts(ctypes.Structure):
     """`mallinfo2` of glibc."""
 
-    _fields_ = [
-        (name, ctypes.c_size_t)
-        for name in "arena ordblks smblks hblks hblkhd usmblks fsmblks uordblks fordblks keepcost".split()
-    ]
+    _names = "arena ordblks smblks hblks hblkhd usmblks fsmblks uordblks fordblks keepcost"
+    _fields_ = [(name, ctypes.c_size_t) for name in _names.split()]
 
 
 def in_use():
@@ -66,9 +64,16 @@ def declared():
 class Table(unittest.TestCase):
     def test_each_call_is_declared_so(self):
         there = declared()
-        self.assertGreaterEqual(len(there), 10)
+        # The version of the library isn't asked for.
+        self.assertEqual(set(library.CALLS), set(there) - {"fy_version"})
         for name, call in library.CALLS.items():
             self.assertEqual(call, there[name], name)
+
+    def test_each_field_is_the_headers(self):
+        body = re.search(r"^typedef struct fy_seen {(.*?)^}", HEADER, re.M | re.S)[1]
+        found = re.findall(r"^    (\w+) (\w+);", body, re.M)
+        self.assertEqual(library._Seen._fields_, [(name, TYPES[its]) for its, name in found])
+        self.assertEqual(len(found), 4)
 
     def test_each_number_is_the_headers(self):
         statuses = dict(re.findall(r"^    FY_(\w+) = (\d+),", HEADER, re.M))
@@ -88,6 +93,9 @@ class Table(unittest.TestCase):
         defined = dict(re.findall(r"^#define FY_(\w+) (\d+)$", HEADER, re.M))
         self.assertEqual(library.MOST_REPLY, int(defined["MOST_REPLY"]))
         self.assertEqual(library.SET_WORDS, int(defined["SET_WORDS"]))
+        greatest = dict(re.findall(r"^#define FY_(\w+) UINT(\d+)_MAX$", HEADER, re.M))
+        self.assertEqual(library.NOBODY, 2 ** int(greatest["NOBODY"]) - 1)
+        self.assertEqual(library.NOTHING, 2 ** int(greatest["NOTHING"]) - 1)
 
     def test_a_library_that_is_none(self):
         with self.assertRaises(FileNotFoundError) as caught:
@@ -194,6 +202,35 @@ class InThisProcess(common.Folder, unittest.TestCase):
             self.assertGreater(len(guard.audit().splitlines()[2]), 512)
             self.assertEqual(entry.act["begin"]["payload"], "00" * 256)
         self.assertEqual(faultyard.check(common.SIX, guard.audit()), 3)
+
+    def test_what_there_is_to_do_until_a_record_is_acknowledged(self):
+        with self.guard() as guard:
+            self.assertEqual(guard.sight(), faultyard.Sight(0, None, None, None))
+            guard.form([0, 2], 0, by=0)
+            guard.begin(0, b"hi", by=0)
+            # Messages 0 and 1 store the record at p0 and p2; 2 and 3 answer that it is synced.
+            self.assertEqual(guard.sight(), faultyard.Sight(0, 0, None, None))
+            guard.deliver(0, by=0)
+            guard.deliver(1, by=0)
+            self.assertEqual(guard.sight(), faultyard.Sight(0, None, 0, None))
+            guard.sync(0, by=0)
+            self.assertEqual(guard.sight(), faultyard.Sight(0, 2, 2, None))
+            guard.sync(2, by=0)
+            guard.deliver(2, by=0)
+            self.assertEqual((guard.is_acked(0), guard.keeper(0)), (False, None))
+            guard.deliver(3, by=0)
+            self.assertEqual((guard.is_acked(0), guard.keeper(0)), (True, 0))
+            self.assertEqual((guard.is_acked(1), guard.keeper(2**32 - 1)), (False, None))
+            guard.tick(5, by=0)
+            guard.kill(faultyard.Key.PROCESS, "p0", faultyard.Kind.REBOOT_AND_DELETE, by=1)
+            self.assertEqual((guard.is_acked(0), guard.keeper(0)), (True, 2))
+            self.assertEqual(guard.sight(), faultyard.Sight(5, None, None, 0))
+            for ask in (guard.is_acked, guard.keeper):
+                with self.assertRaises(faultyard.InvalidAct):
+                    ask(-1)
+        for ask in (guard.sight, lambda: guard.is_acked(0), lambda: guard.keeper(0)):
+            with self.assertRaises(faultyard.GuardClosed):
+                ask()
 
     def test_two_guards_have_nothing_in_common(self):
         with self.guard() as one, self.guard() as other:

@@ -5,7 +5,7 @@ from __future__ import annotations
 import ctypes as c
 import os
 import weakref
-from typing import Any, Dict, FrozenSet, List, Mapping, Optional, Tuple
+from typing import Any, Dict, FrozenSet, Iterable, List, Mapping, Optional, Tuple
 
 from .acts import line
 from .enums import Key, Kind, Rule
@@ -13,7 +13,7 @@ from .errors import ConfigRefused, FaultyardError, GuardClosed, JournalFull, Not
 from .errors import OutOfMemory, ProtocolError
 from .programs import StrPath
 from .replies import Done, Reply, Verdict, read_entry
-from .transport import HEADER, Transport
+from .transport import HEADER, Sight, Transport
 
 NAMES = ("libfaultyard.so.1", "libfaultyard.so")
 """What the system's loader is asked for."""
@@ -25,7 +25,18 @@ class _Guard(c.Structure):
     _fields_ = [("at", c.c_void_p)]
 
 
-_guard = c.POINTER(_Guard)
+class _Seen(c.Structure):
+    """`fy_seen`."""
+
+    _fields_ = [
+        ("now", c.c_uint64),
+        ("deliverable", c.c_uint64),
+        ("unsynced", c.c_uint32),
+        ("sleeping", c.c_uint32),
+    ]
+
+
+_guard, _seen = c.POINTER(_Guard), c.POINTER(_Seen)
 _u32, _u32_out = c.c_uint32, c.POINTER(c.c_uint32)
 _u64, _u64_out = c.c_uint64, c.POINTER(c.c_uint64)
 _size, _size_out = c.c_size_t, c.POINTER(c.c_size_t)
@@ -41,8 +52,16 @@ CALLS: Dict[str, Tuple[Any, List[Any]]] = {
     "fy_up": (_u32, [_guard, _u32, _u32, _u32_out]),
     "fy_heal": (_u32, [_guard, _u32, _u32, _u32_out]),
     "fy_act": (_u32, [_guard, _bytes, _size, _bytes, _size, _size_out]),
+    "fy_process": (_u32, [_guard, _bytes, _size]),
+    "fy_process_count": (_u32, [_guard]),
+    "fy_targets": (_u32, [_guard, _u32, _bytes, _size, _u64_out, _size]),
     "fy_is_destroyed": (_u32, [_guard, _u32]),
     "fy_left": (None, [_guard, _u64_out, _size]),
+    "fy_destroyed_set": (None, [_guard, _u64_out, _size]),
+    "fy_gone_set": (None, [_guard, _u64_out, _size]),
+    "fy_is_acked": (_u32, [_guard, _u32]),
+    "fy_keeper": (_u32, [_guard, _u32]),
+    "fy_sight": (None, [_guard, _seen]),
     "fy_journal_len": (_size, [_guard]),
     "fy_audit": (_u32, [_guard, _size, _bytes, _size, _size_out]),
 }
@@ -52,6 +71,8 @@ CALLS: Dict[str, Tuple[Any, List[Any]]] = {
 DONE, NO_MEMORY, JOURNAL_FULL, REFUSED, SHORT, UNWRITTEN = range(6)
 MOST_REPLY = 128
 SET_WORDS = 16
+NOBODY = 2**32 - 1
+NOTHING = 2**64 - 1
 CONFIG_FAULTS = {
     12: "config: TooLong",
     13: "config: Toml",
@@ -103,6 +124,17 @@ def _require(status: int) -> None:
         raise _error(status)
 
 
+def _processes(words: Iterable[int]) -> FrozenSet[int]:
+    """The processes of a set of the library."""
+    numbered = enumerate(words)
+    return frozenset(64 * at + bit for at, word in numbered for bit in range(64) if word >> bit & 1)
+
+
+def _somebody(process: int) -> Optional[int]:
+    """The process with this number, or none for `FY_NOBODY`."""
+    return None if process == NOBODY else process
+
+
 def _free(library: c.CDLL, guard: _Guard, opener: int) -> None:
     """Frees an open guard. A forked child leaves its parent's guard alone."""
     if guard.at is not None and os.getpid() == opener:
@@ -151,11 +183,38 @@ class Library(Transport):
         return int(self._library.fy_is_destroyed(self._opened(), process)) != 0
 
     def left(self) -> FrozenSet[int]:
-        words = (_u64 * SET_WORDS)()
-        self._library.fy_left(self._opened(), words, SET_WORDS)
-        return frozenset(
-            64 * at + bit for at, word in enumerate(words) for bit in range(64) if word >> bit & 1
-        )
+        return self._set(self._library.fy_left)
+
+    def destroyed(self) -> FrozenSet[int]:
+        return self._set(self._library.fy_destroyed_set)
+
+    def gone(self) -> FrozenSet[int]:
+        return self._set(self._library.fy_gone_set)
+
+    def targets(self, key: str, value: str) -> FrozenSet[int]:
+        words, text = (_u64 * SET_WORDS)(), value.encode()
+        target = (KEYS[key], text, len(text))
+        _require(self._library.fy_targets(self._opened(), *target, words, SET_WORDS))
+        return _processes(words)
+
+    def process(self, name: str) -> Optional[int]:
+        text = name.encode()
+        return _somebody(self._library.fy_process(self._opened(), text, len(text)))
+
+    def process_count(self) -> int:
+        return int(self._library.fy_process_count(self._opened()))
+
+    def is_acked(self, record: int) -> bool:
+        return int(self._library.fy_is_acked(self._opened(), record)) != 0
+
+    def keeper(self, record: int) -> Optional[int]:
+        return _somebody(self._library.fy_keeper(self._opened(), record))
+
+    def sight(self) -> Sight:
+        seen = _Seen()
+        self._library.fy_sight(self._opened(), seen)
+        message = None if seen.deliverable == NOTHING else seen.deliverable
+        return Sight(seen.now, message, _somebody(seen.unsynced), _somebody(seen.sleeping))
 
     def journal_len(self) -> int:
         if self._closed_with is not None:
@@ -174,6 +233,12 @@ class Library(Transport):
             self._finalizer()
 
     # Below: the calls of the library that take a buffer or more than one answer.
+
+    def _set(self, call: Any) -> FrozenSet[int]:
+        """The set that a call of the library writes."""
+        words = (_u64 * SET_WORDS)()
+        call(self._opened(), words, SET_WORDS)
+        return _processes(words)
 
     def _entry(self, at: int) -> bytes:
         """The line of an entry."""
