@@ -294,6 +294,29 @@ struct Verdict {
 /* A set of processes by their numbers. */
 using Processes = std::bitset<std::size_t{64} * FY_SET_WORDS>;
 
+/* The time, and what there is to do next in the simulated cluster. */
+struct Sight {
+    /* The time, in ticks. */
+    std::uint64_t now = 0;
+    /* The least message that a deliver would accept now. */
+    std::optional<std::uint64_t> deliverable;
+    /* The least process that is up and has unsynced writes. */
+    std::optional<std::uint32_t> unsynced;
+    /* The least process that is neither up nor gone. */
+    std::optional<std::uint32_t> sleeping;
+
+    friend constexpr bool operator==(const Sight &one, const Sight &other) noexcept
+    {
+        return one.now == other.now && one.deliverable == other.deliverable &&
+               one.unsynced == other.unsynced && one.sleeping == other.sleeping;
+    }
+
+    friend constexpr bool operator!=(const Sight &one, const Sight &other) noexcept
+    {
+        return !(one == other);
+    }
+};
+
 /* A guard. It is moved and never copied. After `close`, and after it was moved from, each call
  * throws Closed.
  *
@@ -386,6 +409,26 @@ public:
         return answer;
     }
 
+    /* The number of the process whose processid is this name. Throws Closed. */
+    std::optional<std::uint32_t> process(std::string_view name) const
+    {
+        return somebody(fy_process(opened(), detail::bytes(name), name.size()));
+    }
+
+    /* How many processes there are; they are numbered from 0. Throws Closed. */
+    std::uint32_t process_count() const { return fy_process_count(opened()); }
+
+    /* The processes that a kill of this key and value is about: those that have the value and
+     * aren't gone for good, emptied or not. Ask before the kill, which may be for good.
+     * Throws in order Closed, Argument, Name. */
+    Processes targets(Key key, std::string_view value) const
+    {
+        std::uint64_t words[FY_SET_WORDS] = {};
+        require(fy_targets(opened(), static_cast<std::uint32_t>(key), detail::bytes(value),
+                           value.size(), words, FY_SET_WORDS));
+        return set_of(words);
+    }
+
     /* Whether a process is destroyed: struck by a kind that empties its disk, and not healed since.
      * Throws Closed. */
     bool is_destroyed(std::uint32_t process) const
@@ -394,14 +437,36 @@ public:
     }
 
     /* The processes that aren't gone for good, emptied or not. Throws Closed. */
-    Processes left() const
+    Processes left() const { return asked(fy_left); }
+
+    /* The processes that are destroyed, gone for good or not. Throws Closed. */
+    Processes destroyed() const { return asked(fy_destroyed_set); }
+
+    /* The processes that are gone for good. Throws Closed. */
+    Processes gone() const { return asked(fy_gone_set); }
+
+    /* Whether a record is acknowledged. Throws Closed. */
+    bool is_acked(std::uint32_t record) const { return fy_is_acked(opened(), record) != 0; }
+
+    /* Who keeps an acknowledged record: the least member of its team that isn't destroyed and has
+     * the record synced. Empty for any other record. Throws Closed. */
+    std::optional<std::uint32_t> keeper(std::uint32_t record) const
     {
-        std::uint64_t words[FY_SET_WORDS] = {};
-        fy_left(opened(), words, FY_SET_WORDS);
-        Processes left;
-        for (std::size_t process = 0; process < left.size(); process++)
-            left[process] = (words[process / 64] >> process % 64 & 1) != 0;
-        return left;
+        return somebody(fy_keeper(opened(), record));
+    }
+
+    /* The time, and what there is to do next. Throws Closed. */
+    Sight sight() const
+    {
+        fy_seen seen = {};
+        fy_sight(opened(), &seen);
+        Sight sight;
+        sight.now = seen.now;
+        if (seen.deliverable != FY_NOTHING)
+            sight.deliverable = seen.deliverable;
+        sight.unsynced = somebody(seen.unsynced);
+        sight.sleeping = somebody(seen.sleeping);
+        return sight;
     }
 
     /* How many entries the journal has. Throws Closed. */
@@ -459,6 +524,27 @@ private:
     {
         if (!is_open())
             throw Error(Status::Closed);
+    }
+
+    /* The set that a call of the library writes. */
+    Processes asked(void (*call)(const fy_guard *, std::uint64_t *, std::size_t)) const
+    {
+        std::uint64_t words[FY_SET_WORDS] = {};
+        call(opened(), words, FY_SET_WORDS);
+        return set_of(words);
+    }
+
+    static Processes set_of(const std::uint64_t (&words)[FY_SET_WORDS]) noexcept
+    {
+        Processes set;
+        for (std::size_t process = 0; process < set.size(); process++)
+            set[process] = (words[process / 64] >> process % 64 & 1) != 0;
+        return set;
+    }
+
+    static std::optional<std::uint32_t> somebody(std::uint32_t process) noexcept
+    {
+        return process == FY_NOBODY ? std::nullopt : std::optional(process);
     }
 
     static void require(std::uint32_t status, std::uint32_t refusal = FY_NOT_REFUSED)

@@ -175,20 +175,139 @@ func (guard *Guard) IsDestroyed(process uint32) (bool, error) {
 // Left answers the processes that aren't gone for good, emptied or not, in the order of their
 // numbers. Its error is ErrClosed.
 func (guard *Guard) Left() ([]uint32, error) {
-	var words [C.FY_SET_WORDS]C.uint64_t
-	err := guard.do(func(its *C.fy_guard) {
-		C.fy_left(its, &words[0], C.FY_SET_WORDS)
+	return guard.set(func(its *C.fy_guard, words *C.uint64_t) C.uint32_t {
+		C.fy_left(its, words, C.FY_SET_WORDS)
+		return C.FY_DONE
 	})
+}
+
+// Destroyed answers the processes that are destroyed, gone for good or not, in the order of their
+// numbers. Its error is ErrClosed.
+func (guard *Guard) Destroyed() ([]uint32, error) {
+	return guard.set(func(its *C.fy_guard, words *C.uint64_t) C.uint32_t {
+		C.fy_destroyed_set(its, words, C.FY_SET_WORDS)
+		return C.FY_DONE
+	})
+}
+
+// Gone answers the processes that are gone for good, in the order of their numbers. Its error is
+// ErrClosed.
+func (guard *Guard) Gone() ([]uint32, error) {
+	return guard.set(func(its *C.fy_guard, words *C.uint64_t) C.uint32_t {
+		C.fy_gone_set(its, words, C.FY_SET_WORDS)
+		return C.FY_DONE
+	})
+}
+
+// Targets answers the processes that a kill of this key and value is about, in the order of their
+// numbers: those that have the value and aren't gone for good, emptied or not. Ask before the kill,
+// which may be for good.
+//
+// Its error is the first of ErrClosed, ErrArgument, ErrName.
+func (guard *Guard) Targets(key Key, value string) ([]uint32, error) {
+	text, length := bytesOf([]byte(value))
+	return guard.set(func(its *C.fy_guard, words *C.uint64_t) C.uint32_t {
+		return C.fy_targets(its, C.uint32_t(key), text, length, words, C.FY_SET_WORDS)
+	})
+}
+
+// set answers the processes of the set that a call of the library writes.
+func (guard *Guard) set(
+	call func(its *C.fy_guard, words *C.uint64_t) C.uint32_t,
+) ([]uint32, error) {
+	var words [C.FY_SET_WORDS]C.uint64_t
+	var status C.uint32_t
+	err := guard.do(func(its *C.fy_guard) {
+		status = call(its, &words[0])
+	})
+	if err == nil {
+		err = errorOf(status)
+	}
 	if err != nil {
 		return nil, err
 	}
-	var left []uint32
+	var set []uint32
 	for process := uint32(0); process < 64*C.FY_SET_WORDS; process++ {
 		if words[process/64]>>(process%64)&1 != 0 {
-			left = append(left, process)
+			set = append(set, process)
 		}
 	}
-	return left, nil
+	return set, nil
+}
+
+// What stands for a process and for a message where there is none.
+const (
+	Nobody  uint32 = C.FY_NOBODY
+	Nothing uint64 = C.FY_NOTHING
+)
+
+// Process answers the number of the process whose processid is a name, or Nobody. Its error is
+// ErrClosed.
+func (guard *Guard) Process(name string) (uint32, error) {
+	text, length := bytesOf([]byte(name))
+	process := Nobody
+	err := guard.do(func(its *C.fy_guard) {
+		process = uint32(C.fy_process(its, text, length))
+	})
+	return process, err
+}
+
+// ProcessCount answers how many processes there are; they are numbered from 0. Its error is
+// ErrClosed.
+func (guard *Guard) ProcessCount() (int, error) {
+	var count int
+	err := guard.do(func(its *C.fy_guard) {
+		count = int(C.fy_process_count(its))
+	})
+	return count, err
+}
+
+// IsAcked says whether a record is acknowledged. Its error is ErrClosed.
+func (guard *Guard) IsAcked(record uint32) (bool, error) {
+	var acked bool
+	err := guard.do(func(its *C.fy_guard) {
+		acked = C.fy_is_acked(its, C.uint32_t(record)) != 0
+	})
+	return acked, err
+}
+
+// Keeper answers who keeps an acknowledged record: the least member of its team that isn't
+// destroyed and has the record synced. It is Nobody for any other record. Its error is ErrClosed.
+func (guard *Guard) Keeper(record uint32) (uint32, error) {
+	keeper := Nobody
+	err := guard.do(func(its *C.fy_guard) {
+		keeper = uint32(C.fy_keeper(its, C.uint32_t(record)))
+	})
+	return keeper, err
+}
+
+// Sight is the time, and what there is to do next in the simulated cluster.
+type Sight struct {
+	// Now is the time, in ticks.
+	Now uint64
+	// Deliverable is the least message that a deliver would accept now, or Nothing.
+	Deliverable uint64
+	// Unsynced is the least process that is up and has unsynced writes, or Nobody.
+	Unsynced uint32
+	// Sleeping is the least process that is neither up nor gone, or Nobody.
+	Sleeping uint32
+}
+
+// Sight answers the time, and what there is to do next. Its error is ErrClosed.
+func (guard *Guard) Sight() (Sight, error) {
+	var seen C.fy_seen
+	err := guard.do(func(its *C.fy_guard) {
+		C.fy_sight(its, &seen)
+	})
+	if err != nil {
+		return Sight{}, err
+	}
+	return Sight{
+		Now:         uint64(seen.now),
+		Deliverable: uint64(seen.deliverable),
+		Unsynced:    uint32(seen.unsynced),
+		Sleeping:    uint32(seen.sleeping),
+	}, nil
 }
 
 // JournalLen answers how many entries the journal has. Its error is ErrClosed.

@@ -31,8 +31,6 @@ pub enum Error {
     LineSyntax,
     /// The text is no cluster file.
     Config(ConfigFault),
-    /// The system started no thread for a [`Guard`](crate::Guard).
-    NoThread(io::ErrorKind),
     /// The library answered what this crate doesn't know, so it is of another version.
     Protocol(&'static str),
 }
@@ -115,7 +113,6 @@ impl fmt::Display for Error {
             Error::LineTooLong => write!(f, "the line has more than 65,536 bytes"),
             Error::LineSyntax => write!(f, "the line is no command of a script"),
             Error::Config(fault) => write!(f, "the text is no cluster file: {fault}"),
-            Error::NoThread(why) => write!(f, "no thread could be started: {why:?}"),
             Error::Protocol(what) => {
                 write!(
                     f,
@@ -158,7 +155,7 @@ impl From<Error> for io::Error {
 mod tests {
     use super::*;
 
-    /// Those that no call meets: tests/calls has the others.
+    /// Those that no call meets: tests/calls.rs has the others.
     #[test]
     fn statuses_that_no_call_meets() {
         assert_eq!(done(5), Err(Error::Unwritten));

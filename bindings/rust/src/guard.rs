@@ -1,56 +1,67 @@
-//! A guard that moves between threads.
+//! The guard.
 
-use crate::audit::write_audit;
-use crate::{Error, Key, Kind, LocalGuard, ProcessSet, Verdict};
-use std::cell::Cell;
-use std::marker::PhantomData;
-use std::sync::mpsc::{self, Receiver, Sender, SyncSender};
-use std::thread::{self, JoinHandle};
-use std::{fmt, io};
+use crate::error::{accepted, done};
+use crate::sight::somebody;
+use crate::sys::{self, FyGuard, FySeen};
+use crate::{Error, Key, Kind, ProcessSet, Refusal, Sight, Verdict};
+use std::ops::Range;
+use std::{fmt, io, ptr};
 
-/// What the thread of a guard is asked to do with it.
-type Call = Box<dyn FnOnce(&mut LocalGuard) + Send>;
+/// The first line of an audit. The lines of the journal follow.
+pub const AUDIT_HEADER: &str = "{\"audit\":2}\n";
 
-/// A guard that moves between threads: each call goes to the thread that it has for the library.
+/// How many bytes of an entry are read at the first try.
+const USUAL_LINE: usize = 256;
+
+/// How many lines are read before they are written.
+const LINES_AT_ONCE: usize = 1024;
+
+/// A guard. Each call is one of the library.
 ///
-/// It is `Send`, and not `Sync`; put it into a `Mutex` to share it. It is closed when it is
-/// dropped, and its thread has ended then. [`LocalGuard`] has the same calls without the thread.
+/// It is `Send` and `Sync`: it may be moved to another thread, a `Mutex` shares it, and threads
+/// that only ask may share it without one. It is closed when it is dropped.
 pub struct Guard {
-    /// There until the guard is dropped.
-    calls: Option<Sender<Call>>,
-    thread: Option<JoinHandle<()>>,
-    /// One call at a time.
-    not_sync: PhantomData<Cell<()>>,
+    /// Open.
+    raw: FyGuard,
 }
 
+// SAFETY: the header: "A guard may be moved to another thread, and one call at a time is made with
+// it", and "Guards of different threads have nothing in common." A `Guard` is the only one with
+// its struct: it is no `Clone`, and hands out no pointer of it.
+unsafe impl Send for Guard {}
+
+// SAFETY: the header: "Calls that take a `const fy_guard *` write neither the struct nor what it
+// points to, so they may be made at once while no other call is." They are those that take `&self`
+// here, and all others take `&mut self`.
+unsafe impl Sync for Guard {}
+
+// Each SAFETY comment below that says "as in `kill`" or "as in `process`" means what stands there.
 impl Guard {
     /// Opens a guard of a cluster in which nothing happened yet, by the text of a cluster file.
     ///
     /// # Errors
     ///
-    /// [`Error::NoThread`], or those of [`LocalGuard::open`].
+    /// [`Error::Config`] or [`Error::NoMemory`].
     pub fn open(config: impl AsRef<[u8]>) -> Result<Guard, Error> {
-        let config = config.as_ref().to_vec();
-        let (calls, asked) = mpsc::channel();
-        let (tell, told) = mpsc::sync_channel(1);
-        let thread = thread::Builder::new()
-            .name("faultyard".to_owned())
-            .spawn(move || serve(&config, &tell, asked))
-            .map_err(|why| Error::NoThread(why.kind()))?;
-        let guard = Guard {
-            calls: Some(calls),
-            thread: Some(thread),
-            not_sync: PhantomData,
+        let config = config.as_ref();
+        let mut raw = FyGuard {
+            at: ptr::null_mut(),
         };
-        told.recv().expect("the thread answers whether it opened")?;
-        Ok(guard)
+        // SAFETY: the pointer of a slice isn't null, and `len` bytes behind it may be read. The
+        // guard is closed. If it isn't opened, it stays closed, and there is nothing to free.
+        done(unsafe { sys::fy_open(config.as_ptr(), config.len(), &mut raw) })?;
+        Ok(Guard { raw })
     }
 
-    /// Orders a kill, as [`LocalGuard::kill`] does.
+    /// Orders a kill of the processes whose `key` has this value: by `kind`, or where that is
+    /// barred by a milder kind, down to `floor`. Bit i of `tear` is 1 where a reboot keeps the
+    /// unsynced write i.
     ///
     /// # Errors
     ///
-    /// Those of [`LocalGuard::kill`].
+    /// In this order: [`Error::Name`], [`Error::Floor`], [`Error::JournalFull`],
+    /// [`Error::NoMemory`]. [`Refusal::Stranger`] where there is no such actor. A kill that a
+    /// rule bars is no error.
     pub fn kill(
         &mut self,
         actor: u32,
@@ -60,62 +71,197 @@ impl Guard {
         floor: Kind,
         tear: u64,
     ) -> Result<Verdict, Error> {
-        let value = value.to_owned();
-        self.ask(move |guard| guard.kill(actor, key, &value, kind, floor, tear))
+        let (mut struck, mut rule, mut named) = (0, 0, 0);
+        // SAFETY: the guard is open, since only `drop` closes it. By `&mut self` no other call is
+        // made with it meanwhile, and the library calls nothing back. The value is a slice, and
+        // each answer goes to a variable of its own.
+        let status = unsafe {
+            sys::fy_kill(
+                &mut self.raw,
+                actor,
+                key.into(),
+                value.as_ptr(),
+                value.len(),
+                kind.into(),
+                floor.into(),
+                tear,
+                &mut struck,
+                &mut rule,
+                &mut named,
+            )
+        };
+        // No other refusal of a kill is there.
+        accepted(status, Refusal::Stranger.into())?;
+        Verdict::of(struck, rule, named)
     }
 
-    /// Reports that a process runs again, as [`LocalGuard::up`] does.
+    /// Reports that a process runs again, by an actor whose role is storage.
     ///
     /// # Errors
     ///
-    /// Those of [`LocalGuard::up`].
+    /// [`Error::JournalFull`], [`Error::NoMemory`]. [`Error::Refused`] where the process is up,
+    /// gone or not there, or the actor may not say so.
     pub fn up(&mut self, actor: u32, process: u32) -> Result<(), Error> {
-        self.ask(move |guard| guard.up(actor, process))
+        let mut refusal = 0;
+        // SAFETY: as in `kill`.
+        let status = unsafe { sys::fy_up(&mut self.raw, actor, process, &mut refusal) };
+        accepted(status, refusal)
     }
 
-    /// Reports that a destroyed process has every acknowledged record on its disk again, as
-    /// [`LocalGuard::heal`] does.
+    /// Reports that a destroyed process has every acknowledged record on its disk again, by an
+    /// actor whose role is storage. Report it only then: the guard counts on that copy.
     ///
     /// # Errors
     ///
-    /// Those of [`LocalGuard::heal`].
+    /// As of [`up`](Guard::up); [`Error::Refused`] also where the process isn't destroyed.
     pub fn heal(&mut self, actor: u32, process: u32) -> Result<(), Error> {
-        self.ask(move |guard| guard.heal(actor, process))
+        let mut refusal = 0;
+        // SAFETY: as in `kill`.
+        let status = unsafe { sys::fy_heal(&mut self.raw, actor, process, &mut refusal) };
+        accepted(status, refusal)
     }
 
-    /// Makes any act, given as its line of a script, as [`LocalGuard::act`] does.
+    /// Makes any act, given as its line of a script, and answers the line of its entry with its
+    /// line feed. A refused act is no error here: its line has the refusal.
     ///
     /// # Errors
     ///
-    /// Those of [`LocalGuard::act`].
+    /// In this order: [`Error::LineTooLong`], [`Error::LineSyntax`], [`Error::Floor`],
+    /// [`Error::JournalFull`]; [`Error::NoMemory`] in place of any.
     pub fn act(&mut self, line: &str) -> Result<String, Error> {
-        let line = line.to_owned();
-        self.ask(move |guard| guard.act(&line))
+        let mut answer = vec![0; line.len() + sys::MOST_REPLY];
+        let mut told = 0;
+        // SAFETY: as in `kill`. The line and the buffer are two slices with their lengths.
+        let status = unsafe {
+            sys::fy_act(
+                &mut self.raw,
+                line.as_ptr(),
+                line.len(),
+                answer.as_mut_ptr(),
+                answer.len(),
+                &mut told,
+            )
+        };
+        match done(status) {
+            // The act is made, so its line is read from the journal.
+            Err(Error::Unwritten) => self
+                .entry(self.journal_len().saturating_sub(1))
+                .map_err(|_| Error::Unwritten),
+            made => {
+                made?;
+                answer.truncate(told);
+                text(answer)
+            }
+        }
+    }
+
+    /// The number of the process whose processid is this name.
+    pub fn process(&self, name: &str) -> Option<u32> {
+        // SAFETY: the guard is open, since only `drop` closes it. By `&self` no call that writes it
+        // is made meanwhile. The name is a slice with its length.
+        somebody(unsafe { sys::fy_process(&self.raw, name.as_ptr(), name.len()) })
+    }
+
+    /// How many processes there are; they are numbered from 0.
+    pub fn process_count(&self) -> u32 {
+        // SAFETY: as in `process`.
+        unsafe { sys::fy_process_count(&self.raw) }
+    }
+
+    /// The processes that a kill of this key and value is about: those that have the value and
+    /// aren't gone for good, emptied or not. Ask before the kill, which may be for good.
+    ///
+    /// # Errors
+    ///
+    /// [`Error::Name`].
+    pub fn targets(&self, key: Key, value: &str) -> Result<ProcessSet, Error> {
+        let mut set = ProcessSet::default();
+        // SAFETY: as in `process`. The set has FY_SET_WORDS words.
+        let status = unsafe {
+            sys::fy_targets(
+                &self.raw,
+                key.into(),
+                value.as_ptr(),
+                value.len(),
+                set.0.as_mut_ptr(),
+                set.0.len(),
+            )
+        };
+        done(status).map(|()| set)
     }
 
     /// Whether a process is destroyed: struck by a kind that empties its disk, and not healed
     /// since.
     pub fn is_destroyed(&self, process: u32) -> bool {
-        self.ask(move |guard| guard.is_destroyed(process))
+        // SAFETY: as in `process`.
+        unsafe { sys::fy_is_destroyed(&self.raw, process) != 0 }
     }
 
     /// The processes that aren't gone for good, emptied or not.
     pub fn left(&self) -> ProcessSet {
-        self.ask(|guard| guard.left())
+        self.set(sys::fy_left)
+    }
+
+    /// The processes that are destroyed, gone for good or not.
+    pub fn destroyed(&self) -> ProcessSet {
+        self.set(sys::fy_destroyed_set)
+    }
+
+    /// The processes that are gone for good.
+    pub fn gone(&self) -> ProcessSet {
+        self.set(sys::fy_gone_set)
+    }
+
+    /// The set that a call of the library writes.
+    fn set(&self, call: unsafe extern "C" fn(*const FyGuard, *mut u64, usize)) -> ProcessSet {
+        let mut set = ProcessSet::default();
+        // SAFETY: as in `process`. The call is one of the three above, and the set has
+        // FY_SET_WORDS words.
+        unsafe { call(&self.raw, set.0.as_mut_ptr(), set.0.len()) };
+        set
+    }
+
+    /// Whether a record is acknowledged.
+    pub fn is_acked(&self, record: u32) -> bool {
+        // SAFETY: as in `process`.
+        unsafe { sys::fy_is_acked(&self.raw, record) != 0 }
+    }
+
+    /// Who keeps an acknowledged record: the least member of its team that isn't destroyed and has
+    /// the record synced. `None` for any other record.
+    pub fn keeper(&self, record: u32) -> Option<u32> {
+        // SAFETY: as in `process`.
+        somebody(unsafe { sys::fy_keeper(&self.raw, record) })
+    }
+
+    /// The time, and what there is to do next.
+    pub fn sight(&self) -> Sight {
+        let mut seen = FySeen {
+            now: 0,
+            deliverable: 0,
+            unsynced: 0,
+            sleeping: 0,
+        };
+        // SAFETY: as in `process`. The answer goes to a variable of its own.
+        unsafe { sys::fy_sight(&self.raw, &mut seen) };
+        Sight::of(&seen)
     }
 
     /// How many entries the journal has.
     pub fn journal_len(&self) -> usize {
-        self.ask(|guard| guard.journal_len())
+        // SAFETY: as in `process`.
+        unsafe { sys::fy_journal_len(&self.raw) }
     }
 
     /// The line of the entry at a place of the journal, from 0, with its line feed.
     ///
     /// # Errors
     ///
-    /// Those of [`LocalGuard::entry`].
+    /// [`Error::NoEntry`] or [`Error::NoMemory`].
     pub fn entry(&self, at: usize) -> Result<String, Error> {
-        self.ask(move |guard| guard.entry(at))
+        let mut bytes = Vec::new();
+        self.append_entry(at, &mut bytes)?;
+        text(bytes)
     }
 
     /// The lines of all entries so far, in their order.
@@ -125,65 +271,72 @@ impl Guard {
         (0..self.journal_len()).map(move |at| self.entry(at))
     }
 
-    /// The audit, as [`LocalGuard::audit`] answers it.
+    /// The audit: [`AUDIT_HEADER`] and the lines of the journal. `faultyard check` confirms it.
     ///
     /// # Errors
     ///
     /// [`Error::NoMemory`].
     pub fn audit(&self) -> Result<String, Error> {
-        self.ask(|guard| guard.audit())
+        let mut bytes = AUDIT_HEADER.as_bytes().to_vec();
+        self.append_entries(0..self.journal_len(), &mut bytes)?;
+        text(bytes)
     }
 
-    /// Writes the audit, as [`LocalGuard::write_audit`] does.
+    /// Writes the audit, some thousand lines at a time, and flushes it.
     ///
     /// # Errors
     ///
-    /// Those of [`LocalGuard::write_audit`].
-    pub fn write_audit(&self, to: impl io::Write) -> io::Result<()> {
-        write_audit(to, self.journal_len(), |range| {
-            self.ask(move |guard| guard.lines(range))
-        })
+    /// The writer's; an error of kind `OutOfMemory` for [`Error::NoMemory`].
+    pub fn write_audit(&self, mut to: impl io::Write) -> io::Result<()> {
+        to.write_all(AUDIT_HEADER.as_bytes())?;
+        let (count, mut bytes) = (self.journal_len(), Vec::new());
+        for from in (0..count).step_by(LINES_AT_ONCE) {
+            bytes.clear();
+            self.append_entries(from..count.min(from + LINES_AT_ONCE), &mut bytes)?;
+            to.write_all(&bytes)?;
+        }
+        to.flush()
     }
 
-    /// Makes a call on the thread of the guard, and waits for its answer.
-    fn ask<T: Send + 'static>(
-        &self,
-        call: impl FnOnce(&mut LocalGuard) -> T + Send + 'static,
-    ) -> T {
-        let (tell, told) = mpsc::sync_channel(1);
-        let call: Call = Box::new(move |guard| {
-            // This function waits for it.
-            let _ = tell.send(call(guard));
-        });
-        let calls = self.calls.as_ref().expect("only drop takes it");
-        let sent = calls.send(call);
-        sent.ok()
-            .and_then(|()| told.recv().ok())
-            .expect("the thread lasts as long as the guard")
+    /// Puts the lines of some entries behind what is there.
+    fn append_entries(&self, range: Range<usize>, bytes: &mut Vec<u8>) -> Result<(), Error> {
+        for at in range {
+            self.append_entry(at, bytes)?;
+        }
+        Ok(())
+    }
+
+    /// Puts the line of an entry behind what is there, which after an error is of no use.
+    fn append_entry(&self, at: usize, bytes: &mut Vec<u8>) -> Result<(), Error> {
+        let front = bytes.len();
+        let mut told = USUAL_LINE;
+        loop {
+            bytes.resize(front + told, 0);
+            let room = &mut bytes[front..];
+            // SAFETY: as in `process`. The room is a slice with its length.
+            let status =
+                unsafe { sys::fy_audit(&self.raw, at, room.as_mut_ptr(), room.len(), &mut told) };
+            if status == sys::SHORT && front + told > bytes.len() {
+                continue;
+            }
+            done(status)?;
+            bytes.truncate(front + told);
+            return Ok(());
+        }
     }
 }
 
-/// Opens a guard and tells how that ended; then makes the calls that come, until no more can.
-fn serve(config: &[u8], tell: &SyncSender<Result<(), Error>>, calls: Receiver<Call>) {
-    let opened = LocalGuard::open(config);
-    let (guard, told) = match opened {
-        Ok(guard) => (Some(guard), Ok(())),
-        Err(error) => (None, Err(error)),
-    };
-    // `open` waits for it.
-    let _ = tell.send(told);
-    if let Some(mut guard) = guard {
-        calls.into_iter().for_each(|call| call(&mut guard));
-    }
+/// Bytes of an audit as text.
+fn text(bytes: Vec<u8>) -> Result<String, Error> {
+    String::from_utf8(bytes).map_err(|_| Error::Protocol("a line that is no text"))
 }
 
 impl Drop for Guard {
     fn drop(&mut self) {
-        self.calls = None;
-        if let Some(thread) = self.thread.take() {
-            // A thread that panicked has said so.
-            let _ = thread.join();
-        }
+        let open = FyGuard { at: self.raw.at };
+        self.raw.at = ptr::null_mut();
+        // SAFETY: as in `kill`; nothing uses the guard after.
+        unsafe { sys::fy_close(open) }
     }
 }
 

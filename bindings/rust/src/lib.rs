@@ -4,11 +4,6 @@
 //! kill that the replication policies tolerate, and keeps a journal of all that was asked and
 //! answered. The decision is that of `faultyard guard`; the crate calls the C library.
 //!
-//! | Type | Stays on its thread | A call |
-//! |---|---|---|
-//! | [`Guard`] | no: it is `Send`, and has a thread of its own | goes there and back |
-//! | [`LocalGuard`] | yes | is one call of the library |
-//!
 //! ```
 //! use faultyard::{Guard, Key, Kind, Rule};
 //!
@@ -31,11 +26,9 @@
 //!
 //! # Threads
 //!
-//! The C library promises that guards of different threads have nothing in common, and asks that a
-//! guard stays on the thread that opened it, with one call at a time. The compiler sees to both.
-//!
-//! A [`Guard`] may be moved to another thread: the guard of the library stays on the thread that
-//! the [`Guard`] has for it. A `Mutex` shares it.
+//! The C library promises that guards of different threads have nothing in common, that a guard may
+//! be moved to another thread, and that calls which only ask may be made at once. It asks for one
+//! call at a time otherwise, and the compiler sees to that.
 //!
 //! ```
 //! # fn opened() -> faultyard::Guard {
@@ -50,39 +43,46 @@
 //!     scope.spawn(|| shared.lock().unwrap().up(0, 0));
 //!     scope.spawn(|| shared.lock().unwrap().up(0, 1));
 //! });
-//! assert_eq!(shared.lock().unwrap().journal_len(), 2);
+//! let guard = shared.into_inner().unwrap();
+//! std::thread::scope(|scope| {
+//!     scope.spawn(|| assert_eq!(guard.journal_len(), 2));
+//!     scope.spawn(|| assert_eq!(guard.left().len(), 6));
+//! });
 //! ```
 //!
-//! Without one it can't be shared:
+//! Without a `Mutex` two threads can't act:
 //!
-//! ```compile_fail,E0277
+//! ```compile_fail,E0499
 //! # fn opened() -> faultyard::Guard {
 //! #     faultyard::Guard::open(include_str!("../tests/cluster.toml")).unwrap()
 //! # }
-//! let shared = opened();
+//! let mut shared = opened();
+//! std::thread::scope(|scope| {
+//!     scope.spawn(|| shared.up(0, 0));
+//!     scope.spawn(|| shared.up(0, 1));
+//! });
+//! ```
+//!
+//! Nor can one act while another asks:
+//!
+//! ```compile_fail,E0502
+//! # fn opened() -> faultyard::Guard {
+//! #     faultyard::Guard::open(include_str!("../tests/cluster.toml")).unwrap()
+//! # }
+//! let mut shared = opened();
 //! std::thread::scope(|scope| {
 //!     scope.spawn(|| shared.journal_len());
+//!     scope.spawn(|| shared.up(0, 1));
 //! });
 //! ```
 //!
-//! A [`LocalGuard`] can't be moved to another thread, nor shared:
+//! A guard has no copy:
 //!
-//! ```compile_fail,E0277
-//! # fn opened() -> faultyard::LocalGuard {
-//! #     faultyard::LocalGuard::open(include_str!("../tests/cluster.toml")).unwrap()
+//! ```compile_fail,E0599
+//! # fn opened() -> faultyard::Guard {
+//! #     faultyard::Guard::open(include_str!("../tests/cluster.toml")).unwrap()
 //! # }
-//! let guard = opened();
-//! let moved = std::thread::spawn(move || guard.journal_len());
-//! ```
-//!
-//! ```compile_fail,E0277
-//! # fn opened() -> faultyard::LocalGuard {
-//! #     faultyard::LocalGuard::open(include_str!("../tests/cluster.toml")).unwrap()
-//! # }
-//! let shared = std::sync::Mutex::new(opened());
-//! std::thread::scope(|scope| {
-//!     scope.spawn(|| shared.lock().unwrap().up(0, 0));
-//! });
+//! let copy = opened().clone();
 //! ```
 //!
 //! In a child that a process with threads forked no call may be made; only unsafe Rust forks.
@@ -91,20 +91,18 @@
 #![deny(unsafe_op_in_unsafe_fn)]
 #![deny(clippy::undocumented_unsafe_blocks)]
 
-mod audit;
 mod error;
 mod guard;
-mod local;
 mod set;
+mod sight;
 mod sys;
 mod verdict;
 mod words;
 
-pub use audit::AUDIT_HEADER;
 pub use error::{ConfigFault, Error};
-pub use guard::Guard;
-pub use local::LocalGuard;
+pub use guard::{Guard, AUDIT_HEADER};
 pub use set::ProcessSet;
+pub use sight::Sight;
 pub use verdict::{Rule, Verdict};
 pub use words::{Key, Kind, Refusal};
 

@@ -2,7 +2,7 @@
 //!
 //! Every pointer is non-null, also where a length is 0, and a guard is open but for `fy_open`.
 //!
-//! A new call of the header is declared here, made in local.rs, and sent to its thread in guard.rs.
+//! A new call of the header is declared here, and made in guard.rs.
 
 use std::ffi::c_void;
 
@@ -12,12 +12,25 @@ pub struct FyGuard {
     pub at: *mut c_void,
 }
 
+/// `fy_seen`.
+#[repr(C)]
+pub struct FySeen {
+    pub now: u64,
+    pub deliverable: u64,
+    pub unsynced: u32,
+    pub sleeping: u32,
+}
+
 /// `FY_SHORT`.
 pub const SHORT: u32 = 4;
 /// `FY_MOST_REPLY`.
 pub const MOST_REPLY: usize = 128;
 /// `FY_SET_WORDS`.
 pub const SET_WORDS: usize = 16;
+/// `FY_NOBODY`.
+pub const NOBODY: u32 = u32::MAX;
+/// `FY_NOTHING`.
+pub const NOTHING: u64 = u64::MAX;
 
 extern "C" {
     pub fn fy_open(config: *const u8, config_length: usize, guard: *mut FyGuard) -> u32;
@@ -45,11 +58,26 @@ extern "C" {
         buffer_length: usize,
         told: *mut usize,
     ) -> u32;
-    pub fn fy_is_destroyed(guard: *mut FyGuard, process: u32) -> u32;
-    pub fn fy_left(guard: *mut FyGuard, left: *mut u64, words: usize);
-    pub fn fy_journal_len(guard: *mut FyGuard) -> usize;
+    pub fn fy_process(guard: *const FyGuard, name: *const u8, name_length: usize) -> u32;
+    pub fn fy_process_count(guard: *const FyGuard) -> u32;
+    pub fn fy_targets(
+        guard: *const FyGuard,
+        key: u32,
+        value: *const u8,
+        value_length: usize,
+        set: *mut u64,
+        words: usize,
+    ) -> u32;
+    pub fn fy_is_destroyed(guard: *const FyGuard, process: u32) -> u32;
+    pub fn fy_left(guard: *const FyGuard, set: *mut u64, words: usize);
+    pub fn fy_destroyed_set(guard: *const FyGuard, set: *mut u64, words: usize);
+    pub fn fy_gone_set(guard: *const FyGuard, set: *mut u64, words: usize);
+    pub fn fy_is_acked(guard: *const FyGuard, record: u32) -> u32;
+    pub fn fy_keeper(guard: *const FyGuard, record: u32) -> u32;
+    pub fn fy_sight(guard: *const FyGuard, seen: *mut FySeen);
+    pub fn fy_journal_len(guard: *const FyGuard) -> usize;
     pub fn fy_audit(
-        guard: *mut FyGuard,
+        guard: *const FyGuard,
         at: usize,
         buffer: *mut u8,
         buffer_length: usize,

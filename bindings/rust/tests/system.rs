@@ -1,20 +1,17 @@
-//! What the system refuses: memory and threads. And that a guard gives back what it took.
+//! Memory that the system refuses. And that a guard gives back what it took.
 //!
 //! One test alone, since what is refused is refused to the whole process.
 
 #![deny(unsafe_op_in_unsafe_fn)]
 
-use faultyard::{Error, Guard, Key, Kind, LocalGuard, Refusal};
+use faultyard::{Error, Guard, Key, Kind, Refusal};
 use std::alloc::{GlobalAlloc, Layout};
 use std::ffi::c_void;
 use std::sync::atomic::{AtomicBool, AtomicUsize, Ordering::SeqCst};
-use std::time::{Duration, Instant};
-use std::{fs, io, ptr};
+use std::{io, ptr};
 
 const CONFIG: &str = include_str!("cluster.toml");
 const LINE: &str = r#"{"by":0,"act":{"up":{"process":0}}}"#;
-/// `RLIMIT_AS` of Linux.
-const ADDRESS_SPACE: i32 = 9;
 
 /// `struct mallinfo2` of glibc.
 #[repr(C)]
@@ -29,8 +26,6 @@ extern "C" {
     fn malloc_usable_size(at: *mut c_void) -> usize;
     fn free(at: *mut c_void);
     fn mallinfo2() -> MemoryCounts;
-    fn getrlimit(resource: i32, limits: *mut [u64; 2]) -> i32;
-    fn setrlimit(resource: i32, limits: *const [u64; 2]) -> i32;
 }
 
 /// Rust's own memory, which isn't asked of `malloc`. So `malloc` is the library's alone.
@@ -125,86 +120,58 @@ fn until_it_asks<T>(mut act: impl FnMut() -> Result<T, Error>) -> Error {
     panic!("it asked for no memory");
 }
 
-macro_rules! no_memory {
-    ($guard:ident) => {
-        let mut guard = $guard::open(CONFIG).unwrap();
-        assert_eq!(guard.up(0, 0), Err(Error::Refused(Refusal::IsUp)));
-        let by_number = |guard: &mut $guard, number: usize| match number {
-            0 => guard.up(0, 0),
-            1 => guard.heal(0, 0),
-            _ => {
-                let (kind, floor) = (Kind::Reboot, Kind::RebootProcess);
-                let verdict = guard.kill(1, Key::Zone, "z9", kind, floor, 0);
-                verdict.map(|verdict| assert_eq!(verdict.struck, None))
-            }
-        };
-        for number in 0..3 {
-            let error = until_it_asks(|| match by_number(&mut guard, number) {
-                Err(Error::Refused(_)) => Ok(()),
-                other => other,
-            });
-            assert_eq!(error, Error::NoMemory);
+fn no_memory() {
+    let opened = without_memory(|| Guard::open(CONFIG));
+    assert_eq!(opened.err(), Some(Error::NoMemory));
+    let mut guard = Guard::open(CONFIG).unwrap();
+    assert_eq!(guard.up(0, 0), Err(Error::Refused(Refusal::IsUp)));
+    let by_number = |guard: &mut Guard, number: usize| match number {
+        0 => guard.up(0, 0),
+        1 => guard.heal(0, 0),
+        _ => {
+            let (kind, floor) = (Kind::Reboot, Kind::RebootProcess);
+            let verdict = guard.kill(1, Key::Zone, "z9", kind, floor, 0);
+            verdict.map(|verdict| assert_eq!(verdict.struck, None))
         }
-        let made = guard.journal_len();
-        assert_eq!(without_memory(|| guard.act(LINE)), Err(Error::NoMemory));
-        assert_eq!(guard.journal_len(), made);
-        assert_eq!(without_memory(|| guard.entry(0)), Err(Error::NoMemory));
-        assert_eq!(without_memory(|| guard.audit()), Err(Error::NoMemory));
-        let line = without_memory(|| guard.journal().next());
-        assert_eq!(line, Some(Err(Error::NoMemory)));
-        let written = without_memory(|| guard.write_audit(io::sink())).unwrap_err();
-        assert_eq!(written.kind(), io::ErrorKind::OutOfMemory);
-        // With memory it goes on as if nothing had been.
-        assert_eq!(guard.up(0, 0), Err(Error::Refused(Refusal::IsUp)));
-        assert_eq!(guard.audit().unwrap().lines().count(), made + 2);
     };
-}
-
-/// How many threads this process has for guards.
-fn threads() -> usize {
-    let tasks = fs::read_dir("/proc/self/task").unwrap();
-    let names = tasks.map(|task| fs::read_to_string(task.unwrap().path().join("comm")));
-    names
-        .filter(|name| matches!(name, Ok(name) if name == "faultyard\n"))
-        .count()
-}
-
-fn threads_end() {
-    let guards: Vec<Guard> = (0..3).map(|_| Guard::open(CONFIG).unwrap()).collect();
-    assert_eq!(threads(), 3);
-    drop(guards);
-    assert!(Guard::open("process = [").is_err());
-    // A thread is seen for a moment after it was waited for.
-    let began = Instant::now();
-    while threads() > 0 {
-        assert!(
-            began.elapsed() < Duration::from_secs(60),
-            "a thread goes on"
-        );
+    for number in 0..3 {
+        let error = until_it_asks(|| match by_number(&mut guard, number) {
+            Err(Error::Refused(_)) => Ok(()),
+            other => other,
+        });
+        assert_eq!(error, Error::NoMemory);
     }
+    let made = guard.journal_len();
+    assert_eq!(without_memory(|| guard.act(LINE)), Err(Error::NoMemory));
+    assert_eq!(guard.journal_len(), made);
+    assert_eq!(without_memory(|| guard.entry(0)), Err(Error::NoMemory));
+    assert_eq!(without_memory(|| guard.audit()), Err(Error::NoMemory));
+    let line = without_memory(|| guard.journal().next());
+    assert_eq!(line, Some(Err(Error::NoMemory)));
+    let written = without_memory(|| guard.write_audit(io::sink())).unwrap_err();
+    assert_eq!(written.kind(), io::ErrorKind::OutOfMemory);
+    // With memory it goes on as if nothing had been.
+    assert_eq!(guard.up(0, 0), Err(Error::Refused(Refusal::IsUp)));
+    assert_eq!(guard.audit().unwrap().lines().count(), made + 2);
 }
 
-/// How much of the address space this process has, in KiB.
-fn address_space() -> u64 {
-    let status = fs::read_to_string("/proc/self/status").unwrap();
-    let line = status.lines().find_map(|line| line.strip_prefix("VmSize:"));
-    let number = line.unwrap().trim().trim_end_matches(" kB");
-    number.parse().unwrap()
+/// All calls that ask, but for those that write a line.
+fn ask(guard: &Guard) {
+    assert_eq!((guard.process("p5"), guard.process_count()), (Some(5), 6));
+    assert!(guard.targets(Key::Zone, "z1").unwrap().iter().eq(2..4));
+    assert!(guard.left().iter().eq(0..6) && !guard.is_destroyed(0));
+    assert!(guard.destroyed().is_empty() && guard.gone().is_empty());
+    assert_eq!((guard.is_acked(0), guard.keeper(0)), (false, None));
+    assert_eq!((guard.sight().now, guard.journal_len()), (0, 0));
 }
 
-fn no_thread() {
-    let mut limits = [0; 2];
-    // SAFETY: both calls are given a local of two numbers.
-    assert_eq!(unsafe { getrlimit(ADDRESS_SPACE, &mut limits) }, 0);
-    // Room for all that is asked for, but for the stack of a thread, which has 2 MiB.
-    let most = [1024 * (address_space() + 1024), limits[1]];
-    assert_eq!(unsafe { setrlimit(ADDRESS_SPACE, &most) }, 0);
-    let opened = Guard::open(CONFIG);
-    assert_eq!(unsafe { setrlimit(ADDRESS_SPACE, &limits) }, 0);
-    assert_eq!(
-        opened.err(),
-        Some(Error::NoThread(io::ErrorKind::WouldBlock))
-    );
+fn no_memory_is_asked_for() {
+    let guard = Guard::open(CONFIG).unwrap();
+    let before = REFUSED.load(SeqCst);
+    IS_REFUSED.store(true, SeqCst);
+    ask(&guard);
+    IS_REFUSED.store(false, SeqCst);
+    assert_eq!(REFUSED.load(SeqCst), before);
 }
 
 /// How many bytes of all that was asked for aren't given back.
@@ -214,18 +181,17 @@ fn in_use() -> usize {
     counts[HEAP_IN_USE] + counts[MAPPED_IN_USE]
 }
 
-fn memory_is_given_back<G>(open: fn() -> G, up: fn(&mut G) -> Result<(), Error>) {
+fn memory_is_given_back() {
     let round = || {
-        let mut guard = open();
+        let mut guard = Guard::open(CONFIG).unwrap();
         for _ in 0..2000 {
-            assert!(up(&mut guard).is_err());
+            assert!(guard.up(0, 0).is_err());
         }
     };
     round();
     let before = in_use();
     (0..5).for_each(|_| {
         round();
-        // A dropped `Guard` has waited for its thread, which gave back the journal.
         let more = in_use().saturating_sub(before);
         assert!(more < 100_000, "{more} bytes are left");
     });
@@ -233,14 +199,7 @@ fn memory_is_given_back<G>(open: fn() -> G, up: fn(&mut G) -> Result<(), Error>)
 
 #[test]
 fn what_the_system_refuses() {
-    // First, while there is no stack of a thread that ended.
-    no_thread();
-    threads_end();
-    memory_is_given_back(|| LocalGuard::open(CONFIG).unwrap(), |it| it.up(0, 0));
-    memory_is_given_back(|| Guard::open(CONFIG).unwrap(), |it| it.up(0, 0));
-    // A `Guard` isn't opened so: std asks `malloc` for what it keeps of a thread.
-    let opened = without_memory(|| LocalGuard::open(CONFIG));
-    assert_eq!(opened.err(), Some(Error::NoMemory));
-    no_memory!(LocalGuard);
-    no_memory!(Guard);
+    memory_is_given_back();
+    no_memory();
+    no_memory_is_asked_for();
 }

@@ -3,6 +3,7 @@
 
 #include "told.h"
 
+#include <iterator>
 #include <set>
 #include <thread>
 #include <type_traits>
@@ -63,6 +64,25 @@ static Verdict verdict(std::optional<Kind> struck, std::optional<Rule> barred = 
                        std::optional<uint64_t> by = {})
 {
     return {struck, barred, by};
+}
+
+/* A record in a team of p0 and p2 is acknowledged. Messages 0 and 1 store it, 2 and 3 answer. */
+static const char *const ACKED[] = {
+    "{\"form\":{\"members\":[0,2],\"policy\":0}}",
+    "{\"begin\":{\"payload\":\"6869\",\"team\":0}}",
+    "{\"deliver\":{\"message\":0}}",
+    "{\"deliver\":{\"message\":1}}",
+    "{\"sync\":{\"process\":0}}",
+    "{\"sync\":{\"process\":2}}",
+    "{\"deliver\":{\"message\":2}}",
+    "{\"deliver\":{\"message\":3}}",
+};
+
+/* Makes the acts of ACKED from one on up to another. */
+static void make(Guard &guard, size_t from, size_t end)
+{
+    for (size_t at = from; at < end; at++)
+        guard.act("{\"by\":0,\"act\":" + std::string(ACKED[at]) + "}");
 }
 
 /* Zone z0 may go for good, and then z1 is rebooted. */
@@ -133,12 +153,7 @@ static void refusals()
     REFUSES(Stranger, (void)guard.kill(9, Key::Process, "p0", Kind::Reboot));
     EQUAL(guard.journal_len(), 6);
     /* A record in a team of p0 and p2 is acknowledged. Then p0 is emptied, and lacks it. */
-    for (const char *act : {"{\"form\":{\"members\":[0,2],\"policy\":0}}",
-                            "{\"begin\":{\"payload\":\"6869\",\"team\":0}}",
-                            "{\"deliver\":{\"message\":0}}", "{\"deliver\":{\"message\":1}}",
-                            "{\"sync\":{\"process\":0}}", "{\"sync\":{\"process\":2}}",
-                            "{\"deliver\":{\"message\":2}}", "{\"deliver\":{\"message\":3}}"})
-        guard.act("{\"by\":0,\"act\":" + std::string(act) + "}");
+    make(guard, 0, std::size(ACKED));
     HOLDS(guard.kill(1, Key::Process, "p0", Kind::RebootAndDelete) ==
           verdict(Kind::RebootAndDelete));
     REFUSES(NotUp, guard.heal(0, 0));
@@ -152,6 +167,67 @@ static void refusals()
     HOLDS(guard.kill(1, Key::Process, "p4", Kind::KillInstantly) == verdict(Kind::KillInstantly));
     REFUSES(Gone, guard.up(0, 4));
     HOLDS(guard.left() == Processes(0x2f));
+}
+
+/* Whom a kill is about, and who is destroyed and gone. */
+static void sets()
+{
+    Guard guard(SIX);
+    const Guard &asked = guard;
+    HOLDS(asked.targets(Key::Process, "p3") == Processes(0x08));
+    HOLDS(asked.targets(Key::Machine, "m5") == Processes(0x20));
+    HOLDS(asked.targets(Key::Zone, "z0") == Processes(0x03));
+    HOLDS(asked.targets(Key::DataCenter, "d0") == Processes(0x3f));
+    HOLDS(asked.targets(Key::DataHall, "d0").none());
+    THROWS(Name, asked.targets(Key::Zone, ""));
+    THROWS(Name, asked.targets(Key::Zone, std::string_view()));
+    THROWS(Argument, asked.targets(static_cast<Key>(6), ""));
+    HOLDS(asked.destroyed().none() && asked.gone().none());
+    HOLDS(guard.kill(1, Key::Process, "p1", Kind::KillInstantly) == verdict(Kind::KillInstantly));
+    HOLDS(guard.kill(1, Key::Process, "p0", Kind::RebootAndDelete) ==
+          verdict(Kind::RebootAndDelete));
+    HOLDS(asked.targets(Key::Zone, "z0") == Processes(0x01));
+    HOLDS(asked.destroyed() == Processes(0x03));
+    HOLDS(asked.gone() == Processes(0x02));
+    guard.up(0, 0);
+    guard.heal(0, 0);
+    HOLDS(asked.destroyed() == Processes(0x02));
+}
+
+/* The processes by their names, and what there is to do until a record is acknowledged. */
+static void names_and_records()
+{
+    Guard guard(SIX);
+    const Guard &asked = guard;
+    EQUAL(asked.process_count(), 6);
+    for (uint32_t process = 0; process < 6; process++)
+        HOLDS(asked.process("p" + std::to_string(process)) == process);
+    for (std::string_view name : {"p6", "z0", "p", ""})
+        HOLDS(asked.process(name) == std::nullopt);
+    HOLDS(asked.process(std::string_view()) == std::nullopt);
+    Sight wanted;
+    HOLDS(asked.sight() == wanted);
+    make(guard, 0, 2);
+    wanted.deliverable = 0;
+    HOLDS(asked.sight() == wanted);
+    make(guard, 2, 4);
+    wanted.deliverable = std::nullopt;
+    HOLDS(asked.sight() != wanted);
+    wanted.unsynced = 0;
+    HOLDS(asked.sight() == wanted);
+    make(guard, 4, 7);
+    HOLDS(!asked.is_acked(0) && asked.keeper(0) == std::nullopt);
+    make(guard, 7, 8);
+    HOLDS(asked.is_acked(0) && asked.keeper(0) == 0U);
+    HOLDS(!asked.is_acked(1) && asked.keeper(UINT32_MAX) == std::nullopt);
+    guard.act("{\"by\":0,\"act\":{\"tick\":{\"ticks\":5}}}");
+    HOLDS(guard.kill(1, Key::Process, "p0", Kind::RebootAndDelete) ==
+          verdict(Kind::RebootAndDelete));
+    HOLDS(asked.keeper(0) == 2U);
+    wanted = Sight();
+    wanted.now = 5;
+    wanted.sleeping = 0;
+    HOLDS(asked.sight() == wanted);
 }
 
 /* Each error that enters nothing. */
@@ -231,6 +307,14 @@ static void assert_closed(Guard &guard)
     THROWS(Closed, guard.act("{}"));
     THROWS(Closed, guard.is_destroyed(0));
     THROWS(Closed, guard.left());
+    THROWS(Closed, guard.destroyed());
+    THROWS(Closed, guard.gone());
+    THROWS(Closed, guard.targets(Key::Process, "p0"));
+    THROWS(Closed, guard.process("p0"));
+    THROWS(Closed, guard.process_count());
+    THROWS(Closed, guard.is_acked(0));
+    THROWS(Closed, guard.keeper(0));
+    THROWS(Closed, guard.sight());
     THROWS(Closed, guard.journal_len());
     THROWS(Closed, guard.entry(0));
     THROWS(Closed, guard.audit());
@@ -328,6 +412,8 @@ int main()
     worked_kill();
     rules();
     refusals();
+    sets();
+    names_and_records();
     errors();
     want_of_memory();
     cluster_files();

@@ -217,6 +217,120 @@ func TestARefusedActIsAnErrorAndStandsInTheJournal(t *testing.T) {
 	refuses(guard.Up(0, 4), faultyard.RefusalGone)
 }
 
+// set is the processes that a question answers.
+func set(t *testing.T, ask func() ([]uint32, error)) []uint32 {
+	t.Helper()
+	found, err := ask()
+	if err != nil {
+		t.Fatal(err)
+	}
+	return found
+}
+
+// targets is whom a kill is about.
+func targets(t *testing.T, guard *faultyard.Guard, key faultyard.Key, value string) []uint32 {
+	t.Helper()
+	return set(t, func() ([]uint32, error) { return guard.Targets(key, value) })
+}
+
+func TestWhomAKillIsAboutAndWhoIsDestroyedAndGone(t *testing.T) {
+	guard := opened(t, six(t))
+	equal(t, targets(t, guard, faultyard.Process, "p3"), []uint32{3})
+	equal(t, targets(t, guard, faultyard.Machine, "m5"), []uint32{5})
+	equal(t, targets(t, guard, faultyard.Zone, "z0"), []uint32{0, 1})
+	equal(t, targets(t, guard, faultyard.DataCenter, "d0"), []uint32{0, 1, 2, 3, 4, 5})
+	equal(t, targets(t, guard, faultyard.DataHall, "d0"), []uint32(nil))
+	for _, value := range []string{"", "-z", "z0\x00"} {
+		_, err := guard.Targets(faultyard.Zone, value)
+		fails(t, err, faultyard.ErrName)
+	}
+	_, err := guard.Targets(6, "")
+	fails(t, err, faultyard.ErrArgument)
+	equal(t, set(t, guard.Destroyed), []uint32(nil))
+	equal(t, set(t, guard.Gone), []uint32(nil))
+	kill(t, guard, 1, faultyard.Order{
+		Key: faultyard.Process, Value: "p1", Kind: faultyard.KillInstantly,
+	})
+	kill(t, guard, 1, faultyard.Order{
+		Key: faultyard.Process, Value: "p0", Kind: faultyard.RebootAndDelete,
+	})
+	equal(t, targets(t, guard, faultyard.Zone, "z0"), []uint32{0})
+	equal(t, set(t, guard.Destroyed), []uint32{0, 1})
+	equal(t, set(t, guard.Gone), []uint32{1})
+	equal(t, guard.Up(0, 0), nil)
+	equal(t, guard.Heal(0, 0), nil)
+	equal(t, set(t, guard.Destroyed), []uint32{1})
+}
+
+func TestProcessesByTheirNames(t *testing.T) {
+	guard := opened(t, six(t))
+	count, err := guard.ProcessCount()
+	equal(t, err, nil)
+	equal(t, count, 6)
+	for number := uint32(0); number < 6; number++ {
+		process, err := guard.Process(fmt.Sprintf("p%d", number))
+		equal(t, err, nil)
+		equal(t, process, number)
+	}
+	for _, name := range []string{"p6", "z0", "p", "", "p0\x00"} {
+		process, err := guard.Process(name)
+		equal(t, err, nil)
+		equal(t, process, faultyard.Nobody)
+	}
+}
+
+// next says what there is to do next.
+func next(t *testing.T, guard *faultyard.Guard, wanted faultyard.Sight) {
+	t.Helper()
+	sight, err := guard.Sight()
+	equal(t, err, nil)
+	equal(t, sight, wanted)
+}
+
+// keeps says whether a record is acknowledged, and who keeps it.
+func keeps(t *testing.T, guard *faultyard.Guard, record uint32, acked bool, wanted uint32) {
+	t.Helper()
+	found, err := guard.IsAcked(record)
+	equal(t, err, nil)
+	equal(t, found, acked)
+	keeper, err := guard.Keeper(record)
+	equal(t, err, nil)
+	equal(t, keeper, wanted)
+}
+
+func TestWhatThereIsToDoUntilARecordIsAcknowledged(t *testing.T) {
+	guard := opened(t, six(t))
+	wanted := faultyard.Sight{
+		Deliverable: faultyard.Nothing, Unsynced: faultyard.Nobody, Sleeping: faultyard.Nobody,
+	}
+	next(t, guard, wanted)
+	act(t, guard, 0, `{"form":{"members":[0,2],"policy":0}}`)
+	act(t, guard, 0, `{"begin":{"payload":"6869","team":0}}`)
+	wanted.Deliverable = 0
+	next(t, guard, wanted)
+	act(t, guard, 0, `{"deliver":{"message":0}}`)
+	act(t, guard, 0, `{"deliver":{"message":1}}`)
+	wanted.Deliverable, wanted.Unsynced = faultyard.Nothing, 0
+	next(t, guard, wanted)
+	act(t, guard, 0, `{"sync":{"process":0}}`)
+	wanted.Deliverable, wanted.Unsynced = 2, 2
+	next(t, guard, wanted)
+	act(t, guard, 0, `{"sync":{"process":2}}`)
+	act(t, guard, 0, `{"deliver":{"message":2}}`)
+	keeps(t, guard, 0, false, faultyard.Nobody)
+	act(t, guard, 0, `{"deliver":{"message":3}}`)
+	keeps(t, guard, 0, true, 0)
+	keeps(t, guard, 1, false, faultyard.Nobody)
+	act(t, guard, 0, `{"tick":{"ticks":5}}`)
+	kill(t, guard, 1, faultyard.Order{
+		Key: faultyard.Process, Value: "p0", Kind: faultyard.RebootAndDelete,
+	})
+	keeps(t, guard, 0, true, 2)
+	next(t, guard, faultyard.Sight{
+		Now: 5, Deliverable: faultyard.Nothing, Unsynced: faultyard.Nobody, Sleeping: 0,
+	})
+}
+
 func TestAnErrorEntersNothing(t *testing.T) {
 	guard := opened(t, sixWith(t, "journal_limit = 1000\n", "journal_limit = 1\n"))
 	good := faultyard.Order{Key: faultyard.Process, Value: "p0", Kind: faultyard.Reboot}
@@ -306,6 +420,22 @@ func assertClosed(t *testing.T, guard *faultyard.Guard) {
 	_, err = guard.IsDestroyed(0)
 	fails(t, err, faultyard.ErrClosed)
 	_, err = guard.Left()
+	fails(t, err, faultyard.ErrClosed)
+	_, err = guard.Destroyed()
+	fails(t, err, faultyard.ErrClosed)
+	_, err = guard.Gone()
+	fails(t, err, faultyard.ErrClosed)
+	_, err = guard.Targets(faultyard.Process, "p0")
+	fails(t, err, faultyard.ErrClosed)
+	_, err = guard.Process("p0")
+	fails(t, err, faultyard.ErrClosed)
+	_, err = guard.ProcessCount()
+	fails(t, err, faultyard.ErrClosed)
+	_, err = guard.IsAcked(0)
+	fails(t, err, faultyard.ErrClosed)
+	_, err = guard.Keeper(0)
+	fails(t, err, faultyard.ErrClosed)
+	_, err = guard.Sight()
 	fails(t, err, faultyard.ErrClosed)
 	_, err = guard.JournalLen()
 	fails(t, err, faultyard.ErrClosed)

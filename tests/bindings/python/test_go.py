@@ -113,7 +113,9 @@ class Go(common.Folder, unittest.TestCase):
         calls = ("Open", "Kill", "Up", "Heal", "Act", "Entry", "Audit")
         wanted = dict.fromkeys(calls, "faultyard: there was no memory")
         wanted["Act"] = "faultyard: the act is made, but its line could not be written"
-        wanted |= dict.fromkeys(("IsDestroyed", "Left", "Close"), "<nil>")
+        wanted["Targets"] = "faultyard: there is no such key, kind or floor"
+        asked = ["IsDestroyed", "Left", "Destroyed", "Gone", "Process", "ProcessCount", "IsAcked"]
+        wanted |= dict.fromkeys([*asked, "Keeper", "Sight", "Close"], "<nil>")
         self.assertEqual(dict(line.split(": ", 1) for line in told.splitlines()), wanted)
 
     def test_the_example_of_its_page_prints_what_the_page_says(self):

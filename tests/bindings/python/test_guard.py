@@ -224,6 +224,10 @@ class GuardTests(common.Folder):
             lambda g: g.act(0, {"up": {"process": 0, "force": 1}}),
             lambda g: g.act(0, {}),
             lambda g: g.is_destroyed(-1),
+            lambda g: g.targets(Key.ZONE, "no name"),
+            lambda g: g.targets("rack", "z0"),
+            lambda g: g.process(""),
+            lambda g: g.process(0),
         ]
         guard = self.guard()
         for number, make in enumerate(bad):
@@ -317,6 +321,33 @@ class GuardTests(common.Folder):
         self.assertEqual([guard.is_destroyed(p) for p in range(3)], [True, True, False])
         self.assertEqual(guard.left(), frozenset(range(1, 6)))
 
+    def test_whom_a_kill_is_about(self):
+        guard = self.guard()
+        places = {
+            (Key.PROCESS, "p3"): {3},
+            (Key.MACHINE, "m5"): {5},
+            (Key.ZONE, "z0"): {0, 1},
+            (Key.DATA_CENTER, "d0"): set(range(6)),
+            (Key.DATA_HALL, "d0"): set(),
+            (Key.ZONE, "z3"): set(),
+        }
+        for (key, value), wanted in places.items():
+            self.assertEqual(guard.targets(key, value), wanted)
+        self.assertEqual((guard.destroyed(), guard.gone()), (set(), set()))
+        guard.kill(Key.PROCESS, "p1", Kind.KILL_INSTANTLY, by=1)
+        guard.kill(Key.PROCESS, "p0", Kind.REBOOT_AND_DELETE, by=1)
+        self.assertEqual(guard.targets(Key.ZONE, "z0"), {0})
+        self.assertEqual((guard.destroyed(), guard.gone()), ({0, 1}, {1}))
+        guard.up(0, by=0)
+        guard.heal(0, by=0)
+        self.assertEqual((guard.destroyed(), guard.gone()), ({1}, {1}))
+
+    def test_processes_by_their_names(self):
+        guard = self.guard()
+        self.assertEqual(guard.process_count(), 6)
+        self.assertEqual([guard.process(f"p{number}") for number in range(6)], list(range(6)))
+        self.assertEqual([guard.process(name) for name in ("p6", "z0", "p")], [None] * 3)
+
     def test_eight_threads_share_a_guard_and_each_gets_its_own_answers(self):
         config = common.eight_actors(self.folder)
         guard = self.guard(config)
@@ -359,7 +390,10 @@ class GuardTests(common.Folder):
         with Guard(common.SIX, transport=self.transport) as guard:
             guard.tick(1, by=0)
         guard.close()
-        for make in (lambda: guard.tick(1, by=0), lambda: guard.is_destroyed(0), guard.left):
+        asked = [guard.left, guard.destroyed, guard.gone, guard.process_count]
+        asked += [lambda: guard.is_destroyed(0), lambda: guard.process("p0")]
+        asked += [lambda: guard.targets(Key.ZONE, "z0"), lambda: guard.tick(1, by=0)]
+        for make in asked:
             with self.assertRaises(faultyard.GuardClosed):
                 make()
         self.assertEqual(guard.journal_len(), 1)

@@ -29,7 +29,23 @@ TYPES = {
     "fy_guard": library._Guard,
     "fy_guard *": ctypes.POINTER(library._Guard),
     "const fy_guard *": ctypes.POINTER(library._Guard),
+    "fy_seen *": ctypes.POINTER(library._Seen),
 }
+
+
+class MemoryCounts(ctypes.Structure):
+    """`mallinfo2` of glibc."""
+
+    _names = "arena ordblks smblks hblks hblkhd usmblks fsmblks uordblks fordblks keepcost"
+    _fields_ = [(name, ctypes.c_size_t) for name in _names.split()]
+
+
+def in_use():
+    """How many bytes that were asked of malloc aren't given back."""
+    count = ctypes.CDLL(None).mallinfo2
+    count.restype = MemoryCounts
+    told = count()
+    return told.uordblks + told.hblkhd
 
 
 def types(words):
@@ -48,9 +64,16 @@ def declared():
 class Table(unittest.TestCase):
     def test_each_call_is_declared_so(self):
         there = declared()
-        self.assertGreaterEqual(len(there), 10)
+        # The version of the library isn't asked for.
+        self.assertEqual(set(library.CALLS), set(there) - {"fy_version"})
         for name, call in library.CALLS.items():
             self.assertEqual(call, there[name], name)
+
+    def test_each_field_is_the_headers(self):
+        body = re.search(r"^typedef struct fy_seen {(.*?)^}", HEADER, re.M | re.S)[1]
+        found = re.findall(r"^    (\w+) (\w+);", body, re.M)
+        self.assertEqual(library._Seen._fields_, [(name, TYPES[its]) for its, name in found])
+        self.assertEqual(len(found), 4)
 
     def test_each_number_is_the_headers(self):
         statuses = dict(re.findall(r"^    FY_(\w+) = (\d+),", HEADER, re.M))
@@ -70,6 +93,9 @@ class Table(unittest.TestCase):
         defined = dict(re.findall(r"^#define FY_(\w+) (\d+)$", HEADER, re.M))
         self.assertEqual(library.MOST_REPLY, int(defined["MOST_REPLY"]))
         self.assertEqual(library.SET_WORDS, int(defined["SET_WORDS"]))
+        greatest = dict(re.findall(r"^#define FY_(\w+) UINT(\d+)_MAX$", HEADER, re.M))
+        self.assertEqual(library.NOBODY, 2 ** int(greatest["NOBODY"]) - 1)
+        self.assertEqual(library.NOTHING, 2 ** int(greatest["NOTHING"]) - 1)
 
     def test_a_library_that_is_none(self):
         with self.assertRaises(FileNotFoundError) as caught:
@@ -104,23 +130,44 @@ class InThisProcess(common.Folder, unittest.TestCase):
             )
             self.assertEqual(ran.returncode, status, ran.stderr)
 
-    def test_its_thread_ends_with_it(self):
+    def test_it_starts_no_thread(self):
         before = threading.active_count()
         with self.guard() as guard:
-            self.assertEqual(threading.active_count(), before + 1)
             guard.tick(1, by=0)
-        self.assertEqual(threading.active_count(), before)
-        with self.assertRaises(faultyard.ConfigRefused):
-            self.guard(common.written(self.folder, "bad.toml", "="))
-        self.assertEqual(threading.active_count(), before)
+            self.assertEqual(threading.active_count(), before)
 
-    def test_a_guard_that_nobody_closed_is_freed(self):
-        before = threading.active_count()
-        guard = self.guard()
-        guard.tick(1, by=0)
-        del guard
-        gc.collect()
-        self.assertEqual(threading.active_count(), before)
+    def test_a_guard_moves_between_threads(self):
+        made = []
+        calls = [
+            lambda: made.append(self.guard()),
+            lambda: made[0].tick(1, by=0),
+            lambda: made[0].close(),
+        ]
+        for call in calls:
+            thread = threading.Thread(target=call)
+            thread.start()
+            thread.join(60)
+        self.assertEqual(made[0].journal_len(), 1)
+        self.assertEqual(faultyard.check(common.SIX, made[0].audit()), 1)
+
+    def test_a_guard_is_freed_closed_or_not(self):
+        config = common.six_with(self.folder, 2_000)
+
+        def play(closes):
+            guard = self.guard(config)
+            for _ in range(2_000):
+                guard.tick(1, by=0)
+            if closes:
+                guard.close()
+
+        for closes in (True, False):
+            play(closes)
+            gc.collect()
+            before = in_use()
+            for _ in range(5):
+                play(closes)
+                gc.collect()
+                self.assertLess(in_use() - before, 100_000)
 
     def test_the_end_of_the_interpreter_waits_for_nothing(self):
         text = (
@@ -155,6 +202,35 @@ class InThisProcess(common.Folder, unittest.TestCase):
             self.assertGreater(len(guard.audit().splitlines()[2]), 512)
             self.assertEqual(entry.act["begin"]["payload"], "00" * 256)
         self.assertEqual(faultyard.check(common.SIX, guard.audit()), 3)
+
+    def test_what_there_is_to_do_until_a_record_is_acknowledged(self):
+        with self.guard() as guard:
+            self.assertEqual(guard.sight(), faultyard.Sight(0, None, None, None))
+            guard.form([0, 2], 0, by=0)
+            guard.begin(0, b"hi", by=0)
+            # Messages 0 and 1 store the record at p0 and p2; 2 and 3 answer that it is synced.
+            self.assertEqual(guard.sight(), faultyard.Sight(0, 0, None, None))
+            guard.deliver(0, by=0)
+            guard.deliver(1, by=0)
+            self.assertEqual(guard.sight(), faultyard.Sight(0, None, 0, None))
+            guard.sync(0, by=0)
+            self.assertEqual(guard.sight(), faultyard.Sight(0, 2, 2, None))
+            guard.sync(2, by=0)
+            guard.deliver(2, by=0)
+            self.assertEqual((guard.is_acked(0), guard.keeper(0)), (False, None))
+            guard.deliver(3, by=0)
+            self.assertEqual((guard.is_acked(0), guard.keeper(0)), (True, 0))
+            self.assertEqual((guard.is_acked(1), guard.keeper(2**32 - 1)), (False, None))
+            guard.tick(5, by=0)
+            guard.kill(faultyard.Key.PROCESS, "p0", faultyard.Kind.REBOOT_AND_DELETE, by=1)
+            self.assertEqual((guard.is_acked(0), guard.keeper(0)), (True, 2))
+            self.assertEqual(guard.sight(), faultyard.Sight(5, None, None, 0))
+            for ask in (guard.is_acked, guard.keeper):
+                with self.assertRaises(faultyard.InvalidAct):
+                    ask(-1)
+        for ask in (guard.sight, lambda: guard.is_acked(0), lambda: guard.keeper(0)):
+            with self.assertRaises(faultyard.GuardClosed):
+                ask()
 
     def test_two_guards_have_nothing_in_common(self):
         with self.guard() as one, self.guard() as other:

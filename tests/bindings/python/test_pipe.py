@@ -208,9 +208,19 @@ class PipeTest(common.Folder, unittest.TestCase):
         with Guard(common.SIX) as guard, mock.patch.dict(
             sys.modules, {"tomllib": None, "tomli": None}
         ):
-            for ask in (lambda: guard.is_destroyed(0), guard.left):
+            asked = [guard.left, guard.destroyed, guard.gone, guard.process_count]
+            asked += [lambda: guard.is_destroyed(0), lambda: guard.process("p0")]
+            asked += [lambda: guard.targets(faultyard.Key.ZONE, "z0")]
+            for ask in asked:
                 with self.assertRaises(faultyard.NotOffered):
                     ask()
+
+    def test_what_the_pipe_does_not_answer(self):
+        with Guard(common.SIX) as guard:
+            for ask in (lambda: guard.is_acked(0), lambda: guard.keeper(0), guard.sight):
+                with self.assertRaises(faultyard.NotOffered):
+                    ask()
+            self.assertEqual(guard.tick(1, by=0), 1)
 
     def test_an_audit_that_check_does_not_confirm(self):
         with Guard(common.SIX) as guard:

@@ -41,6 +41,7 @@ from .replies import (
     Time,
     Verdict,
 )
+from .transport import Sight
 
 __all__ = [
     "ActRefused",
@@ -69,6 +70,7 @@ __all__ = [
     "Rule",
     "Ruling",
     "Sent",
+    "Sight",
     "Stored",
     "Synced",
     "Time",

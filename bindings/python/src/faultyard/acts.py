@@ -8,7 +8,7 @@ from __future__ import annotations
 import json
 import operator
 import re
-from typing import Any, Callable, Dict, Iterable, List, Mapping, Type, TypeVar, Union
+from typing import Any, Callable, Dict, Iterable, List, Mapping, Tuple, Type, TypeVar, Union
 
 from .enums import Key, Kind
 from .errors import InvalidAct
@@ -61,6 +61,11 @@ def _name(value: Any) -> str:
     if not isinstance(value, str) or not _NAME.match(value):
         raise InvalidAct(f"no name of 1 to 32 characters A-Z a-z 0-9 _ -: {value!r}")
     return value
+
+
+def target(key: Any, value: Any) -> Tuple[str, str]:
+    """The key and the value of a target as an audit writes them, or `InvalidAct`."""
+    return _key(key), _name(value)
 
 
 def _ordered(value: Any) -> str:

@@ -73,7 +73,7 @@ class ProtocolError(FaultyardError):
 
 
 class NotOffered(FaultyardError, NotImplementedError):
-    """This transport can't answer the question on this Python."""
+    """This transport can't answer the question, or not on this Python."""
 
 
 class AuditRefused(FaultyardError, ValueError):

@@ -15,7 +15,7 @@ from .pipe import Pipe
 from .programs import StrPath
 from .replies import Begun, Done, Entry, Formed, Marked, Refused, Ruling, Sent, Stored, Synced
 from .replies import Time, Verdict, read_entry
-from .transport import Transport
+from .transport import Sight, Transport
 
 _Reply = TypeVar("_Reply")
 
@@ -219,6 +219,26 @@ class Guard:
 
     # Questions.
 
+    def process(self, name: str) -> Optional[int]:
+        """The number of the process with this name; over the pipe as for `is_destroyed`."""
+        _, name = acts.target(Key.PROCESS, name)
+        with self._lock:
+            return self._at_work().process(name)
+
+    def process_count(self) -> int:
+        """How many processes there are, numbered from 0; over the pipe as for `is_destroyed`."""
+        with self._lock:
+            return self._at_work().process_count()
+
+    def targets(self, key: Key, value: str) -> FrozenSet[int]:
+        """Whom a kill is about: the processes that have the value and aren't gone for good.
+
+        Ask before the kill, which may be for good. Over the pipe as for `is_destroyed`.
+        """
+        word, value = acts.target(key, value)
+        with self._lock:
+            return self._at_work().targets(word, value)
+
     def is_destroyed(self, process: int) -> bool:
         """Whether a process was emptied or killed for good, and not healed since.
 
@@ -233,6 +253,37 @@ class Guard:
         """The processes that aren't gone for good; over the pipe as for `is_destroyed`."""
         with self._lock:
             return self._at_work().left()
+
+    def destroyed(self) -> FrozenSet[int]:
+        """The processes that are destroyed, gone or not; over the pipe as for `is_destroyed`."""
+        with self._lock:
+            return self._at_work().destroyed()
+
+    def gone(self) -> FrozenSet[int]:
+        """The processes that are gone for good; over the pipe as for `is_destroyed`."""
+        with self._lock:
+            return self._at_work().gone()
+
+    def is_acked(self, record: int) -> bool:
+        """Whether a record is acknowledged. Over the pipe it raises `NotOffered`."""
+        record = acts.number(record)
+        with self._lock:
+            return self._at_work().is_acked(record)
+
+    def keeper(self, record: int) -> Optional[int]:
+        """Who keeps an acknowledged record; `None` for any other record.
+
+        It is the least member of its team that isn't destroyed and has the record synced. Over the
+        pipe it raises `NotOffered`.
+        """
+        record = acts.number(record)
+        with self._lock:
+            return self._at_work().keeper(record)
+
+    def sight(self) -> Sight:
+        """The time, and what there is to do next. Over the pipe it raises `NotOffered`."""
+        with self._lock:
+            return self._at_work().sight()
 
     def journal_len(self) -> int:
         """How many entries the journal has."""

@@ -5,8 +5,7 @@ from __future__ import annotations
 import ctypes as c
 import os
 import weakref
-from concurrent.futures import ThreadPoolExecutor
-from typing import Any, Callable, Dict, FrozenSet, List, Mapping, Optional, Tuple, TypeVar
+from typing import Any, Dict, FrozenSet, Iterable, List, Mapping, Optional, Tuple
 
 from .acts import line
 from .enums import Key, Kind, Rule
@@ -14,9 +13,7 @@ from .errors import ConfigRefused, FaultyardError, GuardClosed, JournalFull, Not
 from .errors import OutOfMemory, ProtocolError
 from .programs import StrPath
 from .replies import Done, Reply, Verdict, read_entry
-from .transport import HEADER, Transport
-
-_Answer = TypeVar("_Answer")
+from .transport import HEADER, Sight, Transport
 
 NAMES = ("libfaultyard.so.1", "libfaultyard.so")
 """What the system's loader is asked for."""
@@ -28,7 +25,18 @@ class _Guard(c.Structure):
     _fields_ = [("at", c.c_void_p)]
 
 
-_guard = c.POINTER(_Guard)
+class _Seen(c.Structure):
+    """`fy_seen`."""
+
+    _fields_ = [
+        ("now", c.c_uint64),
+        ("deliverable", c.c_uint64),
+        ("unsynced", c.c_uint32),
+        ("sleeping", c.c_uint32),
+    ]
+
+
+_guard, _seen = c.POINTER(_Guard), c.POINTER(_Seen)
 _u32, _u32_out = c.c_uint32, c.POINTER(c.c_uint32)
 _u64, _u64_out = c.c_uint64, c.POINTER(c.c_uint64)
 _size, _size_out = c.c_size_t, c.POINTER(c.c_size_t)
@@ -44,8 +52,16 @@ CALLS: Dict[str, Tuple[Any, List[Any]]] = {
     "fy_up": (_u32, [_guard, _u32, _u32, _u32_out]),
     "fy_heal": (_u32, [_guard, _u32, _u32, _u32_out]),
     "fy_act": (_u32, [_guard, _bytes, _size, _bytes, _size, _size_out]),
+    "fy_process": (_u32, [_guard, _bytes, _size]),
+    "fy_process_count": (_u32, [_guard]),
+    "fy_targets": (_u32, [_guard, _u32, _bytes, _size, _u64_out, _size]),
     "fy_is_destroyed": (_u32, [_guard, _u32]),
     "fy_left": (None, [_guard, _u64_out, _size]),
+    "fy_destroyed_set": (None, [_guard, _u64_out, _size]),
+    "fy_gone_set": (None, [_guard, _u64_out, _size]),
+    "fy_is_acked": (_u32, [_guard, _u32]),
+    "fy_keeper": (_u32, [_guard, _u32]),
+    "fy_sight": (None, [_guard, _seen]),
     "fy_journal_len": (_size, [_guard]),
     "fy_audit": (_u32, [_guard, _size, _bytes, _size, _size_out]),
 }
@@ -55,6 +71,8 @@ CALLS: Dict[str, Tuple[Any, List[Any]]] = {
 DONE, NO_MEMORY, JOURNAL_FULL, REFUSED, SHORT, UNWRITTEN = range(6)
 MOST_REPLY = 128
 SET_WORDS = 16
+NOBODY = 2**32 - 1
+NOTHING = 2**64 - 1
 CONFIG_FAULTS = {
     12: "config: TooLong",
     13: "config: Toml",
@@ -106,19 +124,26 @@ def _require(status: int) -> None:
         raise _error(status)
 
 
-def _free(owner: ThreadPoolExecutor, library: c.CDLL, guard: _Guard, opener: int) -> None:
-    """Frees a guard on its thread, which then ends. In a forked child neither is there."""
-    if os.getpid() == opener:
-        owner.submit(library.fy_close, guard).result()
-        owner.shutdown()
+def _processes(words: Iterable[int]) -> FrozenSet[int]:
+    """The processes of a set of the library."""
+    numbered = enumerate(words)
+    return frozenset(64 * at + bit for at, word in numbered for bit in range(64) if word >> bit & 1)
+
+
+def _somebody(process: int) -> Optional[int]:
+    """The process with this number, or none for `FY_NOBODY`."""
+    return None if process == NOBODY else process
+
+
+def _free(library: c.CDLL, guard: _Guard, opener: int) -> None:
+    """Frees an open guard. A forked child leaves its parent's guard alone."""
+    if guard.at is not None and os.getpid() == opener:
+        library.fy_close(guard)
+        guard.at = None
 
 
 class Library(Transport):
-    """A guard of libfaultyard.
-
-    Such a guard stays on the thread that opened it. So it has a thread of its own, and each call
-    of any thread is made there.
-    """
+    """A guard of libfaultyard, called by whichever thread has its turn."""
 
     def __init__(self, config: StrPath, library: Optional[StrPath]) -> None:
         with open(config, "rb") as file:
@@ -126,89 +151,102 @@ class Library(Transport):
         self._library = load(library)
         self._guard = _Guard()
         self._closed_with: Optional[bytes] = None
-        self._owner = ThreadPoolExecutor(1, "faultyard")
-        try:
-            self._on_owner(lambda: _require(self._library.fy_open(text, len(text), self._guard)))
-        except BaseException:
-            self._owner.shutdown()
-            raise
-        words = (self._owner, self._library, self._guard, os.getpid())
-        self._finalizer = weakref.finalize(self, _free, *words)
-        # By then the interpreter has ended the thread, and the memory goes with the process.
+        self._finalizer = weakref.finalize(self, _free, self._library, self._guard, os.getpid())
+        # At the end of the interpreter the memory goes with the process.
         self._finalizer.atexit = False
+        _require(self._library.fy_open(text, len(text), self._guard))
 
-    def _on_owner(self, call: Callable[[], _Answer]) -> _Answer:
-        try:
-            made = self._owner.submit(call)
-        except RuntimeError as fault:
-            raise GuardClosed("the thread of the guard has ended") from fault
-        return made.result()
+    def _opened(self) -> _Guard:
+        """The guard, which the library asks to be open."""
+        if self._guard.at is None:
+            raise GuardClosed("the guard is closed")
+        return self._guard
 
     def exchange(self, text: bytes) -> bytes:
-        return self._on_owner(lambda: self._act(text))
+        # Without its line feed, which the library would count as a byte of the line.
+        text = text.rstrip(b"\n")
+        buffer, told = c.create_string_buffer(len(text) + MOST_REPLY), _size()
+        status = self._library.fy_act(self._opened(), text, len(text), buffer, len(buffer), told)
+        if status == UNWRITTEN:
+            return self._entry(self.journal_len() - 1)
+        _require(status)
+        return buffer.raw[: told.value]
 
     def reply(self, by: int, name: str, members: Mapping[str, Any]) -> Reply:
         if name == "kill":
-            return self._on_owner(lambda: self._kill(by, members))
+            return self._kill(by, members)
         if name in ("up", "heal"):
-            return self._on_owner(lambda: self._report(f"fy_{name}", by, members["process"]))
+            return self._report(f"fy_{name}", by, members["process"])
         return read_entry(self.exchange(line(by, name, members))).reply
 
     def is_destroyed(self, process: int) -> bool:
-        return self._on_owner(lambda: int(self._library.fy_is_destroyed(self._guard, process))) != 0
+        return int(self._library.fy_is_destroyed(self._opened(), process)) != 0
 
     def left(self) -> FrozenSet[int]:
-        words = self._on_owner(self._left)
-        return frozenset(
-            64 * at + bit for at, word in enumerate(words) for bit in range(64) if word >> bit & 1
-        )
+        return self._set(self._library.fy_left)
+
+    def destroyed(self) -> FrozenSet[int]:
+        return self._set(self._library.fy_destroyed_set)
+
+    def gone(self) -> FrozenSet[int]:
+        return self._set(self._library.fy_gone_set)
+
+    def targets(self, key: str, value: str) -> FrozenSet[int]:
+        words, text = (_u64 * SET_WORDS)(), value.encode()
+        target = (KEYS[key], text, len(text))
+        _require(self._library.fy_targets(self._opened(), *target, words, SET_WORDS))
+        return _processes(words)
+
+    def process(self, name: str) -> Optional[int]:
+        text = name.encode()
+        return _somebody(self._library.fy_process(self._opened(), text, len(text)))
+
+    def process_count(self) -> int:
+        return int(self._library.fy_process_count(self._opened()))
+
+    def is_acked(self, record: int) -> bool:
+        return int(self._library.fy_is_acked(self._opened(), record)) != 0
+
+    def keeper(self, record: int) -> Optional[int]:
+        return _somebody(self._library.fy_keeper(self._opened(), record))
+
+    def sight(self) -> Sight:
+        seen = _Seen()
+        self._library.fy_sight(self._opened(), seen)
+        message = None if seen.deliverable == NOTHING else seen.deliverable
+        return Sight(seen.now, message, _somebody(seen.unsynced), _somebody(seen.sleeping))
 
     def journal_len(self) -> int:
         if self._closed_with is not None:
             return self._closed_with.count(b"\n") - 1
-        return self._on_owner(self._length)
+        return int(self._library.fy_journal_len(self._opened()))
 
     def audit(self) -> bytes:
         if self._closed_with is not None:
             return self._closed_with
-        return self._on_owner(self._read_audit)
+        return HEADER + b"".join(self._entry(at) for at in range(self.journal_len()))
 
     def close(self) -> None:
         try:
-            self._closed_with = self._on_owner(self._read_audit)
+            self._closed_with = self.audit()
         finally:
             self._finalizer()
 
-    # Below: what is called on the guard's own thread.
+    # Below: the calls of the library that take a buffer or more than one answer.
 
-    def _length(self) -> int:
-        return int(self._library.fy_journal_len(self._guard))
-
-    def _left(self) -> List[int]:
+    def _set(self, call: Any) -> FrozenSet[int]:
+        """The set that a call of the library writes."""
         words = (_u64 * SET_WORDS)()
-        self._library.fy_left(self._guard, words, SET_WORDS)
-        return list(words)
-
-    def _read_audit(self) -> bytes:
-        return HEADER + b"".join(self._entry(at) for at in range(self._length()))
+        call(self._opened(), words, SET_WORDS)
+        return _processes(words)
 
     def _entry(self, at: int) -> bytes:
         """The line of an entry."""
         buffer, told = c.create_string_buffer(512), _size()
-        status = self._library.fy_audit(self._guard, at, buffer, len(buffer), told)
+        status = self._library.fy_audit(self._opened(), at, buffer, len(buffer), told)
         if status == SHORT:
             buffer = c.create_string_buffer(told.value)
-            status = self._library.fy_audit(self._guard, at, buffer, len(buffer), told)
-        _require(status)
-        return buffer.raw[: told.value]
-
-    def _act(self, text: bytes) -> bytes:
-        # Without its line feed, which the library would count as a byte of the line.
-        text = text.rstrip(b"\n")
-        buffer, told = c.create_string_buffer(len(text) + MOST_REPLY), _size()
-        status = self._library.fy_act(self._guard, text, len(text), buffer, len(buffer), told)
-        if status == UNWRITTEN:
-            return self._entry(self._length() - 1)
+            status = self._library.fy_audit(self._opened(), at, buffer, len(buffer), told)
         _require(status)
         return buffer.raw[: told.value]
 
@@ -217,7 +255,7 @@ class Library(Transport):
         kind, floor = KINDS[order["kind"]], KINDS[order["floor"]]
         struck, rule, named = _u32(), _u32(), _u64()
         status = self._library.fy_kill(
-            self._guard,
+            self._opened(),
             by,
             KEYS[order["key"]],
             value,
@@ -237,7 +275,7 @@ class Library(Transport):
         return Verdict(STRUCK[struck.value], barred, number)
 
     def _report(self, call: str, by: int, process: int) -> Reply:
-        status = getattr(self._library, call)(self._guard, by, process, _u32())
+        status = getattr(self._library, call)(self._opened(), by, process, _u32())
         if status == REFUSED:
             return self._last_reply()
         _require(status)
@@ -245,4 +283,4 @@ class Library(Transport):
 
     def _last_reply(self) -> Reply:
         """The reply of the last entry, whose refusal names what the call's answer doesn't."""
-        return read_entry(self._entry(self._length() - 1)).reply
+        return read_entry(self._entry(self.journal_len() - 1)).reply

@@ -1,9 +1,9 @@
-"""Who is destroyed and who is gone, followed from the entries of a journal."""
+"""Who is destroyed, who is gone and whom a target names, followed from the entries of a journal."""
 
 from __future__ import annotations
 
 import importlib
-from typing import Any, List, Mapping, Set
+from typing import Any, FrozenSet, List, Mapping, Optional, Set
 
 from .enums import Key, Kind
 from .errors import NotOffered
@@ -51,11 +51,20 @@ class Losses:
         if not kind.empties_disk:
             return
         # Who is gone isn't struck, but is destroyed already and never healed.
-        targets = {
-            process
-            for process, place in enumerate(self._places)
-            if place.get(order["key"]) == order["value"]
-        }
-        self.destroyed |= targets
+        struck = self._having(order["key"], order["value"])
+        self.destroyed |= struck
         if kind.is_final:
-            self.gone |= targets
+            self.gone |= struck
+
+    def _having(self, key: str, value: str) -> FrozenSet[int]:
+        """The processes whose key has the value, gone or not."""
+        numbered = enumerate(self._places)
+        return frozenset(process for process, place in numbered if place.get(key) == value)
+
+    def targets(self, key: str, value: str) -> FrozenSet[int]:
+        """The processes that have the value and aren't gone."""
+        return self._having(key, value) - self.gone
+
+    def process(self, name: str) -> Optional[int]:
+        """The number of the process with a name."""
+        return next(iter(self._having(Key.PROCESS.value, name)), None)

@@ -11,11 +11,11 @@ import weakref
 from typing import FrozenSet, List, Optional
 
 from .errors import ConfigRefused, FaultyardError, GuardEnded, JournalFull, OutOfMemory
-from .errors import ProtocolError
+from .errors import NotOffered, ProtocolError
 from .losses import Losses
 from .programs import StrPath, find_program
 from .replies import read_entry
-from .transport import HEADER, Transport
+from .transport import HEADER, Sight, Transport
 
 PATIENCE = 10.0
 """How many seconds a guard may take to end once its input is closed."""
@@ -94,12 +94,36 @@ class Pipe(Transport):
         self._audit.append(answer)
         return answer
 
+    def process(self, name: str) -> Optional[int]:
+        return self._follow().process(name)
+
+    def process_count(self) -> int:
+        return len(self._follow())
+
+    def targets(self, key: str, value: str) -> FrozenSet[int]:
+        return self._follow().targets(key, value)
+
     def is_destroyed(self, process: int) -> bool:
         return process in self._follow().destroyed
 
     def left(self) -> FrozenSet[int]:
         losses = self._follow()
         return frozenset(range(len(losses))) - losses.gone
+
+    def destroyed(self) -> FrozenSet[int]:
+        return frozenset(self._follow().destroyed)
+
+    def gone(self) -> FrozenSet[int]:
+        return frozenset(self._follow().gone)
+
+    def is_acked(self, record: int) -> bool:
+        raise NotOffered("is_acked asks for the transport 'library'")
+
+    def keeper(self, record: int) -> Optional[int]:
+        raise NotOffered("keeper asks for the transport 'library'")
+
+    def sight(self) -> Sight:
+        raise NotOffered("sight asks for the transport 'library'")
 
     def _follow(self) -> Losses:
         """Reads the entries since the last question."""

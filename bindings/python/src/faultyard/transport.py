@@ -3,13 +3,28 @@
 from __future__ import annotations
 
 from abc import ABC, abstractmethod
-from typing import Any, FrozenSet, Mapping
+from dataclasses import dataclass
+from typing import Any, FrozenSet, Mapping, Optional
 
 from .acts import line
 from .replies import Reply, read_entry
 
 HEADER = b'{"audit":2}\n'
 """The first line of an audit."""
+
+
+@dataclass(frozen=True)
+class Sight:
+    """The time, and what there is to do next in the simulated cluster."""
+
+    now: int
+    """The time, in ticks."""
+    deliverable: Optional[int]
+    """The least message that a `deliver` would accept now."""
+    unsynced: Optional[int]
+    """The least process that is up and has unsynced writes."""
+    sleeping: Optional[int]
+    """The least process that is neither up nor gone."""
 
 
 class Transport(ABC):
@@ -24,12 +39,44 @@ class Transport(ABC):
         return read_entry(self.exchange(line(by, name, members))).reply
 
     @abstractmethod
+    def process(self, name: str) -> Optional[int]:
+        """The number of the process with a name."""
+
+    @abstractmethod
+    def process_count(self) -> int:
+        """How many processes there are."""
+
+    @abstractmethod
+    def targets(self, key: str, value: str) -> FrozenSet[int]:
+        """The processes that have the value and aren't gone for good."""
+
+    @abstractmethod
     def is_destroyed(self, process: int) -> bool:
         """Whether a process was emptied or killed for good, and not healed since."""
 
     @abstractmethod
     def left(self) -> FrozenSet[int]:
         """The processes that aren't gone for good."""
+
+    @abstractmethod
+    def destroyed(self) -> FrozenSet[int]:
+        """The processes that are destroyed, gone for good or not."""
+
+    @abstractmethod
+    def gone(self) -> FrozenSet[int]:
+        """The processes that are gone for good."""
+
+    @abstractmethod
+    def is_acked(self, record: int) -> bool:
+        """Whether a record is acknowledged."""
+
+    @abstractmethod
+    def keeper(self, record: int) -> Optional[int]:
+        """The member that keeps an acknowledged record."""
+
+    @abstractmethod
+    def sight(self) -> Sight:
+        """The time, and what there is to do next."""
 
     @abstractmethod
     def journal_len(self) -> int:

@@ -99,7 +99,7 @@ fn bug(name: &str) -> Option<Bug> {
     }
 }
 
-/// Runs all seeds. A guard stays on its thread, so each thread opens those of its seeds.
+/// Runs all seeds; each thread takes the next one.
 fn run(options: &Options) -> Vec<Outcome> {
     let next = AtomicU64::new(options.first);
     let end = options.first + options.seeds;

@@ -3,7 +3,7 @@
 use crate::random::Random;
 use crate::store::{Data, Effect, Entry, Message, Node, Role, NODES};
 use crate::Bug;
-use faultyard::{Error, Key, Kind, LocalGuard};
+use faultyard::{Error, Guard, Key, Kind};
 use std::collections::BTreeMap;
 
 const CLUSTER: &str = include_str!("cluster.toml");
@@ -105,14 +105,14 @@ pub struct World {
     disks: u64,
     /// Whether each write of the client is acknowledged.
     writes: Vec<bool>,
-    guard: Option<LocalGuard>,
+    guard: Option<Guard>,
     bug: Bug,
     outcome: Outcome,
 }
 
 impl World {
     pub fn new(seed: u64, is_guarded: bool, bug: Bug) -> World {
-        let guard = is_guarded.then(|| LocalGuard::open(CLUSTER).expect("a cluster file"));
+        let guard = is_guarded.then(|| Guard::open(CLUSTER).expect("a cluster file"));
         let mut world = World {
             now: 0,
             queue: BTreeMap::new(),
@@ -150,7 +150,7 @@ impl World {
         }
         self.judge();
         if keeps_audit {
-            let audit = self.guard.as_ref().map(LocalGuard::audit);
+            let audit = self.guard.as_ref().map(Guard::audit);
             self.outcome.audit = audit.map(|it| it.expect("memory for the audit"));
         }
         self.outcome
@@ -305,7 +305,7 @@ impl World {
     }
 
     /// Tells the guard what became of a process. A refusal says that guard and simulator disagree.
-    fn report(&mut self, tell: impl FnOnce(&mut LocalGuard) -> Result<(), Error>) {
+    fn report(&mut self, tell: impl FnOnce(&mut Guard) -> Result<(), Error>) {
         if let Some(guard) = &mut self.guard {
             tell(guard).expect("guard and simulator agree");
         }

@@ -69,10 +69,56 @@ uint32_t fy_is_destroyed(const fy_guard *guard, uint32_t process)
     return 0;
 }
 
-void fy_left(const fy_guard *guard, uint64_t *left, size_t words)
+void fy_left(const fy_guard *guard, uint64_t *set, size_t words)
 {
     require_turn();
-    memset(left, 0, words * sizeof *left);
+    memset(set, 0, words * sizeof *set);
+}
+
+void fy_destroyed_set(const fy_guard *guard, uint64_t *set, size_t words)
+{
+    fy_left(guard, set, words);
+}
+
+void fy_gone_set(const fy_guard *guard, uint64_t *set, size_t words)
+{
+    fy_left(guard, set, words);
+}
+
+uint32_t fy_targets(const fy_guard *guard, uint32_t key, const uint8_t *value, size_t value_length,
+                    uint64_t *set, size_t words)
+{
+    fy_left(guard, set, words);
+    return FY_ARGUMENT;
+}
+
+uint32_t fy_process(const fy_guard *guard, const uint8_t *name, size_t name_length)
+{
+    require_turn();
+    return FY_NOBODY;
+}
+
+uint32_t fy_process_count(const fy_guard *guard)
+{
+    require_turn();
+    return 0;
+}
+
+uint32_t fy_is_acked(const fy_guard *guard, uint32_t record)
+{
+    return fy_is_destroyed(guard, record);
+}
+
+uint32_t fy_keeper(const fy_guard *guard, uint32_t record)
+{
+    require_turn();
+    return FY_NOBODY;
+}
+
+void fy_sight(const fy_guard *guard, fy_seen *seen)
+{
+    require_turn();
+    memset(seen, 0, sizeof *seen);
 }
 
 size_t fy_journal_len(const fy_guard *guard)

@@ -1,64 +1,19 @@
 //! Plays acts on guards, for tests/bindings/python/test_rust.py, and writes an audit.
 //!
-//!     play local CONFIG < ACTS     on a `LocalGuard`
-//!     play moved CONFIG < ACTS     on a `Guard`, each hundred acts in another thread
+//!     play alone CONFIG < ACTS     on a guard in one thread
+//!     play moved CONFIG < ACTS     on a guard, each hundred acts in another thread
 //!     play apart CONFIG < ACTS     on eight guards in eight threads at once: all audits are one
 //!     play shared CONFIG < ACTS    on one guard behind a mutex, by eight threads in any order
 //!
 //! A line of ACTS is a line of a script, or `kill`, `up` or `heal` with its numbers behind tabs. Each
 //! answer is held against its entry in the journal.
 
-use faultyard::{Error, Guard, Key, Kind, LocalGuard, Verdict};
+use faultyard::{Error, Guard, Key, Kind, Verdict};
 use std::io::Read;
 use std::sync::Mutex;
 use std::{env, fs, io, thread};
 
 const THREADS: usize = 8;
-
-/// What both kinds of guard do.
-trait Guarded {
-    fn kill(&mut self, actor: u32, order: &Order) -> Result<Verdict, Error>;
-    fn up(&mut self, actor: u32, process: u32) -> Result<(), Error>;
-    fn heal(&mut self, actor: u32, process: u32) -> Result<(), Error>;
-    fn act(&mut self, line: &str) -> Result<String, Error>;
-    fn last(&self) -> String;
-}
-
-macro_rules! guarded {
-    ($guard:ident) => {
-        impl Guarded for $guard {
-            fn kill(&mut self, actor: u32, order: &Order) -> Result<Verdict, Error> {
-                let Order {
-                    key,
-                    value,
-                    kind,
-                    floor,
-                    tear,
-                } = order;
-                $guard::kill(self, actor, *key, value, *kind, *floor, *tear)
-            }
-
-            fn up(&mut self, actor: u32, process: u32) -> Result<(), Error> {
-                $guard::up(self, actor, process)
-            }
-
-            fn heal(&mut self, actor: u32, process: u32) -> Result<(), Error> {
-                $guard::heal(self, actor, process)
-            }
-
-            fn act(&mut self, line: &str) -> Result<String, Error> {
-                $guard::act(self, line)
-            }
-
-            fn last(&self) -> String {
-                self.entry(self.journal_len() - 1).expect("an entry")
-            }
-        }
-    };
-}
-
-guarded!(Guard);
-guarded!(LocalGuard);
 
 struct Order {
     key: Key,
@@ -66,6 +21,19 @@ struct Order {
     kind: Kind,
     floor: Kind,
     tear: u64,
+}
+
+impl Order {
+    fn give(&self, guard: &mut Guard, actor: u32) -> Result<Verdict, Error> {
+        let Order {
+            key,
+            value,
+            kind,
+            floor,
+            tear,
+        } = self;
+        guard.kill(actor, *key, value, *kind, *floor, *tear)
+    }
 }
 
 enum Asked {
@@ -97,20 +65,24 @@ fn asked(line: &str) -> Asked {
 }
 
 /// Makes an act, and holds what the guard answers against the entry.
-fn play(guard: &mut impl Guarded, asked: &Asked) {
+fn play(guard: &mut Guard, asked: &Asked) {
     let reply = match asked {
-        Asked::Kill(actor, order) => reply_of_kill(guard.kill(*actor, order)),
+        Asked::Kill(actor, order) => reply_of_kill(order.give(guard, *actor)),
         Asked::Up(actor, process) => reply_of_report(guard.up(*actor, *process)),
         Asked::Heal(actor, process) => reply_of_report(guard.heal(*actor, *process)),
         Asked::Line(line) => {
             let entry = guard.act(line).expect(line);
-            assert_eq!(entry, guard.last());
+            assert_eq!(entry, last(guard));
             return;
         }
     };
-    let entry = guard.last();
+    let entry = last(guard);
     let (_, told) = entry.split_once("\"reply\":").expect("a reply");
     assert!(told.starts_with(&reply), "{reply} is answered, and {entry}");
+}
+
+fn last(guard: &Guard) -> String {
+    guard.entry(guard.journal_len() - 1).expect("an entry")
 }
 
 /// What an entry has as the reply to a kill, whole.
@@ -146,10 +118,10 @@ fn refusal(error: Error) -> String {
     }
 }
 
-fn local(config: &str, acts: &[Asked]) -> String {
-    let mut guard = LocalGuard::open(config).expect("a cluster file");
+fn alone(config: &str, acts: &[Asked]) -> Guard {
+    let mut guard = Guard::open(config).expect("a cluster file");
     acts.iter().for_each(|act| play(&mut guard, act));
-    guard.audit().expect("an audit")
+    guard
 }
 
 fn moved(config: &str, acts: &[Asked]) -> Guard {
@@ -170,10 +142,11 @@ fn apart(config: &str, acts: &[Asked]) -> String {
         for number in 0..THREADS {
             let audits = &audits;
             scope.spawn(move || {
-                let audit = match number % 2 {
-                    0 => local(config, acts),
-                    _ => moved(config, acts).audit().expect("an audit"),
+                let guard = match number % 2 {
+                    0 => alone(config, acts),
+                    _ => moved(config, acts),
                 };
+                let audit = guard.audit().expect("an audit");
                 audits.lock().expect("no panic").push(audit);
             });
         }
@@ -192,7 +165,7 @@ fn shared(config: &str, acts: &[Asked]) -> Guard {
             let guard = &guard;
             scope.spawn(move || {
                 for act in acts.iter().skip(first).step_by(THREADS) {
-                    play(&mut *guard.lock().expect("no panic"), act);
+                    play(&mut guard.lock().expect("no panic"), act);
                 }
             });
         }
@@ -207,7 +180,7 @@ fn main() -> io::Result<()> {
     io::stdin().read_to_string(&mut text)?;
     let acts: Vec<Asked> = text.lines().map(asked).collect();
     match words[0].as_str() {
-        "local" => print!("{}", local(&config, &acts)),
+        "alone" => alone(&config, &acts).write_audit(io::stdout())?,
         "apart" => print!("{}", apart(&config, &acts)),
         "moved" => moved(&config, &acts).write_audit(io::stdout())?,
         "shared" => shared(&config, &acts).write_audit(io::stdout())?,

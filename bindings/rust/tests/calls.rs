@@ -1,16 +1,28 @@
-//! Each call and each error that a test can meet, of the guard that the file above names.
+//! Each call, and each error that a test can meet.
 
-use crate::Tested;
-use faultyard::{ConfigFault, Error, Key, Kind, Refusal, Rule, Verdict, AUDIT_HEADER};
+use faultyard::{
+    ConfigFault, Error, Guard, Key, Kind, ProcessSet, Refusal, Rule, Sight, Verdict, AUDIT_HEADER,
+};
 
-pub const CONFIG: &str = include_str!("../cluster.toml");
+const CONFIG: &str = include_str!("cluster.toml");
+/// A team of p0 and p2 has a record acknowledged.
+const ACKED: [&str; 8] = [
+    r#"{"by":0,"act":{"form":{"members":[0,2],"policy":0}}}"#,
+    r#"{"by":0,"act":{"begin":{"payload":"00","team":0}}}"#,
+    r#"{"by":0,"act":{"deliver":{"message":0}}}"#,
+    r#"{"by":0,"act":{"deliver":{"message":1}}}"#,
+    r#"{"by":0,"act":{"sync":{"process":0}}}"#,
+    r#"{"by":0,"act":{"sync":{"process":2}}}"#,
+    r#"{"by":0,"act":{"deliver":{"message":2}}}"#,
+    r#"{"by":0,"act":{"deliver":{"message":3}}}"#,
+];
 
-fn opened() -> Tested {
-    Tested::open(CONFIG).unwrap()
+fn opened() -> Guard {
+    Guard::open(CONFIG).unwrap()
 }
 
 /// An order whose floor is its kind.
-fn strictly(guard: &mut Tested, key: Key, value: &str, kind: Kind) -> Verdict {
+fn strictly(guard: &mut Guard, key: Key, value: &str, kind: Kind) -> Verdict {
     guard.kill(1, key, value, kind, kind, 0).unwrap()
 }
 
@@ -19,7 +31,7 @@ fn refused<T>(refusal: Refusal) -> Result<T, Error> {
 }
 
 /// Makes acts by their lines, none of which is refused.
-fn make(guard: &mut Tested, lines: &[&str]) {
+fn make(guard: &mut Guard, lines: &[&str]) {
     for line in lines {
         let entry = guard.act(line).unwrap();
         assert!(!entry.contains(r#""reply":{"no":"#), "{entry}");
@@ -82,8 +94,8 @@ fn each_rule_and_what_it_names() {
 #[test]
 fn too_few_may_be_left() {
     let three = CONFIG.replace("\"Across(2,zoneid,One())\"", "\"Across(3,zoneid,One())\"");
-    let mut guard = Tested::open(three).unwrap();
-    let order = |guard: &mut Tested, kind| guard.kill(1, Key::Zone, "z0", kind, kind, 0).unwrap();
+    let mut guard = Guard::open(three).unwrap();
+    let order = |guard: &mut Guard, kind| guard.kill(1, Key::Zone, "z0", kind, kind, 0).unwrap();
     let gone = order(&mut guard, Kind::KillInstantly);
     assert_eq!(
         (gone.struck, gone.rule),
@@ -137,17 +149,7 @@ fn up_and_heal_are_refused() {
 #[test]
 fn a_process_without_its_record_is_not_healed() {
     let mut guard = opened();
-    let story = [
-        r#"{"by":0,"act":{"form":{"members":[0,2],"policy":0}}}"#,
-        r#"{"by":0,"act":{"begin":{"payload":"00","team":0}}}"#,
-        r#"{"by":0,"act":{"deliver":{"message":0}}}"#,
-        r#"{"by":0,"act":{"deliver":{"message":1}}}"#,
-        r#"{"by":0,"act":{"sync":{"process":0}}}"#,
-        r#"{"by":0,"act":{"sync":{"process":2}}}"#,
-        r#"{"by":0,"act":{"deliver":{"message":2}}}"#,
-        r#"{"by":0,"act":{"deliver":{"message":3}}}"#,
-    ];
-    make(&mut guard, &story);
+    make(&mut guard, &ACKED);
     assert!(
         strictly(&mut guard, Key::Process, "p0", Kind::RebootAndDelete)
             .struck
@@ -184,6 +186,110 @@ fn who_is_left_and_who_is_destroyed() {
     assert!(left.contains(0) && !left.contains(1) && !left.contains(u32::MAX));
     let destroyed: Vec<u32> = (0..2000).filter(|it| guard.is_destroyed(*it)).collect();
     assert_eq!(destroyed, [0, 1]);
+}
+
+fn numbers(set: ProcessSet) -> Vec<u32> {
+    set.iter().collect()
+}
+
+#[test]
+fn whom_a_kill_is_about() {
+    let mut guard = opened();
+    let targets = |guard: &Guard, key, value| guard.targets(key, value).map(numbers);
+    let places: [(Key, &str, &[u32]); 7] = [
+        (Key::Process, "p3", &[3]),
+        (Key::Machine, "m4", &[4, 5]),
+        (Key::Zone, "z0", &[0, 1]),
+        (Key::DataHall, "h0", &[3]),
+        (Key::DataCenter, "d0", &[0, 1, 2, 3, 4]),
+        (Key::DataCenter, "d1", &[5]),
+        (Key::Zone, "p0", &[]),
+    ];
+    for (key, value, wanted) in places {
+        assert_eq!(
+            targets(&guard, key, value).unwrap(),
+            wanted,
+            "{key} {value}"
+        );
+    }
+    for value in ["", "-z", "z 0", "z0\0"] {
+        assert_eq!(targets(&guard, Key::Zone, value), Err(Error::Name));
+    }
+    let gone = strictly(&mut guard, Key::Process, "p1", Kind::KillInstantly);
+    let emptied = strictly(&mut guard, Key::Process, "p0", Kind::RebootAndDelete);
+    assert_eq!((gone.rule, emptied.rule), (None, None));
+    assert_eq!(targets(&guard, Key::Zone, "z0").unwrap(), [0]);
+    assert_eq!(targets(&guard, Key::Process, "p1").unwrap(), []);
+    assert_eq!(numbers(guard.destroyed()), [0, 1]);
+    assert_eq!(numbers(guard.gone()), [1]);
+    assert_eq!((guard.up(0, 0), guard.heal(0, 0)), (Ok(()), Ok(())));
+    assert_eq!(numbers(guard.destroyed()), [1]);
+    assert_eq!(numbers(guard.gone()), [1]);
+}
+
+#[test]
+fn processes_by_their_names() {
+    let guard = opened();
+    assert_eq!(guard.process_count(), 6);
+    for number in 0..6 {
+        assert_eq!(guard.process(&format!("p{number}")), Some(number));
+    }
+    for name in ["p6", "z0", "P0", "p", "", "p0\0", "p0 "] {
+        assert_eq!(guard.process(name), None, "{name:?}");
+    }
+}
+
+#[test]
+fn who_keeps_a_record() {
+    let mut guard = opened();
+    let (last, others) = ACKED.split_last().unwrap();
+    make(&mut guard, others);
+    assert_eq!((guard.is_acked(0), guard.keeper(0)), (false, None));
+    make(&mut guard, &[last]);
+    assert_eq!((guard.is_acked(0), guard.keeper(0)), (true, Some(0)));
+    let emptied = strictly(&mut guard, Key::Process, "p0", Kind::RebootAndDelete);
+    assert_eq!(emptied.rule, None);
+    assert_eq!((guard.is_acked(0), guard.keeper(0)), (true, Some(2)));
+    for record in [1, u32::MAX] {
+        assert_eq!(
+            (guard.is_acked(record), guard.keeper(record)),
+            (false, None)
+        );
+    }
+}
+
+#[test]
+fn what_there_is_to_do_next() {
+    let mut guard = opened();
+    let mut wanted = Sight {
+        now: 0,
+        deliverable: None,
+        unsynced: None,
+        sleeping: None,
+    };
+    assert_eq!(guard.sight(), wanted);
+    make(&mut guard, &[r#"{"by":0,"act":{"tick":{"ticks":5}}}"#]);
+    wanted.now = 5;
+    // Messages 0 and 1 are sent, to p0 and to p2.
+    make(&mut guard, &ACKED[..2]);
+    wanted.deliverable = Some(0);
+    assert_eq!(guard.sight(), wanted);
+    make(&mut guard, &ACKED[2..4]);
+    wanted.deliverable = None;
+    wanted.unsynced = Some(0);
+    assert_eq!(guard.sight(), wanted);
+    make(&mut guard, &ACKED[4..5]);
+    wanted.deliverable = Some(2);
+    wanted.unsynced = Some(2);
+    assert_eq!(guard.sight(), wanted);
+    let ended = strictly(&mut guard, Key::Process, "p5", Kind::RebootProcess);
+    assert_eq!(ended.rule, None);
+    wanted.sleeping = Some(5);
+    assert_eq!(guard.sight(), wanted);
+    let gone = strictly(&mut guard, Key::Process, "p5", Kind::KillInstantly);
+    assert_eq!(gone.rule, None);
+    wanted.sleeping = None;
+    assert_eq!(guard.sight(), wanted);
 }
 
 #[test]
@@ -225,7 +331,7 @@ fn a_long_entry_is_read_whole() {
 
 #[test]
 fn a_full_journal_takes_nothing() {
-    let mut guard = Tested::open(CONFIG.replace("20000", "2")).unwrap();
+    let mut guard = Guard::open(CONFIG.replace("20000", "2")).unwrap();
     assert_eq!(guard.up(0, 0), refused(Refusal::IsUp));
     assert_eq!(guard.up(0, 0), refused(Refusal::IsUp));
     assert_eq!(guard.up(0, 0), Err(Error::JournalFull));
@@ -239,7 +345,7 @@ fn a_full_journal_takes_nothing() {
 
 #[test]
 fn a_cluster_file_is_refused_by_its_fault() {
-    let fault = |text: &[u8]| match Tested::open(text) {
+    let fault = |text: &[u8]| match Guard::open(text) {
         Err(Error::Config(fault)) => fault,
         other => panic!("{other:?}"),
     };

@@ -1,5 +1,0 @@
-//! `LocalGuard`: each call.
-
-mod calls;
-
-use faultyard::LocalGuard as Tested;
