@@ -11,7 +11,7 @@ from test_package import blocks, two
 def run(*command, given="", **more):
     """What a command writes; it has to end with status 0 and to write nothing to standard error."""
     words = [str(word) for word in command]
-    ran = subprocess.run(words, input=given, capture_output=True, text=True, timeout=300, **more)
+    ran = subprocess.run(words, input=given, capture_output=True, text=True, timeout=900, **more)
     if (ran.returncode, ran.stderr) != (0, ""):
         raise AssertionError(f"{words} ended with {ran.returncode}: {ran.stdout}{ran.stderr}")
     return ran.stdout
