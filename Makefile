@@ -41,7 +41,7 @@ build:
 
 # One build serves all that is shown, and what is tested without proofs.
 run:
-	@echo "make run: builds the program without its proofs, once, as $(UNPROVED): some 90 seconds on four processors"
+	@echo "make run: builds the program without its proofs, once, as $(UNPROVED): some two minutes on four processors"
 	@$(MAKE) --no-print-directory --silent $(UNPROVED)
 	@examples/tour $(UNPROVED)
 
