@@ -312,10 +312,9 @@ impl Guard {
         let mut told = USUAL_LINE;
         loop {
             bytes.resize(front + told, 0);
-            let room = &mut bytes[front..];
-            // SAFETY: as in `process`. The room is a slice with its length.
-            let status =
-                unsafe { sys::fy_audit(&self.raw, at, room.as_mut_ptr(), room.len(), &mut told) };
+            let (room, length) = (bytes[front..].as_mut_ptr(), told);
+            // SAFETY: as in `process`. The room has this length.
+            let status = unsafe { sys::fy_audit(&self.raw, at, room, length, &mut told) };
             if status == sys::SHORT && front + told > bytes.len() {
                 continue;
             }
