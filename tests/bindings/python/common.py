@@ -11,7 +11,9 @@ from pathlib import Path
 ROOT = Path(__file__).resolve().parents[3]
 PROGRAM = os.environ["FAULTYARD"]
 LIBRARY = os.environ.get("FAULTYARD_LIB")
-WITHOUT = "no library was given"
+WITHOUT = (
+    "SKIPPED the bindings on the C library: no library was given (make test proves and builds it)"
+)
 SIX = ROOT / "examples/c6.toml"
 HEADER = '{"audit":2}\n'
 KINDS = ["RebootProcess", "Reboot", "RebootAndDelete", "KillInstantly"]
