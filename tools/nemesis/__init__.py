@@ -1,0 +1,15 @@
+"""Draws faults for a real store, does those that a guard allows, and counts lost records."""
+import os
+from contextlib import suppress
+
+NONE_LOST, LOST, USAGE, HOOK, GUARD, TOOL = range(6)  # how the tool ends
+
+
+class Fault(Exception):
+    """What ends a run before its time: how the tool ends, and why."""
+
+
+def say(text: str) -> None:
+    """Prints a text, as long as somebody reads."""
+    with suppress(BrokenPipeError):
+        os.write(1, f"{text}\n".encode())

@@ -1,6 +1,7 @@
-"""Draws faults for a real store, does those that a guard allows, and counts lost records."""
+"""What the words of the tool are, and what a run comes to."""
 import argparse
 import asyncio
+import json
 import os
 import shutil
 import signal
@@ -8,16 +9,22 @@ import sys
 import tempfile
 from pathlib import Path
 
-from .cluster import Guard
-from .plan import PLANS
-from .process import NONE_LOST, PR_SET_CHILD_SUBREAPER, PRCTL, TOOL, USAGE, Fault, end_children
-from .report import report
+import faultyard
+from faultyard import ConfigRefused, FaultyardError, Guard, InvalidAct, NotFound
+from faultyard.harness import lost_line
+from faultyard.plans import PLANS
+from keeper import adopt_orphans, end_children
+
+from . import GUARD, LOST, NONE_LOST, TOOL, USAGE, Fault, say
+from . import __doc__ as about
 from .run import Run
 
 KINDS, PAUSES = "10,35,54,1,10", "0,0.2,0.5,1,2,4"
+SHOWN = 5  # lost records that are told on the terminal; lost.jsonl has all
 
 
 def numbers(text: str) -> list[float]:
+    """Weights or seconds, separated by commas."""
     found = [float(word) for word in text.split(",")]
     if not all(0 <= number < 1e6 for number in found) or not sum(found):
         raise ValueError(text)
@@ -25,7 +32,8 @@ def numbers(text: str) -> list[float]:
 
 
 def parsed() -> argparse.Namespace:
-    it = argparse.ArgumentParser("faultyard-nemesis", description=__doc__, allow_abbrev=False)
+    """The words of the command line, which have to be right."""
+    it = argparse.ArgumentParser("faultyard-nemesis", description=about, allow_abbrev=False)
     add = it.add_argument
     add("config", type=Path, metavar="CONFIG", help="the cluster file")
     add("hooks", type=Path, metavar="HOOKS", help="an executable that knows the store")
@@ -50,78 +58,76 @@ def parsed() -> argparse.Namespace:
     for name, least in (("seed", 0), ("seconds", 0), ("writers", 1), ("hook_timeout", 0.1)):
         if not least <= vars(words)[name] < 1e9:
             it.error(f"--{name.replace('_', '-')} has to be {least} or more")
-    return words
-
-
-def find_program() -> str:
-    """FAULTYARD, or the program of a checkout or beside the tool, or of the PATH."""
-    here = Path(sys.argv[0]).resolve().parent
-    places = [str(it) for it in (here.parent / "bin/faultyard", here / "faultyard") if it.is_file()]
-    if path := shutil.which(os.environ.get("FAULTYARD", [*places, "faultyard"][0])):
-        return os.path.abspath(path)
-    raise Fault(USAGE, "there is no program faultyard; the variable FAULTYARD may name it")
-
-
-def make_folder(words: argparse.Namespace) -> Path:
-    """The folder for all files of the run, once the words are right."""
     for path in (words.config, words.hooks, words.replay):
         if path and not path.is_file():
-            raise Fault(USAGE, f"there is no file {path}")
-    words.program = find_program()
-    words.config, words.hooks = words.config.resolve(), words.hooks.resolve()
+            it.error(f"there is no file {path}")
     if not os.access(words.hooks, os.X_OK):
-        raise Fault(USAGE, f"{words.hooks} is no executable")
+        it.error(f"{words.hooks} is no executable")
     if words.socket and os.path.exists(words.socket):
-        raise Fault(USAGE, f"{words.socket} is there already")
-    if not words.out:
-        return Path(tempfile.mkdtemp(prefix="faultyard-nemesis-"))
-    words.out.mkdir(parents=True, exist_ok=True)
-    if any(words.out.iterdir()):
-        raise Fault(USAGE, f"{words.out} is not empty")
-    return Path(words.out.resolve())
+        it.error(f"{words.socket} is there already")
+    if words.out and words.out.is_dir() and any(words.out.iterdir()):
+        it.error(f"{words.out} is not empty")
+    words.hooks = words.hooks.resolve()
+    return words
 
 
 async def chaos(words: argparse.Namespace) -> int:
     """A run, and how the tool ends."""
-    task, caught = asyncio.current_task(), list[int]()
-
-    def stop(number: int) -> None:
-        caught.append(number)
-        assert task
-        task.cancel()
-
+    loop, task = asyncio.get_running_loop(), asyncio.current_task()
+    assert task
     for number in (signal.SIGINT, signal.SIGTERM, signal.SIGHUP):
-        asyncio.get_running_loop().add_signal_handler(number, stop, number)
-    folder = make_folder(words)
-    try:
-        async with Guard.begun(words.program, words.config, folder) as guard:
-            run = Run(words, folder, guard)
-            await run.whole()
-            status = await report(run)
-    except asyncio.CancelledError:
-        print(f"faultyard-nemesis: interrupted; {folder}", file=sys.stderr)
-        return 128 + caught[0]
-    except Fault as fault:
-        if fault.args[0] == USAGE:
-            shutil.rmtree(folder)
-        raise
+        loop.add_signal_handler(number, task.cancel, int(number))
+    with Guard(words.config, folder=words.out) as guard:
+        run = Run(words, guard)
+        await run.whole()
+    status = report(run)
     if status == NONE_LOST and not words.keep:
-        for member in run.cluster.members:
-            shutil.rmtree(folder / str(member.number), ignore_errors=True)
+        for process in range(len(run.names)):
+            shutil.rmtree(words.out / str(process), ignore_errors=True)
     return status
 
 
 def main() -> int:
     """Does what the words say; all that it started ends before this returns."""
     words = parsed()
-    PRCTL(PR_SET_CHILD_SUBREAPER, 1)
+    adopt_orphans()
     if sys.version_info < (3, 12):  # later it is the default
         asyncio.set_child_watcher(asyncio.PidfdChildWatcher())
     try:
+        words.out = Path(words.out or tempfile.mkdtemp(prefix="faultyard-nemesis-")).resolve()
+        words.out.mkdir(parents=True, exist_ok=True)
         return asyncio.run(chaos(words))
-    except (Fault, OSError) as fault:
-        status, text = fault.args if isinstance(fault, Fault) else (TOOL, fault)
-        print(f"faultyard-nemesis: {text}", file=sys.stderr)
+    except asyncio.CancelledError as interrupted:
+        print(f"faultyard-nemesis: interrupted; {words.out}", file=sys.stderr)
+        return 128 + int(interrupted.args[0])
+    except (Fault, FaultyardError, OSError) as fault:
+        refused = isinstance(fault, (ConfigRefused, InvalidAct, NotFound))
+        status = USAGE if refused else GUARD if isinstance(fault, FaultyardError) else TOOL
+        status, why = fault.args if isinstance(fault, Fault) else (status, fault)
+        if status == USAGE:
+            shutil.rmtree(words.out)
+        print(f"faultyard-nemesis: {why}", file=sys.stderr)
         return int(status)
     finally:
         end_children()
+
+
+def report(run: Run) -> int:
+    """Prints what a run comes to, and says how the tool ends."""
+    words, lost, audit, beyond = run.words, run.losses, run.guard.audit(), run.beyond()
+    try:
+        checked = f"legal {faultyard.check(words.config, audit)}"
+        picture = faultyard.show(words.config, audit, beyond=beyond["entry"] if beyond else None)
+        (words.out / "picture.svg").write_text(picture, "utf-8")
+    except faultyard.AuditRefused as fault:
+        checked = fault.fault
+    if lost:
+        (words.out / "lost.jsonl").write_text("".join(f"{json.dumps(it)}\n" for it in lost))
+    lines = run.summary(f"seed {words.seed}") + run.notes + [lost_line(it) for it in lost[:SHOWN]]
+    if len(lost) > SHOWN:
+        lines.append(f"lost: {len(lost) - SHOWN} more, in lost.jsonl")
+    acked = f"{len(run.ledger.records)} acknowledged"
+    say("\n".join([*lines, f"{acked}, {len(lost)} lost; audit {checked}; {words.out}"]))
+    if checked != f"legal {run.guard.journal_len()}":
+        return GUARD
+    return LOST if lost else NONE_LOST

@@ -1,207 +1,184 @@
-"""The processes of a store: ended, emptied, brought back, and told of to the guard."""
+"""The processes of a store: started, struck and brought back by hooks, as a guard allows."""
 import asyncio
 import math
 import shutil
 import signal
 import time
-from asyncio.subprocess import DEVNULL
+from argparse import Namespace
+from asyncio.subprocess import DEVNULL, Process
+from collections.abc import Sequence
 
-from .cluster import Cluster, Guard, Member
-from .ledger import Ledger
-from .plan import DESTROYING, GONE, REBOOT, Order
-from .process import HOOK, Fault, cancelled, signal_below
+from faultyard import ClusterFile, Guard, Kind
+from faultyard.harness import Harness
+from keeper import signal_below
+
+from . import HOOK, Fault, say
+from .hooks import Hooks
 
 AGAIN = 0.1  # seconds until a hook that said no is asked again
-ALONE = 20.0  # seconds for which a member that joined has to be ready before another may join
+ALONE = 20.0  # seconds for which a process that joined has to be ready before another may join
 LIVES = 0.5  # seconds after which a process counts as ready where no hook tells
 
 
-class Store:
-    def __init__(self, cluster: Cluster, guard: Guard, ledger: Ledger) -> None:
-        self._cluster, self._guard, self._ledger = cluster, guard, ledger
-        self._elected = 0  # how many of the destructions an election has seen
-        self._election = "it was not asked for"
-        self.destroyed: list[tuple[float, int, int]] = []  # when, which, by which entry
-        self.healed: list[float] = []  # how long each took
+class Store(Harness):
+    def __init__(self, words: Namespace, guard: Guard) -> None:
+        file, events = ClusterFile.read(words.config), words.out / "events.jsonl"
+        show = (lambda text: None) if words.quiet else say
+        super().__init__(guard, file, events, unguarded=words.unguarded, show=show)
+        self.words, self.hooks = words, Hooks(words, file, self.ledger)
+        self._keeping: dict[int, asyncio.Task[None]] = {}  # each brings a process back
+        self._started: dict[int, Process] = {}
+        self._emptied: set[int] = set()  # until they have joined, or left
+        self._ended: dict[int, str] = {}  # how each last ended by itself, until it is up
+        self._elected = 0  # how many of the losses an election has seen
+        self._joining, self._alone_until = 0, 0.0
 
     async def begin(self, tasks: asyncio.TaskGroup) -> None:
         """Sets the store up, and waits for all of it."""
-        if "setup" in self._cluster.hooks and not (answer := await self._cluster.call("setup")).yes:
-            raise Fault(HOOK, f"{answer.end}; {self._cluster.folder}/hooks.log may say why")
-        self._tasks = tasks
+        if not await self.hooks.says("setup"):
+            raise Fault(HOOK, f"{self.hooks.ends[()]}; {self.words.out}/hooks.log may say why")
+        self.tasks, self.spawn = tasks, tasks.create_task
         self._electing = tasks.create_task(self._elect())
-        for member in self._cluster.members:
-            (self._cluster.folder / str(member.number)).mkdir(exist_ok=True)
-            member.task = tasks.create_task(self._keep(member))
+        for number in range(len(self.names)):
+            (self.words.out / str(number)).mkdir(exist_ok=True)
+            self._keeping[number] = tasks.create_task(self._keep(number))
         await self.calm()
 
     async def calm(self) -> None:
         """Waits until all are up and whole."""
-        seconds, began = self._cluster.seconds("join"), time.monotonic()
-        while waiting := self.waiting():
-            if time.monotonic() > began + seconds:
-                logs = f"the logs in {self._cluster.folder} may say why"
-                raise Fault(HOOK, f"after {seconds:g} seconds {waiting[0]}; {logs}")
-            await asyncio.sleep(AGAIN)
+        seconds = self.hooks.seconds("join")
+        try:
+            async with asyncio.timeout(seconds):
+                while self.waiting():
+                    await asyncio.sleep(AGAIN)
+        except TimeoutError:
+            why = f"{self.waiting()[0]}; the logs in {self.words.out} may say why"
+            raise Fault(HOOK, f"after {seconds:g} seconds {why}") from None
 
     def waiting(self) -> list[str]:
         """Who is not up or not whole, or has not left, and what each waits for."""
         if not self._is_elected():
-            return [f"there is no election: {self._election}"]
-        due = [it for it in self._cluster.members if not it.is_settled]
+            return [f"there is no election: {self.hooks.ends.get((), 'it was not asked for')}"]
+        whole = self.up - self.ledger.destroyed.keys() | self.gone - self._emptied
         return [
-            f"{it.name} is not {'out' if it.gone else 'back'}: {it.waits}{it.ended}" for it in due
+            f"{name} is not {'out' if number in self.gone else 'back'}: "
+            f"{self.hooks.ends.get((number,), 'it was not started')}{self._ended.get(number, '')}"
+            for number, name in enumerate(self.names)
+            if number not in whole
         ]
 
     async def end(self) -> None:
         """Ends all; nothing is told to the guard then."""
-        async with self._guard.turn:
-            await cancelled([self._electing, *(it.task for it in self._cluster.members)])
+        async with self.turn:
+            await cancelled([self._electing, *self._keeping.values()])
 
-    async def strike(self, members: list[Member], kind: str, entry: int) -> None:
-        """Does to them what a kind says."""
-        await self._take_down(members, kind in DESTROYING)
-        for member in members if kind in DESTROYING else []:
-            member.gone = kind == GONE
-            member.destroyed, member.destroyed_at = True, self._ledger.now()
-            member.sent = self._ledger.sent
-            self.destroyed.append((member.destroyed_at, member.number, entry))
+    async def strike(self, processes: Sequence[int], kind: Kind) -> None:
+        await self._take_down(processes, kind.empties_disk)
 
-    async def _take_down(self, members: list[Member], emptied: bool) -> None:
+    async def _take_down(self, processes: Sequence[int], emptied: bool) -> None:
         """Ends them all at once, with the hooks that work for them, to be brought back."""
-        await cancelled([member.task for member in members])
-        for member in members:
-            member.up = False
+        await cancelled([self._keeping[number] for number in processes])
+        for number in processes:
             if emptied:
-                self._empty(member)
-            member.task = self._tasks.create_task(self._keep(member))
+                self._empty(number)
+            self._keeping[number] = self.tasks.create_task(self._keep(number))
 
-    def _empty(self, member: Member) -> None:
-        data = self._cluster.folder / str(member.number)
+    def _empty(self, number: int) -> None:
+        data = self.words.out / str(number)
         shutil.rmtree(data, ignore_errors=True)
-        if data.exists() or data.is_symlink():
-            raise Fault(HOOK, f"{data} can't be removed; it has to be a folder")
-        data.mkdir()
-        member.emptied, member.alone_until = True, 0.0
+        data.mkdir()  # which fails if something is left
+        self._emptied.add(number)
 
-    async def freeze(self, members: list[Member], frozen: bool) -> None:
+    async def clog(self, processes: Sequence[int], is_clogged: bool) -> None:
         """Stops or continues all that they run, or has a hook cut them off."""
-        hook, number = ("pause", signal.SIGSTOP) if frozen else ("resume", signal.SIGCONT)
-        for member in members:
-            if hook in self._cluster.hooks:
-                answer = await self._cluster.call(hook, member.number)
-                if not answer.yes and member.runs:
-                    raise Fault(HOOK, f"{answer.end}; it may not fail")
-            elif member.process and member.runs:
-                signal_below(member.process.pid, number)
+        hook, sent = ("pause", signal.SIGSTOP) if is_clogged else ("resume", signal.SIGCONT)
+        for number in processes:
+            process = self._started.get(number)
+            if process is None or process.returncode is not None:
+                await self.hooks.call(hook, number)
+            elif hook not in self.hooks.names:
+                signal_below(process.pid, sent)
+            elif not await self.hooks.says(hook, number) and process.returncode is None:
+                raise Fault(HOOK, f"{self.hooks.ends[number,]}; it may not fail")
 
-    async def _keep(self, member: Member) -> None:
-        """Brings a member back, and again each time that it ends by itself."""
-        if member.emptied:
-            await self._join(member)
-        while not member.gone:
-            with (self._cluster.folder / f"{member.name}.log").open("ab") as log:
+    async def _keep(self, number: int) -> None:
+        """Brings a process back, and again each time that it ends by itself."""
+        if number in self._emptied:
+            await self._join(number)
+        while number not in self.gone:
+            with (self.words.out / f"{self.names[number]}.log").open("ab") as log:
                 files = {"stdin": DEVNULL, "stdout": log, "stderr": log}
-                async with self._cluster.running("start", member.number, **files) as member.process:
-                    while member.runs:
-                        await self._ask_after(member)
+                async with self.hooks.running("start", number, **files) as process:
+                    self._started[number] = process
+                    while process.returncode is None:
+                        await self._ask_after(number, process)
                         await asyncio.sleep(AGAIN)
-            status = member.process.returncode
-            self._ledger.write("ended", process=member.number, status=status)
-            member.ended = f"; its last process ended with status {status}"
-            if member.up:
-                async with self._guard.turn:
-                    await self._tell("ended by itself", member)
+            self._ended[number] = f"; its last process ended with status {process.returncode}"
+            self.hooks.ends.setdefault((number,), f"start {number} ended")
+            self.note("ended", process=number, status=process.returncode)
+            if number in self.up:
+                self.tell_ended(number, "ended by itself")
 
-    async def _join(self, member: Member) -> None:
+    async def _join(self, number: int) -> None:
         """Makes it a new member, one after the other; or has it leave for good."""
-        hook = "leave" if member.gone else "join"
-        others = [it for it in self._cluster.members if it is not member]
-        while True:
-            now = time.monotonic()
-            if self._is_elected() and all(it.up or it.alone_until < now for it in others):
-                self._empty(member)
-                member.alone_until = math.inf
-                if hook not in self._cluster.hooks or await self._says(hook, member):
-                    break
+        hook = "leave" if number in self.gone else "join"
+        while number in self._emptied:
+            is_free = self._joining in self.up or self._alone_until < time.monotonic()
+            if (is_free or self._joining == number) and self._is_elected():
+                self._joining, self._alone_until = number, math.inf
+                self._empty(number)
+                if await self.hooks.says(hook, number):
+                    self._emptied.discard(number)
             await asyncio.sleep(AGAIN)
-        member.emptied = False
-        member.alone_until = 0.0 if member.gone else time.monotonic() + ALONE
-        self._ledger.write(hook, process=member.number)
+        self._alone_until = 0.0 if number in self.gone else time.monotonic() + ALONE
+        self.note(hook, process=number)
 
-    async def _says(self, hook: str, member: Member, *more: int) -> bool:
-        answer = await self._cluster.call(hook, member.number, *more)
-        member.waits = answer.end
-        return answer.yes
-
-    async def _is_ready(self, member: Member) -> bool:
-        if "ready" in self._cluster.hooks:
-            return await self._says("ready", member)
-        await asyncio.sleep(LIVES)
-        member.waits = f"start {member.number} ended"
-        return True
-
-    async def _ask_after(self, member: Member) -> None:
-        """Asks whether it is ready, and later whether it is whole, and tells the guard.
-
-        It is whole with all records up to the mark. A later one it holds itself or others do,
-        unless the write was sent before it was destroyed: from now on such an answer is too late.
-        """
-        if not member.up:
-            if await self._is_ready(member) and member.runs:
-                async with self._guard.turn:
-                    await self._tell("up", member)
-        elif member.destroyed and self._is_elected():
-            self._ledger.late = max(self._ledger.late, member.sent)
-            if await self._says("whole", member, self._ledger.mark):
-                async with self._guard.turn:
-                    if member.runs and self._is_elected():
-                        await self._tell("heal", member)
-                        member.destroyed = False
-                        self.healed.append(self._ledger.now() - member.destroyed_at)
-
-    async def _tell(self, what: str, member: Member) -> None:
-        """Tells the guard that a process is up or healed, or that it ended: then as a reboot."""
-        by, act = self._cluster.fault, Order(REBOOT, "processid", member.name).act()
-        member.up = what in ("up", "heal")
-        if member.up:
-            member.ended = ""
-            by, act = self._cluster.storage, {what: {"process": member.number}}
-        if self._ledger.began is not None:  # before, the guard takes all for up
-            entry, reply, _ = await self._guard.ask(by, act)
-            self._ledger.write(what, process=member.number, entry=entry, reply=reply)
+    async def _ask_after(self, number: int, process: Process) -> None:
+        """Asks whether it is ready, and later whether it is whole, and tells the guard."""
+        if number not in self.up:
+            if "ready" not in self.hooks.names:
+                await asyncio.sleep(LIVES)
+            if await self.hooks.says("ready", number) and process.returncode is None:
+                self._ended.pop(number, None)
+                self.tell_up(number)
+        elif number in self.ledger.destroyed and self._is_elected():
+            whole = await self.hooks.says("whole", number, self.ledger.due(number))
+            if whole and process.returncode is None and self._is_elected():
+                self.tell_healed(number)
 
     def _is_elected(self) -> bool:
         """Whether no election is due."""
-        return "elect" not in self._cluster.hooks or self._elected == len(self.destroyed)
+        return self._elected == len(self.ledger.losses)
 
     async def _elect(self) -> None:
         """After each destruction a hook may choose a primary, before any joins or is healed."""
         while True:
             await asyncio.sleep(AGAIN)
-            seen = len(self.destroyed)
-            if self._is_elected():
-                continue
-            answer = await self._cluster.call("elect")
-            self._election = answer.end
-            if answer.yes:
-                for line in answer.text.splitlines():
+            seen = len(self.ledger.losses)
+            if not self._is_elected() and (text := await self.hooks.call("elect")) is not None:
+                for line in text.splitlines():
                     await self._elect_says(line)
                 self._elected = seen
 
     async def _elect_says(self, line: str) -> None:
         """Does what a line of the hook says."""
-        numbers = {str(it.number): it for it in self._cluster.members}
         match line.split():
-            case ["empty" | "restart" as what, number] if number in numbers:
-                member = numbers[number]
+            case ["empty" | "restart" as what, word] if word in map(str, self._keeping):
+                number = int(word)
             case _:
                 text = f"elect printed {line[:80]!r}; it may print 'empty N' and 'restart N'"
                 raise Fault(HOOK, text)
-        if what == "empty" and not member.destroyed:
-            text = f"elect said {line!r}, and {member.name} was not destroyed"
+        if what == "empty" and number in self.ledger.able:
+            text = f"elect said {line!r}, and {self.names[number]} was not destroyed"
             raise Fault(HOOK, f"{text}: the guard counts on its records")
-        async with self._guard.turn:
-            if not member.gone:
-                await self._take_down([member], what == "empty")
-                await self._tell("restart", member)
+        async with self.turn:
+            if number not in self.gone:
+                await self._take_down([number], what == "empty")
+                self.tell_ended(number, "restart")
+
+
+async def cancelled(tasks: Sequence[asyncio.Task[None]]) -> None:
+    """Ends tasks, with the commands that run for them."""
+    for task in tasks:
+        task.cancel()
+    await asyncio.gather(*tasks, return_exceptions=True)

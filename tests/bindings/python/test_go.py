@@ -56,11 +56,11 @@ class Sources(unittest.TestCase):
             bare = name.removeprefix({"Status": "Err", "Refusal": "Refusal"}.get(enum, ""))
             spelled = re.sub(r"(?<=.)([A-Z])", r"_\1", bare).upper()
             self.assertEqual(f"FY_{spelled}", constant)
-        # What no call answers is left out.
-        wanted = re.findall(r"^    (FY_\w+) = \d+,", C_HEADER.read_text(), re.M)
+        # What no call of the package answers is left out, and so are the parts of a cluster file.
+        wanted = re.findall(r"^    (FY_(?!PART_)\w+) = \d+,", C_HEADER.read_text(), re.M)
         self.assertEqual(
             {constant for _, _, constant in found},
-            set(wanted) - {"FY_DONE", "FY_SHORT", "FY_NOT_REFUSED"},
+            set(wanted) - {"FY_DONE", "FY_SHORT", "FY_NOT_REFUSED", "FY_WHOLE_FILE"},
         )
 
     def test_each_word_is_an_audits(self):
@@ -110,12 +110,14 @@ class Go(common.Folder, unittest.TestCase):
         source = TESTS / "poor_library/poor.c"
         run(*command, f"-I{common.ROOT}/include", "-o", library, source)
         told = run(program, env={**ENVIRONMENT, "LD_LIBRARY_PATH": self.folder})
-        calls = ("Open", "Kill", "Up", "Heal", "Act", "Entry", "Audit")
+        calls = ("Open", "Kill", "Reset", "Up", "Heal", "Act", "Entry", "Audit")
         wanted = dict.fromkeys(calls, "faultyard: there was no memory")
         wanted["Act"] = "faultyard: the act is made, but its line could not be written"
-        wanted["Targets"] = "faultyard: there is no such key, kind or floor"
-        asked = ["IsDestroyed", "Left", "Destroyed", "Gone", "Process", "ProcessCount", "IsAcked"]
-        wanted |= dict.fromkeys([*asked, "Keeper", "Sight", "Close"], "<nil>")
+        no_key = "faultyard: there is no such key, kind or floor"
+        wanted |= dict.fromkeys(["Judge", "Targets"], no_key)
+        asked = ["IsDestroyed", "Left", "UpSet", "State", "Needed", "Destroyed", "Gone"]
+        asked += ["Process", "ProcessCount", "IsAcked", "Keeper", "Sight", "Close"]
+        wanted |= dict.fromkeys(asked, "<nil>")
         self.assertEqual(dict(line.split(": ", 1) for line in told.splitlines()), wanted)
 
     def test_the_example_of_its_page_prints_what_the_page_says(self):

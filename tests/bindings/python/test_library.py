@@ -64,8 +64,7 @@ def declared():
 class Table(unittest.TestCase):
     def test_each_call_is_declared_so(self):
         there = declared()
-        # The version of the library isn't asked for.
-        self.assertEqual(set(library.CALLS), set(there) - {"fy_version"})
+        self.assertEqual(set(library.CALLS), set(there) - common.UNASKED)
         for name, call in library.CALLS.items():
             self.assertEqual(call, there[name], name)
 
@@ -95,7 +94,12 @@ class Table(unittest.TestCase):
         self.assertEqual(library.SET_WORDS, int(defined["SET_WORDS"]))
         greatest = dict(re.findall(r"^#define FY_(\w+) UINT(\d+)_MAX$", HEADER, re.M))
         self.assertEqual(library.NOBODY, 2 ** int(greatest["NOBODY"]) - 1)
+        self.assertEqual(library.NO_SUCH_RECORD, 2 ** int(greatest["NO_SUCH_RECORD"]) - 1)
         self.assertEqual(library.NOTHING, 2 ** int(greatest["NOTHING"]) - 1)
+        bits = dict(re.findall(r"^#define FY_(STATE_\w+) (\d+)u", HEADER, re.M))
+        self.assertEqual(len(bits), 4)
+        for name, bit in bits.items():
+            self.assertEqual(getattr(library, name), int(bit))
 
     def test_a_library_that_is_none(self):
         with self.assertRaises(FileNotFoundError) as caught:
@@ -228,9 +232,60 @@ class InThisProcess(common.Folder, unittest.TestCase):
             for ask in (guard.is_acked, guard.keeper):
                 with self.assertRaises(faultyard.InvalidAct):
                     ask(-1)
-        for ask in (guard.sight, lambda: guard.is_acked(0), lambda: guard.keeper(0)):
+        asked = [guard.sight, lambda: guard.is_acked(0), lambda: guard.keeper(0), guard.up_set]
+        asked += [lambda: guard.state(0), lambda: guard.needed(0), guard.reset]
+        for ask in asked:
             with self.assertRaises(faultyard.GuardClosed):
                 ask()
+
+    def test_what_is_judged_is_what_the_kill_gets(self):
+        key, kinds = faultyard.Key.ZONE, list(faultyard.Kind)[1:4]
+        with self.guard() as guard:
+            for zone in ("z0", "z1", "z2", "z9"):
+                for kind in reversed(kinds):
+                    count = guard.journal_len()
+                    verdict = guard.judge(key, zone, kind, by=1, floor=kinds[0])
+                    self.assertEqual(guard.journal_len(), count)
+                    self.assertEqual(guard.kill(key, zone, kind, by=1, floor=kinds[0]), verdict)
+            with self.assertRaises(faultyard.ActRefused) as caught:
+                guard.judge(key, "z0", kinds[0], by=9)
+            self.assertEqual(caught.exception.refusal, faultyard.Refusal.STRANGER)
+            for value, floor in (("-", kinds[0]), ("z0", kinds[1])):
+                with self.assertRaises(faultyard.InvalidAct):
+                    guard.judge(key, value, kinds[0], by=1, floor=floor)
+            self.assertEqual(guard.journal_len(), 12)
+
+    def test_states_and_what_is_needed_and_a_reset(self):
+        up = faultyard.State(up=True, clogged=False, destroyed=False, gone=False)
+        with self.guard() as guard:
+            audits = []
+            for _ in range(2):
+                self.assertEqual([guard.state(it) for it in range(7)], [up] * 6 + [None])
+                self.assertEqual(guard.up_set(), frozenset(range(6)))
+                guard.form([0, 2], 0, by=0)
+                guard.begin(0, b"hi", by=0)
+                guard.deliver(0, by=0)
+                guard.deliver(1, by=0)
+                guard.sync(0, by=0)
+                guard.sync(2, by=0)
+                guard.deliver(2, by=0)
+                guard.deliver(3, by=0)
+                key, kinds = faultyard.Key.PROCESS, faultyard.Kind
+                guard.kill(key, "p1", kinds.KILL_INSTANTLY, by=1)
+                guard.kill(key, "p0", kinds.REBOOT_AND_DELETE, by=1)
+                guard.clog(key, "p2", 3, by=1)
+                emptied = faultyard.State(up=False, clogged=False, destroyed=True, gone=False)
+                gone = faultyard.State(up=False, clogged=False, destroyed=True, gone=True)
+                clogged = faultyard.State(up=True, clogged=True, destroyed=False, gone=False)
+                wanted = [emptied, gone, clogged, up]
+                self.assertEqual([guard.state(it) for it in range(4)], wanted)
+                self.assertEqual(guard.up_set(), {2, 3, 4, 5})
+                needed = [guard.needed(it) for it in (0, 1, 2, 6)]
+                self.assertEqual(needed, [0, None, None, None])
+                audits.append(guard.audit())
+                guard.reset()
+                self.assertEqual(guard.audit(), common.HEADER)
+            self.assertEqual(audits[0], audits[1])
 
     def test_two_guards_have_nothing_in_common(self):
         with self.guard() as one, self.guard() as other:

@@ -217,7 +217,11 @@ class PipeTest(common.Folder, unittest.TestCase):
 
     def test_what_the_pipe_does_not_answer(self):
         with Guard(common.SIX) as guard:
-            for ask in (lambda: guard.is_acked(0), lambda: guard.keeper(0), guard.sight):
+            asked = [lambda: guard.is_acked(0), lambda: guard.keeper(0), guard.sight]
+            asked += [guard.up_set, lambda: guard.state(0), lambda: guard.needed(0), guard.reset]
+            key, kind = faultyard.Key.PROCESS, faultyard.Kind.REBOOT
+            asked.append(lambda: guard.judge(key, "p0", kind, by=1))
+            for ask in asked:
                 with self.assertRaises(faultyard.NotOffered):
                     ask()
             self.assertEqual(guard.tick(1, by=0), 1)

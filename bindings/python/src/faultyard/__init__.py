@@ -9,7 +9,8 @@
             guard.up(0, by=0)
 """
 
-from .enums import Key, Kind, Refusal, Rule
+from .cluster_file import Actor, ClusterFile
+from .enums import Key, Kind, Refusal, Role, Rule
 from .errors import (
     ActRefused,
     AuditRefused,
@@ -25,7 +26,7 @@ from .errors import (
     ProtocolError,
 )
 from .guard import Guard
-from .programs import check, find_program
+from .programs import check, find_program, show
 from .replies import (
     Begun,
     Done,
@@ -41,12 +42,14 @@ from .replies import (
     Time,
     Verdict,
 )
-from .transport import Sight
+from .transport import Sight, State
 
 __all__ = [
     "ActRefused",
+    "Actor",
     "AuditRefused",
     "Begun",
+    "ClusterFile",
     "ConfigRefused",
     "Done",
     "Entry",
@@ -67,14 +70,17 @@ __all__ = [
     "Refusal",
     "Refused",
     "Reply",
+    "Role",
     "Rule",
     "Ruling",
     "Sent",
     "Sight",
+    "State",
     "Stored",
     "Synced",
     "Time",
     "Verdict",
     "check",
     "find_program",
+    "show",
 ]

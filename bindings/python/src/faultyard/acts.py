@@ -154,6 +154,28 @@ def checked(name: str, members: Mapping[str, Any]) -> Dict[str, Any]:
     return read
 
 
+def named(act: Any) -> Tuple[str, Mapping[str, Any]]:
+    """The name and the members of an act as a script has it, or `InvalidAct`."""
+    if not isinstance(act, Mapping) or len(act) != 1:
+        raise InvalidAct(f"an act has one member, its name: {act!r}")
+    ((name, members),) = act.items()
+    if not isinstance(members, Mapping):
+        raise InvalidAct(f"{name!r} has no members")
+    return name, members
+
+
+def read(text: bytes) -> Tuple[int, Dict[str, Dict[str, Any]]]:
+    """The actor and the act of a line of a script, or `InvalidAct`."""
+    try:
+        told = json.loads(text)
+    except (ValueError, RecursionError):
+        raise InvalidAct("a line has to be JSON") from None
+    if not isinstance(told, dict) or told.keys() != {"act", "by"}:
+        raise InvalidAct("a line has the members act, by")
+    name, members = named(told["act"])
+    return number(told["by"]), {name: checked(name, members)}
+
+
 def line(by: int, name: str, members: Mapping[str, Any]) -> bytes:
     """The line of an act whose members are `checked`, in the spelling that is read fastest."""
     act = json.dumps({name: members}, separators=(",", ":"), sort_keys=True)

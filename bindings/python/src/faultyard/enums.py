@@ -38,6 +38,17 @@ class Key(Enum):
     DATA_CENTER = "dcid"
 
 
+class Role(Enum):
+    """Which acts an actor may make."""
+
+    STORAGE = "storage"
+    """It stores records, and reports who is up and healed."""
+    FAULT = "fault"
+    """It kills and clogs."""
+    OPERATOR = "operator"
+    """It protects processes, and gives and takes grants."""
+
+
 class Rule(Enum):
     """Why the kind that was ordered is barred: the first rule that holds."""
 

@@ -9,13 +9,13 @@ from typing import Any, FrozenSet, Iterable, Literal, Mapping, Optional, Tuple, 
 
 from . import acts
 from .enums import Key, Kind
-from .errors import ActRefused, FaultyardError, GuardClosed, InvalidAct, ProtocolError
+from .errors import ActRefused, FaultyardError, GuardClosed, NotOffered, ProtocolError
 from .library import Library
 from .pipe import Pipe
 from .programs import StrPath
 from .replies import Begun, Done, Entry, Formed, Marked, Refused, Ruling, Sent, Stored, Synced
 from .replies import Time, Verdict, read_entry
-from .transport import Sight, Transport
+from .transport import Sight, State, Transport
 
 _Reply = TypeVar("_Reply")
 
@@ -26,10 +26,13 @@ def _open(
     program: Optional[StrPath],
     library: Optional[StrPath],
     timeout: Optional[float],
+    folder: Optional[StrPath],
 ) -> Transport:
     if transport == "pipe":
-        return Pipe(config, program, timeout)
+        return Pipe(config, program, timeout, folder)
     if transport == "library":
+        if folder is not None:
+            raise NotOffered("folder asks for the transport 'pipe'")
         return Library(config, library)
     raise ValueError(f"transport is neither 'pipe' nor 'library': {transport!r}")
 
@@ -56,18 +59,20 @@ class Guard:
         program: Optional[StrPath] = None,
         library: Optional[StrPath] = None,
         timeout: Optional[float] = 60.0,
+        folder: Optional[StrPath] = None,
     ) -> None:
         """Opens a guard of a cluster in which nothing happened yet.
 
         `config` is the path of a cluster file. Over `"pipe"`, `program` is the path of `faultyard`
         (else FAULTYARD, else the one on PATH), and a guard that doesn't answer within `timeout`
-        seconds is ended. Over `"library"`, `library` is the path of libfaultyard.so (else
-        FAULTYARD_LIB, else what the system's loader finds).
+        seconds is ended. What it writes goes into `folder` at once, into `audit` and `guard.log`,
+        so that both are there whatever ends the test. Over `"library"`, `library` is the path of
+        libfaultyard.so (else FAULTYARD_LIB, else what the system's loader finds).
         """
         self._lock = threading.Lock()
         self._opener = os.getpid()
         self._closed = False
-        self._transport = _open(config, transport, program, library, timeout)
+        self._transport = _open(config, transport, program, library, timeout, folder)
 
     # The end.
 
@@ -117,6 +122,29 @@ class Guard:
         """
         order = {"key": key, "value": value, "kind": kind, "floor": floor, "tear": tear}
         return self._expect(Verdict, by, "kill", order)
+
+    def judge(
+        self,
+        key: Key,
+        value: str,
+        kind: Kind,
+        *,
+        by: int,
+        floor: Kind = Kind.REBOOT_PROCESS,
+    ) -> Verdict:
+        """The verdict that `kill` would get now. It enters nothing.
+
+        Over the pipe it raises `NotOffered`.
+        """
+        order = {"key": key, "value": value, "kind": kind, "floor": floor, "tear": 0}
+        by, order = acts.number(by), acts.checked("kill", order)
+        with self._lock:
+            reply = self._at_work().judge(by, order)
+        if isinstance(reply, Refused):
+            raise ActRefused("kill", reply.refusal, reply.named)
+        if isinstance(reply, Verdict):
+            return reply
+        raise ProtocolError(f"judge was answered {reply!r}")
 
     def clog(self, key: Key, value: str, ticks: int, *, by: int) -> Ruling:
         """Holds the messages of each process of the target for so many ticks."""
@@ -209,13 +237,19 @@ class Guard:
         entry = guard.act(0, {"up": {"process": 1}})
         entry = guard.act(**json.loads(line_of_a_script))
         """
-        if len(act) != 1:
-            raise InvalidAct(f"an act has one member, its name: {act!r}")
-        ((name, members),) = act.items()
+        name, members = acts.named(act)
         text = acts.line(acts.number(by), name, acts.checked(name, members))
         with self._lock:
             answer = self._at_work().exchange(text)
         return read_entry(answer)
+
+    def reset(self) -> None:
+        """Puts the guard back to where nothing happened yet, by the cluster file as it was opened.
+
+        Over the pipe it raises `NotOffered`.
+        """
+        with self._lock:
+            self._at_work().reset()
 
     # Questions.
 
@@ -253,6 +287,29 @@ class Guard:
         """The processes that aren't gone for good; over the pipe as for `is_destroyed`."""
         with self._lock:
             return self._at_work().left()
+
+    def up_set(self) -> FrozenSet[int]:
+        """The processes that are up. Over the pipe it raises `NotOffered`."""
+        with self._lock:
+            return self._at_work().up_set()
+
+    def state(self, process: int) -> Optional[State]:
+        """The state of a process; `None` where there is no process with this number.
+
+        Over the pipe it raises `NotOffered`.
+        """
+        process = acts.number(process)
+        with self._lock:
+            return self._at_work().state(process)
+
+    def needed(self, process: int) -> Optional[int]:
+        """The record that a process still needs before it may be healed, or `None`.
+
+        `heal` is refused with `Refusal.STILL_NEEDS` for it. Over the pipe it raises `NotOffered`.
+        """
+        process = acts.number(process)
+        with self._lock:
+            return self._at_work().needed(process)
 
     def destroyed(self) -> FrozenSet[int]:
         """The processes that are destroyed, gone or not; over the pipe as for `is_destroyed`."""

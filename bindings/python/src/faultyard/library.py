@@ -8,12 +8,12 @@ import weakref
 from typing import Any, Dict, FrozenSet, Iterable, List, Mapping, Optional, Tuple
 
 from .acts import line
-from .enums import Key, Kind, Rule
+from .enums import Key, Kind, Refusal, Rule
 from .errors import ConfigRefused, FaultyardError, GuardClosed, JournalFull, NotFound
 from .errors import OutOfMemory, ProtocolError
 from .programs import StrPath
-from .replies import Done, Reply, Verdict, read_entry
-from .transport import HEADER, Sight, Transport
+from .replies import Done, Refused, Reply, Verdict, read_entry
+from .transport import HEADER, Sight, State, Transport
 
 NAMES = ("libfaultyard.so.1", "libfaultyard.so")
 """What the system's loader is asked for."""
@@ -45,9 +45,14 @@ _bytes = c.c_char_p
 CALLS: Dict[str, Tuple[Any, List[Any]]] = {
     "fy_open": (_u32, [_bytes, _size, _guard]),
     "fy_close": (None, [_Guard]),
+    "fy_reset": (_u32, [_guard]),
     "fy_kill": (
         _u32,
         [_guard, _u32, _u32, _bytes, _size, _u32, _u32, _u64, _u32_out, _u32_out, _u64_out],
+    ),
+    "fy_judge": (
+        _u32,
+        [_guard, _u32, _u32, _bytes, _size, _u32, _u32, _u32_out, _u32_out, _u64_out],
     ),
     "fy_up": (_u32, [_guard, _u32, _u32, _u32_out]),
     "fy_heal": (_u32, [_guard, _u32, _u32, _u32_out]),
@@ -57,6 +62,9 @@ CALLS: Dict[str, Tuple[Any, List[Any]]] = {
     "fy_targets": (_u32, [_guard, _u32, _bytes, _size, _u64_out, _size]),
     "fy_is_destroyed": (_u32, [_guard, _u32]),
     "fy_left": (None, [_guard, _u64_out, _size]),
+    "fy_up_set": (None, [_guard, _u64_out, _size]),
+    "fy_state": (_u32, [_guard, _u32]),
+    "fy_needed": (_u32, [_guard, _u32]),
     "fy_destroyed_set": (None, [_guard, _u64_out, _size]),
     "fy_gone_set": (None, [_guard, _u64_out, _size]),
     "fy_is_acked": (_u32, [_guard, _u32]),
@@ -72,7 +80,9 @@ DONE, NO_MEMORY, JOURNAL_FULL, REFUSED, SHORT, UNWRITTEN = range(6)
 MOST_REPLY = 128
 SET_WORDS = 16
 NOBODY = 2**32 - 1
+NO_SUCH_RECORD = 2**32 - 1
 NOTHING = 2**64 - 1
+STATE_UP, STATE_CLOGGED, STATE_DESTROYED, STATE_GONE = 1, 2, 4, 8
 CONFIG_FAULTS = {
     12: "config: TooLong",
     13: "config: Toml",
@@ -179,6 +189,31 @@ class Library(Transport):
             return self._report(f"fy_{name}", by, members["process"])
         return read_entry(self.exchange(line(by, name, members))).reply
 
+    def judge(self, by: int, order: Mapping[str, Any]) -> Reply:
+        status, verdict = self._verdict(self._library.fy_judge, by, order)
+        if status == REFUSED:
+            # No other refusal of a kill is there.
+            return Refused(Refusal.STRANGER, None)
+        _require(status)
+        return verdict
+
+    def reset(self) -> None:
+        _require(self._library.fy_reset(self._opened()))
+
+    def up_set(self) -> FrozenSet[int]:
+        return self._set(self._library.fy_up_set)
+
+    def state(self, process: int) -> Optional[State]:
+        bits = int(self._library.fy_state(self._opened(), process))
+        if bits == NOBODY:
+            return None
+        each = (STATE_UP, STATE_CLOGGED, STATE_DESTROYED, STATE_GONE)
+        return State(*(bits & bit != 0 for bit in each))
+
+    def needed(self, process: int) -> Optional[int]:
+        record = int(self._library.fy_needed(self._opened(), process))
+        return None if record == NO_SUCH_RECORD else record
+
     def is_destroyed(self, process: int) -> bool:
         return int(self._library.fy_is_destroyed(self._opened(), process)) != 0
 
@@ -251,28 +286,25 @@ class Library(Transport):
         return buffer.raw[: told.value]
 
     def _kill(self, by: int, order: Mapping[str, Any]) -> Reply:
-        value = order["value"].encode()
-        kind, floor = KINDS[order["kind"]], KINDS[order["floor"]]
-        struck, rule, named = _u32(), _u32(), _u64()
-        status = self._library.fy_kill(
-            self._opened(),
-            by,
-            KEYS[order["key"]],
-            value,
-            len(value),
-            kind,
-            floor,
-            order["tear"],
-            struck,
-            rule,
-            named,
-        )
+        status, verdict = self._verdict(self._library.fy_kill, by, order, order["tear"])
         if status == REFUSED:
             return self._last_reply()
         _require(status)
+        return verdict
+
+    def _verdict(
+        self, call: Any, by: int, order: Mapping[str, Any], *tear: int
+    ) -> Tuple[int, Verdict]:
+        """The status of an order, and the verdict that is told with it."""
+        value = order["value"].encode()
+        kind, floor = KINDS[order["kind"]], KINDS[order["floor"]]
+        target = (KEYS[order["key"]], value, len(value))
+        struck, rule, named = _u32(), _u32(), _u64()
+        told = (struck, rule, named)
+        status = call(self._opened(), by, *target, kind, floor, *tear, *told)
         barred = RULES[rule.value]
         number = None if barred in (None, Rule.NO_TARGET) else named.value
-        return Verdict(STRUCK[struck.value], barred, number)
+        return status, Verdict(STRUCK[struck.value], barred, number)
 
     def _report(self, call: str, by: int, process: int) -> Reply:
         status = getattr(self._library, call)(self._opened(), by, process, _u32())

@@ -2,25 +2,11 @@
 
 from __future__ import annotations
 
-import importlib
-from typing import Any, FrozenSet, List, Mapping, Optional, Set
+from typing import Any, FrozenSet, Mapping, Optional, Set
 
+from .cluster_file import ClusterFile
 from .enums import Key, Kind
-from .errors import NotOffered
 from .replies import Done, Entry, Verdict
-
-
-def _toml() -> Any:
-    """Python's reader of TOML since 3.11, or the package that it comes from."""
-    for name in ("tomllib", "tomli"):
-        try:
-            return importlib.import_module(name)
-        except ImportError:
-            pass
-    raise NotOffered(
-        "over the pipe this asks for Python 3.11, or for the package tomli: "
-        "without a reader of TOML it isn't known which processes a target names"
-    )
 
 
 class Losses:
@@ -28,17 +14,13 @@ class Losses:
 
     def __init__(self, config: bytes) -> None:
         """`config` is a cluster file that the guard has accepted."""
-        processes = _toml().loads(config.decode())["process"]
-        keys = [key.value for key in Key]
-        self._places: List[Mapping[str, str]] = [
-            {key: place[key] for key in keys if key in place} for place in processes
-        ]
+        self._file = ClusterFile.parse(config)
         self.destroyed: Set[int] = set()
         self.gone: Set[int] = set()
 
     def __len__(self) -> int:
         """How many processes there are."""
-        return len(self._places)
+        return len(self._file.places)
 
     def read(self, entry: Entry) -> None:
         """Follows one entry. Only kills and heals change who is destroyed."""
@@ -51,20 +33,15 @@ class Losses:
         if not kind.empties_disk:
             return
         # Who is gone isn't struck, but is destroyed already and never healed.
-        struck = self._having(order["key"], order["value"])
+        struck = self._file.having(Key(order["key"]), order["value"])
         self.destroyed |= struck
         if kind.is_final:
             self.gone |= struck
 
-    def _having(self, key: str, value: str) -> FrozenSet[int]:
-        """The processes whose key has the value, gone or not."""
-        numbered = enumerate(self._places)
-        return frozenset(process for process, place in numbered if place.get(key) == value)
-
     def targets(self, key: str, value: str) -> FrozenSet[int]:
         """The processes that have the value and aren't gone."""
-        return self._having(key, value) - self.gone
+        return self._file.having(Key(key), value) - self.gone
 
     def process(self, name: str) -> Optional[int]:
         """The number of the process with a name."""
-        return next(iter(self._having(Key.PROCESS.value, name)), None)
+        return next(iter(self._file.having(Key.PROCESS, name)), None)

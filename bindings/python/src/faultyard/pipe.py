@@ -8,14 +8,15 @@ import subprocess
 import tempfile
 import time
 import weakref
-from typing import FrozenSet, List, Optional
+from contextlib import ExitStack
+from typing import IO, Any, FrozenSet, List, Mapping, Optional
 
 from .errors import ConfigRefused, FaultyardError, GuardEnded, JournalFull, OutOfMemory
 from .errors import NotOffered, ProtocolError
 from .losses import Losses
 from .programs import StrPath, find_program
-from .replies import read_entry
-from .transport import HEADER, Sight, Transport
+from .replies import Reply, read_entry
+from .transport import HEADER, Sight, State, Transport
 
 PATIENCE = 10.0
 """How many seconds a guard may take to end once its input is closed."""
@@ -34,10 +35,16 @@ class Pipe(Transport):
     """`faultyard guard` as a child process.
 
     A line is sent only once the line before is answered. So neither side waits for the other with
-    a full pipe. Standard error goes to a file without a name, which can't fill up.
+    a full pipe. Standard error goes to a file, which can't fill up.
     """
 
-    def __init__(self, config: StrPath, program: Optional[StrPath], timeout: Optional[float]):
+    def __init__(
+        self,
+        config: StrPath,
+        program: Optional[StrPath],
+        timeout: Optional[float],
+        folder: Optional[StrPath],
+    ):
         with open(config, "rb") as file:
             self._config = file.read()
         self._timeout = timeout
@@ -47,8 +54,10 @@ class Pipe(Transport):
         self._losses: Optional[Losses] = None
         self._followed = 0
         words = [find_program(program), "guard", os.fspath(config)]
-        self._errors = tempfile.TemporaryFile()
+        self._files = ExitStack()
+        self._kept: Optional[IO[bytes]] = None
         try:
+            self._open_files(folder)
             # In a session of its own, Ctrl-C at a terminal ends the test and not its guard.
             self._process = subprocess.Popen(
                 words,
@@ -59,7 +68,7 @@ class Pipe(Transport):
                 start_new_session=True,
             )
         except BaseException:
-            self._errors.close()
+            self._files.close()
             raise
         self._finalizer = weakref.finalize(self, _kill, self._process, os.getpid())
         assert self._process.stdin is not None and self._process.stdout is not None
@@ -67,16 +76,25 @@ class Pipe(Transport):
         os.set_blocking(self._stdin.fileno(), False)
         self._begin()
 
+    def _open_files(self, folder: Optional[StrPath]) -> None:
+        if folder is None:
+            self._errors: IO[bytes] = self._files.enter_context(tempfile.TemporaryFile())
+            return
+        self._errors = self._files.enter_context(open(os.path.join(folder, "guard.log"), "w+b"))
+        # Unbuffered, so that an entry is there before its verdict is carried out.
+        audit = open(os.path.join(folder, "audit"), "wb", buffering=0)
+        self._kept = self._files.enter_context(audit)
+
     def _begin(self) -> None:
         """Reads the header, which is there before anything is sent."""
         try:
             header = self._hear()
             if header != HEADER:
                 raise ProtocolError(f"{self._process.args!r} began with {header!r}")
-            self._audit.append(header)
+            self._keep(header)
         except BaseException:
             self._abandon("the guard didn't begin")
-            self._errors.close()
+            self._files.close()
             raise
 
     def exchange(self, text: bytes) -> bytes:
@@ -91,8 +109,13 @@ class Pipe(Transport):
             # The answer that was waited for would be taken for the next line's.
             self._abandon("a call was interrupted before its answer was read")
             raise
-        self._audit.append(answer)
+        self._keep(answer)
         return answer
+
+    def _keep(self, text: bytes) -> None:
+        self._audit.append(text)
+        if self._kept is not None:
+            self._kept.write(text)
 
     def process(self, name: str) -> Optional[int]:
         return self._follow().process(name)
@@ -115,6 +138,21 @@ class Pipe(Transport):
 
     def gone(self) -> FrozenSet[int]:
         return frozenset(self._follow().gone)
+
+    def judge(self, by: int, order: Mapping[str, Any]) -> Reply:
+        raise NotOffered("judge asks for the transport 'library'")
+
+    def reset(self) -> None:
+        raise NotOffered("reset asks for the transport 'library'")
+
+    def up_set(self) -> FrozenSet[int]:
+        raise NotOffered("up_set asks for the transport 'library'")
+
+    def state(self, process: int) -> Optional[State]:
+        raise NotOffered("state asks for the transport 'library'")
+
+    def needed(self, process: int) -> Optional[int]:
+        raise NotOffered("needed asks for the transport 'library'")
 
     def is_acked(self, record: int) -> bool:
         raise NotOffered("is_acked asks for the transport 'library'")
@@ -144,10 +182,10 @@ class Pipe(Transport):
         if self._end is None:
             self._stdin.close()
             ended = self._wait("the guard didn't end by itself")
-            self._errors.close()
+            self._files.close()
             if ended.status != 0:
                 raise self._told(ended)
-        self._errors.close()
+        self._files.close()
 
     def _tell(self, text: bytes) -> None:
         left = memoryview(text)

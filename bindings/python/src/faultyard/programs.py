@@ -1,8 +1,9 @@
-"""Finds the program, and asks it to check an audit."""
+"""Finds the program, and has it check or draw an audit."""
 
 from __future__ import annotations
 
 import os
+import re
 import shutil
 import subprocess
 from typing import Optional, Union
@@ -24,9 +25,32 @@ def find_program(program: Optional[StrPath] = None) -> str:
 
 def check(config: StrPath, audit: str, program: Optional[StrPath] = None) -> int:
     """Has `faultyard check` confirm an audit; how many entries it has, or `AuditRefused`."""
-    words = [find_program(program), "check", os.fspath(config)]
+    told = _told("check", config, audit, program)
+    if not told.startswith("legal "):
+        raise AuditRefused(told, 0)
+    return int(told[len("legal ") :])
+
+
+def show(
+    config: StrPath, audit: str, program: Optional[StrPath] = None, *, beyond: Optional[int] = None
+) -> str:
+    """Has `faultyard show` draw an audit; the picture as SVG, or `AuditRefused`.
+
+    `beyond` is the entry of an order that was done though the guard said less: it is drawn in red.
+    """
+    picture = _told("show", config, audit, program)
+    if beyond is None:
+        return picture
+    entry = re.compile(rf'class="(order [a-z]+)" data-entry="{beyond}"')
+    style = ".order.beyond { stroke: #d00000; stroke-width: 4; }\n</style>"
+    red = entry.sub(rf'class="\1 beyond" data-entry="{beyond}"', picture)
+    return red.replace("</style>", style, 1)
+
+
+def _told(command: str, config: StrPath, audit: str, program: Optional[StrPath]) -> str:
+    words = [find_program(program), command, os.fspath(config)]
     ran = subprocess.run(words, input=audit.encode(), capture_output=True, check=False)
     told = (ran.stdout or ran.stderr).decode(errors="replace").strip()
-    if ran.returncode != 0 or not told.startswith("legal "):
+    if ran.returncode != 0:
         raise AuditRefused(told, ran.returncode)
-    return int(told[len("legal ") :])
+    return told

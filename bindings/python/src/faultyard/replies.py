@@ -3,7 +3,7 @@
 from __future__ import annotations
 
 import json
-from dataclasses import dataclass
+from dataclasses import dataclass, field
 from typing import Any, Callable, Dict, List, Mapping, Optional, Union
 
 from .enums import Kind, Refusal, Rule
@@ -103,6 +103,28 @@ class Entry:
     by: int
     act: Mapping[str, Any]
     reply: Reply
+    line: str = field(default="", compare=False, repr=False)
+    """As it stands in the audit, without its line feed."""
+
+    @property
+    def struck(self) -> Optional[Kind]:
+        """What to do to the processes of a kill or of a clog; `None`: nothing."""
+        if isinstance(self.reply, Verdict):
+            return self.reply.struck
+        clogs = isinstance(self.reply, Ruling) and self.reply.rule is None and "clog" in self.act
+        return Kind.CLOG if clogs else None
+
+    @property
+    def barred(self) -> Optional[List[Any]]:
+        """The rule that bars what a kill or a clog orders, as `["TooManyDestroyed", 0]`."""
+        if not isinstance(self.reply, (Verdict, Ruling)) or self.reply.rule is None:
+            return None
+        return [self.reply.rule.value] + ([] if self.reply.named is None else [self.reply.named])
+
+    @property
+    def told(self) -> Any:
+        """The reply as the audit has it."""
+        return json.loads(self.line)["reply"]
 
 
 def _rule(words: Optional[List[Any]]) -> Dict[str, Any]:
@@ -146,6 +168,7 @@ def read_entry(line: bytes) -> Entry:
     """Reads the line of an entry."""
     try:
         told = json.loads(line)
-        return Entry(told["at"], told["by"], told["act"], _reply(told["reply"]))
+        text = line.decode().rstrip("\n")
+        return Entry(told["at"], told["by"], told["act"], _reply(told["reply"]), text)
     except (ValueError, TypeError, KeyError, IndexError, AttributeError) as fault:
         raise ProtocolError(f"no entry of an audit: {line!r}") from fault

@@ -27,6 +27,20 @@ class Sight:
     """The least process that is neither up nor gone."""
 
 
+@dataclass(frozen=True)
+class State:
+    """The state of a process of the simulated cluster."""
+
+    up: bool
+    """It runs."""
+    clogged: bool
+    """Its messages are held back."""
+    destroyed: bool
+    """It was emptied or killed for good, and not healed since."""
+    gone: bool
+    """It was killed for good."""
+
+
 class Transport(ABC):
     """One guard behind its pipe or its library. One call at a time is made with it."""
 
@@ -37,6 +51,14 @@ class Transport(ABC):
     def reply(self, by: int, name: str, members: Mapping[str, Any]) -> Reply:
         """Makes an act whose members are checked, and answers its reply."""
         return read_entry(self.exchange(line(by, name, members))).reply
+
+    @abstractmethod
+    def judge(self, by: int, order: Mapping[str, Any]) -> Reply:
+        """The reply that a kill whose members are checked would get now."""
+
+    @abstractmethod
+    def reset(self) -> None:
+        """Puts the guard back to where nothing happened yet."""
 
     @abstractmethod
     def process(self, name: str) -> Optional[int]:
@@ -57,6 +79,18 @@ class Transport(ABC):
     @abstractmethod
     def left(self) -> FrozenSet[int]:
         """The processes that aren't gone for good."""
+
+    @abstractmethod
+    def up_set(self) -> FrozenSet[int]:
+        """The processes that are up."""
+
+    @abstractmethod
+    def state(self, process: int) -> Optional[State]:
+        """The state of a process."""
+
+    @abstractmethod
+    def needed(self, process: int) -> Optional[int]:
+        """The record that a process still needs before it may be healed."""
 
     @abstractmethod
     def destroyed(self) -> FrozenSet[int]:

@@ -1,24 +1,27 @@
-"""Commands, each below a keeper of its own, and how the tool itself ends."""
+#!/usr/bin/env python3
+"""Runs a command, and kills all that it has started once it ends, or once its caller is gone.
+
+    tools/keeper.py COMMAND..
+
+The status is the command's. At SIGINT, SIGTERM and SIGHUP all of it ends too. The tools that run
+commands of a user's call it: sweep and shrink as a command, and nemesis by `running` and `output`.
+"""
 import asyncio
 import ctypes
 import os
 import signal
-from asyncio.subprocess import Process
+import sys
+from asyncio.subprocess import DEVNULL, PIPE, Process
 from collections.abc import AsyncIterator
 from contextlib import asynccontextmanager, suppress
 from functools import partial
 from pathlib import Path
 from typing import Any
 
-NONE_LOST, LOST, USAGE, HOOK, GUARD, TOOL = range(6)  # how the tool ends
-MOST_PRINTED = 1 << 26
 PR_SET_PDEATHSIG, PR_SET_CHILD_SUBREAPER = 1, 36
 PRCTL = ctypes.CDLL(None).prctl
-AWAITED = {signal.SIGCHLD, signal.SIGTERM}
-
-
-class Fault(Exception):
-    """What ends a run before its time: how the tool ends, and why."""
+MOST_PRINTED = 1 << 26
+AWAITED = {signal.SIGCHLD, signal.SIGINT, signal.SIGTERM, signal.SIGHUP}
 
 
 def signal_below(pid: int, number: int) -> None:
@@ -31,24 +34,29 @@ def signal_below(pid: int, number: int) -> None:
                 signal_below(child, number)
 
 
+def adopt_orphans() -> None:
+    """Makes this process the parent of all below it whose parents end."""
+    PRCTL(PR_SET_CHILD_SUBREAPER, 1)
+
+
 def end_children() -> None:
-    """Kills all below this process, which is a subreaper: orphans become its children."""
+    """Kills all below this process, which adopts orphans, so that none escapes."""
     with suppress(ChildProcessError):
         while True:
             signal_below(os.getpid(), signal.SIGKILL)
             os.wait()
 
 
-def keep(tool: int) -> None:
-    """Called in a child of the tool, it forks, and returns in the new child, which runs a command.
+def keep(caller: int) -> None:
+    """Called in a child of the caller, it forks, and returns in the new child, to run a command.
 
     The old child is its keeper: it kills all that the command has started once the command has
-    ended, or at SIGTERM, which the kernel sends once the tool is gone.
+    ended, or at a signal, which the kernel sends once the caller is gone.
     """
     signal.pthread_sigmask(signal.SIG_BLOCK, AWAITED)
-    PRCTL(PR_SET_CHILD_SUBREAPER, 1)
+    adopt_orphans()
     PRCTL(PR_SET_PDEATHSIG, signal.SIGTERM)
-    if os.getppid() != tool:
+    if os.getppid() != caller:
         os._exit(1)
     if (command := os.fork()) == 0:
         os.setsid()
@@ -57,13 +65,15 @@ def keep(tool: int) -> None:
         return
     with open("/proc/self/stat") as file:
         start, end = map(int, file.read().rpartition(")")[2].split()[45:47])
-    ctypes.memset(start, 0, end - start)  # `pkill -f` of the tool's name is to spare the keeper
+    ctypes.memset(start, 0, end - start)  # `pkill -f` of the caller's name is to spare the keeper
     os.closerange(0, max(map(int, os.listdir("/proc/self/fd"))) + 1)
-    ended, status = 0, int(signal.SIGTERM)
-    while ended != command and signal.sigwait(AWAITED) == signal.SIGCHLD:
+    ended = status = 0
+    while ended != command:
+        # One SIGCHLD may stand for several children.
+        if ended == 0 and (number := signal.sigwait(AWAITED)) != signal.SIGCHLD:
+            status = int(number)
+            break
         ended, status = os.waitpid(-1, os.WNOHANG)
-        while ended not in (0, command):
-            ended, status = os.waitpid(-1, os.WNOHANG)
     end_children()
     code = os.waitstatus_to_exitcode(status)
     os._exit(code if code >= 0 else 128 - code)
@@ -83,21 +93,29 @@ async def running(*words: object, **more: Any) -> AsyncIterator[Process]:
                 os.kill(process.pid, signal.SIGTERM)
         await process.communicate()  # its end waits until all that it said is read
         if process.returncode == -signal.SIGKILL:
-            raise Fault(TOOL, "a process that keeps others was killed")
+            raise OSError("a process that keeps others was killed")
 
 
-async def output(process: Process) -> tuple[int, str]:
+async def output(*words: object, **more: Any) -> tuple[int, str]:
     """The status of a command, and what it prints. It hangs where it prints too much."""
-    assert process.stdout
+    async with running(*words, stdin=DEVNULL, stdout=PIPE, **more) as process:
+        assert process.stdout
+        try:
+            printed = await process.stdout.readexactly(MOST_PRINTED)
+        except asyncio.IncompleteReadError as whole:
+            printed = whole.partial
+        return await process.wait(), printed.decode(errors="replace")
+
+
+def main() -> None:
+    if len(sys.argv) < 2:
+        sys.exit(f"usage: {sys.argv[0]} COMMAND..")
+    keep(os.getppid())
     try:
-        printed = await process.stdout.readexactly(MOST_PRINTED)
-    except asyncio.IncompleteReadError as whole:
-        printed = whole.partial
-    return await process.wait(), printed.decode(errors="replace")
+        os.execvp(sys.argv[1], sys.argv[1:])
+    except OSError as fault:
+        sys.exit(f"{sys.argv[1]}: {fault.strerror}")
 
 
-async def cancelled(tasks: list[asyncio.Task[None]]) -> None:
-    """Ends tasks, with the commands that run for them."""
-    for task in tasks:
-        task.cancel()
-    await asyncio.gather(*tasks, return_exceptions=True)
+if __name__ == "__main__":
+    main()

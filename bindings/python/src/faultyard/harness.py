@@ -1,0 +1,254 @@
+"""A harness that asks a guard about each fault, does what it answers, and writes it down."""
+
+from __future__ import annotations
+
+import asyncio
+import json
+import statistics
+from abc import ABC, abstractmethod
+from pathlib import Path
+from typing import (
+    Any,
+    Awaitable,
+    Callable,
+    Coroutine,
+    Dict,
+    Iterator,
+    List,
+    Mapping,
+    Optional,
+    Sequence,
+    Set,
+    Tuple,
+)
+
+from .cluster_file import ClusterFile
+from .enums import Key, Kind, Role
+from .errors import InvalidAct
+from .guard import Guard
+from .ledger import Ledger
+from .plans import Order
+from .programs import StrPath
+from .replies import Entry
+
+Act = Mapping[str, Mapping[str, Any]]
+Spawn = Callable[[Coroutine[Any, Any, None]], Awaitable[None]]
+OTHERS = frozenset(("kill", "clog", "unclog", "protect", "unprotect", "give", "take"))
+"""The acts that others may ask of a harness, which itself makes the reports."""
+
+
+class Harness(ABC):
+    """Carries out orders in asyncio. A subclass says how processes are struck and clogged.
+
+    class Mine(Harness):
+        async def strike(self, processes, kind): ...
+        async def clog(self, processes, is_clogged): ...
+
+    It tells `tell_up`, `tell_healed` and `tell_ended` once a process has come back or gone down.
+    """
+
+    def __init__(
+        self,
+        guard: Guard,
+        file: ClusterFile,
+        events: StrPath,
+        *,
+        unguarded: bool = False,
+        show: Callable[[str], None] = print,
+    ) -> None:
+        """`events` is a file that gets a line of JSON for whatever happens.
+
+        `unguarded`: what was ordered is done, whatever the guard says. `show` takes a line for each
+        order.
+        """
+        self.guard, self.file, self.ledger = guard, file, Ledger(guard)
+        self.storage, self.fault = file.actor(Role.STORAGE), file.actor(Role.FAULT)
+        self.unguarded = unguarded
+        self.names = [place[Key.PROCESS] for place in file.places]
+        self.up: Set[int] = set()
+        """The processes that run, as was told."""
+        self.gone: Set[int] = set()
+        """The processes that were killed for good, with the guard's leave or without."""
+        self.orders: List[Dict[str, Any]] = []
+        """All kills and clogs, as the events have them."""
+        self.turn = asyncio.Lock()
+        """Is held while somebody asks, and does what is answered."""
+        self.spawn: Spawn = asyncio.ensure_future
+        """Begins what goes on beside, as a task: the end of a clog."""
+        self._show = show
+        self._events = Path(events)
+        self._events.write_text("")
+        self._over = asyncio.Event()
+        self._clogs: List[Awaitable[None]] = []
+
+    @abstractmethod
+    async def strike(self, processes: Sequence[int], kind: Kind) -> None:
+        """Does to these processes what a kind says."""
+
+    @abstractmethod
+    async def clog(self, processes: Sequence[int], is_clogged: bool) -> None:
+        """Holds the messages of these processes, or lets them go."""
+
+    def show(self, text: str) -> None:
+        """Shows a line, with its time."""
+        self._show(f"{self.ledger.now():7.2f}  {text}")
+
+    def note(self, what: str, **more: Any) -> None:
+        """Writes an event."""
+        event = {"t": self.ledger.now(), "what": what, **more, "up": sorted(self.up)}
+        with self._events.open("a", encoding="utf-8") as file:
+            print(json.dumps(event), file=file)
+
+    # Orders.
+
+    def targets(self, key: Key, value: str) -> List[int]:
+        """The processes that have the value and aren't gone."""
+        return sorted(self.file.having(key, value) - self.gone)
+
+    async def obey(self, by: int, act: Act) -> Entry:
+        """Asks the guard, and does what it answers, or what was asked if unguarded."""
+        async with self.turn:
+            entry = self.guard.act(by, act)
+            order = Order.of(entry.act)
+            if order is not None:
+                await self._do(order, entry)
+                return entry
+            ((name, members),) = entry.act.items()
+            self.note(name, by=by, act=entry.act, entry=entry.at, reply=entry.told)
+            if name == "unclog" and (self.unguarded or entry.barred is None):
+                await self.clog(self.targets(Key(members["key"]), members["value"]), False)
+        return entry
+
+    async def asked(self, by: int, act: Act) -> Entry:
+        """Obeys others, for `serve`. `InvalidAct`: they may not report, nor store records."""
+        if not OTHERS & act.keys():
+            raise InvalidAct("only the tool starts, heals and writes")
+        return await self.obey(by, act)
+
+    async def _do(self, order: Order, entry: Entry) -> None:
+        said, does = entry.struck, order.kind if self.unguarded else entry.struck
+        processes = self.targets(order.key, order.value)
+        event: Dict[str, Any] = {
+            "by": entry.by,
+            "entry": entry.at,
+            "key": order.key.value,
+            "value": order.value,
+            "clogged": order.clogged,
+            "order": order.kind.value,
+            "verdict": said and said.value,
+            "rule": entry.barred,
+            "does": does and does.value,
+            "acked": len(self.ledger.records),
+            "targets": processes,
+            "beyond": does is not said,
+        }
+        self.orders.append(event)
+        self.note("order", **event)
+        self.show(self._told(event))
+        if does is Kind.CLOG:
+            await self.clog(processes, True)
+            self._clogs.append(self.spawn(self._unclog(order, entry.by)))
+        elif does is not None:
+            self.up.difference_update(processes)
+            if does.is_final:
+                self.gone.update(processes)
+            await self.strike(processes, does)
+            for process in processes if does.empties_disk else []:
+                self.ledger.destroy(process, entry.at)
+
+    def _told(self, event: Mapping[str, Any]) -> str:
+        """An order and what was done, as a line."""
+        done = "done" if event["does"] == event["order"] else event["does"] or "nothing"
+        if event["beyond"]:
+            done += f"; the guard said {event['verdict'] or 'nothing'}"
+        if event["rule"]:
+            done += f": {' '.join(map(str, event['rule']))}"
+        names = " ".join(self.names[process] for process in event["targets"]) or "nobody"
+        order = f"{event['order']} {event['value']} ({names})"
+        return f"{order:<40}{done:<40} acked {event['acked']}"
+
+    async def _unclog(self, order: Order, by: int) -> None:
+        try:
+            await asyncio.wait_for(self._over.wait(), order.clogged)
+        except asyncio.TimeoutError:
+            pass
+        await self.obey(by, {"unclog": {"key": order.key, "value": order.value}})
+
+    async def clogs_ended(self, at_once: bool = False) -> None:
+        """Waits until all that was clogged is let go, or lets it go at once."""
+        if at_once:
+            self._over.set()
+        await asyncio.gather(*self._clogs)
+
+    # Reports.
+
+    def tell_up(self, process: int) -> None:
+        """A process runs again."""
+        self.up.add(process)
+        self._tell("up", process, self.storage, {"up": {"process": process}})
+
+    def tell_healed(self, process: int) -> None:
+        """A destroyed process has its records again, up to the mark of `Ledger.due`."""
+        self._tell("heal", process, self.storage, {"heal": {"process": process}})
+        self.ledger.heal(process)
+
+    def tell_ended(self, process: int, why: str) -> None:
+        """A process went down, and nobody ordered it: told as a reboot."""
+        self.up.discard(process)
+        order = Order(Kind.REBOOT, Key.PROCESS, self.names[process])
+        self._tell(why, process, self.fault, order.act())
+
+    def _tell(self, what: str, process: int, by: int, act: Act) -> None:
+        if self.ledger.has_begun():  # before, the guard takes all for up
+            entry = self.guard.act(by, act)
+            self.note(what, process=process, entry=entry.at, reply=entry.told)
+
+    # What it comes to.
+
+    def beyond(self) -> Optional[Mapping[str, Any]]:
+        """The first order that went beyond what the guard said."""
+        return next((order for order in self.orders if order["beyond"]), None)
+
+    def summary(self, title: str) -> List[str]:
+        """How many orders there were and what became of them, and the first beyond the guard."""
+        healed, beyond = self.ledger.healed, self.beyond()
+        barred = sum(order["verdict"] is None for order in self.orders)
+        lessened = sum(order["verdict"] != order["order"] for order in self.orders) - barred
+        destroying = len({loss.entry for loss in self.ledger.losses})
+        median = f" (median {statistics.median(healed):.1f} s)" if healed else ""
+        lines = [
+            f"{'unguarded' if self.unguarded else 'guarded'}, {title}: "
+            f"{len(self.orders)} orders, {lessened} lessened, {barred} barred; "
+            f"{destroying} destroying; {len(healed)} healed{median}; "
+            f"longest without a write {self.ledger.longest_pause():.1f} s"
+        ]
+        if beyond:
+            said, done = beyond["verdict"] or "nothing", f"{beyond['does']} of {beyond['value']}"
+            entry = f"beyond the guard first: entry {beyond['entry']}"
+            lines.append(f"{entry}: the guard said {said}, {done} was done")
+        return lines
+
+    def lost(self, found: Mapping[str, str]) -> List[Dict[str, Any]]:
+        """The records that are lost, with the names of who could hold each."""
+        lost = self.ledger.lost(found)
+        return [{**it._asdict(), "able": [self.names[n] for n in it.able]} for it in lost]
+
+
+def lost_line(lost: Mapping[str, Any]) -> str:
+    """What a lost record is told as."""
+    entries = " ".join(map(str, lost["destroyed_by"]))
+    taken = f"destroyed later by entries {entries}" if entries else "none of them was destroyed"
+    when = f"acknowledged at {lost['t']:.2f} s before entry {lost['entry']}"
+    return f"lost: {lost['key']}, {when}; could be held by {' '.join(lost['able'])}; {taken}"
+
+
+def read_orders(events: StrPath) -> Iterator[Tuple[float, Order]]:
+    """The orders of a file of events with their times, to do them again; or `InvalidAct`."""
+    for number, line in enumerate(Path(events).read_text(encoding="utf-8").splitlines(), 1):
+        try:
+            event = json.loads(line)
+            if event["what"] == "order":
+                order = Order(Kind(event["order"]), Key(event["key"]), event["value"])
+                yield event["t"], order._replace(clogged=event.get("clogged", 0.0))
+        except (ValueError, KeyError, TypeError) as fault:
+            raise InvalidAct(f"{events}: line {number} is no event: {fault!r}") from None

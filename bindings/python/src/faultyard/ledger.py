@@ -1,0 +1,127 @@
+"""Which acknowledged records are lost, and which entries took those who could hold them."""
+
+from __future__ import annotations
+
+import time
+from typing import Dict, List, Mapping, NamedTuple, Optional, Set, Tuple
+
+from .guard import Guard
+
+
+class Record(NamedTuple):
+    """A record that was acknowledged."""
+
+    value: str
+    t: float
+    """When, in seconds."""
+    entry: int
+    """The entry of the audit that came next."""
+    able: Tuple[int, ...]
+    """Who could hold it: the processes that weren't destroyed then."""
+
+
+class Lost(NamedTuple):
+    """A record that was acknowledged, and isn't there any more."""
+
+    key: str
+    t: float
+    entry: int
+    able: Tuple[int, ...]
+    destroyed_by: Tuple[int, ...]
+    """The entries that destroyed those who could hold it, each for the first time since."""
+
+
+class Loss(NamedTuple):
+    """A process was destroyed, with all that it had."""
+
+    process: int
+    t: float
+    entry: int
+    """The entry that asked for it."""
+    sent: int
+    """How many writes were sent until then."""
+
+
+class Ledger:
+    """What a test was told is stored, and what it has destroyed, guarded or not.
+
+    It counts no answer that may be of a write from before a loss, once the process that was lost is
+    asked whether it is whole: such a record may have been on that process alone, which can't know
+    that it has to get it back.
+    """
+
+    def __init__(self, guard: Guard) -> None:
+        self._guard = guard
+        self._began: Optional[float] = None
+        self._sent = self._late = 0
+        self.able: Set[int] = set(range(guard.process_count()))
+        """The processes that aren't destroyed."""
+        self.destroyed: Dict[int, Loss] = {}
+        """The others."""
+        self.losses: List[Loss] = []
+        self.healed: List[float] = []
+        """How many seconds each process was destroyed that is healed."""
+        self.records: Dict[str, Record] = {}
+        self.mark = 0
+        """The largest that an acknowledgement told."""
+
+    def begin(self) -> None:
+        """Time goes on from 0."""
+        self._began = time.monotonic()
+
+    def has_begun(self) -> bool:
+        """Whether time goes on."""
+        return self._began is not None
+
+    def now(self) -> float:
+        """Seconds since the beginning, 0 before."""
+        return 0.0 if self._began is None else round(time.monotonic() - self._began, 3)
+
+    def send(self) -> int:
+        """The number of a write that is sent now, from 1."""
+        self._sent += 1
+        return self._sent
+
+    def acknowledge(self, write: int, key: str, value: str, mark: int) -> None:
+        """A write was acknowledged, with a number of the store that never falls."""
+        if write > self._late:
+            entry, able = self._guard.journal_len(), tuple(sorted(self.able))
+            self.records[key] = Record(value, self.now(), entry, able)
+            self.mark = max(self.mark, mark)
+
+    def destroy(self, process: int, entry: int) -> None:
+        """A process was emptied or killed for good, as an entry asked."""
+        loss = Loss(process, self.now(), entry, self._sent)
+        self.losses.append(loss)
+        self.destroyed[process] = loss
+        self.able.discard(process)
+
+    def due(self, process: int) -> int:
+        """The mark up to which a destroyed process needs all records again."""
+        self._late = max(self._late, self.destroyed[process].sent)
+        return self.mark
+
+    def heal(self, process: int) -> None:
+        """A destroyed process has them."""
+        self.healed.append(self.now() - self.destroyed.pop(process).t)
+        self.able.add(process)
+
+    def lost(self, found: Mapping[str, str]) -> List[Lost]:
+        """The records that aren't among those that were found."""
+        return [
+            Lost(key, record.t, record.entry, record.able, self._takers(record))
+            for key, record in self.records.items()
+            if found.get(key) != record.value
+        ]
+
+    def _takers(self, record: Record) -> Tuple[int, ...]:
+        first: Dict[int, int] = {}
+        for loss in self.losses:
+            if loss.t >= record.t and loss.process in record.able:
+                first.setdefault(loss.process, loss.entry)
+        return tuple(sorted(set(first.values())))
+
+    def longest_pause(self) -> float:
+        """The longest time between two acknowledgements, or before the first."""
+        times = [0.0, *(record.t for record in self.records.values())]
+        return max((later - t for t, later in zip(times, times[1:])), default=0.0)
