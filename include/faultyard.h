@@ -76,6 +76,17 @@ typedef enum fy_status {
                                header answer it: the library itself asks for an open guard. */
 } fy_status;
 
+/* The parts of a cluster file, in the order in which they are looked at. */
+typedef enum fy_part {
+    FY_WHOLE_FILE = 0,         /* No one part: the file is too long, or no TOML document. */
+    FY_PART_JOURNAL_LIMIT = 1, /* journal_limit */
+    FY_PART_POLICIES = 2,      /* policies */
+    FY_PART_PROCESS = 3,       /* process */
+    FY_PART_ACTOR = 4,         /* actor */
+    FY_PART_PROTECT = 5,       /* protect */
+    FY_PART_UNKNOWN = 6,       /* A key at the top that is none of these. */
+} fy_part;
+
 /* By which part of its place a process is meant. */
 typedef enum fy_key {
     FY_PROCESS = 1,     /* processid */
@@ -143,9 +154,16 @@ typedef enum fy_refusal {
 /* How many words of 64 bits have a bit for each process, the first process lowest in the first. */
 #define FY_SET_WORDS 16
 
-/* What stands for a process and for a message where there is none. */
+/* What stands for a process or a record, and for a message, where there is none. */
 #define FY_NOBODY UINT32_MAX
+#define FY_NO_SUCH_RECORD UINT32_MAX
 #define FY_NOTHING UINT64_MAX
+
+/* The state of a process: the sum of those that hold. */
+#define FY_STATE_UP 1u        /* It runs. */
+#define FY_STATE_CLOGGED 2u   /* Its messages are held back. */
+#define FY_STATE_DESTROYED 4u /* It was struck by a kind that empties its disk, and not healed since. */
+#define FY_STATE_GONE 8u      /* It was killed for good. */
 
 /* The time, and what there is to do next. */
 typedef struct fy_seen {
@@ -163,11 +181,16 @@ typedef struct fy_seen {
  * stands at the call of the same name below.
  */
 uint32_t fy_version(void);
+uint32_t fy_config_fault(const uint8_t *config, size_t config_length, uint32_t *part, uint64_t *place);
 uint32_t fy_open(const uint8_t *config, size_t config_length, fy_guard *guard);
 void fy_close(fy_guard guard);
+uint32_t fy_reset(fy_guard *guard);
 uint32_t fy_kill(fy_guard *guard, uint32_t actor, uint32_t key, const uint8_t *value, size_t value_length,
                  uint32_t kind, uint32_t floor, uint64_t tear, uint32_t *struck, uint32_t *rule,
                  uint64_t *named);
+uint32_t fy_judge(const fy_guard *guard, uint32_t actor, uint32_t key, const uint8_t *value,
+                  size_t value_length, uint32_t kind, uint32_t floor, uint32_t *struck, uint32_t *rule,
+                  uint64_t *named);
 uint32_t fy_up(fy_guard *guard, uint32_t actor, uint32_t process, uint32_t *refusal);
 uint32_t fy_heal(fy_guard *guard, uint32_t actor, uint32_t process, uint32_t *refusal);
 uint32_t fy_act(fy_guard *guard, const uint8_t *line, size_t line_length, uint8_t *buffer,
@@ -178,6 +201,9 @@ uint32_t fy_targets(const fy_guard *guard, uint32_t key, const uint8_t *value, s
                     uint64_t *set, size_t words);
 uint32_t fy_is_destroyed(const fy_guard *guard, uint32_t process);
 void fy_left(const fy_guard *guard, uint64_t *set, size_t words);
+void fy_up_set(const fy_guard *guard, uint64_t *set, size_t words);
+uint32_t fy_state(const fy_guard *guard, uint32_t process);
+uint32_t fy_needed(const fy_guard *guard, uint32_t process);
 void fy_destroyed_set(const fy_guard *guard, uint64_t *set, size_t words);
 void fy_gone_set(const fy_guard *guard, uint64_t *set, size_t words);
 uint32_t fy_is_acked(const fy_guard *guard, uint32_t record);
@@ -203,6 +229,22 @@ static inline fy_status fy_guard_open(const char *config, size_t length, fy_guar
     return (fy_status)fy_open((const uint8_t *)config, length, guard);
 }
 
+/* The first fault of a text that is no cluster file. The status is the one with which fy_guard_open
+ * refuses it; FY_DONE where it has no fault. `*part` is the fy_part that the fault is in. `*place` is
+ * its place there, from 0: that of the process, actor or protection after FY_CONFIG_NAME, that of the
+ * policy after FY_CONFIG_POLICY and FY_CONFIG_UNMET, and else 0. Both are 0 after FY_DONE and
+ * FY_NO_MEMORY.
+ *
+ * FY_CLOSED where a pointer is null, else FY_DONE, FY_NO_MEMORY, or FY_CONFIG_TOO_LONG to
+ * FY_CONFIG_UNMET. */
+static inline fy_status fy_guard_config_fault(const char *config, size_t length, uint32_t *part,
+                                              uint64_t *place)
+{
+    if (config == NULL || part == NULL || place == NULL)
+        return FY_CLOSED;
+    return (fy_status)fy_config_fault((const uint8_t *)config, length, part, place);
+}
+
 /* Frees what a guard holds, and closes it; of a guard that is closed, or of null, nothing. */
 static inline void fy_guard_close(fy_guard *guard)
 {
@@ -217,6 +259,16 @@ static inline void fy_guard_close(fy_guard *guard)
 static inline int fy_guard_is_open(const fy_guard *guard)
 {
     return guard != NULL && guard->at != NULL;
+}
+
+/* Puts a guard back to where nothing happened yet, without its cluster file being read again.
+ *
+ * In this order: FY_CLOSED, FY_NO_MEMORY. */
+static inline fy_status fy_guard_reset(fy_guard *guard)
+{
+    if (!fy_guard_is_open(guard))
+        return FY_CLOSED;
+    return (fy_status)fy_reset(guard);
 }
 
 /* Orders a kill: by this actor, of the processes whose key has the value (a text that ends with a
@@ -242,6 +294,21 @@ static inline fy_status fy_guard_kill(fy_guard *guard, uint32_t actor, fy_key ke
                               (uint32_t)kind, (uint32_t)floor, tear, struck, rule, named);
 }
 
+/* What fy_guard_kill would answer now to the same order, if the journal had room. It enters nothing,
+ * and asks for no memory. `*struck`, `*rule` and `*named` are those of fy_guard_kill.
+ *
+ * In this order: FY_CLOSED, FY_ARGUMENT, FY_NAME, FY_FLOOR; FY_REFUSED where there is no actor with
+ * this number. */
+static inline fy_status fy_guard_judge(const fy_guard *guard, uint32_t actor, fy_key key,
+                                       const char *value, fy_kind kind, fy_kind floor,
+                                       uint32_t *struck, uint32_t *rule, uint64_t *named)
+{
+    if (!fy_guard_is_open(guard) || value == NULL || struck == NULL || rule == NULL || named == NULL)
+        return FY_CLOSED;
+    return (fy_status)fy_judge(guard, actor, (uint32_t)key, (const uint8_t *)value, strlen(value),
+                               (uint32_t)kind, (uint32_t)floor, struck, rule, named);
+}
+
 /* Says that a process runs again, by an actor whose role is storage. `*refusal` is the fy_refusal.
  *
  * In this order: FY_CLOSED, FY_JOURNAL_FULL, FY_NO_MEMORY. FY_REFUSED where it is up, gone or not
@@ -254,7 +321,8 @@ static inline fy_status fy_guard_up(fy_guard *guard, uint32_t actor, uint32_t pr
 }
 
 /* Says that a process that was destroyed has every acknowledged record on its disk again, by an
- * actor whose role is storage. `*refusal` is the fy_refusal. Statuses as of fy_guard_up. */
+ * actor whose role is storage. `*refusal` is the fy_refusal; after FY_STILL_NEEDS fy_guard_needed
+ * answers the record. Statuses as of fy_guard_up. */
 static inline fy_status fy_guard_heal(fy_guard *guard, uint32_t actor, uint32_t process,
                                       uint32_t *refusal)
 {
@@ -330,6 +398,37 @@ static inline fy_status fy_guard_left(const fy_guard *guard, uint64_t set[FY_SET
     if (!fy_guard_is_open(guard) || set == NULL)
         return FY_CLOSED;
     fy_left(guard, set, FY_SET_WORDS);
+    return FY_DONE;
+}
+
+/* Who is up; the set is written as fy_guard_left writes it. FY_CLOSED, else FY_DONE. */
+static inline fy_status fy_guard_up_set(const fy_guard *guard, uint64_t set[FY_SET_WORDS])
+{
+    if (!fy_guard_is_open(guard) || set == NULL)
+        return FY_CLOSED;
+    fy_up_set(guard, set, FY_SET_WORDS);
+    return FY_DONE;
+}
+
+/* The state of a process: the sum of FY_STATE_UP, FY_STATE_CLOGGED, FY_STATE_DESTROYED and
+ * FY_STATE_GONE, each where it holds; FY_NOBODY where there is no process with this number.
+ * FY_CLOSED, else FY_DONE. */
+static inline fy_status fy_guard_state(const fy_guard *guard, uint32_t process, uint32_t *state)
+{
+    if (!fy_guard_is_open(guard) || state == NULL)
+        return FY_CLOSED;
+    *state = fy_state(guard, process);
+    return FY_DONE;
+}
+
+/* The record that a process still needs before it may be healed, the one that FY_STILL_NEEDS is
+ * about: of its teams' records, the least acknowledged one that it hasn't synced. FY_NO_SUCH_RECORD
+ * where there is none, or no process with this number. FY_CLOSED, else FY_DONE. */
+static inline fy_status fy_guard_needed(const fy_guard *guard, uint32_t process, uint32_t *record)
+{
+    if (!fy_guard_is_open(guard) || record == NULL)
+        return FY_CLOSED;
+    *record = fy_needed(guard, process);
     return FY_DONE;
 }
 

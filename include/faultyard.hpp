@@ -317,6 +317,29 @@ struct Sight {
     }
 };
 
+/* The state of a process. */
+struct State {
+    /* It runs. */
+    bool up = false;
+    /* Its messages are held back. */
+    bool clogged = false;
+    /* It was struck by a kind that empties its disk, and not healed since. */
+    bool destroyed = false;
+    /* It was killed for good. */
+    bool gone = false;
+
+    friend constexpr bool operator==(const State &one, const State &other) noexcept
+    {
+        return one.up == other.up && one.clogged == other.clogged &&
+               one.destroyed == other.destroyed && one.gone == other.gone;
+    }
+
+    friend constexpr bool operator!=(const State &one, const State &other) noexcept
+    {
+        return !(one == other);
+    }
+};
+
 /* A guard. It is moved and never copied. After `close`, and after it was moved from, each call
  * throws Closed.
  *
@@ -350,6 +373,10 @@ public:
 
     bool is_open() const noexcept { return fy_guard_is_open(&guard_) != 0; }
 
+    /* Puts the guard back to where nothing happened yet, without reading its cluster file again.
+     * Throws Closed, NoMemory. */
+    void reset() { require(fy_reset(opened())); }
+
     /* Orders a kill of the processes whose key has the value: by the kind, or where that is barred
      * by a milder one down to the floor. Bit i of `tear` is 1 where a reboot keeps the unsynced
      * write i.
@@ -365,14 +392,22 @@ public:
                     value.size(), static_cast<std::uint32_t>(kind),
                     static_cast<std::uint32_t>(floor), tear, &struck, &rule, &named);
         require(status, FY_STRANGER);
-        Verdict verdict;
-        if (struck != FY_NONE)
-            verdict.struck = static_cast<Kind>(struck);
-        if (rule != FY_NO_RULE)
-            verdict.rule = static_cast<Rule>(rule);
-        if (rule != FY_NO_RULE && rule != FY_NO_TARGET)
-            verdict.named = named;
-        return verdict;
+        return verdict_of(struck, rule, named);
+    }
+
+    /* What `kill` would answer now to the same order, if the journal had room. It enters nothing.
+     * Throws in order Closed, Argument, Name, Floor; Refused where there is no such actor. */
+    [[nodiscard]] Verdict judge(std::uint32_t actor, Key key, std::string_view value, Kind kind,
+                                Kind floor = Kind::RebootProcess) const
+    {
+        std::uint32_t struck = 0, rule = 0;
+        std::uint64_t named = 0;
+        const std::uint32_t status =
+            fy_judge(opened(), actor, static_cast<std::uint32_t>(key), detail::bytes(value),
+                     value.size(), static_cast<std::uint32_t>(kind),
+                     static_cast<std::uint32_t>(floor), &struck, &rule, &named);
+        require(status, FY_STRANGER);
+        return verdict_of(struck, rule, named);
     }
 
     /* Reports that a process runs again, by an actor whose role is storage.
@@ -439,11 +474,37 @@ public:
     /* The processes that aren't gone for good, emptied or not. Throws Closed. */
     Processes left() const { return asked(fy_left); }
 
+    /* The processes that are up. Throws Closed. */
+    Processes up_set() const { return asked(fy_up_set); }
+
     /* The processes that are destroyed, gone for good or not. Throws Closed. */
     Processes destroyed() const { return asked(fy_destroyed_set); }
 
     /* The processes that are gone for good. Throws Closed. */
     Processes gone() const { return asked(fy_gone_set); }
+
+    /* The state of a process. Empty where there is no process with this number. Throws Closed. */
+    std::optional<State> state(std::uint32_t process) const
+    {
+        const std::uint32_t bits = fy_state(opened(), process);
+        if (bits == FY_NOBODY)
+            return std::nullopt;
+        State state;
+        state.up = (bits & FY_STATE_UP) != 0;
+        state.clogged = (bits & FY_STATE_CLOGGED) != 0;
+        state.destroyed = (bits & FY_STATE_DESTROYED) != 0;
+        state.gone = (bits & FY_STATE_GONE) != 0;
+        return state;
+    }
+
+    /* The record that a process still needs before it may be healed: of its teams' records, the
+     * least acknowledged one that it hasn't synced. `heal` throws StillNeeds for it. Throws
+     * Closed. */
+    std::optional<std::uint32_t> needed(std::uint32_t process) const
+    {
+        const std::uint32_t record = fy_needed(opened(), process);
+        return record == FY_NO_SUCH_RECORD ? std::nullopt : std::optional(record);
+    }
 
     /* Whether a record is acknowledged. Throws Closed. */
     bool is_acked(std::uint32_t record) const { return fy_is_acked(opened(), record) != 0; }
@@ -540,6 +601,18 @@ private:
         for (std::size_t process = 0; process < set.size(); process++)
             set[process] = (words[process / 64] >> process % 64 & 1) != 0;
         return set;
+    }
+
+    static Verdict verdict_of(std::uint32_t struck, std::uint32_t rule, std::uint64_t named) noexcept
+    {
+        Verdict verdict;
+        if (struck != FY_NONE)
+            verdict.struck = static_cast<Kind>(struck);
+        if (rule != FY_NO_RULE)
+            verdict.rule = static_cast<Rule>(rule);
+        if (rule != FY_NO_RULE && rule != FY_NO_TARGET)
+            verdict.named = named;
+        return verdict;
     }
 
     static std::optional<std::uint32_t> somebody(std::uint32_t process) noexcept

@@ -61,6 +61,19 @@ func (guard *Guard) Close() error {
 	})
 }
 
+// Reset puts the guard back to where nothing happened yet, without reading its cluster file again.
+// Its error is the first of ErrClosed, ErrNoMemory.
+func (guard *Guard) Reset() error {
+	var status C.uint32_t
+	err := guard.do(func(its *C.fy_guard) {
+		status = C.fy_reset(its)
+	})
+	if err != nil {
+		return err
+	}
+	return errorOf(status)
+}
+
 // Order is an order to kill the processes whose Key has the Value.
 type Order struct {
 	Key   Key
@@ -90,17 +103,46 @@ type Verdict struct {
 // Its error is the first of ErrClosed, ErrArgument, ErrName, ErrFloor, ErrJournalFull, ErrNoMemory;
 // or RefusalStranger where there is no such actor.
 func (guard *Guard) Kill(actor uint32, order Order) (Verdict, error) {
-	floor := order.Floor
-	if floor == None {
-		floor = RebootProcess
-	}
 	value, length := bytesOf([]byte(order.Value))
+	return guard.verdict(func(
+		its *C.fy_guard, struck, rule *C.uint32_t, named *C.uint64_t,
+	) C.uint32_t {
+		return C.fy_kill(its, C.uint32_t(actor), C.uint32_t(order.Key), value, length,
+			C.uint32_t(order.Kind), order.floor(), C.uint64_t(order.Tear), struck, rule, named)
+	})
+}
+
+// Judge answers what Kill would answer now to the same order, if the journal had room. It enters
+// nothing.
+//
+// Its error is the first of ErrClosed, ErrArgument, ErrName, ErrFloor; or RefusalStranger where
+// there is no such actor.
+func (guard *Guard) Judge(actor uint32, order Order) (Verdict, error) {
+	value, length := bytesOf([]byte(order.Value))
+	return guard.verdict(func(
+		its *C.fy_guard, struck, rule *C.uint32_t, named *C.uint64_t,
+	) C.uint32_t {
+		return C.fy_judge(its, C.uint32_t(actor), C.uint32_t(order.Key), value, length,
+			C.uint32_t(order.Kind), order.floor(), struck, rule, named)
+	})
+}
+
+// floor is RebootProcess where the order leaves it out.
+func (order Order) floor() C.uint32_t {
+	if order.Floor == None {
+		return C.FY_REBOOT_PROCESS
+	}
+	return C.uint32_t(order.Floor)
+}
+
+// verdict answers the verdict that a call of the library tells.
+func (guard *Guard) verdict(
+	call func(its *C.fy_guard, struck, rule *C.uint32_t, named *C.uint64_t) C.uint32_t,
+) (Verdict, error) {
 	var status, struck, rule C.uint32_t
 	var named C.uint64_t
 	err := guard.do(func(its *C.fy_guard) {
-		status = C.fy_kill(its, C.uint32_t(actor), C.uint32_t(order.Key), value, length,
-			C.uint32_t(order.Kind), C.uint32_t(floor), C.uint64_t(order.Tear),
-			&struck, &rule, &named)
+		status = call(its, &struck, &rule, &named)
 	})
 	if err == nil {
 		err = reportOf(status, C.FY_STRANGER)
@@ -181,6 +223,14 @@ func (guard *Guard) Left() ([]uint32, error) {
 	})
 }
 
+// UpSet answers the processes that are up, in the order of their numbers. Its error is ErrClosed.
+func (guard *Guard) UpSet() ([]uint32, error) {
+	return guard.set(func(its *C.fy_guard, words *C.uint64_t) C.uint32_t {
+		C.fy_up_set(its, words, C.FY_SET_WORDS)
+		return C.FY_DONE
+	})
+}
+
 // Destroyed answers the processes that are destroyed, gone for good or not, in the order of their
 // numbers. Its error is ErrClosed.
 func (guard *Guard) Destroyed() ([]uint32, error) {
@@ -235,11 +285,53 @@ func (guard *Guard) set(
 	return set, nil
 }
 
-// What stands for a process and for a message where there is none.
+// What stands for a process, a record and a message where there is none.
 const (
-	Nobody  uint32 = C.FY_NOBODY
-	Nothing uint64 = C.FY_NOTHING
+	Nobody       uint32 = C.FY_NOBODY
+	NoSuchRecord uint32 = C.FY_NO_SUCH_RECORD
+	Nothing      uint64 = C.FY_NOTHING
 )
+
+// State is the state of a process.
+type State struct {
+	// Up is: it runs.
+	Up bool
+	// Clogged is: its messages are held back.
+	Clogged bool
+	// Destroyed is: it was struck by a kind that empties its disk, and not healed since.
+	Destroyed bool
+	// Gone is: it was killed for good.
+	Gone bool
+}
+
+// State answers the state of a process, and whether there is a process with this number. Its error
+// is ErrClosed.
+func (guard *Guard) State(process uint32) (State, bool, error) {
+	var bits C.uint32_t
+	err := guard.do(func(its *C.fy_guard) {
+		bits = C.fy_state(its, C.uint32_t(process))
+	})
+	if err != nil || bits == C.FY_NOBODY {
+		return State{}, false, err
+	}
+	return State{
+		Up:        bits&C.FY_STATE_UP != 0,
+		Clogged:   bits&C.FY_STATE_CLOGGED != 0,
+		Destroyed: bits&C.FY_STATE_DESTROYED != 0,
+		Gone:      bits&C.FY_STATE_GONE != 0,
+	}, true, nil
+}
+
+// Needed answers the record that a process still needs before it may be healed: of its teams'
+// records, the least acknowledged one that it hasn't synced. It is NoSuchRecord where there is none.
+// Heal is refused with RefusalStillNeeds for it. Its error is ErrClosed.
+func (guard *Guard) Needed(process uint32) (uint32, error) {
+	record := NoSuchRecord
+	err := guard.do(func(its *C.fy_guard) {
+		record = uint32(C.fy_needed(its, C.uint32_t(process)))
+	})
+	return record, err
+}
 
 // Process answers the number of the process whose processid is a name, or Nobody. Its error is
 // ErrClosed.

@@ -13,9 +13,26 @@ static const char *KILL_ZONE =
 
 static fy_status kill(fy_guard *guard, uint32_t actor, fy_key key, const char *value, fy_kind kind, fy_kind floor)
 {
+    /* What is judged is what the kill then gets, but for a full journal. */
+    uint32_t would_strike = 77, why = 77;
+    uint64_t which = 77;
+    size_t count = 0, after = 0;
+    fy_guard_journal_len(guard, &count);
+    fy_status judged = fy_guard_judge(guard, actor, key, value, kind, floor, &would_strike, &why, &which);
+    fy_guard_journal_len(guard, &after);
+    EQUAL(after, count);
     struck = rule = 77;
     named = 77;
-    return fy_guard_kill(guard, actor, key, value, kind, floor, 0, &struck, &rule, &named);
+    fy_status status = fy_guard_kill(guard, actor, key, value, kind, floor, 0, &struck, &rule, &named);
+    if (status == FY_JOURNAL_FULL) {
+        EQUAL(judged, FY_DONE);
+    } else {
+        EQUAL(judged, status);
+        EQUAL(would_strike, struck);
+        EQUAL(why, rule);
+        EQUAL(which, named);
+    }
+    return status;
 }
 
 /* The worked kill: zone z0 may go, and then z1 is rebooted. */
@@ -132,10 +149,32 @@ static void refusals(void)
             EQUAL((found)[word], 0);      \
     } while (0)
 
-/* The sets of a guard: who is left, destroyed and gone. */
-static void sets_are(const fy_guard *guard, uint64_t left, uint64_t destroyed, uint64_t gone)
+static void act(fy_guard *guard, const char *line)
+{
+    char buffer[512];
+    size_t told = 0;
+    EQUAL(fy_guard_act(guard, line, strlen(line), buffer, sizeof buffer, &told), FY_DONE);
+    if (strstr(line, "\"act\"") == NULL || told == 0)
+        return;
+    buffer[told] = 0;
+    EQUAL(strstr(buffer, "\"no\"") == NULL, 1);
+}
+
+/* The sets of a guard: who is up, left, destroyed and gone. What has become of each process agrees. */
+static void sets_are(const fy_guard *guard, uint64_t up, uint64_t left, uint64_t destroyed, uint64_t gone)
 {
     uint64_t set[FY_SET_WORDS];
+    uint32_t state = 77;
+    for (uint32_t p = 0; p < 6; p++) {
+        EQUAL(fy_guard_state(guard, p, &state), FY_DONE);
+        EQUAL(state & FY_STATE_UP, up >> p & 1 ? FY_STATE_UP : 0);
+        EQUAL(state & FY_STATE_DESTROYED, destroyed >> p & 1 ? FY_STATE_DESTROYED : 0);
+        EQUAL(state & FY_STATE_GONE, gone >> p & 1 ? FY_STATE_GONE : 0);
+        EQUAL(state & ~(FY_STATE_UP | FY_STATE_DESTROYED | FY_STATE_GONE), 0);
+    }
+    memset(set, 0xff, sizeof set);
+    EQUAL(fy_guard_up_set(guard, set), FY_DONE);
+    SET(set, up);
     memset(set, 0xff, sizeof set);
     EQUAL(fy_guard_left(guard, set), FY_DONE);
     SET(set, left);
@@ -163,7 +202,12 @@ static void sets(void)
     fy_guard guard = open_guard(SIX);
     uint32_t refusal;
     uint64_t set[FY_SET_WORDS];
-    sets_are(&guard, 0x3f, 0, 0);
+    sets_are(&guard, 0x3f, 0x3f, 0, 0);
+    uint32_t state = 77;
+    EQUAL(fy_guard_state(&guard, 6, &state), FY_DONE);
+    EQUAL(state, FY_NOBODY);
+    EQUAL(fy_guard_state(&guard, UINT32_MAX, &state), FY_DONE);
+    EQUAL(state, FY_NOBODY);
     targets_are(&guard, FY_ZONE, "z0", 0x03);
     targets_are(&guard, FY_PROCESS, "p5", 0x20);
     targets_are(&guard, FY_MACHINE, "m2", 0x04);
@@ -172,15 +216,24 @@ static void sets(void)
     targets_are(&guard, FY_ZONE, "p5", 0);
     EQUAL(kill(&guard, 1, FY_PROCESS, "p1", FY_KILL_INSTANTLY, FY_KILL_INSTANTLY), FY_DONE);
     EQUAL(struck, FY_KILL_INSTANTLY);
-    sets_are(&guard, 0x3d, 0x02, 0x02);
+    sets_are(&guard, 0x3d, 0x3d, 0x02, 0x02);
     targets_are(&guard, FY_ZONE, "z0", 0x01);
     EQUAL(kill(&guard, 1, FY_ZONE, "z0", FY_REBOOT_AND_DELETE, FY_REBOOT_AND_DELETE), FY_DONE);
     EQUAL(struck, FY_REBOOT_AND_DELETE);
-    sets_are(&guard, 0x3d, 0x03, 0x02);
+    sets_are(&guard, 0x3c, 0x3d, 0x03, 0x02);
     targets_are(&guard, FY_ZONE, "z0", 0x01);
     EQUAL(fy_guard_up(&guard, 0, 0, &refusal), FY_DONE);
     EQUAL(fy_guard_heal(&guard, 0, 0, &refusal), FY_DONE);
-    sets_are(&guard, 0x3d, 0x02, 0x02);
+    sets_are(&guard, 0x3d, 0x3d, 0x02, 0x02);
+    /* A clog of zone z2 for three ticks holds until the third has passed. */
+    act(&guard, "{\"by\":1,\"act\":{\"clog\":{\"key\":\"zoneid\",\"value\":\"z2\",\"ticks\":3}}}");
+    for (int tick = 0; tick < 4; tick++) {
+        for (uint32_t p = 2; p < 6; p++) {
+            EQUAL(fy_guard_state(&guard, p, &state), FY_DONE);
+            EQUAL(state, tick < 3 && p >= 4 ? FY_STATE_UP | FY_STATE_CLOGGED : FY_STATE_UP);
+        }
+        act(&guard, "{\"by\":0,\"act\":{\"tick\":{\"ticks\":1}}}");
+    }
     /* What is no target writes nothing. */
     memset(set, 0x55, sizeof set);
     EQUAL(fy_guard_targets(&guard, (fy_key)0, "z0", set), FY_ARGUMENT);
@@ -189,6 +242,27 @@ static void sets(void)
     EQUAL(fy_guard_targets(&guard, FY_ZONE, "z 0", set), FY_NAME);
     for (int word = 0; word < FY_SET_WORDS; word++)
         EQUAL(set[word], 0x5555555555555555);
+    fy_guard_close(&guard);
+}
+
+/* A guard that is reset is as it was opened, and then does the same again. */
+static void reset(void)
+{
+    fy_guard guard = open_guard(SIX);
+    char first[512], second[512];
+    size_t told = 0, again = 0, count = 77;
+    for (int round = 0; round < 2; round++) {
+        sets_are(&guard, 0x3f, 0x3f, 0, 0);
+        act(&guard, "{\"by\":0,\"act\":{\"tick\":{\"ticks\":7}}}");
+        EQUAL(kill(&guard, 1, FY_ZONE, "z0", FY_KILL_INSTANTLY, FY_REBOOT), FY_DONE);
+        EQUAL(struck, FY_KILL_INSTANTLY);
+        sets_are(&guard, 0x3c, 0x3c, 0x03, 0x03);
+        EQUAL(fy_guard_audit(&guard, 1, round == 0 ? first : second, sizeof first, round == 0 ? &told : &again), FY_DONE);
+        EQUAL(fy_guard_reset(&guard), FY_DONE);
+        EQUAL(fy_guard_journal_len(&guard, &count), FY_DONE);
+        EQUAL(count, 0);
+    }
+    EQUAL(told == again && memcmp(first, second, told) == 0, 1);
     fy_guard_close(&guard);
 }
 
@@ -214,17 +288,6 @@ static void names(void)
     fy_guard_close(&guard);
 }
 
-static void act(fy_guard *guard, const char *line)
-{
-    char buffer[512];
-    size_t told = 0;
-    EQUAL(fy_guard_act(guard, line, strlen(line), buffer, sizeof buffer, &told), FY_DONE);
-    if (strstr(line, "\"act\"") == NULL || told == 0)
-        return;
-    buffer[told] = 0;
-    EQUAL(strstr(buffer, "\"no\"") == NULL, 1);
-}
-
 static void seen_is(const fy_guard *guard, uint64_t now, uint64_t deliverable, uint32_t unsynced, uint32_t sleeping)
 {
     fy_seen seen;
@@ -244,6 +307,13 @@ static void record_is(const fy_guard *guard, uint32_t record, int acked, uint32_
     EQUAL(found, acked);
     EQUAL(fy_guard_keeper(guard, record, &process), FY_DONE);
     EQUAL(process, keeper);
+}
+
+static void needed_is(const fy_guard *guard, uint32_t process, uint32_t wanted)
+{
+    uint32_t record = 77;
+    EQUAL(fy_guard_needed(guard, process, &record), FY_DONE);
+    EQUAL(record, wanted);
 }
 
 /* A record of processes 0 and 2 is acknowledged by the second word, and kept by the least of them that isn't destroyed. */
@@ -274,6 +344,21 @@ static void records(void)
     EQUAL(struck, FY_REBOOT_AND_DELETE);
     record_is(&guard, 0, 1, 2);
     seen_is(&guard, 9, FY_NOTHING, FY_NOBODY, 0);
+    /* What a heal is refused for is needed, until it is synced again. */
+    needed_is(&guard, 2, FY_NO_SUCH_RECORD);
+    needed_is(&guard, 1, FY_NO_SUCH_RECORD);
+    needed_is(&guard, 6, FY_NO_SUCH_RECORD);
+    needed_is(&guard, 0, 0);
+    uint32_t refusal;
+    EQUAL(fy_guard_up(&guard, 0, 0, &refusal), FY_DONE);
+    EQUAL(fy_guard_heal(&guard, 0, 0, &refusal), FY_REFUSED);
+    EQUAL(refusal, FY_STILL_NEEDS);
+    act(&guard, "{\"by\":0,\"act\":{\"copy\":{\"from\":2,\"record\":0,\"to\":0}}}");
+    act(&guard, "{\"by\":0,\"act\":{\"deliver\":{\"message\":4}}}");
+    needed_is(&guard, 0, 0);
+    act(&guard, "{\"by\":0,\"act\":{\"sync\":{\"process\":0}}}");
+    needed_is(&guard, 0, FY_NO_SUCH_RECORD);
+    EQUAL(fy_guard_heal(&guard, 0, 0, &refusal), FY_DONE);
     fy_guard_close(&guard);
 }
 
@@ -343,27 +428,51 @@ static void cluster_files(void)
     static const struct {
         const char *text;
         fy_status status;
+        fy_part part;
+        uint64_t place;
     } files[] = {
-        {"", FY_CONFIG_FIELD},
-        {"=", FY_CONFIG_TOML},
-        {"\xff", FY_CONFIG_TOML},
-        {"journal_limit = 0\n" REST("Across(2,zoneid,One())", "z1"), FY_CONFIG_LIMIT},
-        {"journal_limit = 1.0\n" REST("Across(2,zoneid,One())", "z1"), FY_CONFIG_FIELD},
-        {"journal_limit = 1\n" REST("Across(2,zoneid,One())", "z 1"), FY_CONFIG_NAME},
-        {"journal_limit = 1\n" REST("Across(2,zone,One())", "z1"), FY_CONFIG_POLICY},
-        {"journal_limit = 1\n" REST("Across(3,zoneid,One())", "z1"), FY_CONFIG_UNMET},
+        {"", FY_CONFIG_FIELD, FY_PART_JOURNAL_LIMIT, 0},
+        {"journal_limit = 1\n", FY_CONFIG_FIELD, FY_PART_POLICIES, 0},
+        {"=", FY_CONFIG_TOML, FY_WHOLE_FILE, 0},
+        {"\xff", FY_CONFIG_TOML, FY_WHOLE_FILE, 0},
+        {"journal_limit = 0\n" REST("Across(2,zoneid,One())", "z1"), FY_CONFIG_LIMIT, FY_PART_JOURNAL_LIMIT, 0},
+        {"journal_limit = 1.0\n" REST("Across(2,zoneid,One())", "z1"), FY_CONFIG_FIELD, FY_PART_JOURNAL_LIMIT, 0},
+        {"journal_limit = 1\nmore = 1\n" REST("Across(2,zoneid,One())", "z1"), FY_CONFIG_FIELD, FY_PART_UNKNOWN, 0},
+        {"journal_limit = 1\n" REST("Across(2,zoneid,One())", "z 1"), FY_CONFIG_NAME, FY_PART_PROCESS, 1},
+        {"journal_limit = 1\nprotect = [{process = \"p0\", kinds = [\"Reboot\"]}, {process = \"p9\", kinds = [\"Reboot\"]}]\n"
+         REST("Across(2,zoneid,One())", "z1"), FY_CONFIG_NAME, FY_PART_PROTECT, 1},
+        {"journal_limit = 1\n" PROCESSES("Across(2,zoneid,One())", "z1") "actor = []\n", FY_CONFIG_LIMIT, FY_PART_ACTOR, 0},
+        {"journal_limit = 1\n" PROCESSES("Across(2,zoneid,One())", "z1")
+         "actor = [{role = \"fault\"}, {role = \"fault\", grants = [{kinds = [], key = \"zoneid\", value = \"-\"}]}]\n", FY_CONFIG_NAME, FY_PART_ACTOR, 1},
+        {"journal_limit = 1\n" REST("Across(2,zone,One())", "z1"), FY_CONFIG_POLICY, FY_PART_POLICIES, 0},
+        {"journal_limit = 1\n" REST("One()\", \"Across(2,zone,One())", "z1"), FY_CONFIG_POLICY, FY_PART_POLICIES, 1},
+        {"journal_limit = 1\n" REST("One()\", \"Across(3,zoneid,One())", "z1"), FY_CONFIG_UNMET, FY_PART_POLICIES, 1},
     };
+    uint32_t part;
+    uint64_t place;
     fy_guard guard;
     for (size_t i = 0; i < sizeof files / sizeof *files; i++) {
         memset(&guard, 0xff, sizeof guard);
         EQUAL(fy_guard_open(files[i].text, strlen(files[i].text), &guard), files[i].status);
         EQUAL(fy_guard_is_open(&guard), 0);
+        part = 77;
+        place = 77;
+        EQUAL(fy_guard_config_fault(files[i].text, strlen(files[i].text), &part, &place), files[i].status);
+        EQUAL(part, files[i].part);
+        EQUAL(place, files[i].place);
     }
     static char longest[1048577];
     memset(longest, '\n', sizeof longest);
     EQUAL(fy_guard_open(longest, 1048576, &guard), FY_CONFIG_FIELD);
     EQUAL(fy_guard_open(longest, 1048577, &guard), FY_CONFIG_TOO_LONG);
     const char *met = "journal_limit = 1\n" REST("Across(2,zoneid,One())", "z1");
+    EQUAL(fy_guard_config_fault(met, strlen(met), &part, &place), FY_DONE);
+    EQUAL(part | place, 0);
+    EQUAL(fy_guard_config_fault(longest, 1048577, &part, &place), FY_CONFIG_TOO_LONG);
+    EQUAL(part | place, 0);
+    EQUAL(fy_guard_config_fault(NULL, 0, &part, &place), FY_CLOSED);
+    EQUAL(fy_guard_config_fault("", 0, NULL, &place), FY_CLOSED);
+    EQUAL(fy_guard_config_fault("", 0, &part, NULL), FY_CLOSED);
     EQUAL(fy_guard_open(met, strlen(met), &guard), FY_DONE);
     EQUAL(fy_guard_is_open(&guard), 1);
     fy_guard_close(&guard);
@@ -391,8 +500,13 @@ static void closed(void)
         EQUAL(fy_guard_heal(none, 0, 0, &refusal), FY_CLOSED);
         EQUAL(fy_guard_act(none, "", 0, buffer, sizeof buffer, &told), FY_CLOSED);
         EQUAL(fy_guard_is_destroyed(none, 0, &destroyed), FY_CLOSED);
+        EQUAL(fy_guard_reset(none), FY_CLOSED);
         EQUAL(fy_guard_left(none, left), FY_CLOSED);
         EQUAL(fy_guard_destroyed_set(none, left), FY_CLOSED);
+        EQUAL(fy_guard_up_set(none, left), FY_CLOSED);
+        EQUAL(fy_guard_state(none, 0, &process), FY_CLOSED);
+        EQUAL(fy_guard_needed(none, 0, &process), FY_CLOSED);
+        EQUAL(fy_guard_judge(none, 1, FY_PROCESS, "p0", FY_REBOOT, FY_REBOOT, &struck, &rule, &named), FY_CLOSED);
         EQUAL(fy_guard_gone_set(none, left), FY_CLOSED);
         EQUAL(fy_guard_targets(none, FY_ZONE, "z0", left), FY_CLOSED);
         EQUAL(fy_guard_process(none, "p0", &process), FY_CLOSED);
@@ -412,6 +526,10 @@ static void closed(void)
     EQUAL(fy_guard_is_destroyed(&guard, 0, NULL), FY_CLOSED);
     EQUAL(fy_guard_left(&guard, NULL), FY_CLOSED);
     EQUAL(fy_guard_destroyed_set(&guard, NULL), FY_CLOSED);
+    EQUAL(fy_guard_up_set(&guard, NULL), FY_CLOSED);
+    EQUAL(fy_guard_state(&guard, 0, NULL), FY_CLOSED);
+    EQUAL(fy_guard_needed(&guard, 0, NULL), FY_CLOSED);
+    EQUAL(fy_guard_judge(&guard, 1, FY_PROCESS, "p0", FY_REBOOT, FY_REBOOT, NULL, &rule, &named), FY_CLOSED);
     EQUAL(fy_guard_gone_set(&guard, NULL), FY_CLOSED);
     EQUAL(fy_guard_targets(&guard, FY_ZONE, "z0", NULL), FY_CLOSED);
     EQUAL(fy_guard_targets(&guard, FY_ZONE, NULL, left), FY_CLOSED);
@@ -434,6 +552,7 @@ int main(void)
     rules();
     refusals();
     sets();
+    reset();
     names();
     records();
     errors();

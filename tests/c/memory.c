@@ -61,13 +61,14 @@ static size_t audit_of(fy_guard *guard, char *text)
     return length;
 }
 
-enum { OPEN, KILL, UP, HEAL, ACT, AUDIT, CALLS };
+enum { OPEN, FAULT, RESET, KILL, UP, HEAL, ACT, AUDIT, CALLS };
 
 static fy_status call(int which, fy_guard *guard, size_t line)
 {
     char buffer[1024];
     size_t told;
-    uint32_t refusal;
+    uint32_t refusal, part = 77;
+    uint64_t place = 77;
     fy_guard other;
     fy_status status;
     switch (which) {
@@ -75,6 +76,12 @@ static fy_status call(int which, fy_guard *guard, size_t line)
         status = fy_guard_open(SIX, strlen(SIX), &other);
         fy_guard_close(&other);
         return status;
+    case FAULT:
+        status = fy_guard_config_fault(SIX, strlen(SIX), &part, &place);
+        EQUAL(part | place, 0);
+        return status;
+    case RESET:
+        return fy_guard_reset(guard);
     case KILL:
         return fy_guard_kill(guard, 1, FY_PROCESS, "p4", FY_REBOOT, FY_REBOOT, 0, &struck, &rule, &named);
     case UP:
@@ -88,8 +95,25 @@ static fy_status call(int which, fy_guard *guard, size_t line)
     }
 }
 
+/* These ask for no memory. */
+static void ask(void)
+{
+    fy_guard guard = open_guard(SIX);
+    uint64_t set[FY_SET_WORDS];
+    uint32_t told;
+    answered = 0;
+    EQUAL(fy_guard_judge(&guard, 1, FY_ZONE, "z0", FY_KILL_INSTANTLY, FY_REBOOT, &struck, &rule, &named), FY_DONE);
+    EQUAL(fy_guard_up_set(&guard, set), FY_DONE);
+    EQUAL(fy_guard_state(&guard, 0, &told), FY_DONE);
+    EQUAL(fy_guard_needed(&guard, 0, &told), FY_DONE);
+    EQUAL(answered, 0);
+    answered = -1;
+    fy_guard_close(&guard);
+}
+
 int main(void)
 {
+    ask();
     long held = live, refused = 0, unmade = 0;
     size_t lines = sizeof LINES / sizeof *LINES;
     for (int which = 0; which < CALLS; which++) {
@@ -110,7 +134,8 @@ int main(void)
                     EQUAL(now == length && memcmp(before, after, length) == 0, 1);
                 } else {
                     EQUAL(status == FY_DONE || status == FY_REFUSED, 1);
-                    EQUAL(now > length, which != OPEN && which != AUDIT);
+                    EQUAL(now > length, which == KILL || which == UP || which == HEAL || which == ACT);
+                    EQUAL(now == 0, which == RESET);
                 }
                 fy_guard_close(&guard);
                 EQUAL(live, held);

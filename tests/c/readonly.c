@@ -87,6 +87,15 @@ static void ask(const fy_guard *guard)
     EQUAL(set[0], 0x03);
     EQUAL(fy_guard_gone_set(guard, set), FY_DONE);
     EQUAL(set[0], 0x03);
+    EQUAL(fy_guard_up_set(guard, set), FY_DONE);
+    EQUAL(set[0], 0x3c);
+    EQUAL(fy_guard_state(guard, 0, &process), FY_DONE);
+    EQUAL(process, FY_STATE_DESTROYED | FY_STATE_GONE);
+    EQUAL(fy_guard_needed(guard, 0, &process), FY_DONE);
+    EQUAL(process, FY_NO_SUCH_RECORD);
+    EQUAL(fy_guard_judge(guard, 1, FY_ZONE, "z1", FY_KILL_INSTANTLY, FY_REBOOT, &struck, &rule, &named), FY_DONE);
+    EQUAL(struck, FY_REBOOT);
+    EQUAL(rule, FY_TOO_MANY_DESTROYED);
     EQUAL(fy_guard_is_acked(guard, 0, &is), FY_DONE);
     EQUAL(is, 0);
     EQUAL(fy_guard_keeper(guard, 0, &process), FY_DONE);

@@ -27,10 +27,14 @@ static uint64_t named;
     } while (0)
 
 /* Two processes in two zones, the second zone's name and the policy given. */
-#define REST(policy, zone)                                                                            \
+#define PROCESSES(policy, zone)                                                                       \
     "policies = [\"" policy "\"]\n"                                                                   \
     "process = [{processid = \"p0\", machineid = \"m0\", zoneid = \"z0\"},\n"                         \
-    "  {processid = \"p1\", machineid = \"m1\", zoneid = \"" zone "\"}]\n"                            \
+    "  {processid = \"p1\", machineid = \"m1\", zoneid = \"" zone "\"}]\n"
+
+/* The same, with two actors. */
+#define REST(policy, zone)                                                                            \
+    PROCESSES(policy, zone)                                                                           \
     "actor = [{role = \"storage\"}, {role = \"fault\", grants = [{kinds = [\"Reboot\", \"KillInstantly\"]}]}]\n"
 
 /* examples/c6.toml: two copies in two of three zones, with a journal of so many entries. */

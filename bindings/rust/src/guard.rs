@@ -3,7 +3,7 @@
 use crate::error::{accepted, done};
 use crate::sight::somebody;
 use crate::sys::{self, FyGuard, FySeen};
-use crate::{Error, Key, Kind, ProcessSet, Refusal, Sight, Verdict};
+use crate::{Error, Key, Kind, ProcessSet, Refusal, Sight, State, Verdict};
 use std::ops::Range;
 use std::{fmt, io, ptr};
 
@@ -53,6 +53,16 @@ impl Guard {
         Ok(Guard { raw })
     }
 
+    /// Puts the guard back to where nothing happened yet, without reading its cluster file again.
+    ///
+    /// # Errors
+    ///
+    /// [`Error::NoMemory`].
+    pub fn reset(&mut self) -> Result<(), Error> {
+        // SAFETY: as in `kill`.
+        done(unsafe { sys::fy_reset(&mut self.raw) })
+    }
+
     /// Orders a kill of the processes whose `key` has this value: by `kind`, or where that is
     /// barred by a milder kind, down to `floor`. Bit i of `tear` is 1 where a reboot keeps the
     /// unsynced write i.
@@ -91,6 +101,42 @@ impl Guard {
             )
         };
         // No other refusal of a kill is there.
+        accepted(status, Refusal::Stranger.into())?;
+        Verdict::of(struck, rule, named)
+    }
+
+    /// What [`kill`](Guard::kill) would answer now to the same order, if the journal had room. It
+    /// enters nothing.
+    ///
+    /// # Errors
+    ///
+    /// In this order: [`Error::Name`], [`Error::Floor`]. [`Refusal::Stranger`] where there is no
+    /// such actor.
+    pub fn judge(
+        &self,
+        actor: u32,
+        key: Key,
+        value: &str,
+        kind: Kind,
+        floor: Kind,
+    ) -> Result<Verdict, Error> {
+        let (mut struck, mut rule, mut named) = (0, 0, 0);
+        // SAFETY: as in `process`. The value is a slice, and each answer goes to a variable of its
+        // own.
+        let status = unsafe {
+            sys::fy_judge(
+                &self.raw,
+                actor,
+                key.into(),
+                value.as_ptr(),
+                value.len(),
+                kind.into(),
+                floor.into(),
+                &mut struck,
+                &mut rule,
+                &mut named,
+            )
+        };
         accepted(status, Refusal::Stranger.into())?;
         Verdict::of(struck, rule, named)
     }
@@ -202,6 +248,11 @@ impl Guard {
         self.set(sys::fy_left)
     }
 
+    /// The processes that are up.
+    pub fn up_set(&self) -> ProcessSet {
+        self.set(sys::fy_up_set)
+    }
+
     /// The processes that are destroyed, gone for good or not.
     pub fn destroyed(&self) -> ProcessSet {
         self.set(sys::fy_destroyed_set)
@@ -215,10 +266,25 @@ impl Guard {
     /// The set that a call of the library writes.
     fn set(&self, call: unsafe extern "C" fn(*const FyGuard, *mut u64, usize)) -> ProcessSet {
         let mut set = ProcessSet::default();
-        // SAFETY: as in `process`. The call is one of the three above, and the set has
+        // SAFETY: as in `process`. The call is one of the four above, and the set has
         // FY_SET_WORDS words.
         unsafe { call(&self.raw, set.0.as_mut_ptr(), set.0.len()) };
         set
+    }
+
+    /// The state of a process; `None` where there is no process with this number.
+    pub fn state(&self, process: u32) -> Option<State> {
+        // SAFETY: as in `process`.
+        State::of(unsafe { sys::fy_state(&self.raw, process) })
+    }
+
+    /// The record that a process still needs before it may be healed: of its teams' records, the
+    /// least acknowledged one that it hasn't synced. [`heal`](Guard::heal) is refused with
+    /// [`Refusal::StillNeeds`] for it.
+    pub fn needed(&self, process: u32) -> Option<u32> {
+        // SAFETY: as in `process`.
+        let record = unsafe { sys::fy_needed(&self.raw, process) };
+        Some(record).filter(|it| *it != sys::NO_SUCH_RECORD)
     }
 
     /// Whether a record is acknowledged.

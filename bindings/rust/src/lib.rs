@@ -95,6 +95,7 @@ mod error;
 mod guard;
 mod set;
 mod sight;
+mod state;
 mod sys;
 mod verdict;
 mod words;
@@ -103,6 +104,7 @@ pub use error::{ConfigFault, Error};
 pub use guard::{Guard, AUDIT_HEADER};
 pub use set::ProcessSet;
 pub use sight::Sight;
+pub use state::State;
 pub use verdict::{Rule, Verdict};
 pub use words::{Key, Kind, Refusal};
 

@@ -29,12 +29,23 @@ pub const MOST_REPLY: usize = 128;
 pub const SET_WORDS: usize = 16;
 /// `FY_NOBODY`.
 pub const NOBODY: u32 = u32::MAX;
+/// `FY_NO_SUCH_RECORD`.
+pub const NO_SUCH_RECORD: u32 = u32::MAX;
 /// `FY_NOTHING`.
 pub const NOTHING: u64 = u64::MAX;
+/// `FY_STATE_UP`.
+pub const STATE_UP: u32 = 1;
+/// `FY_STATE_CLOGGED`.
+pub const STATE_CLOGGED: u32 = 2;
+/// `FY_STATE_DESTROYED`.
+pub const STATE_DESTROYED: u32 = 4;
+/// `FY_STATE_GONE`.
+pub const STATE_GONE: u32 = 8;
 
 extern "C" {
     pub fn fy_open(config: *const u8, config_length: usize, guard: *mut FyGuard) -> u32;
     pub fn fy_close(guard: FyGuard);
+    pub fn fy_reset(guard: *mut FyGuard) -> u32;
     pub fn fy_kill(
         guard: *mut FyGuard,
         actor: u32,
@@ -44,6 +55,18 @@ extern "C" {
         kind: u32,
         floor: u32,
         tear: u64,
+        struck: *mut u32,
+        rule: *mut u32,
+        named: *mut u64,
+    ) -> u32;
+    pub fn fy_judge(
+        guard: *const FyGuard,
+        actor: u32,
+        key: u32,
+        value: *const u8,
+        value_length: usize,
+        kind: u32,
+        floor: u32,
         struck: *mut u32,
         rule: *mut u32,
         named: *mut u64,
@@ -70,6 +93,9 @@ extern "C" {
     ) -> u32;
     pub fn fy_is_destroyed(guard: *const FyGuard, process: u32) -> u32;
     pub fn fy_left(guard: *const FyGuard, set: *mut u64, words: usize);
+    pub fn fy_up_set(guard: *const FyGuard, set: *mut u64, words: usize);
+    pub fn fy_state(guard: *const FyGuard, process: u32) -> u32;
+    pub fn fy_needed(guard: *const FyGuard, process: u32) -> u32;
     pub fn fy_destroyed_set(guard: *const FyGuard, set: *mut u64, words: usize);
     pub fn fy_gone_set(guard: *const FyGuard, set: *mut u64, words: usize);
     pub fn fy_is_acked(guard: *const FyGuard, record: u32) -> u32;

@@ -1,7 +1,8 @@
 //! Each call, and each error that a test can meet.
 
 use faultyard::{
-    ConfigFault, Error, Guard, Key, Kind, ProcessSet, Refusal, Rule, Sight, Verdict, AUDIT_HEADER,
+    ConfigFault, Error, Guard, Key, Kind, ProcessSet, Refusal, Rule, Sight, State, Verdict,
+    AUDIT_HEADER,
 };
 
 const CONFIG: &str = include_str!("cluster.toml");
@@ -157,12 +158,15 @@ fn a_process_without_its_record_is_not_healed() {
     );
     assert_eq!(guard.up(0, 0), Ok(()));
     assert_eq!(guard.heal(0, 0), refused(Refusal::StillNeeds));
+    let needed = |guard: &Guard| [0, 1, 2, 6].map(|it| guard.needed(it));
+    assert_eq!(needed(&guard), [Some(0), None, None, None]);
     let copied = [
         r#"{"by":0,"act":{"copy":{"from":2,"record":0,"to":0}}}"#,
         r#"{"by":0,"act":{"deliver":{"message":4}}}"#,
         r#"{"by":0,"act":{"sync":{"process":0}}}"#,
     ];
     make(&mut guard, &copied);
+    assert_eq!(needed(&guard), [None; 4]);
     assert_eq!(guard.heal(0, 0), Ok(()));
 }
 
@@ -225,6 +229,81 @@ fn whom_a_kill_is_about() {
     assert_eq!((guard.up(0, 0), guard.heal(0, 0)), (Ok(()), Ok(())));
     assert_eq!(numbers(guard.destroyed()), [1]);
     assert_eq!(numbers(guard.gone()), [1]);
+}
+
+/// Each order is judged, then made; the journal has the kills alone.
+#[test]
+fn a_verdict_before_the_kill() {
+    let mut guard = opened();
+    let kinds = [Kind::KillInstantly, Kind::RebootAndDelete, Kind::Reboot];
+    let mut entries = 0;
+    for zone in ["z0", "z1", "z2", "-", "z9"] {
+        for (kind, floor) in (0..9).map(|it| (kinds[it / 3], kinds[it % 3])) {
+            let judged = guard.judge(1, Key::Zone, zone, kind, floor);
+            assert_eq!(guard.journal_len(), entries);
+            assert_eq!(judged, guard.kill(1, Key::Zone, zone, kind, floor, 0));
+            entries += usize::from(judged.is_ok());
+        }
+    }
+    assert!(entries > 0);
+    let stranger = guard.judge(9, Key::Zone, "z0", Kind::Reboot, Kind::Reboot);
+    assert_eq!(stranger, refused(Refusal::Stranger));
+}
+
+#[test]
+fn who_is_up_and_in_which_state() {
+    let mut guard = opened();
+    let up = State {
+        up: true,
+        clogged: false,
+        destroyed: false,
+        gone: false,
+    };
+    let states = |guard: &Guard| (0..6).map(|it| guard.state(it)).collect::<Vec<_>>();
+    assert_eq!(states(&guard), [Some(up); 6]);
+    assert_eq!(numbers(guard.up_set()), [0, 1, 2, 3, 4, 5]);
+    let gone = strictly(&mut guard, Key::Process, "p1", Kind::KillInstantly);
+    let emptied = strictly(&mut guard, Key::Process, "p0", Kind::RebootAndDelete);
+    assert_eq!((gone.rule, emptied.rule), (None, None));
+    make(
+        &mut guard,
+        &[r#"{"by":1,"act":{"clog":{"key":"processid","ticks":3,"value":"p2"}}}"#],
+    );
+    let mut wanted = [Some(up); 6];
+    wanted[0] = Some(State {
+        up: false,
+        destroyed: true,
+        ..up
+    });
+    wanted[1] = Some(State {
+        up: false,
+        destroyed: true,
+        gone: true,
+        ..up
+    });
+    wanted[2] = Some(State {
+        clogged: true,
+        ..up
+    });
+    assert_eq!(states(&guard), wanted);
+    assert_eq!(numbers(guard.up_set()), [2, 3, 4, 5]);
+    assert_eq!((guard.state(6), guard.state(u32::MAX)), (None, None));
+}
+
+#[test]
+fn a_guard_that_is_reset_does_the_same_again() {
+    let mut guard = opened();
+    let mut audits = Vec::new();
+    for _ in 0..2 {
+        make(&mut guard, &ACKED);
+        let killed = strictly(&mut guard, Key::Zone, "z0", Kind::KillInstantly);
+        assert_eq!(killed.rule, None);
+        audits.push(guard.audit().unwrap());
+        assert_eq!(guard.reset(), Ok(()));
+        assert_eq!(guard.audit().unwrap(), AUDIT_HEADER);
+        assert_eq!(guard.left().len(), 6);
+    }
+    assert_eq!(audits[0], audits[1]);
 }
 
 #[test]

@@ -7,6 +7,7 @@ use Rattle.fy_config.specs.Config.{Answers}
 use Rattle.fy_config.specs.declared.fault.ConfigFault.{ConfigFault}
 use Rattle.fy_config.specs.declared.fault.ConfigFault.TheVariants.{TooLong, Toml, Field, Limit, Name, Policy, PolicyUnmet, NoMemory}
 use Rattle.fy_config.specs.declared.limits.TheConstants.{MOST_FILE_BYTES}
+use Rattle.fy_c.specs.Faults.{part_of, place_of, Faults}
 use Rattle.fy_c.specs.Opening.{NotOpened}
 use Rattle.fy_c.specs.Statuses.{config_status}
 use Rattle.fy_c.specs.declared.status.Status.TheVariants as status
@@ -63,3 +64,27 @@ not_begun bytes answer (PolicyUnmet index) same long text is =
     NotOpened.refused (PolicyUnmet index) is
 not_begun bytes answer NoMemory same long text is =
     had_none bytes answer long text (not_long answer same) (not_toml answer same)
+
+-- and what is told of the fault
+pub faults_of : (bytes : List ℕ) (answer : Result Setup ConfigFault) (fault : ConfigFault)
+    (part place : ℕ) → answer ≡ Err fault → IsLong bytes answer → IsNoText bytes answer →
+    Answers bytes (Err fault) → part ≡ part_of fault → place ≡ place_of fault →
+    Faults bytes part place (config_status fault)
+faults_of bytes answer TooLong part place same long text is at index =
+    Faults.refused TooLong is at index
+faults_of bytes answer Toml part place same long text is at index =
+    Faults.refused Toml is at index
+faults_of bytes answer (Field it) part place same long text is at index =
+    Faults.refused (Field it) is at index
+faults_of bytes answer (Limit it) part place same long text is at index =
+    Faults.refused (Limit it) is at index
+faults_of bytes answer (Name it n) part place same long text is at index =
+    Faults.refused (Name it n) is at index
+faults_of bytes answer (Policy n) part place same long text is at index =
+    Faults.refused (Policy n) is at index
+faults_of bytes answer (PolicyUnmet n) part place same long text is at index =
+    Faults.refused (PolicyUnmet n) is at index
+faults_of bytes answer NoMemory part place same long text is at index =
+    Faults.no_memory
+    (had_none bytes answer long text (not_long answer same) (not_toml answer same))
+    at index

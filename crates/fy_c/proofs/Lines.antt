@@ -10,19 +10,19 @@ use Rattle.fy_spelling.specs.declared.command.CommandFault.{CommandFault}
 use Rattle.fy_spelling.specs.declared.command.CommandFault.TheVariants.{Line, NoMemory}
 use Rattle.fy_cluster.specs.declared.fault.Fault.{Fault}
 use Rattle.fy_cluster.specs.declared.fault.Fault.TheVariants as fault
-use Rattle.fy_cluster.specs.Course.{Course}
+use Rattle.fy_cluster.specs.Execution.{Execution}
 use Rattle.fy_c.specs.Acting.{HasRoom, NotMade, NoAnswer, NotEntered, NoLine, Acts, room_for, line_status, command_status}
 use Rattle.fy_c.specs.declared.status.Status.{Status}
 use Rattle.fy_c.specs.declared.status.Status.TheVariants as status
 
 -- a reader of lines answers a fault: it is the line's, or there was no memory
-pub faulty_line : (course : Course) (line : List ℕ) (fault : CommandFault) →
-    LineAnswers line (Err fault) → NoLine course course line (command_status fault)
-faulty_line course line (Line fault) is =
+pub faulty_line : (execution : Execution) (line : List ℕ) (fault : CommandFault) →
+    LineAnswers line (Err fault) → NoLine execution execution line (command_status fault)
+faulty_line execution line (Line fault) is =
     NoLine.not_entered (line_status fault) (NotEntered.faulty fault is) refl
-faulty_line course line NoMemory is = NoLine.not_entered status.NoMemory NotEntered.no_memory refl
+faulty_line execution line NoMemory is = NoLine.not_entered status.NoMemory NotEntered.no_memory refl
 
-not_made : (old new : Course) (line : List ℕ) (command : Command) (why : Status) →
+not_made : (old new : Execution) (line : List ℕ) (command : Command) (why : Status) →
     LineOf line (Ok command) → new ≡ old → NotMade old why → NoLine old new line why
 not_made old new line command _ is kept (NotMade.full full) =
     NoLine.not_entered status.JournalFull (NotEntered.full command is full) kept
@@ -30,7 +30,7 @@ not_made old new line command _ is kept (NotMade.no_memory room) =
     NoLine.not_entered status.NoMemory NotEntered.no_memory kept
 
 -- the command of a line has no answer
-pub no_answer : (old new : Course) (line : List ℕ) (command : Command) (why : Status) →
+pub no_answer : (old new : Execution) (line : List ℕ) (command : Command) (why : Status) →
     LineOf line (Ok command) → NoAnswer old new command why → NoLine old new line why
 no_answer old new line command _ is (NoAnswer.not_made why none kept) =
     not_made old new line command why is kept none
@@ -38,7 +38,7 @@ no_answer old new line command _ is (NoAnswer.unwritten room made) =
     NoLine.unwritten command is room made
 
 -- a line that has no answer, in a buffer with room for one
-pub acts_none : (old new : Course) (line before after : List ℕ) (told : ℕ) (why : Status) →
+pub acts_none : (old new : Execution) (line before after : List ℕ) (told : ℕ) (why : Status) →
     room_for line ≤ length before → after ≡ before → NoLine old new line why →
     Acts old new line before after told why
 acts_none old new line before after told _ room same (NoLine.not_entered why none kept) =
@@ -69,10 +69,10 @@ pub not_full_ok : {A : Type 0} (result : Result A Fault) (answer : A) → result
 not_full_ok result answer is full = cc
 
 -- what isn't full has room
-pub has_room : (course : Course) → (course.setup.limit ≤ length course.journal → ⊥) →
-    HasRoom course
-has_room course none =
-    elim (cases_lt (length course.journal) course.setup.limit) [
+pub has_room : (execution : Execution) → (execution.setup.limit ≤ length execution.journal → ⊥) →
+    HasRoom execution
+has_room execution none =
+    elim (cases_lt (length execution.journal) execution.setup.limit) [
       | inl room ↦ room
       | inr full ↦ absurd (none full)
     ]

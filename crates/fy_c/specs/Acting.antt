@@ -9,7 +9,7 @@ use Rattle.fy_spelling.specs.declared.command.CommandFault.{CommandFault}
 use Rattle.fy_spelling.specs.declared.command.CommandFault.TheVariants as command_fault
 use Rattle.fy_spelling.specs.declared.command.CommandFault.TheVariants.{Line}
 use Rattle.fy_audit.specs.AuditText.{entry_line}
-use Rattle.fy_cluster.specs.Course.{Course, replied, entered}
+use Rattle.fy_cluster.specs.Execution.{Execution, replied, entered}
 use Rattle.fy_cluster.specs.Survival.{Survives}
 use Rattle.fy_c.specs.declared.acting.TheConstants.{MOST_REPLY_BYTES}
 use Rattle.fy_c.specs.declared.status.Status.{Status}
@@ -27,42 +27,42 @@ command_status (Line fault) = line_status fault
 command_status command_fault.NoMemory = NoMemory
 
 -- the entry that a command comes to
-abbrev pub entry_of : Course → Command → Entry
-entry_of course command = record {
-  at = length course.journal;
+abbrev pub entry_of : Execution → Command → Entry
+entry_of execution command = record {
+  at = length execution.journal;
   by = command.by;
   act = command.act;
-  reply = replied course command.by command.act;
+  reply = replied execution command.by command.act;
 }
 
 -- the journal has fewer entries than it may have
-abbrev pub HasRoom : Course → Type 0
-HasRoom course = length course.journal < course.setup.limit
+abbrev pub HasRoom : Execution → Type 0
+HasRoom execution = length execution.journal < execution.setup.limit
 
 -- the command is entered, and no acknowledged record is lost
-pub record IsMade (old new : Course) (command : Command) : Type 0 where
+pub record IsMade (old new : Execution) (command : Command) : Type 0 where
   pub entered : new ≡ entered old command.by command.act
   pub survives : Survives new.setup new.journal
 
 -- why a command makes no entry: the journal is full, or there was no memory
-pub data NotMade (old : Course) : Status → Type 0 where
+pub data NotMade (old : Execution) : Status → Type 0 where
   full : old.setup.limit ≤ length old.journal → NotMade old JournalFull
   no_memory : HasRoom old → NotMade old NoMemory
 
 -- a command has no answer: it makes no entry, or its entry's line could not be had
-pub data NoAnswer (old new : Course) (command : Command) : Status → Type 0 where
+pub data NoAnswer (old new : Execution) (command : Command) : Status → Type 0 where
   not_made : (status : Status) → NotMade old status → new ≡ old → NoAnswer old new command status
   unwritten : HasRoom old → IsMade old new command → NoAnswer old new command Unwritten
 
 -- why a line makes no entry: it is no command, the journal is full, or there was no memory
-pub data NotEntered (old : Course) (line : List ℕ) : Status → Type 0 where
+pub data NotEntered (old : Execution) (line : List ℕ) : Status → Type 0 where
   faulty : (fault : LineFault) → LineOf line (Err fault) → NotEntered old line (line_status fault)
   full : (command : Command) → LineOf line (Ok command) → old.setup.limit ≤ length old.journal →
       NotEntered old line JournalFull
   no_memory : NotEntered old line NoMemory
 
 -- a line has no answer: it makes no entry, or its command's line could not be had
-pub data NoLine (old new : Course) (line : List ℕ) : Status → Type 0 where
+pub data NoLine (old new : Execution) (line : List ℕ) : Status → Type 0 where
   not_entered : (status : Status) → NotEntered old line status → new ≡ old →
       NoLine old new line status
   unwritten : (command : Command) → LineOf line (Ok command) → HasRoom old →
@@ -70,7 +70,7 @@ pub data NoLine (old new : Course) (line : List ℕ) : Status → Type 0 where
 
 -- a line is answered by a text: it is a command, which is entered where there is room, and the text
 -- is its entry's line
-pub record IsAnswered (old new : Course) (line text : List ℕ) : Type 0 where
+pub record IsAnswered (old new : Execution) (line text : List ℕ) : Type 0 where
   pub command : Command
   pub asked : LineOf line (Ok command)
   pub room : HasRoom old
@@ -95,7 +95,7 @@ room_for line = length line + MOST_REPLY_BYTES
 -- what a line came to. Where the buffer has too few bytes, nothing else is looked at. Else it came
 -- to an act whose entry's line is told; to an act whose entry's line could not be had; or to none,
 -- and nothing changed
-pub data Acts (old new : Course) (line before after : List ℕ) (told : ℕ) : Status → Type 0 where
+pub data Acts (old new : Execution) (line before after : List ℕ) (told : ℕ) : Status → Type 0 where
   short : IsShort before (room_for line) told → new ≡ old → after ≡ before →
       Acts old new line before after told Short
   answered : room_for line ≤ length before → (text : List ℕ) → IsAnswered old new line text →

@@ -4,7 +4,7 @@ use Rattle.fy_locality.specs.Name.{is_name}
 use Rattle.fy_locality.specs.Locality.{value_of}
 use Rattle.fy_locality.specs.declared.key.Key.TheVariants.{Process}
 use Rattle.fy_locality.specs.declared.locality.Locality.{Locality}
-use Rattle.fy_cluster.specs.Course.{Course, history_of}
+use Rattle.fy_cluster.specs.Execution.{Execution, history_of}
 use Rattle.fy_cluster.specs.Sights.{Sees}
 use Rattle.fy_cluster.specs.declared.sight.Sight.{Sight}
 use Rattle.fy_c.specs.Numbers.{process_number, message_number}
@@ -27,7 +27,7 @@ told_seen sight = record {
 }
 
 -- what is told is what the cluster shows
-pub record Shows (course : Course) (told : FySeen) : Type 0 where
+pub record Shows (execution : Execution) (told : FySeen) : Type 0 where
   pub sight : Sight
-  pub sees : Sees course.setup (history_of course) sight
+  pub sees : Sees execution.setup (history_of execution) sight
   pub told_is : told ≡ told_seen sight

@@ -5,7 +5,7 @@ use Rattle.fy_acts.specs.declared.reply.Reply.{Reply}
 use Rattle.fy_acts.specs.declared.reply.Reply.TheVariants.{No}
 use Rattle.fy_cluster.specs.declared.fault.Fault.{Fault}
 use Rattle.fy_cluster.specs.declared.fault.Fault.TheVariants as fault
-use Rattle.fy_cluster.specs.Course.{Course, replied, entered}
+use Rattle.fy_cluster.specs.Execution.{Execution, replied, entered}
 use Rattle.fy_cluster.specs.Survival.{Survives}
 use Rattle.fy_c.specs.Numbers.{refusal_number}
 use Rattle.fy_c.specs.Statuses.{number}
@@ -14,7 +14,7 @@ use Rattle.fy_c.specs.declared.status.Status.TheVariants.{Done, NoMemory, Journa
 
 -- the act is entered with its reply, and no acknowledged record is lost; or nothing changed, since
 -- the journal is full or there was no memory
-abbrev pub Applies : Course → Course → ℕ → Act → Result Reply Fault → Type 0
+abbrev pub Applies : Execution → Execution → ℕ → Act → Result Reply Fault → Type 0
 Applies old new by act (Ok reply) =
     (new ≡ entered old by act) × (reply ≡ replied old by act) × Survives new.setup new.journal
 Applies old new by act (Err why) =
@@ -33,7 +33,7 @@ refusal_of (Ok (No refusal)) = refusal_number refusal
 refusal_of _ = 0
 
 -- the act came to something, and that is what is told
-pub record Enters (old new : Course) (by : ℕ) (act : Act) (told refusal : ℕ) : Type 0 where
+pub record Enters (old new : Execution) (by : ℕ) (act : Act) (told refusal : ℕ) : Type 0 where
   pub answer : Result Reply Fault
   pub applies : Applies old new by act answer
   pub status : told ≡ number (status_of answer)

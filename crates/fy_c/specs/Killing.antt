@@ -9,7 +9,7 @@ use Rattle.fy_acts.specs.declared.act.Act.TheVariants.{Kill}
 use Rattle.fy_acts.specs.declared.reply.Reply.{Reply}
 use Rattle.fy_acts.specs.declared.reply.Reply.TheVariants.{Verdict}
 use Rattle.fy_cluster.specs.declared.fault.Fault.{Fault}
-use Rattle.fy_cluster.specs.Course.{Course}
+use Rattle.fy_cluster.specs.Execution.{Execution, replied}
 use Rattle.fy_c.specs.Numbers.{key_number, kind_number, struck_number, rule_number, named_by}
 use Rattle.fy_c.specs.Entering.{Applies, status_of}
 use Rattle.fy_c.specs.declared.killing.Told.{Told}
@@ -66,7 +66,7 @@ told_of (Ok (Verdict verdict)) = record {
 told_of _ = untold
 
 -- the order came to something, and that is what is told
-pub record IsKilled (old new : Course) (by : ℕ) (order : Order) (status : Status) (told : Told)
+pub record IsKilled (old new : Execution) (by : ℕ) (order : Order) (status : Status) (told : Told)
     : Type 0 where
   pub answer : Result Reply Fault
   pub applies : Applies old new by (Kill order) answer
@@ -74,9 +74,22 @@ pub record IsKilled (old new : Course) (by : ℕ) (order : Order) (status : Stat
   pub told_is : told ≡ told_of answer
 
 -- the order came to something, and that is what is told; or none was given, and nothing changed
-pub data Kills (old new : Course) (by : ℕ) (given : Given) (told : Told) (status : Status)
+pub data Kills (old new : Execution) (by : ℕ) (given : Given) (told : Told) (status : Status)
     : Type 0 where
   killed : (order : Order) → IsOrderOf given order → IsKilled old new by order status told →
       Kills old new by given told status
   not_given : NoOrder given status → new ≡ old → told ≡ untold →
       Kills old new by given told status
+
+-- the status and what is told are those of the reply that the order would get now
+pub record IsJudged (execution : Execution) (by : ℕ) (order : Order) (status : Status) (told : Told)
+    : Type 0 where
+  pub status_is : status ≡ status_of (Ok (replied execution by (Kill order)))
+  pub told_is : told ≡ told_of (Ok (replied execution by (Kill order)))
+
+-- an order is given, and the reply that it would get now is told; or none is, and why is told
+pub data Judges (execution : Execution) (by : ℕ) (given : Given) (told : Told) (status : Status)
+    : Type 0 where
+  judged : (order : Order) → IsOrderOf given order → IsJudged execution by order status told →
+      Judges execution by given told status
+  not_given : NoOrder given status → told ≡ untold → Judges execution by given told status

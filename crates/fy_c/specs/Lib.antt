@@ -1,6 +1,7 @@
 pub mod Acting
 pub mod Asking
 pub mod Entering
+pub mod Faults
 pub mod Handles
 pub mod Killing
 pub mod Numbers

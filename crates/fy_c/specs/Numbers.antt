@@ -1,5 +1,5 @@
--- the numbers by which C knows keys, kinds, rules, processes, messages and refusals
-use Rattle.std.specs.Prelude.{ℕ, ◌+◌, Option, Some, None, Result, Ok, Err}
+-- the numbers by which C knows keys, kinds, rules, processes, messages, records, states and refusals
+use Rattle.std.specs.Prelude.{ℕ, ◌+◌, Bool, Option, Some, None, Result, Ok, Err, if◌then◌else◌}
 use Rattle.fy_locality.specs.declared.ProcId.{ProcId}
 use Rattle.fy_locality.specs.declared.key.Key.{Key}
 use Rattle.fy_locality.specs.declared.key.Key.TheVariants.{Process, Machine, Zone, DataHall, DataCenter}
@@ -9,6 +9,7 @@ use Rattle.fy_kinds.specs.declared.verdict.Rule.TheVariants as rule
 use Rattle.fy_kinds.specs.Kinds.{rank}
 use Rattle.fy_acts.specs.declared.reply.Refusal.{Refusal}
 use Rattle.fy_acts.specs.declared.reply.Refusal.TheVariants as refusal
+use Rattle.fy_cluster.specs.declared.status.Status.{Status}
 
 -- keys, from 1
 abbrev pub key_number : Key → ℕ
@@ -54,6 +55,21 @@ process_number (Some process) = process.0
 abbrev pub message_number : Option ℕ → ℕ
 message_number None = 18446744073709551615
 message_number (Some message) = message
+
+-- the record, 2 ^ 32 - 1 where there is none
+abbrev pub record_number : Option ℕ → ℕ
+record_number None = 4294967295
+record_number (Some rec) = rec
+
+-- the value where something is so, and else 0
+abbrev pub bit : Bool → ℕ → ℕ
+bit is value = if is then value else 0
+
+-- the state of a process as bits, 2 ^ 32 - 1 where there is no such process
+abbrev pub status_bits : Option Status → ℕ
+status_bits None = 4294967295
+status_bits (Some status) =
+    bit status.up 1 + bit status.clogged 2 + bit status.destroyed 4 + bit status.gone 8
 
 -- refusals, from 1
 abbrev pub refusal_number : Refusal → ℕ

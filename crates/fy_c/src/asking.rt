@@ -1,16 +1,17 @@
-//! What the cluster shows without an act: processes by name, who keeps a record, and what there is
-//! to do next.
+//! What the cluster shows without an act: processes by name, their states, who keeps a record, and
+//! what there is to do next.
 ghost use Rattle.std.specs.Prelude.{◌≡◌, ◌≢◌, length, if◌then◌else◌};
 ghost use Rattle.std.specs.Ptr.{null_ptr};
-ghost use Rattle.fy_cluster.specs.Course.{history_of};
+ghost use Rattle.fy_cluster.specs.Execution.{history_of};
 ghost use Rattle.fy_cluster.specs.History.{acked, keeper};
+ghost use Rattle.fy_cluster.specs.Sights.{status_of, needed_of};
 ghost use Rattle.fy_c.specs.Asking.{Finds, Shows, told_seen};
-ghost use Rattle.fy_c.specs.Numbers.{process_number};
+ghost use Rattle.fy_c.specs.Numbers.{process_number, record_number, status_bits};
 
 use crate::handle::FyGuard;
-use crate::numbers::{NOBODY, message_number, process_number};
+use crate::numbers::{NOBODY, message_number, process_number, record_number, status_bits};
 use fy_cluster::Sight;
-use fy_locality::{Map, Name};
+use fy_locality::{Map, Name, ProcId};
 
 /// The number of the process with a name, where there is one.
 fn numbered(map: &Map, name: &[u8]) -> u32
@@ -69,6 +70,33 @@ pub extern "C" fn fy_is_acked(guard: &mut FyGuard, rec: u32) -> u32
         Some(_) => 1,
         None => 0,
     }
+}
+
+/// The state of a process as bits: 1 where it is up, 2 where it is clogged, 4 where it is
+/// destroyed, 8 where it is gone for good. 4,294,967,295 where there is no process with this number.
+#[unsafe(no_mangle)]
+pub extern "C" fn fy_state(guard: &mut FyGuard, process: u32) -> u32
+    requires { guard.old.at ≢ null_ptr }
+    ensures kept { guard.new.value ≡ guard.old.value }
+    ensures place { guard.new.at ≡ guard.old.at }
+    ensures status { result ≡ status_bits
+        (status_of guard.old.value.setup (history_of guard.old.value) process) }
+{
+    status_bits(guard.cluster().status(ProcId(process)))
+}
+
+/// The record that a process still needs before it may be healed: of its teams' records, the least
+/// acknowledged one that it hasn't synced. 4,294,967,295 where there is none, or no process with
+/// this number.
+#[unsafe(no_mangle)]
+pub extern "C" fn fy_needed(guard: &mut FyGuard, process: u32) -> u32
+    requires { guard.old.at ≢ null_ptr }
+    ensures kept { guard.new.value ≡ guard.old.value }
+    ensures place { guard.new.at ≡ guard.old.at }
+    ensures needed { result ≡ record_number
+        (needed_of guard.old.value.setup (history_of guard.old.value) process) }
+{
+    record_number(guard.cluster().needed(ProcId(process)))
 }
 
 /// The time, and what there is to do next. A message is 18,446,744,073,709,551,615 where there is

@@ -3,7 +3,7 @@ ghost use Rattle.std.specs.Prelude.{◌≡◌, ◌≢◌};
 ghost use Rattle.std.specs.Ptr.{null_ptr};
 ghost use Rattle.std.specs.contracts.alloc.Global as heap;
 ghost use Rattle.std.specs.declared.alloc.Global.{Global};
-ghost use Rattle.fy_cluster.specs.Course.{Course};
+ghost use Rattle.fy_cluster.specs.Execution.{Execution};
 ghost use Rattle.fy_cluster.specs.contracts.cluster.Cluster as held;
 
 use crate::loose::Loose;
@@ -17,14 +17,14 @@ use std::marker::{Model, Send};
 pub struct FyGuard {
     at: *mut u8,
     ghost alloc: { Global } by { heap.the_row.coded },
-    ghost value: { Course } by { held.the_row.coded },
+    ghost value: { Execution } by { held.the_row.coded },
 }
 
 impl Model for FyGuard {
     ghost use Rattle.std.specs.contracts.impls.GlobalAllocator.TheImpl.{ghosts};
     ghost use Rattle.std.specs.Ptr.{if_non_null};
     ghost use Rattle.std_alloc.specs.Box.Ownership.{box_owns};
-    ghost use Rattle.fy_cluster.specs.Course.{Course};
+    ghost use Rattle.fy_cluster.specs.Execution.{Execution};
     ghost use Rattle.fy_cluster.specs.contracts.cluster.Cluster as e;
 
     ghost also_owns = { λ guard. if_non_null guard.at

@@ -1,7 +1,7 @@
 //! Kills, ordered and answered by numbers.
 ghost use Rattle.std.specs.Prelude.{◌≡◌, ◌≢◌, IfOk, IfErr};
 ghost use Rattle.std.specs.Ptr.{null_ptr};
-ghost use Rattle.fy_c.specs.Killing.{IsOrderOf, NoOrder, IsKilled, Kills, told_of, untold};
+ghost use Rattle.fy_c.specs.Killing.{IsOrderOf, NoOrder, IsKilled, Kills, IsJudged, Judges, told_of, untold};
 ghost use Rattle.fy_c.specs.Statuses.{Answers};
 
 use crate::entering::{apply, status_of};
@@ -9,7 +9,7 @@ use crate::handle::FyGuard;
 use crate::numbers::{key_of, kind_of, named_by, rule_number, struck_number};
 use crate::status::Status;
 use fy_acts::{Act, Reply};
-use fy_cluster::Fault;
+use fy_cluster::{Cluster, Fault};
 use fy_kinds::{KillOrder, Target};
 use fy_locality::Name;
 
@@ -126,5 +126,52 @@ pub extern "C" fn fy_kill(
     *struck = told.struck;
     *rule = told.rule;
     *named = told.named;
+    status.number()
+}
+
+/// What a kill by an actor would get now, where an order is given.
+fn judge(cluster: &Cluster, actor: u32, order: Result<KillOrder, Status>) -> (Status, Told)
+    ensures given { IfOk order (λ order. IsJudged cluster.now actor order result.0 result.1) }
+    ensures not_given { IfErr order (λ status. result ≡ (status, untold)) }
+{
+    let order = match order {
+        Ok(order) => order,
+        Err(status) => return (status, UNTOLD),
+    };
+    let reply = Ok(cluster.judge(actor, &order));
+    (status_of(reply), told_of(reply))
+}
+
+/// What `fy_kill` would answer now to the same order, if the journal had room. It enters nothing, and
+/// takes no memory. The three numbers are those of `fy_kill`.
+///
+/// # Errors
+///
+/// In order: `Argument` where a number is that of no key or kind; `Name` where the value is no name;
+/// `Floor` where the floor is above the kind; `Refused` where there is no actor with this number.
+#[unsafe(no_mangle)]
+pub extern "C" fn fy_judge(
+    guard: &mut FyGuard,
+    actor: u32,
+    key: u32,
+    value: &[u8],
+    kind: u32,
+    floor: u32,
+    struck: &mut u32,
+    rule: &mut u32,
+    named: &mut u64,
+) -> u32
+    requires { guard.old.at ≢ null_ptr }
+    ensures kept { guard.new.value ≡ guard.old.value }
+    ensures place { guard.new.at ≡ guard.old.at }
+    ensures judged { Answers result (Judges guard.old.value actor
+        (record { key = key; value = value.now; kind = kind; floor = floor; tear = 0 })
+        (record { struck = struck.new; rule = rule.new; named = named.new })) }
+{
+    let order = order_of(key, value, kind, floor, 0);
+    let (status, verdict) = judge(guard.cluster(), actor, order);
+    *struck = verdict.struck;
+    *rule = verdict.rule;
+    *named = verdict.named;
     status.number()
 }

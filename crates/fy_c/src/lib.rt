@@ -5,6 +5,7 @@
 mod acting;
 mod asking;
 mod entering;
+mod faults;
 mod handle;
 mod killing;
 pub mod laws;

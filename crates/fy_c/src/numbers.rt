@@ -1,14 +1,17 @@
-//! The numbers by which C knows keys, kinds, rules and processes.
-ghost use Rattle.std.specs.Prelude.{◌≡◌, ◌≢◌, IfSome, IfNone};
+//! The numbers by which C knows keys, kinds, rules, processes, messages, records and states.
+ghost use Rattle.std.specs.Prelude.{◌≡◌, ◌≢◌, IfSome, IfNone, if◌then◌else◌};
 ghost use Rattle.fy_locality.specs.declared.key.Key.{Key};
 ghost use Rattle.fy_kinds.specs.declared.kind.Kind.{Kind};
-ghost use Rattle.fy_c.specs.Numbers.{key_number, kind_number, struck_number, rule_number, named_by, process_number, message_number};
+ghost use Rattle.fy_c.specs.Numbers.{key_number, kind_number, struck_number, rule_number, named_by, process_number, message_number, record_number, status_bits};
 
+use fy_cluster::Status as ProcessStatus;
 use fy_kinds::{Kind, Rule};
 use fy_locality::{Key, ProcId};
 
 /// The number for no process.
 pub const NOBODY: u32 = u32::MAX;
+/// The number for no record.
+pub const NO_RECORD: u32 = u32::MAX;
 /// The number for no message.
 pub const NOTHING: u64 = u64::MAX;
 
@@ -108,4 +111,32 @@ pub(crate) fn message_number(message: Option<u64>) -> u64
         Some(message) => message,
         None => NOTHING,
     }
+}
+
+/// The number of a record, where there is one.
+pub(crate) fn record_number(rec: Option<u32>) -> u32
+    ensures { result ≡ record_number rec }
+{
+    match rec {
+        Some(rec) => rec,
+        None => NO_RECORD,
+    }
+}
+
+/// The value where something is so, and else 0.
+fn bit(is: bool, value: u32) -> u32
+    ensures { result ≡ (if is then value else 0) }
+{
+    if is { value } else { 0 }
+}
+
+/// The state of a process as bits: 1 where it is up, 2 where it is clogged, 4 where it is
+/// destroyed, 8 where it is gone for good; `NOBODY` where there is no such process.
+pub(crate) fn status_bits(status: Option<ProcessStatus>) -> u32
+    ensures { result ≡ status_bits status }
+{
+    let Some(status) = status else {
+        return NOBODY;
+    };
+    bit(status.up, 1) + bit(status.clogged, 2) + bit(status.destroyed, 4) + bit(status.gone, 8)
 }

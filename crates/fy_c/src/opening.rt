@@ -1,14 +1,15 @@
 //! Guards opened and closed.
-ghost use Rattle.std.specs.Prelude.{◌≢◌, IfOk, IfErr};
+ghost use Rattle.std.specs.Prelude.{◌≡◌, ◌≢◌, IfOk, IfErr};
 ghost use Rattle.std.specs.Ptr.{null_ptr};
-ghost use Rattle.fy_c.specs.Opening.{Begins, NotOpened, Opens};
+ghost use Rattle.fy_cluster.specs.Execution.{opened};
+ghost use Rattle.fy_c.specs.Opening.{Begins, NotOpened, Opens, Resets};
 ghost use Rattle.fy_c.specs.Statuses.{Answers};
 
 use crate::handle::{FyGuard, closed_up, opened_up};
 use crate::status::{Status, config_status};
 use fy_cluster::Cluster;
 use fy_config::read_config;
-use std::alloc::Global;
+use std::alloc::{AllocError, Global};
 
 /// The cluster that a cluster file begins.
 fn begun(alloc: Global, config: &[u8]) -> Result<Box<Cluster>, Status>
@@ -52,4 +53,33 @@ pub extern "C" fn fy_close(alloc: Global, guard: FyGuard)
     requires { guard.at ≢ null_ptr }
 {
     drop(opened_up(alloc, guard));
+}
+
+/// A cluster in which nothing happened yet, with what another began with.
+fn fresh(alloc: Global, cluster: &Cluster) -> Result<Cluster, AllocError>
+    ensures { IfOk result (λ fresh. fresh ≡ opened cluster.now.setup) }
+{
+    let config = cluster.config().try_copy(alloc)?;
+    Cluster::make(alloc, config)
+}
+
+/// Puts an open guard back to where nothing happened yet, without its cluster file being read again.
+///
+/// # Errors
+///
+/// `NoMemory`: nothing changed then.
+#[unsafe(no_mangle)]
+pub extern "C" fn fy_reset(alloc: Global, guard: &mut FyGuard) -> u32
+    requires { guard.old.at ≢ null_ptr }
+    ensures place { guard.new.at ≡ guard.old.at }
+    ensures reset { Answers result (Resets guard.old.value guard.new.value) }
+{
+    let cluster = guard.cluster();
+    match fresh(alloc, cluster) {
+        Ok(begun) => {
+            *cluster = begun;
+            Status::Done.number()
+        }
+        Err(_) => Status::NoMemory.number(),
+    }
 }

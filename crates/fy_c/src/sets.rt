@@ -1,10 +1,10 @@
-//! Sets of processes: who is left, gone or destroyed, and whom a target means.
+//! Sets of processes: who is up, left, gone or destroyed, and whom a target means.
 ghost use Rattle.std.specs.Prelude.{◌≡◌, ◌≢◌, ℕ, length, IfOk, IfErr, if◌then◌else◌};
 ghost use Rattle.std.specs.Ptr.{null_ptr};
 ghost use Rattle.std.specs.FinSet as sets;
-ghost use Rattle.fy_cluster.specs.Course.{history_of};
+ghost use Rattle.fy_cluster.specs.Execution.{history_of};
 ghost use Rattle.fy_cluster.specs.History.{destroyed};
-ghost use Rattle.fy_c.specs.Sets.{AreBitsOf, left_in, gone_in, destroyed_in, targets_in, IsTargetOf, NoTarget, Targets};
+ghost use Rattle.fy_c.specs.Sets.{AreBitsOf, left_in, up_in, destroyed_in, gone_in, targets_in, IsTargetOf, NoTarget, Targets};
 ghost use Rattle.fy_c.specs.Statuses.{Answers};
 
 use crate::handle::FyGuard;
@@ -49,6 +49,18 @@ pub extern "C" fn fy_left(guard: &mut FyGuard, set: &mut [u64])
     ensures told { AreBitsOf set.new (left_in guard.old.value) }
 {
     write_set(&guard.cluster().left(), set);
+}
+
+/// Writes who is up, as `fy_left` writes who is left.
+#[unsafe(no_mangle)]
+pub extern "C" fn fy_up_set(guard: &mut FyGuard, set: &mut [u64])
+    requires open { guard.old.at ≢ null_ptr }
+    requires room { length set.old ≡ SET_WORDS }
+    ensures kept { guard.new.value ≡ guard.old.value }
+    ensures place { guard.new.at ≡ guard.old.at }
+    ensures told { AreBitsOf set.new (up_in guard.old.value) }
+{
+    write_set(&guard.cluster().up(), set);
 }
 
 /// Writes who is destroyed, as `fy_left` writes who is left.

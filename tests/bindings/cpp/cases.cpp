@@ -159,9 +159,13 @@ static void refusals()
     REFUSES(NotUp, guard.heal(0, 0));
     guard.up(0, 0);
     REFUSES(StillNeeds, guard.heal(0, 0));
+    HOLDS(guard.needed(0) == 0U);
+    HOLDS(guard.needed(1) == std::nullopt && guard.needed(2) == std::nullopt);
+    HOLDS(guard.needed(6) == std::nullopt);
     guard.act("{\"by\":0,\"act\":{\"copy\":{\"from\":2,\"record\":0,\"to\":0}}}");
     guard.act("{\"by\":0,\"act\":{\"deliver\":{\"message\":4}}}");
     guard.act("{\"by\":0,\"act\":{\"sync\":{\"process\":0}}}");
+    HOLDS(guard.needed(0) == std::nullopt);
     guard.heal(0, 0);
     EQUAL(guard.is_destroyed(0), false);
     HOLDS(guard.kill(1, Key::Process, "p4", Kind::KillInstantly) == verdict(Kind::KillInstantly));
@@ -192,6 +196,72 @@ static void sets()
     guard.up(0, 0);
     guard.heal(0, 0);
     HOLDS(asked.destroyed() == Processes(0x02));
+}
+
+/* Who is up, and the state of each process. */
+static void states()
+{
+    Guard guard(SIX);
+    const Guard &asked = guard;
+    State up;
+    up.up = true;
+    HOLDS(asked.up_set() == Processes(0x3f));
+    for (uint32_t process = 0; process < 6; process++)
+        HOLDS(asked.state(process) == up);
+    HOLDS(asked.state(6) == std::nullopt && asked.state(UINT32_MAX) == std::nullopt);
+    HOLDS(guard.kill(1, Key::Process, "p1", Kind::KillInstantly) == verdict(Kind::KillInstantly));
+    HOLDS(guard.kill(1, Key::Process, "p0", Kind::RebootAndDelete) ==
+          verdict(Kind::RebootAndDelete));
+    guard.act("{\"by\":1,\"act\":{\"clog\":{\"key\":\"processid\",\"value\":\"p2\",\"ticks\":3}}}");
+    HOLDS(asked.up_set() == Processes(0x3c));
+    State emptied;
+    emptied.destroyed = true;
+    HOLDS(asked.state(0) == emptied);
+    State gone = emptied;
+    gone.gone = true;
+    HOLDS(asked.state(1) == gone);
+    HOLDS(gone != emptied);
+    State clogged = up;
+    clogged.clogged = true;
+    HOLDS(asked.state(2) == clogged);
+    HOLDS(asked.state(3) == up);
+}
+
+/* Each order is judged, then made. Judging enters nothing. */
+static void judged()
+{
+    Guard guard(SIX);
+    const Guard &asked = guard;
+    std::size_t entries = 0;
+    for (std::string_view zone : {"z0", "z1", "z2", "z9"})
+        for (Kind kind : {Kind::KillInstantly, Kind::RebootAndDelete, Kind::Reboot})
+            for (Kind floor : {Kind::Reboot, Kind::RebootProcess}) {
+                const Verdict before = asked.judge(1, Key::Zone, zone, kind, floor);
+                EQUAL(asked.journal_len(), entries);
+                HOLDS(guard.kill(1, Key::Zone, zone, kind, floor) == before);
+                entries++;
+            }
+    THROWS(Argument, (void)asked.judge(1, static_cast<Key>(0), "p0", Kind::Reboot));
+    THROWS(Name, (void)asked.judge(1, Key::Process, std::string_view(), Kind::Reboot));
+    THROWS(Floor, (void)asked.judge(1, Key::Process, "p0", Kind::Reboot, Kind::KillInstantly));
+    REFUSES(Stranger, (void)asked.judge(9, Key::Process, "p0", Kind::Reboot));
+    EQUAL(asked.journal_len(), entries);
+}
+
+/* A guard that is reset does the same again. */
+static void resets()
+{
+    Guard guard(SIX);
+    std::string audits[2];
+    for (std::string &audit : audits) {
+        make(guard, 0, std::size(ACKED));
+        HOLDS(guard.kill(1, Key::Zone, "z0", Kind::KillInstantly) == verdict(Kind::KillInstantly));
+        audit = guard.audit();
+        guard.reset();
+        HOLDS(guard.audit() == FY_AUDIT_HEADER);
+        HOLDS(guard.left() == Processes(0x3f) && guard.up_set() == Processes(0x3f));
+    }
+    HOLDS(audits[0] == audits[1]);
 }
 
 /* The processes by their names, and what there is to do until a record is acknowledged. */
@@ -276,6 +346,7 @@ static void want_of_memory()
     THROWS(NoMemory, first.up(0, 0));
     THROWS(NoMemory, first.heal(0, 0));
     THROWS(NoMemory, guard.act("{\"by\":0,\"act\":{\"tick\":{\"ticks\":5}}}"));
+    THROWS(NoMemory, guard.reset());
     THROWS(NoMemory, guard.entry(0));
     THROWS(NoMemory, guard.audit());
     has_no_memory = false;
@@ -302,9 +373,14 @@ static void assert_closed(Guard &guard)
 {
     EQUAL(guard.is_open(), false);
     THROWS(Closed, (void)guard.kill(1, Key::Process, "p0", Kind::Reboot));
+    THROWS(Closed, (void)guard.judge(1, Key::Process, "p0", Kind::Reboot));
+    THROWS(Closed, guard.reset());
     THROWS(Closed, guard.up(0, 0));
     THROWS(Closed, guard.heal(0, 0));
     THROWS(Closed, guard.act("{}"));
+    THROWS(Closed, guard.up_set());
+    THROWS(Closed, guard.state(0));
+    THROWS(Closed, guard.needed(0));
     THROWS(Closed, guard.is_destroyed(0));
     THROWS(Closed, guard.left());
     THROWS(Closed, guard.destroyed());
@@ -413,6 +489,9 @@ int main()
     rules();
     refusals();
     sets();
+    states();
+    judged();
+    resets();
     names_and_records();
     errors();
     want_of_memory();

@@ -205,11 +205,22 @@ func TestARefusedActIsAnErrorAndStandsInTheJournal(t *testing.T) {
 	refuses(guard.Heal(0, 0), faultyard.RefusalNotUp)
 	equal(t, guard.Up(0, 0), nil)
 	refuses(guard.Heal(0, 0), faultyard.RefusalStillNeeds)
+	needs := func(process, wanted uint32) {
+		t.Helper()
+		record, err := guard.Needed(process)
+		equal(t, err, nil)
+		equal(t, record, wanted)
+	}
+	needs(0, 0)
+	for _, process := range []uint32{1, 2, 6} {
+		needs(process, faultyard.NoSuchRecord)
+	}
 	for _, its := range []string{
 		`{"copy":{"from":2,"record":0,"to":0}}`, `{"deliver":{"message":4}}`, `{"sync":{"process":0}}`,
 	} {
 		act(t, guard, 0, its)
 	}
+	needs(0, faultyard.NoSuchRecord)
 	equal(t, guard.Heal(0, 0), nil)
 	kill(t, guard, 1, faultyard.Order{
 		Key: faultyard.Process, Value: "p4", Kind: faultyard.KillInstantly,
@@ -260,6 +271,90 @@ func TestWhomAKillIsAboutAndWhoIsDestroyedAndGone(t *testing.T) {
 	equal(t, guard.Up(0, 0), nil)
 	equal(t, guard.Heal(0, 0), nil)
 	equal(t, set(t, guard.Destroyed), []uint32{1})
+}
+
+// state is the state of a process that is there.
+func state(t *testing.T, guard *faultyard.Guard, process uint32) faultyard.State {
+	t.Helper()
+	state, is, err := guard.State(process)
+	equal(t, err, nil)
+	equal(t, is, true)
+	return state
+}
+
+func TestWhoIsUpAndTheStateOfEachProcess(t *testing.T) {
+	guard := opened(t, six(t))
+	up := faultyard.State{Up: true}
+	for process := uint32(0); process < 6; process++ {
+		equal(t, state(t, guard, process), up)
+	}
+	equal(t, set(t, guard.UpSet), []uint32{0, 1, 2, 3, 4, 5})
+	_, is, err := guard.State(6)
+	equal(t, err, nil)
+	equal(t, is, false)
+	kill(t, guard, 1, faultyard.Order{
+		Key: faultyard.Process, Value: "p1", Kind: faultyard.KillInstantly,
+	})
+	kill(t, guard, 1, faultyard.Order{
+		Key: faultyard.Process, Value: "p0", Kind: faultyard.RebootAndDelete,
+	})
+	act(t, guard, 1, `{"clog":{"key":"processid","value":"p2","ticks":3}}`)
+	equal(t, set(t, guard.UpSet), []uint32{2, 3, 4, 5})
+	equal(t, state(t, guard, 0), faultyard.State{Destroyed: true})
+	equal(t, state(t, guard, 1), faultyard.State{Destroyed: true, Gone: true})
+	equal(t, state(t, guard, 2), faultyard.State{Up: true, Clogged: true})
+	equal(t, state(t, guard, 3), up)
+}
+
+func TestEachOrderIsJudgedAsTheKillIsThenAnswered(t *testing.T) {
+	guard := opened(t, six(t))
+	kinds := []faultyard.Kind{
+		faultyard.KillInstantly, faultyard.RebootAndDelete, faultyard.Reboot,
+	}
+	count := 0
+	for _, zone := range []string{"z0", "z1", "z2", "z9"} {
+		for _, kind := range kinds {
+			for _, floor := range []faultyard.Kind{faultyard.Reboot, faultyard.None} {
+				order := faultyard.Order{
+					Key: faultyard.Zone, Value: zone, Kind: kind, Floor: floor,
+				}
+				judged, err := guard.Judge(1, order)
+				equal(t, err, nil)
+				equal(t, journalLen(t, guard), count)
+				equal(t, kill(t, guard, 1, order), judged)
+				count++
+			}
+		}
+	}
+	order := faultyard.Order{Key: faultyard.Process, Value: "p0", Kind: faultyard.Reboot}
+	_, err := guard.Judge(9, order)
+	fails(t, err, faultyard.RefusalStranger)
+	order.Floor = faultyard.KillInstantly
+	_, err = guard.Judge(1, order)
+	fails(t, err, faultyard.ErrFloor)
+	order.Value = ""
+	_, err = guard.Judge(1, order)
+	fails(t, err, faultyard.ErrName)
+	order.Key = 0
+	_, err = guard.Judge(1, order)
+	fails(t, err, faultyard.ErrArgument)
+	equal(t, journalLen(t, guard), count)
+}
+
+func TestAGuardThatIsResetDoesTheSameAgain(t *testing.T) {
+	guard := opened(t, six(t))
+	var audits []string
+	for len(audits) < 2 {
+		act(t, guard, 0, `{"tick":{"ticks":5}}`)
+		kill(t, guard, 1, faultyard.Order{
+			Key: faultyard.Zone, Value: "z0", Kind: faultyard.KillInstantly,
+		})
+		audits = append(audits, audit(t, guard))
+		equal(t, guard.Reset(), nil)
+		equal(t, journalLen(t, guard), 0)
+		equal(t, set(t, guard.Left), []uint32{0, 1, 2, 3, 4, 5})
+	}
+	equal(t, audits[0], audits[1])
 }
 
 func TestProcessesByTheirNames(t *testing.T) {
@@ -413,9 +508,18 @@ func assertClosed(t *testing.T, guard *faultyard.Guard) {
 	t.Helper()
 	_, err := guard.Kill(1, faultyard.Order{})
 	fails(t, err, faultyard.ErrClosed)
+	_, err = guard.Judge(1, faultyard.Order{})
+	fails(t, err, faultyard.ErrClosed)
+	fails(t, guard.Reset(), faultyard.ErrClosed)
 	fails(t, guard.Up(0, 0), faultyard.ErrClosed)
 	fails(t, guard.Heal(0, 0), faultyard.ErrClosed)
 	_, err = guard.Act(nil)
+	fails(t, err, faultyard.ErrClosed)
+	_, err = guard.UpSet()
+	fails(t, err, faultyard.ErrClosed)
+	_, _, err = guard.State(0)
+	fails(t, err, faultyard.ErrClosed)
+	_, err = guard.Needed(0)
 	fails(t, err, faultyard.ErrClosed)
 	_, err = guard.IsDestroyed(0)
 	fails(t, err, faultyard.ErrClosed)

@@ -43,6 +43,22 @@ uint32_t fy_kill(fy_guard *guard, uint32_t actor, uint32_t key, const uint8_t *v
     return FY_NO_MEMORY;
 }
 
+uint32_t fy_reset(fy_guard *guard)
+{
+    require_turn();
+    return FY_NO_MEMORY;
+}
+
+uint32_t fy_judge(const fy_guard *guard, uint32_t actor, uint32_t key, const uint8_t *value,
+                  size_t value_length, uint32_t kind, uint32_t floor, uint32_t *struck,
+                  uint32_t *rule, uint64_t *named)
+{
+    require_turn();
+    *struck = *rule = 0;
+    *named = 0;
+    return FY_ARGUMENT;
+}
+
 uint32_t fy_up(fy_guard *guard, uint32_t actor, uint32_t process, uint32_t *refusal)
 {
     require_turn();
@@ -73,6 +89,22 @@ void fy_left(const fy_guard *guard, uint64_t *set, size_t words)
 {
     require_turn();
     memset(set, 0, words * sizeof *set);
+}
+
+void fy_up_set(const fy_guard *guard, uint64_t *set, size_t words)
+{
+    fy_left(guard, set, words);
+}
+
+uint32_t fy_state(const fy_guard *guard, uint32_t process)
+{
+    return fy_is_destroyed(guard, process);
+}
+
+uint32_t fy_needed(const fy_guard *guard, uint32_t process)
+{
+    require_turn();
+    return FY_NO_SUCH_RECORD;
 }
 
 void fy_destroyed_set(const fy_guard *guard, uint64_t *set, size_t words)

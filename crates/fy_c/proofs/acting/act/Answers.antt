@@ -9,9 +9,9 @@ returns-in_default-clause-err c = NoLine.not_entered NoMemory NotEntered.no_memo
 
 pub returns-in-Err-clause-err : goal.returns-in-Err-clause-err
 returns-in-Err-clause-err c =
-    let course = c.args.guard.now.value in
-    subst (NoLine course course c.args.line.now) (sym c.command_status.ensures)
-    (faulty_line course c.args.line.now c.in-Err.fault c.in-Err.ensures)
+    let execution = c.args.guard.now.value in
+    subst (NoLine execution execution c.args.line.now) (sym c.command_status.ensures)
+    (faulty_line execution c.args.line.now c.in-Err.fault c.in-Err.ensures)
 
 pub returns-in-Err-answer-clause-err : goal.returns-in-Err-answer-clause-err
 returns-in-Err-answer-clause-err c =

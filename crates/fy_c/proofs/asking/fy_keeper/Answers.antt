@@ -1,5 +1,5 @@
 use Rattle.std.proofs.Common.{◌∙◌, ap}
-use Rattle.fy_cluster.specs.Course.{Course, history_of}
+use Rattle.fy_cluster.specs.Execution.{Execution, history_of}
 use Rattle.fy_cluster.specs.History.{keeper}
 use Rattle.fy_c.specs.Numbers.{process_number}
 use Rattle.fy_c.proofs.asking.fy_keeper.Goals as goal
@@ -9,4 +9,4 @@ returns-clause-keeper c =
     c.process_number.ensures
     ∙ ap process_number
     (c.keeper.ensures.keeper
-    ∙ ap (λ (it : Course). keeper it.setup (history_of it) c.args.rec) c.cluster.ensures.value)
+    ∙ ap (λ (it : Execution). keeper it.setup (history_of it) c.args.rec) c.cluster.ensures.value)

@@ -1,5 +1,5 @@
 use Rattle.std.proofs.Common.{◌∙◌, ap, refl}
-use Rattle.fy_cluster.specs.Course.{Course}
+use Rattle.fy_cluster.specs.Execution.{Execution}
 use Rattle.fy_c.specs.Sets.{Targets, targets_in}
 use Rattle.fy_c.specs.declared.status.Status.TheVariants.{Done}
 use Rattle.fy_c.proofs.sets.fy_targets.Goals as goal
@@ -18,5 +18,5 @@ returns-clause-told c = (
   Targets.found c.in-Ok.target c.in-Ok.ensures.target
       (λ p. c.write_set.ensures p
       ∙ c.found.ensures p
-      ∙ ap (λ (it : Course). targets_in it c.in-Ok.target p) c.cluster.ensures.value),
+      ∙ ap (λ (it : Execution). targets_in it c.in-Ok.target p) c.cluster.ensures.value),
 )
