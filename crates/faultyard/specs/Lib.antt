@@ -1,15 +1,1 @@
-pub mod JudgeBooks
-pub mod JudgeLines
-pub mod JudgeTexts
-pub mod JudgeViews
-pub mod Stops
 pub mod Commands
-pub use Rattle.fy_lines.specs.Fronts
-pub mod RunTexts
-pub mod GuardTexts
-pub mod CheckTexts
-pub mod Confirmed
-pub mod Outputs
-pub mod ShowTexts
-pub mod BearsTexts
-pub mod Swarm

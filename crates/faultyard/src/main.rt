@@ -1,34 +1,21 @@
 //! `faultyard`: a fault injector for a simulated storage cluster.
 #![tactic(auto)]
 
-mod audit;
-mod bears;
-mod check;
-mod guard;
-mod judge;
-mod laws;
-mod load;
-mod run;
-mod show;
-mod stop;
-mod swarm;
 mod task;
 
-use bears::{run_bears, run_bears_after};
-use check::run_check;
 use fy_bears::Form;
+use fy_bears_after::{run_bears, run_bears_after};
+use fy_check_audit::run_check;
 use fy_cluster::Config;
-use guard::run_guard;
-use judge::run_judge;
-use load::load_config;
-use run::run_script;
-use show::run_show;
+use fy_engine::{Stop, load_config, write_stop};
+use fy_judge::run_judge;
+use fy_run::{run_guard, run_script};
+use fy_show::run_show;
+use fy_swarm::run_swarm;
 use std::fs::File;
 use std::io::{BufReader, ErrorKind};
 use std::process::ExitCode;
 use std::{env, fs};
-use stop::{Stop, write_stop};
-use swarm::run_swarm;
 use task::{Task, read_task};
 
 /// The status of a program whose words are no command.
@@ -43,7 +30,7 @@ fn main(rt: HostRuntime) -> ExitCode {
         Err(status) => return status,
     };
     let done = match read_task(rt.alloc(), words.as_slice()) {
-        Ok(Task::Judge) => run_judge(rt.alloc(), &mut rt.stdin(), &mut rt.stdout()),
+        Ok(Task::Judge) => judge_input(&rt),
         Ok(Task::Run(path)) => run_file(&rt, path),
         Ok(Task::Check(path)) => check_file(&rt, path),
         Ok(Task::Guard(path)) => guard_file(&rt, path),
@@ -60,6 +47,14 @@ fn main(rt: HostRuntime) -> ExitCode {
         Ok(true) => ExitCode::SUCCESS,
         Ok(false) => ExitCode::from(REFUTED),
         Err(stop) => stopped(&rt, stop),
+    }
+}
+
+/// Answers the asks on standard input.
+fn judge_input(rt: &HostRuntime) -> Result<bool, Stop> {
+    match run_judge(rt.alloc(), &mut rt.stdin(), &mut rt.stdout()) {
+        Ok(done) => Ok(done),
+        Err(stop) => Err(Stop::from(stop)),
     }
 }
 

@@ -6,7 +6,7 @@ use Rattle.std.proofs.lemmas.Bool.Decides.{nat_tests}
 use Rattle.std.proofs.lemmas.List.{drop_all}
 use Rattle.std.proofs.Math.Seq.{drop-cons}
 use Rattle.rand_chacha.specs.ChaCha.{word_at, key_of}
-use Rattle.fy_actors.specs.Words.{seed_bytes, words_of}
+use Rattle.fy_actors.specs.Words.{seed_bytes, stream_outputs}
 use Rattle.fy_actors.specs.Plans.{chosen}
 
 -- ---- words
@@ -22,20 +22,20 @@ pub map_last : {A B : Type 0} (f : A → B) (xs : List A) (x : A) → map f (xs 
 map_last f [] x = refl
 map_last f (y ∷ ys) x = ap (λ zs. f y ∷ zs) (map_last f ys x)
 
-pub no_words : (seed stream : ℕ) → words_of seed stream 0 ≡ []
-unfolding words_of
+pub no_words : (seed stream : ℕ) → stream_outputs seed stream 0 ≡ []
+unfolding stream_outputs
 no_words seed stream = refl
 
 pub one_word_more : (seed stream n : ℕ)
-    → words_of seed stream (n + 1)
-    ≡ words_of seed stream n ++ word_at 4 (key_of (seed_bytes seed)) stream n ∷ []
-unfolding words_of
+    → stream_outputs seed stream (n + 1)
+    ≡ stream_outputs seed stream n ++ word_at 4 (key_of (seed_bytes seed)) stream n ∷ []
+unfolding stream_outputs
 one_word_more seed stream n =
     ap (λ k. map (word_at 4 (key_of (seed_bytes seed)) stream) (range_with_len 0 k))
     (let e : n + 1 ≡ suc n = omega arith in e)
     ∙ ap (map (word_at 4 (key_of (seed_bytes seed)) stream)) (last_of_range 0 n)
     ∙ map_last (word_at 4 (key_of (seed_bytes seed)) stream) (range_with_len 0 n) (0 + n)
-    ∙ ap (λ k. words_of seed stream n ++ word_at 4 (key_of (seed_bytes seed)) stream k ∷ []) (zero-add n)
+    ∙ ap (λ k. stream_outputs seed stream n ++ word_at 4 (key_of (seed_bytes seed)) stream k ∷ []) (zero-add n)
 
 -- ---- choosing
 

@@ -14,39 +14,39 @@ use Rattle.fy_actors.specs.declared.desk.Turn.{Turn}
 use Rattle.fy_actors.specs.declared.desk.Turn.TheVariants.{More, Ended}
 use Rattle.fy_actors.specs.declared.driver.Team.{Team}
 use Rattle.fy_actors.specs.declared.driver.Team.TheVariants.{Unformed, Formed, Refused}
-use Rattle.fy_actors.specs.Desk.{Bench, desk_reply, receipt, acted, entries_by}
-use Rattle.fy_actors.specs.Turns.{TakesTurn, turn_where}
-use Rattle.fy_actors.specs.Agendas.{Agenda, next_of, has_left, one_made, FollowsAgenda}
+use Rattle.fy_actors.specs.Desk.{DeskState, desk_reply, receipt, after_act, entries_by}
+use Rattle.fy_actors.specs.Turns.{TakesTurn, more_if}
+use Rattle.fy_actors.specs.Schedules.{Schedule, next_of, has_next, one_made, FollowsSchedule}
 use Rattle.fy_actors.specs.Drives.{Drive, act_while, next_act, driven, is_refused, goes_on, Drives}
-use Rattle.fy_actors.specs.Parts.{Part, went_on, is_left, ComesNext, PlaysTurn, played, Obeys, KeepsTo, Tells, TurnsKeepTo, OthersChangeNoPart, AnswersTell}
-use Rattle.fy_actors.specs.Parts.Part.{Acts, Stores, Own}
+use Rattle.fy_actors.specs.Parts.{Part, after_reply, has_next_act, ComesNext, PlaysTurn, played, Obeys, KeepsTo, Tells, TurnsKeepTo, OthersChangeNoPart, AnswersTell}
+use Rattle.fy_actors.specs.Parts.Part.{Acts, Stores, Unspecified}
 
 -- ---- turns of the actors of this crate play their parts
 
-follows : (next : Option Act) (was now : Agenda × Bench) (result : Result Turn Fault)
-    → TakesTurn one_made has_left next was now result
-    → TakesTurn went_on is_left next (Acts was.0, was.1) (Acts now.0, now.1) result
-follows None was now result t = (t.0, ap (λ (x : Agenda × Bench). (Acts x.0, x.1)) t.1)
+follows : (next : Option Act) (was now : Schedule × DeskState) (result : Result Turn Fault)
+    → TakesTurn one_made has_next next was now result
+    → TakesTurn after_reply has_next_act next (Acts was.0, was.1) (Acts now.0, now.1) result
+follows None was now result t = (t.0, ap (λ (x : Schedule × DeskState). (Acts x.0, x.1)) t.1)
 follows (Some act) was now (Ok took) t =
-    record { made = ap (λ (x : Agenda × Bench). (Acts x.0, x.1)) t.made; ends = t.ends }
+    record { made = ap (λ (x : Schedule × DeskState). (Acts x.0, x.1)) t.made; ends = t.ends }
 follows (Some act) was now (Err fault) t =
-    record { same = ap (λ (x : Agenda × Bench). (Acts x.0, x.1)) t.same; full = t.full }
+    record { same = ap (λ (x : Schedule × DeskState). (Acts x.0, x.1)) t.same; full = t.full }
 
-pub follows_plays : (was now : Agenda × Bench) (result : Result Turn Fault)
-    → FollowsAgenda was now result
+pub follows_plays : (was now : Schedule × DeskState) (result : Result Turn Fault)
+    → FollowsSchedule was now result
     → PlaysTurn (Acts was.0, was.1) (Acts now.0, now.1) result
 follows_plays was now result t = (next_of was.0, refl, follows (next_of was.0) was now result t)
 
-drives : (next : Option Act) (was now : Drive × Bench) (result : Result Turn Fault)
+drives : (next : Option Act) (was now : Drive × DeskState) (result : Result Turn Fault)
     → TakesTurn driven goes_on next was now result
-    → TakesTurn went_on is_left next (Stores was.0, was.1) (Stores now.0, now.1) result
-drives None was now result t = (t.0, ap (λ (x : Drive × Bench). (Stores x.0, x.1)) t.1)
+    → TakesTurn after_reply has_next_act next (Stores was.0, was.1) (Stores now.0, now.1) result
+drives None was now result t = (t.0, ap (λ (x : Drive × DeskState). (Stores x.0, x.1)) t.1)
 drives (Some act) was now (Ok took) t =
-    record { made = ap (λ (x : Drive × Bench). (Stores x.0, x.1)) t.made; ends = t.ends }
+    record { made = ap (λ (x : Drive × DeskState). (Stores x.0, x.1)) t.made; ends = t.ends }
 drives (Some act) was now (Err fault) t =
-    record { same = ap (λ (x : Drive × Bench). (Stores x.0, x.1)) t.same; full = t.full }
+    record { same = ap (λ (x : Drive × DeskState). (Stores x.0, x.1)) t.same; full = t.full }
 
-pub drives_plays : (was now : Drive × Bench) (result : Result Turn Fault)
+pub drives_plays : (was now : Drive × DeskState) (result : Result Turn Fault)
     → Drives was now result → PlaysTurn (Stores was.0, was.1) (Stores now.0, now.1) result
 drives_plays was now result d =
     let next : Option Act = next_act was.0 d.sight in
@@ -66,7 +66,7 @@ by_first a e es is =
 played_append : (part : Part) (xs ys : List Entry)
     → played part (xs ++ ys) ≡ played (played part xs) ys
 played_append part [] ys = refl
-played_append part (x ∷ xs) ys = played_append (went_on part x.reply) xs ys
+played_append part (x ∷ xs) ys = played_append (after_reply part x.reply) xs ys
 
 -- an entry stands in the first or in the second of two lists
 split : (xs ys front rest : List Entry) (e : Entry) → xs ++ ys ≡ front ++ e ∷ rest
@@ -126,14 +126,14 @@ alone (m ∷ mid) rest x e is =
 one_more : (setup : Setup) (a : ℕ) (first now : Part) (journal : List Entry) (x : Entry)
     → x.by ≡ a → ComesNext setup journal now (Some x.act)
     → KeepsTo setup a first journal now
-    → KeepsTo setup a first (journal ++ x ∷ []) (went_on now x.reply)
+    → KeepsTo setup a first (journal ++ x ∷ []) (after_reply now x.reply)
 one_more setup a first now journal x by next keeps =
     let old : List Entry = entries_by a journal in
     let new : entries_by a (journal ++ x ∷ []) ≡ old ++ x ∷ [] =
     by_append a journal (x ∷ []) ∙ ap (λ (l : List Entry). old ++ l) (by_first a x [] by) in
     record {
       now_at =
-          ap (λ (p : Part). went_on p x.reply) keeps.now_at
+          ap (λ (p : Part). after_reply p x.reply) keeps.now_at
           ∙ (sym (played_append first old (x ∷ [])) ∙ ap (played first) (sym new));
       obeys =
           obeys_both setup a first journal (x ∷ []) keeps.obeys (λ mid rest e is by'.
@@ -150,41 +150,41 @@ one_more setup a first now journal x by next keeps =
 
 -- ---- turns
 
-turn_keeps : (first : Part) (was now : Part × Bench) (next : Option Act)
+turn_keeps : (first : Part) (was now : Part × DeskState) (next : Option Act)
     (result : Result Turn Fault) → ComesNext was.1.setup was.1.journal was.0 next
-    → TakesTurn went_on is_left next was now result
+    → TakesTurn after_reply has_next_act next was now result
     → KeepsTo was.1.setup was.1.actor first was.1.journal was.0
     → KeepsTo was.1.setup was.1.actor first now.1.journal now.0
 turn_keeps first was now None result comes t keeps =
-    subst (λ (x : Part × Bench). KeepsTo was.1.setup was.1.actor first x.1.journal x.0)
+    subst (λ (x : Part × DeskState). KeepsTo was.1.setup was.1.actor first x.1.journal x.0)
     (sym t.1) keeps
 turn_keeps first was now (Some act) (Ok took) comes t keeps =
-    subst (λ (x : Part × Bench). KeepsTo was.1.setup was.1.actor first x.1.journal x.0)
+    subst (λ (x : Part × DeskState). KeepsTo was.1.setup was.1.actor first x.1.journal x.0)
     (sym t.made)
     (one_more was.1.setup was.1.actor first was.0 was.1.journal (receipt was.1 act) refl comes
     keeps)
 turn_keeps first was now (Some act) (Err fault) comes t keeps =
-    subst (λ (x : Part × Bench). KeepsTo was.1.setup was.1.actor first x.1.journal x.0)
+    subst (λ (x : Part × DeskState). KeepsTo was.1.setup was.1.actor first x.1.journal x.0)
     (sym t.same) keeps
 
 -- only whose way was its own from the start goes its own way
-own_first : (first : Part) (es : List Entry) → Own ≡ played first es → first ≡ Own
-own_first (Acts agenda) [] is = absurd (let none : ⊥ = cc in none)
-own_first (Acts agenda) (e ∷ es) is =
-    let h : went_on (Acts agenda) e.reply ≡ Own = own_first (went_on (Acts agenda) e.reply) es is in
+own_first : (first : Part) (es : List Entry) → Unspecified ≡ played first es → first ≡ Unspecified
+own_first (Acts schedule) [] is = absurd (let none : ⊥ = cc in none)
+own_first (Acts schedule) (e ∷ es) is =
+    let h : after_reply (Acts schedule) e.reply ≡ Unspecified = own_first (after_reply (Acts schedule) e.reply) es is in
     absurd (let none : ⊥ = cc in none)
 own_first (Stores drive) [] is = absurd (let none : ⊥ = cc in none)
 own_first (Stores drive) (e ∷ es) is =
-    let h : went_on (Stores drive) e.reply ≡ Own =
-    own_first (went_on (Stores drive) e.reply) es is in
+    let h : after_reply (Stores drive) e.reply ≡ Unspecified =
+    own_first (after_reply (Stores drive) e.reply) es is in
     absurd (let none : ⊥ = cc in none)
-own_first Own es is = refl
+own_first Unspecified es is = refl
 
-own_played : (es : List Entry) → played Own es ≡ Own
+own_played : (es : List Entry) → played Unspecified es ≡ Unspecified
 own_played [] = refl
 own_played (e ∷ es) = own_played es
 
-own_keeps : (setup : Setup) (a : ℕ) (journal : List Entry) → KeepsTo setup a Own journal Own
+own_keeps : (setup : Setup) (a : ℕ) (journal : List Entry) → KeepsTo setup a Unspecified journal Unspecified
 own_keeps setup a journal = record {
   now_at = sym (own_played (entries_by a journal));
   obeys = λ front rest e is by.
@@ -193,13 +193,13 @@ own_keeps setup a journal = record {
 }
 
 pub turns_keep_to : TurnsKeepTo
-turns_keep_to first (Own, before) now result turn keeps =
+turns_keep_to first (Unspecified, before) now result turn keeps =
     subst
     (λ (z : Part × Part). KeepsTo before.setup before.actor z.0 now.1.journal z.1)
     (λ i. (sym (own_first first (entries_by before.actor before.journal) keeps.now_at) i, sym turn i))
     (own_keeps before.setup before.actor now.1.journal)
-turns_keep_to first (Acts agenda, before) now result turn keeps =
-    turn_keeps first (Acts agenda, before) now turn.0 result turn.1 turn.2 keeps
+turns_keep_to first (Acts schedule, before) now result turn keeps =
+    turn_keeps first (Acts schedule, before) now turn.0 result turn.1 turn.2 keeps
 turns_keep_to first (Stores drive, before) now result turn keeps =
     turn_keeps first (Stores drive, before) now turn.0 result turn.1 turn.2 keeps
 
@@ -207,13 +207,13 @@ turns_keep_to first (Stores drive, before) now result turn keeps =
 
 -- where no act comes next, none is left
 none_comes : (setup : Setup) (journal : List Entry) (part : Part)
-    → ComesNext setup journal part None → is_left part ≡ false
-none_comes setup journal (Acts agenda) none =
-    elim ((slice_get_cases agenda.acts agenda.made).1) [
+    → ComesNext setup journal part None → has_next_act part ≡ false
+none_comes setup journal (Acts schedule) none =
+    elim ((slice_get_cases schedule.acts schedule.made).1) [
       | inl there ↦
           let some : None ≡ Some there.0 = none ∙ there.2 in
           absurd (let no : ⊥ = cc in no)
-      | inr past ↦ let beyond : length agenda.acts ≤ agenda.made = past.0 in no_more _ _ beyond
+      | inr past ↦ let beyond : length schedule.acts ≤ schedule.made = past.0 in no_more _ _ beyond
     ]
   where
     no_more : (m n : ℕ) → n ≤ m → nat_lt m n ≡ false
@@ -230,14 +230,14 @@ none_comes setup journal (Stores drive) none =
     idle drive sight false Unformed e = refl
     idle drive sight false (Formed team) e = refl
     idle drive sight false Refused e = refl
-none_comes setup journal Own none = refl
+none_comes setup journal Unspecified none = refl
 
-own_before : (part : Part) (reply : Reply) → went_on part reply ≡ Own → part ≡ Own
-own_before (Acts agenda) reply is = absurd (let none : ⊥ = cc in none)
+own_before : (part : Part) (reply : Reply) → after_reply part reply ≡ Unspecified → part ≡ Unspecified
+own_before (Acts schedule) reply is = absurd (let none : ⊥ = cc in none)
 own_before (Stores drive) reply is = absurd (let none : ⊥ = cc in none)
-own_before Own reply is = refl
+own_before Unspecified reply is = refl
 
-ended_where : (b : Bool) → turn_where b ≡ Ended → b ≡ false
+ended_where : (b : Bool) → more_if b ≡ Ended → b ≡ false
 ended_where true e = absurd (let none : ⊥ = cc in none)
 ended_where false e = refl
 
@@ -247,43 +247,43 @@ ok_is x y e = cc
 err_is : (x y : Fault) → ◌≡◌ {A = Result Turn Fault} (Err x) (Err y) → x ≡ y
 err_is x y e = cc
 
-tells : (was now : Part × Bench) (next : Option Act) (result : Result Turn Fault)
+tells : (was now : Part × DeskState) (next : Option Act) (result : Result Turn Fault)
     → ComesNext was.1.setup was.1.journal was.0 next
-    → TakesTurn went_on is_left next was now result → Tells was now result
+    → TakesTurn after_reply has_next_act next was now result → Tells was now result
 tells was now None result comes t = record {
-  known = λ known is. known (sym (ap (λ (x : Part × Bench). x.0) t.1) ∙ is);
+  known = λ known is. known (sym (ap (λ (x : Part × DeskState). x.0) t.1) ∙ is);
   ended = λ is.
-      ap (λ (x : Part × Bench). is_left x.0) t.1
+      ap (λ (x : Part × DeskState). has_next_act x.0) t.1
       ∙ none_comes was.1.setup was.1.journal was.0 comes;
   more = λ is known. let both : More ≡ Ended = ok_is More Ended (sym is ∙ t.0) in absurd (let none : ⊥ = cc in none);
   full = λ is known. let both : ◌≡◌ {A = Result Turn Fault} (Err JournalFull) (Ok Ended) = sym is ∙ t.0 in absurd (let none : ⊥ = cc in none);
 }
 tells was now (Some act) (Ok took) comes t = record {
   known = λ known is.
-      known (own_before was.0 _ (sym (ap (λ (x : Part × Bench). x.0) t.made) ∙ is));
-  ended = λ is. ended_where (is_left now.0) (sym t.ends ∙ ok_is took Ended is);
+      known (own_before was.0 _ (sym (ap (λ (x : Part × DeskState). x.0) t.made) ∙ is));
+  ended = λ is. ended_where (has_next_act now.0) (sym t.ends ∙ ok_is took Ended is);
   more = λ is known.
-      ap (λ (x : Part × Bench). length x.1.receipts) t.made
+      ap (λ (x : Part × DeskState). length x.1.receipts) t.made
       ∙ length-append was.1.receipts (receipt was.1 act ∷ []);
   full = λ is known. absurd (let none : ⊥ = cc in none);
 }
 tells was now (Some act) (Err fault) comes t = record {
-  known = λ known is. known (sym (ap (λ (x : Part × Bench). x.0) t.same) ∙ is);
+  known = λ known is. known (sym (ap (λ (x : Part × DeskState). x.0) t.same) ∙ is);
   ended = λ is. absurd (let none : ⊥ = cc in none);
   more = λ is known. absurd (let none : ⊥ = cc in none);
   full = λ is known.
-      subst (λ (x : Part × Bench). was.1.setup.limit ≤ length x.1.journal) (sym t.same)
+      subst (λ (x : Part × DeskState). was.1.setup.limit ≤ length x.1.journal) (sym t.same)
       ((t.full).0 (err_is fault JournalFull is));
 }
 
 pub answers_tell : AnswersTell
-answers_tell (Own, before) now result turn = record {
+answers_tell (Unspecified, before) now result turn = record {
   known = λ known is. absurd (known refl);
-  ended = λ is. ap is_left turn;
+  ended = λ is. ap has_next_act turn;
   more = λ is known. absurd (known refl);
   full = λ is known. absurd (known refl);
 }
-answers_tell (Acts agenda, before) now result turn =
-    tells (Acts agenda, before) now turn.0 result turn.1 turn.2
+answers_tell (Acts schedule, before) now result turn =
+    tells (Acts schedule, before) now turn.0 result turn.1 turn.2
 answers_tell (Stores drive, before) now result turn =
     tells (Stores drive, before) now turn.0 result turn.1 turn.2

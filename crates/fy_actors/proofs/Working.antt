@@ -11,24 +11,24 @@ use Rattle.fy_acts.specs.declared.act.Act.TheVariants.{Kill}
 use Rattle.fy_acts.specs.declared.act.Act.{Act}
 use Rattle.fy_cluster.specs.declared.fault.Fault.{Fault}
 use Rattle.fy_cluster.specs.declared.fault.Fault.TheVariants.{JournalFull}
-use Rattle.fy_actors.specs.Desk.{Bench, receipt, acted, Worked}
+use Rattle.fy_actors.specs.Desk.{DeskState, receipt, after_act, Worked}
 use Rattle.fy_actors.specs.Turns.{TakesTurn}
 use Rattle.fy_cluster.specs.declared.sight.Sight.{Sight}
 use Rattle.fy_actors.specs.declared.driver.Team.{Team}
 use Rattle.fy_actors.specs.declared.driver.Team.TheVariants.{Unformed, Formed, Refused}
-use Rattle.fy_actors.specs.Agendas.{attrition_act}
+use Rattle.fy_actors.specs.Schedules.{attrition_act}
 use Rattle.fy_actors.specs.Drives.{Drive, act_while, next_act, driven, is_refused, goes_on}
 use Rattle.fy_actors.proofs.Drawing.{map_last}
 
 -- an act is work
-pub acted_works : (before after : Bench) (act : Act) → after ≡ acted before act → Worked before after
+pub acted_works : (before after : DeskState) (act : Act) → after ≡ after_act before act → Worked before after
 acted_works before after act e = record {
-  setup = ap (λ (desk : Bench). desk.setup) e;
-  actor = ap (λ (desk : Bench). desk.actor) e;
+  setup = ap (λ (desk : DeskState). desk.setup) e;
+  actor = ap (λ (desk : DeskState). desk.actor) e;
   new = receipt before act ∷ [];
-  journal = ap (λ (desk : Bench). desk.journal) e;
+  journal = ap (λ (desk : DeskState). desk.journal) e;
   own = (refl, tt);
-  receipts = ap (λ (desk : Bench). desk.receipts) e;
+  receipts = ap (λ (desk : DeskState). desk.receipts) e;
 }
 
 -- ---- a driver's turns
@@ -54,13 +54,13 @@ some_while drive sight true Unformed e = refl
 some_while drive sight true (Formed team) e = refl
 
 -- where an act is left, a fault that is a full journal exactly where it is full holds it up
-held_up_at : (next : Option Act) (was : Drive × Bench) (fault : Fault) → IsSome next
+held_up_at : (next : Option Act) (was : Drive × DeskState) (fault : Fault) → IsSome next
     → ((fault ≡ JournalFull) ↔ (was.1.setup.limit ≤ length was.1.journal))
     → TakesTurn driven goes_on next was was (Err fault)
 held_up_at None was fault there full = absurd (let none : ⊥ = cc in none)
 held_up_at (Some act) was fault there full = record { same = refl; full = full }
 
-pub held_up : (sight : Sight) (was : Drive × Bench) (fault : Fault) → goes_on was.0 ≡ true
+pub held_up : (sight : Sight) (was : Drive × DeskState) (fault : Fault) → goes_on was.0 ≡ true
     → ((fault ≡ JournalFull) ↔ (was.1.setup.limit ≤ length was.1.journal))
     → TakesTurn driven goes_on (next_act was.0 sight) was was (Err fault)
 held_up sight was fault left full =

@@ -8,12 +8,12 @@ use Rattle.fy_acts.specs.declared.reply.Reply.{Reply}
 use Rattle.fy_acts.specs.declared.reply.Reply.TheVariants.{Formed as ToldFormed}
 use Rattle.fy_cluster.specs.declared.fault.Fault.{Fault}
 use Rattle.fy_cluster.specs.declared.sight.Sight.{Sight}
-use Rattle.fy_cluster.specs.Course.{history_of}
+use Rattle.fy_cluster.specs.Execution.{history_of}
 use Rattle.fy_cluster.specs.Sights.{Sees}
 use Rattle.fy_actors.specs.declared.desk.Turn.{Turn}
 use Rattle.fy_actors.specs.declared.driver.Team.{Team}
 use Rattle.fy_actors.specs.declared.driver.Team.TheVariants.{Unformed, Formed, Refused}
-use Rattle.fy_actors.specs.Desk.{Bench, course_of}
+use Rattle.fy_actors.specs.Desk.{DeskState, execution_of}
 use Rattle.fy_actors.specs.Turns.{TakesTurn}
 
 -- the team that is to be formed, the payloads to begin and how many acts there are to make; what
@@ -61,6 +61,7 @@ abbrev pub driven : Drive → Reply → Drive
 driven drive reply =
     record drive { team = team_after drive.team reply; made = suc drive.made }
 
+-- whether the team was refused
 abbrev pub is_refused : Team → Bool
 is_refused Refused = true
 is_refused _ = false
@@ -70,7 +71,7 @@ abbrev pub goes_on : Drive → Bool
 goes_on drive = if is_refused drive.team then false else nat_lt drive.made drive.acts
 
 -- a turn makes the act that comes next by what the desk shows
-pub record Drives (was now : Drive × Bench) (result : Result Turn Fault) : Type 0 where
+pub record Drives (was now : Drive × DeskState) (result : Result Turn Fault) : Type 0 where
   pub sight : Sight
-  pub seen : Sees was.1.setup (history_of (course_of was.1)) sight
+  pub seen : Sees was.1.setup (history_of (execution_of was.1)) sight
   pub turn : TakesTurn driven goes_on (next_act was.0 sight) was now result

@@ -3,7 +3,7 @@ pub mod Plans
 pub mod Desk
 pub mod Work
 pub mod Turns
-pub mod Agendas
+pub mod Schedules
 pub mod Drives
 pub mod Parts
 pub use Rattle.fy_locality.specs.Locality

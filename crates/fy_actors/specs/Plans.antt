@@ -1,4 +1,4 @@
--- what is drawn from words
+-- what is drawn from random words
 use Rattle.std.specs.Prelude.{◌≡◌, ℕ, zero, suc, ◌+◌, ◌-◌, ◌%◌, ◌==◌, min, nat_lt, List, [], ◌∷◌, length, take, drop, swap, if◌then◌else◌}
 use Rattle.fy_locality.specs.declared.ProcId.{ProcId}
 use Rattle.fy_locality.specs.declared.locality.Locality.{Locality}
@@ -6,15 +6,15 @@ use Rattle.fy_locality.specs.declared.key.Key.TheVariants.{Machine}
 use Rattle.fy_locality.specs.Locality.{values_of}
 use Rattle.fy_actors.specs.declared.plans.SwizzlePlan.{SwizzlePlan}
 
--- from this place down to the second, each place is swapped with the one at or below it that the
--- next word names
+-- from this index down to 1, each item is swapped with the one at or below it that the next word
+-- names
 abbrev pub shuffled_from : {A : Type 0} → ℕ → List ℕ → List A → List A
 shuffled_from zero words xs = xs
 shuffled_from (suc i) [] xs = xs
 shuffled_from (suc i) (word ∷ words) xs =
     shuffled_from i words (swap xs (suc i) (word % (suc i + 1)))
 
--- the list shuffled, from its last place on
+-- the list shuffled, from its last item on (Fisher-Yates)
 abbrev pub shuffled : {A : Type 0} → List ℕ → List A → List A
 shuffled words xs = shuffled_from (length xs - 1) words xs
 
@@ -39,7 +39,7 @@ pub record IsSwizzle (words : List ℕ) (candidates : List ProcId) (plan : Swizz
       ≡ shuffled (drop (length candidates) words) (chosen words candidates)
 
 -- the first of the shuffled machines: so many, but so many others are left
-abbrev pub doomed : List ℕ → List Locality → ℕ → ℕ → List (List ℕ)
-doomed words processes to_kill to_leave =
+abbrev pub machines_to_kill : List ℕ → List Locality → ℕ → ℕ → List (List ℕ)
+machines_to_kill words processes to_kill to_leave =
     let machines = values_of processes Machine in
     take (min to_kill (length machines - to_leave)) (shuffled words machines)

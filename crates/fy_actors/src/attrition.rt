@@ -1,12 +1,12 @@
 //! Killing machines one after another.
 ghost use Rattle.std.specs.Prelude.{◌≡◌, ◌↔◌, ◌<◌, ◌≤◌, Err, IfOk};
 ghost use Rattle.fy_kinds.specs.Kinds.{rank};
-ghost use Rattle.fy_actors.specs.Agendas.{begun, attrition_acts, FollowsAgenda};
+ghost use Rattle.fy_actors.specs.Schedules.{begun, attrition_acts, FollowsSchedule};
 ghost use Rattle.fy_actors.specs.Desk.{Worked};
 ghost use Rattle.fy_actors.specs.Parts.{PlaysTurn};
 ghost use Rattle.fy_actors.specs.Parts.Part.{Acts};
 
-use crate::agenda::Agenda;
+use crate::schedule::Schedule;
 use crate::{AttritionPlan, Desk, FaultActor, Turn};
 use fy_cluster::Fault;
 use fy_journal::Act;
@@ -37,21 +37,21 @@ impl From<AllocError> for AttritionFault {
 
 /// An actor that kills the machines of a plan, one a turn.
 pub struct Attrition {
-    agenda: Agenda,
+    schedule: Schedule,
 }
 
 impl Model for Attrition {
-    ghost use Rattle.fy_actors.specs.Agendas.{Agenda as Acts};
+    ghost use Rattle.fy_actors.specs.Schedules.{Schedule as Acts};
 
     ghost Value = { Acts };
 
-    ghost view = { λ a. a.agenda };
+    ghost view = { λ a. a.schedule };
 }
 
-// Written out, so that whoever drops an attrition makes one call.
+// Written out: see lib.rt.
 impl Drop for Attrition {
     fn drop(self) {
-        let Attrition { agenda: _ } = self;
+        let Attrition { schedule: _ } = self;
     }
 }
 
@@ -105,7 +105,7 @@ impl Attrition {
         }
         let acts = kill_orders(alloc, &plan.machines, kind, floor, tear)?;
         Ok(Attrition {
-            agenda: Agenda::begin(alloc, acts),
+            schedule: Schedule::begin(alloc, acts),
         })
     }
 }
@@ -113,14 +113,14 @@ impl Attrition {
 impl FaultActor for Attrition {
     ghost use Rattle.fy_actors.specs.Parts.Part.{Acts as Playing};
 
-    ghost part = { λ agenda. Playing agenda };
+    ghost part = { λ schedule. Playing schedule };
 
     /// Makes the act that comes next. After a fault it is still the next one.
     fn turn(&mut self, desk: &mut Desk) -> Result<Turn, Fault>
-        ensures turn { FollowsAgenda (self.old, desk.old) (self.new, desk.new) result }
+        ensures turn { FollowsSchedule (self.old, desk.old) (self.new, desk.new) result }
         ensures plays { PlaysTurn (Acts self.old, desk.old) (Acts self.new, desk.new) result }
         ensures worked { Worked desk.old desk.new }
     {
-        self.agenda.turn(desk)
+        self.schedule.turn(desk)
     }
 }

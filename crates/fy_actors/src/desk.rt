@@ -1,11 +1,11 @@
 //! The desk at which actors take their turns.
 ghost use Rattle.std.specs.Prelude.{◌≡◌, ◌↔◌, ◌≤◌, length, Err, IfOk, IsTrue, OnOk, OnErr};
 ghost use Rattle.fy_cluster.specs.Replies.{Legal};
-ghost use Rattle.fy_cluster.specs.Course.{history_of};
+ghost use Rattle.fy_cluster.specs.Execution.{history_of};
 ghost use Rattle.fy_cluster.specs.Sights.{Sees};
 ghost use Rattle.fy_cluster.specs.Survival.{Survives};
 ghost use Rattle.fy_cluster.specs.declared.fault.Fault.TheVariants.{JournalFull};
-ghost use Rattle.fy_actors.specs.Desk.{course_of, laid, desk_reply, acted, Worked};
+ghost use Rattle.fy_actors.specs.Desk.{execution_of, new_desk, desk_reply, after_act, Worked};
 
 use fy_cluster::{Cluster, Fault, MOST_JOURNAL_ENTRIES, Sight};
 use fy_journal::{Act, Entry, Reply};
@@ -21,15 +21,14 @@ pub enum Turn {
     Ended,
 }
 
-/// What takes turns at a desk, whoever wrote it: an actor is asked for one turn after another, and
-/// acts at the desk alone. Which part it plays is known of it in a box too; an actor that says
-/// nothing of it goes its own way.
+/// An actor. It is asked for one turn after another, and acts at the desk alone. `part` is what it
+/// is known to do, in a box too; an actor that doesn't define it goes its own way.
 pub trait FaultActor: Drop {
     ghost use Rattle.fy_actors.specs.Desk.{Worked};
     ghost use Rattle.fy_actors.specs.Parts.{Part, PlaysTurn};
-    ghost use Rattle.fy_actors.specs.Parts.Part.{Own};
+    ghost use Rattle.fy_actors.specs.Parts.Part.{Unspecified};
 
-    ghost part: { Self → Part } = { λ _. Own };
+    ghost part: { Self → Part } = { λ _. Unspecified };
 
     /// Takes a turn. Whatever it does, the cluster began with the same configuration, the same
     /// actor sits at the desk, and all new entries of the journal are this actor's and its new
@@ -56,9 +55,9 @@ impl Model for Desk {
     ghost use Rattle.std.specs.Coded.{codes};
     ghost use Rattle.fy_locality.specs.contracts.locality.Locality as e;
     ghost use Rattle.fy_policy.specs.TreeCode.{tree_code};
-    ghost use Rattle.fy_actors.specs.Desk.{Bench};
+    ghost use Rattle.fy_actors.specs.Desk.{DeskState};
 
-    ghost Value = { Bench };
+    ghost Value = { DeskState };
 
     ghost coded = { Prim.hlevel (codes, tree_code, e.the_row.coded) };
 
@@ -70,7 +69,7 @@ impl Model for Desk {
     } };
 }
 
-// Written out, so that whoever drops a desk makes one call.
+// Written out: see lib.rt.
 impl Drop for Desk {
     fn drop(self) {
         let Desk {
@@ -85,7 +84,7 @@ impl Drop for Desk {
 impl Desk {
     /// The desk of a cluster, for actor 0, without receipts. Takes no memory.
     pub fn make(alloc: Global, cluster: Cluster) -> Desk
-        ensures { result ≡ laid cluster }
+        ensures { result ≡ new_desk cluster }
     {
         Desk {
             alloc,
@@ -107,7 +106,7 @@ impl Desk {
 
     /// The cluster. Takes no memory.
     pub fn into_cluster(self) -> Cluster
-        ensures { result ≡ course_of self }
+        ensures { result ≡ execution_of self }
     {
         let Desk {
             alloc: _,
@@ -120,7 +119,7 @@ impl Desk {
 
     /// The time, and what there is to do next. Takes no memory.
     pub fn sight(&self) -> Sight
-        ensures { Sees self.now.setup (history_of (course_of self.now)) result }
+        ensures { Sees self.now.setup (history_of (execution_of self.now)) result }
     {
         self.cluster.sight()
     }
@@ -150,8 +149,8 @@ impl Desk {
         self.cluster.is_full()
     }
 
-    /// Makes an act of who sits here. The entry that it leaves in the cluster's journal is also
-    /// the last receipt.
+    /// Makes an act of the actor that sits here. Its entry in the cluster's journal is also the
+    /// last receipt.
     ///
     /// # Errors
     ///
@@ -161,7 +160,7 @@ impl Desk {
         ensures full { (self.old.setup.limit ≤ length self.old.journal)
             ↔ (result ≡ Err JournalFull) }
         ensures replied { IfOk result (λ reply. reply ≡ desk_reply self.old act) }
-        ensures acted { OnOk result (self.new ≡ acted self.old act) }
+        ensures after_act { OnOk result (self.new ≡ after_act self.old act) }
         ensures err { OnErr result (self.new ≡ self.old) }
         ensures worked { Worked self.old self.new }
     {

@@ -71,7 +71,7 @@ impl Model for StorageDriver {
     } };
 }
 
-// Written out, so that whoever drops a driver makes one call.
+// Written out: see lib.rt.
 impl Drop for StorageDriver {
     fn drop(self) {
         let StorageDriver {

@@ -1,4 +1,4 @@
-//! What work at a desk and turns of a part come to, over the definitions alone.
+//! Laws of work at a desk and of turns of a part, over the definitions alone.
 ghost use Rattle.fy_actors.specs.Work.{NoneIsWork, WorkAddsUp, ReceiptsStayWhole, OthersAddNothing};
 ghost use Rattle.fy_actors.specs.Parts.{TurnsKeepTo, OthersChangeNoPart, AnswersTell};
 

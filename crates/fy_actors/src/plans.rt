@@ -1,8 +1,8 @@
-//! Plans that are drawn from words.
+//! Plans that are drawn from random words.
 ghost use Rattle.std.specs.Prelude.{◌≡◌, ◌+◌, ◌-◌, ◌<◌, ◌≤◌, Err, length, IfOk, IfErr};
 ghost use Rattle.fy_locality.specs.declared.key.Key.TheVariants.{Machine};
 ghost use Rattle.fy_locality.specs.Locality.{values_of};
-ghost use Rattle.fy_actors.specs.Plans.{shuffled, chosen, swizzle_need, IsSwizzle, doomed};
+ghost use Rattle.fy_actors.specs.Plans.{shuffled, chosen, swizzle_need, IsSwizzle, machines_to_kill};
 
 use fy_locality::{Key, Map, Name, ProcId};
 use std::alloc::{AllocError, Global};
@@ -33,7 +33,7 @@ pub struct SwizzlePlan {
     pub frees: Vec<ProcId>,
 }
 
-// Written out, so that whoever drops a plan makes one call.
+// Written out: see lib.rt.
 impl Drop for SwizzlePlan {
     fn drop(self) {
         let SwizzlePlan { clogs: _, frees: _ } = self;
@@ -45,22 +45,22 @@ pub struct AttritionPlan {
     pub machines: Vec<Name>,
 }
 
-// Written out, so that whoever drops a plan makes one call.
+// Written out: see lib.rt.
 impl Drop for AttritionPlan {
     fn drop(self) {
         let AttritionPlan { machines: _ } = self;
     }
 }
 
-/// Shuffles a list: from its last place down to the second, each is swapped with the place at or
-/// below it that the next word names.
+/// Shuffles a list by Fisher and Yates: from the last item down to the second, each is swapped with
+/// itself or one before it, by the next word.
 fn shuffle<T: Copy>(list: &mut [T], words: &[u32])
     requires { length list.old ≤ length words.now + 1 }
     ensures { list.new ≡ shuffled words.now list.old }
 {
     for done in 1..list.len() {
-        let place = list.len() - done;
-        list.swap(place, words[done - 1] as usize % (place + 1));
+        let index = list.len() - done;
+        list.swap(index, words[done - 1] as usize % (index + 1));
     }
 }
 
@@ -71,8 +71,8 @@ fn count_chosen(words: &[u32], candidates: &[ProcId]) -> usize
     ensures few { result ≤ length candidates.now }
 {
     let mut count = 0;
-    for place in 0..candidates.len() {
-        if words[place] % 2 == 1 {
+    for index in 0..candidates.len() {
+        if words[index] % 2 == 1 {
             count += 1;
         }
     }
@@ -95,8 +95,8 @@ fn chosen(alloc: Global, words: &[u32], candidates: &[ProcId]) -> Result<Vec<Pro
     ensures { IfOk result (λ made. made.items ≡ chosen words.now candidates.now) }
 {
     let mut chosen = Vec::new(alloc);
-    for (place, candidate) in candidates.iter().enumerate() {
-        if words[place] % 2 == 1 {
+    for (index, candidate) in candidates.iter().enumerate() {
+        if words[index] % 2 == 1 {
             chosen.push(*candidate)?;
         }
     }
@@ -137,8 +137,8 @@ fn machines(alloc: Global, map: &Map) -> Result<Vec<Name>, AllocError>
     ensures { IfOk result (λ made. made.items ≡ values_of map.now Machine) }
 {
     let mut machines = Vec::new(alloc);
-    for place in 0..map.value_count(Key::Machine) {
-        let Some(machine) = map.value_at(Key::Machine, place) else {
+    for index in 0..map.value_count(Key::Machine) {
+        let Some(machine) = map.value_at(Key::Machine, index) else {
             unreachable!();
         };
         machines.push(machine)?;
@@ -165,7 +165,7 @@ pub fn attrition_plan(
     ensures memory { length (values_of map.now Machine) - 1 ≤ length words.now
         → IfErr result (λ fault. fault ≡ PlanFault.NoMemory) }
     ensures made { IfOk result (λ plan.
-        plan.machines.items ≡ doomed words.now map.now to_kill to_leave) }
+        plan.machines.items ≡ machines_to_kill words.now map.now to_kill to_leave) }
 {
     let count = map.value_count(Key::Machine);
     let need = count.saturating_sub(1) as usize;

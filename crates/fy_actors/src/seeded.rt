@@ -1,6 +1,6 @@
-//! Words that a seed gives.
+//! Random words from a seed.
 ghost use Rattle.std.specs.Prelude.{◌≡◌, IfOk};
-ghost use Rattle.fy_actors.specs.Words.{seed_bytes, words_of};
+ghost use Rattle.fy_actors.specs.Words.{seed_bytes, stream_outputs};
 
 use rand_chacha::ChaCha8Rng;
 use rand_core::SeedableRng;
@@ -17,15 +17,15 @@ fn seed_bytes(seed: u64) -> [u8; 32]
     bytes
 }
 
-/// The first words of a stream, so many of them: those of `ChaCha8` whose key is the seed as 8
-/// bytes, the low one first, followed by 24 zero bytes. Each actor may have a stream of its own.
+/// The first `count` outputs of a stream of `ChaCha8`. Its key is the seed as 8 bytes, the low one
+/// first, and 24 zero bytes. Each actor may have a stream of its own.
 ///
 /// # Errors
 ///
 /// `AllocError` only where the memory for them is refused.
 #[tactic(auto, using(crate::proofs::Drawing::no_words, crate::proofs::Drawing::one_word_more))]
 pub fn words(alloc: Global, seed: u64, stream: u64, count: usize) -> Result<Vec<u32>, AllocError>
-    ensures { IfOk result (λ made. made.items ≡ words_of seed stream count) }
+    ensures { IfOk result (λ made. made.items ≡ stream_outputs seed stream count) }
 {
     let mut generator = ChaCha8Rng::from_seed(seed_bytes(seed));
     generator.set_stream(stream);

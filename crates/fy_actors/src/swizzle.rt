@@ -1,11 +1,11 @@
 //! Clogging processes one after another, and freeing them in another order.
 ghost use Rattle.std.specs.Prelude.{◌≡◌, ◌<◌, length, All, IfOk};
-ghost use Rattle.fy_actors.specs.Agendas.{begun, process_target, swizzle_acts, FollowsAgenda};
+ghost use Rattle.fy_actors.specs.Schedules.{begun, process_target, swizzle_acts, FollowsSchedule};
 ghost use Rattle.fy_actors.specs.Desk.{Worked};
 ghost use Rattle.fy_actors.specs.Parts.{PlaysTurn};
 ghost use Rattle.fy_actors.specs.Parts.Part.{Acts};
 
-use crate::agenda::Agenda;
+use crate::schedule::Schedule;
 use crate::{Desk, FaultActor, SwizzlePlan, Turn};
 use fy_cluster::Fault;
 use fy_journal::Act;
@@ -16,21 +16,21 @@ use std::marker::Model;
 
 /// An actor that clogs the processes of a plan, one a turn, and then frees them.
 pub struct Swizzle {
-    agenda: Agenda,
+    schedule: Schedule,
 }
 
 impl Model for Swizzle {
-    ghost use Rattle.fy_actors.specs.Agendas.{Agenda as Acts};
+    ghost use Rattle.fy_actors.specs.Schedules.{Schedule as Acts};
 
     ghost Value = { Acts };
 
-    ghost view = { λ s. s.agenda };
+    ghost view = { λ s. s.schedule };
 }
 
-// Written out, so that whoever drops a swizzle makes one call.
+// Written out: see lib.rt.
 impl Drop for Swizzle {
     fn drop(self) {
-        let Swizzle { agenda: _ } = self;
+        let Swizzle { schedule: _ } = self;
     }
 }
 
@@ -92,7 +92,7 @@ impl Swizzle {
     {
         let acts = swizzle_acts(alloc, map, plan, ticks)?;
         Ok(Swizzle {
-            agenda: Agenda::begin(alloc, acts),
+            schedule: Schedule::begin(alloc, acts),
         })
     }
 }
@@ -100,14 +100,14 @@ impl Swizzle {
 impl FaultActor for Swizzle {
     ghost use Rattle.fy_actors.specs.Parts.Part.{Acts as Playing};
 
-    ghost part = { λ agenda. Playing agenda };
+    ghost part = { λ schedule. Playing schedule };
 
     /// Makes the act that comes next. After a fault it is still the next one.
     fn turn(&mut self, desk: &mut Desk) -> Result<Turn, Fault>
-        ensures turn { FollowsAgenda (self.old, desk.old) (self.new, desk.new) result }
+        ensures turn { FollowsSchedule (self.old, desk.old) (self.new, desk.new) result }
         ensures plays { PlaysTurn (Acts self.old, desk.old) (Acts self.new, desk.new) result }
         ensures worked { Worked desk.old desk.new }
     {
-        self.agenda.turn(desk)
+        self.schedule.turn(desk)
     }
 }

@@ -9,15 +9,14 @@ use fy_locality::ProcId;
 use fy_team::Members;
 use std::alloc::{AllocError, Global};
 
-/// What an actor asks of the cluster. Its numbers need not be of anything that is there: an act
-/// that names what isn't there is refused by its reply.
+/// What an actor asks of the cluster. It may name what doesn't exist: the reply then refuses it.
 #[derive(PartialEq, Eq)]
 pub enum Act {
     /// Kill the processes of a target.
     Kill {
         order: KillOrder,
     },
-    /// Clog the processes of a target for some ticks from now on, at most up to the clock's end.
+    /// Clog the processes of a target for some ticks, at most up to the clock's end.
     Clog {
         target: Target,
         ticks: u64,
@@ -66,7 +65,7 @@ pub enum Act {
     Give {
         grant: Grant,
     },
-    /// Take the grant at a place, from 0, of an actor's list away.
+    /// Take away the grant at a place (from 0) of an actor's list.
     Take {
         actor: u32,
         index: u32,
@@ -93,64 +92,46 @@ pub enum Act {
         out: ProcId,
         into: ProcId,
     },
-    /// Count a process that was destroyed, and has its records again, as destroyed no longer.
+    /// Heal a destroyed process that has its records again: it no longer counts as destroyed.
     Heal {
         process: ProcId,
     },
 }
 
-// Written out, so that whoever drops an act makes one call.
+// By hand. A derived `Drop` would release the parts of an act in each function that drops one, and
+// the prover would show every release there anew: a check took seven minutes and not one. With this
+// `drop` such a function makes one call. It has to name every field.
 impl Drop for Act {
     fn drop(self) {
         match self {
-            Act::Form {
-                members: _,
-                policy: _,
-            } => {}
-            Act::Begin {
-                team: _,
-                payload: _,
-            } => {}
-            Act::Clog {
-                target: _,
-                ticks: _,
-            } => {}
-            Act::Protect {
-                process: _,
-                kinds: _,
-            }
-            | Act::Unprotect {
-                process: _,
-                kinds: _,
-            } => {}
-            Act::Kill { order: _ } | Act::Unclog { target: _ } => {}
-            Act::Deliver { message: _ } | Act::Lose { message: _ } => {}
-            Act::Resend { rec: _, process: _ } => {}
-            Act::Sync { process: _ } | Act::Up { process: _ } => {}
-            Act::Tick { ticks: _ } => {}
-            Act::Give { grant: _ } | Act::Take { actor: _, index: _ } => {}
-            Act::CopyTo {
-                from: _,
-                rec: _,
-                to: _,
-            } => {}
-            Act::Replace {
-                team: _,
-                out: _,
-                into: _,
-            } => {}
-            Act::Heal { process: _ } => {}
+            Act::Kill { order } => {}
+            Act::Clog { target, ticks } => {}
+            Act::Unclog { target } => {}
+            Act::Form { members, policy } => {}
+            Act::Begin { team, payload } => {}
+            Act::Deliver { message } => {}
+            Act::Lose { message } => {}
+            Act::Resend { rec, process } => {}
+            Act::Sync { process } => {}
+            Act::Up { process } => {}
+            Act::Tick { ticks } => {}
+            Act::Give { grant } => {}
+            Act::Take { actor, index } => {}
+            Act::Protect { process, kinds } => {}
+            Act::Unprotect { process, kinds } => {}
+            Act::CopyTo { from, rec, to } => {}
+            Act::Replace { team, out, into } => {}
+            Act::Heal { process } => {}
         }
     }
 }
 
 impl Act {
-    /// An equal act in memory of its own. Only the members of a `Form` and the payload of a `Begin`
-    /// take memory.
+    /// Copies the act. Only the members of a `Form` and the payload of a `Begin` take memory.
     ///
     /// # Errors
     ///
-    /// `AllocError` only where that memory is refused.
+    /// `AllocError` only if the allocation fails.
     pub fn try_copy(&self, alloc: Global) -> Result<Act, AllocError>
         ensures equal { IfOk result (λ copy. copy ≡ self.now) }
         ensures plain { holds_list self.now ≡ false → IsOk result }

@@ -8,13 +8,13 @@ use crate::{Act, Reply};
 pub struct Entry {
     /// Its place in the journal, from 0.
     pub at: u32,
-    /// The number of whoever acted, an actor or not.
+    /// The number of who acted. There need be no such actor.
     pub by: u32,
     pub act: Act,
     pub reply: Reply,
 }
 
-// Written out, so that whoever drops an entry makes one call.
+// By hand, for the reason given at the `Drop` of `Act`.
 impl Drop for Entry {
     fn drop(self) {
         let Entry {
@@ -27,7 +27,7 @@ impl Drop for Entry {
 }
 
 impl Entry {
-    /// Its place, who acted, the act, and the reply.
+    /// Takes the entry apart: its place, who acted, the act, and the reply.
     pub fn into_parts(self) -> (u32, u32, Act, Reply)
         ensures { result ≡ (self.at, self.by, self.act, self.reply) }
     {

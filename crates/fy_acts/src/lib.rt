@@ -1,4 +1,4 @@
-//! What actors ask of a cluster and what it replies.
+//! Acts, which actors ask of a cluster, and its replies.
 #![tactic(auto)]
 
 mod act;

@@ -17,13 +17,12 @@ pub enum Reply {
     Begun { rec: u32, first: u64 },
     /// A store was delivered.
     Stored,
-    /// A process's word that it has synced a record was delivered: whether the record is
-    /// acknowledged now.
+    /// A process's acknowledgement was delivered: whether the record is acknowledged now.
     Marked { acked: bool },
     /// A store was sent and has this number.
     Sent { message: u64 },
-    /// So many writes were synced. The words of it have numbers from `first` on, one for each
-    /// write.
+    /// So many writes were synced. Their acknowledgements have numbers from `first` on, one for
+    /// each write.
     Synced { first: u64, count: u32 },
     /// The time now, in ticks from 0 to 2^40.
     Time { now: u64 },
@@ -36,7 +35,7 @@ pub enum Reply {
 /// Why an act is refused. Of several reasons the first in the act's own order is named.
 #[derive(Clone, Copy, PartialEq, Eq, Debug)]
 pub enum Refusal {
-    /// There is no actor with the number of whoever acts.
+    /// No actor has the number of who acts.
     Stranger,
     /// The actor's role may not make this act.
     WrongRole,

@@ -4,8 +4,8 @@ use Rattle.std.specs.List.{AllByRecursion, flat_map}
 use Rattle.std.proofs.lemmas.Bool.{false≢true}
 use Rattle.fy_lines.specs.Lines.{lines_of}
 use Rattle.fy_spelling.specs.Command.{LineOf}
-use Rattle.fy_spelling.specs.Held.{IsHeld}
-use Rattle.fy_spelling.specs.OneText.{LineComesToOne, OneHeldEntryPerText, HeldTextsAreLines, HasNoFeed}
+use Rattle.fy_spelling.specs.Representable.{IsRepresentable}
+use Rattle.fy_spelling.specs.OneText.{LineIsUnambiguous, OneHeldEntryPerText, HeldTextsAreLines, HasNoFeed}
 use Rattle.fy_spelling.specs.Values.{text_of}
 use Rattle.fy_spelling.specs.declared.command.Command.{Command}
 use Rattle.fy_spelling.specs.declared.command.LineFault.{LineFault}
@@ -24,7 +24,7 @@ ok_is_no_fault : (command : Command) (fault : LineFault) →
 ok_is_no_fault command fault e = let no : ⊥ = cc in no
 
 -- lines are one list of commands
-commands_once : LineComesToOne → (lines : List (List ℕ)) (xs ys : List Command) →
+commands_once : LineIsUnambiguous → (lines : List (List ℕ)) (xs ys : List Command) →
     AreCommands lines xs → AreCommands lines ys → xs ≡ ys
 commands_once once [] [] [] p q = refl
 commands_once once [] [] (y ∷ ys) p q = absurd q
@@ -38,7 +38,7 @@ commands_once once (line ∷ lines) (x ∷ xs) (y ∷ ys) p q =
     cc
 
 -- lines with a faulty one are no commands
-none_faulty : LineComesToOne → (before : List (List ℕ)) (line : List ℕ)
+none_faulty : LineIsUnambiguous → (before : List (List ℕ)) (line : List ℕ)
     (after : List (List ℕ)) (xs : List Command) (fault : LineFault) →
     AreCommands (before ++ line ∷ after) xs → LineOf line (Err fault) → ⊥
 none_faulty once [] line after [] fault p q = p
@@ -49,7 +49,7 @@ none_faulty once (other ∷ before) line after (x ∷ xs) fault p q =
     none_faulty once before line after xs fault p.1 q
 
 -- the first faulty line stands at one place
-one_place : LineComesToOne → (b c : List (List ℕ)) (l m : List ℕ) (a z : List (List ℕ))
+one_place : LineIsUnambiguous → (b c : List (List ℕ)) (l m : List ℕ) (a z : List (List ℕ))
     (xs ys : List Command) (f g : LineFault) → b ++ l ∷ a ≡ c ++ m ∷ z → AreCommands b xs →
     AreCommands c ys → LineOf l (Err f) → LineOf m (Err g) → (length b ≡ length c) × (l ≡ m)
 one_place once [] [] l m a z xs ys f g same p q here there = (refl, let e : l ≡ m = cc in e)
@@ -71,7 +71,7 @@ one_place once (n ∷ b) (o ∷ c) l m a z (x ∷ xs) (y ∷ ys) f g same p q he
     (ap suc found.0, found.1)
 
 -- bytes have one first faulty line
-first_once : LineComesToOne → (lines : List (List ℕ)) (n m : ℕ) (f g : LineFault) →
+first_once : LineIsUnambiguous → (lines : List (List ℕ)) (n m : ℕ) (f g : LineFault) →
     FirstFaulty lines n f → FirstFaulty lines m g →
     ◌≡◌ {A = Result (List Command) ScriptFault} (Err (Line n f)) (Err (Line m g))
 first_once once lines n m f g p q =
@@ -82,12 +82,12 @@ first_once once lines n m f g p q =
     let fault : f ≡ g = cc in
     λ i. Err (Line (place i) (fault i))
 
-no_first : LineComesToOne → (lines : List (List ℕ)) (xs : List Command) (n : ℕ) (f : LineFault) →
+no_first : LineIsUnambiguous → (lines : List (List ℕ)) (xs : List Command) (n : ℕ) (f : LineFault) →
     AreCommands lines xs → FirstFaulty lines n f → ⊥
 no_first once lines xs n f p q =
     none_faulty once q.before q.line q.after xs f (subst (λ l. AreCommands l xs) q.split p) q.here
 
-pub script_once : LineComesToOne → (bytes : List ℕ) (x y : Result (List Command) ScriptFault) →
+pub script_once : LineIsUnambiguous → (bytes : List ℕ) (x y : Result (List Command) ScriptFault) →
     ScriptOf bytes x → ScriptOf bytes y → x ≡ y
 script_once once bytes (Ok xs) (Ok ys) p q = ap Ok (commands_once once (lines_of bytes) xs ys p.1 q.1)
 script_once once bytes (Ok xs) (Err TooLong) p q = absurd (omega (arith, p.0, q))
@@ -122,7 +122,7 @@ line_once (a ∷ x) (b ∷ y) more rest p q same =
 
 -- entries have one text together
 entries_once : OneHeldEntryPerText → HeldTextsAreLines → (xs ys : List Entry) →
-    AllByRecursion IsHeld xs → AllByRecursion IsHeld ys →
+    AllByRecursion IsRepresentable xs → AllByRecursion IsRepresentable ys →
     flat_map entry_line xs ≡ flat_map entry_line ys → xs ≡ ys
 entries_once one lines [] [] p q same = refl
 entries_once one lines [] (y ∷ ys) p q same =
@@ -147,7 +147,7 @@ entries_once one lines (x ∷ xs) (y ∷ ys) p q same =
     λ i. first i ∷ rest i
 
 pub audit_once : OneHeldEntryPerText → HeldTextsAreLines → (v w : Version) (xs ys : List Entry) →
-    AllByRecursion IsHeld xs → AllByRecursion IsHeld ys →
+    AllByRecursion IsRepresentable xs → AllByRecursion IsRepresentable ys →
     audit_text v xs ≡ audit_text w ys → (v ≡ w) × (xs ≡ ys)
 audit_once one lines First First xs ys p q same =
     (refl, entries_once one lines xs ys p q (let e : flat_map entry_line xs ≡ flat_map entry_line ys = cc in e))

@@ -3,13 +3,13 @@ use Rattle.std.proofs.Common.{◌≡◌, ◌∙◌, ◌+◌, ℕ, List, [], ◌�
 use Rattle.fy_acts.specs.declared.entry.Entry.{Entry}
 use Rattle.fy_audit.specs.Audit.{BeginsFaulty, FirstFaulty, MayStandFrom}
 use Rattle.fy_audit.specs.AuditText.{audit_text}
-use Rattle.fy_audit.specs.Reading.{Unread, HasRead, EntriesMount, StopsAreFaults, EndsAsAudit}
+use Rattle.fy_audit.specs.Reading.{ReaderState, HasRead, EntryExtendsRead, StopsAreFaults, EndsAsAudit}
 use Rattle.fy_audit.specs.declared.audit.AuditFault.TheVariants.{TooLong, Line, NoMemory}
 use Rattle.fy_audit.specs.declared.audit.AuditLineFault.{AuditLineFault}
 use Rattle.fy_audit.specs.declared.audit.AuditLineFault.TheVariants as of_line
 use Rattle.fy_audit.proofs.Steps.{one_more_from, one_line_more}
 
-pub entries_mount : EntriesMount
+pub entries_mount : EntryExtendsRead
 entries_mount bytes entries entry old new read step =
     let longer = length-append entries (entry ∷ []) in
     let before = read.place in
@@ -23,32 +23,32 @@ entries_mount bytes entries entry old new read step =
       place = omega arith;
     }
 
-first_faulty : (bytes : List ℕ) (entries : List Entry) (unread : Unread) (number : ℕ)
-    (fault : AuditLineFault) → HasRead bytes entries unread → number ≡ unread.place + 2 →
-    BeginsFaulty unread.version unread.place unread.rest fault → FirstFaulty bytes number fault
-first_faulty bytes entries unread number fault read is begins = record {
-  version = unread.version;
+first_faulty : (bytes : List ℕ) (entries : List Entry) (reader_state : ReaderState) (number : ℕ)
+    (fault : AuditLineFault) → HasRead bytes entries reader_state → number ≡ reader_state.place + 2 →
+    BeginsFaulty reader_state.version reader_state.place reader_state.rest fault → FirstFaulty bytes number fault
+first_faulty bytes entries reader_state number fault read is begins = record {
+  version = reader_state.version;
   entries = entries;
-  rest = unread.rest;
+  rest = reader_state.rest;
   split = read.split;
   faultless = read.faultless;
   place = is ∙ ap (λ n. n + 2) read.place;
-  here = subst (λ place. BeginsFaulty unread.version place unread.rest fault) read.place begins;
+  here = subst (λ place. BeginsFaulty reader_state.version place reader_state.rest fault) read.place begins;
 }
 
 pub stops_are_faults : StopsAreFaults
-stops_are_faults bytes entries unread TooLong read stop = absurd stop
-stops_are_faults bytes entries unread (Line number of_line.Header) read stop = absurd stop.1.is
-stops_are_faults bytes entries unread (Line number of_line.TooLong) read stop =
-    (read.bound, first_faulty bytes entries unread number of_line.TooLong read stop.0 stop.1)
-stops_are_faults bytes entries unread (Line number of_line.Syntax) read stop =
-    (read.bound, first_faulty bytes entries unread number of_line.Syntax read stop.0 stop.1)
-stops_are_faults bytes entries unread NoMemory read stop = tt
+stops_are_faults bytes entries reader_state TooLong read stop = absurd stop
+stops_are_faults bytes entries reader_state (Line number of_line.Header) read stop = absurd stop.1.is
+stops_are_faults bytes entries reader_state (Line number of_line.TooLong) read stop =
+    (read.bound, first_faulty bytes entries reader_state number of_line.TooLong read stop.0 stop.1)
+stops_are_faults bytes entries reader_state (Line number of_line.Syntax) read stop =
+    (read.bound, first_faulty bytes entries reader_state number of_line.Syntax read stop.0 stop.1)
+stops_are_faults bytes entries reader_state NoMemory read stop = tt
 
 pub ends_as_audit : EndsAsAudit
-ends_as_audit bytes entries unread read none = (
+ends_as_audit bytes entries reader_state read none = (
   read.bound,
-  read.split ∙ ap (λ rest. audit_text unread.version entries ++ rest) none
-      ∙ append-nil (audit_text unread.version entries),
+  read.split ∙ ap (λ rest. audit_text reader_state.version entries ++ rest) none
+      ∙ append-nil (audit_text reader_state.version entries),
   read.faultless,
 )

@@ -24,8 +24,8 @@ pub record Audit : Type 0 where
   pub entries : List Entry
 
 -- what an audit tells of a journal
-abbrev pub told_of : Log → Audit
-told_of journal = record { version = journal.version; entries = journal.entries }
+abbrev pub audit_of : Log → Audit
+audit_of journal = record { version = journal.version; entries = journal.entries }
 
 -- the entry may stand at this place, counted from 0, in an audit of the version
 pub record MayStand (version : Version) (place : ℕ) (entry : Entry) : Type 0 where
@@ -102,6 +102,6 @@ pub record BeginsWith (version : Version) (place : ℕ) (rest : List ℕ) (entry
   pub may : MayStand version place entry
 
 -- why a reader may stop before what is left of an audit
-abbrev pub StopsAt : Version → ℕ → List ℕ → NoEntry → Type 0
-StopsAt version place rest (Faulty fault) = BeginsFaulty version place rest fault
-StopsAt version place rest no_entry.NoMemory = ⊤
+abbrev pub EndsBefore : Version → ℕ → List ℕ → NoEntry → Type 0
+EndsBefore version place rest (Faulty fault) = BeginsFaulty version place rest fault
+EndsBefore version place rest no_entry.NoMemory = ⊤

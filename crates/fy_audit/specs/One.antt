@@ -1,7 +1,7 @@
 -- bytes that are of one thing each
 use Rattle.std.specs.Prelude.{◌≡◌, ℕ, List, Result}
 use Rattle.std.specs.List.{AllByRecursion}
-use Rattle.fy_spelling.specs.Held.{IsHeld}
+use Rattle.fy_spelling.specs.Representable.{IsRepresentable}
 use Rattle.fy_spelling.specs.declared.command.Command.{Command}
 use Rattle.fy_acts.specs.declared.entry.Entry.{Entry}
 use Rattle.fy_audit.specs.Audit.{Audit, AuditOf}
@@ -12,19 +12,19 @@ use Rattle.fy_audit.specs.declared.script.ScriptFault.{ScriptFault}
 use Rattle.fy_journal.specs.declared.version.Version.{Version}
 
 -- bytes are one script, or have one first fault
-abbrev pub ScriptIsOne : Type 0
-ScriptIsOne =
+abbrev pub ScriptIsUnambiguous : Type 0
+ScriptIsUnambiguous =
     (bytes : List ℕ) (x y : Result (List Command) ScriptFault) → ScriptOf bytes x →
     ScriptOf bytes y → x ≡ y
 
 -- bytes are one audit, or have one first fault
-abbrev pub AuditComesToOne : Type 0
-AuditComesToOne =
+abbrev pub AuditIsUnambiguous : Type 0
+AuditIsUnambiguous =
     (bytes : List ℕ) (x y : Result Audit AuditFault) → AuditOf bytes x → AuditOf bytes y → x ≡ y
 
 -- two journals with one text are of one version and have the same entries, whatever entries a
 -- program can hold
-abbrev pub AuditIsOne : Type 0
-AuditIsOne =
-    (v w : Version) (xs ys : List Entry) → AllByRecursion IsHeld xs →
-    AllByRecursion IsHeld ys → audit_text v xs ≡ audit_text w ys → (v ≡ w) × (xs ≡ ys)
+abbrev pub AuditTextIsInjective : Type 0
+AuditTextIsInjective =
+    (v w : Version) (xs ys : List Entry) → AllByRecursion IsRepresentable xs →
+    AllByRecursion IsRepresentable ys → audit_text v xs ≡ audit_text w ys → (v ≡ w) × (xs ≡ ys)

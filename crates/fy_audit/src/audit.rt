@@ -1,6 +1,6 @@
 //! Audits: journals written out, an entry a line.
 ghost use Rattle.std.specs.Prelude.{◌≡◌, ◌↔◌, ◌<◌, ◌++◌, ◌∷◌, [], length, IfOk, IfErr, OnOk, Ok, Err};
-ghost use Rattle.fy_audit.specs.Audit.{AuditOf, AuditAnswers, told_of};
+ghost use Rattle.fy_audit.specs.Audit.{AuditOf, AuditAnswers, audit_of};
 ghost use Rattle.fy_audit.specs.declared.audit.AuditFault.TheVariants.{TooLong};
 
 use crate::{AuditReader, Entry, Journal, JournalFault, MOST_ENTRIES, laws};
@@ -57,7 +57,7 @@ fn enter(journal: &mut Journal, entry: Entry) -> Result<(), JournalFault>
 /// In this order: `TooLong`; `Line` for the first faulty line; `NoMemory` where memory is refused
 /// before.
 pub fn read_audit(alloc: Global, bytes: &[u8]) -> Result<Journal, AuditFault>
-    ensures read { IfOk result (λ journal. AuditOf bytes.now (Ok (told_of journal))) }
+    ensures read { IfOk result (λ journal. AuditOf bytes.now (Ok (audit_of journal))) }
     ensures refused { IfErr result (λ fault. AuditAnswers bytes.now (Err fault)) }
     ensures too_long { (result ≡ Err TooLong) ↔ (MOST_AUDIT_BYTES < length bytes.now) }
 {

@@ -1,8 +1,8 @@
 //! Audits read entry by entry.
 ghost use Rattle.std.specs.Prelude.{◌≡◌, ◌↔◌, ◌<◌, ◌++◌, [], ℕ, List, length, IsTrue, IfSome, IfNone, IfOk, IfErr, Err};
-ghost use Rattle.fy_audit.specs.Audit.{AuditOf, HasNoHeader, BeginsWith, StopsAt};
+ghost use Rattle.fy_audit.specs.Audit.{AuditOf, HasNoHeader, BeginsWith, EndsBefore};
 ghost use Rattle.fy_audit.specs.AuditText.{header};
-ghost use Rattle.fy_audit.specs.Reading.{HasRead, Reads, Stops};
+ghost use Rattle.fy_audit.specs.Reading.{HasRead, ReadsEntry, Stops};
 ghost use Rattle.fy_audit.specs.declared.audit.TheConstants.{MOST_AUDIT_BYTES};
 ghost use Rattle.fy_audit.specs.declared.audit.AuditFault.TheVariants.{TooLong};
 ghost use Rattle.fy_audit.specs.Versions.{knows_refusal, knows_reply, has_entry};
@@ -29,13 +29,13 @@ pub struct AuditReader<'b> {
 }
 
 impl<'b> Model for AuditReader<'b> {
-    ghost use Rattle.fy_audit.specs.Reading.{Unread};
+    ghost use Rattle.fy_audit.specs.Reading.{ReaderState};
 
-    ghost Value = { Unread };
+    ghost Value = { ReaderState };
 
-    ghost use Rattle.fy_audit.specs.Reader.{unread, IsWithin};
+    ghost use Rattle.fy_audit.specs.Reader.{reader_state, IsWithin};
 
-    ghost view = { unread };
+    ghost view = { reader_state };
 
     ghost invariant = { IsWithin };
 }
@@ -148,7 +148,7 @@ fn first_entry<'b>(
 ) -> Result<(Entry, &'b [u8]), NoEntry>
     requires { 0 < length rest.now }
     ensures found { IfOk result (λ found. BeginsWith version place rest.now found.0 found.1.now) }
-    ensures fault { IfErr result (λ fault. StopsAt version place rest.now fault) }
+    ensures fault { IfErr result (λ fault. EndsBefore version place rest.now fault) }
 {
     // Laws that tell which line an entry has.
     a_text_is_a_line();
@@ -231,7 +231,7 @@ impl<'b> AuditReader<'b> {
     /// `Line` for the next line, where it is faulty; `NoMemory` where memory is refused before.
     pub fn next_entry(&mut self) -> Result<Entry, AuditFault>
         requires { 0 < length self.old.rest }
-        ensures read { IfOk result (λ entry. Reads entry self.old self.new) }
+        ensures read { IfOk result (λ entry. ReadsEntry entry self.old self.new) }
         ensures stopped { IfErr result (Stops self.old) }
         ensures same { IfErr result (λ _. self.new ≡ self.old) }
     {

@@ -6,13 +6,13 @@ use Rattle.std.proofs.lemmas.Bool.{cases_eq, cases_lt}
 use Rattle.fy_locality.specs.declared.locality.Locality.{Locality}
 use Rattle.fy_locality.specs.declared.key.Key.{Key}
 use Rattle.fy_locality.specs.Locality.{has_value, value_of}
-use Rattle.fy_locality.specs.Values.{ValuesDiffer, ValuesOccur}
 use Rattle.fy_policy.specs.Counted.{number_of, passing}
-use Rattle.fy_policy.specs.Sat.{group, satisfies}
+use Rattle.fy_policy.specs.Sat.{Sat, group, outside, satisfies}
+use Rattle.fy_policy.specs.Laws.{KeylessPassNothing, NobodyPasses, TestIsSatisfaction, ValuesPassApart}
 use Rattle.fy_policy.specs.Tree.{Tree, one, across, IsWellFormed}
-use Rattle.fy_bears.specs.Costs.{IsWithin, IsLacked, IsLeastOf}
+use Rattle.fy_bears.specs.Costs.{IsWithin, LacksAtLeast, IsLeastOf}
 use Rattle.fy_bears.proofs.Costing.{number-more, number-split, short-push, least-taken}
-use Rattle.fy_bears.proofs.Values.{others, same_groups, passing-split, passing-keyless, passing-none, satisfies-across, satisfies-one, found_any, too_few}
+use Rattle.fy_bears.proofs.Values.{satisfies-across, too_few}
 
 module _ (processes : List Locality) (key : Key) (q : Tree) where
   -- how many of a group a set lacks
@@ -38,8 +38,8 @@ module _ (processes : List Locality) (key : Key) (q : Tree) where
       ends : (a b c l : ℕ) → a ≡ b → (0 + a) * l + c ≤ c + 0 + b * l
       ends a b c l e = let f : (0 + b) * l + c ≤ c + 0 + b * l = omega arith in subst (λ n. (0 + n) * l + c ≤ c + 0 + b * l) (sym e) f
 
-  module _ (differ : ValuesDiffer) (occur : ValuesOccur) (counted : IsWellFormed q) (rest members rest' : ℕ → Bool) (v : List ℕ) (p : ℕ) (at : value_of processes key p ≡ Some v)
-      (found : (x : ℕ) → members x ≡ group processes key v rest x) (left : (x : ℕ) → rest' x ≡ others processes key v rest x) where
+  module _ (splits : ValuesPassApart) (counted : IsWellFormed q) (rest members rest' : ℕ → Bool) (v : List ℕ) (p : ℕ) (at : value_of processes key p ≡ Some v)
+      (found : (x : ℕ) → members x ≡ group processes key v rest x) (left : (x : ℕ) → rest' x ≡ outside processes key v rest x) where
     parts0 : (t r h : Bool) → cond (r && not t) 1 0 ≡ cond ((r && h) && not ((t && r) && h)) 1 0 + cond ((r && not h) && not t) 1 0
     parts0 true true true = refl
     parts0 true true false = refl
@@ -63,11 +63,11 @@ module _ (processes : List Locality) (key : Key) (q : Tree) where
     sums n g l cp cr σ x s k d true e take h = let h' : (n + (1 + x)) * l + (cp + cr) ≤ g + s + d = subst (λ z. (n + (z + x)) * l + (cp + cr) ≤ g + s + d) e h in let r : (n + (1 + x)) * l ≡ ((n + 1) + x) * l = omega arith in omega arith
     sums n g l cp cr σ x s k d false e take h = let low : k ≤ cp = take refl in let h' : (n + (0 + x)) * l + (cp + cr) ≤ g + s + d = subst (λ z. (n + (z + x)) * l + (cp + cr) ≤ g + s + d) e h in let r : (n + (0 + x)) * l + l ≡ ((n + 1) + x) * l = omega arith in omega arith
 
-    pub lack-goes-on : (counts : List ℕ) (count : ℕ) → IsLacked processes q members count → (all s : ℕ → Bool) (level : ℕ) → LackSoFar all rest counts s level → LackSoFar all rest' (counts ++ count ∷ []) s level
+    pub lack-goes-on : (counts : List ℕ) (count : ℕ) → LacksAtLeast processes q members count → (all s : ℕ → Bool) (level : ℕ) → LackSoFar all rest counts s level → LackSoFar all rest' (counts ++ count ∷ []) s level
     lack-goes-on counts count lacked all s level so_far =
         let here : ℕ → Bool = λ x. s x && rest x in
-        let split : passing processes key q here ≡ cond (satisfies processes q (group processes key v here)) 1 0 + passing processes key q (others processes key v here) = passing-split processes key q differ occur counted v p at here in
-        let rest_is : passing processes key q (others processes key v here) ≡ passing processes key q (λ x. s x && rest' x) = (λ i. passing processes key q (λ x. apart (s x) (rest x) (has_value processes key v x) (rest' x) (left x) i)) in
+        let split : passing processes key q here ≡ cond (satisfies processes q (group processes key v here)) 1 0 + passing processes key q (outside processes key v here) = splits processes key q v here counted (p, at) in
+        let rest_is : passing processes key q (outside processes key v here) ≡ passing processes key q (λ x. s x && rest' x) = (λ i. passing processes key q (λ x. apart (s x) (rest x) (has_value processes key v x) (rest' x) (left x) i)) in
         let lacks : lack rest s ≡ lack members (group processes key v here) + lack rest' s = number-split _ _ _ (length processes) (λ x. parts (s x) (rest x) (has_value processes key v x) (members x) (rest' x) (found x) (left x)) in
         let taken : satisfies processes q (group processes key v here) ≡ false → count ≤ lack members (group processes key v here) = (λ e. lacked (group processes key v here) (λ x h. inside (s x) (rest x) (has_value processes key v x) (members x) (found x) h) e) in
         let pass : passing processes key q here ≡ cond (satisfies processes q (group processes key v here)) 1 0 + passing processes key q (λ x. s x && rest' x) = split ∙ ap (λ n. cond (satisfies processes q (group processes key v here)) 1 0 + n) rest_is in
@@ -79,9 +79,9 @@ module _ (processes : List Locality) (key : Key) (q : Tree) where
         (subst (λ n. ((length counts + 1) + passing processes key q (λ x. s x && rest' x)) * level + lack rest' s ≤ lack all s + n + passing processes key q s * level) (sym (short-push level count counts))
         (sums (length counts) (lack all s) level (lack members (group processes key v here)) (lack rest' s) (cond (satisfies processes q (group processes key v here)) 1 0) (passing processes key q (λ x. s x && rest' x)) (sum_by (λ c. level - c) counts) count (passing processes key q s * level) (satisfies processes q (group processes key v here)) refl taken before))
 
-  pub lack-skips : (rest rest' : ℕ → Bool) (p : ℕ) → value_of processes key p ≡ None → ((x : ℕ) → x ≢ p → rest' x ≡ rest x) → rest' p ≡ false → (counts : List ℕ) (all s : ℕ → Bool) (level : ℕ) → LackSoFar all rest counts s level → LackSoFar all rest' counts s level
-  lack-skips rest rest' p keyless same gone counts all s level so_far =
-      let pass : passing processes key q (λ x. s x && rest x) ≡ passing processes key q (λ x. s x && rest' x) = passing-keyless processes key q _ _ p keyless (λ x other. ap (λ b. s x && b) (sym (same x other))) in
+  pub lack-skips : KeylessPassNothing → (rest rest' : ℕ → Bool) (p : ℕ) → value_of processes key p ≡ None → ((x : ℕ) → x ≢ p → rest' x ≡ rest x) → rest' p ≡ false → (counts : List ℕ) (all s : ℕ → Bool) (level : ℕ) → LackSoFar all rest counts s level → LackSoFar all rest' counts s level
+  lack-skips nothing rest rest' p keyless same gone counts all s level so_far =
+      let pass : passing processes key q (λ x. s x && rest x) ≡ passing processes key q (λ x. s x && rest' x) = nothing processes key q p _ _ keyless (λ x other. ap (λ b. s x && b) (sym (same x other))) in
       let fewer : lack rest' s ≤ lack rest s = number-more _ _ (length processes) (λ x below h. kept x h) in
       let before : (length counts + passing processes key q (λ x. s x && rest' x)) * level + lack rest s ≤ lack all s + sum_by (λ c. level - c) counts + passing processes key q s * level =
       subst (λ n. (length counts + n) * level + lack rest s ≤ lack all s + sum_by (λ c. level - c) counts + passing processes key q s * level) pass so_far in
@@ -100,12 +100,12 @@ module _ (processes : List Locality) (key : Key) (q : Tree) where
         | inr other ↦ ap (λ b. b && not (s x)) (sym (same x other)) ∙ h
       ]
 
-  pub lack-ends : IsWellFormed q → (all rest : ℕ → Bool) → ((x : ℕ) → rest x ≡ false) → (counts : List ℕ) (wanted broken least : ℕ) → broken ≡ length counts - (wanted - 1) → IsLeastOf counts broken least
-      → ((s : ℕ → Bool) (level : ℕ) → IsWithin s all → LackSoFar all rest counts s level) → IsLacked processes (across wanted key q) all least
-  lack-ends counted all rest empty counts wanted broken least many is so_far = λ s within unsat.
+  pub lack-ends : NobodyPasses → IsWellFormed q → (all rest : ℕ → Bool) → ((x : ℕ) → rest x ≡ false) → (counts : List ℕ) (wanted broken least : ℕ) → broken ≡ length counts - (wanted - 1) → IsLeastOf counts broken least
+      → ((s : ℕ → Bool) (level : ℕ) → IsWithin s all → LackSoFar all rest counts s level) → LacksAtLeast processes (across wanted key q) all least
+  lack-ends nobody counted all rest empty counts wanted broken least many is so_far = λ s within unsat.
       let few : passing processes key q s < wanted = too_few _ _ (sym (satisfies-across processes wanted key q s) ∙ unsat) in
       least-taken counts broken least (length counts - passing processes key q s) (lack all s) is (omega arith) (λ level.
-      let zero_left : passing processes key q (λ x. s x && rest x) ≡ 0 = passing-none processes key q _ counted (λ x. off (s x) (rest x) (empty x)) in
+      let zero_left : passing processes key q (λ x. s x && rest x) ≡ 0 = nobody processes key q _ counted (λ x. off (s x) (rest x) (empty x)) in
       let all_passed : (length counts + 0) * level + lack rest s ≤ lack all s + sum_by (λ c. level - c) counts + passing processes key q s * level =
       subst (λ n. (length counts + n) * level + lack rest s ≤ lack all s + sum_by (λ c. level - c) counts + passing processes key q s * level) zero_left (so_far s level within) in
       ends (length counts) (passing processes key q s) level (lack rest s) (lack all s + sum_by (λ c. level - c) counts) all_passed)
@@ -124,11 +124,15 @@ module _ (processes : List Locality) (key : Key) (q : Tree) where
           more y x l r d h = omega arith
 
 -- ---- one process
-pub one-gone : (processes : List Locality) (all : ℕ → Bool) (count : ℕ) → count ≡ number_of all (length processes) → IsLacked processes one all count
-one-gone processes all count is = λ s within unsat.
+one_of : TestIsSatisfaction → (processes : List Locality) (s : ℕ → Bool) (p : ℕ) → p < length processes → s p ≡ true → satisfies processes one s ≡ true
+unfolding Sat
+one_of tested processes s p below has = (tested processes one s).1 (p, below, has)
+
+pub one-gone : TestIsSatisfaction → (processes : List Locality) (all : ℕ → Bool) (count : ℕ) → count ≡ number_of all (length processes) → LacksAtLeast processes one all count
+one-gone tested processes all count is = λ s within unsat.
     let more : number_of all (length processes) ≤ number_of (λ p. all p && not (s p)) (length processes) = number-more _ _ (length processes) (λ p below h. kept s p below h unsat (s p) refl) in
     omega arith
   where
     kept : (s : ℕ → Bool) (p : ℕ) → p < length processes → all p ≡ true → satisfies processes one s ≡ false → (b : Bool) → s p ≡ b → (all p && not (s p)) ≡ true
-    kept s p below h unsat true e = absurd (true≢false (sym (satisfies-one processes s ∙ found_any s 0 (length processes) p (omega arith) (omega arith) e) ∙ unsat))
+    kept s p below h unsat true e = absurd (true≢false (sym (one_of tested processes s p below e) ∙ unsat))
     kept s p below h unsat false e = ap (λ b. b && not (s p)) h ∙ ap not e

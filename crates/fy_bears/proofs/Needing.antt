@@ -8,13 +8,13 @@ use Rattle.std.proofs.lemmas.Bool.{cases_eq}
 use Rattle.fy_locality.specs.declared.locality.Locality.{Locality}
 use Rattle.fy_locality.specs.declared.key.Key.{Key}
 use Rattle.fy_locality.specs.Locality.{has_value, value_of}
-use Rattle.fy_locality.specs.Values.{ValuesDiffer, ValuesOccur}
 use Rattle.fy_policy.specs.Counted.{number_of, passing}
-use Rattle.fy_policy.specs.Sat.{group, satisfies}
+use Rattle.fy_policy.specs.Sat.{Sat, group, outside, satisfies}
+use Rattle.fy_policy.specs.Laws.{KeylessPassNothing, NobodyPasses, TestIsSatisfaction, ValuesPassApart}
 use Rattle.fy_policy.specs.Tree.{Tree, one, across, IsWellFormed}
-use Rattle.fy_bears.specs.Costs.{IsWithin, IsNeeded, IsLeastOf}
+use Rattle.fy_bears.specs.Costs.{IsWithin, NeedsAtLeast, IsLeastOf}
 use Rattle.fy_bears.proofs.Costing.{number-more, number-split, number-some, short-push, least-taken}
-use Rattle.fy_bears.proofs.Values.{others, same_groups, passing-split, passing-keyless, passing-none, satisfies-across, satisfies-one, any_found, at_least}
+use Rattle.fy_bears.proofs.Values.{satisfies-across, at_least}
 
 module _ (processes : List Locality) (key : Key) (q : Tree) (free : ℕ → Bool) where
   -- whom a set costs
@@ -32,8 +32,8 @@ module _ (processes : List Locality) (key : Key) (q : Tree) (free : ℕ → Bool
   both_are true b h = h refl
   both_are false b h = refl
 
-  pub need-begins : (all s : ℕ → Bool) (level : ℕ) → IsWithin s all → NeedSoFar all [] s level
-  need-begins all s level within =
+  pub fewest_to_satisfy-begins : (all s : ℕ → Bool) (level : ℕ) → IsWithin s all → NeedSoFar all [] s level
+  fewest_to_satisfy-begins all s level within =
       let same : (p : ℕ) → (s p && all p) ≡ s p = λ p. both_are (s p) (all p) (within p) in
       let costs : cost (λ p. s p && all p) ≡ cost s = (λ i. cost (λ p. same p i)) in
       let pass : passing processes key q (λ p. s p && all p) * level ≡ passing processes key q s * level = (λ i. passing processes key q (λ p. same p i) * level) in
@@ -43,8 +43,8 @@ module _ (processes : List Locality) (key : Key) (q : Tree) (free : ℕ → Bool
       ends a b c d e f = omega arith
 
   -- ---- a value's members are looked at and taken out
-  module _ (differ : ValuesDiffer) (occur : ValuesOccur) (counted : IsWellFormed q) (rest members rest' : ℕ → Bool) (v : List ℕ) (p : ℕ) (at : value_of processes key p ≡ Some v)
-      (found : (x : ℕ) → members x ≡ group processes key v rest x) (left : (x : ℕ) → rest' x ≡ others processes key v rest x) where
+  module _ (splits : ValuesPassApart) (counted : IsWellFormed q) (rest members rest' : ℕ → Bool) (v : List ℕ) (p : ℕ) (at : value_of processes key p ≡ Some v)
+      (found : (x : ℕ) → members x ≡ group processes key v rest x) (left : (x : ℕ) → rest' x ≡ outside processes key v rest x) where
     parts_cost0 : (t r h f : Bool) → cond ((t && r) && not f) 1 0 ≡ cond (((t && r) && h) && not f) 1 0 + cond ((t && (r && not h)) && not f) 1 0
     parts_cost0 true true true true = refl
     parts_cost0 true true true false = refl
@@ -68,11 +68,11 @@ module _ (processes : List Locality) (key : Key) (q : Tree) (free : ℕ → Bool
     sums a c l cp cr σ x s k true e take h = let low : k ≤ cp = take refl in let one : σ ≡ 1 = e in let h' : a + (cp + cr) ≤ c + s + (1 + x) * l = subst (λ z. a + (cp + cr) ≤ c + s + (z + x) * l) one h in omega arith
     sums a c l cp cr σ x s k false e take h = let one : σ ≡ 0 = e in let h' : a + (cp + cr) ≤ c + s + (0 + x) * l = subst (λ z. a + (cp + cr) ≤ c + s + (z + x) * l) one h in omega arith
 
-    pub need-goes-on : (counts : List ℕ) (count : ℕ) → IsNeeded processes q members free count → (s : ℕ → Bool) (level : ℕ) → NeedSoFar rest counts s level → NeedSoFar rest' (counts ++ count ∷ []) s level
-    need-goes-on counts count needed s level so_far =
+    pub fewest_to_satisfy-goes-on : (counts : List ℕ) (count : ℕ) → NeedsAtLeast processes q members free count → (s : ℕ → Bool) (level : ℕ) → NeedSoFar rest counts s level → NeedSoFar rest' (counts ++ count ∷ []) s level
+    fewest_to_satisfy-goes-on counts count needed s level so_far =
         let here : ℕ → Bool = λ x. s x && rest x in
-        let split : passing processes key q here ≡ cond (satisfies processes q (group processes key v here)) 1 0 + passing processes key q (others processes key v here) = passing-split processes key q differ occur counted v p at here in
-        let rest_is : passing processes key q (others processes key v here) ≡ passing processes key q (λ x. s x && rest' x) = (λ i. passing processes key q (λ x. apart (s x) (rest x) (has_value processes key v x) (rest' x) (left x) i)) in
+        let split : passing processes key q here ≡ cond (satisfies processes q (group processes key v here)) 1 0 + passing processes key q (outside processes key v here) = splits processes key q v here counted (p, at) in
+        let rest_is : passing processes key q (outside processes key v here) ≡ passing processes key q (λ x. s x && rest' x) = (λ i. passing processes key q (λ x. apart (s x) (rest x) (has_value processes key v x) (rest' x) (left x) i)) in
         let costs : cost here ≡ cost (group processes key v here) + cost (λ x. s x && rest' x) = number-split _ _ _ (length processes) (λ x. parts_cost (s x) (rest x) (has_value processes key v x) (free x) (rest' x) (left x)) in
         let taken : satisfies processes q (group processes key v here) ≡ true → count ≤ cost (group processes key v here) = (λ e. needed (group processes key v here) (λ x h. inside (s x) (rest x) (has_value processes key v x) (members x) (found x) h) e) in
         let pass : passing processes key q here ≡ cond (satisfies processes q (group processes key v here)) 1 0 + passing processes key q (λ x. s x && rest' x) = split ∙ ap (λ n. cond (satisfies processes q (group processes key v here)) 1 0 + n) rest_is in
@@ -83,9 +83,9 @@ module _ (processes : List Locality) (key : Key) (q : Tree) (free : ℕ → Bool
         (sums (passing processes key q s * level) (cost s) level (cost (group processes key v here)) (cost (λ x. s x && rest' x)) (cond (satisfies processes q (group processes key v here)) 1 0) (passing processes key q (λ x. s x && rest' x)) (sum_by (λ c. level - c) counts) count (satisfies processes q (group processes key v here)) refl taken before)
 
   -- ---- a process without the key is dropped
-  pub need-skips : (rest rest' : ℕ → Bool) (p : ℕ) → value_of processes key p ≡ None → ((x : ℕ) → x ≢ p → rest' x ≡ rest x) → rest' p ≡ false → (counts : List ℕ) (s : ℕ → Bool) (level : ℕ) → NeedSoFar rest counts s level → NeedSoFar rest' counts s level
-  need-skips rest rest' p keyless same gone counts s level so_far =
-      let pass : passing processes key q (λ x. s x && rest x) ≡ passing processes key q (λ x. s x && rest' x) = passing-keyless processes key q _ _ p keyless (λ x other. ap (λ b. s x && b) (sym (same x other))) in
+  pub fewest_to_satisfy-skips : KeylessPassNothing → (rest rest' : ℕ → Bool) (p : ℕ) → value_of processes key p ≡ None → ((x : ℕ) → x ≢ p → rest' x ≡ rest x) → rest' p ≡ false → (counts : List ℕ) (s : ℕ → Bool) (level : ℕ) → NeedSoFar rest counts s level → NeedSoFar rest' counts s level
+  fewest_to_satisfy-skips nothing rest rest' p keyless same gone counts s level so_far =
+      let pass : passing processes key q (λ x. s x && rest x) ≡ passing processes key q (λ x. s x && rest' x) = nothing processes key q p _ _ keyless (λ x other. ap (λ b. s x && b) (sym (same x other))) in
       let fewer : cost (λ x. s x && rest' x) ≤ cost (λ x. s x && rest x) = number-more _ _ (length processes) (λ x below h. kept x h) in
       let before : passing processes key q s * level + cost (λ x. s x && rest x) ≤ cost s + sum_by (λ c. level - c) counts + passing processes key q (λ x. s x && rest' x) * level =
       subst (λ n. passing processes key q s * level + cost (λ x. s x && rest x) ≤ cost s + sum_by (λ c. level - c) counts + n * level) pass so_far in
@@ -108,12 +108,12 @@ module _ (processes : List Locality) (key : Key) (q : Tree) (free : ℕ → Bool
       ]
 
   -- ---- nothing is left
-  pub need-ends : IsWellFormed q → (all rest : ℕ → Bool) → ((x : ℕ) → rest x ≡ false) → (counts : List ℕ) (wanted least : ℕ) → IsLeastOf counts wanted least
-      → ((s : ℕ → Bool) (level : ℕ) → IsWithin s all → NeedSoFar rest counts s level) → IsNeeded processes (across wanted key q) all free least
-  need-ends counted all rest empty counts wanted least is so_far = λ s within sat.
+  pub fewest_to_satisfy-ends : NobodyPasses → IsWellFormed q → (all rest : ℕ → Bool) → ((x : ℕ) → rest x ≡ false) → (counts : List ℕ) (wanted least : ℕ) → IsLeastOf counts wanted least
+      → ((s : ℕ → Bool) (level : ℕ) → IsWithin s all → NeedSoFar rest counts s level) → NeedsAtLeast processes (across wanted key q) all free least
+  fewest_to_satisfy-ends nobody counted all rest empty counts wanted least is so_far = λ s within sat.
       let enough : wanted ≤ passing processes key q s = at_least _ _ (sym (satisfies-across processes wanted key q s) ∙ sat) in
       least-taken counts wanted least (passing processes key q s) (cost s) is enough (λ level.
-      let zero_left : passing processes key q (λ x. s x && rest x) ≡ 0 = passing-none processes key q _ counted (λ x. off (s x) (rest x) (empty x)) in
+      let zero_left : passing processes key q (λ x. s x && rest x) ≡ 0 = nobody processes key q _ counted (λ x. off (s x) (rest x) (empty x)) in
       let all_passed : passing processes key q s * level + cost (λ x. s x && rest x) ≤ cost s + sum_by (λ c. level - c) counts + 0 * level =
       subst (λ n. passing processes key q s * level + cost (λ x. s x && rest x) ≤ cost s + sum_by (λ c. level - c) counts + n * level) zero_left (so_far s level within) in
       ends _ _ _ _ level all_passed)
@@ -126,12 +126,13 @@ module _ (processes : List Locality) (key : Key) (q : Tree) (free : ℕ → Bool
       ends a b c d l h = omega arith
 
 -- ---- one process
-some_of : (processes : List Locality) (s : ℕ → Bool) → satisfies processes one s ≡ true → (p : ℕ) × (p < length processes) × (s p ≡ true)
-some_of processes s sat = let found = any_found s 0 (length processes) (sym (satisfies-one processes s) ∙ sat) in let below : found.0 < 0 + length processes = found.2 in (found.0, omega arith, found.3)
+some_of : TestIsSatisfaction → (processes : List Locality) (s : ℕ → Bool) → satisfies processes one s ≡ true → (p : ℕ) × (p < length processes) × (s p ≡ true)
+unfolding Sat
+some_of tested processes s sat = (tested processes one s).0 sat
 
-pub one-costs : (processes : List Locality) (group free : sets.FinSet nat_cmp) (count : ℕ) → sets.intersection group free ≡ sets.empty → count ≤ 1 → IsNeeded processes one (sets.contains group) (sets.contains free) count
-one-costs processes group free count apart few = λ s within sat.
-    let found = some_of processes s sat in
+pub one-costs : TestIsSatisfaction → (processes : List Locality) (group free : sets.FinSet nat_cmp) (count : ℕ) → sets.intersection group free ≡ sets.empty → count ≤ 1 → NeedsAtLeast processes one (sets.contains group) (sets.contains free) count
+one-costs tested processes group free count apart few = λ s within sat.
+    let found = some_of tested processes s sat in
     let some : 1 ≤ number_of (λ p. s p && not (sets.contains free p)) (length processes) = number-some _ (length processes) found.0 found.1 (held (s found.0) (sets.contains free found.0) found.2 (other found.0 (within found.0 found.2))) in
     omega arith
   where
@@ -144,11 +145,8 @@ one-costs processes group free count apart few = λ s within sat.
     other : (p : ℕ) → sets.contains group p ≡ true → sets.contains free p ≡ false
     other p e = off _ _ e (sym (sets.contains-intersection nat_cmp_total group free p) ∙ ap (λ x. sets.contains x p) apart ∙ sets.contains-empty nat_cmp p)
 
-pub one-lacks : (processes : List Locality) (group free : sets.FinSet nat_cmp) (count : ℕ) → group ≡ sets.empty → IsNeeded processes one (sets.contains group) (sets.contains free) count
-one-lacks processes group free count empty = λ s within sat.
-    let found = some_of processes s sat in
+pub one-lacks : TestIsSatisfaction → (processes : List Locality) (group free : sets.FinSet nat_cmp) (count : ℕ) → group ≡ sets.empty → NeedsAtLeast processes one (sets.contains group) (sets.contains free) count
+one-lacks tested processes group free count empty = λ s within sat.
+    let found = some_of tested processes s sat in
     let present : sets.contains group found.0 ≡ true = within found.0 found.2 in
     absurd (true≢false (sym present ∙ ap (λ x. sets.contains x found.0) empty ∙ sets.contains-empty nat_cmp found.0))
-
-pub one-free : (processes : List Locality) (group free : ℕ → Bool) (count : ℕ) → count ≡ 0 → IsNeeded processes one group free count
-one-free processes group free count zero_is = λ s within sat. omega arith

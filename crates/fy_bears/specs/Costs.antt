@@ -11,14 +11,14 @@ IsWithin s t = (p : ℕ) → s p ≡ true → t p ≡ true
 
 -- a set within a group that satisfies the policy has so many processes or more, the free ones not
 -- counted
-abbrev pub IsNeeded : List Locality → Tree → (group free : ℕ → Bool) → ℕ → Type 0
-IsNeeded processes policy group free count =
+abbrev pub NeedsAtLeast : List Locality → Tree → (group free : ℕ → Bool) → ℕ → Type 0
+NeedsAtLeast processes policy group free count =
     (s : ℕ → Bool) → IsWithin s group → satisfies processes policy s ≡ true
     → count ≤ number_of (λ p. s p && not (free p)) (length processes)
 
 -- a set within a group that doesn't satisfy the policy lacks so many processes of the group or more
-abbrev pub IsLacked : List Locality → Tree → (group : ℕ → Bool) → ℕ → Type 0
-IsLacked processes policy group count =
+abbrev pub LacksAtLeast : List Locality → Tree → (group : ℕ → Bool) → ℕ → Type 0
+LacksAtLeast processes policy group count =
     (s : ℕ → Bool) → IsWithin s group → satisfies processes policy s ≡ false
     → count ≤ number_of (λ p. group p && not (s p)) (length processes)
 

@@ -1,7 +1,7 @@
 pub mod Bears
 pub mod Costs
 pub use Rattle.fy_decide.specs.DeadBook
-pub use Rattle.fy_decide.specs.Losses
+pub use Rattle.fy_decide.specs.Safety
 pub use Rattle.fy_locality.specs.Locality
 pub use Rattle.fy_policy.specs.Counted
 pub use Rattle.fy_policy.specs.Sat

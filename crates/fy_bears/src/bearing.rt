@@ -1,13 +1,13 @@
 //! How many processes may be lost together by one policy, whichever they are.
-ghost use Rattle.std.specs.Prelude.{◌≡◌, ◌<◌, IfOk, IsTrue, Some, length, slice_get, [], ◌∷◌};
+ghost use Rattle.std.specs.Prelude.{◌≡◌, ◌↔◌, ◌+◌, ◌<◌, IfOk, IsTrue, Some, length, slice_get, [], ◌∷◌};
 ghost use Rattle.std.specs.FinSet as sets;
 ghost use Rattle.fy_policy.specs.Sat.{Sat};
 ghost use Rattle.fy_policy.specs.Tree.{Tree};
-ghost use Rattle.fy_decide.specs.Losses.{MayDestroy};
-ghost use Rattle.fy_bears.specs.Bears.{BearsAny, IsTooMany};
+ghost use Rattle.fy_decide.specs.Safety.{MayDestroy};
+ghost use Rattle.fy_bears.specs.Bears.{ToleratesAny, IsTooMany};
 
-use crate::cut::{cut, lesser};
-use crate::need::need;
+use crate::fewest_to_break::{fewest_to_break, lesser};
+use crate::fewest_to_satisfy::fewest_to_satisfy;
 use fy_decide::{DeadBook, Loss};
 use fy_locality::{Map, ProcId, ProcSet};
 use fy_policy::{Policy, laws, satisfied};
@@ -24,7 +24,9 @@ pub struct Tolerance {
 
 impl Tolerance {
     /// Whether `any` is exact: the set that is too many has one process more.
-    pub fn is_exact(&self) -> bool {
+    pub fn is_exact(&self) -> bool
+        ensures { IsTrue result ↔ (sets.len self.now.too_many ≡ self.now.any + 1) }
+    {
         self.too_many.len() == self.any.saturating_add(1)
     }
 }
@@ -48,7 +50,7 @@ pub fn tolerance_of(
     requires index { index < length policies.now }
     ensures any { IfOk result (λ found. (policy : Tree)
         → slice_get dead.now.policies index ≡ Some policy
-        → BearsAny dead.now policy loss found.any) }
+        → ToleratesAny dead.now policy loss found.any) }
     ensures too_many { IfOk result (λ found. (policy : Tree)
         → slice_get dead.now.policies index ≡ Some policy
         → IsTooMany dead.now policy loss (sets.contains found.too_many)) }
@@ -57,9 +59,10 @@ pub fn tolerance_of(
     let destroyed = dead.destroyed();
     let left = dead.left();
     let shape = policy.shape();
-    let needed = need(alloc, shape, map, &map.everyone(), &destroyed)?;
-    let lacked = cut(alloc, shape, map, &left)?;
+    let needed = fewest_to_satisfy(alloc, shape, map, &map.everyone(), &destroyed)?;
+    let lacked = fewest_to_break(alloc, shape, map, &left)?;
     laws::test_is_satisfaction();
+    laws::more_of_map_satisfies();
     let part = match loss {
         Loss::Emptied => needed,
         Loss::Gone => lesser(needed, lacked),

@@ -1,5 +1,6 @@
 //! A dead book from which on losses are counted.
 ghost use Rattle.std.specs.Prelude.{◌≡◌, IfOk};
+ghost use Rattle.fy_bears.specs.Bears.{IsAfterLosses, lost_as_allowed};
 
 use fy_decide::{DeadBook, Loss, MakeFault};
 use fy_locality::{Map, ProcSet};
@@ -8,7 +9,7 @@ use std::alloc::Global;
 
 /// What a cluster has lost so far.
 #[derive(Clone, Copy)]
-pub struct Losses {
+pub struct LossesSoFar {
     /// Emptied or killed for good, and not healed since.
     pub destroyed: ProcSet,
     /// Killed for good.
@@ -26,10 +27,12 @@ pub fn book_of(
     alloc: Global,
     map: &Map,
     policies: &[Policy],
-    losses: &Losses,
+    losses: &LossesSoFar,
 ) -> Result<DeadBook, MakeFault>
     ensures processes { IfOk result (λ dead. dead.processes ≡ map.now) }
     ensures policies { IfOk result (λ dead. dead.policies ≡ policies.now) }
+    ensures losses { IfOk result (IsAfterLosses map.now policies.now
+        losses.now.destroyed losses.now.gone) }
 {
     let mut dead = DeadBook::make(alloc, map, policies)?;
     strike_as_allowed(&mut dead, &losses.gone, Loss::Gone);
@@ -39,8 +42,7 @@ pub fn book_of(
 
 /// Takes a loss down. A legal journal has none that may not be.
 fn strike_as_allowed(dead: &mut DeadBook, set: &ProcSet, loss: Loss)
-    ensures processes { dead.new.processes ≡ dead.old.processes }
-    ensures policies { dead.new.policies ≡ dead.old.policies }
+    ensures { dead.new ≡ lost_as_allowed set.now loss dead.old }
 {
     if dead.may_destroy(set, loss) {
         dead.strike(set, loss);

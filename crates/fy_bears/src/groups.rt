@@ -2,9 +2,9 @@
 ghost use Rattle.std.specs.Prelude.{◌≡◌, IfOk, map};
 ghost use Rattle.fy_locality.specs.Locality.{values_of};
 ghost use Rattle.std.specs.FinSet as sets;
-ghost use Rattle.fy_decide.specs.Losses.{with_set};
+ghost use Rattle.fy_decide.specs.Safety.{with_set};
 ghost use Rattle.fy_decide.specs.DeadBook.{may_lose};
-ghost use Rattle.fy_bears.specs.Bears.{whole};
+ghost use Rattle.fy_bears.specs.Bears.{left_with_value};
 
 use fy_decide::{DeadBook, Loss};
 use fy_locality::{Key, Map, Name, ProcSet};
@@ -13,7 +13,7 @@ use std::alloc::{AllocError, Global};
 /// The processes left that have a value of a key.
 fn members_left(dead: &DeadBook, places: &Map, key: Key, value: &Name) -> ProcSet
     requires map { places.now ≡ dead.now.processes }
-    ensures { sets.contains result ≡ whole dead.now key value.now }
+    ensures { sets.contains result ≡ left_with_value dead.now key value.now }
 {
     dead.left().intersection(&places.members(key, value))
 }
@@ -33,7 +33,7 @@ pub fn borne_alone(
 ) -> Result<Vec<bool>, AllocError>
     requires map { places.now ≡ dead.now.processes }
     ensures { IfOk result (λ borne. borne.items
-        ≡ map (λ value. may_lose dead.now (whole dead.now key value) loss)
+        ≡ map (λ value. may_lose dead.now (left_with_value dead.now key value) loss)
         (values_of dead.now.processes key)) }
 {
     let mut borne = Vec::new(alloc);
@@ -63,7 +63,7 @@ pub fn borne_beside(
     requires map { places.now ≡ dead.now.processes }
     ensures { IfOk result (λ borne. borne.items
         ≡ map (λ value. may_lose dead.now
-        (with_set (whole dead.now key first.now) (whole dead.now key value)) loss)
+        (with_set (left_with_value dead.now key first.now) (left_with_value dead.now key value)) loss)
         (values_of dead.now.processes key)) }
 {
     let one = members_left(dead, places, key, first);

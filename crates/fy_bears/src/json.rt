@@ -1,6 +1,6 @@
 //! What a cluster bears, for programs. Names, keys and policies have no character that JSON would
 //! want to be escaped.
-use crate::Losses;
+use crate::LossesSoFar;
 use crate::tables::{Borne, Case, Group};
 use crate::warnings::warnings_of;
 use fy_decide::Loss;
@@ -12,7 +12,7 @@ use std::alloc::{AllocError, Global};
 pub(crate) fn write_json(
     alloc: Global,
     case: &Case<'_>,
-    before: Option<Losses>,
+    before: Option<LossesSoFar>,
     emptied: &Borne,
     gone: &Borne,
 ) -> Result<String, AllocError> {

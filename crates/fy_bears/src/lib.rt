@@ -4,10 +4,10 @@
 
 mod bearing;
 mod book;
-mod cut;
+mod fewest_to_break;
+mod fewest_to_satisfy;
 mod groups;
 mod json;
-mod need;
 mod parts;
 mod tables;
 mod telling;
@@ -15,7 +15,7 @@ mod text;
 mod warnings;
 
 pub use bearing::{Tolerance, tolerance_of};
-pub use book::{Losses, book_of};
+pub use book::{LossesSoFar, book_of};
 pub use groups::{borne_alone, borne_beside};
 pub use telling::{Form, report};
 

@@ -5,7 +5,7 @@ ghost use Rattle.fy_bears.specs.Costs.{IsLeastOf};
 use fy_locality::{MOST_PROCESSES, ProcSet};
 
 /// More processes than there are.
-pub(crate) const FAR: u32 = MOST_PROCESSES + 1;
+pub(crate) const MORE_THAN_ALL: u32 = MOST_PROCESSES + 1;
 
 /// So many processes at least, and a set that may do.
 #[derive(Clone, Copy)]
@@ -28,7 +28,7 @@ pub(crate) fn least_of(counts: &[u32], sets: &[ProcSet], many: usize) -> Part
 
 /// The least number that so many of the counts don't exceed.
 fn level_of(counts: &[u32], taken: u32) -> u32 {
-    for level in 0..FAR {
+    for level in 0..MORE_THAN_ALL {
         let mut met = 0u32;
         for count in counts {
             met = met.saturating_add(u32::from(*count <= level));
@@ -37,7 +37,7 @@ fn level_of(counts: &[u32], taken: u32) -> u32 {
             return level;
         }
     }
-    FAR
+    MORE_THAN_ALL
 }
 
 /// The level so many times, less what the counts fall short of it.
@@ -49,7 +49,7 @@ fn least_at(counts: &[u32], taken: u32, level: u32) -> u32
         short = short.saturating_add(u64::from(level.saturating_sub(*count)));
     }
     let all = u64::from(taken) * u64::from(level);
-    all.saturating_sub(short).min(u64::from(FAR)) as u32
+    all.saturating_sub(short).min(u64::from(MORE_THAN_ALL)) as u32
 }
 
 /// The sets of so many parts with the least counts.

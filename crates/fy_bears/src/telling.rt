@@ -1,7 +1,7 @@
 //! What a cluster bears, as one text.
 ghost use Rattle.std.specs.Prelude.{◌≡◌};
 
-use crate::Losses;
+use crate::LossesSoFar;
 use crate::json::write_json;
 use crate::tables::{Case, borne_of};
 use crate::text::write_text;
@@ -30,7 +30,7 @@ pub fn report(
     dead: &DeadBook,
     map: &Map,
     policies: &[Policy],
-    before: Option<Losses>,
+    before: Option<LossesSoFar>,
     form: Form,
 ) -> Result<String, AllocError>
     requires map { map.now ≡ dead.now.processes }

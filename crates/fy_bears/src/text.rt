@@ -2,7 +2,7 @@
 use crate::bearing::Tolerance;
 use crate::tables::{Borne, Case, Group};
 use crate::warnings::warnings_of;
-use crate::{Losses, MOST_PAIRED};
+use crate::{LossesSoFar, MOST_PAIRED};
 use fy_decide::Loss;
 use fy_locality::{Key, Map, ProcSet};
 use fy_policy::policy_text;
@@ -13,7 +13,7 @@ use std::alloc::{AllocError, Global};
 pub(crate) fn write_text(
     alloc: Global,
     case: &Case<'_>,
-    before: Option<Losses>,
+    before: Option<LossesSoFar>,
     emptied: &Borne,
     gone: &Borne,
 ) -> Result<String, AllocError> {

@@ -29,7 +29,8 @@ pub(crate) fn warnings_of(
         } else if found.any > half {
             let any = found.any;
             let warning = format!(in alloc;
-                "policy {place} bears that {any} processes are emptied, more than half: a majority store has then lost its quorum"
+                "policy {place} bears that {any} processes are emptied, more than half: \
+                a majority store has then lost its quorum"
             )?;
             warnings.push(warning)?;
         }

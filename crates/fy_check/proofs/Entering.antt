@@ -1,14 +1,13 @@
 -- one more entry is replayed
 use Rattle.std.proofs.Common.{◌≡◌, ◌∙◌, ℕ, ◌+◌, ◌<◌, ◌≤◌, inl, inr, List, [], ◌∷◌, ◌++◌, length, take, drop, get_or, Some, None, sym, subst, arith, length-append}
 use Rattle.std.proofs.lemmas.Bool.{cases_lt}
-use Rattle.std.proofs.lemmas.List.{take_all, take-append-le, take-append-drop}
+use Rattle.std.proofs.lemmas.List.{take_all, take_more, take-append-le, take-append-drop}
 use Rattle.fy_acts.specs.declared.entry.Entry.{Entry}
 use Rattle.fy_journal.specs.declared.version.Version.{Version}
 use Rattle.fy_cluster.specs.Setup.{Setup}
 use Rattle.fy_cluster.specs.Versions.{LegalUnder}
 use Rattle.fy_check.specs.Check.{IsFirstBad}
-use Rattle.fy_check.proofs.Lists.{one_more}
-use Rattle.fy_check.specs.Replayed.{Replayed, HasFirstBad, HasReplayed, Enters}
+use Rattle.fy_check.specs.Replayed.{Replayed, HasFirstBad, HasReplayed}
 
 -- a first bad entry is one of the entries
 pub bad_within : (version : Version) (setup : Setup) (entries : List Entry) (at : ℕ) → IsFirstBad version setup entries at → at < length entries
@@ -43,24 +42,23 @@ next_is_bad version setup entries e good bad place =
     }
 
 -- behind a bad entry nothing is done
-pub stays_bad : (entry : Entry) (replayed : Replayed) (at : ℕ) → replayed.first_bad ≡ Some at → Enters entry replayed replayed
+pub stays_bad : (entry : Entry) (replayed : Replayed) (at : ℕ) → replayed.first_bad ≡ Some at → (setup : Setup) (entries : List Entry) → HasReplayed setup entries replayed → HasReplayed setup (entries ++ entry ∷ []) replayed
 stays_bad entry replayed at is = λ setup entries has. record {
   first =
       subst (HasFirstBad replayed.version setup (entries ++ entry ∷ [])) (sym is)
       (bad_in_front replayed.version setup entries (entry ∷ []) at
       (subst (HasFirstBad replayed.version setup entries) is has.first));
-  course = λ none. absurd (let no : Some at ≡ None = sym is ∙ none in let bad : ⊥ = cc in bad);
+  execution = λ none. absurd (let no : Some at ≡ None = sym is ∙ none in let bad : ⊥ = cc in bad);
 }
 
 -- ---- a journal's entries one after another
 
 -- where the first ones were replayed, one more is
-pub one_more_entered : (setup : Setup) (entries : List Entry) (i : ℕ) (e given : Entry) (old new : Replayed) → i < length entries → e ≡ get_or entries i e → given ≡ e → Enters given old new
-    → HasReplayed setup (take i entries) old → HasReplayed setup (take (i + 1) entries) new
-one_more_entered setup entries i e given old new l is same enters has =
-    let more = enters setup (take i entries) has in
-    let front : HasReplayed setup (take i entries ++ e ∷ []) new = subst (λ x. HasReplayed setup (take i entries ++ x ∷ []) new) same more in
-    subst (λ es. HasReplayed setup es new) (sym (one_more entries i e l is)) front
+pub one_more_entered : (setup : Setup) (entries : List Entry) (i : ℕ) (e given : Entry) (new : Replayed) → i < length entries → e ≡ get_or entries i e → given ≡ e
+    → HasReplayed setup (take i entries ++ given ∷ []) new → HasReplayed setup (take (i + 1) entries) new
+one_more_entered setup entries i e given new l is same entered =
+    subst (λ es. HasReplayed setup es new) (sym (take_more entries i e l))
+    (subst (λ x. HasReplayed setup (take i entries ++ x ∷ []) new) (same ∙ is) entered)
 
 -- where all were and none is bad, they are a legal journal
 pub all_are_legal : (version : Version) (setup : Setup) (entries : List Entry) (i : ℕ) (replayed : Replayed) → length entries ≤ i → HasReplayed setup (take i entries) replayed → replayed.first_bad ≡ None → replayed.version ≡ version

@@ -1,4 +1,3 @@
 pub mod Fronts
-pub mod Lists
 pub mod Nexts
 pub mod Entering

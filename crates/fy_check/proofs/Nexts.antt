@@ -1,7 +1,7 @@
 -- whether an entry may come next
-use Rattle.std.proofs.Common.{◌≡◌, ◌↔◌, ℕ, ◌+◌, ◌<◌, ◌≤◌, inl, inr, Bool, true, false, List, [], ◌∷◌, ◌++◌, length, take, get_or, slice_get, Some, Ok, Err, Result, IsTrue, sym, ◌∙◌, ap, arith}
+use Rattle.std.proofs.Common.{◌≡◌, ◌↔◌, ℕ, ◌<◌, ◌≤◌, inl, inr, Bool, true, List, [], ◌∷◌, ◌++◌, length, take, get_or, slice_get, Some, Ok, Err, Result, IsTrue, sym, ◌∙◌, ap, arith}
 use Rattle.std.specs.Bool.{Decides}
-use Rattle.std.proofs.lemmas.Bool.{false≢true, cases_lt}
+use Rattle.std.proofs.lemmas.Bool.{cases_lt}
 use Rattle.std.proofs.lemmas.List.{length-take-le}
 use Rattle.fy_acts.specs.declared.act.Act.{Act}
 use Rattle.fy_acts.specs.declared.reply.Reply.{Reply}
@@ -10,35 +10,22 @@ use Rattle.fy_journal.specs.declared.version.Version.{Version}
 use Rattle.fy_cluster.specs.declared.fault.Fault.{Fault}
 use Rattle.fy_cluster.specs.declared.fault.Fault.TheVariants.{JournalFull}
 use Rattle.fy_cluster.specs.Setup.{Setup}
-use Rattle.fy_cluster.specs.Course.{Course, replied, entered}
-use Rattle.fy_cluster.specs.History.{History, moment, after, history}
+use Rattle.fy_cluster.specs.Execution.{Execution, replied, entered}
+use Rattle.fy_cluster.specs.History.{history}
 use Rattle.fy_cluster.specs.Replies.{reply}
 use Rattle.fy_cluster.specs.Versions.{LegalUnder, NextLegalUnder}
 use Rattle.fy_journal.specs.Versions.{knows}
-use Rattle.fy_check.proofs.Lists.{there}
-
-length-after : (c : Setup) (h : History) (xs : List Entry) → length (after c h xs) ≡ length h + length xs
-length-after c h [] = omega arith
-length-after c h (x ∷ xs) = length-after c (moment c h x ∷ h) xs ∙ (omega arith)
-
-pub length-history : (c : Setup) (journal : List Entry) → length (history c journal) ≡ length journal
-length-history c journal = length-after c [] journal ∙ (omega arith)
+use Rattle.std.proofs.lemmas.Option.{slice_get-get_or}
 
 -- the entry with its journal is legal where the test is true
 abbrev pub Tells : Version → Setup → List Entry → Entry → Bool → Type 0
 Tells version c journal e may = IsTrue may ↔ LegalUnder version c (journal ++ e ∷ [])
 
-pub not_known : NextLegalUnder → (version : Version) (c : Setup) (journal : List Entry) (e : Entry) → LegalUnder version c journal → knows version e.act ≡ false → Tells version c journal e false
-not_known law version c journal e l k = (
-  λ f. absurd (false≢true f),
-  λ more. absurd (false≢true (sym k ∙ ((law version c journal e l).0 more).2)),
-)
-
 pub by_reply : NextLegalUnder → (version : Version) (c : Setup) (journal : List Entry) (e : Entry) (answered : Reply) (same : Bool) → LegalUnder version c journal → knows version e.act ≡ true → length journal < c.limit → e.at ≡ length journal
     → answered ≡ reply c (history c journal) e.by e.act → Decides same (answered ≡ e.reply) → Tells version c journal e same
 by_reply law version c journal e answered same l k room place right d = (
-  λ t. (law version c journal e l).1 (room, record { place = place ∙ sym (length-history c journal); right = sym (d.0 t) ∙ right }, k),
-  λ more. d.1 (right ∙ sym ((law version c journal e l).0 more).1.right),
+  λ t. (law version c journal e l).1 (record { room = room; place = place; right = sym (d.0 t) ∙ right }, k),
+  λ more. d.1 (right ∙ sym ((law version c journal e l).0 more).0.right),
 )
 
 -- who got a reply had a place in the journal
@@ -50,10 +37,10 @@ pub of_parts : (e : Entry) (at : ℕ) (act : Act) (reply : Reply) → e.at ≡ a
 of_parts e at act reply p a r = λ i. record { at = sym p i; by = e.by; act = sym a i; reply = sym r i }
 
 -- the course has the entry then
-pub entered_is : (course new : Course) (e : Entry) (act : Act) (answered : Reply) → act ≡ e.act → e.at ≡ length course.journal → answered ≡ e.reply → answered ≡ replied course e.by act → new ≡ entered course e.by act
-    → new ≡ record { setup = course.setup; journal = course.journal ++ e ∷ [] }
-entered_is course new e act answered a place same right is =
-    is ∙ ap (λ (x : Entry). let more : Course = record { setup = course.setup; journal = course.journal ++ x ∷ [] } in more) (of_parts e (length course.journal) act (replied course e.by act) place (sym a) (sym same ∙ right))
+pub entered_is : (execution new : Execution) (e : Entry) (act : Act) (answered : Reply) → act ≡ e.act → e.at ≡ length execution.journal → answered ≡ e.reply → answered ≡ replied execution e.by act → new ≡ entered execution e.by act
+    → new ≡ record { setup = execution.setup; journal = execution.journal ++ e ∷ [] }
+entered_is execution new e act answered a place same right is =
+    is ∙ ap (λ (x : Entry). let more : Execution = record { setup = execution.setup; journal = execution.journal ++ x ∷ [] } in more) (of_parts e (length execution.journal) act (replied execution e.by act) place (sym a) (sym same ∙ right))
 
 -- ---- the entries one after another
 
@@ -61,10 +48,6 @@ entered_is course new e act answered a place same right is =
 abbrev pub AreNumbered : List Entry → Type 0
 AreNumbered entries = (place : ℕ) (entry : Entry) → slice_get entries place ≡ Some entry → entry.at ≡ place
 
--- the course has the entries before this place
-abbrev pub course_at : Setup → List Entry → ℕ → Course
-course_at c entries i = record { setup = c; journal = take i entries }
-
-pub place_is : (c : Setup) (entries : List Entry) (i : ℕ) (e : Entry) (course : Course) → i < length entries → e ≡ get_or entries i e → AreNumbered entries → course ≡ course_at c entries i → e.at ≡ length course.journal
-place_is c entries i e course l is numbered same =
-    numbered i e (there entries i e l is) ∙ sym (length-take-le i entries (omega arith)) ∙ ap (λ (x : Course). length x.journal) (sym same)
+pub place_is : (entries : List Entry) (i : ℕ) (e : Entry) → i < length entries → e ≡ get_or entries i e → AreNumbered entries → e.at ≡ length (take i entries)
+place_is entries i e l is numbered =
+    numbered i e (slice_get-get_or entries i e l ∙ ap Some (sym is)) ∙ sym (length-take-le i entries (omega arith))

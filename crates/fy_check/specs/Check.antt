@@ -21,9 +21,9 @@ Checks version c entries (Err (BadEntry at)) = IsFirstBad version c entries at
 Checks version c entries (Err NoMemory) = ⊥
 
 -- that answer, or there was no memory for it
-abbrev pub CheckAnswers : Version → Setup → List Entry → Result (Unit {0}) CheckFault → Type 0
-CheckAnswers version c entries (Err NoMemory) = Unit {0}
-CheckAnswers version c entries result = Checks version c entries result
+abbrev pub ChecksOrOom : Version → Setup → List Entry → Result (Unit {0}) CheckFault → Type 0
+ChecksOrOom version c entries (Err NoMemory) = Unit {0}
+ChecksOrOom version c entries result = Checks version c entries result
 
 -- two answers to a journal are the same
 abbrev pub OneAnswer : Type 0

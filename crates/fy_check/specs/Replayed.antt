@@ -1,8 +1,8 @@
 -- a journal that is checked entry by entry
-use Rattle.std.specs.Prelude.{◌≡◌, ℕ, List, [], ◌∷◌, ◌++◌, Option, Some, None}
+use Rattle.std.specs.Prelude.{◌≡◌, ℕ, List, Option, Some, None}
 use Rattle.fy_acts.specs.declared.entry.Entry.{Entry}
 use Rattle.fy_journal.specs.declared.version.Version.{Version}
-use Rattle.fy_cluster.specs.Course.{Course}
+use Rattle.fy_cluster.specs.Execution.{Execution}
 use Rattle.fy_cluster.specs.Setup.{Setup}
 use Rattle.fy_cluster.specs.Versions.{LegalUnder}
 use Rattle.fy_check.specs.Check.{IsFirstBad}
@@ -10,7 +10,7 @@ use Rattle.fy_check.specs.Check.{IsFirstBad}
 -- what was replayed: the journal's version, the cluster, and the first bad entry
 pub record Replayed : Type 0 where
   pub version : Version
-  pub course : Course
+  pub execution : Execution
   pub first_bad : Option ℕ
 
 -- entries have this first bad one; none where they are a legal journal
@@ -21,11 +21,5 @@ HasFirstBad version setup entries (Some at) = IsFirstBad version setup entries a
 -- these entries were replayed, and while none is bad they are the cluster's
 pub record HasReplayed (setup : Setup) (entries : List Entry) (replayed : Replayed) : Type 0 where
   pub first : HasFirstBad replayed.version setup entries replayed.first_bad
-  pub course : replayed.first_bad ≡ None →
-      replayed.course ≡ record { setup = setup; journal = entries }
-
--- whatever entries were replayed before, this one is too
-abbrev pub Enters : Entry → Replayed → Replayed → Type 0
-Enters entry old new =
-    (setup : Setup) (entries : List Entry) → HasReplayed setup entries old →
-    HasReplayed setup (entries ++ entry ∷ []) new
+  pub execution : replayed.first_bad ≡ None →
+      replayed.execution ≡ record { setup = setup; journal = entries }

@@ -8,7 +8,7 @@ use Rattle.fy_check.specs.declared.replaying.Replayer.TheInside.{Inside}
 abbrev pub replayed : Inside → Replayed
 replayed replayer = record {
   version = replayer.version;
-  course = replayer.cluster;
+  execution = replayer.cluster;
   first_bad = replayer.first_bad;
 }
 

@@ -4,9 +4,9 @@ use std::alloc::AllocError;
 /// Why a journal isn't found legal.
 #[derive(Clone, Copy, PartialEq, Eq, Debug)]
 pub enum CheckFault {
-    /// The entries before this place, from 0, are a legal journal, and with the one at it they
-    /// aren't: the configuration's journals end before it, the version has no such act, or its
-    /// reply isn't the one that the rules give.
+    /// The entry at this place, from 0, is the first bad one; those before it are a legal journal.
+    /// Either the journal is at its limit before it, or the version has no such act, or its reply
+    /// isn't the one that the rules give.
     BadEntry { at: u32 },
     /// There was no memory.
     NoMemory,

@@ -1,5 +1,5 @@
-//! Whether a journal is what the rules give, at full size: its acts are made once more by a cluster,
-//! and the replies compared.
+//! Checks a journal by replaying it: a cluster makes its acts once more, and the replies are
+//! compared.
 #![tactic(auto)]
 
 mod fault;

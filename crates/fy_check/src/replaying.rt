@@ -1,8 +1,10 @@
-//! A journal checked at full size: its acts are made once more, and the replies compared.
-ghost use Rattle.std.specs.Prelude.{◌≡◌, ◌↔◌, [], ◌∷◌, ◌++◌, length, None, IfOk, OnOk, OnErr, IsTrue};
+//! Checks a journal by replaying it: its acts are made once more, and the replies compared.
+ghost use Rattle.std.specs.Prelude.{◌≡◌, ◌↔◌, List, [], ◌∷◌, ◌++◌, length, None, IfOk, OnOk, OnErr, IsTrue};
+ghost use Rattle.fy_acts.specs.declared.entry.Entry.{Entry};
+ghost use Rattle.fy_cluster.specs.Setup.{Setup};
 ghost use Rattle.fy_cluster.specs.Versions.{LegalUnder};
-ghost use Rattle.fy_check.specs.Check.{CheckAnswers};
-ghost use Rattle.fy_check.specs.Replayed.{HasReplayed, Enters};
+ghost use Rattle.fy_check.specs.Check.{ChecksOrOom};
+ghost use Rattle.fy_check.specs.Replayed.{HasReplayed};
 
 use crate::CheckFault;
 use fy_cluster::{Cluster, Config, Fault, laws};
@@ -11,7 +13,7 @@ use std::alloc::{AllocError, Global};
 use std::marker::Model;
 
 /// Whether the entry may come next in the cluster's journal, which is a legal one of the version.
-/// If it may, it is then in it.
+/// Where it may, that journal then ends with it.
 fn comes_next(cluster: &mut Cluster, version: Version, entry: Entry) -> Result<bool, AllocError>
     requires legal { LegalUnder version cluster.old.setup cluster.old.journal }
     requires place { entry.at ≡ length cluster.old.journal }
@@ -34,8 +36,8 @@ fn comes_next(cluster: &mut Cluster, version: Version, entry: Entry) -> Result<b
     }
 }
 
-/// A journal that is checked entry by entry: a cluster makes the acts once more, and what was
-/// compared is dropped.
+/// Checks a journal entry by entry: a cluster makes each act once more, and the reply is compared.
+/// The entry is dropped then.
 #[derive(Drop)]
 pub struct Replayer {
     cluster: Cluster,
@@ -79,8 +81,8 @@ impl Replayer {
         })
     }
 
-    /// Makes room for so many entries more, as far as the journal may have them, and changes nothing
-    /// else. `enter` makes room by itself, step by step.
+    /// Reserves room for so many more entries, up to the journal's limit, and changes nothing else.
+    /// `enter` grows the journal step by step.
     ///
     /// # Errors
     ///
@@ -98,14 +100,16 @@ impl Replayer {
         self.first_bad
     }
 
-    /// Takes the next entry. Behind the first bad one nothing is done.
+    /// Checks the next entry. After the first bad one nothing is done.
     ///
     /// # Errors
     ///
-    /// `AllocError` where there is no memory for its act: it was not taken then.
+    /// `AllocError` where there is no memory for its act. The entry isn't checked then.
     pub fn enter(&mut self, entry: Entry) -> Result<(), AllocError>
-        requires { self.old.first_bad ≡ None → entry.at ≡ length self.old.course.journal }
-        ensures entered { OnOk result (Enters entry self.old self.new) }
+        requires { self.old.first_bad ≡ None → entry.at ≡ length self.old.execution.journal }
+        ensures entered { OnOk result ((setup : Setup) (so_far : List Entry)
+            → HasReplayed setup so_far self.old
+            → HasReplayed setup (so_far ++ entry ∷ []) self.new) }
         ensures version { self.new.version ≡ self.old.version }
         ensures same { OnErr result (self.new ≡ self.old) }
     {
@@ -113,14 +117,10 @@ impl Replayer {
             return Ok(());
         }
         let at = entry.at;
-        match comes_next(&mut self.cluster, self.version, entry) {
-            Ok(true) => Ok(()),
-            Ok(false) => {
-                self.first_bad = Some(at);
-                Ok(())
-            }
-            Err(AllocError) => Err(AllocError),
+        if !comes_next(&mut self.cluster, self.version, entry)? {
+            self.first_bad = Some(at);
         }
+        Ok(())
     }
 }
 
@@ -133,7 +133,7 @@ impl Replayer {
 /// version doesn't have, or whose place is the journal limit. `NoMemory`, in place of any answer,
 /// where there is no memory for the cluster or for one of its acts.
 pub fn replay(alloc: Global, config: &Config, journal: &Journal) -> Result<(), CheckFault>
-    ensures { CheckAnswers journal.now.version config.now journal.now.entries result }
+    ensures { ChecksOrOom journal.now.version config.now journal.now.entries result }
 {
     journal.invariant();
     let mut replayer = Replayer::begin(alloc, config.try_copy(alloc)?, journal.version())?;

@@ -2,8 +2,8 @@
 use Rattle.std.proofs.Common.{◌≡◌, ◌==◌, ◌||◌, ◌&&◌, not, ℕ, Bool, true, false, List, [], ◌∷◌, ◌++◌, filter, cond, Some, refl, sym, ◌∙◌, ap, arith}
 use Rattle.std.specs.Prelude.{option_map}
 use Rattle.fy_cluster.specs.History.{some_is, heals, heals_at}
-use Rattle.fy_check_by_rules.specs.declared.step.Step.{Step}
-use Rattle.fy_check_by_rules.specs.Past.{moment_of}
+use Rattle.fy_check_by_rules.specs.declared.step.FoundStep.{FoundStep}
+use Rattle.fy_check_by_rules.specs.Past.{as_step}
 use Rattle.std.proofs.lemmas.Bool.Decides.{nat_tests}
 use Rattle.fy_locality.specs.declared.ProcId.{ProcId}
 use Rattle.fy_team.specs.Teams.{is_among}
@@ -49,7 +49,7 @@ and_true true = refl
 and_true false = refl
 
 -- the process that a step heals, where the record wasn't acknowledged
-pub healed_at : (s : Step) (healed : ProcId) (was : Bool) (p : ℕ) → option_map (λ (q : ProcId). q.0) (Some healed) ≡ heals s.entry.act s.entry.reply → was ≡ false → (healed.0 == p) ≡ (heals_at (moment_of [] s) p && not was)
-healed_at s healed was p e f = ap (some_is (λ q. q == p)) e ∙ and_true (heals_at (moment_of [] s) p) ∙ ap (λ b. heals_at (moment_of [] s) p && not b) (sym f)
+pub healed_at : (s : FoundStep) (healed : ProcId) (was : Bool) (p : ℕ) → option_map (λ (q : ProcId). q.0) (Some healed) ≡ heals s.entry.act s.entry.reply → was ≡ false → (healed.0 == p) ≡ (heals_at (as_step [] s) p && not was)
+healed_at s healed was p e f = ap (some_is (λ q. q == p)) e ∙ and_true (heals_at (as_step [] s) p) ∙ ap (λ b. heals_at (as_step [] s) p && not b) (sym f)
 
 pub ruleset among = (among-none, among-push, among-without)

@@ -6,7 +6,7 @@ use Rattle.fy_team.specs.Teams.{swapped}
 use Rattle.fy_cluster.specs.History.{Swap, with_swap, after_swap}
 use Rattle.fy_check_by_rules.specs.declared.teams.Team.{Team as FoundTeam}
 use Rattle.fy_check_by_rules.specs.Formed.{team_of}
-use Rattle.fy_check_by_rules.proofs.Lists.{there}
+use Rattle.std.proofs.lemmas.Option.{slice_get-get_or}
 
 map-get : (items : List FoundTeam) (i : ℕ) (x : FoundTeam) → slice_get items i ≡ Some x → slice_get (map team_of items) i ≡ Some (team_of x)
 map-get [] i x e = absurd (cc)
@@ -25,4 +25,4 @@ pub swapped_in : (items : List FoundTeam) (i : ℕ) (x new : FoundTeam) (out int
 swapped_in items i x new out into l is members policy =
     let swap : Swap = record { team = i; out = out; into = into } in
     let same : team_of new ≡ with_swap swap (team_of x) = ap₂ (λ ms p. record { members = ms; policy = p }) members policy in
-    map-set items i new ∙ ap (slice_set (map team_of items) i) same ∙ ap (λ found. option_map_or (λ team. slice_set (map team_of items) i (with_swap swap team)) found (map team_of items)) (sym (map-get items i x (there items i x l is)))
+    map-set items i new ∙ ap (slice_set (map team_of items) i) same ∙ ap (λ found. option_map_or (λ team. slice_set (map team_of items) i (with_swap swap team)) found (map team_of items)) (sym (map-get items i x (slice_get-get_or items i x l ∙ ap Some (sym is))))

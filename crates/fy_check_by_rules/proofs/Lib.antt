@@ -5,8 +5,9 @@ pub mod Lists
 pub mod Marking
 pub mod Nexts
 pub mod Pasts
+pub mod Places
 pub mod Roles
-pub mod Ruling
 pub mod Sets
+pub mod Ruling
 pub mod Within
 pub mod Written

@@ -8,19 +8,10 @@ use Rattle.std.specs.Option.{option_or}
 use Rattle.std.proofs.lemmas.List.Folds.{find-append}
 use Rattle.std.proofs.lemmas.List.Elements.{filter-append}
 use Rattle.std.proofs.lemmas.List.Sums.{sum_by_push}
-use Rattle.std.proofs.lemmas.Option.{slice_get-get_or}
-
-take-push : {X : Type 0} (xs : List X) (i : ℕ) (x : X) → slice_get xs i ≡ Some x → take (suc i) xs ≡ take i xs ++ x ∷ []
-take-push [] i x e = absurd (cc)
-take-push (y ∷ xs) zero x e = let same : y ≡ x = cc in ap (λ z. z ∷ []) same
-take-push (y ∷ xs) (suc i) x e = ap (λ ys. y ∷ ys) (take-push xs i x e)
-
--- an element is the one at its place
-pub there : {X : Type 0} (xs : List X) (i : ℕ) (x : X) → i < length xs → x ≡ get_or xs i x → slice_get xs i ≡ Some x
-there xs i x l is = slice_get-get_or xs i x l ∙ ap Some (sym is)
+use Rattle.std.proofs.lemmas.List.{take_more}
 
 pub one_more : {X : Type 0} (xs : List X) (i : ℕ) (x : X) → i < length xs → x ≡ get_or xs i x → take (i + 1) xs ≡ take i xs ++ x ∷ []
-one_more xs i x l is = ap (λ n. take n xs) (add-one i) ∙ take-push xs i x (there xs i x l is)
+one_more xs i x l is = take_more xs i x l ∙ ap (λ y. take i xs ++ y ∷ []) (sym is)
 
 range_more : (a n : ℕ) → range_with_len a (suc n) ≡ range_with_len a n ++ (a + n) ∷ []
 range_more a zero = ap (λ m. m ∷ []) (omega arith)
@@ -80,6 +71,6 @@ teams_counted (b ∷ xs) = ap suc (teams_counted xs)
 -- none of the elements so far passes, nor the next
 pub none_more : {X : Type 0} (p : X → Bool) (xs : List X) (i : ℕ) (d : X) → i < length xs → find p (take i xs) ≡ None → p (get_or xs i d) ≡ false → find p (take (i + 1) xs) ≡ None
 none_more p xs i d l none fails =
-    ap (find p) (ap (λ n. take n xs) (add-one i) ∙ take-push xs i (get_or xs i d) (slice_get-get_or xs i d l))
+    ap (find p) (take_more xs i d l)
     ∙ find-append p (take i xs) (get_or xs i d ∷ [])
     ∙ ap₂ option_or none (ap (λ b. cond b (Some (get_or xs i d)) None) fails)

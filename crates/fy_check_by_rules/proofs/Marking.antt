@@ -3,22 +3,22 @@ use Rattle.std.proofs.Common.{◌≡◌, ℕ, ◌+◌, ◌<◌, Bool, ◌||◌, 
 use Rattle.std.specs.List.{list_all}
 use Rattle.fy_locality.specs.declared.ProcId.{ProcId}
 use Rattle.fy_team.specs.Teams.{is_among}
-use Rattle.fy_cluster.specs.History.{tells, marked_after, marked, acked, members_for}
-use Rattle.fy_check_by_rules.specs.declared.step.Step.{Step}
-use Rattle.fy_check_by_rules.specs.Past.{moment_of, past}
+use Rattle.fy_cluster.specs.History.{delivers_ack_of, marked_after, marked, acked, members_for}
+use Rattle.fy_check_by_rules.specs.declared.step.FoundStep.{FoundStep}
+use Rattle.fy_check_by_rules.specs.Past.{as_step, past}
 use Rattle.fy_check_by_rules.proofs.Pasts.{past_next}
 
-pub marked_next : (steps : List Step) (i : ℕ) (s : Step) (rec : ℕ) (old new : List ProcId) (was : Bool) → i < length steps → s ≡ get_or steps i s → was ≡ acked (past (take i steps)) rec
-    → ((p : ℕ) → is_among old p ≡ marked (past (take i steps)) rec p) → ((p : ℕ) → is_among new p ≡ marked_after (moment_of [] s) rec p was (is_among old p))
+pub marked_next : (steps : List FoundStep) (i : ℕ) (s : FoundStep) (rec : ℕ) (old new : List ProcId) (was : Bool) → i < length steps → s ≡ get_or steps i s → was ≡ acked (past (take i steps)) rec
+    → ((p : ℕ) → is_among old p ≡ marked (past (take i steps)) rec p) → ((p : ℕ) → is_among new p ≡ marked_after (as_step [] s) rec p was (is_among old p))
     → (p : ℕ) → is_among new p ≡ marked (past (take (i + 1) steps)) rec p
 marked_next steps i s rec old new was l is was_is old_is new_is p =
-    new_is p ∙ ap₂ (marked_after (moment_of [] s) rec p) was_is (old_is p) ∙ sym (ap (λ h. marked h rec p) (past_next steps i s l is))
+    new_is p ∙ ap₂ (marked_after (as_step [] s) rec p) was_is (old_is p) ∙ sym (ap (λ h. marked h rec p) (past_next steps i s l is))
 
-pub acked_next : (steps : List Step) (i : ℕ) (s : Step) (rec : ℕ) (old new members : List ProcId) (was now : Bool) → i < length steps → s ≡ get_or steps i s → members ≡ members_for (past (take i steps)) rec → was ≡ acked (past (take i steps)) rec
-    → ((p : ℕ) → is_among old p ≡ marked (past (take i steps)) rec p) → ((p : ℕ) → is_among new p ≡ marked_after (moment_of [] s) rec p was (is_among old p))
-    → now ≡ (was || tells (moment_of [] s) rec && list_all (λ p. is_among new p.0) members)
+pub acked_next : (steps : List FoundStep) (i : ℕ) (s : FoundStep) (rec : ℕ) (old new members : List ProcId) (was now : Bool) → i < length steps → s ≡ get_or steps i s → members ≡ members_for (past (take i steps)) rec → was ≡ acked (past (take i steps)) rec
+    → ((p : ℕ) → is_among old p ≡ marked (past (take i steps)) rec p) → ((p : ℕ) → is_among new p ≡ marked_after (as_step [] s) rec p was (is_among old p))
+    → now ≡ (was || delivers_ack_of (as_step [] s) rec && list_all (λ p. is_among new p.0) members)
     → now ≡ acked (past (take (i + 1) steps)) rec
 acked_next steps i s rec old new members was now l is members_are was_is old_is new_is now_is =
     let h = past (take i steps) in
-    let each : (p : ℕ) → is_among new p ≡ marked_after (moment_of h s) rec p (acked h rec) (marked h rec p) = λ p. new_is p ∙ ap₂ (marked_after (moment_of [] s) rec p) was_is (old_is p) in
-    now_is ∙ ap₂ (λ a b. a || tells (moment_of [] s) rec && b) was_is (ap₂ list_all (λ j (p : ProcId). each p.0 j) members_are) ∙ sym (ap (λ x. acked x rec) (past_next steps i s l is))
+    let each : (p : ℕ) → is_among new p ≡ marked_after (as_step h s) rec p (acked h rec) (marked h rec p) = λ p. new_is p ∙ ap₂ (marked_after (as_step [] s) rec p) was_is (old_is p) in
+    now_is ∙ ap₂ (λ a b. a || delivers_ack_of (as_step [] s) rec && b) was_is (ap₂ list_all (λ j (p : ProcId). each p.0 j) members_are) ∙ sym (ap (λ x. acked x rec) (past_next steps i s l is))

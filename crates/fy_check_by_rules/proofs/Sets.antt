@@ -1,16 +1,11 @@
--- members of sets of processes
-use Rattle.std.proofs.Common.{◌==◌, ◌≡◌, ◌<◌, ◌||◌, ◌&&◌, ℕ, Bool, true, false, not, refl, ap, ◌∙◌, arith}
-use Rattle.std.specs.Prelude.{nat_lt}
-use Rattle.std.proofs.lemmas.Bool.Decides.{nat_tests}
+-- what the tactics take of the standard library on members of sets of processes
+use Rattle.std.proofs.Common.{◌==◌, ◌≡◌, ◌||◌, ◌&&◌, ℕ, false, not, ap, ◌∙◌}
 use Rattle.std.specs.Ordering.{nat_cmp}
 use Rattle.std.specs.FinSet as sets
 use Rattle.std.specs.Cmp.{nat_cmp_total, unsigned_tied}
 
 pub empty-has : (q : ℕ) → sets.contains {R = nat_cmp} sets.empty q ≡ false
 empty-has q = sets.contains-empty nat_cmp q
-
-pub insert-has : (s : sets.FinSet nat_cmp) (p q : ℕ) → sets.contains (sets.insert s p) q ≡ (q == p || sets.contains s q)
-insert-has s p q = sets.contains-insert nat_cmp_total s p q ∙ ap (λ b. b || sets.contains s q) (unsigned_tied q p)
 
 pub remove-has : (s : sets.FinSet nat_cmp) (p q : ℕ) → sets.contains (sets.remove s p) q ≡ (not (q == p) && sets.contains s q)
 remove-has s p q = sets.contains-remove nat_cmp_total s p q ∙ ap (λ b. not b && sets.contains s q) (unsigned_tied q p)
@@ -24,18 +19,4 @@ difference-has s t q = sets.contains-difference nat_cmp_total s t q
 pub intersection-has : (s t : sets.FinSet nat_cmp) (q : ℕ) → sets.contains (sets.intersection s t) q ≡ (sets.contains s q && sets.contains t q)
 intersection-has s t q = sets.contains-intersection nat_cmp_total s t q
 
--- all of these
-pub ruleset members = (empty-has, insert-has, remove-has, union-has, difference-has, intersection-has)
-
-turned : (a b : Bool) → (a || b) ≡ (b || a)
-turned true true = refl
-turned true false = refl
-turned false true = refl
-turned false false = refl
-
--- a process that is there is put in
-pub known_put : (q p n : ℕ) (b : Bool) → p < n → (q == p || b) ≡ (b || nat_lt q n && p == q)
-known_put q p n b l = turned (q == p) b ∙ ap (λ a. b || a) same
-  where
-    same : (q == p) ≡ (nat_lt q n && p == q)
-    same = grind (arith, nat_tests)
+pub ruleset members = (empty-has, remove-has, union-has, difference-has, intersection-has)

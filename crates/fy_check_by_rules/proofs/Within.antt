@@ -1,7 +1,10 @@
--- who is no process doesn't count for a policy
-use Rattle.std.proofs.Common.{◌≡◌, ℕ, zero, suc, ◌+◌, ◌<◌, Bool, ◌&&◌, ◌||◌, List, length, filter, refl, ◌∙◌, ap, ap₂, arith}
+-- who is no process doesn't count for a policy, and a process that is there is put into a set
+use Rattle.std.proofs.Common.{◌≡◌, ℕ, zero, suc, ◌+◌, ◌<◌, ◌==◌, Bool, true, false, ◌&&◌, ◌||◌, List, length, filter, refl, ◌∙◌, ap, ap₂, arith}
 use Rattle.std.specs.Prelude.{nat_le, nat_lt}
 use Rattle.std.specs.List.{list_any, range_with_len}
+use Rattle.std.specs.Ordering.{nat_cmp}
+use Rattle.std.specs.FinSet as sets
+use Rattle.std.specs.Cmp.{nat_cmp_total, unsigned_tied}
 use Rattle.std.proofs.lemmas.Bool.Decides.{nat_tests}
 use Rattle.fy_locality.specs.declared.locality.Locality.{Locality}
 use Rattle.fy_locality.specs.Locality.{has_value, values_of}
@@ -39,3 +42,18 @@ known_satisfy processes P known s is = same_within processes P known s (λ q l. 
 -- the processes of a map that is the same
 pub met : (ps qs : List Locality) (need : Tree) (known s : ℕ → Bool) → ps ≡ qs → ((q : ℕ) → known q ≡ (nat_lt q (length ps) && s q)) → satisfies ps need known ≡ satisfies qs need s
 met ps qs need known s same is = known_satisfy ps need known s is ∙ ap (λ (rs : List Locality). satisfies rs need s) same
+
+turned : (a b : Bool) → (a || b) ≡ (b || a)
+turned true true = refl
+turned true false = refl
+turned false true = refl
+turned false false = refl
+
+-- a process that is there is put in
+pub known_put : (s : sets.FinSet nat_cmp) (p q n : ℕ) → p < n → sets.contains (sets.insert s p) q ≡ (sets.contains s q || nat_lt q n && p == q)
+known_put s p q n l =
+    sets.contains-insert nat_cmp_total s p q ∙ ap (λ b. b || sets.contains s q) (unsigned_tied q p) ∙ turned (q == p) (sets.contains s q)
+    ∙ ap (λ b. sets.contains s q || b) same
+  where
+    same : (q == p) ≡ (nat_lt q n && p == q)
+    same = grind (arith, nat_tests)

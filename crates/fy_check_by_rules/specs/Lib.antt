@@ -4,4 +4,5 @@ pub mod Formed
 pub mod Later
 pub mod Past
 pub mod Steps
+pub mod Written
 pub mod Allowed

@@ -1,27 +1,27 @@
 -- what checked entries have done, as the history of their journal
 use Rattle.std.specs.Prelude.{List, [], ◌∷◌, false, if◌then◌else◌}
 use Rattle.std.specs.FinSet as sets
-use Rattle.fy_cluster.specs.History.{History, Moment, is_accepted, takes_of}
-use Rattle.fy_check_by_rules.specs.declared.step.Step.{Step}
+use Rattle.fy_cluster.specs.History.{History, Step, is_accepted, removes_of}
+use Rattle.fy_check_by_rules.specs.declared.step.FoundStep.{FoundStep}
 use Rattle.fy_check_by_rules.specs.declared.past.Past.{Past}
 
--- a step as a moment after this history
-abbrev pub moment_of : History → Step → Moment
-moment_of h s = record {
+-- a found step, as the rules have it after this history
+abbrev pub as_step : History → FoundStep → Step
+as_step h s = record {
   entry = s.entry;
   targets = sets.contains s.targets;
   message = s.message;
   sends = s.sends.items;
-  takes_out = λ n. if is_accepted s.entry.reply then takes_of h s.entry.act n else false;
+  removes = λ n. if is_accepted s.entry.reply then removes_of h s.entry.act n else false;
 }
 
 -- the history after more steps, the oldest first
-abbrev pub past_after : History → List Step → History
+abbrev pub past_after : History → List FoundStep → History
 past_after h [] = h
-past_after h (s ∷ later) = past_after (moment_of h s ∷ h) later
+past_after h (s ∷ later) = past_after (as_step h s ∷ h) later
 
 -- the history of these steps
-unfoldable pub past : List Step → History
+unfoldable pub past : List FoundStep → History
 past steps = past_after [] steps
 
 -- the history of the entries before

@@ -7,19 +7,19 @@ use fy_kinds::{Kind, KindSet};
 
 /// A strike by a kind, or a clog.
 #[derive(Clone, Copy)]
-pub(crate) enum Asked {
+pub(crate) enum AskedDeed {
     Strike(Kind),
     Clog,
 }
 
-impl Asked {
+impl AskedDeed {
     /// Whether it is a member of the set.
     pub(crate) fn is_in(self, kinds: KindSet) -> bool
         ensures { result ≡ has kinds (deed_of self) }
     {
         match self {
-            Asked::Strike(kind) => kinds.has(kind),
-            Asked::Clog => kinds.has_clog(),
+            AskedDeed::Strike(kind) => kinds.has(kind),
+            AskedDeed::Clog => kinds.has_clog(),
         }
     }
 
@@ -28,8 +28,8 @@ impl Asked {
         ensures { result ≡ is_kill_which is_destroying (deed_of self) }
     {
         match self {
-            Asked::Strike(kind) => kind.is_destroying(),
-            Asked::Clog => false,
+            AskedDeed::Strike(kind) => kind.is_destroying(),
+            AskedDeed::Clog => false,
         }
     }
 
@@ -38,8 +38,8 @@ impl Asked {
         ensures { result ≡ is_kill_which destroys_for_good (deed_of self) }
     {
         match self {
-            Asked::Strike(kind) => kind.destroys_for_good(),
-            Asked::Clog => false,
+            AskedDeed::Strike(kind) => kind.destroys_for_good(),
+            AskedDeed::Clog => false,
         }
     }
 }

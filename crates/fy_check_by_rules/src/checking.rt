@@ -1,14 +1,14 @@
-//! A journal checked by the definitions: of each entry its reply is read off the entries before.
+//! Checks a journal by the definitions: the reply of each entry is read off the entries before.
 ghost use Rattle.std.specs.Prelude.{◌≡◌, ◌↔◌, ◌<◌, ◌∷◌, [], ◌++◌, List, length, is_some, IfOk, IfSome, OnOk, IsTrue};
 ghost use Rattle.fy_acts.specs.declared.entry.Entry.{Entry};
 ghost use Rattle.fy_cluster.specs.Versions.{LegalUnder};
-ghost use Rattle.fy_check.specs.Check.{CheckAnswers};
+ghost use Rattle.fy_check.specs.Check.{ChecksOrOom};
 ghost use Rattle.fy_check_by_rules.specs.Steps.{AreStepsOf};
 
 use crate::doing::step_of;
 use crate::past::Past;
 use crate::reply::reply;
-use crate::step::Step;
+use crate::step::FoundStep;
 use fy_check::CheckFault;
 use fy_cluster::{Config, laws};
 use fy_journal::{Entry, Journal, Version};
@@ -38,7 +38,11 @@ fn may_follow(before: &Past, version: Version, entry: &Entry) -> Result<bool, Al
 }
 
 /// The step of the entry, if it may come next, where the entries before are a legal journal.
-fn next_step(before: &Past, version: Version, entry: &Entry) -> Result<Option<Step>, AllocError>
+fn next_step(
+    before: &Past,
+    version: Version,
+    entry: &Entry,
+) -> Result<Option<FoundStep>, AllocError>
     ensures next { (so_far : List Entry)
         → AreStepsOf version before.now.config.now so_far before.now.steps.now
         → entry.now.at ≡ length so_far
@@ -61,7 +65,7 @@ fn next_step(before: &Past, version: Version, entry: &Entry) -> Result<Option<St
 }
 
 /// Puts a step behind all others.
-fn put_last(steps: &mut Vec<Step>, step: Step) -> Result<(), AllocError>
+fn put_last(steps: &mut Vec<FoundStep>, step: FoundStep) -> Result<(), AllocError>
     ensures { OnOk result (steps.new.items ≡ steps.old.items ++ step ∷ []) }
 {
     steps.push(step)?;
@@ -69,9 +73,9 @@ fn put_last(steps: &mut Vec<Step>, step: Step) -> Result<(), AllocError>
 }
 
 /// Whether the journal is legal for the configuration, under its own version of the rules. Each
-/// definition of the rules is a small function here that reads it off the entries before, and no
-/// cluster is made; so the time grows with a power of the number of entries, and journals of more
-/// than some hundred entries are for `replay`, which has the same contract.
+/// definition of the rules is a small function that reads it off the entries before, so the time
+/// grows with a power of the number of entries. `replay` has the same contract, for journals of
+/// more than some hundred entries.
 ///
 /// # Errors
 ///
@@ -79,7 +83,7 @@ fn put_last(steps: &mut Vec<Step>, step: Step) -> Result<(), AllocError>
 /// version doesn't have, or whose place is the journal limit. `NoMemory`, in place of any answer,
 /// where there is no memory for what is read off.
 pub fn check(alloc: Global, config: &Config, journal: &Journal) -> Result<(), CheckFault>
-    ensures { CheckAnswers journal.now.version config.now journal.now.entries result }
+    ensures { ChecksOrOom journal.now.version config.now journal.now.entries result }
 {
     laws::versions();
     journal.invariant();

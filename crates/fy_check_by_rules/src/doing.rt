@@ -6,41 +6,28 @@ ghost use Rattle.fy_decide.specs.Verdicts.{targets};
 ghost use Rattle.fy_cluster.specs.Setup.{Setup};
 ghost use Rattle.fy_net.specs.declared.message.Body.TheVariants.{Synced};
 ghost use Rattle.fy_cluster.specs.declared.config.TheConstants.{MOST_JOURNAL_ENTRIES};
-ghost use Rattle.fy_cluster.specs.History.{History, left, targets_of, message_of, sends_of, stores_of, words_of, members_of, records, unsynced, sent, moment};
-ghost use Rattle.fy_check_by_rules.specs.Past.{moment_of, history_of};
+ghost use Rattle.fy_cluster.specs.History.{History, left, targets_of, message_of, sends_of, stores_of, acks_of, members_of, records, unsynced, sent, step_of};
+ghost use Rattle.fy_check_by_rules.specs.Past.{as_step, history_of};
 
 use crate::network::sent;
 use crate::past::Past;
-use crate::step::Step;
+use crate::step::FoundStep;
 use crate::strikes::targets;
 use crate::teams::{members_of, teams_of_records};
-use crate::views::is_accepted;
 use crate::writes::unsynced;
+use fy_cluster::effects::{is_accepted, target_of};
 use fy_journal::{Act, Entry};
 use fy_kinds::Target;
 use fy_locality::{ProcId, ProcSet};
 use fy_net::Body;
 use std::alloc::{AllocError, Global};
 
-/// The target of an act, if it has one.
-fn target_in(act: &Act) -> Option<Target>
-    ensures { (c : Setup) (h : History) (p : ℕ) → targets_of c h act.now p
-        ≡ option_map_or (λ target. targets c.processes (left c h) target p) result false }
-{
-    match *act {
-        Act::Kill { order } => Some(order.target()),
-        Act::Clog { target, .. } => Some(target),
-        Act::Unclog { target } => Some(target),
-        _ => None,
-    }
-}
-
 /// Whom the act's target names.
 fn targets_of(before: &Past, act: &Act) -> ProcSet
     ensures { (p : ℕ) → sets.contains result p
         ≡ targets_of before.now.config.now (history_of before.now) act.now p }
 {
-    match target_in(act) {
+    match target_of(act) {
         Some(target) => targets(before, &target),
         None => ProcSet::empty(),
     }
@@ -76,7 +63,7 @@ fn stores_of(alloc: Global, rec: u32, processes: &[ProcId]) -> Result<Vec<Body>,
 }
 
 /// The process's word of each of these records.
-fn words_of(alloc: Global, process: ProcId, records: &[u32]) -> Result<Vec<Body>, AllocError>
+fn acks_of(alloc: Global, process: ProcId, records: &[u32]) -> Result<Vec<Body>, AllocError>
     ensures { IfOk result (λ words. words.items ≡ map (λ rec. Synced rec process) records.now) }
 {
     records
@@ -103,10 +90,10 @@ fn begin_sends(before: &Past, team: u32) -> Result<Vec<Body>, AllocError>
 /// What a Sync sends: a word of each unsynced write.
 fn sync_sends(before: &Past, process: ProcId) -> Result<Vec<Body>, AllocError>
     ensures { IfOk result (λ words. words.items
-        ≡ words_of process (unsynced (history_of before.now) process.0)) }
+        ≡ acks_of process (unsynced (history_of before.now) process.0)) }
 {
     let records = unsynced(before, process)?;
-    let words = words_of(before.alloc, process, &records)?;
+    let words = acks_of(before.alloc, process, &records)?;
     Ok(words)
 }
 
@@ -131,10 +118,10 @@ fn sends_of(before: &Past, act: &Act) -> Result<Vec<Body>, AllocError>
 }
 
 /// The entry with what it did.
-pub(crate) fn step_of(before: &Past, entry: &Entry) -> Result<Step, AllocError>
+pub(crate) fn step_of(before: &Past, entry: &Entry) -> Result<FoundStep, AllocError>
     requires few { length before.now.steps.now ≤ MOST_JOURNAL_ENTRIES }
-    ensures { IfOk result (λ step. moment_of (history_of before.now) step
-        ≡ moment before.now.config.now (history_of before.now) entry.now) }
+    ensures { IfOk result (λ step. as_step (history_of before.now) step
+        ≡ step_of before.now.config.now (history_of before.now) entry.now) }
 {
     let targets = targets_of(before, &entry.act);
     let message = message_of(before, &entry.act)?;
@@ -149,7 +136,7 @@ pub(crate) fn step_of(before: &Past, entry: &Entry) -> Result<Step, AllocError>
         act: entry.act.try_copy(before.alloc)?,
         reply: entry.reply,
     };
-    Ok(Step {
+    Ok(FoundStep {
         entry,
         targets,
         message,

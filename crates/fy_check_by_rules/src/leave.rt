@@ -4,18 +4,18 @@ ghost use Rattle.fy_kinds.specs.Kinds.{only};
 ghost use Rattle.fy_grants.specs.Rights.{is_in_scope, is_granted, is_covered};
 ghost use Rattle.fy_check_by_rules.specs.Deeds.{deed_of};
 
-use crate::asked::Asked;
+use crate::asked::AskedDeed;
 use fy_grants::{Grant, Scope};
 use fy_kinds::KindSet;
 use fy_locality::{Map, ProcId};
 
-/// The set of it alone.
-fn alone(asked: Asked) -> KindSet
+/// The set of this one deed.
+fn alone(asked: AskedDeed) -> KindSet
     ensures { result ≡ only (deed_of asked) }
 {
     match asked {
-        Asked::Strike(kind) => KindSet::of(kind),
-        Asked::Clog => KindSet::of_clog(),
+        AskedDeed::Strike(kind) => KindSet::of(kind),
+        AskedDeed::Clog => KindSet::of_clog(),
     }
 }
 
@@ -37,7 +37,7 @@ fn is_granted(map: &Map, grant: Grant, kinds: KindSet, p: ProcId) -> bool
 }
 
 /// Whether one of the grants is for what is asked and covers the process.
-pub(crate) fn is_covered(map: &Map, grants: &[Grant], asked: Asked, p: ProcId) -> bool
+pub(crate) fn is_covered(map: &Map, grants: &[Grant], asked: AskedDeed, p: ProcId) -> bool
     ensures { result ≡ is_covered map.now grants.now (only (deed_of asked)) p.0 }
 {
     let kinds = alone(asked);

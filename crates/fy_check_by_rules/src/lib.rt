@@ -1,5 +1,5 @@
-//! Whether a journal is what the rules give, by the definitions: each definition of the rules is
-//! read off the entries before, and no cluster is made. The contract is that of `fy_check::replay`.
+//! Checks a journal by the definitions of the rules: each is a small function that reads it off the
+//! entries before. There is no cluster. The contract is that of `fy_check::replay`.
 //!
 //! - `checking`: a journal, one entry after another, each with its `Past`.
 //! - `reply`: the reply to an act, a file for each group of acts: `kills` (Kill, Clog, Unclog),
@@ -8,7 +8,7 @@
 //! - `rules`: the five rules and the verdict on an order, over `leave` and `policies`.
 //! - `doing`: what an entry did.
 //! - `strikes`, `writes`, `teams`, `marks`, `needs`, `network`, `clock`, `rights`: what the entries
-//!   before say. `views`: what one entry says.
+//!   before say. What one entry did is `fy_cluster::effects`.
 //!
 //! A private function that answers a `Result` fails in one way: with `AllocError`, where there is
 //! no memory for a list that it reads off.
@@ -30,7 +30,6 @@ mod rules;
 mod step;
 mod strikes;
 mod teams;
-mod views;
 mod writes;
 
 pub use checking::check;

@@ -4,21 +4,21 @@
 ghost use Rattle.std.specs.Prelude.{◌≡◌, ◌==◌, ◌&&◌, ◌||◌, not, ℕ, [], IfOk};
 ghost use Rattle.std.specs.List.{list_all};
 ghost use Rattle.fy_team.specs.Teams.{is_among};
-ghost use Rattle.fy_cluster.specs.History.{some_is, marks, tells, heals_at, marked_after, marked, acked};
+ghost use Rattle.fy_cluster.specs.History.{some_is, marks, delivers_ack_of, heals_at, marked_after, marked, acked};
 ghost use Rattle.fy_cluster.specs.Replies.{is_acked_with};
-ghost use Rattle.fy_check_by_rules.specs.Past.{moment_of, history_of};
+ghost use Rattle.fy_check_by_rules.specs.Past.{as_step, history_of};
 
 use crate::past::Past;
-use crate::step::Step;
+use crate::step::FoundStep;
 use crate::teams::{members_for, without};
-use crate::views::{delivers, heals};
+use fy_cluster::effects::{delivers, heals};
 use fy_locality::ProcId;
 use fy_net::Body;
 use std::alloc::{AllocError, Global};
 
 /// Whether the step delivered a Synced of the record, whoever sent it.
-fn tells(step: &Step, rec: u32) -> bool
-    ensures { result ≡ tells (moment_of [] step.now) rec }
+fn delivers_ack_of(step: &FoundStep, rec: u32) -> bool
+    ensures { result ≡ delivers_ack_of (as_step [] step.now) rec }
 {
     if delivers(&step.entry).is_none() {
         return false;
@@ -44,8 +44,8 @@ pub(crate) fn is_among(processes: &[ProcId], p: ProcId) -> bool
 }
 
 /// The process from which the step delivered a Synced of the record.
-fn teller(step: &Step, rec: u32) -> Option<ProcId>
-    ensures { (p : ℕ) → marks (moment_of [] step.now) rec p ≡ some_is (λ q. q.0 == p) result }
+fn teller(step: &FoundStep, rec: u32) -> Option<ProcId>
+    ensures { (p : ℕ) → marks (as_step [] step.now) rec p ≡ some_is (λ q. q.0 == p) result }
 {
     if delivers(&step.entry).is_none() {
         return None;
@@ -58,9 +58,9 @@ fn teller(step: &Step, rec: u32) -> Option<ProcId>
 
 /// Those that keep their mark through the step: a healed process loses it, but of an acknowledged
 /// record.
-fn still_marked(alloc: Global, step: &Step, were: &Marks) -> Result<Vec<ProcId>, AllocError>
+fn still_marked(alloc: Global, step: &FoundStep, were: &Marks) -> Result<Vec<ProcId>, AllocError>
     ensures { IfOk result (λ list. (p : ℕ) → is_among list.items p
-        ≡ (not (heals_at (moment_of [] step.now) p && not were.now.acked)
+        ≡ (not (heals_at (as_step [] step.now) p && not were.now.acked)
         && is_among were.now.marked.items p)) }
 {
     match heals(&step.entry) {
@@ -75,12 +75,12 @@ fn still_marked(alloc: Global, step: &Step, were: &Marks) -> Result<Vec<ProcId>,
 /// Those that have a mark after the step.
 fn marked_then(
     alloc: Global,
-    step: &Step,
+    step: &FoundStep,
     rec: u32,
     were: &Marks,
 ) -> Result<Vec<ProcId>, AllocError>
     ensures { IfOk result (λ list. (p : ℕ) → is_among list.items p
-        ≡ marked_after (moment_of [] step.now) rec p were.now.acked
+        ≡ marked_after (as_step [] step.now) rec p were.now.acked
         (is_among were.now.marked.items p)) }
 {
     let mut list = still_marked(alloc, step, were)?;
@@ -128,7 +128,7 @@ pub(crate) fn marks_of(before: &Past, rec: u32) -> Result<Marks, AllocError>
         };
         let members = members_for(&then, rec)?;
         let marked = marked_then(alloc, step, rec, &marks)?;
-        let acked = acked_then(marks.acked, tells(step, rec), &members, &marked);
+        let acked = acked_then(marks.acked, delivers_ack_of(step, rec), &members, &marked);
         marks = Marks { marked, acked };
     }
     Ok(marks)

@@ -2,14 +2,14 @@
 #![tactic(auto, using(crate::proofs::Pasts::past_next, crate::proofs::Pasts::past_none))]
 
 ghost use Rattle.std.specs.Prelude.{◌≡◌, IfOk};
-ghost use Rattle.fy_net.specs.Net.{is_word_from};
-ghost use Rattle.fy_cluster.specs.History.{History, some_is, sent, is_taken, in_flight, in_flight_count};
+ghost use Rattle.fy_net.specs.Net.{is_ack_from};
+ghost use Rattle.fy_cluster.specs.History.{History, some_is, sent, is_removed, in_flight, in_flight_count};
 ghost use Rattle.fy_cluster.specs.Replies.{is_full};
-ghost use Rattle.fy_check_by_rules.specs.Past.{moment_of, history_of};
+ghost use Rattle.fy_check_by_rules.specs.Past.{as_step, history_of};
 
 use crate::past::Past;
-use crate::step::Step;
-use crate::views::is_accepted;
+use crate::step::FoundStep;
+use fy_cluster::effects::is_accepted;
 use fy_journal::Act;
 use fy_locality::ProcId;
 use fy_net::{Body, MOST_IN_FLIGHT};
@@ -27,8 +27,8 @@ pub(crate) fn sent(before: &Past) -> Result<Vec<Body>, AllocError>
 }
 
 /// Whether there is such a message and the process says it: it has synced a record.
-fn is_word_from(body: Option<Body>, p: ProcId) -> bool
-    ensures { result ≡ some_is (is_word_from p.0) body }
+fn is_ack_from(body: Option<Body>, p: ProcId) -> bool
+    ensures { result ≡ some_is (is_ack_from p.0) body }
 {
     match body {
         Some(Body::Synced { from, .. }) => from.0 == p.0,
@@ -38,9 +38,9 @@ fn is_word_from(body: Option<Body>, p: ProcId) -> bool
 
 /// Whether the step took the message out of the network: a Deliver or Lose the one that it names, a
 /// Heal each word that its process had sent. The messages sent before the step are given.
-fn takes_out(bodies: &[Body], step: &Step, message: u64) -> bool
+fn removes(bodies: &[Body], step: &FoundStep, message: u64) -> bool
     ensures { (h : History) → sent h ≡ bodies.now
-        → result ≡ (moment_of h step.now).takes_out message }
+        → result ≡ (as_step h step.now).removes message }
 {
     if !is_accepted(step.entry.reply) {
         return false;
@@ -48,19 +48,19 @@ fn takes_out(bodies: &[Body], step: &Step, message: u64) -> bool
     match step.entry.act {
         Act::Deliver { message: taken } => taken == message,
         Act::Lose { message: taken } => taken == message,
-        Act::Heal { process } => is_word_from(bodies.get(message as usize).copied(), process),
+        Act::Heal { process } => is_ack_from(bodies.get(message as usize).copied(), process),
         _ => false,
     }
 }
 
 /// Whether some step took the message out of the network.
-fn is_taken(before: &Past, message: u64) -> Result<bool, AllocError>
-    ensures { IfOk result (λ taken. taken ≡ is_taken (history_of before.now) message) }
+fn is_removed(before: &Past, message: u64) -> Result<bool, AllocError>
+    ensures { IfOk result (λ taken. taken ≡ is_removed (history_of before.now) message) }
 {
     let mut sent = Vec::new(before.alloc);
     let mut taken = false;
     for step in before.steps {
-        taken = takes_out(&sent, step, message) || taken;
+        taken = removes(&sent, step, message) || taken;
         sent.extend_from_slice(&step.sends)?;
     }
     Ok(taken)
@@ -74,7 +74,7 @@ pub(crate) fn in_flight(before: &Past, message: u64) -> Result<bool, AllocError>
     if message as usize >= count {
         return Ok(false);
     }
-    Ok(!is_taken(before, message)?)
+    Ok(!is_removed(before, message)?)
 }
 
 /// How many messages are in flight.

@@ -1,5 +1,5 @@
-//! What the definitions of the rules are read off.
-use crate::step::Step;
+//! The entries before, from which the definitions of the rules are read off.
+use crate::step::FoundStep;
 use fy_cluster::Config;
 use std::alloc::Global;
 
@@ -9,5 +9,5 @@ use std::alloc::Global;
 pub(crate) struct Past<'a> {
     pub(crate) alloc: Global,
     pub(crate) config: &'a Config,
-    pub(crate) steps: &'a [Step],
+    pub(crate) steps: &'a [FoundStep],
 }

@@ -3,7 +3,7 @@ ghost use Rattle.std.specs.Prelude.{◌≡◌, ◌==◌, ◌&&◌, ◌||◌, ℕ
 ghost use Rattle.std.specs.FinSet as sets;
 ghost use Rattle.fy_policy.specs.Sat.{satisfies};
 ghost use Rattle.fy_team.specs.Teams.{is_among};
-ghost use Rattle.fy_decide.specs.Losses.{first_satisfied, first_short};
+ghost use Rattle.fy_decide.specs.Safety.{first_satisfied, first_short};
 ghost use Rattle.fy_cluster.specs.Replies.{meets};
 
 use fy_cluster::Config;

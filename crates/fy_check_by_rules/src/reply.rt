@@ -1,4 +1,4 @@
-//! The reply to whoever acts, from what the entries before say.
+//! The reply to an act, from what the entries before say.
 ghost use Rattle.std.specs.Prelude.{◌≡◌, ◌≤◌, length, IfOk};
 ghost use Rattle.fy_cluster.specs.declared.config.TheConstants.{MOST_JOURNAL_ENTRIES};
 ghost use Rattle.fy_cluster.specs.Replies.{reply};
@@ -57,7 +57,7 @@ fn allowed_reply(before: &Past, by: u32, act: &Act) -> Result<Reply, AllocError>
     }
 }
 
-/// The reply to an act of whoever acts: a stranger and an actor of another role are refused first.
+/// The reply to an act. An unknown actor, or one whose role may not make the act, is refused first.
 pub(crate) fn reply(before: &Past, by: u32, act: &Act) -> Result<Reply, AllocError>
     requires few { length before.now.steps.now ≤ MOST_JOURNAL_ENTRIES }
     ensures { IfOk result (λ answer. answer

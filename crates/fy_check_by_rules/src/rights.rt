@@ -2,16 +2,16 @@
 #![tactic(auto, using(crate::proofs::Pasts::past_next, crate::proofs::Pasts::past_none))]
 
 ghost use Rattle.std.specs.Prelude.{◌≡◌, option_map, IfOk, OnOk};
-ghost use Rattle.fy_cluster.specs.History.{gives, takes};
+ghost use Rattle.fy_cluster.specs.History.{gives, takes_grant};
 ghost use Rattle.fy_cluster.specs.Rules.{grants_to, with_given, without_taken, grants, changes, some_protects, is_protected};
 ghost use Rattle.fy_cluster.specs.Replies.{grant_count};
 ghost use Rattle.fy_check_by_rules.specs.Past.{history_of};
 ghost use Rattle.fy_check_by_rules.specs.Deeds.{deed_of};
 
-use crate::asked::Asked;
+use crate::asked::AskedDeed;
 use crate::past::Past;
-use crate::views::{gives, protects, takes, unprotects};
 use fy_cluster::Protection;
+use fy_cluster::effects::{gives, protects, takes_grant, unprotects};
 use fy_grants::Grant;
 use fy_journal::Entry;
 use fy_kinds::KindSet;
@@ -49,9 +49,9 @@ fn put_given(own: &mut Vec<Grant>, actor: u32, entry: &Entry) -> Result<(), Allo
 #[tactic(auto, using(crate::proofs::Lists::remove_past))]
 fn close_taken(own: &mut Vec<Grant>, actor: u32, entry: &Entry)
     ensures { own.new.items
-        ≡ without_taken actor (takes entry.now.act entry.now.reply) own.old.items }
+        ≡ without_taken actor (takes_grant entry.now.act entry.now.reply) own.old.items }
 {
-    if let Some((from, index)) = takes(entry) {
+    if let Some((from, index)) = takes_grant(entry) {
         if from == actor && (index as usize) < own.len() {
             let _ = own.remove(index as usize);
         }
@@ -72,7 +72,7 @@ pub(crate) fn grants(before: &Past, actor: u32) -> Result<Vec<Grant>, AllocError
 }
 
 /// Whether the change names the process and what is asked.
-fn changes(p: ProcId, asked: Asked, change: Option<(ProcId, KindSet)>) -> bool
+fn changes(p: ProcId, asked: AskedDeed, change: Option<(ProcId, KindSet)>) -> bool
     ensures { result ≡ changes p.0 (deed_of asked) (option_map (λ it. (it.0.0, it.1)) change) }
 {
     match change {
@@ -82,7 +82,7 @@ fn changes(p: ProcId, asked: Asked, change: Option<(ProcId, KindSet)>) -> bool
 }
 
 /// Whether one of the protections is of the process and from what is asked.
-fn some_protects(protections: &[Protection], p: ProcId, asked: Asked) -> bool
+fn some_protects(protections: &[Protection], p: ProcId, asked: AskedDeed) -> bool
     ensures { result ≡ some_protects protections.now p.0 (deed_of asked) }
 {
     protections
@@ -92,7 +92,7 @@ fn some_protects(protections: &[Protection], p: ProcId, asked: Asked) -> bool
 
 /// Whether the process is protected from what is asked: the last change of the two says so, or else
 /// the configuration.
-pub(crate) fn is_protected(before: &Past, p: ProcId, asked: Asked) -> bool
+pub(crate) fn is_protected(before: &Past, p: ProcId, asked: AskedDeed) -> bool
     ensures { result
         ≡ is_protected before.now.config.now (history_of before.now) p.0 (deed_of asked) }
 {

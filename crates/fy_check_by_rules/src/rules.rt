@@ -13,7 +13,7 @@ ghost use Rattle.fy_check_by_rules.specs.Cases.{situation_of};
 ghost use Rattle.fy_check_by_rules.specs.Past.{history_of};
 ghost use Rattle.fy_check_by_rules.specs.Deeds.{deed_of};
 
-use crate::asked::Asked;
+use crate::asked::AskedDeed;
 use crate::leave::is_covered;
 use crate::past::Past;
 use crate::policies::{first_satisfied, first_short};
@@ -41,7 +41,7 @@ fn has_target(map: &Map, targets: &ProcSet) -> bool
 }
 
 /// The least target that no grant with the deed covers.
-fn least_uncovered(map: &Map, own: &[Grant], asked: Asked, targets: &ProcSet) -> Option<u32>
+fn least_uncovered(map: &Map, own: &[Grant], asked: AskedDeed, targets: &ProcSet) -> Option<u32>
     ensures { result ≡ least_with (length map.now) (sets.contains targets.now)
         (λ p. not (is_covered map.now own.now (only (deed_of asked)) p)) }
 {
@@ -50,7 +50,7 @@ fn least_uncovered(map: &Map, own: &[Grant], asked: Asked, targets: &ProcSet) ->
 }
 
 /// The least target that is protected from the deed.
-fn least_protected(before: &Past, asked: Asked, targets: &ProcSet) -> Option<u32>
+fn least_protected(before: &Past, asked: AskedDeed, targets: &ProcSet) -> Option<u32>
     ensures { result ≡ least_with (length before.now.config.now.processes)
         (sets.contains targets.now)
         (λ p. is_protected before.now.config.now (history_of before.now) p (deed_of asked)) }
@@ -79,7 +79,7 @@ impl Case<'_> {
     }
 
     /// The second rule: no grant of the actor's that has the deed covers a target. The least such.
-    fn no_grant(&self, asked: Asked, targets: &ProcSet) -> Result<Option<Rule>, AllocError>
+    fn no_grant(&self, asked: AskedDeed, targets: &ProcSet) -> Result<Option<Rule>, AllocError>
         ensures { IfOk result (λ rule. rule ≡ option_map NoGrant
             (least (situation_of self.now) (sets.contains targets.now)
             (λ p. not (is_granted_to (situation_of self.now) (deed_of asked) p)))) }
@@ -92,7 +92,7 @@ impl Case<'_> {
     }
 
     /// The third rule: a target is protected from the deed. The least such.
-    fn protected(&self, asked: Asked, targets: &ProcSet) -> Option<Rule>
+    fn protected(&self, asked: AskedDeed, targets: &ProcSet) -> Option<Rule>
         ensures { result ≡ option_map Protected
             (least (situation_of self.now) (sets.contains targets.now)
             (λ p. (situation_of self.now).is_protected p (deed_of asked))) }
@@ -114,7 +114,7 @@ impl Case<'_> {
 
     /// The fourth rule: the deed destroys, and the destroyed with the targets satisfy a policy. The
     /// least such.
-    fn too_many_destroyed(&self, asked: Asked, targets: &ProcSet) -> Option<Rule>
+    fn too_many_destroyed(&self, asked: AskedDeed, targets: &ProcSet) -> Option<Rule>
         ensures { result ≡ (if is_kill_which is_destroying (deed_of asked)
             then option_map TooManyDestroyed
             (too_many_destroyed (situation_of self.now) (sets.contains targets.now)) else None) }
@@ -138,7 +138,7 @@ impl Case<'_> {
 
     /// The fifth rule: the deed destroys for good, and those left without the targets are short of
     /// a policy. The least such.
-    fn too_few_left(&self, asked: Asked, targets: &ProcSet) -> Option<Rule>
+    fn too_few_left(&self, asked: AskedDeed, targets: &ProcSet) -> Option<Rule>
         ensures { result ≡ (if is_kill_which destroys_for_good (deed_of asked)
             then option_map TooFewLeft
             (too_few_left (situation_of self.now) (sets.contains targets.now)) else None) }
@@ -153,7 +153,7 @@ impl Case<'_> {
     }
 
     /// The bar of a deed: the first of the five rules that bars it.
-    fn bar(&self, asked: Asked, targets: &ProcSet) -> Result<Option<Rule>, AllocError>
+    fn bar(&self, asked: AskedDeed, targets: &ProcSet) -> Result<Option<Rule>, AllocError>
         ensures { IfOk result (λ rule. rule
             ≡ bar (situation_of self.now) (deed_of asked) (sets.contains targets.now)) }
     {
@@ -182,7 +182,7 @@ impl Case<'_> {
         ensures { IfOk result (λ may. may ≡ (is_allowed order.now kind && is_none
             (bar (situation_of self.now) (Striking kind) (sets.contains targets.now)))) }
     {
-        let rule = self.bar(Asked::Strike(kind), targets)?;
+        let rule = self.bar(AskedDeed::Strike(kind), targets)?;
         Ok(is_allowed(order, kind) && rule.is_none())
     }
 
@@ -206,7 +206,7 @@ impl Case<'_> {
     {
         let targets = targets(self.before, &order.target());
         let struck = self.hardest(order, &targets)?;
-        let rule = self.bar(Asked::Strike(order.kind()), &targets)?;
+        let rule = self.bar(AskedDeed::Strike(order.kind()), &targets)?;
         Ok(Verdict { struck, rule })
     }
 
@@ -216,7 +216,7 @@ impl Case<'_> {
             (targets (situation_of self.now).processes (situation_of self.now).left target.now)) }
     {
         let targets = targets(self.before, target);
-        let rule = self.bar(Asked::Clog, &targets)?;
+        let rule = self.bar(AskedDeed::Clog, &targets)?;
         Ok(rule)
     }
 }

@@ -5,7 +5,7 @@ use fy_net::Body;
 
 /// An entry with what it did, found from the entries before it.
 #[derive(Drop)]
-pub(crate) struct Step {
+pub(crate) struct FoundStep {
     pub(crate) entry: Entry,
     /// Whom its target names.
     pub(crate) targets: ProcSet,

@@ -6,17 +6,17 @@ ghost use Rattle.std.specs.FinSet as sets;
 ghost use Rattle.fy_decide.specs.Verdicts.{targets};
 ghost use Rattle.fy_kinds.specs.Kinds.{destroys_for_good};
 ghost use Rattle.fy_cluster.specs.History.{some_is, strikes, destroys, heals_at, ups, destroyed, gone, left, up};
-ghost use Rattle.fy_check_by_rules.specs.Past.{moment_of, history_of};
+ghost use Rattle.fy_check_by_rules.specs.Past.{as_step, history_of};
 
 use crate::past::Past;
-use crate::step::Step;
-use crate::views::{heals, struck_by, ups};
+use crate::step::FoundStep;
+use fy_cluster::effects::{heals, struck_by, ups};
 use fy_kinds::{Kind, Target};
 use fy_locality::{ProcId, ProcSet};
 
 /// The kind by which the step struck the process.
-pub(crate) fn strikes(step: &Step, p: ProcId) -> Option<Kind>
-    ensures { result ≡ strikes (moment_of [] step.now) p.0 }
+pub(crate) fn strikes(step: &FoundStep, p: ProcId) -> Option<Kind>
+    ensures { result ≡ strikes (as_step [] step.now) p.0 }
 {
     if step.targets.contains(p) {
         struck_by(&step.entry)
@@ -26,8 +26,8 @@ pub(crate) fn strikes(step: &Step, p: ProcId) -> Option<Kind>
 }
 
 /// Whether the step struck the process by a destroying kind.
-pub(crate) fn destroys(step: &Step, p: ProcId) -> bool
-    ensures { result ≡ destroys (moment_of [] step.now) p.0 }
+pub(crate) fn destroys(step: &FoundStep, p: ProcId) -> bool
+    ensures { result ≡ destroys (as_step [] step.now) p.0 }
 {
     match strikes(step, p) {
         Some(kind) => kind.is_destroying(),
@@ -36,8 +36,8 @@ pub(crate) fn destroys(step: &Step, p: ProcId) -> bool
 }
 
 /// Whether the step struck the process by the kind that leaves nobody to come back.
-fn kills_for_good(step: &Step, p: ProcId) -> bool
-    ensures { result ≡ some_is destroys_for_good (strikes (moment_of [] step.now) p.0) }
+fn kills_for_good(step: &FoundStep, p: ProcId) -> bool
+    ensures { result ≡ some_is destroys_for_good (strikes (as_step [] step.now) p.0) }
 {
     match strikes(step, p) {
         Some(kind) => kind.destroys_for_good(),
@@ -46,8 +46,8 @@ fn kills_for_good(step: &Step, p: ProcId) -> bool
 }
 
 /// Whether the step healed the process.
-pub(crate) fn heals_at(step: &Step, p: ProcId) -> bool
-    ensures { result ≡ heals_at (moment_of [] step.now) p.0 }
+pub(crate) fn heals_at(step: &FoundStep, p: ProcId) -> bool
+    ensures { result ≡ heals_at (as_step [] step.now) p.0 }
 {
     match heals(&step.entry) {
         Some(healed) => healed.0 == p.0,
@@ -56,7 +56,7 @@ pub(crate) fn heals_at(step: &Step, p: ProcId) -> bool
 }
 
 /// Whether the step started the process.
-fn ups_at(step: &Step, p: ProcId) -> bool
+fn ups_at(step: &FoundStep, p: ProcId) -> bool
     ensures { result ≡ some_is (λ q. q == p.0) (ups step.now.entry.act step.now.entry.reply) }
 {
     match ups(&step.entry) {
@@ -66,9 +66,9 @@ fn ups_at(step: &Step, p: ProcId) -> bool
 }
 
 /// The set without the process that the step healed, if it healed one.
-fn without_healed(set: ProcSet, step: &Step) -> ProcSet
+fn without_healed(set: ProcSet, step: &FoundStep) -> ProcSet
     ensures { (p : ℕ) → sets.contains result p
-        ≡ (not (heals_at (moment_of [] step.now) p) && sets.contains set p) }
+        ≡ (not (heals_at (as_step [] step.now) p) && sets.contains set p) }
 {
     let mut set = set;
     set.invariant();
@@ -81,8 +81,8 @@ fn without_healed(set: ProcSet, step: &Step) -> ProcSet
 }
 
 /// The targets of the step, if it struck them by a destroying kind.
-fn destroyed_at(step: &Step) -> ProcSet
-    ensures { (p : ℕ) → sets.contains result p ≡ destroys (moment_of [] step.now) p }
+fn destroyed_at(step: &FoundStep) -> ProcSet
+    ensures { (p : ℕ) → sets.contains result p ≡ destroys (as_step [] step.now) p }
 {
     match struck_by(&step.entry) {
         Some(kind) => if kind.is_destroying() {
@@ -128,9 +128,9 @@ pub(crate) fn up(before: &Past, p: ProcId) -> bool
 }
 
 /// The targets of the step, if it struck them by the kind that leaves nobody to come back.
-fn killed_at(step: &Step) -> ProcSet
+fn killed_at(step: &FoundStep) -> ProcSet
     ensures { (p : ℕ) → sets.contains result p
-        ≡ some_is destroys_for_good (strikes (moment_of [] step.now) p) }
+        ≡ some_is destroys_for_good (strikes (as_step [] step.now) p) }
 {
     match struck_by(&step.entry) {
         Some(kind) => if kind.destroys_for_good() {

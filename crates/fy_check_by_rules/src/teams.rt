@@ -9,7 +9,7 @@ ghost use Rattle.fy_check_by_rules.specs.Past.{history_of};
 ghost use Rattle.fy_check_by_rules.specs.Formed.{team_of, swap_of};
 
 use crate::past::Past;
-use crate::views::is_accepted;
+use fy_cluster::effects::is_accepted;
 use fy_journal::{Act, Entry};
 use fy_locality::ProcId;
 use std::alloc::{AllocError, Global};
@@ -21,7 +21,7 @@ pub(crate) struct Team {
     pub(crate) policy: u32,
 }
 
-/// A member of a team goes, and a process comes in for it.
+/// A replacement in a team: who leaves, and who joins.
 #[derive(Clone, Copy)]
 pub(crate) struct Swap {
     pub(crate) team: u32,
@@ -29,7 +29,7 @@ pub(crate) struct Swap {
     pub(crate) into: ProcId,
 }
 
-/// All but one.
+/// The members without one of them.
 pub(crate) fn without(
     alloc: Global,
     members: &[ProcId],
@@ -44,21 +44,21 @@ pub(crate) fn without(
         .collect(alloc)
 }
 
-/// Those below a number.
+/// The members below a number.
 fn below(alloc: Global, members: &[ProcId], p: ProcId) -> Result<Vec<ProcId>, AllocError>
     ensures { IfOk result (λ list. list.items ≡ filter (λ q. nat_lt q.0 p.0) members.now) }
 {
     members.iter().copied().filter(|q| q.0 < p.0).collect(alloc)
 }
 
-/// Those above a number.
+/// The members above a number.
 fn above(alloc: Global, members: &[ProcId], p: ProcId) -> Result<Vec<ProcId>, AllocError>
     ensures { IfOk result (λ list. list.items ≡ filter (λ q. nat_lt p.0 q.0) members.now) }
 {
     members.iter().copied().filter(|q| q.0 > p.0).collect(alloc)
 }
 
-/// One list, a process, and another list.
+/// The processes of one list, a process, and those of another list.
 fn joined(low: Vec<ProcId>, p: ProcId, high: &[ProcId]) -> Result<Vec<ProcId>, AllocError>
     ensures { IfOk result (λ list. list.items ≡ low.items ++ p ∷ high.now) }
 {
@@ -68,7 +68,7 @@ fn joined(low: Vec<ProcId>, p: ProcId, high: &[ProcId]) -> Result<Vec<ProcId>, A
     Ok(list)
 }
 
-/// The members once one comes in for another.
+/// The members after a replacement.
 pub(crate) fn swapped(
     alloc: Global,
     members: &[ProcId],

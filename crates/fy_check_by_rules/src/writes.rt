@@ -2,15 +2,16 @@
 #![tactic(auto, using(crate::proofs::Pasts::past_next, crate::proofs::Pasts::past_none))]
 
 ghost use Rattle.std.specs.Prelude.{◌≡◌, ◌==◌, ◌<◌, ◌≤◌, ◌+◌, ◌++◌, [], length, map, find, ℕ, is_some, if◌then◌else◌, option_to_list, None, IfOk, OnOk};
-ghost use Rattle.fy_cluster.specs.History.{History, destroys, some_is, is_stored, is_closing, writes, syncs_at, strikes, closes, place, close_keeps, is_open, is_kept, synced, unsynced, has_synced};
+ghost use Rattle.fy_cluster.specs.History.{History, destroys, some_is, is_stored, is_closing, writes, syncs_at, strikes, closes, close_keeps, synced, unsynced, has_synced};
+ghost use Rattle.fy_check_by_rules.specs.Written.{place, is_open, is_kept};
 ghost use Rattle.std.specs.List.{list_any};
-ghost use Rattle.fy_check_by_rules.specs.Past.{moment_of, past, history_of};
+ghost use Rattle.fy_check_by_rules.specs.Past.{as_step, past, history_of};
 ghost use Rattle.fy_check_by_rules.specs.Later.{later_after};
 
 use crate::past::Past;
-use crate::step::Step;
+use crate::step::FoundStep;
 use crate::strikes::{destroys, strikes};
-use crate::views::{delivers, syncs, tear_of};
+use fy_cluster::effects::{delivers, syncs, tear_of};
 use fy_journal::Reply;
 use fy_kinds::Kind;
 use fy_locality::ProcId;
@@ -18,8 +19,8 @@ use fy_net::Body;
 use std::alloc::AllocError;
 
 /// The record that the step, a Deliver answered Stored, wrote to the process.
-fn writes(step: &Step, p: ProcId) -> Option<u32>
-    ensures { result ≡ writes (moment_of [] step.now) p.0 }
+fn writes(step: &FoundStep, p: ProcId) -> Option<u32>
+    ensures { result ≡ writes (as_step [] step.now) p.0 }
 {
     if delivers(&step.entry).is_none() || !is_stored(step.entry.reply) {
         return None;
@@ -41,8 +42,8 @@ fn is_stored(reply: Reply) -> bool
 }
 
 /// Whether the step is an accepted Sync of the process.
-fn syncs_at(step: &Step, p: ProcId) -> bool
-    ensures { result ≡ syncs_at (moment_of [] step.now) p.0 }
+fn syncs_at(step: &FoundStep, p: ProcId) -> bool
+    ensures { result ≡ syncs_at (as_step [] step.now) p.0 }
 {
     match syncs(&step.entry) {
         Some(synced) => synced.0 == p.0,
@@ -51,8 +52,8 @@ fn syncs_at(step: &Step, p: ProcId) -> bool
 }
 
 /// Whether the step struck the process by a kind that decides what becomes of unsynced writes.
-fn strikes_disk(step: &Step, p: ProcId) -> bool
-    ensures { result ≡ some_is is_closing (strikes (moment_of [] step.now) p.0) }
+fn strikes_disk(step: &FoundStep, p: ProcId) -> bool
+    ensures { result ≡ some_is is_closing (strikes (as_step [] step.now) p.0) }
 {
     match strikes(step, p) {
         Some(Kind::RebootProcess) | None => false,
@@ -61,18 +62,18 @@ fn strikes_disk(step: &Step, p: ProcId) -> bool
 }
 
 /// Whether the step decides what becomes of the unsynced writes to the process.
-fn closes(step: &Step, p: ProcId) -> bool
-    ensures { result ≡ closes p.0 (moment_of [] step.now) }
+fn closes(step: &FoundStep, p: ProcId) -> bool
+    ensures { result ≡ closes p.0 (as_step [] step.now) }
 {
     syncs_at(step, p) || strikes_disk(step, p)
 }
 
 /// How many writes to the process there were after the step since the last that closes, where so
 /// many were before it.
-fn place_after(step: &Step, p: ProcId, place: usize) -> usize
+fn place_after(step: &FoundStep, p: ProcId, place: usize) -> usize
     requires { place < 18446744073709551615 }
-    ensures place { result ≡ (if closes p.0 (moment_of [] step.now) then 0
-        else (if is_some (writes (moment_of [] step.now) p.0) then place + 1 else place)) }
+    ensures place { result ≡ (if closes p.0 (as_step [] step.now) then 0
+        else (if is_some (writes (as_step [] step.now) p.0) then place + 1 else place)) }
     ensures next { result ≤ place + 1 }
 {
     if closes(step, p) {
@@ -85,7 +86,7 @@ fn place_after(step: &Step, p: ProcId, place: usize) -> usize
 }
 
 /// How many writes to the process there were since the last step that closes.
-fn place(steps: &[Step], p: ProcId) -> usize
+fn place(steps: &[FoundStep], p: ProcId) -> usize
     ensures place { result ≡ place (past steps.now) p.0 }
     ensures few { result ≤ length steps.now }
 {
@@ -97,31 +98,31 @@ fn place(steps: &[Step], p: ProcId) -> usize
 }
 
 /// Whether the close keeps the write at this place.
-fn close_keeps(step: &Step, p: ProcId, place: usize) -> bool
-    ensures { result ≡ close_keeps p.0 place (moment_of [] step.now) }
+fn close_keeps(step: &FoundStep, p: ProcId, place: usize) -> bool
+    ensures { result ≡ close_keeps p.0 place (as_step [] step.now) }
 {
     syncs_at(step, p)
         || !destroys(step, p) && place < 64 && (tear_of(&step.entry) >> place) & 1 == 1
 }
 
 /// Whether one of these later steps closes a write to the process.
-fn some_closes(later: &[Step], p: ProcId) -> bool
-    ensures { result ≡ list_any (λ s. closes p.0 (moment_of [] s)) later.now }
+fn some_closes(later: &[FoundStep], p: ProcId) -> bool
+    ensures { result ≡ list_any (λ s. closes p.0 (as_step [] s)) later.now }
 {
     later.iter().any(|step| closes(step, p))
 }
 
 /// Whether none of these later steps closes a write to the process.
-fn is_open(later: &[Step], p: ProcId) -> bool
+fn is_open(later: &[FoundStep], p: ProcId) -> bool
     ensures { (h : History) (place : ℕ) → result ≡ is_open p.0 (later_after h later.now) place }
 {
     !some_closes(later, p)
 }
 
 /// Whether the first of these later steps that closes keeps the write at this place.
-fn first_keeps(later: &[Step], p: ProcId, place: usize) -> bool
-    ensures { result ≡ some_is (λ s. close_keeps p.0 place (moment_of [] s))
-        (find (λ s. closes p.0 (moment_of [] s)) later.now) }
+fn first_keeps(later: &[FoundStep], p: ProcId, place: usize) -> bool
+    ensures { result ≡ some_is (λ s. close_keeps p.0 place (as_step [] s))
+        (find (λ s. closes p.0 (as_step [] s)) later.now) }
 {
     for step in later {
         if closes(step, p) {
@@ -132,24 +133,24 @@ fn first_keeps(later: &[Step], p: ProcId, place: usize) -> bool
 }
 
 /// Whether one of these later steps struck the process by a destroying kind.
-fn some_destroys(later: &[Step], p: ProcId) -> bool
-    ensures { result ≡ list_any (λ s. destroys (moment_of [] s) p.0) later.now }
+fn some_destroys(later: &[FoundStep], p: ProcId) -> bool
+    ensures { result ≡ list_any (λ s. destroys (as_step [] s) p.0) later.now }
 {
     later.iter().any(|step| destroys(step, p))
 }
 
 /// Whether the write at this place was kept at its close, and no destroying strike came after it.
 #[tactic(auto, using(crate::proofs::Written::kept_later))]
-fn is_kept(later: &[Step], p: ProcId, place: usize) -> bool
+fn is_kept(later: &[FoundStep], p: ProcId, place: usize) -> bool
     ensures { (h : History) → result ≡ is_kept p.0 (later_after h later.now) place }
 {
     first_keeps(later, p, place) && !some_destroys(later, p)
 }
 
 /// The record that the step wrote to the process, if it was kept.
-fn kept_write(step: &Step, later: &[Step], p: ProcId, place: usize) -> Option<u32>
+fn kept_write(step: &FoundStep, later: &[FoundStep], p: ProcId, place: usize) -> Option<u32>
     ensures { (h : History) → result ≡ (if is_kept p.0 (later_after h later.now) place
-        then writes (moment_of [] step.now) p.0 else None) }
+        then writes (as_step [] step.now) p.0 else None) }
 {
     if !is_kept(later, p, place) {
         return None;
@@ -158,10 +159,10 @@ fn kept_write(step: &Step, later: &[Step], p: ProcId, place: usize) -> Option<u3
 }
 
 /// The record that the step wrote to the process, if nothing closed it.
-fn open_write(step: &Step, later: &[Step], p: ProcId) -> Option<u32>
+fn open_write(step: &FoundStep, later: &[FoundStep], p: ProcId) -> Option<u32>
     ensures { (h : History) (place : ℕ) → result
         ≡ (if is_open p.0 (later_after h later.now) place
-        then writes (moment_of [] step.now) p.0 else None) }
+        then writes (as_step [] step.now) p.0 else None) }
 {
     if !is_open(later, p) {
         return None;

@@ -10,12 +10,12 @@ use Rattle.std.specs.Option.{MatchOption}
 use Rattle.fy_net.specs.declared.message.Body.{Body}
 use Rattle.fy_net.specs.declared.message.Body.TheVariants.{Store, Synced}
 use Rattle.fy_net.specs.declared.message.Message.{Message}
-use Rattle.fy_net.specs.Net.{Traffic, process_of, body_of, is_clogged, is_reached, is_free, first_free_of}
+use Rattle.fy_net.specs.Net.{NetState, process_of, body_of, is_clogged, receiver_is_up, is_free, first_free_of}
 use Rattle.fy_cluster.specs.declared.machine.Machine.{Machine}
 use Rattle.fy_cluster.specs.Setup.{Setup}
-use Rattle.fy_cluster.specs.History.{History, sent, is_taken, in_flight, clogged}
+use Rattle.fy_cluster.specs.History.{History, sent, is_removed, in_flight, clogged}
 use Rattle.fy_cluster.specs.Replies.{refusals, is_down_store}
-use Rattle.fy_cluster.specs.Standing.{Stands, numbered}
+use Rattle.fy_cluster.specs.Standing.{Refines, numbered}
 use Rattle.fy_cluster.specs.Sights.{is_deliverable, LeastNumber}
 use Rattle.fy_cluster.proofs.Delivered.{clog_is}
 use Rattle.fy_cluster.proofs.Flights.{body_flying}
@@ -80,7 +80,7 @@ found_is_known P f (y ∷ ys) a x e = at (f y) (found_is_known P f ys a.1 x) e
     at false later e = later e
 
 -- a message that the network has is of a process that is there
-body_known : (net : Traffic) → All (λ message. process_of message.body < length net.until) net.in_flight → (n : ℕ) (b : Body) → body_of net.in_flight n ≡ Some b → process_of b < length net.until
+body_known : (net : NetState) → All (λ message. process_of message.body < length net.until) net.in_flight → (n : ℕ) (b : Body) → body_of net.in_flight n ≡ Some b → process_of b < length net.until
 body_known net known n b e = at (find (λ message. message.number == n) net.in_flight) refl e
   where
     at : (o : Option Message) → find (λ message. message.number == n) net.in_flight ≡ o → option_map (λ (x : Message). x.body) o ≡ Some b → process_of b < length net.until
@@ -89,7 +89,7 @@ body_known net known n b e = at (find (λ message. message.number == n) net.in_f
         let there = found_is_known (λ (x : Message). process_of x.body < length net.until) (λ message. message.number == n) net.in_flight (recursion_from_All _ net.in_flight known) x w in
         subst (λ b. process_of b < length net.until) (some_is_same x.body b e) there
 
-down_is : (c : Setup) (h : History) (m : Machine) → Stands c h m → (b : Body) → process_of b < length c.processes → is_down_store h b ≡ not (is_reached (sets.contains m.up) b)
+down_is : (c : Setup) (h : History) (m : Machine) → Refines c h m → (b : Body) → process_of b < length c.processes → is_down_store h b ≡ not (receiver_is_up (sets.contains m.up) b)
 down_is c h m k (Store rec to) l = ap not (sym (k.up.each to.0 l))
 down_is c h m k (Synced rec from) l = refl
 
@@ -100,20 +100,20 @@ all_of false true = refl
 all_of false false = refl
 
 -- a message may be delivered just where the network has it and lets it through
-free_is : (c : Setup) (h : History) (m : Machine) → Stands c h m → All (λ message. process_of message.body < length m.net.until) m.net.in_flight → (n : ℕ) (b : Body) → slice_get (sent h) n ≡ Some b
-    → is_deliverable c h n ≡ (not (is_taken h n) && is_free m.net (sets.contains m.up) (record { number = n; body = b }))
-free_is c h m k known n b s = at (not (is_taken h n)) refl
+free_is : (c : Setup) (h : History) (m : Machine) → Refines c h m → All (λ message. process_of message.body < length m.net.until) m.net.in_flight → (n : ℕ) (b : Body) → slice_get (sent h) n ≡ Some b
+    → is_deliverable c h n ≡ (not (is_removed h n) && is_free m.net (sets.contains m.up) (record { number = n; body = b }))
+free_is c h m k known n b s = at (not (is_removed h n)) refl
   where
     within : nat_lt n (length (sent h)) ≡ true
     within = let l = slice_get_within (sent h) n b s in grind (arith, nat_tests)
 
-    at : (kept : Bool) → not (is_taken h n) ≡ kept → is_deliverable c h n ≡ (kept && is_free m.net (sets.contains m.up) (record { number = n; body = b }))
+    at : (kept : Bool) → not (is_removed h n) ≡ kept → is_deliverable c h n ≡ (kept && is_free m.net (sets.contains m.up) (record { number = n; body = b }))
     at false e = not_in_flight c h n (ap₂ (λ a b. a && b) within e)
     at true e =
         let f : in_flight h n ≡ true = ap₂ (λ a b. a && b) within e in
         let there : process_of b < length m.net.until = body_known m.net known n b (ap (λ xs. body_of xs n) k.net.in_flight ∙ body_flying h n ∙ rw (f, s) refl) in
-        deliverable_by c h n b true (is_clogged m.net (process_of b)) (not (is_reached (sets.contains m.up) b)) f s (sym (clog_is c h m.net (process_of b) there k.net)) (down_is c h m k b (let n = k.net.count in omega arith))
-        ∙ all_of (is_clogged m.net (process_of b)) (is_reached (sets.contains m.up) b)
+        deliverable_by c h n b true (is_clogged m.net (process_of b)) (not (receiver_is_up (sets.contains m.up) b)) f s (sym (clog_is c h m.net (process_of b) there k.net)) (down_is c h m k b (let n = k.net.count in omega arith))
+        ∙ all_of (is_clogged m.net (process_of b)) (receiver_is_up (sets.contains m.up) b)
 
 -- ---- the least
 
@@ -121,7 +121,7 @@ from_zero : (test : ℕ → Bool) (o : Option ℕ) → LeastFrom 0 test o → Le
 from_zero test None none = λ n. none n (omega arith)
 from_zero test (Some n) least = record { passes = least.0; none_below = λ k l. least.1 k (omega arith) l }
 
-pub first_free_is : (c : Setup) (h : History) (m : Machine) → Stands c h m → All (λ message. process_of message.body < length m.net.until) m.net.in_flight → LeastNumber (is_deliverable c h) (first_free_of m.net (sets.contains m.up))
-first_free_is c h m k known = rw k.net.in_flight (from_zero (is_deliverable c h) _ (first_of (is_deliverable c h) (λ n. not (is_taken h n)) (is_free m.net (sets.contains m.up)) 0 (sent h)
+pub first_free_is : (c : Setup) (h : History) (m : Machine) → Refines c h m → All (λ message. process_of message.body < length m.net.until) m.net.in_flight → LeastNumber (is_deliverable c h) (first_free_of m.net (sets.contains m.up))
+first_free_is c h m k known = rw k.net.in_flight (from_zero (is_deliverable c h) _ (first_of (is_deliverable c h) (λ n. not (is_removed h n)) (is_free m.net (sets.contains m.up)) 0 (sent h)
     (λ n i b e s. let same : i ≡ n = omega arith in free_is c h m k known n b (subst (λ j. slice_get (sent h) j ≡ Some b) same s))
-    (λ n l. let out : nat_lt n (length (sent h)) ≡ false = grind (arith, nat_tests) in not_in_flight c h n (ap (λ b. b && not (is_taken h n)) out))))
+    (λ n l. let out : nat_lt n (length (sent h)) ≡ false = grind (arith, nat_tests) in not_in_flight c h n (ap (λ b. b && not (is_removed h n)) out))))

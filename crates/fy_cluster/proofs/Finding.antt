@@ -12,8 +12,8 @@ use Rattle.fy_acts.specs.declared.entry.Entry.{Entry}
 use Rattle.fy_cluster.specs.declared.machine.Machine.{Machine}
 use Rattle.fy_cluster.specs.Setup.{Setup}
 use Rattle.fy_cluster.specs.History.{History, history, members_for, acked, keeps, keeper}
-use Rattle.fy_disk.specs.Disk.{blank}
-use Rattle.fy_cluster.specs.Standing.{Stands, IsKept, stored}
+use Rattle.fy_disk.specs.Disk.{empty_disk}
+use Rattle.fy_cluster.specs.Standing.{Refines, RefinesJournal, stored}
 use Rattle.fy_cluster.specs.Sights.{keeps_on}
 use Rattle.fy_cluster.proofs.Keepers.{LeastFound, among_is, members_there, sound_after}
 use Rattle.fy_cluster.proofs.Records.{Tested, Sound, slice_get-each, slice_get-some}
@@ -81,10 +81,10 @@ least_same set test test' same (Some p) least = record {
 -- ---- the keeper
 
 -- what the machine says of a process
-keeps_is : (c : Setup) (h : History) (m : Machine) → Stands c h m → (rec p : ℕ) → p < length c.processes → keeps_on m rec p ≡ keeps h rec p
-keeps_is c h m k rec p l = ap₂ (λ a b. not a && b) (k.dead.destroyed p) (ap (λ (d : OnDisk). list_any (λ item. item.rec == rec) d.synced) (get_or_from_slice_get m.disks p (stored h p) blank (k.disks.each p l)))
+keeps_is : (c : Setup) (h : History) (m : Machine) → Refines c h m → (rec p : ℕ) → p < length c.processes → keeps_on m rec p ≡ keeps h rec p
+keeps_is c h m k rec p l = ap₂ (λ a b. not a && b) (k.dead.destroyed p) (ap (λ (d : OnDisk). list_any (λ item. item.rec == rec) d.synced) (get_or_from_slice_get m.disks p (stored h p) empty_disk (k.disks.each p l)))
 
-pub no_keeper : (c : Setup) (journal : List Entry) (m : Machine) (rec : ℕ) → IsKept c journal m → is_acked m.teams rec ≡ false → None ≡ keeper c (history c journal) rec
+pub no_keeper : (c : Setup) (journal : List Entry) (m : Machine) (rec : ℕ) → RefinesJournal c journal m → is_acked m.teams rec ≡ false → None ≡ keeper c (history c journal) rec
 no_keeper c journal m rec kept e =
     let not_acked : acked (history c journal) rec ≡ false = sym (kept.stands.teams.acked rec) ∙ e in
     sym (ap (λ b. if b then option_map {U = ProcId} (λ p. record { 0 = p }) (least_with (length c.processes) (is_among (members_for (history c journal) rec)) (keeps (history c journal) rec)) else None) not_acked)
@@ -93,7 +93,7 @@ by_number : (o : Option ProcId) → option_map {U = ProcId} (λ p. record { 0 = 
 by_number None = refl
 by_number (Some p) = refl
 
-pub keeper_is : Tested → LeastFound → (c : Setup) (journal : List Entry) (m : Machine) (rec team : ℕ) (members : List ProcId) (found : Option ProcId) → IsKept c journal m → is_acked m.teams rec ≡ true
+pub keeper_is : Tested → LeastFound → (c : Setup) (journal : List Entry) (m : Machine) (rec team : ℕ) (members : List ProcId) (found : Option ProcId) → RefinesJournal c journal m → is_acked m.teams rec ≡ true
     → Some team ≡ option_map (λ (it : Record). it.team) (slice_get m.teams.records rec) → Some members ≡ members_in m.teams team → Rising members → found ≡ find (λ p. keeps_on m rec p.0) members
     → found ≡ keeper c (history c journal) rec
 keeper_is tested least c journal m rec team members found kept e named there rising first =

@@ -5,8 +5,8 @@ use Rattle.std.specs.List.{range_with_len}
 use Rattle.fy_net.specs.declared.message.Body.{Body}
 use Rattle.fy_net.specs.declared.message.Message.{Message}
 use Rattle.fy_net.specs.Net.{body_of, without}
-use Rattle.fy_cluster.specs.History.{History, sent, is_taken, Moment, in_flight, in_flight_count}
-use Rattle.fy_cluster.specs.Standing.{numbered, flying}
+use Rattle.fy_cluster.specs.History.{History, sent, is_removed, Step, in_flight, in_flight_count}
+use Rattle.fy_cluster.specs.Standing.{numbered, messages_in_flight}
 
 -- ---- filters
 
@@ -40,38 +40,38 @@ numbered-append k (x ∷ xs) ys = ap (λ zs. record { number = k; body = x } ∷
 -- ---- one entry more
 
 -- an entry that sends nothing leaves those that it doesn't take out
-pub flying_taken : (m : Moment) (h : History) → m.sends ≡ [] → flying (m ∷ h) ≡ filter (λ x. not (m.takes_out x.number)) (flying h)
+pub flying_taken : (m : Step) (h : History) → m.sends ≡ [] → messages_in_flight (m ∷ h) ≡ filter (λ x. not (m.removes x.number)) (messages_in_flight h)
 flying_taken m h none =
-    ap (λ xs. filter (λ (x : Message). not (m.takes_out x.number || is_taken h x.number)) (numbered 0 (sent h ++ xs))) none
-    ∙ ap (λ xs. filter (λ (x : Message). not (m.takes_out x.number || is_taken h x.number)) (numbered 0 xs)) (append-nil (sent h))
-    ∙ filter-both (λ (x : Message). m.takes_out x.number) (λ (x : Message). is_taken h x.number) (numbered 0 (sent h))
+    ap (λ xs. filter (λ (x : Message). not (m.removes x.number || is_removed h x.number)) (numbered 0 (sent h ++ xs))) none
+    ∙ ap (λ xs. filter (λ (x : Message). not (m.removes x.number || is_removed h x.number)) (numbered 0 xs)) (append-nil (sent h))
+    ∙ filter-both (λ (x : Message). m.removes x.number) (λ (x : Message). is_removed h x.number) (numbered 0 (sent h))
 
 -- one that takes out a single message leaves the others
-pub flying_without : (m : Moment) (h : History) (n : ℕ) → m.sends ≡ [] → ((k : ℕ) → m.takes_out k ≡ (k == n)) → flying (m ∷ h) ≡ without n (flying h)
-flying_without m h n none one = flying_taken m h none ∙ filter-same (λ (x : Message). not (m.takes_out x.number)) (λ (x : Message). not (x.number == n)) (λ x. ap not (one x.number)) (flying h)
+pub flying_without : (m : Step) (h : History) (n : ℕ) → m.sends ≡ [] → ((k : ℕ) → m.removes k ≡ (k == n)) → messages_in_flight (m ∷ h) ≡ without n (messages_in_flight h)
+flying_without m h n none one = flying_taken m h none ∙ filter-same (λ (x : Message). not (m.removes x.number)) (λ (x : Message). not (x.number == n)) (λ x. ap not (one x.number)) (messages_in_flight h)
 
 filter-all : {X : Type 0} (xs : List X) → filter (λ x. not false) xs ≡ xs
 filter-all [] = refl
 filter-all (x ∷ xs) = ap (λ ys. x ∷ ys) (filter-all xs)
 
 -- one that neither sends nor takes out leaves all
-pub flying_still : (m : Moment) (h : History) → m.sends ≡ [] → ((k : ℕ) → m.takes_out k ≡ false) → flying (m ∷ h) ≡ flying h
-flying_still m h none keeps = flying_taken m h none ∙ filter-same (λ (x : Message). not (m.takes_out x.number)) (λ x. not false) (λ x. ap not (keeps x.number)) (flying h) ∙ filter-all (flying h)
+pub flying_still : (m : Step) (h : History) → m.sends ≡ [] → ((k : ℕ) → m.removes k ≡ false) → messages_in_flight (m ∷ h) ≡ messages_in_flight h
+flying_still m h none keeps = flying_taken m h none ∙ filter-same (λ (x : Message). not (m.removes x.number)) (λ x. not false) (λ x. ap not (keeps x.number)) (messages_in_flight h) ∙ filter-all (messages_in_flight h)
 
 -- all from a place on that nothing took out
-filter-none_out : (h : History) (k : ℕ) → ((n : ℕ) → k ≤ n → is_taken h n ≡ false) → (xs : List Body) → filter (λ x. not (is_taken h x.number)) (numbered k xs) ≡ numbered k xs
+filter-none_out : (h : History) (k : ℕ) → ((n : ℕ) → k ≤ n → is_removed h n ≡ false) → (xs : List Body) → filter (λ x. not (is_removed h x.number)) (numbered k xs) ≡ numbered k xs
 filter-none_out h k w [] = refl
 filter-none_out h k w (x ∷ xs) = rw (w k (le_refl k)) (ap (λ zs. record { number = k; body = x } ∷ zs) (filter-none_out h (k + 1) (λ n l. w n (omega arith)) xs))
 
 -- one that takes none out adds what it sends, where nothing took out a message before it was sent
-pub flying_sent : (m : Moment) (h : History) → ((n : ℕ) → m.takes_out n ≡ false) → ((n : ℕ) → length (sent h) ≤ n → is_taken h n ≡ false)
-    → flying (m ∷ h) ≡ flying h ++ numbered (length (sent h)) m.sends
+pub flying_sent : (m : Step) (h : History) → ((n : ℕ) → m.removes n ≡ false) → ((n : ℕ) → length (sent h) ≤ n → is_removed h n ≡ false)
+    → messages_in_flight (m ∷ h) ≡ messages_in_flight h ++ numbered (length (sent h)) m.sends
 flying_sent m h keeps early =
-    filter-same (λ (x : Message). not (m.takes_out x.number || is_taken h x.number)) (λ (x : Message). not (is_taken h x.number)) (λ x. ap (λ b. not (b || is_taken h x.number)) (keeps x.number)) (numbered 0 (sent h ++ m.sends))
-    ∙ ap (filter (λ (x : Message). not (is_taken h x.number))) (numbered-append 0 (sent h) m.sends)
-    ∙ filter-append' (λ (x : Message). not (is_taken h x.number)) (numbered 0 (sent h)) (numbered (0 + length (sent h)) m.sends)
-    ∙ ap (λ k. flying h ++ filter (λ (x : Message). not (is_taken h x.number)) (numbered k m.sends)) (zero-add (length (sent h)))
-    ∙ ap (λ xs. flying h ++ xs) (filter-none_out h (length (sent h)) early m.sends)
+    filter-same (λ (x : Message). not (m.removes x.number || is_removed h x.number)) (λ (x : Message). not (is_removed h x.number)) (λ x. ap (λ b. not (b || is_removed h x.number)) (keeps x.number)) (numbered 0 (sent h ++ m.sends))
+    ∙ ap (filter (λ (x : Message). not (is_removed h x.number))) (numbered-append 0 (sent h) m.sends)
+    ∙ filter-append' (λ (x : Message). not (is_removed h x.number)) (numbered 0 (sent h)) (numbered (0 + length (sent h)) m.sends)
+    ∙ ap (λ k. messages_in_flight h ++ filter (λ (x : Message). not (is_removed h x.number)) (numbered k m.sends)) (zero-add (length (sent h)))
+    ∙ ap (λ xs. messages_in_flight h ++ xs) (filter-none_out h (length (sent h)) early m.sends)
 
 -- ---- by number
 
@@ -122,8 +122,8 @@ past_end (x ∷ xs) zero l = absurd (let no : nat_lt 0 (length xs + 1) ≡ true 
 past_end (x ∷ xs) (suc n) l = past_end xs n (grind (arith, nat_tests))
 
 -- what the message in flight with a number says
-pub body_flying : (h : History) (n : ℕ) → body_of (flying h) n ≡ (if in_flight h n then slice_get (sent h) n else None)
-body_flying h n = found_at (λ k. not (is_taken h k)) 0 n n (omega arith) (sent h) ∙ at (not (is_taken h n)) (nat_lt n (length (sent h))) refl
+pub body_flying : (h : History) (n : ℕ) → body_of (messages_in_flight h) n ≡ (if in_flight h n then slice_get (sent h) n else None)
+body_flying h n = found_at (λ k. not (is_removed h k)) 0 n n (omega arith) (sent h) ∙ at (not (is_removed h n)) (nat_lt n (length (sent h))) refl
   where
     at : (b l : Bool) → nat_lt n (length (sent h)) ≡ l → (if b then slice_get (sent h) n else None) ≡ (if l && b then slice_get (sent h) n else None)
     at true true e = refl
@@ -142,5 +142,5 @@ kept_count f keep k (x ∷ xs) w = rw (w k (omega arith)) (at (keep k) (kept_cou
     at true e = ap suc e
     at false e = e
 
-pub count_flying : (h : History) → length (flying h) ≡ in_flight_count h
-count_flying h = kept_count (in_flight h) (λ k. not (is_taken h k)) 0 (sent h) (λ n l. let within : nat_lt n (length (sent h)) ≡ true = grind (arith, nat_tests) in rw within refl)
+pub count_flying : (h : History) → length (messages_in_flight h) ≡ in_flight_count h
+count_flying h = kept_count (in_flight h) (λ k. not (is_removed h k)) 0 (sent h) (λ n l. let within : nat_lt n (length (sent h)) ≡ true = grind (arith, nat_tests) in rw within refl)

@@ -4,7 +4,7 @@ use Rattle.std.proofs.lemmas.Bool.Decides.{nat_tests}
 use Rattle.std.specs.List.{sum_by, range_with_len}
 use Rattle.fy_locality.specs.declared.ProcId.{ProcId}
 use Rattle.fy_kinds.specs.declared.kind_set.KindSet.{KindSet}
-use Rattle.fy_kinds.specs.Kinds.{Deed, has, with_all, without_all}
+use Rattle.fy_kinds.specs.Kinds.{Deed, has, in_either, in_first_alone}
 use Rattle.fy_grants.specs.declared.book.TheConstants.{MOST_GRANTS}
 use Rattle.fy_grants.specs.declared.grant.Grant.{Grant}
 use Rattle.fy_grants.specs.declared.book.BookFault.{BookFault}
@@ -15,10 +15,10 @@ use Rattle.fy_acts.specs.declared.reply.Reply.TheVariants.{Done, No}
 use Rattle.fy_acts.specs.declared.reply.Refusal.TheVariants.{NoProcess, NoActor, Full, NoSuch}
 use Rattle.fy_cluster.specs.declared.machine.Machine.{Machine}
 use Rattle.fy_cluster.specs.Setup.{Setup}
-use Rattle.fy_cluster.specs.History.{History, Moment}
+use Rattle.fy_cluster.specs.History.{History, Step}
 use Rattle.fy_cluster.specs.Rules.{grants, is_protected}
-use Rattle.fy_cluster.specs.Replies.{refused, refusals, answer, no_process, no_actor, grant_count}
-use Rattle.fy_cluster.specs.Standing.{Stands, Point, Follows, Comes, moment_of, KeepsRights, replied_to}
+use Rattle.fy_cluster.specs.Replies.{first_refusal_or, refusals, answer, no_process, no_actor, grant_count}
+use Rattle.fy_cluster.specs.Standing.{Refines, Point, StepsTo, StepsToOrOom, step_at, RefinesRights, reply_to_fault}
 use Rattle.fy_cluster.proofs.Still.{only_rights}
 use Rattle.fy_cluster.proofs.Refusals.{refuse}
 use Rattle.fy_cluster.proofs.Results.{neither, either}
@@ -33,7 +33,7 @@ fold_same f (own ∷ lists) acc k w =
     ap (λ n. fold (λ a own. a + length own) (acc + n) lists) first
     ∙ fold_same f lists (acc + f k) (k + 1) (λ i l. w (suc i) (omega arith) ∙ ap f (omega arith))
 
-pub count_same : (c : Setup) (h : History) (rights : Rights) → KeepsRights c h rights → count_of rights ≡ grant_count c h
+pub count_same : (c : Setup) (h : History) (rights : Rights) → RefinesRights c h rights → count_of rights ≡ grant_count c h
 count_same c h rights k =
     fold_same (λ a. length (grants c h a)) rights.grants 0 0 (λ i l. ap length (k.grants i) ∙ ap (λ a. length (grants c h a)) (let e : i ≡ 0 + i = omega arith in e))
     ∙ ap (λ n. sum_by (λ a. length (grants c h a)) (range_with_len 0 n)) k.actors
@@ -59,12 +59,12 @@ within c p n e l = grind (arith, nat_tests)
 -- ---- give and take
 
 give_reply : (c : Setup) (h : History) (by : ℕ) (grant : Grant) (a b : Bool) → no_actor c grant.actor ≡ a → nat_le MOST_GRANTS (grant_count c h) ≡ b
-    → refused (refusals c h (Give grant)) (answer c h by (Give grant)) ≡ refused ((a, NoActor) ∷ (b, Full) ∷ []) Done
+    → first_refusal_or (refusals c h (Give grant)) (answer c h by (Give grant)) ≡ first_refusal_or ((a, NoActor) ∷ (b, Full) ∷ []) Done
 unfolding refusals answer
 give_reply c h by grant a b e f = rw (e, f) refl
 
 take_reply : (c : Setup) (h : History) (by actor index : ℕ) (a b : Bool) → no_actor c actor ≡ a → nat_le (length (grants c h actor)) index ≡ b
-    → refused (refusals c h (Take actor index)) (answer c h by (Take actor index)) ≡ refused ((a, NoActor) ∷ (b, NoSuch) ∷ []) Done
+    → first_refusal_or (refusals c h (Take actor index)) (answer c h by (Take actor index)) ≡ first_refusal_or ((a, NoActor) ∷ (b, NoSuch) ∷ []) Done
 unfolding refusals answer
 take_reply c h by actor index a b e f = rw (e, f) refl
 
@@ -75,8 +75,8 @@ abbrev pub TakesLists : Type 0
 TakesLists = (rights : Rights) (actor index a : ℕ) → actor < length rights.grants → grants_of (without_grant rights actor index) a ≡ (if actor == a then remove (grants_of rights a) index else grants_of rights a)
 
 given : GivesLists → ((rights : Rights) (grant : Grant) → length (with_grant rights grant).grants ≡ length rights.grants)
-    → (point : Point) (grant : Grant) (m : Machine) → Stands point.setup point.before m → nat_le (length m.book.grants) grant.actor ≡ false → nat_le MOST_GRANTS (grant_count point.setup point.before) ≡ false
-    → Follows point (Give grant) Done (record m { book = with_grant m.book grant })
+    → (point : Point) (grant : Grant) (m : Machine) → Refines point.setup point.before m → nat_le (length m.book.grants) grant.actor ≡ false → nat_le MOST_GRANTS (grant_count point.setup point.before) ≡ false
+    → StepsTo point (Give grant) Done (record m { book = with_grant m.book grant })
 given lists actors point grant machine k e f = record {
   right = sym (give_reply c h point.by grant false false (ap (λ n. nat_le n grant.actor) (sym k.rights.actors) ∙ e) f);
   stands = only_rights point (Give grant) Done machine (with_grant machine.book grant) refl refl k record {
@@ -94,24 +94,24 @@ given lists actors point grant machine k e f = record {
     h : History
     h = point.before
 
-    m : Moment
-    m = moment_of point (Give grant) Done
+    m : Step
+    m = step_at point (Give grant) Done
 
     there : grant.actor < length machine.book.grants
     there = grind (arith, nat_tests)
 
 -- a grant that is given
 pub give_ok : GivesLists → ((rights : Rights) (grant : Grant) → length (with_grant rights grant).grants ≡ length rights.grants)
-    → (point : Point) (grant : Grant) (m : Machine) (book : Rights) → Stands point.setup point.before m → give_refusal m.book grant ≡ None → book ≡ with_grant m.book grant
-    → Follows point (Give grant) Done (record m { book = book })
+    → (point : Point) (grant : Grant) (m : Machine) (book : Rights) → Refines point.setup point.before m → give_refusal m.book grant ≡ None → book ≡ with_grant m.book grant
+    → StepsTo point (Give grant) Done (record m { book = book })
 give_ok lists actors point grant m book k clear is =
     let both = neither (nat_le (length m.book.grants) grant.actor) (nat_le MOST_GRANTS (count_of m.book)) NoActorThere FullBook clear in
     rw is (given lists actors point grant m k both.0 (ap (nat_le MOST_GRANTS) (sym (count_same point.setup point.before m.book k.rights)) ∙ both.1))
 
 -- one that isn't
-pub give_err : (point : Point) (grant : Grant) (m : Machine) (book : Rights) (fault : BookFault) → Stands point.setup point.before m
+pub give_err : (point : Point) (grant : Grant) (m : Machine) (book : Rights) (fault : BookFault) → Refines point.setup point.before m
     → (give_refusal m.book grant ≡ Some fault) ⊎ ((give_refusal m.book grant ≡ None) × (fault ≡ NoMemoryLeft)) → book ≡ m.book
-    → Comes point (Give grant) (replied_to fault) (record m { book = book })
+    → StepsToOrOom point (Give grant) (reply_to_fault fault) (record m { book = book })
 give_err point grant m book fault k (inr out) is = rw (out.1, is) (refl, k)
 give_err point grant m book fault k (inl why) is =
     elim (either (nat_le (length m.book.grants) grant.actor) (nat_le MOST_GRANTS (count_of m.book)) NoActorThere FullBook fault why) [
@@ -131,8 +131,8 @@ give_err point grant m book fault k (inl why) is =
 -- ---- take
 
 taken : TakesLists → ((rights : Rights) (actor index : ℕ) → length (without_grant rights actor index).grants ≡ length rights.grants)
-    → (point : Point) (actor index : ℕ) (m : Machine) → Stands point.setup point.before m → nat_le (length m.book.grants) actor ≡ false → nat_le (length (grants_of m.book actor)) index ≡ false
-    → Follows point (Take actor index) Done (record m { book = without_grant m.book actor index })
+    → (point : Point) (actor index : ℕ) (m : Machine) → Refines point.setup point.before m → nat_le (length m.book.grants) actor ≡ false → nat_le (length (grants_of m.book actor)) index ≡ false
+    → StepsTo point (Take actor index) Done (record m { book = without_grant m.book actor index })
 taken lists actors point actor index machine k e f = record {
   right = sym (take_reply c h point.by actor index false false (ap (λ n. nat_le n actor) (sym k.rights.actors) ∙ e) (ap (λ own. nat_le (length own) index) (sym (k.rights.grants actor)) ∙ f));
   stands = only_rights point (Take actor index) Done machine (without_grant machine.book actor index) refl refl k record {
@@ -150,23 +150,23 @@ taken lists actors point actor index machine k e f = record {
     h : History
     h = point.before
 
-    m : Moment
-    m = moment_of point (Take actor index) Done
+    m : Step
+    m = step_at point (Take actor index) Done
 
     there : actor < length machine.book.grants
     there = grind (arith, nat_tests)
 
 -- a grant that is taken
 pub take_ok : TakesLists → ((rights : Rights) (actor index : ℕ) → length (without_grant rights actor index).grants ≡ length rights.grants)
-    → (point : Point) (actor index : ℕ) (m : Machine) (book : Rights) → Stands point.setup point.before m → take_refusal m.book actor index ≡ None → book ≡ without_grant m.book actor index
-    → Follows point (Take actor index) Done (record m { book = book })
+    → (point : Point) (actor index : ℕ) (m : Machine) (book : Rights) → Refines point.setup point.before m → take_refusal m.book actor index ≡ None → book ≡ without_grant m.book actor index
+    → StepsTo point (Take actor index) Done (record m { book = book })
 take_ok lists actors point actor index m book k clear is =
     let both = neither (nat_le (length m.book.grants) actor) (nat_le (length (grants_of m.book actor)) index) NoActorThere NoneThere clear in
     rw is (taken lists actors point actor index m k both.0 both.1)
 
 -- one that isn't
-pub take_err : (point : Point) (actor index : ℕ) (m : Machine) (book : Rights) (fault : BookFault) → Stands point.setup point.before m
-    → take_refusal m.book actor index ≡ Some fault → book ≡ m.book → Comes point (Take actor index) (replied_to fault) (record m { book = book })
+pub take_err : (point : Point) (actor index : ℕ) (m : Machine) (book : Rights) (fault : BookFault) → Refines point.setup point.before m
+    → take_refusal m.book actor index ≡ Some fault → book ≡ m.book → StepsToOrOom point (Take actor index) (reply_to_fault fault) (record m { book = book })
 take_err point actor index m book fault k why is =
     elim (either (nat_le (length m.book.grants) actor) (nat_le (length (grants_of m.book actor)) index) NoActorThere NoneThere fault why) [
       | inl w ↦ rw (w.1, is) (refuse point (Take actor index) NoActor m k (take_reply c h point.by actor index true _ (actors ∙ w.0) refl))
@@ -185,19 +185,19 @@ take_err point actor index m book fault k why is =
 -- ---- protections
 
 protect_reply : (c : Setup) (h : History) (by : ℕ) (p : ProcId) (kinds : KindSet) (a : Bool) → no_process c p.0 ≡ a
-    → refused (refusals c h (Protect p kinds)) (answer c h by (Protect p kinds)) ≡ refused ((a, NoProcess) ∷ []) Done
+    → first_refusal_or (refusals c h (Protect p kinds)) (answer c h by (Protect p kinds)) ≡ first_refusal_or ((a, NoProcess) ∷ []) Done
 unfolding refusals answer
 protect_reply c h by p kinds a e = rw e refl
 
 unprotect_reply : (c : Setup) (h : History) (by : ℕ) (p : ProcId) (kinds : KindSet) (a : Bool) → no_process c p.0 ≡ a
-    → refused (refusals c h (Unprotect p kinds)) (answer c h by (Unprotect p kinds)) ≡ refused ((a, NoProcess) ∷ []) Done
+    → first_refusal_or (refusals c h (Unprotect p kinds)) (answer c h by (Unprotect p kinds)) ≡ first_refusal_or ((a, NoProcess) ∷ []) Done
 unfolding refusals answer
 unprotect_reply c h by p kinds a e = rw e refl
 
-pub protect_nobody : (point : Point) (p : ProcId) (kinds : KindSet) (m : Machine) → Stands point.setup point.before m → length m.book.protections ≤ p.0 → Follows point (Protect p kinds) (No NoProcess) m
+pub protect_nobody : (point : Point) (p : ProcId) (kinds : KindSet) (m : Machine) → Refines point.setup point.before m → length m.book.protections ≤ p.0 → StepsTo point (Protect p kinds) (No NoProcess) m
 protect_nobody point p kinds m k l = refuse point (Protect p kinds) NoProcess m k (protect_reply point.setup point.before point.by p kinds true (past point.setup p.0 (length m.book.protections) k.rights.processes l))
 
-pub unprotect_nobody : (point : Point) (p : ProcId) (kinds : KindSet) (m : Machine) → Stands point.setup point.before m → length m.book.protections ≤ p.0 → Follows point (Unprotect p kinds) (No NoProcess) m
+pub unprotect_nobody : (point : Point) (p : ProcId) (kinds : KindSet) (m : Machine) → Refines point.setup point.before m → length m.book.protections ≤ p.0 → StepsTo point (Unprotect p kinds) (No NoProcess) m
 unprotect_nobody point p kinds m k l = refuse point (Unprotect p kinds) NoProcess m k (unprotect_reply point.setup point.before point.by p kinds true (past point.setup p.0 (length m.book.protections) k.rights.processes l))
 
 abbrev pub ChangesOne : Type 0
@@ -206,12 +206,12 @@ ChangesOne = (rights : Rights) (p q : ℕ) (kinds : KindSet) → p < length righ
 abbrev pub KeepsCount : Type 0
 KeepsCount = (rights : Rights) (p : ℕ) (kinds : KindSet) → length (with_protection rights p kinds).protections ≡ length rights.protections
 
-pub protected : ChangesOne → KeepsCount → ((a b : KindSet) (d : Deed) → has (with_all a b) d ≡ (has a d || has b d))
-    → (point : Point) (p : ProcId) (kinds : KindSet) (m : Machine) (book : Rights) → Stands point.setup point.before m → p.0 < length m.book.protections
-    → book ≡ with_protection m.book p.0 (with_all (protections_of m.book p.0) kinds) → Follows point (Protect p kinds) Done (record m { book = book })
+pub protected : ChangesOne → KeepsCount → ((a b : KindSet) (d : Deed) → has (in_either a b) d ≡ (has a d || has b d))
+    → (point : Point) (p : ProcId) (kinds : KindSet) (m : Machine) (book : Rights) → Refines point.setup point.before m → p.0 < length m.book.protections
+    → book ≡ with_protection m.book p.0 (in_either (protections_of m.book p.0) kinds) → StepsTo point (Protect p kinds) Done (record m { book = book })
 protected one count together point p kinds machine book k l is = rw is (record {
   right = sym (protect_reply c h point.by p kinds false (within c p.0 (length machine.book.protections) k.rights.processes l));
-  stands = only_rights point (Protect p kinds) Done machine (with_protection machine.book p.0 (with_all (protections_of machine.book p.0) kinds)) refl refl k record {
+  stands = only_rights point (Protect p kinds) Done machine (with_protection machine.book p.0 (in_either (protections_of machine.book p.0) kinds)) refl refl k record {
     map = k.rights.map;
     actors = k.rights.actors;
     processes = count machine.book p.0 _ ∙ k.rights.processes;
@@ -226,21 +226,21 @@ protected one count together point p kinds machine book k l is = rw is (record {
     h : History
     h = point.before
 
-    m : Moment
-    m = moment_of point (Protect p kinds) Done
+    m : Step
+    m = step_at point (Protect p kinds) Done
 
-    at : (q : ℕ) (deed : Deed) (b : Bool) → (p.0 == q) ≡ b → has (if b then with_all (protections_of machine.book p.0) kinds else protections_of machine.book q) deed ≡ (b && has kinds deed || is_protected c h q deed)
+    at : (q : ℕ) (deed : Deed) (b : Bool) → (p.0 == q) ≡ b → has (if b then in_either (protections_of machine.book p.0) kinds else protections_of machine.book q) deed ≡ (b && has kinds deed || is_protected c h q deed)
     at q deed true e =
         let same : p.0 ≡ q = eqb-true p.0 q e in
         together (protections_of machine.book p.0) kinds deed ∙ ap (λ b. b || has kinds deed) (k.rights.protections p.0 deed ∙ ap (λ q. is_protected c h q deed) same) ∙ or_swap (is_protected c h q deed) (has kinds deed)
     at q deed false e = k.rights.protections q deed
 
-pub unprotected : ChangesOne → KeepsCount → ((a b : KindSet) (d : Deed) → has (without_all a b) d ≡ (has a d && not (has b d)))
-    → (point : Point) (p : ProcId) (kinds : KindSet) (m : Machine) (book : Rights) → Stands point.setup point.before m → p.0 < length m.book.protections
-    → book ≡ with_protection m.book p.0 (without_all (protections_of m.book p.0) kinds) → Follows point (Unprotect p kinds) Done (record m { book = book })
+pub unprotected : ChangesOne → KeepsCount → ((a b : KindSet) (d : Deed) → has (in_first_alone a b) d ≡ (has a d && not (has b d)))
+    → (point : Point) (p : ProcId) (kinds : KindSet) (m : Machine) (book : Rights) → Refines point.setup point.before m → p.0 < length m.book.protections
+    → book ≡ with_protection m.book p.0 (in_first_alone (protections_of m.book p.0) kinds) → StepsTo point (Unprotect p kinds) Done (record m { book = book })
 unprotected one count apart point p kinds machine book k l is = rw is (record {
   right = sym (unprotect_reply c h point.by p kinds false (within c p.0 (length machine.book.protections) k.rights.processes l));
-  stands = only_rights point (Unprotect p kinds) Done machine (with_protection machine.book p.0 (without_all (protections_of machine.book p.0) kinds)) refl refl k record {
+  stands = only_rights point (Unprotect p kinds) Done machine (with_protection machine.book p.0 (in_first_alone (protections_of machine.book p.0) kinds)) refl refl k record {
     map = k.rights.map;
     actors = k.rights.actors;
     processes = count machine.book p.0 _ ∙ k.rights.processes;
@@ -255,10 +255,10 @@ unprotected one count apart point p kinds machine book k l is = rw is (record {
     h : History
     h = point.before
 
-    m : Moment
-    m = moment_of point (Unprotect p kinds) Done
+    m : Step
+    m = step_at point (Unprotect p kinds) Done
 
-    at : (q : ℕ) (deed : Deed) (b : Bool) → (p.0 == q) ≡ b → has (if b then without_all (protections_of machine.book p.0) kinds else protections_of machine.book q) deed ≡ (not (b && has kinds deed) && is_protected c h q deed)
+    at : (q : ℕ) (deed : Deed) (b : Bool) → (p.0 == q) ≡ b → has (if b then in_first_alone (protections_of machine.book p.0) kinds else protections_of machine.book q) deed ≡ (not (b && has kinds deed) && is_protected c h q deed)
     at q deed true e =
         let same : p.0 ≡ q = eqb-true p.0 q e in
         apart (protections_of machine.book p.0) kinds deed ∙ ap (λ b. b && not (has kinds deed)) (k.rights.protections p.0 deed ∙ ap (λ q. is_protected c h q deed) same) ∙ and_swap (is_protected c h q deed) (not (has kinds deed))

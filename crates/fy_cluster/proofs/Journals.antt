@@ -1,5 +1,5 @@
 -- from one entry to a whole journal
-use Rattle.std.proofs.Common.{arith, length-append, ◌≡◌, ◌↔◌, ℕ, Some, None, inl, inr, ◌⊎◌, ◌≤◌, ◌<◌, true, false, List, [], ◌∷◌, ◌++◌, length, map, refl, sym, ◌∙◌, ap, ap₂, subst, nat_le, le-leb}
+use Rattle.std.proofs.Common.{arith, length-append, ◌≡◌, ◌↔◌, ℕ, ◌+◌, Some, None, inl, inr, ◌⊎◌, ◌≤◌, ◌<◌, true, false, List, [], ◌∷◌, ◌++◌, length, map, refl, sym, ◌∙◌, ap, ap₂, subst, nat_le, le-leb}
 use Rattle.std.proofs.lemmas.Option.{slice_get-get_or}
 use Rattle.std.proofs.lemmas.Bool.{lt-leb, cases_lt, and_parts, and_from}
 use Rattle.fy_kinds.specs.Orders.{Order}
@@ -15,42 +15,58 @@ use Rattle.fy_journal.specs.declared.version.Version.{Version}
 use Rattle.fy_journal.specs.declared.version.Version.TheVariants.{Second}
 use Rattle.fy_cluster.specs.declared.role.Role.TheVariants.{Fault}
 use Rattle.fy_cluster.specs.Setup.{Setup}
-use Rattle.fy_cluster.specs.History.{History, moment, after, history}
+use Rattle.fy_cluster.specs.History.{History, step_of, after, history}
 use Rattle.fy_cluster.specs.Rules.{situation}
 use Rattle.fy_cluster.specs.Replies.{refusals, reasons, answer, reply, IsNext, LegalAfter, Legal}
 use Rattle.fy_cluster.specs.Versions.{knows_all, SecondKnowsAll, NextLegalUnder}
 use Rattle.fy_journal.specs.Versions.{knows}
-use Rattle.fy_cluster.specs.Survival.{by_and_act, IsJudged, KillsJudged, RulesNamed, FrontsLegal, MomentsEntered, NextLegal, SameActsSameJournal}
+use Rattle.fy_decide.specs.Hardest.{VerdictAnswers}
+use Rattle.fy_cluster.specs.Survival.{by_and_act, KillsJudged, RulesNamed, FrontsLegal, EntryAddsStep, NextLegal, SameActsSameJournal}
 
 -- what each legal entry keeps, a legal journal keeps
-pub kept_after : (c : Setup) (Q : History → Type 0) → ((h : History) (e : Entry) → IsNext c h e → Q h → Q (moment c h e ∷ h)) → (h : History) (later : List Entry) → Q h → LegalAfter c h later → Q (after c h later)
+pub kept_after : (c : Setup) (Q : History → Type 0) → ((h : History) (e : Entry) → IsNext c h e → Q h → Q (step_of c h e ∷ h)) → (h : History) (later : List Entry) → Q h → LegalAfter c h later → Q (after c h later)
 kept_after c Q step h [] q l = q
-kept_after c Q step h (e ∷ later) q l = kept_after c Q step (moment c h e ∷ h) later (step h e l.0 q) l.1
+kept_after c Q step h (e ∷ later) q l = kept_after c Q step (step_of c h e ∷ h) later (step h e l.0 q) l.1
 
 pub legal_parts : (c : Setup) (h : History) (xs ys : List Entry) → LegalAfter c h (xs ++ ys) → LegalAfter c h xs × LegalAfter c (after c h xs) ys
 legal_parts c h [] ys l = (tt, l)
-legal_parts c h (e ∷ xs) ys l = let rest = legal_parts c (moment c h e ∷ h) xs ys l.1 in ((l.0, rest.0), rest.1)
+legal_parts c h (e ∷ xs) ys l = let rest = legal_parts c (step_of c h e ∷ h) xs ys l.1 in ((l.0, rest.0), rest.1)
 
 -- ---- one entry more
 
 pub after-append : (c : Setup) (h : History) (xs ys : List Entry) → after c h (xs ++ ys) ≡ after c (after c h xs) ys
 after-append c h [] ys = refl
-after-append c h (x ∷ xs) ys = after-append c (moment c h x ∷ h) xs ys
+after-append c h (x ∷ xs) ys = after-append c (step_of c h x ∷ h) xs ys
+
+length-after : (c : Setup) (h : History) (xs : List Entry) → length (after c h xs) ≡ length h + length xs
+length-after c h [] = omega arith
+length-after c h (x ∷ xs) = length-after c (step_of c h x ∷ h) xs ∙ (omega arith)
+
+pub length-history : (c : Setup) (journal : List Entry) → length (history c journal) ≡ length journal
+length-history c journal = length-after c [] journal ∙ (omega arith)
 
 pub legal-push : (c : Setup) (h : History) (xs : List Entry) (e : Entry) → LegalAfter c h xs → IsNext c (after c h xs) e → LegalAfter c h (xs ++ e ∷ [])
 legal-push c h [] e l next = (next, tt)
-legal-push c h (x ∷ xs) e l next = (l.0, legal-push c (moment c h x ∷ h) xs e l.1 next)
+legal-push c h (x ∷ xs) e l next = (l.0, legal-push c (step_of c h x ∷ h) xs e l.1 next)
 
 pub fronts_legal : FrontsLegal
 fronts_legal c before later l = (let n = length-append before later in let few = l.0 in omega arith, (legal_parts c [] before later l.1).0)
 
-pub moments_entered : MomentsEntered
+pub moments_entered : EntryAddsStep
 moments_entered c journal e = after-append c [] journal (e ∷ [])
 
 pub next_legal : NextLegal
 next_legal c journal e l = (
-  λ more. (let n = length-append journal (e ∷ []) in let few = more.0 in omega arith, (legal_parts c [] journal (e ∷ []) more.1).1.0),
-  λ next. (let n = length-append journal (e ∷ []) in let room = next.0 in omega arith, legal-push c [] journal e l.1 next.1),
+  λ more.
+      let next : IsNext c (history c journal) e = (legal_parts c [] journal (e ∷ []) more.1).1.0 in
+      record {
+        room = let n = length-append journal (e ∷ []) in let few = more.0 in omega arith;
+        place = next.place ∙ length-history c journal;
+        right = next.right;
+      },
+  λ may.
+      let next : IsNext c (history c journal) e = record { place = may.place ∙ sym (length-history c journal); right = may.right } in
+      (let n = length-append journal (e ∷ []) in let room = may.room in omega arith, legal-push c [] journal e l.1 next),
 )
 
 cons_parts : {X : Type 0} (x y : X) (xs ys : List X) → x ∷ xs ≡ y ∷ ys → (x ≡ y) × (xs ≡ ys)
@@ -71,8 +87,8 @@ same_after c h (x ∷ xs) (y ∷ ys) l k e =
     let place : x.at ≡ y.at = l.0.place ∙ sym k.0.place in
     let right : x.reply ≡ y.reply = l.0.right ∙ ap₂ (reply c h) b a ∙ sym k.0.right in
     let same : x ≡ y = same_entry x y place b a right in
-    let moved : LegalAfter c (moment c h x ∷ h) ys = subst (λ z. LegalAfter c (moment c h z ∷ h) ys) (sym same) k.1 in
-    ap₂ (λ z zs. z ∷ zs) same (same_after c (moment c h x ∷ h) xs ys l.1 moved rest)
+    let moved : LegalAfter c (step_of c h x ∷ h) ys = subst (λ z. LegalAfter c (step_of c h z ∷ h) ys) (sym same) k.1 in
+    ap₂ (λ z zs. z ∷ zs) same (same_after c (step_of c h x ∷ h) xs ys l.1 moved rest)
 
 pub same_acts_same_journal : SameActsSameJournal
 same_acts_same_journal version c xs ys l k e = same_after c [] xs ys l.legal.1 k.legal.1 e
@@ -102,12 +118,11 @@ known_both version (x ∷ xs) ys j k =
 pub next_legal_under : NextLegalUnder
 next_legal_under version c journal e l = (
   λ more.
-      let next = (next_legal c journal e l.legal).0 more.legal in
-      (next.0, next.1, (and_parts (knows version e.act) true (known_parts version journal (e ∷ []) more.known).1).0),
+      ((next_legal c journal e l.legal).0 more.legal, (and_parts (knows version e.act) true (known_parts version journal (e ∷ []) more.known).1).0),
   λ next.
       record {
-        legal = (next_legal c journal e l.legal).1 (next.0, next.1);
-        known = known_both version journal (e ∷ []) l.known (and_from _ true next.2 refl);
+        legal = (next_legal c journal e l.legal).1 next.0;
+        known = known_both version journal (e ∷ []) l.known (and_from _ true next.1 refl);
       },
 )
 
@@ -123,17 +138,26 @@ kill_unknown : (c : Setup) (h : History) (by : ℕ) (order : Order) → length c
 unfolding reply reasons refusals answer
 kill_unknown c h by order unknown = let none : nat_le (length c.roles) by ≡ true = le-leb _ _ unknown in rw none refl
 
-judged : (c : Setup) (before later : List Entry) (e : Entry) (order : Order) → Legal c (before ++ e ∷ later) → e.act ≡ Kill order → IsJudged c (history c before) e order
-judged c before later e order l a =
-    let next : IsNext c (history c before) e = (legal_parts c [] before (e ∷ later) l.1).1.0 in
-    let said : e.reply ≡ reply c (history c before) e.by (Kill order) = next.right ∙ ap (reply c (history c before) e.by) a in
-    record {
-      known = λ known. said ∙ kill_known c (history c before) e.by order known;
-      stranger = λ unknown. said ∙ kill_unknown c (history c before) e.by order unknown;
-    }
+module _ (c : Setup) (before later : List Entry) (e : Entry) (order : Order) (l : Legal c (before ++ e ∷ later)) (a : e.act ≡ Kill order) where
+  said : e.reply ≡ reply c (history c before) e.by (Kill order)
+  said =
+      let next : IsNext c (history c before) e = (legal_parts c [] before (e ∷ later) l.1).1.0 in
+      next.right ∙ ap (reply c (history c before) e.by) a
 
-pub kills_judged : KillsJudged
-kills_judged c journal l before later e order is a = judged c before later e order (subst (Legal c) is l) a
+  by_actor : e.by < length c.roles → e.reply ≡ Verdict (verdict (situation c (history c before) e.by) order)
+  by_actor known = said ∙ kill_known c (history c before) e.by order known
+
+  by_stranger : length c.roles ≤ e.by → e.reply ≡ No Stranger
+  by_stranger unknown = said ∙ kill_unknown c (history c before) e.by order unknown
+
+pub kills_judged : VerdictAnswers → KillsJudged
+kills_judged answers c journal legal before later e order is a =
+    let l : Legal c (before ++ e ∷ later) = subst (Legal c) is legal in
+    let s = situation c (history c before) e.by in
+    record {
+      known = λ known. (verdict s order, by_actor c before later e order l a known, answers s order);
+      stranger = by_stranger c before later e order l a;
+    }
 
 abbrev Named : Type 0
 Named = (situation : Situation) (order : Order) → ((verdict situation order).rule ≡ None) ↔ ((verdict situation order).struck ≡ Some order.kind)
@@ -149,6 +173,6 @@ rules_named named c journal legal before later e order v is a r = at (cases_lt e
 
     at : (e.by < length c.roles) ⊎ (length c.roles ≤ e.by) → (v.rule ≡ None) ↔ (v.struck ≡ Some order.kind)
     at (inl known) =
-        let same : v ≡ verdict (situation c (history c before) e.by) order = inside v _ (sym r ∙ (judged c before later e order l a).known known) in
+        let same : v ≡ verdict (situation c (history c before) e.by) order = inside v _ (sym r ∙ by_actor c before later e order l a known) in
         subst (λ w. (w.rule ≡ None) ↔ (w.struck ≡ Some order.kind)) (sym same) (named (situation c (history c before) e.by) order)
-    at (inr unknown) = absurd (let wrong : Verdict v ≡ No Stranger = sym r ∙ (judged c before later e order l a).stranger unknown in let none : ⊥ = cc in none)
+    at (inr unknown) = absurd (let wrong : Verdict v ≡ No Stranger = sym r ∙ by_stranger c before later e order l a unknown in let none : ⊥ = cc in none)

@@ -1,5 +1,5 @@
 -- orders and clogs are answered from the books, and what they do
-use Rattle.std.proofs.Common.{◌==◌, ◌≡◌, ℕ, ◌+◌, ◌^◌, ◌<◌, ◌≤◌, min, List, [], ◌∷◌, ◌++◌, Bool, true, false, ◌&&◌, ◌||◌, not, Option, Some, None, is_none, refl, sym, ◌∙◌, ap, ap₂, nat_lt, length, arith, get_or, slice_get, slice_index, append-nil, if◌then◌else◌}
+use Rattle.std.proofs.Common.{◌==◌, ◌≡◌, ℕ, ◌<◌, List, [], ◌∷◌, ◌++◌, Bool, true, false, ◌&&◌, ◌||◌, not, Option, Some, None, is_none, refl, sym, ◌∙◌, ap, ap₂, nat_lt, length, arith, get_or, slice_get, slice_index, append-nil, if◌then◌else◌}
 use Rattle.std.proofs.lemmas.Bool.{or_from, and_parts}
 use Rattle.std.proofs.lemmas.Bool.Decides.{nat_tests}
 use Rattle.std.proofs.lemmas.Option.{slice_get-get_or}
@@ -13,28 +13,28 @@ use Rattle.fy_kinds.specs.declared.verdict.Rule.{Rule}
 use Rattle.fy_kinds.specs.declared.verdict.Verdict.{Verdict as VerdictOf}
 use Rattle.fy_kinds.specs.Kinds.{Clogging, is_destroying, destroys_for_good}
 use Rattle.fy_kinds.specs.Orders.{Order}
-use Rattle.fy_decide.specs.DeadBook.{Casualties}
+use Rattle.fy_decide.specs.DeadBook.{Losses}
 use Rattle.fy_decide.specs.Verdicts.{situation_of, targets, bar, verdict}
 use Rattle.fy_disk.specs.declared.item.Item.{Item}
-use Rattle.fy_disk.specs.Disk.{Stored, outlives, passing}
-use Rattle.fy_net.specs.Net.{Traffic}
+use Rattle.fy_disk.specs.Disk.{Stored, outlives, filter_by_place}
+use Rattle.fy_net.specs.Net.{NetState}
 use Rattle.fy_acts.specs.declared.act.Act.{Act}
 use Rattle.fy_acts.specs.declared.act.Act.TheVariants.{Kill, Clog, Unclog}
 use Rattle.fy_acts.specs.declared.reply.Reply.TheVariants.{Ruled, Verdict}
 use Rattle.fy_cluster.specs.declared.machine.Machine.{Machine}
 use Rattle.fy_cluster.specs.Setup.{Setup}
-use Rattle.fy_cluster.specs.History.{History, Moment, some_is, strikes, destroys, closes, syncs, writes, tear_of, heals, destroyed, gone, left, up, synced, unsynced, sent, now, sends_of, clogged_at}
+use Rattle.fy_cluster.specs.History.{History, Step, some_is, strikes, destroys, closes, syncs, writes, tear_of, heals, destroyed, gone, left, up, synced, unsynced, sent, now, sends_of, clog_end, unclog_end, clog_ends}
 use Rattle.fy_cluster.specs.Rules.{situation}
-use Rattle.fy_cluster.specs.Replies.{refused, refusals, answer}
-use Rattle.fy_disk.specs.Disk.{blank}
-use Rattle.fy_cluster.specs.Standing.{Stands, Point, Follows, moment_of, following, KeepsDead, KeepsDisks, KeepsUp, ChangesAt, ClogsChange, clog_end, unclog_end, targets_by, clog_bar, buried, stored, left_on}
+use Rattle.fy_cluster.specs.Replies.{first_refusal_or, refusals, answer}
+use Rattle.fy_disk.specs.Disk.{empty_disk}
+use Rattle.fy_cluster.specs.Standing.{Refines, Point, StepsTo, step_at, following, RefinesDead, RefinesDisks, RefinesUp, ChangesAt, ClogsChange, targets_by, clog_bar, with_losses, stored, disk_after_strike}
 use Rattle.fy_cluster.proofs.Still.{Doings, doings, nothing, clogs_alone, unmoved, only_clogs, untaken, net_still, teams_idle, rights_still, stored_still, disk_closes}
 use Rattle.fy_cluster.proofs.DiskSteps.{synced_at_close, unsynced_at_close, synced_at_strike}
 use Rattle.fy_cluster.proofs.Flights.{flying_still}
 use Rattle.fy_cluster.proofs.Results.{some_is_same}
 
 -- what an answer to an actor rests on is what the books say
-pub situation_same : (c : Setup) (h : History) (m : Machine) → Stands c h m → (by : ℕ) → situation_of m.dead m.book by ≡ situation c h by
+pub situation_same : (c : Setup) (h : History) (m : Machine) → Refines c h m → (by : ℕ) → situation_of m.dead m.book by ≡ situation c h by
 situation_same c h m k by = λ i. record {
   processes = k.dead.processes i;
   policies = k.dead.policies i;
@@ -44,18 +44,18 @@ situation_same c h m k by = λ i. record {
   left = λ p. k.dead.left p i;
 }
 
-targets_same : (c : Setup) (h : History) (m : Machine) → Stands c h m → (target : Target) → targets_by m target ≡ targets c.processes (left c h) target
+targets_same : (c : Setup) (h : History) (m : Machine) → Refines c h m → (target : Target) → targets_by m target ≡ targets c.processes (left c h) target
 targets_same c h m k target = λ i. targets (k.dead.processes i) (λ p. k.dead.left p i) target
 
 -- targets are processes
-pub targets_below : {c : Setup} {h : History} {m : Machine} → Stands c h m → (target : Target) (set : sets.FinSet nat_cmp) → ((p : ℕ) → sets.contains set p ≡ targets_by m target p)
+pub targets_below : {c : Setup} {h : History} {m : Machine} → Refines c h m → (target : Target) (set : sets.FinSet nat_cmp) → ((p : ℕ) → sets.contains set p ≡ targets_by m target p)
     → (p : ℕ) → sets.contains set p ≡ true → p < length c.processes
 targets_below {c} {h} {m} k target set who p member =
     let is_left : left c h p ≡ true = sym (k.dead.left p) ∙ (and_parts (sets.contains m.dead.left p) _ (sym (who p) ∙ member)).0 in
     let below : nat_lt p (length c.processes) ≡ true = (and_parts _ (not (gone h p)) is_left).0 in
     grind (arith, nat_tests)
 
-bar_same : (c : Setup) (h : History) (m : Machine) → Stands c h m → (by actor : ℕ) → by ≡ actor → (target : Target)
+bar_same : (c : Setup) (h : History) (m : Machine) → Refines c h m → (by actor : ℕ) → by ≡ actor → (target : Target)
     → clog_bar m by target ≡ bar (situation c h actor) Clogging (targets c.processes (left c h) target)
 bar_same c h m k by actor e target = ap₂ (λ s t. bar s Clogging t) (situation_same c h m k by ∙ ap (situation c h) e) (targets_same c h m k target)
 
@@ -63,12 +63,11 @@ bar_same c h m k by actor e target = ap₂ (λ s t. bar s Clogging t) (situation
 
 -- an act on a target's clogs: a rule bars it, or it changes, by the time, until when the target's processes are clogged
 pub record ActsOnClogs (point : Point) (act : Act) (target : Target) (change : ℕ → ℕ → ℕ) : Type 0 where
-  pub ruled : Ruled (bar (situation point.setup point.before point.by) Clogging (targets point.setup.processes (left point.setup point.before) target)) ≡ refused (refusals point.setup point.before act) (answer point.setup point.before point.by act)
+  pub ruled : Ruled (bar (situation point.setup point.before point.by) Clogging (targets point.setup.processes (left point.setup point.before) target)) ≡ first_refusal_or (refusals point.setup point.before act) (answer point.setup point.before point.by act)
   pub idle : (rule : Rule) → doings act (Ruled (Some rule)) ≡ nothing
   pub alone : doings act (Ruled None) ≡ clogs_alone act (Ruled None)
   pub silent : sends_of point.before act ≡ []
-  pub holds : (p t until : ℕ) → now point.before ≤ t → clogged_at t point.before p ≡ nat_lt t until
-      → clogged_at t (following point act (Ruled None)) p ≡ nat_lt t (if targets point.setup.processes (left point.setup point.before) target p then change (now point.before) until else until)
+  pub ends : (p : ℕ) → clog_ends (following point act (Ruled None)) p ≡ (if targets point.setup.processes (left point.setup point.before) target p then change (now point.before) (clog_ends point.before p) else clog_ends point.before p)
 
 pub clogging : (point : Point) (target : Target) (n : ℕ) → ActsOnClogs point (Clog target n) target (clog_end n)
 unfolding refusals answer
@@ -77,12 +76,8 @@ clogging point target n = record {
   idle = λ rule. refl;
   alone = refl;
   silent = refl;
-  holds = λ p t until later is. let named = targets point.setup.processes (left point.setup point.before) target p in ap (λ b. named && nat_lt t (min (now point.before + n) (2 ^ 40)) || b) is ∙ at t until named;
+  ends = λ p. refl;
 }
-  where
-    at : (t until : ℕ) (b : Bool) → (b && nat_lt t (min (now point.before + n) (2 ^ 40)) || nat_lt t until) ≡ nat_lt t (if b then clog_end n (now point.before) until else until)
-    at t until true = grind (arith, nat_tests)
-    at t until false = refl
 
 pub unclogging : (point : Point) (target : Target) → ActsOnClogs point (Unclog target) target unclog_end
 unfolding refusals answer
@@ -91,32 +86,28 @@ unclogging point target = record {
   idle = λ rule. refl;
   alone = refl;
   silent = refl;
-  holds = λ p t until later is. let named = targets point.setup.processes (left point.setup point.before) target p in ap (λ b. not named && b) is ∙ at t until later named;
+  ends = λ p. refl;
 }
-  where
-    at : (t until : ℕ) → now point.before ≤ t → (b : Bool) → (not b && nat_lt t until) ≡ nat_lt t (if b then unclog_end (now point.before) until else until)
-    at t until later true = grind (arith, nat_tests)
-    at t until later false = refl
 
 -- a rule bars it
-pub clogs_barred : {point : Point} {act : Act} {target : Target} {change : ℕ → ℕ → ℕ} {rule : Rule} {machine : Machine} {by : ℕ} → ActsOnClogs point act target change → Stands point.setup point.before machine → by ≡ point.by
-    → Some rule ≡ clog_bar machine by target → Follows point act (Ruled (Some rule)) machine
+pub clogs_barred : {point : Point} {act : Act} {target : Target} {change : ℕ → ℕ → ℕ} {rule : Rule} {machine : Machine} {by : ℕ} → ActsOnClogs point act target change → Refines point.setup point.before machine → by ≡ point.by
+    → Some rule ≡ clog_bar machine by target → StepsTo point act (Ruled (Some rule)) machine
 clogs_barred {point} {act} {target} {rule} {machine} {by} acts k actor is = record {
   right = ap Ruled (is ∙ bar_same point.setup point.before machine k by point.by actor target) ∙ acts.ruled;
   stands = unmoved point act (Ruled (Some rule)) machine (acts.idle rule) refl k;
 }
 
 -- none does
-pub clogs_changed : {point : Point} {act : Act} {target : Target} {change : ℕ → ℕ → ℕ} {machine : Machine} {by : ℕ} (set : sets.FinSet nat_cmp) {net : Traffic} → ActsOnClogs point act target change → Stands point.setup point.before machine → by ≡ point.by
-    → None ≡ clog_bar machine by target → ((p : ℕ) → sets.contains set p ≡ targets_by machine target p) → ClogsChange (sets.contains set) change machine.net net → Follows point act (Ruled None) (record machine { net = net })
+pub clogs_changed : {point : Point} {act : Act} {target : Target} {change : ℕ → ℕ → ℕ} {machine : Machine} {by : ℕ} (set : sets.FinSet nat_cmp) {net : NetState} → ActsOnClogs point act target change → Refines point.setup point.before machine → by ≡ point.by
+    → None ≡ clog_bar machine by target → ((p : ℕ) → sets.contains set p ≡ targets_by machine target p) → ClogsChange (sets.contains set) change machine.net net → StepsTo point act (Ruled None) (record machine { net = net })
 clogs_changed {point} {act} {target} {change} {machine} {by} set {net} acts k actor is who changed = record {
   right = ap Ruled (is ∙ bar_same c h machine k by point.by actor target) ∙ acts.ruled;
   stands = only_clogs point act (Ruled None) machine net acts.alone k record {
-    in_flight = ap (λ (n : Traffic). n.in_flight) changed.rest ∙ k.net.in_flight ∙ sym (flying_still m h acts.silent keeps);
-    sent_so_far = ap (λ (n : Traffic). n.sent) changed.rest ∙ k.net.sent_so_far ∙ sym all_sent;
-    clock = ap (λ (n : Traffic). n.clock) changed.rest ∙ k.net.clock ∙ sym time;
+    in_flight = ap (λ (n : NetState). n.in_flight) changed.rest ∙ k.net.in_flight ∙ sym (flying_still m h acts.silent keeps);
+    sent_so_far = ap (λ (n : NetState). n.sent) changed.rest ∙ k.net.sent_so_far ∙ sym all_sent;
+    clock = ap (λ (n : NetState). n.clock) changed.rest ∙ k.net.clock ∙ sym time;
     count = changed.ends.count ∙ k.net.count;
-    ends = λ p t l later. ends p t l (let e = time in omega arith);
+    ends = ends;
     early = λ n l. or_from _ _ (keeps n) (k.net.early n (let e = all_sent in omega arith));
     few = let e = all_sent in let few = k.net.few in omega arith;
   };
@@ -128,10 +119,10 @@ clogs_changed {point} {act} {target} {change} {machine} {by} set {net} acts k ac
     h : History
     h = point.before
 
-    m : Moment
-    m = moment_of point act (Ruled None)
+    m : Step
+    m = step_at point act (Ruled None)
 
-    keeps : (n : ℕ) → m.takes_out n ≡ false
+    keeps : (n : ℕ) → m.removes n ≡ false
     keeps = untaken point act (Ruled None) (ap (λ (d : Doings). d.delivered) acts.alone) (ap (λ (d : Doings). d.lost) acts.alone) (ap (λ (d : Doings). d.healed) acts.alone)
 
     all_sent : length (sent (m ∷ h)) ≡ length (sent h)
@@ -140,30 +131,35 @@ clogs_changed {point} {act} {target} {change} {machine} {by} set {net} acts k ac
     time : now (m ∷ h) ≡ now h
     time = rw (ap (λ (d : Doings). d.passed) acts.alone) (omega arith)
 
-    ends : (p t : ℕ) → p < length c.processes → now h ≤ t → clogged_at t (m ∷ h) p ≡ nat_lt t (slice_index net.until p)
-    ends p t l later =
+    ends : (p : ℕ) → p < length c.processes → slice_index net.until p ≡ clog_ends (m ∷ h) p
+    ends p l =
         let was = slice_index machine.net.until p in
-        acts.holds p t was later (k.net.ends p t l later)
-        ∙ ap (λ b. nat_lt t (if b then change (now h) was else was)) (sym (who p ∙ ap (λ f. f p) (targets_same c h machine k target)))
-        ∙ ap (λ clock. nat_lt t (if sets.contains set p then change clock was else was)) (sym k.net.clock)
-        ∙ ap (nat_lt t) (sym (changed.ends.each p (let w = k.net.count in omega arith)))
+        changed.ends.each p (let w = k.net.count in omega arith)
+        ∙ ap (λ clock. if sets.contains set p then change clock was else was) k.net.clock
+        ∙ ap (λ until. if sets.contains set p then change (now h) until else until) (k.net.ends p l)
+        ∙ ap (λ b. if b then change (now h) (clog_ends h p) else clog_ends h p) (who p ∙ ap (λ f. f p) (targets_same c h machine k target))
+        ∙ sym (acts.ends p)
 
 -- ---- kills
 
-kill_reply : (c : Setup) (h : History) (by : ℕ) (order : Order) (v : VerdictOf) → v ≡ verdict (situation c h by) order → Verdict v ≡ refused (refusals c h (Kill order)) (answer c h by (Kill order))
+kill_reply : (c : Setup) (h : History) (by : ℕ) (order : Order) (v : VerdictOf) → v ≡ verdict (situation c h by) order → Verdict v ≡ first_refusal_or (refusals c h (Kill order)) (answer c h by (Kill order))
 unfolding refusals answer
 kill_reply c h by order v e = ap Verdict e
 
-verdict_same : (c : Setup) (h : History) (m : Machine) → Stands c h m → (by actor : ℕ) → by ≡ actor → (order : Order) → verdict (situation_of m.dead m.book by) order ≡ verdict (situation c h actor) order
+verdict_same : (c : Setup) (h : History) (m : Machine) → Refines c h m → (by actor : ℕ) → by ≡ actor → (order : Order) → verdict (situation_of m.dead m.book by) order ≡ verdict (situation c h actor) order
 verdict_same c h m k by actor e order = ap (λ s. verdict s order) (situation_same c h m k by ∙ ap (situation c h) e)
+
+-- the verdict of the books is the reply
+pub judged : (c : Setup) (h : History) (m : Machine) → Refines c h m → (by : ℕ) (order : Order) (v : VerdictOf) → v ≡ verdict (situation_of m.dead m.book by) order → Verdict v ≡ first_refusal_or (refusals c h (Kill order)) (answer c h by (Kill order))
+judged c h m k by order v is = kill_reply c h by order v (is ∙ verdict_same c h m k by by refl order)
 
 -- what a verdict struck, the verdict's word for it struck
 pub chosen : {v w : VerdictOf} {kind : Kind} → v ≡ w → v.struck ≡ Some kind → w.struck ≡ Some kind
 chosen e s = ap (λ (v : VerdictOf). v.struck) (sym e) ∙ s
 
 -- an order that struck nobody
-pub spares : {point : Point} (order : Order) {v : VerdictOf} {machine : Machine} {by : ℕ} → Stands point.setup point.before machine → by ≡ point.by
-    → v ≡ verdict (situation_of machine.dead machine.book by) order → v.struck ≡ None → Follows point (Kill order) (Verdict v) machine
+pub spares : {point : Point} (order : Order) {v : VerdictOf} {machine : Machine} {by : ℕ} → Refines point.setup point.before machine → by ≡ point.by
+    → v ≡ verdict (situation_of machine.dead machine.book by) order → v.struck ≡ None → StepsTo point (Kill order) (Verdict v) machine
 spares {point} order {v} {machine} {by} k actor is none = record {
   right = kill_reply point.setup point.before point.by order v (is ∙ verdict_same point.setup point.before machine k by point.by actor order);
   stands = unmoved point (Kill order) (Verdict v) machine (ap (λ kind. record nothing { struck = kind }) none) refl k;
@@ -191,8 +187,8 @@ left_less true false true kind e = refl
 left_less true false false kind e = refl
 left_less false b g kind e = refl
 
-dead_struck : (c : Setup) (m : Moment) (h : History) (book : Casualties) (set : sets.FinSet nat_cmp) (kind : Kind) → ((p : ℕ) → strikes m p ≡ at_target (sets.contains set p) kind)
-    → heals m.entry.act m.entry.reply ≡ None → KeepsDead c h book → KeepsDead c (m ∷ h) (buried book set kind)
+dead_struck : (c : Setup) (m : Step) (h : History) (book : Losses) (set : sets.FinSet nat_cmp) (kind : Kind) → ((p : ℕ) → strikes m p ≡ at_target (sets.contains set p) kind)
+    → heals m.entry.act m.entry.reply ≡ None → RefinesDead c h book → RefinesDead c (m ∷ h) (with_losses book set kind)
 dead_struck c m h book set RebootProcess struck_is unhealed k = record {
   processes = k.processes;
   policies = k.policies;
@@ -229,8 +225,8 @@ up_less true false kind = refl
 up_less false true kind = refl
 up_less false false kind = refl
 
-up_struck : (c : Setup) (m : Moment) (h : History) (up_now set : sets.FinSet nat_cmp) (kind : Kind) → ((q : ℕ) → up (m ∷ h) q ≡ (is_none (strikes m q) && up h q)) → ((p : ℕ) → strikes m p ≡ at_target (sets.contains set p) kind)
-    → KeepsUp c h up_now → KeepsUp c (m ∷ h) (sets.difference up_now set)
+up_struck : (c : Setup) (m : Step) (h : History) (up_now set : sets.FinSet nat_cmp) (kind : Kind) → ((q : ℕ) → up (m ∷ h) q ≡ (is_none (strikes m q) && up h q)) → ((p : ℕ) → strikes m p ≡ at_target (sets.contains set p) kind)
+    → RefinesUp c h up_now → RefinesUp c (m ∷ h) (sets.difference up_now set)
 up_struck c m h up_now set kind is struck_is k = record {
   each = λ p l. sets.contains-difference nat_cmp_total up_now set p ∙ ap (λ u. u && not (sets.contains set p)) (k.each p l) ∙ up_less (sets.contains set p) (up h p) kind ∙ ap (λ o. is_none o && up h p) (sym (struck_is p)) ∙ sym (is p);
 }
@@ -238,14 +234,14 @@ up_struck c m h up_now set kind is struck_is k = record {
 -- ---- disks
 
 -- a disk after a strike at its process
-stored_struck : (m : Moment) (h : History) (p : ℕ) (kind : Kind) → syncs m.entry.act m.entry.reply ≡ None → writes m p ≡ None → strikes m p ≡ Some kind → stored (m ∷ h) p ≡ left_on kind (tear_of m.entry.act) (stored h p)
+stored_struck : (m : Step) (h : History) (p : ℕ) (kind : Kind) → syncs m.entry.act m.entry.reply ≡ None → writes m p ≡ None → strikes m p ≡ Some kind → stored (m ∷ h) p ≡ disk_after_strike kind (tear_of m.entry.act) (stored h p)
 stored_struck m h p RebootProcess idle w s = stored_still m h p (ap₂ (λ a b. disk_closes a b p) idle s) w
 stored_struck m h p Reboot idle w s =
     let closing : closes p m ≡ true = ap₂ (λ a b. disk_closes a b p) idle s in
     let spares_all : destroys m p ≡ false = ap (some_is is_destroying) s in
     ap₂ (λ (xs ys : List Item). record { synced = xs; unsynced = ys })
     (synced_at_close m h p closing spares_all
-    ∙ ap₂ (λ (a : Option ℕ) (b : Option Kind). synced h p ++ passing (λ i. some_is (λ q. q == p) a || not (some_is is_destroying b) && outlives (tear_of m.entry.act) i) 0 (unsynced h p)) idle s)
+    ∙ ap₂ (λ (a : Option ℕ) (b : Option Kind). synced h p ++ filter_by_place (λ i. some_is (λ q. q == p) a || not (some_is is_destroying b) && outlives (tear_of m.entry.act) i) 0 (unsynced h p)) idle s)
     (unsynced_at_close m h p closing)
 stored_struck m h p RebootAndDelete idle w s =
     ap₂ (λ (xs ys : List Item). record { synced = xs; unsynced = ys }) (synced_at_strike m h p (ap (some_is is_destroying) s)) (unsynced_at_close m h p (ap₂ (λ a b. disk_closes a b p) idle s))
@@ -256,25 +252,25 @@ stored_struck m h p KillInstantly idle w s =
 element : {X : Type 0} (xs : List X) (i : ℕ) (other x : X) → i < length xs → slice_get xs i ≡ Some x → get_or xs i other ≡ x
 element xs i other x l e = some_is_same (get_or xs i other) x (sym (slice_get-get_or xs i other l) ∙ e)
 
-disks_struck : (c : Setup) (m : Moment) (h : History) (old new : List Stored) (set : sets.FinSet nat_cmp) (kind : Kind) (tear : ℕ) → ((p : ℕ) → strikes m p ≡ at_target (sets.contains set p) kind)
-    → syncs m.entry.act m.entry.reply ≡ None → ((p : ℕ) → writes m p ≡ None) → tear_of m.entry.act ≡ tear → ChangesAt (sets.contains set) (left_on kind tear) blank old new
-    → KeepsDisks c h old → KeepsDisks c (m ∷ h) new
+disks_struck : (c : Setup) (m : Step) (h : History) (old new : List Stored) (set : sets.FinSet nat_cmp) (kind : Kind) (tear : ℕ) → ((p : ℕ) → strikes m p ≡ at_target (sets.contains set p) kind)
+    → syncs m.entry.act m.entry.reply ≡ None → ((p : ℕ) → writes m p ≡ None) → tear_of m.entry.act ≡ tear → ChangesAt (sets.contains set) (disk_after_strike kind tear) empty_disk old new
+    → RefinesDisks c h old → RefinesDisks c (m ∷ h) new
 disks_struck c m h old new set kind tear struck_is idle w torn changed k = record {
   count = changed.count ∙ k.count;
-  each = λ p l. slice_get-get_or new p blank (let a = changed.count in let b = k.count in omega arith) ∙ ap Some (changed.each p (let b = k.count in omega arith) ∙ ap (λ d. if sets.contains set p then left_on kind tear d else d) (element old p blank (stored h p) (let b = k.count in omega arith) (k.each p l)) ∙ at p (sets.contains set p) (struck_is p));
+  each = λ p l. slice_get-get_or new p empty_disk (let a = changed.count in let b = k.count in omega arith) ∙ ap Some (changed.each p (let b = k.count in omega arith) ∙ ap (λ d. if sets.contains set p then disk_after_strike kind tear d else d) (element old p empty_disk (stored h p) (let b = k.count in omega arith) (k.each p l)) ∙ at p (sets.contains set p) (struck_is p));
 }
   where
-    at : (p : ℕ) (b : Bool) → strikes m p ≡ at_target b kind → (if b then left_on kind tear (stored h p) else stored h p) ≡ stored (m ∷ h) p
-    at p true s = ap (λ t. left_on kind t (stored h p)) (sym torn) ∙ sym (stored_struck m h p kind idle (w p) s)
+    at : (p : ℕ) (b : Bool) → strikes m p ≡ at_target b kind → (if b then disk_after_strike kind tear (stored h p) else stored h p) ≡ stored (m ∷ h) p
+    at p true s = ap (λ t. disk_after_strike kind t (stored h p)) (sym torn) ∙ sym (stored_struck m h p kind idle (w p) s)
     at p false s = sym (stored_still m h p (ap₂ (λ a b. disk_closes a b p) idle s) (w p))
 
 -- an order that struck its targets
-pub strikes_now : {point : Point} (order : Order) {v : VerdictOf} {kind : Kind} {machine : Machine} (set : sets.FinSet nat_cmp) {by : ℕ} (after : Machine) → Stands point.setup point.before machine
+pub strikes_now : {point : Point} (order : Order) {v : VerdictOf} {kind : Kind} {machine : Machine} (set : sets.FinSet nat_cmp) {by : ℕ} (after : Machine) → Refines point.setup point.before machine
     → by ≡ point.by → v ≡ verdict (situation_of machine.dead machine.book by) order → v.struck ≡ Some kind
     → ((p : ℕ) → sets.contains set p ≡ targets_by machine order.target p)
-    → ChangesAt (sets.contains set) (left_on kind order.tear) blank machine.disks after.disks
-    → after.up ≡ sets.difference machine.up set → after.dead ≡ buried machine.dead set kind
-    → after.book ≡ machine.book → after.net ≡ machine.net → after.teams ≡ machine.teams → Follows point (Kill order) (Verdict v) after
+    → ChangesAt (sets.contains set) (disk_after_strike kind order.tear) empty_disk machine.disks after.disks
+    → after.up ≡ sets.difference machine.up set → after.dead ≡ with_losses machine.dead set kind
+    → after.book ≡ machine.book → after.net ≡ machine.net → after.teams ≡ machine.teams → StepsTo point (Kill order) (Verdict v) after
 strikes_now {point} order {v} {kind} {machine} set {by} after k actor is hit who changed ups dead book net teams = record {
   right = kill_reply c h point.by order v (is ∙ verdict_same c h machine k by point.by actor order);
   stands = record {
@@ -293,8 +289,8 @@ strikes_now {point} order {v} {kind} {machine} set {by} after k actor is hit who
     h : History
     h = point.before
 
-    m : Moment
-    m = moment_of point (Kill order) (Verdict v)
+    m : Step
+    m = step_at point (Kill order) (Verdict v)
 
     struck_is : (p : ℕ) → strikes m p ≡ at_target (sets.contains set p) kind
     struck_is p = ap₂ (λ (b : Bool) (o : Option Kind). if b then o else None) (sym (who p ∙ ap (λ f. f p) (targets_same c h machine k order.target))) hit

@@ -6,7 +6,7 @@ use Rattle.std.proofs.lemmas.List.Folds.{Any-from_list_any}
 use Rattle.std.specs.List.{list_any, Any}
 use Rattle.fy_locality.specs.declared.ProcId.{ProcId}
 use Rattle.fy_policy.specs.Sat.{Sat}
-use Rattle.fy_decide.specs.Losses.{AreShort}
+use Rattle.fy_decide.specs.Safety.{AreShort}
 use Rattle.fy_grants.specs.Least.{LeastWith, least_with}
 use Rattle.fy_team.specs.Teams.{Team, is_among, IsFormed}
 use Rattle.fy_acts.specs.declared.entry.Entry.{Entry}

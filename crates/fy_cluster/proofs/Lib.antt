@@ -3,7 +3,6 @@ pub mod Copying
 pub mod Deliverable
 pub mod Delivered
 pub mod DiskSteps
-pub mod Disks
 pub mod Entering
 pub mod Finding
 pub mod Flights
@@ -25,6 +24,7 @@ pub mod Runs
 pub mod Seen
 pub mod Sending
 pub mod Sent
+pub mod Shown
 pub mod Starting
 pub mod Starts
 pub mod Still
@@ -32,4 +32,5 @@ pub mod Strikes
 pub mod Syncing
 pub mod Targets
 pub mod Times
+pub mod Told
 pub mod Unchanged

@@ -5,17 +5,17 @@ use Rattle.std.proofs.lemmas.Bool.Decides.{nat_tests}
 use Rattle.fy_net.specs.declared.message.Body.{Body}
 use Rattle.fy_net.specs.declared.fault.NetFault.{NetFault}
 use Rattle.fy_net.specs.declared.fault.NetFault.TheVariants.{NoMessage as NoneInFlight}
-use Rattle.fy_net.specs.Net.{Traffic, body_of, without, left_by, lose_refusal, missing_refusal}
+use Rattle.fy_net.specs.Net.{NetState, body_of, without, without_message, lose_refusal, missing_refusal}
 use Rattle.fy_acts.specs.declared.act.Act.TheVariants.{Lose}
 use Rattle.fy_acts.specs.declared.reply.Reply.{Reply}
 use Rattle.fy_acts.specs.declared.reply.Reply.TheVariants.{Done, No}
 use Rattle.fy_acts.specs.declared.reply.Refusal.TheVariants.{NoMessage}
 use Rattle.fy_cluster.specs.declared.machine.Machine.{Machine}
 use Rattle.fy_cluster.specs.Setup.{Setup}
-use Rattle.fy_cluster.specs.History.{History, Moment, sent, in_flight, now, clogs, unclogs, ticks}
-use Rattle.fy_cluster.specs.Replies.{refused, refusals, answer}
-use Rattle.fy_cluster.specs.Standing.{Stands, Point, Follows, moment_of, KeepsNet}
-use Rattle.fy_cluster.proofs.Still.{teams_idle, only_traffic}
+use Rattle.fy_cluster.specs.History.{History, Step, sent, in_flight, clogs, unclogs, ticks}
+use Rattle.fy_cluster.specs.Replies.{first_refusal_or, refusals, answer}
+use Rattle.fy_cluster.specs.Standing.{Refines, Point, StepsTo, step_at, RefinesNet}
+use Rattle.fy_cluster.proofs.Still.{teams_idle, only_traffic, ends_still}
 use Rattle.fy_cluster.proofs.Flights.{flying_without, body_flying}
 use Rattle.fy_cluster.proofs.Refusals.{refuse}
 use Rattle.fy_cluster.proofs.Records.{slice_get-some}
@@ -23,7 +23,7 @@ use Rattle.fy_cluster.proofs.Records.{slice_get-some}
 -- ---- a message leaves
 
 -- what the network says of a number tells whether its message is in flight
-pub flies : (c : Setup) (h : History) (net : Traffic) → KeepsNet c h net → (n : ℕ) (b : Body) → body_of net.in_flight n ≡ Some b → (in_flight h n ≡ true) × (slice_get (sent h) n ≡ Some b)
+pub flies : (c : Setup) (h : History) (net : NetState) → RefinesNet c h net → (n : ℕ) (b : Body) → body_of net.in_flight n ≡ Some b → (in_flight h n ≡ true) × (slice_get (sent h) n ≡ Some b)
 flies c h net k n b e = at (in_flight h n) refl (sym (ap (λ xs. body_of xs n) k.in_flight ∙ body_flying h n) ∙ e)
   where
     at : (f : Bool) → in_flight h n ≡ f → (if f then slice_get (sent h) n else None) ≡ Some b → (in_flight h n ≡ true) × (slice_get (sent h) n ≡ Some b)
@@ -36,19 +36,19 @@ some_or_none xs e x f = cc
 pub was_sent : (h : History) (n : ℕ) → in_flight h n ≡ true → (b : Body) × (slice_get (sent h) n ≡ Some b)
 was_sent h n f = slice_get-some (sent h) n (let w = (and_parts (nat_lt n (length (sent h))) _ f).0 in grind (arith, nat_tests))
 
-pub flies_not : (c : Setup) (h : History) (net : Traffic) → KeepsNet c h net → ((n : ℕ) → in_flight h n ≡ true → (b : Body) × (slice_get (sent h) n ≡ Some b)) → (n : ℕ) → body_of net.in_flight n ≡ None → in_flight h n ≡ false
+pub flies_not : (c : Setup) (h : History) (net : NetState) → RefinesNet c h net → ((n : ℕ) → in_flight h n ≡ true → (b : Body) × (slice_get (sent h) n ≡ Some b)) → (n : ℕ) → body_of net.in_flight n ≡ None → in_flight h n ≡ false
 flies_not c h net k there n e = false_from_ne_true _ (λ f.
     let b = there n f in
     some_or_none (body_of net.in_flight n) e b.0 (ap (λ xs. body_of xs n) k.in_flight ∙ body_flying h n ∙ rw f b.1))
 
-pub net_left : (c : Setup) (m : Moment) (h : History) (net : Traffic) (n : ℕ) → in_flight h n ≡ true → m.sends ≡ [] → ((k : ℕ) → m.takes_out k ≡ (k == n)) → clogs m.entry.act m.entry.reply ≡ None → unclogs m.entry.act m.entry.reply ≡ None → ticks m.entry.act m.entry.reply ≡ None
-    → KeepsNet c h net → KeepsNet c (m ∷ h) (left_by n net)
+pub net_left : (c : Setup) (m : Step) (h : History) (net : NetState) (n : ℕ) → in_flight h n ≡ true → m.sends ≡ [] → ((k : ℕ) → m.removes k ≡ (k == n)) → clogs m.entry.act m.entry.reply ≡ None → unclogs m.entry.act m.entry.reply ≡ None → ticks m.entry.act m.entry.reply ≡ None
+    → RefinesNet c h net → RefinesNet c (m ∷ h) (without_message n net)
 net_left c m h net n flying_now none one no_clog no_end no_tick k = record {
   in_flight = ap (without n) k.in_flight ∙ sym (flying_without m h n none one);
   sent_so_far = k.sent_so_far ∙ sym same;
   clock = k.clock ∙ sym (rw no_tick (omega arith));
   count = k.count;
-  ends = λ p t l later. rw (no_clog, no_end) (k.ends p t l (let e : now (m ∷ h) ≡ now h = rw no_tick (omega arith) in omega arith));
+  ends = λ p l. k.ends p l ∙ sym (ends_still m h p no_clog no_end);
   early = λ i l. or_from _ _ (one i ∙ other i (let e = same in omega arith)) (k.early i (let e = same in omega arith));
   few = let e = same in let few = k.few in omega arith;
 }
@@ -64,7 +64,7 @@ net_left c m h net n flying_now none one no_clog no_end no_tick k = record {
 
 -- ---- Lose
 
-lose_reply : (c : Setup) (h : History) (by n : ℕ) (a : Bool) → in_flight h n ≡ a → refused (refusals c h (Lose n)) (answer c h by (Lose n)) ≡ refused ((not a, NoMessage) ∷ []) Done
+lose_reply : (c : Setup) (h : History) (by n : ℕ) (a : Bool) → in_flight h n ≡ a → first_refusal_or (refusals c h (Lose n)) (answer c h by (Lose n)) ≡ first_refusal_or ((not a, NoMessage) ∷ []) Done
 unfolding refusals answer
 lose_reply c h by n a e = rw e refl
 
@@ -75,10 +75,10 @@ lost_reply (Err fault) = No NoMessage
 pub swap_eq : (k n : ℕ) → (n == k) ≡ (k == n)
 swap_eq k n = grind (arith, nat_tests)
 
-lost : (point : Point) (n : ℕ) (m : Machine) → Stands point.setup point.before m → in_flight point.before n ≡ true → Follows point (Lose n) Done (record m { net = left_by n m.net })
+lost : (point : Point) (n : ℕ) (m : Machine) → Refines point.setup point.before m → in_flight point.before n ≡ true → StepsTo point (Lose n) Done (record m { net = without_message n m.net })
 lost point n machine k f = record {
   right = sym (lose_reply c h point.by n true f);
-  stands = only_traffic point (Lose n) Done machine (left_by n machine.net) machine.teams refl (λ p. refl) k
+  stands = only_traffic point (Lose n) Done machine (without_message n machine.net) machine.teams refl (λ p. refl) k
       (net_left c m h machine.net n f refl (λ k. swap_eq k n) refl refl refl k.net)
       (teams_idle point (Lose n) Done machine.teams refl refl refl refl refl k.teams);
 }
@@ -89,13 +89,13 @@ lost point n machine k f = record {
     h : History
     h = point.before
 
-    m : Moment
-    m = moment_of point (Lose n) Done
+    m : Step
+    m = step_at point (Lose n) Done
 
-pub lose_step : (point : Point) (n : ℕ) (m : Machine) (net : Traffic) (result : Result (Unit {0}) NetFault) → Stands point.setup point.before m
+pub lose_step : (point : Point) (n : ℕ) (m : Machine) (net : NetState) (result : Result (Unit {0}) NetFault) → Refines point.setup point.before m
     → ((fault : NetFault) → lose_refusal m.net n ≡ Some fault → (result ≡ Err fault) × (net ≡ m.net))
-    → (lose_refusal m.net n ≡ None → (IsOk result) × (net ≡ left_by n m.net))
-    → Follows point (Lose n) (lost_reply result) (record m { net = net })
+    → (lose_refusal m.net n ≡ None → (IsOk result) × (net ≡ without_message n m.net))
+    → StepsTo point (Lose n) (lost_reply result) (record m { net = net })
 lose_step point n m net result k past fits = at (body_of m.net.in_flight n) result refl past fits
   where
     there : (n : ℕ) → in_flight point.before n ≡ true → (b : Body) × (slice_get (sent point.before) n ≡ Some b)
@@ -103,8 +103,8 @@ lose_step point n m net result k past fits = at (body_of m.net.in_flight n) resu
 
     at : (o : Option Body) (result : Result (Unit {0}) NetFault) → body_of m.net.in_flight n ≡ o
         → ((fault : NetFault) → lose_refusal m.net n ≡ Some fault → (result ≡ Err fault) × (net ≡ m.net))
-        → (lose_refusal m.net n ≡ None → (IsOk result) × (net ≡ left_by n m.net))
-        → Follows point (Lose n) (lost_reply result) (record m { net = net })
+        → (lose_refusal m.net n ≡ None → (IsOk result) × (net ≡ without_message n m.net))
+        → StepsTo point (Lose n) (lost_reply result) (record m { net = net })
     at None result e past fits =
         let said = past NoneInFlight (ap missing_refusal e) in
         rw (said.0, said.1) (refuse point (Lose n) NoMessage m k (lose_reply point.setup point.before point.by n false (flies_not point.setup point.before m.net k.net there n e)))

@@ -15,7 +15,7 @@ use Rattle.fy_net.specs.declared.message.Body.TheVariants.{Store, Synced}
 use Rattle.fy_policy.specs.Tree.{Tree}
 use Rattle.fy_policy.specs.Sat.{Sat, satisfies}
 use Rattle.fy_locality.specs.declared.locality.Locality.{Locality}
-use Rattle.fy_net.specs.Net.{is_word_from}
+use Rattle.fy_net.specs.Net.{is_ack_from}
 use Rattle.fy_kinds.specs.Kinds.{is_destroying}
 use Rattle.fy_team.specs.Teams.{Team, is_among, swapped, IsFormed, AreFormed}
 use Rattle.fy_acts.specs.declared.act.Act.{Act}
@@ -23,10 +23,10 @@ use Rattle.fy_acts.specs.declared.act.Act.TheVariants.{Form, Begin, Deliver, Los
 use Rattle.fy_acts.specs.declared.reply.Reply.{Reply}
 use Rattle.fy_acts.specs.declared.entry.Entry.{Entry}
 use Rattle.fy_cluster.specs.Setup.{Setup}
-use Rattle.fy_cluster.specs.History.{History, Moment, BegunRecord, moment, message_of, sends_of, is_accepted, if_accepted, some_is, forms, begins, delivers, destroys, destroyed, is_stored, store_to, writes, written, is_open, place, teams, records, members_of, members_for, payload_of, synced, unsynced, sent, in_flight, is_taken, takes_of, word_of, marks, marked, marked_after, tells, acked, has_synced, struck_by, heals, heals_at, Swap, replaces, with_swap, after_swap, is_kept}
+use Rattle.fy_cluster.specs.History.{History, Step, BegunRecord, step_of, message_of, sends_of, is_accepted, if_accepted, some_is, forms, begins, delivers, destroys, destroyed, is_stored, store_to, writes, teams, records, members_of, members_for, payload_of, synced, unsynced, sent, in_flight, is_removed, removes_of, ack_of, marks, marked, marked_after, delivers_ack_of, acked, has_synced, struck_by, heals, heals_at, Swap, replaces, with_swap, after_swap, written_item, Fate, is_pending, is_durable, Write, write_after, items_with, new_write, writes_to}
 use Rattle.fy_cluster.specs.Replies.{meets, no_process, policy_of, is_of_team, needed_by, refusals, reasons, IsNext}
 use Rattle.fy_cluster.proofs.Strikes.{accepted}
-use Rattle.fy_cluster.proofs.Disks.{synced_still, synced_by}
+use Rattle.fy_cluster.proofs.DiskSteps.{synced_still, synced_by}
 
 -- ---- lists
 
@@ -108,7 +108,7 @@ HasCopy h r p = (destroyed h p ≡ true) ⊎ Held h r p
 pub record Sound (c : Setup) (h : History) : Type 0 where
   pub sent_known : AllByRecursion (λ b. Known h (record_of b)) (sent h)
   pub known : WritesKnown h
-  pub flying : (n r : ℕ) (p : ProcId) → in_flight h n ≡ true → slice_get (sent h) n ≡ Some (Synced r p) → HasCopy h r p.0
+  pub messages_in_flight : (n r : ℕ) (p : ProcId) → in_flight h n ≡ true → slice_get (sent h) n ≡ Some (Synced r p) → HasCopy h r p.0
   pub by_mark : (r p : ℕ) → acked h r ≡ false → marked h r p ≡ true → HasCopy h r p
   pub by_ack : (r : ℕ) (p : ProcId) → acked h r ≡ true → Contains (members_for h r) p → HasCopy h r p.0
   pub ack_known : (r : ℕ) → acked h r ≡ true → Known h r
@@ -117,20 +117,20 @@ pub record Sound (c : Setup) (h : History) : Type 0 where
 
 -- ---- one entry more
 
-pub records_still : (m : Moment) (h : History) (r : ℕ) (b : BegunRecord) → slice_get (records h) r ≡ Some b → slice_get (records (m ∷ h)) r ≡ Some b
+pub records_still : (m : Step) (h : History) (r : ℕ) (b : BegunRecord) → slice_get (records h) r ≡ Some b → slice_get (records (m ∷ h)) r ≡ Some b
 records_still m h r b e = slice_get-append (records h) (option_to_list (begins m.entry.act m.entry.reply)) r b e
 
-pub known_still : (m : Moment) (h : History) (r : ℕ) → Known h r → Known (m ∷ h) r
+pub known_still : (m : Step) (h : History) (r : ℕ) → Known h r → Known (m ∷ h) r
 known_still m h r k = (k.0, records_still m h r k.0 k.1)
 
-held_still : (m : Moment) (h : History) (r p : ℕ) → destroys m p ≡ false → Held h r p → Held (m ∷ h) r p
+held_still : (m : Step) (h : History) (r p : ℕ) → destroys m p ≡ false → Held h r p → Held (m ∷ h) r p
 held_still m h r p d g = (g.0, records_still m h r g.0 g.1, synced_still m h p d (record { rec = r; payload = g.0.payload }) g.2)
 
-destroyed_still : (m : Moment) (h : History) (p : ℕ) → heals_at m p ≡ false → destroyed h p ≡ true → destroyed (m ∷ h) p ≡ true
+destroyed_still : (m : Step) (h : History) (p : ℕ) → heals_at m p ≡ false → destroyed h p ≡ true → destroyed (m ∷ h) p ≡ true
 destroyed_still m h p n d = or_right (destroys m p) _ (and_from _ _ (not_from_false _ n) d)
 
 -- a copy stays, or its process is destroyed, unless it is healed
-copy_still : (m : Moment) (h : History) (r p : ℕ) → heals_at m p ≡ false → HasCopy h r p → HasCopy (m ∷ h) r p
+copy_still : (m : Step) (h : History) (r p : ℕ) → heals_at m p ≡ false → HasCopy h r p → HasCopy (m ∷ h) r p
 copy_still m h r p n g = at (destroys m p) refl g
   where
     at : (d : Bool) → destroys m p ≡ d → HasCopy h r p → HasCopy (m ∷ h) r p
@@ -138,7 +138,7 @@ copy_still m h r p n g = at (destroys m p) refl g
     at false d (inl e) = inl (destroyed_still m h p n e)
     at false d (inr i) = inr (held_still m h r p d i)
 
-item_still : (m : Moment) (h : History) (x : Item) → ItemGood h x → ItemGood (m ∷ h) x
+item_still : (m : Step) (h : History) (x : Item) → ItemGood h x → ItemGood (m ∷ h) x
 item_still m h x g = (g.0, records_still m h x.rec g.0 g.1, g.2)
 
 -- ---- what an accepted reply tells
@@ -261,7 +261,7 @@ store_known h p r (Store q to) g s = into (to.0 == p) s
     into false s = absurd (cc)
 store_known h p r (Synced q from) g s = absurd (cc)
 
-write_known : (c : Setup) (h : History) (e : Entry) → AllByRecursion (λ b. Known h (record_of b)) (sent h) → (p r : ℕ) → writes (moment c h e) p ≡ Some r → Known h r
+write_known : (c : Setup) (h : History) (e : Entry) → AllByRecursion (λ b. Known h (record_of b)) (sent h) → (p r : ℕ) → writes (step_of c h e) p ≡ Some r → Known h r
 write_known c h e a p r w = at (is_some (delivers e.act e.reply) && is_stored e.reply) w
   where
     at : (b : Bool) → (if b then option_and_then (store_to p) (message_of h e.act) else None) ≡ Some r → Known h r
@@ -271,43 +271,61 @@ write_known c h e a p r w = at (is_some (delivers e.act e.reply) && is_stored e.
 pub payload_known : (h : History) (r : ℕ) (b : BegunRecord) → slice_get (records h) r ≡ Some b → payload_of h r ≡ b.payload
 payload_known h r b e = rw e refl
 
-own_good : (h : History) (b : Bool) (o : Option ℕ) (x : Item) → ((r : ℕ) → o ≡ Some r → Known h r) → Contains (option_to_list (if b then option_map (λ rec. record { rec = rec; payload = payload_of h rec }) o else None)) x → ItemGood h x
-own_good h false o x w i = absurd (omega (arith, i.1))
-own_good h true None x w i = absurd (omega (arith, i.1))
-own_good h true (Some r) x w i =
-    let y : Item = record { rec = r; payload = payload_of h r } in
-    let k = w r refl in
-    elim (Contains-push_cases [] y x i) [
-      | inl a ↦ absurd (omega (arith, a.1))
-      | inr same ↦ subst (ItemGood h) same (k.0, k.1, payload_known h r k.0 k.1)
-    ]
+cons_cases : {X : Type 0} (y : X) (ys : List X) (x : X) → Contains (y ∷ ys) x → (y ≡ x) ⊎ Contains ys x
+cons_cases y ys x i = elim (Contains-append_cases (y ∷ []) ys x i) [
+  | inl a ↦ elim (Contains-push_cases [] y x a) [ inl n ↦ absurd (omega (arith, n.1)) | inr e ↦ inl e ]
+  | inr a ↦ inr a
+]
+
+-- each item written by one of the writes is good
+items_in : (Q : Item → Type 0) (f : Fate → Bool) (ws : List Write) → AllByRecursion (λ w. Q w.item) ws → (x : Item) → Contains (items_with f ws) x → Q x
+items_in Q f [] a x i = absurd (omega (arith, i.1))
+items_in Q f (w ∷ ws) a x i = at (items_in Q f ws a.1 x) (f w.fate) i
+  where
+    rest : List Write
+    rest = filter (λ w. f w.fate) ws
+
+    at : (Contains (items_with f ws) x → Q x) → (b : Bool) → Contains (map (λ (w : Write). w.item) (cond b (w ∷ rest) rest)) x → Q x
+    at more true i = elim (cons_cases w.item (items_with f ws) x i) [ inl same ↦ subst Q same a.0 | inr k ↦ more k ]
+    at more false i = more i
+
+aged_good : (Q R : Item → Type 0) → ((x : Item) → Q x → R x) → (p : ℕ) (m : Step) (ws : List Write) → AllByRecursion (λ w. Q w.item) ws → AllByRecursion (λ w. R w.item) (map (write_after p m) ws)
+aged_good Q R more p m [] a = tt
+aged_good Q R more p m (w ∷ ws) a = (more w.item a.0, aged_good Q R more p m ws a.1)
+
+own_good : (h : History) (count : ℕ) (o : Option ℕ) → ((r : ℕ) → o ≡ Some r → Known h r) → AllByRecursion (λ (w : Write). ItemGood h w.item) (option_to_list (option_map (new_write count) (written_item h o)))
+own_good h count None w = tt
+own_good h count (Some r) w = let k = w r refl in ((k.0, k.1, payload_known h r k.0 k.1), tt)
+
+writes_good : (h : History) (p : ℕ) → WritesKnown h → AllByRecursion (λ (w : Write). ItemGood h w.item) (writes_to h p)
+writes_good [] p k = tt
+writes_good (m ∷ h) p k =
+    each-append (λ (w : Write). ItemGood (m ∷ h) w.item) _ _
+    (aged_good (ItemGood h) (ItemGood (m ∷ h)) (item_still m h) p m (writes_to h p) (writes_good h p k.1))
+    (each-weaker (λ (w : Write). ItemGood h w.item) (λ (w : Write). ItemGood (m ∷ h) w.item) (λ w. item_still m h w.item) _ (own_good h (length (items_with is_pending (writes_to h p))) (writes m p) (k.0 p)))
 
 -- so each item on a disk is good
-items_good : (p : ℕ) (f : List Moment → ℕ → Bool) (h : History) (later : List Moment) (x : Item) → WritesKnown h → Contains (written p f later h) x → ItemGood h x
-items_good p f [] later x w i = absurd (omega (arith, i.1))
-items_good p f (m ∷ h) later x w i = elim (Contains-append_cases (written p f (m ∷ later) h) _ x i) [
-  | inl a ↦ item_still m h x (items_good p f h (m ∷ later) x w.1 a)
-  | inr a ↦ item_still m h x (own_good h (f later (place h p)) (writes m p) x (w.0 p) a)
-]
+items_good : (f : Fate → Bool) (h : History) (p : ℕ) (x : Item) → WritesKnown h → Contains (items_with f (writes_to h p)) x → ItemGood h x
+items_good f h p x k i = items_in (ItemGood h) f (writes_to h p) (writes_good h p k) x i
 
 -- ---- what one entry sends
 
 -- each message that is sent is of a record that was begun
 sends_known : (c : Setup) (h : History) (at by : ℕ) (act : Act) (r : Reply) → IsNext c h (record { at = at; by = by; act = act; reply = r }) → Sound c h → is_accepted r ≡ true
-    → AllByRecursion (λ b. Known (moment c h (record { at = at; by = by; act = act; reply = r }) ∷ h) (record_of b)) (sends_of h act)
+    → AllByRecursion (λ b. Known (step_of c h (record { at = at; by = by; act = act; reply = r }) ∷ h) (record_of b)) (sends_of h act)
 sends_known c h at by (Begin team payload) r next sound ok =
     each-map _ (λ p. Store (length (records h)) p) (members_of h team) (λ p i. (record { team = team; payload = payload }, rw ok (slice_get-last (records h) (record { team = team; payload = payload }))))
 sends_known c h at by (Resend rec process) r next sound ok =
     let e : Entry = record { at = at; by = by; act = Resend rec process; reply = r } in
-    (known_still (moment c h e) h rec (resend_known c h e next ok rec process refl), tt)
+    (known_still (step_of c h e) h rec (resend_known c h e next ok rec process refl), tt)
 sends_known c h at by (CopyTo from rec to) r next sound ok =
     let e : Entry = record { at = at; by = by; act = CopyTo from rec to; reply = r } in
-    (known_still (moment c h e) h rec (copy_known c h e next ok from rec to refl), tt)
+    (known_still (step_of c h e) h rec (copy_known c h e next ok from rec to refl), tt)
 sends_known c h at by (Sync process) r next sound ok =
     let e : Entry = record { at = at; by = by; act = Sync process; reply = r } in
     each-map _ (λ item. Synced item.rec process) (unsynced h process.0) (λ x i.
-    let g = items_good process.0 (is_open process.0) h [] x sound.known i in
-    known_still (moment c h e) h x.rec (g.0, g.1))
+    let g = items_good is_pending h process.0 x sound.known i in
+    known_still (step_of c h e) h x.rec (g.0, g.1))
 sends_known c h at by _ r next sound ok = tt
 
 abbrev WordHeld : History → Body → Type 0
@@ -316,17 +334,17 @@ WordHeld h (Synced r p) = Held h r p.0
 
 -- and each word is of what its sender now has synced
 sends_held : (c : Setup) (h : History) (at by : ℕ) (act : Act) (r : Reply) → Sound c h → is_accepted r ≡ true
-    → AllByRecursion (WordHeld (moment c h (record { at = at; by = by; act = act; reply = r }) ∷ h)) (sends_of h act)
+    → AllByRecursion (WordHeld (step_of c h (record { at = at; by = by; act = act; reply = r }) ∷ h)) (sends_of h act)
 sends_held c h at by (Begin team payload) r sound ok = each-map _ (λ p. Store (length (records h)) p) (members_of h team) (λ p i. tt)
 sends_held c h at by (Resend rec process) r sound ok = (tt, tt)
 sends_held c h at by (CopyTo from rec to) r sound ok = (tt, tt)
 sends_held c h at by (Sync process) r sound ok =
     let e : Entry = record { at = at; by = by; act = Sync process; reply = r } in
     each-map _ (λ item. Synced item.rec process) (unsynced h process.0) (λ x i.
-    let g = items_good process.0 (is_open process.0) h [] x sound.known i in (
+    let g = items_good is_pending h process.0 x sound.known i in (
       g.0,
-      records_still (moment c h e) h x.rec g.0 g.1,
-      (let kept = synced_by (moment c h e) h process.0 (rw ok (eq-eqb process.0 process.0 refl)) x i in rw g.2 at kept),
+      records_still (step_of c h e) h x.rec g.0 g.1,
+      (let kept = synced_by (step_of c h e) h process.0 (rw ok (eq-eqb process.0 process.0 refl)) x i in rw g.2 at kept),
     ))
 sends_held c h at by _ r sound ok = tt
 
@@ -340,30 +358,30 @@ sent_all P e bodies w = at (is_accepted e.reply) refl
 -- ---- words in flight
 
 -- a word that stays in flight is of no process that is healed
-other_word : (p : ProcId) (q r : ℕ) (o : Option Body) → o ≡ Some (Synced r p) → some_is (is_word_from q) o ≡ false → (q == p.0) ≡ false
-other_word p q r o e f = false_from_ne_true _ (λ same. both_ways _ (sym (ap (some_is (is_word_from q)) e) ∙ f) (eq-eqb p.0 q (sym (eqb-true q p.0 same))))
+other_ack : (p : ProcId) (q r : ℕ) (o : Option Body) → o ≡ Some (Synced r p) → some_is (is_ack_from q) o ≡ false → (q == p.0) ≡ false
+other_ack p q r o e f = false_from_ne_true _ (λ same. both_ways _ (sym (ap (some_is (is_ack_from q)) e) ∙ f) (eq-eqb p.0 q (sym (eqb-true q p.0 same))))
 
-not_healed : (h : History) (act : Act) (reply : Reply) (n r : ℕ) (p : ProcId) → (if is_accepted reply then takes_of h act n else false) ≡ false → slice_get (sent h) n ≡ Some (Synced r p) → some_is (λ q. q == p.0) (heals act reply) ≡ false
+not_healed : (h : History) (act : Act) (reply : Reply) (n r : ℕ) (p : ProcId) → (if is_accepted reply then removes_of h act n else false) ≡ false → slice_get (sent h) n ≡ Some (Synced r p) → some_is (λ q. q == p.0) (heals act reply) ≡ false
 not_healed h (Heal q) reply n r p f w = at (is_accepted reply) f
   where
-    at : (b : Bool) → (if b then some_is (is_word_from q.0) (slice_get (sent h) n) else false) ≡ false → some_is (λ k. k == p.0) (if b then Some q.0 else None) ≡ false
-    at true f = other_word p q.0 r (slice_get (sent h) n) w f
+    at : (b : Bool) → (if b then some_is (is_ack_from q.0) (slice_get (sent h) n) else false) ≡ false → some_is (λ k. k == p.0) (if b then Some q.0 else None) ≡ false
+    at true f = other_ack p q.0 r (slice_get (sent h) n) w f
     at false f = refl
 not_healed h _ reply n r p f w = refl
 
-flying_next : (c : Setup) (h : History) (e : Entry) → IsNext c h e → Sound c h → (n r : ℕ) (p : ProcId) → in_flight (moment c h e ∷ h) n ≡ true → slice_get (sent (moment c h e ∷ h)) n ≡ Some (Synced r p) → HasCopy (moment c h e ∷ h) r p.0
+flying_next : (c : Setup) (h : History) (e : Entry) → IsNext c h e → Sound c h → (n r : ℕ) (p : ProcId) → in_flight (step_of c h e ∷ h) n ≡ true → slice_get (sent (step_of c h e ∷ h)) n ≡ Some (Synced r p) → HasCopy (step_of c h e ∷ h) r p.0
 flying_next c h e next sound n r p f w = at (cases_lt n (length (sent h)))
   where
-    at : (n < length (sent h)) ⊎ (length (sent h) ≤ n) → HasCopy (moment c h e ∷ h) r p.0
+    at : (n < length (sent h)) ⊎ (length (sent h) ≤ n) → HasCopy (step_of c h e ∷ h) r p.0
     at (inl l) =
-        let m : Moment = moment c h e in
+        let m : Step = step_of c h e in
         let was : slice_get (sent h) n ≡ Some (Synced r p) = sym (slice_get-left (sent h) m.sends n l) ∙ w in
-        let inside : not (m.takes_out n || is_taken h n) ≡ true = (and_parts (nat_lt n (length (sent (m ∷ h)))) _ f).1 in
-        let stays = or_parts (m.takes_out n) (is_taken h n) (not-true _ inside) in
+        let inside : not (m.removes n || is_removed h n) ≡ true = (and_parts (nat_lt n (length (sent (m ∷ h)))) _ f).1 in
+        let stays = or_parts (m.removes n) (is_removed h n) (not-true _ inside) in
         let before : in_flight h n ≡ true = and_from _ _ (lt-ltb n (length (sent h)) l) (not_from_false _ stays.1) in
-        copy_still m h r p.0 (not_healed h e.act e.reply n r p stays.0 was) (sound.flying n r p before was)
-    at (inr l) = inr (each-right (WordHeld (moment c h e ∷ h)) (sent h) _ n (Synced r p) l
-        (sent_all (WordHeld (moment c h e ∷ h)) e (sends_of h e.act) (λ ok. sends_held c h e.at e.by e.act e.reply sound ok)) w)
+        copy_still m h r p.0 (not_healed h e.act e.reply n r p stays.0 was) (sound.messages_in_flight n r p before was)
+    at (inr l) = inr (each-right (WordHeld (step_of c h e ∷ h)) (sent h) _ n (Synced r p) l
+        (sent_all (WordHeld (step_of c h e ∷ h)) e (sends_of h e.act) (λ ok. sends_held c h e.at e.by e.act e.reply sound ok)) w)
 
 -- ---- marks
 
@@ -371,28 +389,28 @@ same_proc : (p q : ProcId) → p.0 ≡ q.0 → p ≡ q
 same_proc p q e = ap (λ n. record { 0 = n }) e
 
 -- who says that it has a record synced
-word_is : (r p : ℕ) (b : Body) → some_is (λ w. w.0 == r && w.1 == p) (word_of b) ≡ true → b ≡ Synced r (record { 0 = p })
-word_is r p (Store q to) w = absurd (false≢true w)
-word_is r p (Synced q from) w =
+ack_is : (r p : ℕ) (b : Body) → some_is (λ w. w.0 == r && w.1 == p) (ack_of b) ≡ true → b ≡ Synced r (record { 0 = p })
+ack_is r p (Store q to) w = absurd (false≢true w)
+ack_is r p (Synced q from) w =
     let both = and_parts (q == r) (from.0 == p) w in
     ap₂ Synced (eqb-true q r both.0) (same_proc from (record { 0 = p }) (eqb-true from.0 p both.1))
 
-word_found : (r p : ℕ) (o : Option Body) → some_is (λ w. w.0 == r && w.1 == p) (option_and_then word_of o) ≡ true → (b : Body) × (o ≡ Some b) × (b ≡ Synced r (record { 0 = p }))
-word_found r p None s = absurd (false≢true s)
-word_found r p (Some b) s = (b, refl, word_is r p b s)
+ack_found : (r p : ℕ) (o : Option Body) → some_is (λ w. w.0 == r && w.1 == p) (option_and_then ack_of o) ≡ true → (b : Body) × (o ≡ Some b) × (b ≡ Synced r (record { 0 = p }))
+ack_found r p None s = absurd (false≢true s)
+ack_found r p (Some b) s = (b, refl, ack_is r p b s)
 
 -- the sender of a word that is delivered has a copy
-mark_copy : (c : Setup) (h : History) (e : Entry) → IsNext c h e → Sound c h → (r p : ℕ) → marks (moment c h e) r p ≡ true → HasCopy h r p
+mark_copy : (c : Setup) (h : History) (e : Entry) → IsNext c h e → Sound c h → (r p : ℕ) → marks (step_of c h e) r p ≡ true → HasCopy h r p
 mark_copy c h e next sound r p s =
     let parts = and_parts (is_some (delivers e.act e.reply)) _ s in
-    let found = word_found r p (message_of h e.act) parts.1 in
+    let found = ack_found r p (message_of h e.act) parts.1 in
     let there = delivered c h e next parts.0 found.0 found.1 in
-    sound.flying there.0 r (record { 0 = p }) there.1 (there.2 ∙ ap (λ x. Some x) found.2)
+    sound.messages_in_flight there.0 r (record { 0 = p }) there.1 (there.2 ∙ ap (λ x. Some x) found.2)
 
 -- so has whoever has a mark for a record that isn't acknowledged
-by_mark_next : (c : Setup) (h : History) (e : Entry) → IsNext c h e → Sound c h → (r p : ℕ) → acked (moment c h e ∷ h) r ≡ false → marked (moment c h e ∷ h) r p ≡ true → HasCopy (moment c h e ∷ h) r p
+by_mark_next : (c : Setup) (h : History) (e : Entry) → IsNext c h e → Sound c h → (r p : ℕ) → acked (step_of c h e ∷ h) r ≡ false → marked (step_of c h e ∷ h) r p ≡ true → HasCopy (step_of c h e ∷ h) r p
 by_mark_next c h e next sound r p a s =
-    let m : Moment = moment c h e in
+    let m : Step = step_of c h e in
     let was : acked h r ≡ false = (or_parts (acked h r) _ a).0 in
     elim (or_cases (marks m r p) _ s) [
       | inl k ↦ copy_still m h r p (heals_not_deliver e.act e.reply p (and_parts (is_some (delivers e.act e.reply)) _ k).0) (mark_copy c h e next sound r p k)
@@ -413,12 +431,6 @@ all_false f (x ∷ xs) e = let both = or_parts (f x) (list_any f xs) e in (both.
 
 pub any_at : {X : Type 0} (f : X → Bool) (xs : List X) (x : X) → Contains xs x → f x ≡ true → list_any f xs ≡ true
 any_at f xs x i t = true_from_ne_false _ (λ none. both_ways (f x) (All-contains (λ y. f y ≡ false) xs x (All-from_recursion (λ y. f y ≡ false) xs (all_false f xs none)) i) t)
-
-cons_cases : {X : Type 0} (y : X) (ys : List X) (x : X) → Contains (y ∷ ys) x → (y ≡ x) ⊎ Contains ys x
-cons_cases y ys x i = elim (Contains-append_cases (y ∷ []) ys x i) [
-  | inl a ↦ elim (Contains-push_cases [] y x a) [ inl n ↦ absurd (omega (arith, n.1)) | inr e ↦ inl e ]
-  | inr a ↦ inr a
-]
 
 in_more : {X : Type 0} (y : X) (ys : List X) (x : X) → Contains ys x → Contains (y ∷ ys) x
 in_more y ys x i = Contains-append_right (y ∷ []) ys x i
@@ -555,7 +567,7 @@ held_from h r p known s = at (Any-from_list_any (λ x. x.rec == r) (synced h p) 
     at a =
         let x : Item = a.1 in
         let member : Contains (synced h p) x = (a.0, a.2, a.3) in
-        let g = items_good p (is_kept p) h [] x known member in
+        let g = items_good is_durable h p x known member in
         let e : x.rec ≡ r = eqb-true x.rec r a.4 in
         (g.0, subst (λ n. slice_get (records h) n ≡ Some g.0) e g.1, subst (Contains (synced h p)) (same_item x g.0 e g.2) member)
 
@@ -565,10 +577,10 @@ pub team_known : (h : History) (r : ℕ) (b : BegunRecord) (t : Team) → slice_
 team_known h r b t e f = rw (e, f) refl
 
 -- who is in the record's team after an entry was in it, or has come in another's place
-team_next : (c : Setup) (h : History) (e : Entry) (r : ℕ) (b : BegunRecord) (t : Team) → slice_get (records h) r ≡ Some b → slice_get (teams h) b.team ≡ Some t → (p : ProcId) → Contains (members_for (moment c h e ∷ h) r) p
+team_next : (c : Setup) (h : History) (e : Entry) (r : ℕ) (b : BegunRecord) (t : Team) → slice_get (records h) r ≡ Some b → slice_get (teams h) b.team ≡ Some t → (p : ProcId) → Contains (members_for (step_of c h e ∷ h) r) p
     → Contains (members_for h r) p ⊎ ((s : Swap) × (replaces e.act e.reply ≡ Some s) × (b.team ≡ s.team) × (s.into ≡ p))
 team_next c h e r b t rb bt p i =
-    let m : Moment = moment c h e in
+    let m : Step = step_of c h e in
     let later = later_team (replaces e.act e.reply) (teams h) b.team t bt in
     let there : slice_get (teams (m ∷ h)) b.team ≡ Some later.team = slice_get-append (after_swap (replaces e.act e.reply) (teams h)) (option_to_list (forms e.act e.reply)) b.team later.team later.there in
     let now : Contains later.team.members p = subst (λ ps. Contains ps p) (team_known (m ∷ h) r b later.team (records_still m h r b rb) there) i in
@@ -577,7 +589,7 @@ team_next c h e r b t rb bt p i =
       | inr a ↦ inr a
     ]
 
-heal_strikes_none : (m : Moment) (p q : ℕ) → heals_at m p ≡ true → destroys m q ≡ false
+heal_strikes_none : (m : Step) (p q : ℕ) → heals_at m p ≡ true → destroys m q ≡ false
 heal_strikes_none m p q s = at m.entry.act m.entry.reply (m.targets q) s
   where
     at : (act : Act) (r : Reply) (b : Bool) → some_is (λ k. k == p) (heals act r) ≡ true → some_is is_destroying (if b then struck_by act r else None) ≡ false
@@ -585,7 +597,7 @@ heal_strikes_none m p q s = at m.entry.act m.entry.reply (m.targets q) s
     at (Heal k) r false s = refl
     at _ r b s = absurd (false≢true s)
 
-swap_strikes_none : (m : Moment) (s : Swap) (q : ℕ) → replaces m.entry.act m.entry.reply ≡ Some s → destroys m q ≡ false
+swap_strikes_none : (m : Step) (s : Swap) (q : ℕ) → replaces m.entry.act m.entry.reply ≡ Some s → destroys m q ≡ false
 swap_strikes_none m s q e = at m.entry.act m.entry.reply (m.targets q) e
   where
     at : (act : Act) (r : Reply) (b : Bool) → replaces act r ≡ Some s → some_is is_destroying (if b then struck_by act r else None) ≡ false
@@ -597,7 +609,7 @@ team_has : (b : BegunRecord) (o : Option BegunRecord) (team : ℕ) → o ≡ Som
 team_has b o team e f = rw e (eq-eqb b.team team f)
 
 -- who is healed has each acknowledged record of its teams
-healed_has : (c : Setup) (h : History) (e : Entry) → IsNext c h e → (r p : ℕ) → heals_at (moment c h e) p ≡ true → r < length (records h) → acked h r ≡ true → is_among (members_for h r) p ≡ true → has_synced h r p ≡ true
+healed_has : (c : Setup) (h : History) (e : Entry) → IsNext c h e → (r p : ℕ) → heals_at (step_of c h e) p ≡ true → r < length (records h) → acked h r ≡ true → is_among (members_for h r) p ≡ true → has_synced h r p ≡ true
 unfolding refusals
 healed_has c h e next r p y within a member =
     let is = heals_is e.act e.reply p y in
@@ -614,7 +626,7 @@ swapped_has c h e next r s f within a of_it =
     none_needed h s.into.0 (is_of_team h s.team) at_replace.1.1.1.1.1.1.0 r within a of_it
 
 -- what stays of a record that was acknowledged before
-ack_still : (c : Setup) (h : History) (e : Entry) → IsNext c h e → Sound c h → (r : ℕ) (p : ProcId) → acked h r ≡ true → Contains (members_for (moment c h e ∷ h) r) p → HasCopy (moment c h e ∷ h) r p.0
+ack_still : (c : Setup) (h : History) (e : Entry) → IsNext c h e → Sound c h → (r : ℕ) (p : ProcId) → acked h r ≡ true → Contains (members_for (step_of c h e ∷ h) r) p → HasCopy (step_of c h e ∷ h) r p.0
 ack_still c h e next sound r p a i = from (team_next c h e r b.0 t.0 b.1 t.1 p i)
   where
     b : Known h r
@@ -626,43 +638,43 @@ ack_still c h e next sound r p a i = from (team_next c h e r b.0 t.0 b.1 t.1 p i
     within : r < length (records h)
     within = slice_get_within (records h) r b.0 b.1
 
-    member : Contains (members_for h r) p → HasCopy (moment c h e ∷ h) r p.0
-    member k = at (heals_at (moment c h e) p.0) refl
+    member : Contains (members_for h r) p → HasCopy (step_of c h e ∷ h) r p.0
+    member k = at (heals_at (step_of c h e) p.0) refl
       where
-        at : (x : Bool) → heals_at (moment c h e) p.0 ≡ x → HasCopy (moment c h e ∷ h) r p.0
-        at false n = copy_still (moment c h e) h r p.0 n (sound.by_ack r p a k)
+        at : (x : Bool) → heals_at (step_of c h e) p.0 ≡ x → HasCopy (step_of c h e ∷ h) r p.0
+        at false n = copy_still (step_of c h e) h r p.0 n (sound.by_ack r p a k)
         at true y =
             let has = healed_has c h e next r p.0 y within a (any_at (λ q. q.0 == p.0) (members_for h r) p k (eq-eqb p.0 p.0 refl)) in
-            inr (held_still (moment c h e) h r p.0 (heal_strikes_none (moment c h e) p.0 p.0 y) (held_from h r p.0 sound.known has))
+            inr (held_still (step_of c h e) h r p.0 (heal_strikes_none (step_of c h e) p.0 p.0 y) (held_from h r p.0 sound.known has))
 
-    from : Contains (members_for h r) p ⊎ ((s : Swap) × (replaces e.act e.reply ≡ Some s) × (b.0.team ≡ s.team) × (s.into ≡ p)) → HasCopy (moment c h e ∷ h) r p.0
+    from : Contains (members_for h r) p ⊎ ((s : Swap) × (replaces e.act e.reply ≡ Some s) × (b.0.team ≡ s.team) × (s.into ≡ p)) → HasCopy (step_of c h e ∷ h) r p.0
     from (inl k) = member k
     from (inr k) =
         let s : Swap = k.0 in
         let has = swapped_has c h e next r s k.1 within a (team_has b.0 (slice_get (records h) r) s.team b.1 k.2) in
-        let held : HasCopy (moment c h e ∷ h) r s.into.0 = inr (held_still (moment c h e) h r s.into.0 (swap_strikes_none (moment c h e) s s.into.0 k.1) (held_from h r s.into.0 sound.known has)) in
-        subst (λ (q : ProcId). HasCopy (moment c h e ∷ h) r q.0) k.3 held
+        let held : HasCopy (step_of c h e ∷ h) r s.into.0 = inr (held_still (step_of c h e) h r s.into.0 (swap_strikes_none (step_of c h e) s s.into.0 k.1) (held_from h r s.into.0 sound.known has)) in
+        subst (λ (q : ProcId). HasCopy (step_of c h e ∷ h) r q.0) k.3 held
 
 -- a word of which an entry tells is of a record that was begun
-told_of : (r : ℕ) (b : Body) → some_is (λ w. w.0 == r) (word_of b) ≡ true → record_of b ≡ r
+told_of : (r : ℕ) (b : Body) → some_is (λ w. w.0 == r) (ack_of b) ≡ true → record_of b ≡ r
 told_of r (Store q to) w = absurd (false≢true w)
 told_of r (Synced q from) w = eqb-true q r w
 
-told_found : (r : ℕ) (o : Option Body) → some_is (λ w. w.0 == r) (option_and_then word_of o) ≡ true → (b : Body) × (o ≡ Some b) × (record_of b ≡ r)
+told_found : (r : ℕ) (o : Option Body) → some_is (λ w. w.0 == r) (option_and_then ack_of o) ≡ true → (b : Body) × (o ≡ Some b) × (record_of b ≡ r)
 told_found r None s = absurd (false≢true s)
 told_found r (Some b) s = (b, refl, told_of r b s)
 
-pub tells_known : (c : Setup) (h : History) (e : Entry) → Sound c h → (r : ℕ) → tells (moment c h e) r ≡ true → Known h r
+pub tells_known : (c : Setup) (h : History) (e : Entry) → Sound c h → (r : ℕ) → delivers_ack_of (step_of c h e) r ≡ true → Known h r
 tells_known c h e sound r s =
     let parts = and_parts (is_some (delivers e.act e.reply)) _ s in
     let found = told_found r (message_of h e.act) parts.1 in
     subst (Known h) found.2 (message_good (λ b. Known h (record_of b)) h e.act found.0 sound.sent_known found.1)
 
 -- and of one that this entry makes acknowledged
-ack_first : (c : Setup) (h : History) (e : Entry) → IsNext c h e → Sound c h → (r : ℕ) (p : ProcId) → acked h r ≡ false → tells (moment c h e) r ≡ true
-    → list_all (λ q. marked_after (moment c h e) r q.0 (acked h r) (marked h r q.0)) (members_for h r) ≡ true → Contains (members_for (moment c h e ∷ h) r) p → HasCopy (moment c h e ∷ h) r p.0
+ack_first : (c : Setup) (h : History) (e : Entry) → IsNext c h e → Sound c h → (r : ℕ) (p : ProcId) → acked h r ≡ false → delivers_ack_of (step_of c h e) r ≡ true
+    → list_all (λ q. marked_after (step_of c h e) r q.0 (acked h r) (marked h r q.0)) (members_for h r) ≡ true → Contains (members_for (step_of c h e ∷ h) r) p → HasCopy (step_of c h e ∷ h) r p.0
 ack_first c h e next sound r p was s all i =
-    let m : Moment = moment c h e in
+    let m : Step = step_of c h e in
     let parts = and_parts (is_some (delivers e.act e.reply)) _ s in
     let b = tells_known c h e sound r s in
     let t = slice_get-each (λ b. (t : Team) × (slice_get (teams h) b.team ≡ Some t)) (records h) r b.0 sound.joined b.1 in
@@ -674,35 +686,35 @@ ack_first c h e next sound r p was s all i =
       | inr k ↦ sound.by_mark r p.0 was (and_parts (not (heals_at m p.0 && not (acked h r))) (marked h r p.0) k).1
     ])
 
-by_ack_next : (c : Setup) (h : History) (e : Entry) → IsNext c h e → Sound c h → (r : ℕ) (p : ProcId) → acked (moment c h e ∷ h) r ≡ true → Contains (members_for (moment c h e ∷ h) r) p → HasCopy (moment c h e ∷ h) r p.0
+by_ack_next : (c : Setup) (h : History) (e : Entry) → IsNext c h e → Sound c h → (r : ℕ) (p : ProcId) → acked (step_of c h e ∷ h) r ≡ true → Contains (members_for (step_of c h e ∷ h) r) p → HasCopy (step_of c h e ∷ h) r p.0
 by_ack_next c h e next sound r p a i = at (acked h r) refl
   where
-    at : (x : Bool) → acked h r ≡ x → HasCopy (moment c h e ∷ h) r p.0
+    at : (x : Bool) → acked h r ≡ x → HasCopy (step_of c h e ∷ h) r p.0
     at true was = ack_still c h e next sound r p was i
     at false was =
-        let told : (tells (moment c h e) r && list_all (λ q. marked_after (moment c h e) r q.0 (acked h r) (marked h r q.0)) (members_for h r)) ≡ true =
+        let told : (delivers_ack_of (step_of c h e) r && list_all (λ q. marked_after (step_of c h e) r q.0 (acked h r) (marked h r q.0)) (members_for h r)) ≡ true =
         elim (or_cases (acked h r) _ a) [ inl k ↦ absurd (both_ways _ was k) | inr k ↦ k ] in
-        let both = and_parts (tells (moment c h e) r) _ told in
+        let both = and_parts (delivers_ack_of (step_of c h e) r) _ told in
         ack_first c h e next sound r p was both.0 both.1 i
 
-ack_known_next : (c : Setup) (h : History) (e : Entry) → Sound c h → (r : ℕ) → acked (moment c h e ∷ h) r ≡ true → Known (moment c h e ∷ h) r
+ack_known_next : (c : Setup) (h : History) (e : Entry) → Sound c h → (r : ℕ) → acked (step_of c h e ∷ h) r ≡ true → Known (step_of c h e ∷ h) r
 ack_known_next c h e sound r a = elim (or_cases (acked h r) _ a) [
-  | inl k ↦ known_still (moment c h e) h r (sound.ack_known r k)
-  | inr k ↦ known_still (moment c h e) h r (tells_known c h e sound r (and_parts (tells (moment c h e) r) _ k).0)
+  | inl k ↦ known_still (step_of c h e) h r (sound.ack_known r k)
+  | inr k ↦ known_still (step_of c h e) h r (tells_known c h e sound r (and_parts (delivers_ack_of (step_of c h e) r) _ k).0)
 ]
 
 -- ---- one entry more keeps it all
 
-pub sound_next : Tested → (c : Setup) (h : History) (e : Entry) → IsNext c h e → Sound c h → Sound c (moment c h e ∷ h)
+pub sound_next : Tested → (c : Setup) (h : History) (e : Entry) → IsNext c h e → Sound c h → Sound c (step_of c h e ∷ h)
 sound_next tested c h e next sound =
-    let m : Moment = moment c h e in
+    let m : Step = step_of c h e in
     let joined_still : (b : BegunRecord) → (t : Team) × (slice_get (teams h) b.team ≡ Some t) → (t : Team) × (slice_get (teams (m ∷ h)) b.team ≡ Some t) =
     λ b k. let l = later_team (replaces e.act e.reply) (teams h) b.team k.0 k.1 in (l.team, slice_get-append (after_swap (replaces e.act e.reply) (teams h)) (option_to_list (forms e.act e.reply)) b.team l.team l.there) in
     record {
       sent_known = each-append (λ b. Known (m ∷ h) (record_of b)) (sent h) m.sends (each-weaker (λ b. Known h (record_of b)) (λ b. Known (m ∷ h) (record_of b)) (λ b k. known_still m h (record_of b) k) (sent h) sound.sent_known)
           (sent_all (λ b. Known (m ∷ h) (record_of b)) e (sends_of h e.act) (λ ok. sends_known c h e.at e.by e.act e.reply next sound ok));
       known = (λ p r w. write_known c h e sound.sent_known p r w, sound.known);
-      flying = flying_next c h e next sound;
+      messages_in_flight = flying_next c h e next sound;
       by_mark = by_mark_next c h e next sound;
       by_ack = by_ack_next c h e next sound;
       ack_known = ack_known_next c h e sound;
@@ -716,7 +728,7 @@ pub sound_start : (c : Setup) → Sound c []
 sound_start c = record {
   sent_known = tt;
   known = tt;
-  flying = λ n r p f w. absurd (cc);
+  messages_in_flight = λ n r p f w. absurd (cc);
   by_mark = λ r p a s. absurd (false≢true s);
   by_ack = λ r p a i. absurd (false≢true a);
   ack_known = λ r a. absurd (false≢true a);

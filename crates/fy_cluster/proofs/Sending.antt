@@ -3,14 +3,14 @@ use Rattle.std.proofs.Common.{◌≡◌, ℕ, zero, suc, ◌+◌, ◌<◌, ◌�
 use Rattle.std.proofs.lemmas.List.{length-map, length-take-le}
 use Rattle.fy_net.specs.declared.message.Body.{Body}
 use Rattle.fy_net.specs.declared.message.Message.{Message}
-use Rattle.fy_net.specs.Net.{Traffic, sent_on}
+use Rattle.fy_net.specs.Net.{NetState, with_sent}
 use Rattle.fy_cluster.specs.Standing.{numbered, Sends}
 use Rattle.fy_cluster.proofs.Flights.{numbered-append}
 
-pub sent_none : (net : Traffic) → Sends net [] net
+pub sent_none : (net : NetState) → Sends net [] net
 sent_none net = record { in_flight = sym (append-nil net.in_flight); count = omega arith; clock = refl; until = refl; room = omega arith }
 
-pub sent_more : (first net : Traffic) (bodies : List Body) (b : Body) → 0 < net.room → Sends first bodies net → Sends first (bodies ++ b ∷ []) (sent_on b net)
+pub sent_more : (first net : NetState) (bodies : List Body) (b : Body) → 0 < net.room → Sends first bodies net → Sends first (bodies ++ b ∷ []) (with_sent b net)
 sent_more first net bodies b room k = record {
   in_flight = ap₂ (λ (xs : List Message) (n : ℕ). xs ++ record { number = n; body = b } ∷ []) k.in_flight k.count ∙ append_assoc first.in_flight (numbered first.sent bodies) _ ∙ ap (λ xs. first.in_flight ++ xs) (sym (numbered-append first.sent bodies (b ∷ [])));
   count = let c = k.count in let l : length (bodies ++ b ∷ []) ≡ length bodies + 1 = length-append bodies (b ∷ []) in omega arith;
@@ -29,10 +29,10 @@ take-push (y ∷ xs) zero x e = let same : y ≡ x = cc in ap (λ z. z ∷ []) s
 take-push (y ∷ xs) (suc i) x e = ap (λ ys. y ∷ ys) (take-push xs i x e)
 
 -- one more of those that a list asks to send
-pub sent_next : {X : Type 0} (f : X → Body) (xs : List X) (first net next : Traffic) (i : ℕ) (x : X) → slice_get xs i ≡ Some x → 0 < net.room → next ≡ sent_on (f x) net → Sends first (map f (take i xs)) net → Sends first (map f (take (i + 1) xs)) next
+pub sent_next : {X : Type 0} (f : X → Body) (xs : List X) (first net next : NetState) (i : ℕ) (x : X) → slice_get xs i ≡ Some x → 0 < net.room → next ≡ with_sent (f x) net → Sends first (map f (take i xs)) net → Sends first (map f (take (i + 1) xs)) next
 sent_next f xs first net next i x e room is k =
     let more : map f (take (i + 1) xs) ≡ map f (take i xs) ++ f x ∷ [] = ap (λ n. map f (take n xs)) (add-one i) ∙ ap (map f) (take-push xs i x e) ∙ map-push f (take i xs) x in
     rw (is, more) (sent_more first net (map f (take i xs)) (f x) room k)
 
-pub room_left : {X : Type 0} (f : X → Body) (xs : List X) (first net : Traffic) (i : ℕ) → i < length xs → length xs ≤ first.room → Sends first (map f (take i xs)) net → 0 < net.room
+pub room_left : {X : Type 0} (f : X → Body) (xs : List X) (first net : NetState) (i : ℕ) → i < length xs → length xs ≤ first.room → Sends first (map f (take i xs)) net → 0 < net.room
 room_left f xs first net i l room k = let r = k.room in let n : length (map f (take i xs)) ≡ i = length-map (take i xs) f ∙ length-take-le i xs (omega arith) in omega arith

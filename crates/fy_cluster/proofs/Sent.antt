@@ -5,7 +5,7 @@ use Rattle.std.proofs.Crossing.{crosses}
 use Rattle.fy_locality.proofs.map.Map.TheSendSync as map
 use Rattle.fy_grants.proofs.grant.Grant.TheSendSync as grant
 use Rattle.fy_grants.proofs.book.Book.TheSendSync as book
-use Rattle.fy_disks.proofs.disks.Disks.TheSendSync as disks
+use Rattle.fy_disk.proofs.disks.Disks.TheSendSync as disks
 use Rattle.fy_net.proofs.net.Net.TheSendSync as net
 use Rattle.fy_team.proofs.teams.Teams.TheSendSync as teams
 use Rattle.fy_journal.proofs.journal.Journal.TheSendSync as journal

@@ -13,18 +13,18 @@ use Rattle.fy_policy.specs.Tree.{Tree, IsPolicy}
 use Rattle.fy_policy.specs.Sat.{Sat, satisfies}
 use Rattle.fy_kinds.specs.declared.kind_set.KindSet.{KindSet}
 use Rattle.fy_kinds.specs.declared.kind.Kind.TheVariants.{RebootProcess, Reboot, RebootAndDelete, KillInstantly}
-use Rattle.fy_kinds.specs.Kinds.{Deed, Striking, Clogging, has, with_all, no_deed}
+use Rattle.fy_kinds.specs.Kinds.{Deed, Striking, Clogging, has, in_either, no_deed}
 use Rattle.fy_grants.specs.declared.book.TheConstants.{MOST_GRANTS}
 use Rattle.fy_grants.specs.declared.grant.Grant.{Grant}
 use Rattle.fy_grants.specs.Rights.{Rights, grants_of, protections_of, grant_count, with_grant, with_protection, no_rights}
 use Rattle.fy_grants.specs.Changes.{ProtectedOne}
-use Rattle.fy_decide.specs.Losses.{everyone, first_unmet}
+use Rattle.fy_decide.specs.Safety.{everyone, first_unmet}
 use Rattle.std.specs.FinSet as sets
 use Rattle.std.specs.Ordering.{nat_cmp}
 use Rattle.fy_decide.specs.declared.dead_book.MakeFault.TheVariants.{Unmet, NoMemory}
 use Rattle.fy_decide.specs.DeadBook.{IsFresh}
 use Rattle.fy_net.specs.Net.{quiet}
-use Rattle.fy_team.specs.Teams.{nobody}
+use Rattle.fy_team.specs.Teams.{no_teams}
 use Rattle.fy_cluster.specs.declared.machine.Machine.{Machine}
 use Rattle.fy_cluster.specs.declared.config.Protection.{Protection}
 use Rattle.fy_cluster.specs.declared.config.TheConstants.{MOST_JOURNAL_ENTRIES}
@@ -33,18 +33,15 @@ use Rattle.fy_cluster.specs.Rules.{grants_to, some_protects}
 use Rattle.fy_cluster.proofs.Grants.{GivesLists}
 use Rattle.fy_cluster.proofs.Records.{Tested}
 use Rattle.fy_acts.specs.declared.entry.Entry.{Entry}
-use Rattle.fy_disk.specs.Disk.{blank}
-use Rattle.fy_cluster.specs.Standing.{Stands, KeepsRights, IsKept}
+use Rattle.fy_disk.specs.Disk.{empty_disk}
+use Rattle.fy_cluster.specs.Standing.{Refines, RefinesRights, RefinesJournal}
 
 and_true : (b : Bool) → b ≡ (b && true)
 and_true true = refl
 and_true false = refl
 
-none_before : (t n p : ℕ) → p < n → false ≡ nat_lt t (get_or (replicate n 0) p 0)
-none_before t n p l = rw (get_or-replicate {A = ℕ} n p 0 0 l) (let none : nat_lt t 0 ≡ false = grind (arith, nat_tests) in sym none)
-
-pub stands_at_start : (c : Setup) (m : Machine) → length c.processes ≤ 1024 → IsFresh c.processes c.policies m.dead → KeepsRights c [] m.book → m.disks ≡ replicate (length c.processes) blank
-    → ((p : ℕ) → sets.contains m.up p ≡ nat_lt p (length c.processes)) → m.net ≡ quiet (length c.processes) → m.teams ≡ nobody → Stands c [] m
+pub stands_at_start : (c : Setup) (m : Machine) → length c.processes ≤ 1024 → IsFresh c.processes c.policies m.dead → RefinesRights c [] m.book → m.disks ≡ replicate (length c.processes) empty_disk
+    → ((p : ℕ) → sets.contains m.up p ≡ nat_lt p (length c.processes)) → m.net ≡ quiet (length c.processes) → m.teams ≡ no_teams → Refines c [] m
 stands_at_start c m few fresh rights disks up net teams = record {
   dead = record {
     processes = fresh.processes_are;
@@ -55,8 +52,8 @@ stands_at_start c m few fresh rights disks up net teams = record {
   };
   rights = rights;
   disks = record {
-    count = ap length disks ∙ length-replicate (length c.processes) blank;
-    each = λ p l. ap (λ ds. slice_get ds p) disks ∙ slice_get-get_or (replicate (length c.processes) blank) p blank (let n = length-replicate (length c.processes) blank in omega arith) ∙ ap Some (get_or-replicate (length c.processes) p blank blank l);
+    count = ap length disks ∙ length-replicate (length c.processes) empty_disk;
+    each = λ p l. ap (λ ds. slice_get ds p) disks ∙ slice_get-get_or (replicate (length c.processes) empty_disk) p empty_disk (let n = length-replicate (length c.processes) empty_disk in omega arith) ∙ ap Some (get_or-replicate (length c.processes) p empty_disk empty_disk l);
   };
   up = record { each = λ p l. up p ∙ (let there : nat_lt p (length c.processes) ≡ true = grind (arith, nat_tests) in there) };
   net = rw net (record {
@@ -64,7 +61,7 @@ stands_at_start c m few fresh rights disks up net teams = record {
     sent_so_far = refl;
     clock = refl;
     count = length-replicate (length c.processes) 0;
-    ends = λ p t l later. none_before t (length c.processes) p l;
+    ends = λ p l. get_or-replicate {A = ℕ} (length c.processes) p 0 0 l;
     early = λ n l. refl;
     few = omega arith;
   });
@@ -142,15 +139,15 @@ or_none false = refl
 
 pub protected_next : ProtectedOne
     → ((rights : Rights) (p : ℕ) (kinds : KindSet) → length (with_protection rights p kinds).protections ≡ length rights.protections)
-    → ((a b : KindSet) (d : Deed) → has (with_all a b) d ≡ (has a d || has b d))
+    → ((a b : KindSet) (d : Deed) → has (in_either a b) d ≡ (has a d || has b d))
     → (old new next : Rights) (protections : List Protection) (i : ℕ) (it : Protection) → i < length protections → it ≡ get_or protections i it → it.process.0 < length old.protections
-    → next ≡ with_protection new it.process.0 (with_all (protections_of new it.process.0) it.kinds)
+    → next ≡ with_protection new it.process.0 (in_either (protections_of new it.process.0) it.kinds)
     → ProtectedUpTo old new protections i → ProtectedUpTo old next protections (i + 1)
 protected_next one processes either old new next protections i it within is known added k = rw added (record {
   map = k.map;
   processes = processes new it.process.0 _ ∙ k.processes;
   grants = k.grants;
-  kinds = λ p deed. ap (λ kinds. has kinds deed) (one new it.process.0 p (with_all (protections_of new it.process.0) it.kinds) there) ∙ at p deed (it.process.0 == p) refl;
+  kinds = λ p deed. ap (λ kinds. has kinds deed) (one new it.process.0 p (in_either (protections_of new it.process.0) it.kinds) there) ∙ at p deed (it.process.0 == p) refl;
 })
   where
     there : it.process.0 < length new.protections
@@ -166,7 +163,7 @@ protected_next one processes either old new next protections i it within is know
         ∙ ap (λ t. list_any (of p deed) (take i protections) || (t && has it.kinds deed)) e)
 
     at : (p : ℕ) (deed : Deed) (b : Bool) → (it.process.0 == p) ≡ b
-        → has (if b then with_all (protections_of new it.process.0) it.kinds else protections_of new p) deed ≡ (list_any (of p deed) (take (i + 1) protections) || has (protections_of old p) deed)
+        → has (if b then in_either (protections_of new it.process.0) it.kinds else protections_of new p) deed ≡ (list_any (of p deed) (take (i + 1) protections) || has (protections_of old p) deed)
     at p deed true e =
         either (protections_of new it.process.0) it.kinds deed
         ∙ ap (λ q. has (protections_of new q) deed || has it.kinds deed) (eqb-true it.process.0 p e)
@@ -179,7 +176,7 @@ protected_next one processes either old new next protections i it within is know
 
 -- ---- the cluster
 
-pub kept_at_start : (c : Setup) (journal : List Entry) (m : Machine) → journal ≡ [] → IsSetup c → Stands c [] m → IsKept c journal m
+pub kept_at_start : (c : Setup) (journal : List Entry) (m : Machine) → journal ≡ [] → IsSetup c → Refines c [] m → RefinesJournal c journal m
 kept_at_start c journal m none setup stands = rw none (record { setup = setup; legal = (omega arith, tt); stands = stands })
 
 -- ---- the first rights
@@ -234,7 +231,7 @@ module _ (c : Setup) (setup : IsSetup c) (book : Rights) (made : book ≡ no_rig
 
   pub first_kept : (given last : Rights) → ((a : ℕ) → grants_of given a ≡ grants_of book a ++ grants_to a c.grants) → length given.grants ≡ length book.grants → given.protections ≡ book.protections → given.processes ≡ book.processes
       → ((p : ℕ) (deed : Deed) → has (protections_of last p) deed ≡ (some_protects c.protections p deed || has (protections_of given p) deed)) → length last.protections ≡ length given.protections → last.grants ≡ given.grants → last.processes ≡ given.processes
-      → KeepsRights c [] last
+      → RefinesRights c [] last
   first_kept given last lists actors same map kinds processes grants last_map = record {
     map = last_map ∙ map ∙ ap (λ (r : Rights). r.processes) made;
     actors = ap length grants ∙ actors ∙ ap (λ (r : Rights). length r.grants) made ∙ length-replicate (length c.roles) (let none : List Grant = [] in none);

@@ -12,7 +12,7 @@ use Rattle.fy_kinds.specs.Orders.{Order}
 use Rattle.fy_kinds.specs.Kinds.{is_destroying, destroys_for_good}
 use Rattle.fy_decide.specs.declared.dead_book.Loss.{Loss}
 use Rattle.fy_decide.specs.declared.dead_book.Loss.TheVariants.{Emptied, Gone}
-use Rattle.fy_decide.specs.Losses.{AreShort, AreSatisfied, MayDestroy, with_set, without_set, everyone}
+use Rattle.fy_decide.specs.Safety.{AreShort, AreSatisfied, MayDestroy, with_set, without_set, everyone}
 use Rattle.fy_decide.specs.Verdicts.{Situation, targets, verdict, loss_of}
 use Rattle.fy_acts.specs.declared.act.Act.{Act}
 use Rattle.fy_acts.specs.declared.act.Act.TheVariants.{Kill}
@@ -21,9 +21,9 @@ use Rattle.fy_acts.specs.declared.reply.Reply.TheVariants.{Verdict as Verdicted}
 use Rattle.fy_acts.specs.declared.reply.Refusal.{Refusal}
 use Rattle.fy_acts.specs.declared.entry.Entry.{Entry}
 use Rattle.fy_cluster.specs.Setup.{Setup, IsMet}
-use Rattle.fy_cluster.specs.History.{History, Moment, moment, history, is_accepted, struck_by, some_is, strikes, destroys, heals_at, destroyed, gone, left, targets_of}
+use Rattle.fy_cluster.specs.History.{History, Step, step_of, history, is_accepted, struck_by, some_is, strikes, destroys, heals_at, destroyed, gone, left, targets_of}
 use Rattle.fy_cluster.specs.Rules.{situation}
-use Rattle.fy_cluster.specs.Replies.{refused, reasons, answer, reply, IsNext, Legal}
+use Rattle.fy_cluster.specs.Replies.{first_refusal_or, reasons, answer, reply, IsNext, Legal}
 use Rattle.fy_cluster.proofs.Journals.{kept_after}
 
 -- ---- what a strike tells
@@ -32,7 +32,7 @@ struck_Kill : (act : Act) (r : Reply) (k : Kind) → struck_by act r ≡ Some k 
 struck_Kill (Kill o) (Verdicted v) k e = (o, v, refl, refl, e)
 struck_Kill _ _ k e = absurd (cc)
 
-refused_accepted : (rs : List (Bool × Refusal)) (answer r : Reply) → r ≡ refused rs answer → is_accepted r ≡ true → AllByRecursion (λ t. t.0 ≡ false) rs × (r ≡ answer)
+refused_accepted : (rs : List (Bool × Refusal)) (answer r : Reply) → r ≡ first_refusal_or rs answer → is_accepted r ≡ true → AllByRecursion (λ t. t.0 ≡ false) rs × (r ≡ answer)
 refused_accepted [] a r e s = (tt, e)
 refused_accepted ((true, why) ∷ rs) a r e s = absurd (false≢true (rw e at s))
 refused_accepted ((false, why) ∷ rs) a r e s = let rest = refused_accepted rs a r e s in ((refl, rest.0), rest.1)
@@ -67,7 +67,7 @@ some_if : {X : Type 0} (b : Bool) (o : Option X) (x : X) → (if b then o else N
 some_if true o x e = (refl, e)
 some_if false o x e = absurd (cc)
 
-struck_at : (test : Kind → Bool) (m : Moment) (p : ℕ) → some_is test (strikes m p) ≡ true → (k : Kind) × (struck_by m.entry.act m.entry.reply ≡ Some k) × (test k ≡ true) × (m.targets p ≡ true)
+struck_at : (test : Kind → Bool) (m : Step) (p : ℕ) → some_is test (strikes m p) ≡ true → (k : Kind) × (struck_by m.entry.act m.entry.reply ≡ Some k) × (test k ≡ true) × (m.targets p ≡ true)
 struck_at test m p e =
     let found = some_is_true test (strikes m p) e in
     let parts = some_if (m.targets p) (struck_by m.entry.act m.entry.reply) found.0 found.1 in
@@ -91,13 +91,13 @@ struck c h e next test s =
     record { kind = found.0; order = told.0; is = found.2; act = told.1; strikes = told.2 }
 
 -- it struck no others
-only_targets : (c : Setup) (h : History) (e : Entry) (o : Order) → e.act ≡ Kill o → (test : Kind → Bool) (p : ℕ) → some_is test (strikes (moment c h e) p) ≡ true → targets c.processes (left c h) o.target p ≡ true
-only_targets c h e o a test p s = let same : targets_of c h e.act p ≡ true = (struck_at test (moment c h e) p s).3 in sym (ap (λ act. targets_of c h act p) a) ∙ same
+only_targets : (c : Setup) (h : History) (e : Entry) (o : Order) → e.act ≡ Kill o → (test : Kind → Bool) (p : ℕ) → some_is test (strikes (step_of c h e) p) ≡ true → targets c.processes (left c h) o.target p ≡ true
+only_targets c h e o a test p s = let same : targets_of c h e.act p ≡ true = (struck_at test (step_of c h e) p s).3 in sym (ap (λ act. targets_of c h act p) a) ∙ same
 
 -- and none where it struck with no such kind
-struck_none : (c : Setup) (h : History) (e : Entry) (test : Kind → Bool) → some_is test (struck_by e.act e.reply) ≡ false → (p : ℕ) → some_is test (strikes (moment c h e) p) ≡ true → ⊥
+struck_none : (c : Setup) (h : History) (e : Entry) (test : Kind → Bool) → some_is test (struck_by e.act e.reply) ≡ false → (p : ℕ) → some_is test (strikes (step_of c h e) p) ≡ true → ⊥
 struck_none c h e test f p s =
-    let found = struck_at test (moment c h e) p s in
+    let found = struck_at test (step_of c h e) p s in
     false≢true (sym f ∙ some_is_from test _ found.0 found.1 found.2)
 
 abbrev pub More : Type 0
@@ -129,19 +129,19 @@ satisfied_by processes policies destroyed left s RebootAndDelete is may = absurd
 satisfied_by processes policies destroyed left s KillInstantly is may = (may Gone refl).1
 
 -- who is destroyed after an entry was struck by it, or was destroyed before
-destroyed_by : (m : Moment) (h : History) (p : ℕ) → destroyed (m ∷ h) p ≡ true → (destroys m p ≡ true) ⊎ (destroyed h p ≡ true)
+destroyed_by : (m : Step) (h : History) (p : ℕ) → destroyed (m ∷ h) p ≡ true → (destroys m p ≡ true) ⊎ (destroyed h p ≡ true)
 destroyed_by m h p d = elim (or_cases (destroys m p) _ d) [ inl a ↦ inl a | inr a ↦ inr (and_parts (not (heals_at m p)) (destroyed h p) a).1 ]
 
 -- the destroyed stay short
-short_next : More → May → (c : Setup) (h : History) (e : Entry) → IsNext c h e → AreShort c.processes c.policies (destroyed h) → AreShort c.processes c.policies (destroyed (moment c h e ∷ h))
+short_next : More → May → (c : Setup) (h : History) (e : Entry) → IsNext c h e → AreShort c.processes c.policies (destroyed h) → AreShort c.processes c.policies (destroyed (step_of c h e ∷ h))
 short_next more may c h e next before = at (some_is is_destroying (struck_by e.act e.reply)) refl
   where
-    at : (b : Bool) → some_is is_destroying (struck_by e.act e.reply) ≡ b → AreShort c.processes c.policies (destroyed (moment c h e ∷ h))
-    at false f = short_less more c.processes c.policies _ (destroyed h) (λ p d. elim (destroyed_by (moment c h e) h p d) [ inl a ↦ absurd (struck_none c h e is_destroying f p a) | inr a ↦ a ]) before
+    at : (b : Bool) → some_is is_destroying (struck_by e.act e.reply) ≡ b → AreShort c.processes c.policies (destroyed (step_of c h e ∷ h))
+    at false f = short_less more c.processes c.policies _ (destroyed h) (λ p d. elim (destroyed_by (step_of c h e) h p d) [ inl a ↦ absurd (struck_none c h e is_destroying f p a) | inr a ↦ a ]) before
     at true t =
         let s = struck c h e next is_destroying t in
         short_less more c.processes c.policies _ (with_set (destroyed h) (targets c.processes (left c h) s.order.target))
-        (λ p d. elim (destroyed_by (moment c h e) h p d) [ inl a ↦ or_right (destroyed h p) _ (only_targets c h e s.order s.act is_destroying p a) | inr a ↦ or_left _ _ a ])
+        (λ p d. elim (destroyed_by (step_of c h e) h p d) [ inl a ↦ or_right (destroyed h p) _ (only_targets c h e s.order s.act is_destroying p a) | inr a ↦ or_left _ _ a ])
         (short_by c.processes c.policies (destroyed h) (left c h) _ s.kind s.is (λ loss brings. may (situation c h e.by) s.order s.kind loss s.strikes brings))
 
 not_either : (a b : Bool) → (a ≡ true → ⊥) → not b ≡ true → not (a || b) ≡ true
@@ -149,10 +149,10 @@ not_either true b f n = absurd (f refl)
 not_either false b f n = n
 
 -- those left still satisfy
-left_next : More → May → (c : Setup) (h : History) (e : Entry) → IsNext c h e → AreSatisfied c.processes c.policies (left c h) → AreSatisfied c.processes c.policies (left c (moment c h e ∷ h))
+left_next : More → May → (c : Setup) (h : History) (e : Entry) → IsNext c h e → AreSatisfied c.processes c.policies (left c h) → AreSatisfied c.processes c.policies (left c (step_of c h e ∷ h))
 left_next more may c h e next before = at (some_is destroys_for_good (struck_by e.act e.reply)) refl
   where
-    at : (b : Bool) → some_is destroys_for_good (struck_by e.act e.reply) ≡ b → AreSatisfied c.processes c.policies (left c (moment c h e ∷ h))
+    at : (b : Bool) → some_is destroys_for_good (struck_by e.act e.reply) ≡ b → AreSatisfied c.processes c.policies (left c (step_of c h e ∷ h))
     at false f = satisfied_more more c.processes c.policies (left c h) _ (λ p l. let both = and_parts (nat_lt p (length c.processes)) (not (gone h p)) l in
         and_from _ _ both.0 (not_either _ (gone h p) (struck_none c h e destroys_for_good f p) both.1)) before
     at true t =

@@ -7,7 +7,7 @@ use Rattle.std.specs.Ordering.{nat_cmp}
 use Rattle.std.specs.Cmp.{nat_cmp_total, unsigned_tied}
 use Rattle.std.specs.FinSet as sets
 use Rattle.fy_locality.specs.Members.{IsLeast}
-use Rattle.fy_net.specs.Net.{Traffic}
+use Rattle.fy_net.specs.Net.{NetState}
 use Rattle.fy_cluster.specs.Standing.{ChangesAt, ClogsChange}
 
 abbrev Set : Type 0
@@ -18,13 +18,13 @@ abbrev pub visited : Set → Set → ℕ → Bool
 visited set rest p = sets.contains set p && not (sets.contains rest p)
 
 -- the rest is of the set, and the elements at the numbers that were visited are changed
-pub record Visits {X : Type 0} (set rest : Set) (change : X → X) (blank : X) (old new : List X) : Type 0 where
+pub record Visits {X : Type 0} (set rest : Set) (change : X → X) (empty_disk : X) (old new : List X) : Type 0 where
   pub within : (p : ℕ) → sets.contains rest p ≡ true → sets.contains set p ≡ true
-  pub done : ChangesAt (visited set rest) change blank old new
+  pub done : ChangesAt (visited set rest) change empty_disk old new
 
 -- a number that is in the rest is one of the list's
-pub visits_below : {X : Type 0} {set rest : Set} {change : X → X} {blank : X} {old new : List X} {p : ℕ} → ((q : ℕ) → sets.contains set q ≡ true → q < length old)
-    → IsLeast rest p → Visits set rest change blank old new → p < length new
+pub visits_below : {X : Type 0} {set rest : Set} {change : X → X} {empty_disk : X} {old new : List X} {p : ℕ} → ((q : ℕ) → sets.contains set q ≡ true → q < length old)
+    → IsLeast rest p → Visits set rest change empty_disk old new → p < length new
 visits_below {p} small least k = let n = k.done.count in let s = small p (k.within p least.present) in omega arith
 
 no_both : {X : Type 0} (b : Bool) (x y : X) → y ≡ (if b && not b then x else y)
@@ -32,18 +32,18 @@ no_both true x y = refl
 no_both false x y = refl
 
 -- before the first
-pub visits_none : {X : Type 0} (set : Set) (change : X → X) (blank : X) (xs : List X) → Visits set set change blank xs xs
-visits_none set change blank xs = record {
+pub visits_none : {X : Type 0} (set : Set) (change : X → X) (empty_disk : X) (xs : List X) → Visits set set change empty_disk xs xs
+visits_none set change empty_disk xs = record {
   within = λ p present. present;
-  done = record { count = refl; each = λ p l. no_both (sets.contains set p) (change (get_or xs p blank)) (get_or xs p blank) };
+  done = record { count = refl; each = λ p l. no_both (sets.contains set p) (change (get_or xs p empty_disk)) (get_or xs p empty_disk) };
 }
 
 -- one more
-pub visits_more : {X : Type 0} {set rest next : Set} {change : X → X} {blank : X} {old new later : List X} {p : ℕ} → ((q : ℕ) → sets.contains set q ≡ true → q < length old)
-    → IsLeast rest p → next ≡ sets.remove rest p → later ≡ slice_set new p (change (get_or new p blank)) → Visits set rest change blank old new → Visits set next change blank old later
-visits_more {X} {set} {rest} {next} {change} {blank} {old} {new} {later} {p} small least without is k = record {
+pub visits_more : {X : Type 0} {set rest next : Set} {change : X → X} {empty_disk : X} {old new later : List X} {p : ℕ} → ((q : ℕ) → sets.contains set q ≡ true → q < length old)
+    → IsLeast rest p → next ≡ sets.remove rest p → later ≡ slice_set new p (change (get_or new p empty_disk)) → Visits set rest change empty_disk old new → Visits set next change empty_disk old later
+visits_more {X} {set} {rest} {next} {change} {empty_disk} {old} {new} {later} {p} small least without is k = record {
   within = λ q there. at_rest q (q == p) (sym (left q) ∙ there);
-  done = record { count = ap length is ∙ length-set new p _ ∙ k.done.count; each = λ q l. ap (λ xs. get_or xs q blank) is ∙ at q l (q == p) refl };
+  done = record { count = ap length is ∙ length-set new p _ ∙ k.done.count; each = λ q l. ap (λ xs. get_or xs q empty_disk) is ∙ at q l (q == p) refl };
 }
   where
     left : (q : ℕ) → sets.contains next q ≡ (not (q == p) && sets.contains rest q)
@@ -55,23 +55,23 @@ visits_more {X} {set} {rest} {next} {change} {blank} {old} {new} {later} {p} sma
 
     -- what is at a number, by whether it is in the set and in the rest
     was : ℕ → X
-    was q = get_or old q blank
+    was q = get_or old q empty_disk
 
     becomes : ℕ → Bool → Bool → X
     becomes q member remains = if member && not remains then change (was q) else was q
 
-    at : (q : ℕ) → q < length old → (b : Bool) → (q == p) ≡ b → get_or (slice_set new p (change (get_or new p blank))) q blank ≡ becomes q (sets.contains set q) (sets.contains next q)
+    at : (q : ℕ) → q < length old → (b : Bool) → (q == p) ≡ b → get_or (slice_set new p (change (get_or new p empty_disk))) q empty_disk ≡ becomes q (sets.contains set q) (sets.contains next q)
     at q l true e =
         let same : q ≡ p = eqb-true q p e in
         let here : sets.contains rest q ≡ true = ap (sets.contains rest) same ∙ least.present in
-        let changed : get_or (slice_set new p (change (get_or new p blank))) p blank ≡ change (get_or new p blank) = get_or-set_same new p _ blank (visits_below small least k) in
-        ap (λ i. get_or (slice_set new p (change (get_or new p blank))) i blank) same
+        let changed : get_or (slice_set new p (change (get_or new p empty_disk))) p empty_disk ≡ change (get_or new p empty_disk) = get_or-set_same new p _ empty_disk (visits_below small least k) in
+        ap (λ i. get_or (slice_set new p (change (get_or new p empty_disk))) i empty_disk) same
         ∙ changed
-        ∙ ap (λ i. change (get_or new i blank)) (sym same)
+        ∙ ap (λ i. change (get_or new i empty_disk)) (sym same)
         ∙ ap change (k.done.each q l ∙ ap₂ (becomes q) (k.within q here) here)
         ∙ sym (ap₂ (becomes q) (k.within q here) (left q ∙ ap (λ b. not b && sets.contains rest q) e))
     at q l false e =
-        get_or-set_other new p q (change (get_or new p blank)) blank (λ w. (let s : (q == p) ≡ true = grind (arith, nat_tests) in true≢false (sym s ∙ e)))
+        get_or-set_other new p q (change (get_or new p empty_disk)) empty_disk (λ w. (let s : (q == p) ≡ true = grind (arith, nat_tests) in true≢false (sym s ∙ e)))
         ∙ k.done.each q l
         ∙ ap (becomes q (sets.contains set q)) (sym (left q ∙ ap (λ b. not b && sets.contains rest q) e))
 
@@ -80,28 +80,28 @@ and_true true x y = refl
 and_true false x y = refl
 
 -- after the last
-pub visits_all : {X : Type 0} {set rest : Set} {change : X → X} {blank : X} {old new : List X} → rest ≡ sets.empty → Visits set rest change blank old new → ChangesAt (sets.contains set) change blank old new
-visits_all {set} {change} {blank} {old} none k = record {
+pub visits_all : {X : Type 0} {set rest : Set} {change : X → X} {empty_disk : X} {old new : List X} → rest ≡ sets.empty → Visits set rest change empty_disk old new → ChangesAt (sets.contains set) change empty_disk old new
+visits_all {set} {change} {empty_disk} {old} none k = record {
   count = k.done.count;
   each = λ p l.
       k.done.each p l
-      ∙ ap (λ b. if sets.contains set p && not b then change (get_or old p blank) else get_or old p blank) (ap (λ s. sets.contains s p) none ∙ sets.contains-empty nat_cmp p)
-      ∙ and_true (sets.contains set p) (change (get_or old p blank)) (get_or old p blank);
+      ∙ ap (λ b. if sets.contains set p && not b then change (get_or old p empty_disk) else get_or old p empty_disk) (ap (λ s. sets.contains s p) none ∙ sets.contains-empty nat_cmp p)
+      ∙ and_true (sets.contains set p) (change (get_or old p empty_disk)) (get_or old p empty_disk);
 }
 
 -- ---- clogs
 
 -- the same of the ends of clogs, while nothing else of the network is changed
-pub record VisitsClogs (set rest : Set) (change : ℕ → ℕ → ℕ) (old new : Traffic) : Type 0 where
+pub record VisitsClogs (set rest : Set) (change : ℕ → ℕ → ℕ) (old new : NetState) : Type 0 where
   pub others : new ≡ record old { until = new.until }
   pub ends : Visits set rest (change old.clock) 0 old.until new.until
 
-pub clogs_more : {set rest next : Set} {change : ℕ → ℕ → ℕ} {old new later : Traffic} {p : ℕ} → ((q : ℕ) → sets.contains set q ≡ true → q < length old.until) → IsLeast rest p → next ≡ sets.remove rest p
+pub clogs_more : {set rest next : Set} {change : ℕ → ℕ → ℕ} {old new later : NetState} {p : ℕ} → ((q : ℕ) → sets.contains set q ≡ true → q < length old.until) → IsLeast rest p → next ≡ sets.remove rest p
     → later ≡ record new { until = slice_set new.until p (change new.clock (slice_index new.until p)) } → VisitsClogs set rest change old new → VisitsClogs set next change old later
 clogs_more {change} {old} {new} {p} small least without is k = record {
-  others = is ∙ ap (λ (net : Traffic). record net { until = slice_set new.until p (change new.clock (slice_index new.until p)) }) k.others ∙ sym (ap (λ (net : Traffic). record old { until = net.until }) is);
-  ends = visits_more small least without (ap (λ (net : Traffic). net.until) is ∙ ap (λ (net : Traffic). slice_set new.until p (change net.clock (slice_index new.until p))) k.others) k.ends;
+  others = is ∙ ap (λ (net : NetState). record net { until = slice_set new.until p (change new.clock (slice_index new.until p)) }) k.others ∙ sym (ap (λ (net : NetState). record old { until = net.until }) is);
+  ends = visits_more small least without (ap (λ (net : NetState). net.until) is ∙ ap (λ (net : NetState). slice_set new.until p (change net.clock (slice_index new.until p))) k.others) k.ends;
 }
 
-pub clogs_all : {set rest : Set} {change : ℕ → ℕ → ℕ} {old new : Traffic} → rest ≡ sets.empty → VisitsClogs set rest change old new → ClogsChange (sets.contains set) change old new
+pub clogs_all : {set rest : Set} {change : ℕ → ℕ → ℕ} {old new : NetState} → rest ≡ sets.empty → VisitsClogs set rest change old new → ClogsChange (sets.contains set) change old new
 clogs_all none k = record { rest = k.others; ends = visits_all none k.ends }

@@ -15,7 +15,7 @@ use Rattle.fy_acts.specs.declared.reply.Reply.{Reply}
 use Rattle.fy_acts.specs.declared.entry.Entry.{Entry}
 use Rattle.fy_journal.specs.declared.version.Version.TheVariants.{First}
 use Rattle.fy_cluster.specs.Setup.{Setup, IsMet}
-use Rattle.fy_cluster.specs.History.{History, Moment, moment, after, some_is, forms, delivers, destroys, destroyed, heals, heals_at, replaces, after_swap, teams, records, members_for, word_of, marks, marked, tells, acked}
+use Rattle.fy_cluster.specs.History.{History, Step, step_of, after, some_is, forms, delivers, destroys, destroyed, heals, heals_at, replaces, after_swap, teams, records, members_for, ack_of, marks, marked, delivers_ack_of, acked}
 use Rattle.fy_cluster.specs.Replies.{IsNext, LegalAfter}
 use Rattle.fy_cluster.specs.Versions.{knows_all}
 use Rattle.fy_journal.specs.Versions.{knows}
@@ -62,31 +62,31 @@ record Then (c : Setup) (h : History) : Type 0 where
   earlier : IsAsEarlier h
   marks_known : (r p : ℕ) → marked h r p ≡ true → Known h r
 
-destroyed_next : (m : Moment) (h : History) (p : ℕ) → heals_at m p ≡ false → destroyed h p ≡ once_destroyed h p → destroyed (m ∷ h) p ≡ once_destroyed (m ∷ h) p
+destroyed_next : (m : Step) (h : History) (p : ℕ) → heals_at m p ≡ false → destroyed h p ≡ once_destroyed h p → destroyed (m ∷ h) p ≡ once_destroyed (m ∷ h) p
 destroyed_next m h p n d = ap₂ (λ x y. destroys m p || (not x && y)) n d
 
-teams_next : (m : Moment) (h : History) → replaces m.entry.act m.entry.reply ≡ None → teams h ≡ teams_formed h → teams (m ∷ h) ≡ teams_formed (m ∷ h)
+teams_next : (m : Step) (h : History) → replaces m.entry.act m.entry.reply ≡ None → teams h ≡ teams_formed h → teams (m ∷ h) ≡ teams_formed (m ∷ h)
 teams_next m h n d = ap₂ (λ s ts. after_swap s ts ++ option_to_list (forms m.entry.act m.entry.reply)) n d
 
-marked_next : (m : Moment) (h : History) (r p : ℕ) → heals_at m p ≡ false → marked h r p ≡ once_marked h r p → marked (m ∷ h) r p ≡ once_marked (m ∷ h) r p
+marked_next : (m : Step) (h : History) (r p : ℕ) → heals_at m p ≡ false → marked h r p ≡ once_marked h r p → marked (m ∷ h) r p ≡ once_marked (m ∷ h) r p
 marked_next m h r p n d = ap₂ (λ x y. marks m r p || (not (x && not (acked h r)) && y)) n d
 
 -- who has a mark got it by this entry, or had it
-marked_cases : (m : Moment) (h : History) (r p : ℕ) → marked (m ∷ h) r p ≡ true → (marks m r p ≡ true) ⊎ (marked h r p ≡ true)
+marked_cases : (m : Step) (h : History) (r p : ℕ) → marked (m ∷ h) r p ≡ true → (marks m r p ≡ true) ⊎ (marked h r p ≡ true)
 marked_cases m h r p k = elim (or_cases (marks m r p) _ k) [ inl a ↦ inl a | inr a ↦ inr (and_parts (not (heals_at m p && not (acked h r))) (marked h r p) a).1 ]
 
-marks_tells : (m : Moment) (r p : ℕ) → marks m r p ≡ true → tells m r ≡ true
+marks_tells : (m : Step) (r p : ℕ) → marks m r p ≡ true → delivers_ack_of m r ≡ true
 marks_tells m r p k =
     let both = and_parts (is_some (delivers m.entry.act m.entry.reply)) _ k in
-    and_from _ _ both.0 (at (option_and_then word_of m.message) both.1)
+    and_from _ _ both.0 (at (option_and_then ack_of m.message) both.1)
   where
     at : (o : Option (ℕ × ℕ)) → some_is (λ w. w.0 == r && w.1 == p) o ≡ true → some_is (λ w. w.0 == r) o ≡ true
     at None e = e
     at (Some w) e = (and_parts (w.0 == r) (w.1 == p) e).0
 
-marks_known_next : (c : Setup) (h : History) (e : Entry) → Sound c h → ((r p : ℕ) → marked h r p ≡ true → Known h r) → (r p : ℕ) → marked (moment c h e ∷ h) r p ≡ true → Known (moment c h e ∷ h) r
-marks_known_next c h e sound known r p k = known_still (moment c h e) h r (elim (marked_cases (moment c h e) h r p k) [
-  | inl a ↦ tells_known c h e sound r (marks_tells (moment c h e) r p a)
+marks_known_next : (c : Setup) (h : History) (e : Entry) → Sound c h → ((r p : ℕ) → marked h r p ≡ true → Known h r) → (r p : ℕ) → marked (step_of c h e ∷ h) r p ≡ true → Known (step_of c h e ∷ h) r
+marks_known_next c h e sound known r p k = known_still (step_of c h e) h r (elim (marked_cases (step_of c h e) h r p k) [
+  | inl a ↦ tells_known c h e sound r (marks_tells (step_of c h e) r p a)
   | inr a ↦ known r p a
 ])
 
@@ -101,7 +101,7 @@ marked_by_all_is : (h : History) → teams h ≡ teams_formed h → ((r p : ℕ)
 marked_by_all_is h e f r = ap₂ (λ test ps. nat_lt r (length (records h)) && list_all test ps) (λ i p. f r p.0 i) (same_members h r e)
 
 -- a team of a record is as it was
-members_still : (c : Setup) (m : Moment) (h : History) → Sound c h → replaces m.entry.act m.entry.reply ≡ None → (r : ℕ) → Known h r → members_for (m ∷ h) r ≡ members_for h r
+members_still : (c : Setup) (m : Step) (h : History) → Sound c h → replaces m.entry.act m.entry.reply ≡ None → (r : ℕ) → Known h r → members_for (m ∷ h) r ≡ members_for h r
 members_still c m h sound n r b =
     let t = slice_get-each (λ b. (t : Team) × (slice_get (teams h) b.team ≡ Some t)) (records h) r b.0 sound.joined b.1 in
     let there : slice_get (teams (m ∷ h)) b.0.team ≡ Some t.0 = subst (λ s. slice_get (after_swap s (teams h) ++ option_to_list (forms m.entry.act m.entry.reply)) b.0.team ≡ Some t.0) (sym n) (slice_get-append (teams h) (option_to_list (forms m.entry.act m.entry.reply)) b.0.team t.0 t.1) in
@@ -123,63 +123,63 @@ some_member empty c met t is f all = at t.members refl
 
 -- once acknowledged, all members have marks
 acked_then : (c : Setup) (h : History) (e : Entry) → Sound c h → replaces e.act e.reply ≡ None → heals e.act e.reply ≡ None → (r : ℕ) → (acked h r ≡ true → (nat_lt r (length (records h)) && list_all (λ p. marked h r p.0) (members_for h r)) ≡ true)
-    → acked (moment c h e ∷ h) r ≡ true → (nat_lt r (length (records (moment c h e ∷ h))) && list_all (λ p. marked (moment c h e ∷ h) r p.0) (members_for (moment c h e ∷ h) r)) ≡ true
+    → acked (step_of c h e ∷ h) r ≡ true → (nat_lt r (length (records (step_of c h e ∷ h))) && list_all (λ p. marked (step_of c h e ∷ h) r p.0) (members_for (step_of c h e ∷ h) r)) ≡ true
 acked_then c h e sound n s r before a =
     elim (or_cases (acked h r) _ a) [
       | inl k ↦
           let both = and_parts (nat_lt r (length (records h))) _ (before k) in
           all_of (slice_get-some (records h) r (ltb-true r (length (records h)) both.0))
-          (list_all-more (λ p. marked h r p.0) (λ p. marked (moment c h e ∷ h) r p.0) (λ p k. stays p.0 k) (members_for h r) both.1)
-      | inr k ↦ let both = and_parts (tells (moment c h e) r) _ k in all_of (tells_known c h e sound r both.0) both.1
+          (list_all-more (λ p. marked h r p.0) (λ p. marked (step_of c h e ∷ h) r p.0) (λ p k. stays p.0 k) (members_for h r) both.1)
+      | inr k ↦ let both = and_parts (delivers_ack_of (step_of c h e) r) _ k in all_of (tells_known c h e sound r both.0) both.1
     ]
   where
-    stays : (p : ℕ) → marked h r p ≡ true → marked (moment c h e ∷ h) r p ≡ true
-    stays p k = or_right (marks (moment c h e) r p) _ (subst (λ o. (not (some_is (λ q. q == p) o && not (acked h r)) && marked h r p) ≡ true) (sym s) k)
+    stays : (p : ℕ) → marked h r p ≡ true → marked (step_of c h e ∷ h) r p ≡ true
+    stays p k = or_right (marks (step_of c h e) r p) _ (subst (λ o. (not (some_is (λ q. q == p) o && not (acked h r)) && marked h r p) ≡ true) (sym s) k)
 
-    all_of : Known h r → list_all (λ p. marked (moment c h e ∷ h) r p.0) (members_for h r) ≡ true → (nat_lt r (length (records (moment c h e ∷ h))) && list_all (λ p. marked (moment c h e ∷ h) r p.0) (members_for (moment c h e ∷ h) r)) ≡ true
+    all_of : Known h r → list_all (λ p. marked (step_of c h e ∷ h) r p.0) (members_for h r) ≡ true → (nat_lt r (length (records (step_of c h e ∷ h))) && list_all (λ p. marked (step_of c h e ∷ h) r p.0) (members_for (step_of c h e ∷ h) r)) ≡ true
     all_of b all =
-        let there = records_still (moment c h e) h r b.0 b.1 in
-        and_from _ _ (lt-ltb r _ (slice_get_within (records (moment c h e ∷ h)) r b.0 there))
-        (subst (λ ps. list_all (λ p. marked (moment c h e ∷ h) r p.0) ps ≡ true) (sym (members_still c (moment c h e) h sound n r b)) all)
+        let there = records_still (step_of c h e) h r b.0 b.1 in
+        and_from _ _ (lt-ltb r _ (slice_get_within (records (step_of c h e ∷ h)) r b.0 there))
+        (subst (λ ps. list_all (λ p. marked (step_of c h e ∷ h) r p.0) ps ≡ true) (sym (members_still c (step_of c h e) h sound n r b)) all)
 
 -- where all members have marks, a word of the record was just delivered, or it was acknowledged before
 then_acked : EmptyNone → Tested → (c : Setup) → IsMet c → (h : History) (e : Entry) → IsNext c h e → Sound c h → ((r p : ℕ) → marked h r p ≡ true → Known h r) → replaces e.act e.reply ≡ None → (r : ℕ)
     → ((nat_lt r (length (records h)) && list_all (λ p. marked h r p.0) (members_for h r)) ≡ true → acked h r ≡ true)
-    → (nat_lt r (length (records (moment c h e ∷ h))) && list_all (λ p. marked (moment c h e ∷ h) r p.0) (members_for (moment c h e ∷ h) r)) ≡ true → acked (moment c h e ∷ h) r ≡ true
+    → (nat_lt r (length (records (step_of c h e ∷ h))) && list_all (λ p. marked (step_of c h e ∷ h) r p.0) (members_for (step_of c h e ∷ h) r)) ≡ true → acked (step_of c h e ∷ h) r ≡ true
 then_acked empty tested c met h e next sound known n r before a = at (acked h r) refl
   where
-    both : (nat_lt r (length (records (moment c h e ∷ h))) ≡ true) × (list_all (λ p. marked (moment c h e ∷ h) r p.0) (members_for (moment c h e ∷ h) r) ≡ true)
-    both = and_parts (nat_lt r (length (records (moment c h e ∷ h)))) _ a
+    both : (nat_lt r (length (records (step_of c h e ∷ h))) ≡ true) × (list_all (λ p. marked (step_of c h e ∷ h) r p.0) (members_for (step_of c h e ∷ h) r) ≡ true)
+    both = and_parts (nat_lt r (length (records (step_of c h e ∷ h)))) _ a
 
     -- the record was there: some member got its mark by this entry
-    told : acked h r ≡ false → Known h r → acked (moment c h e ∷ h) r ≡ true
+    told : acked h r ≡ false → Known h r → acked (step_of c h e ∷ h) r ≡ true
     told was b =
-        let all : list_all (λ p. marked (moment c h e ∷ h) r p.0) (members_for h r) ≡ true = subst (λ ps. list_all (λ p. marked (moment c h e ∷ h) r p.0) ps ≡ true) (members_still c (moment c h e) h sound n r b) both.1 in
+        let all : list_all (λ p. marked (step_of c h e ∷ h) r p.0) (members_for h r) ≡ true = subst (λ ps. list_all (λ p. marked (step_of c h e ∷ h) r p.0) ps ≡ true) (members_still c (step_of c h e) h sound n r b) both.1 in
         let there : nat_lt r (length (records h)) ≡ true = lt-ltb r _ (slice_get_within (records h) r b.0 b.1) in
         let not_all : list_all (λ p. marked h r p.0) (members_for h r) ≡ false = false_from_ne_true _ (λ k. both_ways _ was (before (and_from _ _ there k))) in
-        let q = passes_one (λ p. marked (moment c h e ∷ h) r p.0) (λ p. marked h r p.0) (members_for h r) all not_all in
-        let mark : marks (moment c h e) r q.0.0 ≡ true = elim (marked_cases (moment c h e) h r q.0.0 q.1) [ inl k ↦ k | inr k ↦ absurd (both_ways _ q.2 k) ] in
-        or_right (acked h r) _ (and_from _ _ (marks_tells (moment c h e) r q.0.0 mark) all)
+        let q = passes_one (λ p. marked (step_of c h e ∷ h) r p.0) (λ p. marked h r p.0) (members_for h r) all not_all in
+        let mark : marks (step_of c h e) r q.0.0 ≡ true = elim (marked_cases (step_of c h e) h r q.0.0 q.1) [ inl k ↦ k | inr k ↦ absurd (both_ways _ q.2 k) ] in
+        or_right (acked h r) _ (and_from _ _ (marks_tells (step_of c h e) r q.0.0 mark) all)
 
     -- it was not: nobody can have a mark for it
-    new : length (records h) ≤ r → acked (moment c h e ∷ h) r ≡ true
+    new : length (records h) ≤ r → acked (step_of c h e ∷ h) r ≡ true
     new l =
-        let sound' : Sound c (moment c h e ∷ h) = sound_next tested c h e next sound in
-        let b = slice_get-some (records (moment c h e ∷ h)) r (ltb-true r _ both.0) in
-        let t = slice_get-each (λ b. (t : Team) × (slice_get (teams (moment c h e ∷ h)) b.team ≡ Some t)) (records (moment c h e ∷ h)) r b.0 sound'.joined b.1 in
-        let is = slice_get-each (IsFormed c.processes c.policies) (teams (moment c h e ∷ h)) b.0.team t.0 sound'.formed t.1 in
-        let all : list_all (λ p. marked (moment c h e ∷ h) r p.0) t.0.members ≡ true = subst (λ ps. list_all (λ p. marked (moment c h e ∷ h) r p.0) ps ≡ true) (team_known (moment c h e ∷ h) r b.0 t.0 b.1 t.1) both.1 in
-        let q = some_member empty c met t.0 is (λ p. marked (moment c h e ∷ h) r p.0) all in
-        let k : Known h r = elim (marked_cases (moment c h e) h r q.0.0 q.1) [ inl k ↦ tells_known c h e sound r (marks_tells (moment c h e) r q.0.0 k) | inr k ↦ known r q.0.0 k ] in
+        let sound' : Sound c (step_of c h e ∷ h) = sound_next tested c h e next sound in
+        let b = slice_get-some (records (step_of c h e ∷ h)) r (ltb-true r _ both.0) in
+        let t = slice_get-each (λ b. (t : Team) × (slice_get (teams (step_of c h e ∷ h)) b.team ≡ Some t)) (records (step_of c h e ∷ h)) r b.0 sound'.joined b.1 in
+        let is = slice_get-each (IsFormed c.processes c.policies) (teams (step_of c h e ∷ h)) b.0.team t.0 sound'.formed t.1 in
+        let all : list_all (λ p. marked (step_of c h e ∷ h) r p.0) t.0.members ≡ true = subst (λ ps. list_all (λ p. marked (step_of c h e ∷ h) r p.0) ps ≡ true) (team_known (step_of c h e ∷ h) r b.0 t.0 b.1 t.1) both.1 in
+        let q = some_member empty c met t.0 is (λ p. marked (step_of c h e ∷ h) r p.0) all in
+        let k : Known h r = elim (marked_cases (step_of c h e) h r q.0.0 q.1) [ inl k ↦ tells_known c h e sound r (marks_tells (step_of c h e) r q.0.0 k) | inr k ↦ known r q.0.0 k ] in
         absurd (let w = slice_get_within (records h) r k.0 k.1 in omega (arith, w, l))
 
-    at : (x : Bool) → acked h r ≡ x → acked (moment c h e ∷ h) r ≡ true
+    at : (x : Bool) → acked h r ≡ x → acked (step_of c h e ∷ h) r ≡ true
     at true was = or_left (acked h r) _ was
     at false was = elim (cases_lt r (length (records h))) [ inl l ↦ told was (slice_get-some (records h) r l) | inr l ↦ new l ]
 
-then_next : EmptyNone → Tested → (c : Setup) → IsMet c → (h : History) (e : Entry) → IsNext c h e → knows First e.act ≡ true → Then c h → Then c (moment c h e ∷ h)
+then_next : EmptyNone → Tested → (c : Setup) → IsMet c → (h : History) (e : Entry) → IsNext c h e → knows First e.act ≡ true → Then c h → Then c (step_of c h e ∷ h)
 then_next empty tested c met h e next k before =
-    let m = moment c h e in
+    let m = step_of c h e in
     let n = no_swap e.act e.reply k in
     let s = no_heal e.act e.reply k in
     let none : (p : ℕ) → heals_at m p ≡ false = λ p. ap (some_is (λ q. q == p)) s in
@@ -215,7 +215,7 @@ then_after : EmptyNone → Tested → (c : Setup) → IsMet c → (h : History) 
 then_after empty tested c met h [] then l k = then
 then_after empty tested c met h (e ∷ later) then l k =
     let both = and_parts (knows First e.act) _ k in
-    then_after empty tested c met (moment c h e ∷ h) later (then_next empty tested c met h e l.0 both.0 then) l.1 both.1
+    then_after empty tested c met (step_of c h e ∷ h) later (then_next empty tested c met h e l.0 both.0 then) l.1 both.1
 
 pub earlier_rules_hold : EmptyNone → Tested → EarlierRulesHold
 earlier_rules_hold empty tested c journal met l = (then_after empty tested c met [] journal (then_start c) l.legal.1 l.known).earlier

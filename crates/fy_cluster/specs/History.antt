@@ -1,7 +1,7 @@
--- What the entries before a moment have done. A journal has the oldest entry first. A history has
--- the newest first, so that what was before a moment is the rest of the list, and beside each entry
+-- What the entries before a step have done. A journal has the oldest entry first. A history has
+-- the newest first, so that what was before a step is the rest of the list, and beside each entry
 -- it has what that entry did.
-use Rattle.std.specs.Prelude.{ℕ, ◌+◌, min, Bool, true, false, ◌&&◌, ◌||◌, not, List, [], ◌∷◌, ◌++◌, length, map, find, filter, Option, Some, None, is_some, is_none, option_map, unwrap_or, option_to_list, option_and_then, nat_lt, ◌==◌, slice_get, slice_set, if◌then◌else◌}
+use Rattle.std.specs.Prelude.{ℕ, ◌+◌, min, max, Bool, true, false, ◌&&◌, ◌||◌, not, List, [], ◌∷◌, ◌++◌, length, map, filter, Option, Some, None, is_some, is_none, option_map, unwrap_or, option_to_list, option_and_then, nat_lt, ◌==◌, slice_get, slice_set, if◌then◌else◌}
 use Rattle.std.specs.List.{list_any, list_all, range_with_len}
 use Rattle.std.specs.Option.{option_map_or}
 use Rattle.fy_locality.specs.declared.ProcId.{ProcId}
@@ -13,10 +13,10 @@ use Rattle.fy_kinds.specs.Kinds.{is_destroying, destroys_for_good}
 use Rattle.fy_grants.specs.declared.grant.Grant.{Grant}
 use Rattle.fy_disk.specs.declared.item.Item.{Item}
 use Rattle.fy_disk.specs.Disk.{outlives}
-use Rattle.fy_disks.specs.Disks.{has_record}
+use Rattle.fy_disk.specs.Disks.{has_record}
 use Rattle.fy_net.specs.declared.message.Body.{Body}
 use Rattle.fy_net.specs.declared.message.Body.TheVariants.{Store, Synced}
-use Rattle.fy_net.specs.Net.{is_word_from}
+use Rattle.fy_net.specs.Net.{is_ack_from}
 use Rattle.fy_grants.specs.Least.{least_with}
 use Rattle.fy_net.specs.declared.limits.TheConstants.{LAST_TICK}
 use Rattle.fy_team.specs.Teams.{Team, is_among, swapped}
@@ -39,16 +39,16 @@ pub record BegunRecord : Type 0 where
 
 -- an entry with what it did: whom its target named, the message that it names, the messages that
 -- it sent, and the numbers of those that it took out of the network
-pub record Moment : Type 0 where
+pub record Step : Type 0 where
   pub entry : Entry
   pub targets : ProcessSet
   pub message : Option Body
   pub sends : List Body
-  pub takes_out : ℕ → Bool
+  pub removes : ℕ → Bool
 
 -- the newest first
 abbrev pub History : Type 0
-History = List Moment
+History = List Step
 
 -- ---- what one entry says
 
@@ -72,8 +72,9 @@ abbrev pub tear_of : Act → ℕ
 tear_of (Kill order) = order.tear
 tear_of _ = 0
 
--- each of these is some just where the entry is an accepted one of its act: here for how many ticks
--- it clogs
+-- What an accepted entry of an act names; None for any other entry.
+
+-- for how many ticks it clogs
 abbrev pub clogs : Act → Reply → Option ℕ
 clogs (Clog target ticks) r = if_accepted r ticks
 clogs _ r = None
@@ -124,9 +125,9 @@ gives (Give grant) r = if_accepted r grant
 gives _ r = None
 
 -- the actor and the place of the grant that is taken
-abbrev pub takes : Act → Reply → Option (ℕ × ℕ)
-takes (Take actor index) r = if_accepted r (actor, index)
-takes _ r = None
+abbrev pub takes_grant : Act → Reply → Option (ℕ × ℕ)
+takes_grant (Take actor index) r = if_accepted r (actor, index)
+takes_grant _ r = None
 
 -- the process, and from what it is protected
 abbrev pub protects : Act → Reply → Option (ℕ × KindSet)
@@ -168,15 +169,15 @@ is_closing RebootProcess = false
 is_closing _ = true
 
 -- the kind by which the entry struck the process
-abbrev pub strikes : Moment → ℕ → Option Kind
+abbrev pub strikes : Step → ℕ → Option Kind
 strikes m p = if m.targets p then struck_by m.entry.act m.entry.reply else None
 
 -- the entry struck the process by a destroying kind
-abbrev pub destroys : Moment → ℕ → Bool
+abbrev pub destroys : Step → ℕ → Bool
 destroys m p = some_is is_destroying (strikes m p)
 
 -- the entry healed the process
-abbrev pub heals_at : Moment → ℕ → Bool
+abbrev pub heals_at : Step → ℕ → Bool
 heals_at m p = some_is (λ q. q == p) (heals m.entry.act m.entry.reply)
 
 -- some entry destroyed it, and none healed it since
@@ -201,7 +202,7 @@ up (m ∷ h) p =
 -- ---- disks
 
 -- the entry is an accepted Sync of the process
-abbrev pub syncs_at : Moment → ℕ → Bool
+abbrev pub syncs_at : Step → ℕ → Bool
 syncs_at m p = some_is (λ q. q == p) (syncs m.entry.act m.entry.reply)
 
 -- the reply to a Store that was delivered
@@ -215,33 +216,18 @@ store_to p (Store rec to) = if to.0 == p then Some rec else None
 store_to p (Synced rec from) = None
 
 -- the record that the entry, a Deliver answered Stored, wrote to the process
-abbrev pub writes : Moment → ℕ → Option ℕ
+abbrev pub writes : Step → ℕ → Option ℕ
 writes m p =
     if is_some (delivers m.entry.act m.entry.reply) && is_stored m.entry.reply
     then option_and_then (store_to p) m.message else None
 
--- whether the entry decides what becomes of the unsynced writes to the process
-abbrev pub closes : ℕ → Moment → Bool
+-- whether the entry decides what becomes of the pending writes to the process
+abbrev pub closes : ℕ → Step → Bool
 closes p m = syncs_at m p || some_is is_closing (strikes m p)
 
--- how many writes to the process there were since the last entry that closes
-abbrev pub place : History → ℕ → ℕ
-place [] p = 0
-place (m ∷ h) p =
-    if closes p m then 0 else (if is_some (writes m p) then place h p + 1 else place h p)
-
--- of a write with these later entries, the oldest first: none of them closes it
-abbrev pub is_open : ℕ → List Moment → ℕ → Bool
-is_open p later i = is_none (find (closes p) later)
-
--- the close keeps the write at this place
-abbrev pub close_keeps : ℕ → ℕ → Moment → Bool
+-- the entry, which closes, keeps the pending write with this number
+abbrev pub close_keeps : ℕ → ℕ → Step → Bool
 close_keeps p i m = syncs_at m p || not (destroys m p) && outlives (tear_of m.entry.act) i
-
--- it was kept at its close, and no destroying strike came after it
-abbrev pub is_kept : ℕ → List Moment → ℕ → Bool
-is_kept p later i =
-    some_is (close_keeps p i) (find (closes p) later) && not (list_any (λ m. destroys m p) later)
 
 -- ---- teams and records
 
@@ -283,20 +269,64 @@ members_for h rec = option_map_or (λ b. members_of h b.team) (slice_get (record
 abbrev pub written_item : History → Option ℕ → Option Item
 written_item h write = option_map (λ rec. record { rec = rec; payload = payload_of h rec }) write
 
--- the writes to the process that pass, by what came later and by their place
-abbrev pub written : ℕ → (List Moment → ℕ → Bool) → List Moment → History → List Item
-written p passes later [] = []
-written p passes later (m ∷ h) =
-    written p passes (m ∷ later) h
-    ++ option_to_list (if passes later (place h p) then written_item h (writes m p) else None)
+-- what has become of a write; a pending one has its number among the pending ones
+pub data Fate : Type 0 where
+  pending : ℕ → Fate
+  durable : Fate
+  lost : Fate
+
+-- the write is neither synced nor lost
+abbrev pub is_pending : Fate → Bool
+is_pending (pending i) = true
+is_pending _ = false
+
+-- the write is synced
+abbrev pub is_durable : Fate → Bool
+is_durable durable = true
+is_durable _ = false
+
+-- the fate after an entry: one that closes settles a pending write, one that destroys loses all
+abbrev pub fate_after : ℕ → Step → Fate → Fate
+fate_after p m (pending i) =
+    if closes p m then (if close_keeps p i m then durable else lost) else pending i
+fate_after p m durable = if destroys m p then lost else durable
+fate_after p m lost = lost
+
+-- a write: what was written, and what has become of it
+pub record Write : Type 0 where
+  pub item : Item
+  pub fate : Fate
+
+-- a write with what becomes of it at the entry
+abbrev pub write_after : ℕ → Step → Write → Write
+write_after p m w = record w { fate = fate_after p m w.fate }
+
+-- what was written by those of the writes whose fate passes
+abbrev pub items_with : (Fate → Bool) → List Write → List Item
+items_with test list = map (λ w. w.item) (filter (λ w. test w.fate) list)
+
+-- the write of an item, pending behind so many others
+abbrev pub new_write : ℕ → Item → Write
+new_write count item = record { item = item; fate = pending count }
+
+-- the writes to the process after one entry more, which may write an item
+abbrev pub writes_after : ℕ → Step → Option Item → List Write → List Write
+writes_after p m item before =
+    map (write_after p m) before
+    ++ option_to_list (option_map (new_write (length (items_with is_pending before))) item)
+
+-- the writes to the process, in their order
+abbrev pub writes_to : History → ℕ → List Write
+writes_to [] p = []
+writes_to (m ∷ h) p = writes_after p m (written_item h (writes m p)) (writes_to h p)
 
 -- what the process has synced, in the order in which it was written
 abbrev pub synced : History → ℕ → List Item
-synced h p = written p (is_kept p) [] h
+synced h p = items_with is_durable (writes_to h p)
 
 -- what it has written and neither synced nor lost
 abbrev pub unsynced : History → ℕ → List Item
-unsynced h p = written p (is_open p) [] h
+unsynced h p = items_with is_pending (writes_to h p)
 
 -- ---- the network
 
@@ -306,12 +336,12 @@ sent [] = []
 sent (m ∷ h) = sent h ++ m.sends
 
 -- some entry took the message out of the network
-abbrev pub is_taken : History → ℕ → Bool
-is_taken h n = list_any (λ m. m.takes_out n) h
+abbrev pub is_removed : History → ℕ → Bool
+is_removed h n = list_any (λ m. m.removes n) h
 
 -- the message was sent, and nothing took it out
 abbrev pub in_flight : History → ℕ → Bool
-in_flight h n = nat_lt n (length (sent h)) && not (is_taken h n)
+in_flight h n = nat_lt n (length (sent h)) && not (is_removed h n)
 
 -- how many messages are in flight
 abbrev pub in_flight_count : History → ℕ
@@ -322,28 +352,37 @@ abbrev pub now : History → ℕ
 now [] = 0
 now (m ∷ h) = now h + unwrap_or (ticks m.entry.act m.entry.reply) 0
 
--- the clog of the entry, made at the time n, holds the process at the time t
-abbrev pub holds : Moment → ℕ → ℕ → ℕ → Bool
-holds m n t p =
-    some_is (λ k. m.targets p && nat_lt t (min (n + k) LAST_TICK)) (clogs m.entry.act m.entry.reply)
+-- a clog of some ticks shortens no other, and lasts no longer than the clock
+abbrev pub clog_end : (ticks time until : ℕ) → ℕ
+clog_end ticks time until = max until (min (time + ticks) LAST_TICK)
 
--- some clog holds it, after which it was not unclogged
-abbrev pub clogged_at : ℕ → History → ProcessSet
-clogged_at t [] p = false
-clogged_at t (m ∷ h) p =
-    holds m (now h) t p
-    || not (is_some (unclogs m.entry.act m.entry.reply) && m.targets p) && clogged_at t h p
+-- an end of clogs ends them by now
+abbrev pub unclog_end : (time until : ℕ) → ℕ
+unclog_end time until = min until time
 
--- some clog holds the process now
+-- what the entry, made at a time, makes of the end of its targets' clogs
+abbrev pub clog_end_by : Entry → (time until : ℕ) → ℕ
+clog_end_by e time until =
+    option_map_or (λ ticks. clog_end ticks time until)
+    (clogs e.act e.reply)
+    (if is_some (unclogs e.act e.reply) then unclog_end time until else until)
+
+-- until when the clogs of the process last
+abbrev pub clog_ends : History → ℕ → ℕ
+clog_ends [] p = 0
+clog_ends (m ∷ h) p =
+    if m.targets p then clog_end_by m.entry (now h) (clog_ends h p) else clog_ends h p
+
+-- the clogs of the process last longer than now
 abbrev pub clogged : History → ProcessSet
-clogged h p = clogged_at (now h) h p
+clogged h p = nat_lt (now h) (clog_ends h p)
 
 -- ---- marks
 
 -- the record that a process says it has synced, and the process
-abbrev pub word_of : Body → Option (ℕ × ℕ)
-word_of (Store rec to) = None
-word_of (Synced rec from) = Some (rec, from.0)
+abbrev pub ack_of : Body → Option (ℕ × ℕ)
+ack_of (Store rec to) = None
+ack_of (Synced rec from) = Some (rec, from.0)
 
 -- the process that a message asks to store
 abbrev pub stores_at : Body → Option ℕ
@@ -351,36 +390,48 @@ stores_at (Store rec to) = Some to.0
 stores_at (Synced rec from) = None
 
 -- the entry delivered a Synced of the record from the process
-abbrev pub marks : Moment → ℕ → ℕ → Bool
+abbrev pub marks : Step → ℕ → ℕ → Bool
 marks m r p =
     is_some (delivers m.entry.act m.entry.reply)
-    && some_is (λ w. w.0 == r && w.1 == p) (option_and_then word_of m.message)
+    && some_is (λ w. w.0 == r && w.1 == p) (option_and_then ack_of m.message)
 
 -- the entry delivered a Synced of the record, whoever sent it
-abbrev pub tells : Moment → ℕ → Bool
-tells m r =
+abbrev pub delivers_ack_of : Step → ℕ → Bool
+delivers_ack_of m r =
     is_some (delivers m.entry.act m.entry.reply)
-    && some_is (λ w. w.0 == r) (option_and_then word_of m.message)
+    && some_is (λ w. w.0 == r) (option_and_then ack_of m.message)
 
--- after the entry the process has a mark for the record: it gets one, or it had one and isn't
--- healed while the record is not acknowledged
-abbrev pub marked_after : Moment → (r p : ℕ) → (was_acked was_marked : Bool) → Bool
+-- the process gets a mark, or it had one and isn't healed while the record is not acknowledged
+abbrev pub marked_after : Step → (r p : ℕ) → (was_acked was_marked : Bool) → Bool
 marked_after m r p was_acked was_marked =
     marks m r p || not (heals_at m p && not was_acked) && was_marked
 
-abbrev mutual
-  -- the process got a mark, after which it was not healed while the record wasn't acknowledged
-  pub marked : History → ℕ → ProcessSet
-  marked [] r p = false
-  marked (m ∷ h) r p = marked_after m r p (acked h r) (marked h r p)
+-- who has a mark for a record, and whether the record is acknowledged
+pub record RecordAcks : Type 0 where
+  pub acks : ProcessSet
+  pub acked : Bool
 
-  -- a Synced of the record was delivered after which every member of its team had a mark
-  pub acked : History → ℕ → Bool
-  acked [] r = false
-  acked (m ∷ h) r =
-      acked h r
-      || tells m r
-      && list_all (λ p. marked_after m r p.0 (acked h r) (marked h r p.0)) (members_for h r)
+-- these after an entry: a Synced of the record acknowledges it where all members then have marks
+abbrev pub acks_after : Step → (r : ℕ) → (members : List ProcId) → RecordAcks → RecordAcks
+acks_after m r members was = record {
+  acks = λ p. marked_after m r p was.acked (was.acks p);
+  acked =
+      was.acked
+      || delivers_ack_of m r && list_all (λ p. marked_after m r p.0 was.acked (was.acks p.0)) members;
+}
+
+-- these of the record with a number
+abbrev pub record_acks : History → ℕ → RecordAcks
+record_acks [] r = record { acks = λ p. false; acked = false }
+record_acks (m ∷ h) r = acks_after m r (members_for h r) (record_acks h r)
+
+-- the process got a mark, after which it was not healed while the record wasn't acknowledged
+abbrev pub marked : History → ℕ → ProcessSet
+marked h r = (record_acks h r).acks
+
+-- a Synced of the record was delivered after which every member of its team had a mark
+abbrev pub acked : History → ℕ → Bool
+acked h r = (record_acks h r).acked
 
 -- the process has the record synced
 abbrev pub has_synced : History → ℕ → ℕ → Bool
@@ -396,116 +447,58 @@ keeper c h r =
     let least = least_with (length c.processes) (is_among (members_for h r)) (keeps h r) in
     if acked h r then option_map (λ p. record { 0 = p }) least else None
 
--- ---- a moment from its entry
+-- ---- a step from its entry
 
 -- whom the act's target names
 abbrev pub targets_of : Setup → History → Act → ProcessSet
 targets_of c h (Kill order) = targets c.processes (left c h) order.target
 targets_of c h (Clog target n) = targets c.processes (left c h) target
 targets_of c h (Unclog target) = targets c.processes (left c h) target
-targets_of c h (Form members policy) = λ p. false
-targets_of c h (Begin team payload) = λ p. false
-targets_of c h (Deliver n) = λ p. false
-targets_of c h (Lose n) = λ p. false
-targets_of c h (Resend rec process) = λ p. false
-targets_of c h (Sync process) = λ p. false
-targets_of c h (Up process) = λ p. false
-targets_of c h (Tick n) = λ p. false
-targets_of c h (Give grant) = λ p. false
-targets_of c h (Take actor index) = λ p. false
-targets_of c h (Protect process kinds) = λ p. false
-targets_of c h (Unprotect process kinds) = λ p. false
-targets_of c h (CopyTo from rec to) = λ p. false
-targets_of c h (Replace team out into) = λ p. false
-targets_of c h (Heal process) = λ p. false
+targets_of c h _ = λ p. false
 
 -- the message that the act names
 abbrev pub message_of : History → Act → Option Body
 message_of h (Deliver n) = slice_get (sent h) n
 message_of h (Lose n) = slice_get (sent h) n
-message_of h (Kill order) = None
-message_of h (Clog target n) = None
-message_of h (Unclog target) = None
-message_of h (Form members policy) = None
-message_of h (Begin team payload) = None
-message_of h (Resend rec process) = None
-message_of h (Sync process) = None
-message_of h (Up process) = None
-message_of h (Tick n) = None
-message_of h (Give grant) = None
-message_of h (Take actor index) = None
-message_of h (Protect process kinds) = None
-message_of h (Unprotect process kinds) = None
-message_of h (CopyTo from rec to) = None
-message_of h (Replace team out into) = None
-message_of h (Heal process) = None
+message_of h _ = None
 
 -- a store of the record to each of these processes
 abbrev pub stores_of : ℕ → List ProcId → List Body
 stores_of rec processes = map (λ p. Store rec p) processes
 
 -- the process's word of each of these writes
-abbrev pub words_of : ProcId → List Item → List Body
-words_of process items = map (λ item. Synced item.rec process) items
+abbrev pub acks_of : ProcId → List Item → List Body
+acks_of process items = map (λ item. Synced item.rec process) items
 
--- what the act sends where it is accepted: Begin a Store to each member, Resend and CopyTo one,
--- Sync a word of each unsynced write
+-- what the act sends where it is accepted
 abbrev pub sends_of : History → Act → List Body
 sends_of h (Begin team payload) = stores_of (length (records h)) (members_of h team)
 sends_of h (Resend rec process) = Store rec process ∷ []
 sends_of h (CopyTo from rec to) = Store rec to ∷ []
-sends_of h (Sync process) = words_of process (unsynced h process.0)
-sends_of h (Kill order) = []
-sends_of h (Clog target n) = []
-sends_of h (Unclog target) = []
-sends_of h (Form members policy) = []
-sends_of h (Deliver n) = []
-sends_of h (Lose n) = []
-sends_of h (Up process) = []
-sends_of h (Tick n) = []
-sends_of h (Give grant) = []
-sends_of h (Take actor index) = []
-sends_of h (Protect process kinds) = []
-sends_of h (Unprotect process kinds) = []
-sends_of h (Replace team out into) = []
-sends_of h (Heal process) = []
+sends_of h (Sync process) = acks_of process (unsynced h process.0)
+sends_of h _ = []
 
--- which messages the act takes out of the network where it is accepted: Deliver and Lose the one
--- that they name, Heal every word that its process has sent
-abbrev pub takes_of : History → Act → ℕ → Bool
-takes_of h (Deliver message) n = message == n
-takes_of h (Lose message) n = message == n
-takes_of h (Heal process) n = some_is (is_word_from process.0) (slice_get (sent h) n)
-takes_of h (Kill order) n = false
-takes_of h (Clog target k) n = false
-takes_of h (Unclog target) n = false
-takes_of h (Form members policy) n = false
-takes_of h (Begin team payload) n = false
-takes_of h (Resend rec process) n = false
-takes_of h (Sync process) n = false
-takes_of h (Up process) n = false
-takes_of h (Tick k) n = false
-takes_of h (Give grant) n = false
-takes_of h (Take actor index) n = false
-takes_of h (Protect process kinds) n = false
-takes_of h (Unprotect process kinds) n = false
-takes_of h (CopyTo from rec to) n = false
-takes_of h (Replace team out into) n = false
+-- which messages the act takes out of the network where it is accepted
+abbrev pub removes_of : History → Act → ℕ → Bool
+removes_of h (Deliver message) n = message == n
+removes_of h (Lose message) n = message == n
+removes_of h (Heal process) n = some_is (is_ack_from process.0) (slice_get (sent h) n)
+removes_of h _ n = false
 
 -- the entry with what it did, after this history
-abbrev pub moment : Setup → History → Entry → Moment
-moment c h e = record {
+abbrev pub step_of : Setup → History → Entry → Step
+step_of c h e = record {
   entry = e;
   targets = targets_of c h e.act;
   message = message_of h e.act;
   sends = if is_accepted e.reply then sends_of h e.act else [];
-  takes_out = λ n. if is_accepted e.reply then takes_of h e.act n else false;
+  removes = λ n. if is_accepted e.reply then removes_of h e.act n else false;
 }
 
 -- the history after the rest of a journal
 abbrev pub after : Setup → History → List Entry → History
 after c h [] = h
-after c h (e ∷ later) = after c (moment c h e ∷ h) later
+after c h (e ∷ later) = after c (step_of c h e ∷ h) later
 
 -- the history of a journal
 abbrev pub history : Setup → List Entry → History

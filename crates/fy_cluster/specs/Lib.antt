@@ -5,7 +5,7 @@ pub mod Replies
 pub mod Versions
 pub mod Earlier
 pub mod Survival
-pub mod Course
+pub mod Execution
 pub mod Standing
 pub mod Sights
 pub use Rattle.fy_locality.specs.Locality

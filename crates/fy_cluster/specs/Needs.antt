@@ -2,7 +2,7 @@
 use Rattle.std.specs.Prelude.{ℕ, Bool, false, ◌&&◌, not, ◌==◌, length, find, Option}
 use Rattle.std.specs.List.{range_with_len}
 use Rattle.std.specs.Option.{option_map_or}
-use Rattle.fy_disks.specs.Disks.{disk_of, has_synced}
+use Rattle.fy_disk.specs.Disks.{disk_of, has_synced}
 use Rattle.fy_team.specs.Teams.{is_among, is_acked, team_number, members_in}
 use Rattle.fy_cluster.specs.declared.machine.Machine.{Machine}
 

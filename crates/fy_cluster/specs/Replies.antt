@@ -1,5 +1,5 @@
 -- the reply to each act, and which journals are legal
-use Rattle.std.specs.Prelude.{◌≡◌, ℕ, ◌+◌, ◌≤◌, Bool, true, false, ◌&&◌, ◌||◌, not, List, [], ◌∷◌, length, find, nat_lt, nat_le, ◌==◌, slice_get, sum_by, Option, is_some, unwrap_or}
+use Rattle.std.specs.Prelude.{◌≡◌, ℕ, ◌+◌, ◌≤◌, ◌<◌, Bool, true, false, ◌&&◌, ◌||◌, not, List, [], ◌∷◌, length, find, nat_lt, nat_le, ◌==◌, slice_get, sum_by, Option, is_some, unwrap_or}
 use Rattle.std.specs.List.{list_any, list_all, range_with_len}
 use Rattle.std.specs.Option.{option_map_or}
 use Rattle.fy_grants.specs.declared.book.TheConstants.{MOST_GRANTS}
@@ -21,14 +21,14 @@ use Rattle.fy_acts.specs.declared.entry.Entry.{Entry}
 use Rattle.fy_cluster.specs.declared.role.Role.{Role}
 use Rattle.fy_cluster.specs.declared.role.Role.TheVariants.{Fault, Storage, Operator}
 use Rattle.fy_cluster.specs.Setup.{Setup}
-use Rattle.fy_cluster.specs.History.{History, ProcessSet, some_is, destroyed, gone, left, up, teams, records, members_of, members_for, unsynced, sent, in_flight, in_flight_count, now, clogged, marked, acked, has_synced, word_of, stores_at, moment}
+use Rattle.fy_cluster.specs.History.{History, ProcessSet, some_is, destroyed, gone, left, up, teams, records, members_of, members_for, unsynced, sent, in_flight, in_flight_count, now, clogged, marked, acked, has_synced, ack_of, stores_at, step_of, history}
 use Rattle.fy_cluster.specs.Rules.{grants, situation}
 
 -- the first refusal that holds, or else the answer
-abbrev pub refused : List (Bool × Refusal) → Reply → Reply
-refused [] answer = answer
-refused ((true, refusal) ∷ rest) answer = No refusal
-refused ((false, refusal) ∷ rest) answer = refused rest answer
+abbrev pub first_refusal_or : List (Bool × Refusal) → Reply → Reply
+first_refusal_or [] answer = answer
+first_refusal_or ((true, refusal) ∷ rest) answer = No refusal
+first_refusal_or ((false, refusal) ∷ rest) answer = first_refusal_or rest answer
 
 -- the role of who moves data, starts processes and lets time pass
 abbrev pub is_storage : Role → Bool
@@ -74,7 +74,7 @@ is_acked_with h r p =
 
 -- a Store is stored, a Synced is a mark
 abbrev pub on_delivery : History → Body → Reply
-on_delivery h body = option_map_or (λ w. Marked (is_acked_with h w.0 w.1)) (word_of body) Stored
+on_delivery h body = option_map_or (λ w. Marked (is_acked_with h w.0 w.1)) (ack_of body) Stored
 
 -- the number is that of a policy, which the set satisfies
 abbrev pub meets : Setup → ℕ → ProcessSet → Bool
@@ -228,17 +228,24 @@ reasons c h by act =
 
 -- the first refusal that holds, or else the answer
 unfoldable pub reply : Setup → History → ℕ → Act → Reply
-reply c h by act = refused (reasons c h by act) (answer c h by act)
+reply c h by act = first_refusal_or (reasons c h by act) (answer c h by act)
 
 -- the entry may come next
 pub record IsNext (c : Setup) (h : History) (e : Entry) : Type 0 where
   pub place : e.at ≡ length h
   pub right : e.reply ≡ reply c h e.by e.act
 
+-- the entry may come next in the journal: there is room for it, it has the next place, and its
+-- reply is the one that the rules give
+pub record MayFollow (c : Setup) (journal : List Entry) (e : Entry) : Type 0 where
+  pub room : length journal < c.limit
+  pub place : e.at ≡ length journal
+  pub right : e.reply ≡ reply c (history c journal) e.by e.act
+
 -- the rest of a journal is legal after this history
 abbrev pub LegalAfter : Setup → History → List Entry → Type 0
 LegalAfter c h [] = Unit {0}
-LegalAfter c h (e ∷ later) = IsNext c h e × LegalAfter c (moment c h e ∷ h) later
+LegalAfter c h (e ∷ later) = IsNext c h e × LegalAfter c (step_of c h e ∷ h) later
 
 -- each entry has its place and its reply, and there are no more than the journal may have; under
 -- either version of the rules (Versions says what the first asks besides)

@@ -7,7 +7,7 @@ use Rattle.fy_grants.specs.declared.grant.Grant.{Grant}
 use Rattle.fy_decide.specs.Verdicts.{Situation}
 use Rattle.fy_cluster.specs.declared.config.Protection.{Protection}
 use Rattle.fy_cluster.specs.Setup.{Setup}
-use Rattle.fy_cluster.specs.History.{History, destroyed, left, gives, takes, protects, unprotects}
+use Rattle.fy_cluster.specs.History.{History, destroyed, left, gives, takes_grant, protects, unprotects}
 
 -- a Give to the actor puts its grant last
 abbrev pub with_given : ℕ → Option Grant → List Grant → List Grant
@@ -27,7 +27,7 @@ grants_to a grants = filter (λ grant. grant.actor == a) grants
 abbrev pub grants : Setup → History → ℕ → List Grant
 grants c [] a = grants_to a c.grants
 grants c (m ∷ h) a =
-    without_taken a (takes m.entry.act m.entry.reply)
+    without_taken a (takes_grant m.entry.act m.entry.reply)
     (with_given a (gives m.entry.act m.entry.reply) (grants c h a))
 
 -- whether the change names the process and the deed

@@ -7,7 +7,7 @@ use Rattle.fy_policy.specs.Tree.{Tree, IsPolicy}
 use Rattle.fy_policy.specs.Sat.{Sat}
 use Rattle.fy_grants.specs.declared.grant.Grant.{Grant}
 use Rattle.fy_grants.specs.declared.book.TheConstants.{MOST_GRANTS}
-use Rattle.fy_decide.specs.Losses.{everyone, first_unmet}
+use Rattle.fy_decide.specs.Safety.{everyone, first_unmet}
 use Rattle.fy_policy.specs.declared.limits.TheConstants.{MOST_POLICIES}
 use Rattle.fy_cluster.specs.declared.config.TheConstants.{MOST_ACTORS, MOST_JOURNAL_ENTRIES}
 use Rattle.fy_cluster.specs.declared.role.Role.{Role}

@@ -1,5 +1,5 @@
 -- what a cluster shows without an act: who keeps a record, and what may come next
-use Rattle.std.specs.Prelude.{◌≡◌, ℕ, ◌<◌, Bool, true, false, ◌&&◌, not, length, nat_lt, Option, option_map, MatchOption}
+use Rattle.std.specs.Prelude.{◌≡◌, ℕ, ◌<◌, Bool, true, false, ◌&&◌, not, length, nat_lt, Option, Some, None, option_map, MatchOption, if◌then◌else◌}
 use Rattle.std.specs.List.{list_any}
 use Rattle.std.specs.FinSet as sets
 use Rattle.fy_locality.specs.declared.ProcId.{ProcId}
@@ -10,8 +10,9 @@ use Rattle.fy_cluster.specs.declared.machine.Machine.{Machine}
 use Rattle.fy_cluster.specs.declared.sight.Sight.{Sight}
 use Rattle.fy_cluster.specs.Setup.{Setup}
 use Rattle.fy_cluster.specs.Needs.{has_on}
-use Rattle.fy_cluster.specs.History.{History, left, up, unsynced, now, members_for, keeps}
-use Rattle.fy_cluster.specs.Replies.{refusals}
+use Rattle.fy_cluster.specs.declared.status.Status.{Status}
+use Rattle.fy_cluster.specs.History.{History, destroyed, gone, left, up, clogged, unsynced, now, members_for, keeps}
+use Rattle.fy_cluster.specs.Replies.{refusals, needed_by}
 
 -- ---- keepers
 
@@ -30,8 +31,8 @@ abbrev pub is_deliverable : Setup → History → ℕ → Bool
 is_deliverable c h n = not (list_any (λ reason. reason.0) (refusals c h (Deliver n)))
 
 -- the process is up, and has writes that it has not synced
-abbrev pub is_behind : Setup → History → ℕ → Bool
-is_behind c h p = nat_lt p (length c.processes) && up h p && nat_lt 0 (length (unsynced h p))
+abbrev pub needs_sync : Setup → History → ℕ → Bool
+needs_sync c h p = nat_lt p (length c.processes) && up h p && nat_lt 0 (length (unsynced h p))
 
 -- the process is neither up nor gone
 abbrev pub is_asleep : Setup → History → ℕ → Bool
@@ -54,5 +55,32 @@ LeastProcess test found = LeastNumber test (option_map (λ p. p.0) found)
 pub record Sees (c : Setup) (h : History) (sight : Sight) : Type 0 where
   pub time : sight.now ≡ now h
   pub deliverable : LeastNumber (is_deliverable c h) sight.deliverable
-  pub unsynced : LeastProcess (is_behind c h) sight.unsynced
+  pub unsynced : LeastProcess (needs_sync c h) sight.unsynced
   pub sleeping : LeastProcess (is_asleep c h) sight.sleeping
+
+-- ---- what has become of a process
+
+-- what has become of a process that is there
+abbrev pub status_at : History → ℕ → Status
+status_at h p = record {
+  up = up h p;
+  clogged = clogged h p;
+  destroyed = destroyed h p;
+  gone = gone h p;
+}
+
+-- what has become of a process, where it is there
+abbrev pub status_of : Setup → History → ℕ → Option Status
+status_of c h p = if nat_lt p (length c.processes) then Some (status_at h p) else None
+
+-- the least acknowledged record of its teams that the process hasn't synced
+abbrev pub needed_at : History → ℕ → Option ℕ
+needed_at h p = needed_by h p (λ r. is_among (members_for h r) p)
+
+-- the same, where the process is there
+abbrev pub needed_of : Setup → History → ℕ → Option ℕ
+needed_of c h p = if nat_lt p (length c.processes) then needed_at h p else None
+
+-- the processes that are up
+abbrev pub up_in : Setup → History → ℕ → Bool
+up_in c h p = nat_lt p (length c.processes) && up h p

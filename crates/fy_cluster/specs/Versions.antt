@@ -2,15 +2,14 @@
 -- that; a cluster makes journals of the second. Both give each act the same reply, so Legal speaks
 -- of the entries of either; but the first knows no CopyTo, Replace and Heal, so that a journal of
 -- it which has one of these is not legal.
-use Rattle.std.specs.Prelude.{◌<◌, ◌↔◌, Bool, List, [], ◌∷◌, ◌++◌, length, IsTrue}
+use Rattle.std.specs.Prelude.{◌↔◌, Bool, List, [], ◌∷◌, ◌++◌, IsTrue}
 use Rattle.std.specs.List.{list_all}
 use Rattle.fy_acts.specs.declared.entry.Entry.{Entry}
 use Rattle.fy_journal.specs.declared.version.Version.{Version}
 use Rattle.fy_journal.specs.declared.version.Version.TheVariants.{Second}
 use Rattle.fy_journal.specs.Versions.{knows}
 use Rattle.fy_cluster.specs.Setup.{Setup}
-use Rattle.fy_cluster.specs.History.{history}
-use Rattle.fy_cluster.specs.Replies.{Legal, IsNext}
+use Rattle.fy_cluster.specs.Replies.{Legal, MayFollow}
 
 -- whether there is each act of the entries
 abbrev pub knows_all : Version → List Entry → Bool
@@ -25,11 +24,11 @@ pub record LegalUnder (version : Version) (c : Setup) (entries : List Entry) : T
 abbrev pub SecondKnowsAll : Type 0
 SecondKnowsAll = (c : Setup) (entries : List Entry) → LegalUnder Second c entries ↔ Legal c entries
 
--- when a legal journal with one entry more is legal under its version: there is a place for it, it
--- may come next, and the version knows its act
+-- a journal that is legal under its version is so with one entry more exactly where the entry may
+-- follow it and the version knows its act
 abbrev pub NextLegalUnder : Type 0
 NextLegalUnder =
     (version : Version) (c : Setup) (journal : List Entry) (e : Entry) →
     LegalUnder version c journal →
     LegalUnder version c (journal ++ e ∷ [])
-    ↔ ((length journal < c.limit) × IsNext c (history c journal) e × IsTrue (knows version e.act))
+    ↔ (MayFollow c journal e × IsTrue (knows version e.act))

@@ -1,7 +1,7 @@
 //! One act of an actor that may make it.
 ghost use Rattle.std.specs.Prelude.{◌≡◌, ◌<◌, ◌++◌, ◌∷◌, [], length, IfOk, OnErr};
 ghost use Rattle.fy_journal.specs.Journal.{entered};
-ghost use Rattle.fy_cluster.specs.Standing.{Point, Stands, Comes, Answers, IsLived};
+ghost use Rattle.fy_cluster.specs.Standing.{Point, Refines, StepsToOrOom, RepliesOrOom, IsReachable};
 
 use crate::machine::Machine;
 use crate::{Config, Fault};
@@ -19,12 +19,12 @@ impl Machine {
         act: Act,
     ) -> Result<Reply, Fault>
         ghost point: { Point }
-        requires stands { Stands point.setup point.before self.old }
+        requires stands { Refines point.setup point.before self.old }
         requires config { config.now ≡ point.setup }
         requires by { by ≡ point.by }
-        requires lived { IsLived point.setup point.before }
+        requires reachable { IsReachable point.setup point.before }
         requires room { length journal.old.entries < MOST_ENTRIES }
-        ensures answered { Answers point act result self.new }
+        ensures answered { RepliesOrOom point act result self.new }
         ensures entered { IfOk result
             (λ reply. journal.new.entries ≡ (entered by act reply journal.old).entries) }
         ensures err { OnErr result (journal.new.entries ≡ journal.old.entries) }
@@ -36,7 +36,8 @@ impl Machine {
         Ok(reply)
     }
 
-    /// Replies to whoever acts, and does what the act asks where nothing speaks against it.
+    /// Replies to an act, and does it where no rule refuses it. An unknown actor, or one whose role
+    /// may not make the act, is refused first.
     pub(crate) fn reply(
         &mut self,
         alloc: Global,
@@ -45,11 +46,11 @@ impl Machine {
         act: &Act,
     ) -> Result<Reply, Fault>
         ghost point: { Point }
-        requires stands { Stands point.setup point.before self.old }
+        requires stands { Refines point.setup point.before self.old }
         requires config { config.now ≡ point.setup }
         requires by { by ≡ point.by }
-        requires lived { IsLived point.setup point.before }
-        ensures { Answers point act.now result self.new }
+        requires reachable { IsReachable point.setup point.before }
+        ensures { RepliesOrOom point act.now result self.new }
     {
         let Some(role) = config.role(by) else {
             return Ok(Reply::No(Refusal::Stranger));
@@ -60,7 +61,7 @@ impl Machine {
         self.act(alloc, config, by, act)
     }
 
-    /// Does what an act asks, or says why not. What takes memory comes before any change.
+    /// Does an act, or answers why it is refused. All memory is allocated before the first change.
     pub(crate) fn act(
         &mut self,
         alloc: Global,
@@ -69,11 +70,11 @@ impl Machine {
         act: &Act,
     ) -> Result<Reply, Fault>
         ghost point: { Point }
-        requires stands { Stands point.setup point.before self.old }
+        requires stands { Refines point.setup point.before self.old }
         requires config { config.now ≡ point.setup }
         requires by { by ≡ point.by }
-        requires lived { IsLived point.setup point.before }
-        ensures { Comes point act.now result self.new }
+        requires reachable { IsReachable point.setup point.before }
+        ensures { StepsToOrOom point act.now result self.new }
     {
         let map = config.map();
         match act {

@@ -3,7 +3,8 @@ ghost use Rattle.std.specs.Prelude.{◌≡◌, ◌<◌, ℕ, true, length, IfOk}
 ghost use Rattle.std.specs.Result.{result_err};
 ghost use Rattle.std.specs.FinSet as sets;
 ghost use Rattle.fy_acts.specs.declared.act.Act.TheVariants.{Clog, Unclog};
-ghost use Rattle.fy_cluster.specs.Standing.{Point, Stands, Follows, ClogsChange, clog_end, unclog_end, targets_by, clog_bar};
+ghost use Rattle.fy_cluster.specs.History.{clog_end, unclog_end};
+ghost use Rattle.fy_cluster.specs.Standing.{Point, Refines, StepsTo, ClogsChange, targets_by, clog_bar};
 
 use crate::machine::Machine;
 use fy_decide::judge_clog_at;
@@ -52,10 +53,10 @@ impl Machine {
     /// Clogs the processes of a target for some ticks, if no rule of leave bars it.
     pub(crate) fn clog(&mut self, map: &Map, by: u32, target: &Target, ticks: u64) -> Reply
         ghost point: { Point }
-        requires stands { Stands point.setup point.before self.old }
+        requires stands { Refines point.setup point.before self.old }
         requires map { map.now ≡ point.setup.processes }
         requires by { by ≡ point.by }
-        ensures { Follows point (Clog target.now ticks) result self.new }
+        ensures { StepsTo point (Clog target.now ticks) result self.new }
     {
         match self.leave_to_clog(map, by, target) {
             Ok(targets) => {
@@ -69,10 +70,10 @@ impl Machine {
     /// Ends the clogs of a target's processes, if no rule of leave bars it.
     pub(crate) fn unclog(&mut self, map: &Map, by: u32, target: &Target) -> Reply
         ghost point: { Point }
-        requires stands { Stands point.setup point.before self.old }
+        requires stands { Refines point.setup point.before self.old }
         requires map { map.now ≡ point.setup.processes }
         requires by { by ≡ point.by }
-        ensures { Follows point (Unclog target.now) result self.new }
+        ensures { StepsTo point (Unclog target.now) result self.new }
     {
         match self.leave_to_clog(map, by, target) {
             Ok(targets) => {

@@ -5,18 +5,21 @@ ghost use Rattle.fy_journal.specs.declared.version.Version.TheVariants.{Second};
 ghost use Rattle.fy_cluster.specs.History.{destroyed, left, acked, keeper};
 ghost use Rattle.fy_cluster.specs.declared.fault.Fault.TheVariants.{JournalFull};
 ghost use Rattle.fy_cluster.specs.Survival.{Survives};
-ghost use Rattle.fy_cluster.specs.Course.{history_of, opened, replied, entered, after_acts, StopsAt};
-ghost use Rattle.fy_cluster.specs.Sights.{IsLeastKeeper, Sees};
+ghost use Rattle.fy_cluster.specs.Execution.{history_of, opened, replied, entered, after_acts, StopsAt};
+ghost use Rattle.fy_acts.specs.declared.act.Act.TheVariants.{Kill};
+ghost use Rattle.fy_cluster.specs.Sights.{IsLeastKeeper, Sees, status_of, needed_of, up_in};
 
 use crate::machine::Machine;
-use crate::{Config, Fault, Sight, laws};
+use crate::{Config, Fault, Sight, Status, laws};
 use fy_journal::{Act, Journal, Reply};
+use fy_kinds::KillOrder;
 use fy_locality::{ProcId, ProcSet};
 use std::alloc::{AllocError, Global};
 use std::marker::Model;
 
-/// Processes that store records for teams, with all that strikes them, and the journal of what was
-/// asked and replied. Each reply is read off the running parts; the journal is only written.
+/// A simulated cluster: processes that store records for teams, the faults that strike them, and
+/// the journal of every act with its reply. Replies are computed from the machine; the journal is
+/// only written.
 pub struct Cluster {
     alloc: Global,
     config: Config,
@@ -28,16 +31,16 @@ impl Model for Cluster {
     ghost use Rattle.std.specs.Coded.{codes};
     ghost use Rattle.fy_locality.specs.contracts.locality.Locality as e;
     ghost use Rattle.fy_policy.specs.TreeCode.{tree_code};
-    ghost use Rattle.fy_cluster.specs.Course.{Course};
-    ghost use Rattle.fy_cluster.specs.Standing.{IsHeld};
+    ghost use Rattle.fy_cluster.specs.Execution.{Execution};
+    ghost use Rattle.fy_cluster.specs.Standing.{ClusterInvariant};
 
-    ghost Value = { Course };
+    ghost Value = { Execution };
 
     ghost coded = { Prim.hlevel (codes, tree_code, e.the_row.coded) };
 
     ghost view = { λ x. record { setup = x.config; journal = x.journal.entries } };
 
-    ghost invariant = { λ x. IsHeld x.config x.journal x.machine };
+    ghost invariant = { λ x. ClusterInvariant x.config x.journal x.machine };
 }
 
 // Written out, so that whoever drops a cluster makes one call.
@@ -53,7 +56,7 @@ impl Drop for Cluster {
 }
 
 impl Cluster {
-    /// A cluster in which nothing happened yet. A configuration that is refused is dropped.
+    /// A new cluster, in which nothing has happened. On an error the configuration is dropped.
     ///
     /// # Errors
     ///
@@ -71,13 +74,13 @@ impl Cluster {
         })
     }
 
-    /// Replies to an act by the actor with this number, does it where nothing speaks against it,
-    /// and enters both into the journal.
+    /// Does an act of the actor with this number, where no rule refuses it, and enters act and
+    /// reply into the journal.
     ///
     /// # Errors
     ///
-    /// In this order: `JournalFull` where the journal has as many entries as it may have;
-    /// `NoMemory`. The cluster is then as it was.
+    /// In this order: `JournalFull` where the journal is at its limit; `NoMemory`. The cluster is
+    /// unchanged then.
     pub fn apply(&mut self, by: u32, act: Act) -> Result<Reply, Fault>
         ensures full { (self.old.setup.limit ≤ length self.old.journal)
             ↔ (result ≡ Err JournalFull) }
@@ -94,9 +97,9 @@ impl Cluster {
             .enter(&mut self.journal, self.alloc, &self.config, by, act)
     }
 
-    /// Makes room in the journal for so many entries more, as far as it may have them, and changes
-    /// nothing else. `apply` makes room by itself, step by step: who knows how many acts are to
-    /// come spares it the steps.
+    /// Reserves room in the journal for so many more entries, up to its limit, and changes nothing
+    /// else. `apply` grows the journal step by step; a caller that knows how many acts come saves
+    /// the steps.
     ///
     /// # Errors
     ///
@@ -113,13 +116,12 @@ impl Cluster {
         }
     }
 
-    /// Applies acts one after another, each by the actor beside it, and stops at the first fault.
-    /// What was entered before it stands.
+    /// Applies acts one after another, each as the actor beside it, and stops at the first fault.
+    /// Entries made before it stay.
     ///
     /// # Errors
     ///
-    /// At an act, in this order: `JournalFull` where the journal has as many entries as it may
-    /// have; `NoMemory`.
+    /// At an act, in this order: `JournalFull` where the journal is at its limit; `NoMemory`.
     pub fn run(&mut self, acts: &[(u32, Act)]) -> Result<(), Fault>
         ensures ran { OnOk result (self.new ≡ after_acts self.old acts.now) }
         ensures stopped { IfErr result (λ fault. StopsAt self.old acts.now fault self.new) }
@@ -136,7 +138,7 @@ impl Cluster {
         Ok(())
     }
 
-    /// All that was asked and replied, under the second version of the rules.
+    /// The journal: each act with its reply, under the second version of the rules.
     pub fn journal(&self) -> &Journal
         ensures journal { result.now.entries ≡ self.now.journal }
         ensures version { result.now.version ≡ Second }
@@ -146,28 +148,66 @@ impl Cluster {
         &self.journal
     }
 
-    /// Who is destroyed: struck by a kind that destroys, and not healed since.
+    /// The destroyed processes: struck by a kind that destroys, and not healed since.
     pub fn destroyed(&self) -> ProcSet
         ensures { (p : ℕ) → sets.contains result p ≡ destroyed (history_of self.now) p }
     {
         self.machine.dead.destroyed()
     }
 
-    /// Who is left: everyone who isn't gone for good, emptied processes too.
+    /// The processes that are left: all but those killed for good. Emptied ones are left too.
     pub fn left(&self) -> ProcSet
         ensures { (p : ℕ) → sets.contains result p ≡ left self.now.setup (history_of self.now) p }
     {
         self.machine.dead.left()
     }
 
-    /// Whether the journal has as many entries as it may have.
+    /// The processes that are up.
+    pub fn up(&self) -> ProcSet
+        ensures { (p : ℕ) → sets.contains result p ≡ up_in self.now.setup (history_of self.now) p }
+    {
+        self.config.map().everyone().intersection(&self.machine.up)
+    }
+
+    /// The state of the process with this number; `None` where there is no such process.
+    pub fn status(&self, process: ProcId) -> Option<Status>
+        ensures { result ≡ status_of self.now.setup (history_of self.now) process.0 }
+    {
+        if process.0 < self.config.map().len() {
+            Some(self.machine.status(process))
+        } else {
+            None
+        }
+    }
+
+    /// The record that a process still needs before it may be healed: of its teams' records, the
+    /// least acknowledged one that it hasn't synced. Takes no memory.
+    pub fn needed(&self, process: ProcId) -> Option<u32>
+        ensures { result ≡ needed_of self.now.setup (history_of self.now) process.0 }
+    {
+        if process.0 < self.config.map().len() {
+            self.machine.needed(process)
+        } else {
+            None
+        }
+    }
+
+    /// The reply that a kill by the actor with this number would get now. It enters nothing, and
+    /// takes no memory.
+    pub fn judge(&self, by: u32, order: &KillOrder) -> Reply
+        ensures { result ≡ replied self.now by (Kill order.now) }
+    {
+        self.machine.judge(&self.config, by, order)
+    }
+
+    /// Whether the journal is at its limit.
     pub fn is_full(&self) -> bool
         ensures { IsTrue result ↔ (self.now.setup.limit ≤ length self.now.journal) }
     {
         self.journal.len() >= self.config.journal_limit() as usize
     }
 
-    /// What it began with.
+    /// The configuration that it was made of.
     pub fn config(&self) -> &Config
         ensures { result.now ≡ self.now.setup }
     {
@@ -193,8 +233,8 @@ impl Cluster {
         self.machine.sight()
     }
 
-    /// Whatever was asked so far, every acknowledged record keeps a synced copy on an undestroyed
-    /// member, and all else that legal journals keep.
+    /// Whatever acts were made so far, every acknowledged record has a synced copy on an
+    /// undestroyed member, and all else holds that legal journals keep.
     pub fn survives(&self)
         ensures { Survives self.now.setup self.now.journal }
     {

@@ -17,8 +17,8 @@ pub const MOST_ACTORS: usize = 64;
 /// How many entries the journal of a cluster may have, from 1.
 pub const MOST_JOURNAL_ENTRIES: u32 = 1_048_576;
 
-/// A process that is protected from the start, and from which kinds. Of several of one process each
-/// counts.
+/// A process that is protected from the start, and from which kinds. Several protections of one
+/// process add up.
 #[derive(Clone, Copy, PartialEq, Eq, Debug)]
 pub struct Protection {
     pub process: ProcId,

@@ -1,11 +1,11 @@
 //! Records are copied.
 ghost use Rattle.std.specs.Prelude.{◌≡◌};
 ghost use Rattle.fy_acts.specs.declared.act.Act.TheVariants.{CopyTo};
-ghost use Rattle.fy_cluster.specs.Standing.{Point, Stands, Comes, IsLived};
+ghost use Rattle.fy_cluster.specs.Standing.{Point, Refines, StepsToOrOom, IsReachable};
 
 use crate::Fault;
 use crate::machine::Machine;
-use crate::messages::no_room;
+use crate::messages::reply_to_net_fault;
 use fy_journal::{Refusal, Reply};
 use fy_locality::{Map, ProcId};
 use fy_net::Body;
@@ -20,10 +20,10 @@ impl Machine {
         to: ProcId,
     ) -> Result<Reply, Fault>
         ghost point: { Point }
-        requires stands { Stands point.setup point.before self.old }
+        requires stands { Refines point.setup point.before self.old }
         requires map { map.now ≡ point.setup.processes }
-        requires lived { IsLived point.setup point.before }
-        ensures { Comes point (CopyTo from rec to) result self.new }
+        requires reachable { IsReachable point.setup point.before }
+        ensures { StepsToOrOom point (CopyTo from rec to) result self.new }
     {
         let Some(_team) = self.teams.team_of(rec) else {
             return Ok(Reply::No(Refusal::NoRecord));
@@ -41,7 +41,7 @@ impl Machine {
             return Ok(Reply::No(Refusal::NoCopy));
         }
         if let Err(fault) = self.net.reserve(1) {
-            return no_room(fault);
+            return reply_to_net_fault(fault);
         }
         let message = self.net.send(Body::Store { rec, to });
         Ok(Reply::Sent { message })

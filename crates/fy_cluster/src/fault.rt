@@ -5,7 +5,7 @@ use std::alloc::AllocError;
 /// Why an act made no entry. The cluster is then as it was before the act.
 #[derive(Clone, Copy, PartialEq, Eq, Debug)]
 pub enum Fault {
-    /// The journal has as many entries as it may have.
+    /// The journal is at its limit.
     JournalFull,
     /// There was no memory.
     NoMemory,

@@ -1,21 +1,21 @@
 //! Processes are healed.
 ghost use Rattle.std.specs.Prelude.{◌≡◌};
 ghost use Rattle.fy_acts.specs.declared.act.Act.TheVariants.{Heal};
-ghost use Rattle.fy_cluster.specs.Standing.{Point, Stands, Follows};
+ghost use Rattle.fy_cluster.specs.Standing.{Point, Refines, StepsTo};
 
 use crate::machine::Machine;
 use fy_journal::{Refusal, Reply};
 use fy_locality::{Map, ProcId};
 
 impl Machine {
-    /// Takes down that a destroyed process isn't any more: it has every acknowledged record of its
-    /// teams again. Its words on the way, and its marks for records that aren't acknowledged, are
-    /// of what its disk had before, and count no longer.
+    /// Records that a destroyed process is healed: it has every acknowledged record of its teams
+    /// again. Its acknowledgements in flight and its marks for records that aren't acknowledged
+    /// speak of what its disk had before, so they are removed.
     pub(crate) fn heal(&mut self, map: &Map, process: ProcId) -> Reply
         ghost point: { Point }
-        requires stands { Stands point.setup point.before self.old }
+        requires stands { Refines point.setup point.before self.old }
         requires map { map.now ≡ point.setup.processes }
-        ensures { Follows point (Heal process) result self.new }
+        ensures { StepsTo point (Heal process) result self.new }
     {
         fy_team::laws::a_heal_takes_marks_off();
         if process.0 >= map.len() {

@@ -3,7 +3,7 @@ ghost use Rattle.std.specs.Prelude.{◌≡◌, List, find};
 ghost use Rattle.fy_acts.specs.declared.entry.Entry.{Entry};
 ghost use Rattle.fy_cluster.specs.Setup.{Setup};
 ghost use Rattle.fy_cluster.specs.History.{history, keeper};
-ghost use Rattle.fy_cluster.specs.Standing.{IsKept};
+ghost use Rattle.fy_cluster.specs.Standing.{RefinesJournal};
 ghost use Rattle.fy_cluster.specs.Sights.{keeps_on};
 
 use crate::machine::Machine;
@@ -27,7 +27,7 @@ impl Machine {
     /// The least member of an acknowledged record's team that isn't destroyed and has the record
     /// synced.
     pub(crate) fn keeper(&self, rec: u32) -> Option<ProcId>
-        ensures { (c : Setup) (journal : List Entry) → IsKept c journal self.now →
+        ensures { (c : Setup) (journal : List Entry) → RefinesJournal c journal self.now →
             result ≡ keeper c (history c journal) rec }
     {
         fy_policy::laws::test_is_satisfaction();

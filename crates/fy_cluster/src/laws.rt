@@ -3,9 +3,9 @@ ghost use Rattle.std.specs.Prelude.{◌≡◌, ◌≢◌, ◌∷◌, ℕ, true};
 ghost use Rattle.fy_acts.specs.declared.entry.Entry.{Entry};
 ghost use Rattle.fy_acts.specs.declared.reply.Reply.TheVariants.{Marked};
 ghost use Rattle.fy_cluster.specs.Setup.{Setup};
-ghost use Rattle.fy_cluster.specs.History.{History, acked, moment};
-ghost use Rattle.fy_cluster.specs.Replies.{IsNext};
-ghost use Rattle.fy_cluster.specs.Survival.{DestroyedShort, LeftSatisfy, KillsJudged, RulesNamed, RecordsKept, KeepersFound, JournalsSurvive, FrontsLegal, MomentsEntered, NextLegal, NoneUnmet, SameActsSameJournal};
+ghost use Rattle.fy_cluster.specs.History.{History, acked, step_of};
+ghost use Rattle.fy_cluster.specs.Replies.{reply};
+ghost use Rattle.fy_cluster.specs.Survival.{ClientsTold, DestroyedShort, LeftSatisfy, KillsJudged, RulesNamed, RecordsKept, KeepersFound, JournalsSurvive, FrontsLegal, EntryAddsStep, NextLegal, NoneUnmet, SameActsSameJournal};
 ghost use Rattle.fy_cluster.specs.Versions.{SecondKnowsAll, NextLegalUnder};
 ghost use Rattle.fy_cluster.specs.Earlier.{EarlierRulesHold};
 
@@ -28,10 +28,13 @@ pub fn left_satisfy()
     fy_decide::laws::struck_may_be_destroyed();
 }
 
-/// Each kill by an actor has the verdict as its reply, and any other No(Stranger).
+/// Each kill by an actor has as its reply a verdict that answers the order, and any other
+/// No(Stranger).
 pub fn kills_judged()
     ensures { KillsJudged }
-{}
+{
+    fy_decide::laws::verdict_answers();
+}
 
 /// Of a kill's verdict no rule is named exactly where the ordered kind struck.
 #[tactic(auto, using(crate::proofs::Journals::rules_named))]
@@ -53,9 +56,16 @@ pub fn records_kept()
 
 /// A record is acknowledged only by an entry whose reply says so.
 pub fn acknowledged_by_reply()
-    ensures { (setup : Setup) (before : History) (entry : Entry) → IsNext setup before entry →
-        entry.reply ≢ Marked true → (rec : ℕ) →
-        acked (moment setup before entry ∷ before) rec ≡ acked before rec }
+    ensures { (setup : Setup) (before : History) (entry : Entry) →
+        entry.reply ≡ reply setup before entry.by entry.act → entry.reply ≢ Marked true →
+        (rec : ℕ) → acked (step_of setup before entry ∷ before) rec ≡ acked before rec }
+{}
+
+/// Who delivers an acknowledgement of a record is told whether the record is acknowledged from then
+/// on, and no other entry acknowledges one.
+#[tactic(auto, using(crate::proofs::Told::clients_told))]
+pub fn clients_told()
+    ensures { ClientsTold }
 {}
 
 /// There is a keeper of exactly the acknowledged records: the least member that isn't destroyed and
@@ -69,24 +79,27 @@ pub fn keepers_found()
     destroyed_short();
 }
 
-/// Whatever was ordered: the destroyed are short of every policy, those left satisfy each, every
-/// kill is judged, no rule is named exactly where the ordered kind struck, and every acknowledged
-/// record keeps a synced copy on an undestroyed member.
+/// Whatever was ordered: after each prefix of the journal the destroyed are short of every policy,
+/// those left satisfy each, and every acknowledged record has a synced copy on an undestroyed
+/// member; every kill is judged, no rule is named exactly where the ordered kind struck, and clients
+/// are told which records are acknowledged.
 pub fn journals_survive()
     ensures { JournalsSurvive }
 {
+    one_entry_more();
     destroyed_short();
     left_satisfy();
     kills_judged();
     rules_named();
+    clients_told();
     records_kept();
 }
 
-/// A front of a legal journal is legal; an entry more is a moment more; and an entry more is legal
-/// exactly where there is a place for it and it may come next.
+/// A front of a legal journal is legal; one entry more is one step more; and a legal journal with
+/// one entry more is legal exactly where the entry may follow it.
 pub fn one_entry_more()
     ensures fronts { FrontsLegal }
-    ensures moments { MomentsEntered }
+    ensures steps { EntryAddsStep }
     ensures next { NextLegal }
 {}
 
@@ -102,8 +115,8 @@ pub fn same_acts_same_journal()
     ensures { SameActsSameJournal }
 {}
 
-/// Under the second version a journal is legal where its entries are; and one entry more is legal
-/// exactly where there is a place for it, it may come next and the version knows its act.
+/// Under the second version a journal is legal where its entries are. A legal journal with one entry
+/// more is legal exactly where the entry may follow it and the version knows its act.
 pub fn versions()
     ensures second { SecondKnowsAll }
     ensures next { NextLegalUnder }

@@ -7,6 +7,7 @@ mod clogs;
 mod cluster;
 mod config;
 mod copies;
+pub mod effects;
 mod fault;
 mod healing;
 mod keeper;
@@ -21,6 +22,7 @@ mod replacing;
 mod rights;
 mod role;
 mod sight;
+mod status;
 mod teams;
 
 pub use cluster::Cluster;
@@ -28,3 +30,4 @@ pub use config::{Config, MOST_ACTORS, MOST_JOURNAL_ENTRIES, MakeFault, Protectio
 pub use fault::Fault;
 pub use role::Role;
 pub use sight::Sight;
+pub use status::Status;

@@ -1,6 +1,6 @@
 //! The running parts of a cluster.
 use fy_decide::DeadBook;
-use fy_disks::Disks;
+use fy_disk::Disks;
 use fy_grants::Book;
 use fy_locality::ProcSet;
 use fy_net::Net;

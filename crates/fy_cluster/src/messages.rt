@@ -1,26 +1,25 @@
 //! Messages are delivered and lost, and processes sync.
 ghost use Rattle.std.specs.Prelude.{◌≡◌, ◌≤◌, ◌<◌, ◌+◌, ◌++◌, Some, None, map, length, slice_set, OnOk, OnErr, IfErr};
-ghost use Rattle.fy_net.specs.Net.{body_of, take_refusal, left_by};
+ghost use Rattle.fy_net.specs.Net.{body_of, take_refusal, without_message};
 ghost use Rattle.fy_net.specs.declared.message.Body.TheVariants.{Store, Synced};
 ghost use Rattle.fy_acts.specs.declared.act.Act.TheVariants.{Deliver, Lose, Sync};
-ghost use Rattle.fy_cluster.specs.History.{words_of};
+ghost use Rattle.fy_cluster.specs.History.{acks_of};
 ghost use Rattle.fy_disk.specs.Disk.{written};
-ghost use Rattle.fy_disks.specs.Disks.{disk_of};
-ghost use Rattle.fy_cluster.specs.Standing.{Point, Stands, Follows, Comes, IsLived, Sends, no_room};
+ghost use Rattle.fy_disk.specs.Disks.{disk_of};
+ghost use Rattle.fy_cluster.specs.Standing.{Point, Refines, StepsTo, StepsToOrOom, IsReachable, Sends, reply_to_net_fault};
 ghost use Rattle.fy_cluster.specs.declared.fault.Fault.TheVariants.{NoMemory};
 
 use crate::Fault;
 use crate::machine::Machine;
-use fy_disk::{Disk, Item};
-use fy_disks::Disks;
+use fy_disk::{Disk, Disks, Item};
 use fy_journal::{Refusal, Reply};
 use fy_locality::{Map, ProcId};
 use fy_net::{Body, Net, NetFault};
 use std::alloc::Global;
 
-/// What a refusal of room in the network means to whoever acts.
-pub(crate) fn no_room(fault: NetFault) -> Result<Reply, Fault>
-    ensures { result ≡ no_room fault }
+/// The reply, or the fault, that a refusal of room in the network stands for.
+pub(crate) fn reply_to_net_fault(fault: NetFault) -> Result<Reply, Fault>
+    ensures { result ≡ reply_to_net_fault fault }
 {
     match fault {
         NetFault::NetFull => Ok(Reply::No(Refusal::NetFull)),
@@ -32,10 +31,10 @@ pub(crate) fn no_room(fault: NetFault) -> Result<Reply, Fault>
 }
 
 /// Sends a process's word of each write that it has not synced.
-fn send_words(net: &mut Net, disk: &Disk, process: ProcId)
+fn send_acks(net: &mut Net, disk: &Disk, process: ProcId)
     requires room { length disk.now.unsynced ≤ net.old.room }
     requires there { process.0 < length net.old.until }
-    ensures { Sends net.old (words_of process disk.now.unsynced) net.new }
+    ensures { Sends net.old (acks_of process disk.now.unsynced) net.new }
 {
     for place in 0..disk.unsynced_len() {
         let Some(item) = disk.pending(place) else {
@@ -50,7 +49,7 @@ fn send_words(net: &mut Net, disk: &Disk, process: ProcId)
 /// be refused.
 fn take_out(net: &mut Net, message: u64)
     requires { take_refusal net.old message ≡ None }
-    ensures { net.new ≡ left_by message net.old }
+    ensures { net.new ≡ without_message message net.old }
 {
     // What it says was read before.
     let Ok(_body) = net.take(message) else {
@@ -69,6 +68,7 @@ fn write_to(disks: &mut Disks, p: ProcId, item: Item) -> Result<(), Fault>
 {
     match disks.write(p, item) {
         Ok(()) => Ok(()),
+        // The item comes back where there was no memory for it.
         Err(_) => Err(Fault::NoMemory),
     }
 }
@@ -77,9 +77,9 @@ impl Machine {
     /// Delivers a message.
     pub(crate) fn deliver(&mut self, alloc: Global, message: u64) -> Result<Reply, Fault>
         ghost point: { Point }
-        requires stands { Stands point.setup point.before self.old }
-        requires lived { IsLived point.setup point.before }
-        ensures { Comes point (Deliver message) result self.new }
+        requires stands { Refines point.setup point.before self.old }
+        requires reachable { IsReachable point.setup point.before }
+        ensures { StepsToOrOom point (Deliver message) result self.new }
     {
         match self.net.body(message) {
             Some(Body::Store { rec, to }) => self.store(alloc, message, rec, to),
@@ -91,11 +91,11 @@ impl Machine {
     /// Delivers a store, which is the message in flight with this number.
     fn store(&mut self, alloc: Global, message: u64, rec: u32, to: ProcId) -> Result<Reply, Fault>
         ghost point: { Point }
-        requires stands { Stands point.setup point.before self.old }
-        requires lived { IsLived point.setup point.before }
+        requires stands { Refines point.setup point.before self.old }
+        requires reachable { IsReachable point.setup point.before }
         requires body { body_of self.old.net.in_flight message ≡ Some (Store rec to) }
         requires there { to.0 < length self.old.net.until }
-        ensures { Comes point (Deliver message) result self.new }
+        ensures { StepsToOrOom point (Deliver message) result self.new }
     {
         fy_policy::laws::test_is_satisfaction();
         if self.net.clogged(to) {
@@ -116,11 +116,11 @@ impl Machine {
     /// Delivers a process's word, which is the message in flight with this number.
     fn mark(&mut self, message: u64, rec: u32, from: ProcId) -> Reply
         ghost point: { Point }
-        requires stands { Stands point.setup point.before self.old }
-        requires lived { IsLived point.setup point.before }
+        requires stands { Refines point.setup point.before self.old }
+        requires reachable { IsReachable point.setup point.before }
         requires body { body_of self.old.net.in_flight message ≡ Some (Synced rec from) }
         requires there { from.0 < length self.old.net.until }
-        ensures { Follows point (Deliver message) result self.new }
+        ensures { StepsTo point (Deliver message) result self.new }
     {
         fy_policy::laws::test_is_satisfaction();
         fy_team::laws::a_mark_is_one_more();
@@ -136,8 +136,8 @@ impl Machine {
     /// Loses a message, clogged or not.
     pub(crate) fn lose(&mut self, message: u64) -> Reply
         ghost point: { Point }
-        requires { Stands point.setup point.before self.old }
-        ensures { Follows point (Lose message) result self.new }
+        requires { Refines point.setup point.before self.old }
+        ensures { StepsTo point (Lose message) result self.new }
     {
         match self.net.lose(message) {
             Ok(()) => Reply::Done,
@@ -148,10 +148,10 @@ impl Machine {
     /// Syncs what a process has written, and sends its word of each write.
     pub(crate) fn sync(&mut self, map: &Map, process: ProcId) -> Result<Reply, Fault>
         ghost point: { Point }
-        requires stands { Stands point.setup point.before self.old }
+        requires stands { Refines point.setup point.before self.old }
         requires map { map.now ≡ point.setup.processes }
-        requires lived { IsLived point.setup point.before }
-        ensures { Comes point (Sync process) result self.new }
+        requires reachable { IsReachable point.setup point.before }
+        ensures { StepsToOrOom point (Sync process) result self.new }
     {
         if process.0 >= map.len() {
             return Ok(Reply::No(Refusal::NoProcess));
@@ -161,10 +161,10 @@ impl Machine {
         }
         let count = self.disks.of(process).unsynced_len();
         if let Err(fault) = self.net.reserve(count) {
-            return no_room(fault);
+            return reply_to_net_fault(fault);
         }
         let first = self.net.sent();
-        send_words(&mut self.net, self.disks.of(process), process);
+        send_acks(&mut self.net, self.disks.of(process), process);
         self.disks.sync(process);
         let count = count as u32;
         Ok(Reply::Synced { first, count })

@@ -1,6 +1,10 @@
 //! Which acknowledged records a process still needs.
-ghost use Rattle.std.specs.Prelude.{◌≡◌, ◌&&◌};
+ghost use Rattle.std.specs.Prelude.{◌≡◌, ◌<◌, ◌&&◌, length};
 ghost use Rattle.fy_team.specs.Teams.{is_acked};
+ghost use Rattle.fy_cluster.specs.Setup.{Setup};
+ghost use Rattle.fy_cluster.specs.History.{History};
+ghost use Rattle.fy_cluster.specs.Standing.{Refines};
+ghost use Rattle.fy_cluster.specs.Sights.{needed_at};
 ghost use Rattle.fy_cluster.specs.Needs.{is_of_team_on, is_member_on, needed_on};
 
 use crate::machine::Machine;
@@ -46,5 +50,13 @@ impl Machine {
         (0..self.teams.record_count()).find(|rec| {
             self.teams.acked(*rec) && self.is_member_for(p, *rec) && !self.disks.has_synced(*rec, p)
         })
+    }
+    /// Of the records of the teams of a process that is there, the least acknowledged one that it
+    /// hasn't synced.
+    pub(crate) fn needed(&self, p: ProcId) -> Option<u32>
+        ensures { (c : Setup) (h : History) → Refines c h self.now → p.0 < length c.processes
+            → result ≡ needed_at h p.0 }
+    {
+        self.needed_by_member(p)
     }
 }

@@ -7,12 +7,12 @@ ghost use Rattle.fy_grants.specs.Rights.{grants_of, protections_of, grant_count}
 ghost use Rattle.fy_decide.specs.DeadBook.{IsFresh};
 ghost use Rattle.fy_net.specs.Net.{quiet};
 ghost use Rattle.fy_cluster.specs.Rules.{grants_to, some_protects};
-ghost use Rattle.fy_cluster.specs.Standing.{Stands, KeepsRights};
+ghost use Rattle.fy_cluster.specs.Standing.{Refines, RefinesRights};
 
 use crate::machine::Machine;
 use crate::{Config, Protection, laws};
 use fy_decide::{DeadBook, MakeFault};
-use fy_disks::Disks;
+use fy_disk::Disks;
 use fy_grants::{Book, BookFault, Grant};
 use fy_net::Net;
 use fy_team::Teams;
@@ -72,7 +72,7 @@ fn protect_all(book: &mut Book, protections: &[Protection])
 
 /// The first grants and protections.
 fn first_rights(alloc: Global, config: &Config) -> Result<Book, AllocError>
-    ensures { IfOk result (KeepsRights config.now []) }
+    ensures { IfOk result (RefinesRights config.now []) }
 {
     fy_grants::laws::grants_are_counted();
     config.invariant();
@@ -88,6 +88,7 @@ fn quiet_net(alloc: Global, processes: u32) -> Result<Net, AllocError>
 {
     match Net::make(alloc, processes) {
         Ok(net) => Ok(net),
+        // `Net::make` fails for lack of memory alone.
         Err(_) => Err(AllocError),
     }
 }
@@ -96,7 +97,7 @@ impl Machine {
     /// The machine of a cluster before anything happened: nobody is destroyed, everyone is up,
     /// disks are empty, and nothing was sent.
     pub(crate) fn make(alloc: Global, config: &Config) -> Result<Machine, AllocError>
-        ensures { IfOk result (Stands config.now []) }
+        ensures { IfOk result (Refines config.now []) }
     {
         let processes = config.map().len();
         Ok(Machine {

@@ -1,7 +1,7 @@
 //! Processes start.
 ghost use Rattle.std.specs.Prelude.{◌≡◌};
 ghost use Rattle.fy_acts.specs.declared.act.Act.TheVariants.{Up};
-ghost use Rattle.fy_cluster.specs.Standing.{Point, Stands, Follows};
+ghost use Rattle.fy_cluster.specs.Standing.{Point, Refines, StepsTo};
 
 use crate::machine::Machine;
 use fy_journal::{Refusal, Reply};
@@ -11,9 +11,9 @@ impl Machine {
     /// Starts a process that is down.
     pub(crate) fn start(&mut self, map: &Map, process: ProcId) -> Reply
         ghost point: { Point }
-        requires stands { Stands point.setup point.before self.old }
+        requires stands { Refines point.setup point.before self.old }
         requires map { map.now ≡ point.setup.processes }
-        ensures { Follows point (Up process) result self.new }
+        ensures { StepsTo point (Up process) result self.new }
     {
         if process.0 >= map.len() {
             return Reply::No(Refusal::NoProcess);

@@ -4,7 +4,7 @@ ghost use Rattle.std.specs.FinSet as sets;
 ghost use Rattle.fy_team.specs.Teams.{is_among, swapped};
 ghost use Rattle.fy_acts.specs.declared.act.Act.TheVariants.{Replace};
 ghost use Rattle.fy_cluster.specs.Replies.{meets};
-ghost use Rattle.fy_cluster.specs.Standing.{Point, Stands, Follows, IsLived};
+ghost use Rattle.fy_cluster.specs.Standing.{Point, Refines, StepsTo, IsReachable};
 
 use crate::Config;
 use crate::machine::Machine;
@@ -12,7 +12,7 @@ use fy_journal::{Refusal, Reply};
 use fy_locality::{MOST_PROCESSES, ProcId, ProcSet};
 use fy_policy::satisfied;
 
-/// The members once one process stands for another of them, as a set.
+/// The members after one is replaced by another process, as a set.
 fn set_with(members: &[ProcId], out: ProcId, into: ProcId) -> ProcSet
     requires known { All (λ p. p.0 < MOST_PROCESSES) members.now }
     requires out { out.0 < MOST_PROCESSES }
@@ -40,13 +40,13 @@ fn meets(config: &Config, policy: u32, set: &ProcSet) -> bool
 }
 
 impl Machine {
-    /// Lets a process stand for a member of a team from now on.
+    /// Replaces a member of a team by another process.
     pub(crate) fn replace(&mut self, config: &Config, team: u32, out: ProcId, into: ProcId) -> Reply
         ghost point: { Point }
-        requires stands { Stands point.setup point.before self.old }
+        requires stands { Refines point.setup point.before self.old }
         requires config { config.now ≡ point.setup }
-        requires lived { IsLived point.setup point.before }
-        ensures { Follows point (Replace team out into) result self.new }
+        requires reachable { IsReachable point.setup point.before }
+        ensures { StepsTo point (Replace team out into) result self.new }
     {
         fy_policy::laws::test_is_satisfaction();
         let Some(members) = self.teams.members(team) else {

@@ -1,7 +1,7 @@
 //! Grants and protections are given and taken.
 ghost use Rattle.std.specs.Prelude.{◌≡◌};
 ghost use Rattle.fy_acts.specs.declared.act.Act.TheVariants.{Give, Take, Protect, Unprotect};
-ghost use Rattle.fy_cluster.specs.Standing.{Point, Stands, Follows, Comes, replied_to};
+ghost use Rattle.fy_cluster.specs.Standing.{Point, Refines, StepsTo, StepsToOrOom, reply_to_fault};
 
 use crate::Fault;
 use crate::machine::Machine;
@@ -10,9 +10,9 @@ use fy_journal::{Refusal, Reply};
 use fy_kinds::KindSet;
 use fy_locality::ProcId;
 
-/// What the book's fault means to whoever acts.
-fn replied_to(fault: BookFault) -> Result<Reply, Fault>
-    ensures { result ≡ replied_to fault }
+/// The reply, or the fault, that a fault of the book stands for.
+fn reply_to_fault(fault: BookFault) -> Result<Reply, Fault>
+    ensures { result ≡ reply_to_fault fault }
 {
     match fault {
         BookFault::NoActor => Ok(Reply::No(Refusal::NoActor)),
@@ -26,34 +26,34 @@ impl Machine {
     /// Gives a grant, last in its actor's list.
     pub(crate) fn give(&mut self, grant: Grant) -> Result<Reply, Fault>
         ghost point: { Point }
-        requires { Stands point.setup point.before self.old }
-        ensures { Comes point (Give grant) result self.new }
+        requires { Refines point.setup point.before self.old }
+        ensures { StepsToOrOom point (Give grant) result self.new }
     {
         laws::grants_after_give();
         match self.book.give(grant) {
             Ok(()) => Ok(Reply::Done),
-            Err(fault) => replied_to(fault),
+            Err(fault) => reply_to_fault(fault),
         }
     }
 
     /// Takes a grant away, by its place in its actor's list.
     pub(crate) fn take(&mut self, actor: u32, index: u32) -> Result<Reply, Fault>
         ghost point: { Point }
-        requires { Stands point.setup point.before self.old }
-        ensures { Comes point (Take actor index) result self.new }
+        requires { Refines point.setup point.before self.old }
+        ensures { StepsToOrOom point (Take actor index) result self.new }
     {
         laws::grants_after_take();
         match self.book.take(actor, index) {
             Ok(()) => Ok(Reply::Done),
-            Err(fault) => replied_to(fault),
+            Err(fault) => reply_to_fault(fault),
         }
     }
 
-    /// Adds to the kinds from which a process is protected.
+    /// Adds kinds to those from which a process is protected.
     pub(crate) fn protect(&mut self, process: ProcId, kinds: KindSet) -> Reply
         ghost point: { Point }
-        requires { Stands point.setup point.before self.old }
-        ensures { Follows point (Protect process kinds) result self.new }
+        requires { Refines point.setup point.before self.old }
+        ensures { StepsTo point (Protect process kinds) result self.new }
     {
         laws::protections_after_change();
         fy_kinds::laws::members_together();
@@ -64,11 +64,11 @@ impl Machine {
         Reply::Done
     }
 
-    /// Takes out of the kinds from which a process is protected.
+    /// Removes kinds from those from which a process is protected.
     pub(crate) fn unprotect(&mut self, process: ProcId, kinds: KindSet) -> Reply
         ghost point: { Point }
-        requires { Stands point.setup point.before self.old }
-        ensures { Follows point (Unprotect process kinds) result self.new }
+        requires { Refines point.setup point.before self.old }
+        ensures { StepsTo point (Unprotect process kinds) result self.new }
     {
         laws::protections_after_change();
         fy_kinds::laws::members_together();

@@ -17,8 +17,8 @@ pub enum Role {
 }
 
 impl Role {
-    /// Whether an actor of this role may make the act, as far as its role goes: what the act comes
-    /// to is asked afterwards. Takes no memory.
+    /// Whether this role may make the act. Whether the act is refused for another reason is not
+    /// asked here. Takes no memory.
     pub fn may(self, act: &Act) -> bool
         ensures { result ≡ may self act.now }
     {

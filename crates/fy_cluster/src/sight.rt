@@ -1,13 +1,13 @@
 //! What there is to do next.
 ghost use Rattle.fy_cluster.specs.Setup.{Setup};
 ghost use Rattle.fy_cluster.specs.History.{History};
-ghost use Rattle.fy_cluster.specs.Standing.{Stands};
+ghost use Rattle.fy_cluster.specs.Standing.{Refines};
 ghost use Rattle.fy_cluster.specs.Sights.{Sees};
 
 use crate::machine::Machine;
 use fy_locality::ProcId;
 
-/// The time, and what whoever moves data may turn to next.
+/// The time, and what the storage actor can do next.
 #[derive(Clone, Copy, PartialEq, Eq, Debug)]
 pub struct Sight {
     /// The time, in ticks.
@@ -23,13 +23,13 @@ pub struct Sight {
 impl Machine {
     /// What there is to do next. Takes no memory.
     pub(crate) fn sight(&self) -> Sight
-        ensures { (c : Setup) (h : History) → Stands c h self.now → Sees c h result }
+        ensures { (c : Setup) (h : History) → Refines c h self.now → Sees c h result }
     {
         self.net.invariant();
         Sight {
             now: self.net.now(),
             deliverable: self.net.first_free(&self.up),
-            unsynced: self.disks.behind().intersection(&self.up).least(),
+            unsynced: self.disks.with_unsynced().intersection(&self.up).least(),
             sleeping: self.dead.left().difference(&self.up).least(),
         }
     }

@@ -4,10 +4,10 @@ ghost use Rattle.std.specs.List.{All};
 ghost use Rattle.fy_net.specs.declared.message.Body.TheVariants.{Store};
 ghost use Rattle.fy_acts.specs.declared.act.Act.TheVariants.{Form, Begin, Resend};
 ghost use Rattle.fy_cluster.specs.History.{stores_of};
-ghost use Rattle.fy_cluster.specs.Standing.{Point, Stands, Comes, IsLived, Sends, replied_to_team};
+ghost use Rattle.fy_cluster.specs.Standing.{Point, Refines, StepsToOrOom, IsReachable, Sends, reply_to_team_fault};
 
 use crate::machine::Machine;
-use crate::messages::no_room;
+use crate::messages::reply_to_net_fault;
 use crate::{Config, Fault};
 use fy_disk::Payload;
 use fy_journal::{Refusal, Reply};
@@ -15,9 +15,9 @@ use fy_locality::ProcId;
 use fy_net::{Body, Net};
 use fy_team::{Members, TeamFault};
 
-/// What the fault of the teams means to whoever acts.
-fn replied_to(fault: TeamFault) -> Result<Reply, Fault>
-    ensures { result ≡ replied_to_team fault }
+/// The reply, or the fault, that a fault of the teams stands for.
+fn reply_to_fault(fault: TeamFault) -> Result<Reply, Fault>
+    ensures { result ≡ reply_to_team_fault fault }
 {
     match fault {
         TeamFault::TooMany => Ok(Reply::No(Refusal::TooMany)),
@@ -51,9 +51,9 @@ impl Machine {
         policy: u32,
     ) -> Result<Reply, Fault>
         ghost point: { Point }
-        requires stands { Stands point.setup point.before self.old }
+        requires stands { Refines point.setup point.before self.old }
         requires config { config.now ≡ point.setup }
-        ensures { Comes point (Form members policy) result self.new }
+        ensures { StepsToOrOom point (Form members policy) result self.new }
     {
         let gone = config.map().everyone().difference(&self.dead.left());
         match self
@@ -61,7 +61,7 @@ impl Machine {
             .form(config.map(), config.policies(), &gone, members, policy)
         {
             Ok(team) => Ok(Reply::Formed { team }),
-            Err(fault) => replied_to(fault),
+            Err(fault) => reply_to_fault(fault),
         }
     }
 
@@ -69,14 +69,14 @@ impl Machine {
     /// own.
     pub(crate) fn begin(&mut self, team: u32, payload: Payload) -> Result<Reply, Fault>
         ghost point: { Point }
-        requires stands { Stands point.setup point.before self.old }
-        requires lived { IsLived point.setup point.before }
-        ensures { Comes point (Begin team payload) result self.new }
+        requires stands { Refines point.setup point.before self.old }
+        requires reachable { IsReachable point.setup point.before }
+        ensures { StepsToOrOom point (Begin team payload) result self.new }
     {
         fy_policy::laws::test_is_satisfaction();
         fy_team::laws::a_record_begins_unmarked();
         if let Err(fault) = self.teams.may_begin(team, &payload) {
-            return replied_to(fault);
+            return reply_to_fault(fault);
         }
         self.disks.open(self.teams.record_count())?;
         let count = match self.teams.members(team) {
@@ -84,11 +84,11 @@ impl Machine {
             None => unreachable!(),
         };
         if let Err(fault) = self.net.reserve(count) {
-            return no_room(fault);
+            return reply_to_net_fault(fault);
         }
         let rec = match self.teams.begin(team, payload) {
             Ok(rec) => rec,
-            Err(fault) => return replied_to(fault),
+            Err(fault) => return reply_to_fault(fault),
         };
         let first = self.net.sent();
         match self.teams.members(team) {
@@ -101,9 +101,9 @@ impl Machine {
     /// Sends a record to a member of its team once more.
     pub(crate) fn resend(&mut self, rec: u32, process: ProcId) -> Result<Reply, Fault>
         ghost point: { Point }
-        requires stands { Stands point.setup point.before self.old }
-        requires lived { IsLived point.setup point.before }
-        ensures { Comes point (Resend rec process) result self.new }
+        requires stands { Refines point.setup point.before self.old }
+        requires reachable { IsReachable point.setup point.before }
+        ensures { StepsToOrOom point (Resend rec process) result self.new }
     {
         fy_policy::laws::test_is_satisfaction();
         let Some(team) = self.teams.team_of(rec) else {
@@ -119,7 +119,7 @@ impl Machine {
             return Ok(Reply::No(Refusal::Acked));
         }
         if let Err(fault) = self.net.reserve(1) {
-            return no_room(fault);
+            return reply_to_net_fault(fault);
         }
         let message = self.net.send(Body::Store { rec, to: process });
         Ok(Reply::Sent { message })

@@ -3,13 +3,10 @@ use Rattle.std.proofs.Common.{◌≡◌, ◌∙◌, ℕ, List, [], ◌∷◌, ma
 use Rattle.std.specs.Prelude.{Result, Ok, Err, MatchOption, MatchResult, unwrap_or, slice_get}
 use Rattle.std.specs.List.{filter_map, flat_map, enumerate_from, position}
 use Rattle.toml.specs.Data.{Members as Entries}
-use Rattle.fy_locality.specs.declared.locality.Locality.{Locality}
 use Rattle.fy_kinds.specs.Members.{Members}
 use Rattle.fy_policy.specs.Tree.{Tree}
-use Rattle.fy_grants.specs.declared.grant.Grant.{Grant}
 use Rattle.fy_grants.specs.declared.grant.Scope.{Scope}
 use Rattle.fy_cluster.specs.Setup.{Setup, setup_of, config_refusal}
-use Rattle.fy_cluster.specs.declared.config.Protection.{Protection}
 use Rattle.fy_cluster.specs.declared.role.Role.{Role}
 use Rattle.fy_config.specs.declared.fault.Part.{Part}
 use Rattle.fy_config.specs.declared.fault.Part.TheVariants.{Process, Actor, Protect}
@@ -17,12 +14,13 @@ use Rattle.fy_config.specs.declared.fault.ConfigFault.{ConfigFault}
 use Rattle.fy_config.specs.declared.fault.ConfigFault.TheVariants.{TooLong, Toml, Field, Limit, Name, Policy, PolicyUnmet, NoMemory}
 use Rattle.fy_config.specs.declared.given.GivenActor.{GivenActor}
 use Rattle.fy_config.specs.Given.{actor_given, actor_kept}
-use Rattle.fy_config.specs.Config.{Fields, fields_of, FieldsAre, DocumentIs, NamedIs, AreRead, UnlessMemory, first_outside, first_bad_name, first_place, is_bad_process, is_bad_actor, is_bad_protection, bad_name_at, grants_of, protection_in, limit_given, setup_in}
-use Rattle.fy_config.specs.Named.{IsNameFault, IsPolicyFault, IsMade}
+use Rattle.fy_config.specs.Config.{Fields, fields_of, FieldsAre, DocumentIs, NamedIs, AreRead, UnlessOom, first_outside, first_bad_name, first_index, is_bad_process, is_bad_actor, is_bad_protection, bad_name_at, grants_of, protection_in, limit_given, setup_in}
+use Rattle.fy_config.specs.declared.reading.Numbered.{Numbered}
+use Rattle.fy_config.specs.Named.{IsNameFault, IsPolicyFault, IsNumbered, IsMade}
 
 -- ---- answers that want of memory can take the place of
 
-pub unless : {A : Type 0} (Holds : Result A ConfigFault → Type 0) (answer : Result A ConfigFault) → Holds answer → UnlessMemory Holds answer
+pub unless : {A : Type 0} (Holds : Result A ConfigFault → Type 0) (answer : Result A ConfigFault) → Holds answer → UnlessOom Holds answer
 unless Holds (Ok x) h = h
 unless Holds (Err TooLong) h = h
 unless Holds (Err Toml) h = h
@@ -33,11 +31,25 @@ unless Holds (Err (Policy index)) h = h
 unless Holds (Err (PolicyUnmet index)) h = h
 unless Holds (Err NoMemory) h = tt
 
+-- a fault that what holds gives for what has to hold
+pub unless_err :
+    {A B : Type 0} (Holds : Result A ConfigFault → Type 0) (Wanted : Result B ConfigFault → Type 0)
+    (fault : ConfigFault) → UnlessOom Holds (Err fault) → (Holds (Err fault) → Wanted (Err fault))
+    → UnlessOom Wanted (Err fault)
+unless_err Holds Wanted TooLong h k = k h
+unless_err Holds Wanted Toml h k = k h
+unless_err Holds Wanted (Field p) h k = k h
+unless_err Holds Wanted (Limit p) h k = k h
+unless_err Holds Wanted (Name p index) h k = k h
+unless_err Holds Wanted (Policy index) h k = k h
+unless_err Holds Wanted (PolicyUnmet index) h k = k h
+unless_err Holds Wanted NoMemory h k = tt
+
 -- a bad name that a part tells, where it is what has to hold
 pub name_answer :
     {B : Type 0} (part : Part) (bad : Option ℕ) (Holds : Result B ConfigFault → Type 0)
     (fault : ConfigFault) → IsNameFault part bad fault
-    → (bad_name_at part bad ≡ Some fault → Holds (Err fault)) → UnlessMemory Holds (Err fault)
+    → (bad_name_at part bad ≡ Some fault → Holds (Err fault)) → UnlessOom Holds (Err fault)
 name_answer part bad Holds TooLong h k = k h
 name_answer part bad Holds Toml h k = k h
 name_answer part bad Holds (Field p) h k = k h
@@ -51,7 +63,7 @@ name_answer part bad Holds NoMemory h k = tt
 pub policy_answer :
     {B : Type 0} (f : Fields) (Holds : Result B ConfigFault → Type 0)
     (fault : ConfigFault) → IsPolicyFault f.policies fault
-    → (NamedIs f (Err fault) → Holds (Err fault)) → UnlessMemory Holds (Err fault)
+    → (NamedIs f (Err fault) → Holds (Err fault)) → UnlessOom Holds (Err fault)
 policy_answer f Holds TooLong h k = absurd h
 policy_answer f Holds Toml h k = absurd h
 policy_answer f Holds (Field p) h k = absurd h
@@ -69,32 +81,32 @@ first_of process actor protection =
 
 pub bad_process :
     (f : Fields) (fault : ConfigFault)
-    → bad_name_at Process (first_place is_bad_process f.processes) ≡ Some fault
+    → bad_name_at Process (first_index is_bad_process f.processes) ≡ Some fault
     → first_bad_name f ≡ Some fault
 unfolding first_of
 bad_process f fault e =
-    ap (λ o. first_of o (bad_name_at Actor (position is_bad_actor f.actors)) (bad_name_at Protect (first_place (is_bad_protection f.processes) f.protections))) e
+    ap (λ o. first_of o (bad_name_at Actor (position is_bad_actor f.actors)) (bad_name_at Protect (first_index (is_bad_protection f.processes) f.protections))) e
 
 pub bad_actor :
     (f : Fields) (fault : ConfigFault)
-    → first_place is_bad_process f.processes ≡ None
+    → first_index is_bad_process f.processes ≡ None
     → bad_name_at Actor (position is_bad_actor f.actors) ≡ Some fault
     → first_bad_name f ≡ Some fault
 unfolding first_of
 bad_actor f fault none e =
-    ap (λ o. first_of (bad_name_at Process o) (bad_name_at Actor (position is_bad_actor f.actors)) (bad_name_at Protect (first_place (is_bad_protection f.processes) f.protections))) none
-    ∙ ap (λ o. first_of None o (bad_name_at Protect (first_place (is_bad_protection f.processes) f.protections))) e
+    ap (λ o. first_of (bad_name_at Process o) (bad_name_at Actor (position is_bad_actor f.actors)) (bad_name_at Protect (first_index (is_bad_protection f.processes) f.protections))) none
+    ∙ ap (λ o. first_of None o (bad_name_at Protect (first_index (is_bad_protection f.processes) f.protections))) e
 
 pub bad_protection :
     (f : Fields) (fault : Option ConfigFault)
-    → first_place is_bad_process f.processes ≡ None
+    → first_index is_bad_process f.processes ≡ None
     → position is_bad_actor f.actors ≡ None
-    → bad_name_at Protect (first_place (is_bad_protection f.processes) f.protections) ≡ fault
+    → bad_name_at Protect (first_index (is_bad_protection f.processes) f.protections) ≡ fault
     → first_bad_name f ≡ fault
 unfolding first_of
 bad_protection f fault none no_actor e =
-    ap (λ o. first_of (bad_name_at Process o) (bad_name_at Actor (position is_bad_actor f.actors)) (bad_name_at Protect (first_place (is_bad_protection f.processes) f.protections))) none
-    ∙ ap (λ o. first_of None (bad_name_at Actor o) (bad_name_at Protect (first_place (is_bad_protection f.processes) f.protections))) no_actor
+    ap (λ o. first_of (bad_name_at Process o) (bad_name_at Actor (position is_bad_actor f.actors)) (bad_name_at Protect (first_index (is_bad_protection f.processes) f.protections))) none
+    ∙ ap (λ o. first_of None (bad_name_at Actor o) (bad_name_at Protect (first_index (is_bad_protection f.processes) f.protections))) no_actor
     ∙ ap (first_of None None) e
     ∙ one fault
   where
@@ -145,29 +157,31 @@ roles_kept actors spelt kept =
     ∙ ap (map (λ seen. seen.0)) kept
     ∙ map_map (λ (seen : Role × List _). seen.0) actor_given spelt
 
--- what is gathered is what the parts begin a cluster with
-pub record Gathered
-    (f : Fields) (processes : List Locality) (roles : List Role) (grants : List Grant)
-    (protections : List Protection) (limit : ℕ)
-    : Type 0 where
-  pub processes_are : processes ≡ f.processes
-  pub roles_are : roles ≡ map (λ actor. actor.0) f.actors
-  pub grants_are : grants ≡ flat_map grants_of (enumerate_from 0 f.actors)
-  pub protections_are : protections ≡ map (protection_in processes) f.protections
-  pub limit_is : limit_given f.journal_limit ≡ Some limit
+-- numbered parts make up what the parts begin a cluster with
+pub numbered_setup :
+    (f : Fields) (policies : List Tree) (parts : Numbered) (limit : ℕ) → IsNumbered f parts
+    → limit_given f.journal_limit ≡ Some limit
+    → setup_of parts.map policies parts.roles.items parts.grants.items parts.protections.items limit ≡ setup_in f policies
+numbered_setup f policies parts limit is limited =
+    ap (λ all. setup_of all policies parts.roles.items parts.grants.items parts.protections.items limit) is.processes
+    ∙ ap (λ rs. setup_of f.processes policies rs parts.grants.items parts.protections.items limit) is.roles
+    ∙ ap (λ gs. setup_of f.processes policies (map (λ actor. actor.0) f.actors) gs parts.protections.items limit) is.grants
+    ∙ ap (λ ps. setup_of f.processes policies (map (λ actor. actor.0) f.actors) (flat_map grants_of (enumerate_from 0 f.actors)) ps limit) is.protections
+    ∙ ap (λ o. setup_of f.processes policies (map (λ actor. actor.0) f.actors) (flat_map grants_of (enumerate_from 0 f.actors)) (map (protection_in f.processes) f.protections) (unwrap_or o 0)) (sym limited)
 
-pub gathered_setup :
-    (f : Fields) (policies : List Tree) (processes : List Locality) (roles : List Role) (grants : List Grant)
-    (protections : List Protection) (limit : ℕ)
-    → Gathered f processes roles grants protections limit
-    → setup_of processes policies roles grants protections limit ≡ setup_in f policies
-gathered_setup f policies processes roles grants protections limit g =
-    ap (λ ps. setup_of processes policies roles grants ps limit)
-    (g.protections_are ∙ ap (λ all. map (protection_in all) f.protections) g.processes_are)
-    ∙ ap (λ all. setup_of all policies roles grants (map (protection_in f.processes) f.protections) limit) g.processes_are
-    ∙ ap (λ rs. setup_of f.processes policies rs grants (map (protection_in f.processes) f.protections) limit) g.roles_are
-    ∙ ap (λ gs. setup_of f.processes policies (map (λ actor. actor.0) f.actors) gs (map (protection_in f.processes) f.protections) limit) g.grants_are
-    ∙ ap (λ o. setup_of f.processes policies (map (λ actor. actor.0) f.actors) (flat_map grants_of (enumerate_from 0 f.actors)) (map (protection_in f.processes) f.protections) (unwrap_or o 0)) (sym g.limit_is)
+-- where no name is bad, no protection is
+pub good_protections :
+    (f : Fields) → first_bad_name f ≡ None → first_index (is_bad_protection f.processes) f.protections ≡ None
+unfolding first_of
+good_protections f good =
+    go (bad_name_at Process (first_index is_bad_process f.processes)) (bad_name_at Actor (position is_bad_actor f.actors))
+    (first_index (is_bad_protection f.processes) f.protections) good
+  where
+    go : (a b : Option ConfigFault) (place : Option ℕ) → first_of a b (bad_name_at Protect place) ≡ None → place ≡ None
+    go a b None e = refl
+    go None None (Some place) e = absurd (let no : ⊥ = cc in no)
+    go None (Some x) (Some place) e = absurd (let no : ⊥ = cc in no)
+    go (Some x) b (Some place) e = absurd (let no : ⊥ = cc in no)
 
 -- a setup that is made is what the parts are
 pub made_named :

@@ -6,7 +6,7 @@ use Rattle.fy_locality.specs.Locality.{value_of, NamesDiffer}
 use Rattle.fy_locality.specs.declared.ProcId.{ProcId}
 use Rattle.fy_locality.specs.declared.key.Key.TheVariants.{Process}
 use Rattle.fy_locality.specs.declared.locality.Locality.{Locality}
-use Rattle.fy_config.specs.Config.{place_of}
+use Rattle.fy_config.specs.Config.{index_of}
 use Rattle.fy_config.proofs.Places.{NotYet, position_here, position_none}
 
 -- a process with a name has it as its value
@@ -35,7 +35,7 @@ pub found_place :
     → IfSome found (λ p. value_of processes Process p.0 ≡ Some name)
     → IfSome found (λ p. p.0 < length processes)
     → IfNone found ((p : ℕ) → value_of processes Process p ≢ Some name)
-    → option_map (λ p. p.0) found ≡ place_of processes name
+    → option_map (λ p. p.0) found ≡ index_of processes name
 found_place processes name None differ has within missing =
     sym (position_none (λ (q : Locality). bytes_eq q.process name) processes (length processes)
     (none_before processes name (length processes) (λ k h. missing k)) (omega arith))
@@ -47,7 +47,7 @@ found_place processes name (Some p) differ has within missing =
 
     go : (o : Option Locality) → slice_get processes p.0 ≡ o
         → option_and_then (λ (q : Locality). Some q.process) (slice_get processes p.0) ≡ Some name
-        → place_of processes name ≡ Some p.0
+        → index_of processes name ≡ Some p.0
     go None is e =
         let none : option_and_then (λ (q : Locality). Some q.process) (slice_get processes p.0) ≡ None = ap (option_and_then (λ (q : Locality). Some q.process)) is in
         absurd (let c : ⊥ = cc in c)

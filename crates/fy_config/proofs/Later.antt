@@ -13,7 +13,7 @@ use Rattle.fy_config.specs.declared.fault.ConfigFault.{ConfigFault}
 use Rattle.fy_config.specs.declared.fault.Part.TheVariants.{JournalLimit, Policies, Process, Actor, Protect, Unknown}
 use Rattle.fy_config.specs.declared.fault.ConfigFault.TheVariants.{TooLong, Toml, Field, Limit, Name, Policy, PolicyUnmet, NoMemory}
 use Rattle.fy_config.specs.declared.limits.TheConstants.{MOST_FILE_BYTES}
-use Rattle.fy_config.specs.Config.{Fields, fields_from, fields_of, FieldsAre, DocumentIs, NamedIs, IsDocument, ConfigOf, Answers, UnlessMemory, first_outside, first_bad_name, bad_name_at}
+use Rattle.fy_config.specs.Config.{Fields, fields_from, fields_of, FieldsAre, DocumentIs, NamedIs, IsDocument, ConfigOf, Answers, UnlessOom, first_outside, first_bad_name, bad_name_at}
 
 -- what a document may be
 abbrev pub IsOfDocument : Result Setup ConfigFault → Type 0
@@ -106,7 +106,7 @@ config_document bytes ms answer short document is = go answer (of_document ms an
 -- an answer about a document is one about its bytes
 pub answers_document :
     (bytes : List ℕ) (ms : Entries) (answer : Result Setup ConfigFault)
-    → length bytes ≤ MOST_FILE_BYTES → IsDocument bytes ms → UnlessMemory (DocumentIs ms) answer
+    → length bytes ≤ MOST_FILE_BYTES → IsDocument bytes ms → UnlessOom (DocumentIs ms) answer
     → Answers bytes answer
 answers_document bytes ms (Ok setup) short document h = config_document bytes ms (Ok setup) short document h
 answers_document bytes ms (Err TooLong) short document h = config_document bytes ms (Err TooLong) short document h

@@ -7,7 +7,7 @@ use Rattle.std.proofs.lemmas.List.{length_push, take_all, length-map}
 use Rattle.std.proofs.lemmas.Option.{cond_some}
 use Rattle.std.proofs.lemmas.Slice.Eq.{bytes_eq-Decides}
 use Rattle.std.proofs.lemmas.Bool.Decides.{same_from_decides, nat_tests}
-use Rattle.fy_locality.specs.Locality.{are_names, value_of, values_of, taken_or_full}
+use Rattle.fy_locality.specs.Locality.{are_names, value_of, values_of, id_refusal}
 use Rattle.fy_locality.specs.declared.ProcId.{ProcId}
 use Rattle.fy_locality.specs.declared.TheConstants.{MOST_PROCESSES}
 use Rattle.fy_locality.specs.declared.map.MapFault.{MapFault}
@@ -16,7 +16,7 @@ use Rattle.fy_locality.specs.Values.{ValuesOccur}
 use Rattle.fy_locality.specs.declared.key.Key.TheVariants.{Process}
 use Rattle.fy_locality.specs.declared.locality.Locality.{Locality}
 use Rattle.fy_config.specs.Given.{process_given}
-use Rattle.fy_config.specs.Config.{first_place, is_bad_process}
+use Rattle.fy_config.specs.Config.{first_index, is_bad_process}
 use Rattle.fy_config.specs.Named.{is_bad_given}
 use Rattle.fy_config.proofs.Places.{Passed, passed_none, passed_more, passed_here, passed_all, take_at, kept_at, any_at, some_at}
 
@@ -49,7 +49,7 @@ taken_is occur processes name =
 -- a process that was pushed isn't bad
 pub pushed_good :
     ValuesOccur → (processes : List Locality) (process : Locality) (result : Result ProcId MapFault) (number : ProcId)
-    → ((fault : MapFault) → taken_or_full processes process.process ≡ Some fault → result ≡ Err fault)
+    → ((fault : MapFault) → id_refusal processes process.process ≡ Some fault → result ≡ Err fault)
     → result ≡ Ok number → is_bad_given processes (Some process) ≡ false
 pushed_good occur processes process result number refused ok =
     go (is_member bytes_eq (values_of processes Process) process.process) refl
@@ -57,7 +57,7 @@ pushed_good occur processes process result number refused ok =
     go : (b : Bool) → is_member bytes_eq (values_of processes Process) process.process ≡ b
         → is_bad_given processes (Some process) ≡ false
     go true is =
-        let taken : taken_or_full processes process.process ≡ Some Twice =
+        let taken : id_refusal processes process.process ≡ Some Twice =
         ap (λ b. cond b (Some Twice) (cond (leb MOST_PROCESSES (length processes)) (Some TooMany) None)) is in
         let err : result ≡ Err Twice = refused Twice taken in
         absurd (let c : ⊥ = cc in c)
@@ -67,7 +67,7 @@ pushed_good occur processes process result number refused ok =
 pub refused_bad :
     ValuesOccur → (processes : List Locality) (process : Locality) (result : Result ProcId MapFault)
     → length processes < MOST_PROCESSES
-    → (taken_or_full processes process.process ≡ None → IfErr result (λ fault. fault ≡ NoMemory))
+    → (id_refusal processes process.process ≡ None → IfErr result (λ fault. fault ≡ NoMemory))
     → result ≡ Err Twice → is_bad_given processes (Some process) ≡ true
 refused_bad occur processes process result room memory err =
     go (is_member bytes_eq (values_of processes Process) process.process) refl
@@ -77,7 +77,7 @@ refused_bad occur processes process result room memory err =
     go true is = sym (taken_is occur processes process.process) ∙ is
     go false is =
         let less : leb MOST_PROCESSES (length processes) ≡ false = grind (arith, nat_tests) in
-        let free : taken_or_full processes process.process ≡ None =
+        let free : id_refusal processes process.process ≡ None =
         ap (λ b. cond b (Some Twice) (cond (leb MOST_PROCESSES (length processes)) (Some TooMany) None)) is
         ∙ ap (λ b. cond b (Some TooMany) None) less in
         let other : Twice ≡ NoMemory = subst (λ (r : Result ProcId MapFault). IfErr r (λ fault. fault ≡ NoMemory)) err (memory free) in
@@ -135,7 +135,7 @@ pub mapped_bad :
     → Mapped given processes i → slice_get given i ≡ Some process
     → is_bad_given processes process ≡ true
     → (texts : List Locality) → given ≡ map process_given texts
-    → first_place is_bad_process texts ≡ Some i
+    → first_index is_bad_process texts ≡ Some i
 mapped_bad given processes i process m at bad texts kept =
     let (t, is, same) = kept_at process_given texts given i process kept at in
     let (front, passed) = m.so_far texts kept in
@@ -148,7 +148,7 @@ pub mapped_all :
     (given : List (Option Locality)) (processes : List Locality) (i : ℕ)
     → Mapped given processes i → length given ≤ i
     → (texts : List Locality) → given ≡ map process_given texts
-    → (first_place is_bad_process texts ≡ None) × (processes ≡ texts)
+    → (first_index is_bad_process texts ≡ None) × (processes ≡ texts)
 mapped_all given processes i m all texts kept =
     let (front, passed) = m.so_far texts kept in
     let short : length texts ≤ i = omega (arith, ap length kept, length-map texts process_given) in

@@ -13,7 +13,7 @@ use Rattle.fy_config.specs.declared.fault.ConfigFault.{ConfigFault}
 use Rattle.fy_config.specs.declared.fault.ConfigFault.TheVariants.{TooLong, Toml, Field, Limit, Name, Policy, PolicyUnmet, NoMemory}
 use Rattle.fy_config.specs.declared.limits.TheConstants.{MOST_FILE_BYTES}
 use Rattle.fy_config.specs.Config.{Fields, fields_of, FieldsAre, DocumentIs, NamedIs, AreRead, IsFirstRefused, IsDocument, IsNoDocument, ConfigOf, first_outside, first_bad_name, setup_in}
-use Rattle.fy_config.specs.Laws.{ConfigIsOne}
+use Rattle.fy_config.specs.Laws.{ConfigIsUnambiguous}
 use Rattle.fy_config.proofs.Later.{IsOfDocument}
 
 -- a text of one of many policies that are read is read
@@ -195,7 +195,7 @@ module _ (settled : ReadingIsSettled) where
   some_document_once bytes a (Err Toml) short x y = absurd (no_document bytes a x y.1)
   some_document_once bytes a b short x y = both_documents bytes a b x (of_bytes bytes b y tt).1
 
-  pub config_once : ConfigIsOne
+  pub config_once : ConfigIsUnambiguous
   config_once bytes (Err TooLong) b x y = too_long_once bytes b x y
   config_once bytes (Err Toml) b x y = toml_once bytes b x.0 x.1 y
   config_once bytes a b x y =

@@ -7,7 +7,7 @@ use Rattle.std.proofs.lemmas.List.Sums.{position_or_len_is}
 use Rattle.std.proofs.lemmas.Option.{get_or_from_slice_get, slice_get-get_or, slice_get_within, slice_get-map}
 use Rattle.std.proofs.lemmas.Bool.{cases_lt}
 use Rattle.std.proofs.lemmas.Bool.Decides.{nat_tests}
-use Rattle.fy_config.specs.Config.{first_place}
+use Rattle.fy_config.specs.Config.{first_index}
 
 or_true : (b : Bool) → (b || true) ≡ true
 or_true true = refl
@@ -23,7 +23,7 @@ place_from fails xs i = option_map (λ x. x.0) (find (fails_at fails xs) (enumer
 
 -- no place before i fails
 pub record Passed {A : Type 0} (fails : List A → A → Bool) (xs : List A) (i : ℕ) : Type 0 where
-  pub rest : first_place fails xs ≡ place_from fails xs i
+  pub rest : first_index fails xs ≡ place_from fails xs i
 
 pub passed_none : {A : Type 0} (fails : List A → A → Bool) (xs : List A) → Passed fails xs 0
 passed_none fails xs = record { rest = refl }
@@ -62,12 +62,12 @@ passed_more fails xs i x passed at is = record { rest = passed.rest ∙ step fai
 pub passed_here :
     {A : Type 0} (fails : List A → A → Bool) (xs : List A) (i : ℕ) (x : A)
     → Passed fails xs i → slice_get xs i ≡ Some x → fails (take i xs) x ≡ true
-    → first_place fails xs ≡ Some i
+    → first_index fails xs ≡ Some i
 passed_here fails xs i x passed at is = passed.rest ∙ step fails xs i x true at is
 
 pub passed_all :
     {A : Type 0} (fails : List A → A → Bool) (xs : List A) (i : ℕ)
-    → Passed fails xs i → length xs ≤ i → first_place fails xs ≡ None
+    → Passed fails xs i → length xs ≤ i → first_index fails xs ≡ None
 passed_all {A} fails xs i passed all =
     passed.rest
     ∙ ap (λ (ys : List A). option_map (λ x. x.0) (find (fails_at fails xs) (enumerate_from i ys))) (drop_all i xs all)
@@ -96,7 +96,7 @@ none_found {A} test n (x ∷ ys) (suc k) m y none at is =
 
 pub no_place :
     {A : Type 0} (fails : List A → A → Bool) (xs : List A) (k : ℕ) (x : A)
-    → first_place fails xs ≡ None → slice_get xs k ≡ Some x → fails (take k xs) x ≡ false
+    → first_index fails xs ≡ None → slice_get xs k ≡ Some x → fails (take k xs) x ≡ false
 no_place {A} fails xs k x none at =
     none_found (fails_at fails xs) 0 xs k k x (nothing (find (fails_at fails xs) (enumerate_from 0 xs)) none) at (omega arith)
   where

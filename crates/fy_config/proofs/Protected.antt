@@ -21,7 +21,7 @@ use Rattle.fy_kinds.specs.Members.{Members}
 use Rattle.fy_cluster.specs.declared.config.Protection.{Protection}
 use Rattle.fy_config.specs.declared.given.GivenProtection.{GivenProtection}
 use Rattle.fy_config.specs.Given.{name_given, protection_given}
-use Rattle.fy_config.specs.Config.{first_place, is_bad_process, is_bad_protection, place_of, number_of, protection_in}
+use Rattle.fy_config.specs.Config.{first_index, is_bad_process, is_bad_protection, index_of, number_of, protection_in}
 use Rattle.fy_config.proofs.Places.{Passed, passed_none, passed_more, passed_here, passed_all, no_place, take_at, kept_at, any_at, some_at, any_alike, none_at}
 
 abbrev Spelt : Type 0
@@ -33,14 +33,14 @@ pub record Named (processes : List Locality) (before : List Spelt) (set : sets.F
 
 -- a process with a name, by its place
 pub record IsNamedAt (processes : List Locality) (name : List ℕ) (p : ℕ) : Type 0 where
-  pub place : place_of processes name ≡ Some p
+  pub place : index_of processes name ≡ Some p
   pub found : list_any (λ q. bytes_eq q.process name) processes ≡ true
   pub value : value_of processes Process p ≡ Some name
   pub number : number_of processes name ≡ p
 
 pub named_at :
     (processes : List Locality) (name : List ℕ) (p : ℕ)
-    → place_of processes name ≡ Some p → IsNamedAt processes name p
+    → index_of processes name ≡ Some p → IsNamedAt processes name p
 named_at [] name p e = absurd (let c : ⊥ = cc in c)
 named_at (first ∷ more) name p e =
     let processes : List Locality = first ∷ more in
@@ -131,7 +131,7 @@ first_of false b c d e h = absurd (let x : ⊥ = cc in x)
 -- a text that is no name is that of no process
 pub no_such_process :
     (processes : List Locality) (text : List ℕ)
-    → first_place is_bad_process processes ≡ None → name_given text ≡ None
+    → first_index is_bad_process processes ≡ None → name_given text ≡ None
     → list_any (λ q. bytes_eq q.process text) processes ≡ false
 no_such_process processes text good none =
     go (list_any (λ (q : Locality). bytes_eq q.process text) processes) refl
@@ -151,8 +151,8 @@ no_such_process processes text good none =
 -- a protection of what doesn't stand there is bad
 pub bad_where_unknown :
     (processes : List Locality) (before : List Spelt) (t : Spelt)
-    → first_place is_bad_process processes ≡ None
-    → option_and_then (place_of processes) (name_given t.0) ≡ None
+    → first_index is_bad_process processes ≡ None
+    → option_and_then (index_of processes) (name_given t.0) ≡ None
     → is_bad_protection processes before t ≡ true
 bad_where_unknown processes before t good none =
     ap (λ b. not b || list_any (λ (earlier : Spelt). bytes_eq earlier.0 t.0) before) (go (is_name t.0) refl)
@@ -160,7 +160,7 @@ bad_where_unknown processes before t good none =
     go : (b : Bool) → is_name t.0 ≡ b → list_any (λ q. bytes_eq q.process t.0) processes ≡ false
     go true is =
         let named : name_given t.0 ≡ Some t.0 = ap (λ b. cond b (Some t.0) None) is in
-        let nowhere : place_of processes t.0 ≡ None = sym (ap (option_and_then (place_of processes)) named) ∙ none in
+        let nowhere : index_of processes t.0 ≡ None = sym (ap (option_and_then (index_of processes)) named) ∙ none in
         none_at (λ (q : Locality). bytes_eq q.process t.0) processes nowhere
     go false is = no_such_process processes t.0 good (ap (λ b. cond b (Some t.0) None) is)
 
@@ -190,20 +190,20 @@ protected_none processes given protections named none empty =
 -- the process that a protection names stands at the place that was found
 name_stands :
     (processes : List Locality) (t : Spelt) (given : GivenProtection) (p : ℕ)
-    → protection_given t ≡ given → option_and_then (place_of processes) given.process ≡ Some p
+    → protection_given t ≡ given → option_and_then (index_of processes) given.process ≡ Some p
     → IsNamedAt processes t.0 p
 name_stands processes t given p same found = go (is_name t.0) refl
   where
-    found_by : option_and_then (place_of processes) (name_given t.0) ≡ Some p
-    found_by = ap (λ (g : GivenProtection). option_and_then (place_of processes) g.process) same ∙ found
+    found_by : option_and_then (index_of processes) (name_given t.0) ≡ Some p
+    found_by = ap (λ (g : GivenProtection). option_and_then (index_of processes) g.process) same ∙ found
 
     go : (b : Bool) → is_name t.0 ≡ b → IsNamedAt processes t.0 p
     go true is =
         let named : name_given t.0 ≡ Some t.0 = ap (λ b. cond b (Some t.0) None) is in
-        named_at processes t.0 p (sym (ap (option_and_then (place_of processes)) named) ∙ found_by)
+        named_at processes t.0 p (sym (ap (option_and_then (index_of processes)) named) ∙ found_by)
     go false is =
         let nameless : name_given t.0 ≡ None = ap (λ b. cond b (Some t.0) None) is in
-        let lost : option_and_then (place_of processes) (name_given t.0) ≡ None = ap (option_and_then (place_of processes)) nameless in
+        let lost : option_and_then (index_of processes) (name_given t.0) ≡ None = ap (option_and_then (index_of processes)) nameless in
         absurd (let c : ⊥ = cc in c)
 
 pub protected_more :
@@ -211,7 +211,7 @@ pub protected_more :
     (named grown : sets.FinSet nat_cmp) (i : ℕ) (protection : GivenProtection) (p : ℕ) (put : Protection)
     → NamesDiffer processes → Protected processes given protections named i
     → slice_get given i ≡ Some protection
-    → option_and_then (place_of processes) protection.process ≡ Some p
+    → option_and_then (index_of processes) protection.process ≡ Some p
     → sets.contains named p ≡ false → grown ≡ sets.insert named p
     → put ≡ record { process = record { 0 = p }; kinds = protection.kinds }
     → more ≡ protections ++ put ∷ []
@@ -244,16 +244,16 @@ protected_more processes given protections more named grown i protection p put d
 pub protected_bad :
     (processes : List Locality) (given : List GivenProtection) (protections : List Protection)
     (named : sets.FinSet nat_cmp) (i : ℕ) (protection : GivenProtection)
-    → first_place is_bad_process processes ≡ None
+    → first_index is_bad_process processes ≡ None
     → Protected processes given protections named i → slice_get given i ≡ Some protection
-    → option_and_then (place_of processes) protection.process ≡ None
+    → option_and_then (index_of processes) protection.process ≡ None
     → (texts : List Spelt) → given ≡ map protection_given texts
-    → first_place (is_bad_protection processes) texts ≡ Some i
+    → first_index (is_bad_protection processes) texts ≡ Some i
 protected_bad processes given protections named i protection good m at lost texts kept =
     let (t, is, same) = kept_at protection_given texts given i protection kept at in
     let (front, those, passed) = m.so_far texts kept in
-    let nowhere : option_and_then (place_of processes) (name_given t.0) ≡ None =
-    ap (λ (g : GivenProtection). option_and_then (place_of processes) g.process) same ∙ lost in
+    let nowhere : option_and_then (index_of processes) (name_given t.0) ≡ None =
+    ap (λ (g : GivenProtection). option_and_then (index_of processes) g.process) same ∙ lost in
     passed_here (is_bad_protection processes) texts i t passed is
     (bad_where_unknown processes (take i texts) t good nowhere)
 
@@ -261,10 +261,10 @@ pub protected_twice :
     (processes : List Locality) (given : List GivenProtection) (protections : List Protection)
     (named : sets.FinSet nat_cmp) (i : ℕ) (protection : GivenProtection) (p : ℕ)
     → Protected processes given protections named i → slice_get given i ≡ Some protection
-    → option_and_then (place_of processes) protection.process ≡ Some p
+    → option_and_then (index_of processes) protection.process ≡ Some p
     → sets.contains named p ≡ true
     → (texts : List Spelt) → given ≡ map protection_given texts
-    → first_place (is_bad_protection processes) texts ≡ Some i
+    → first_index (is_bad_protection processes) texts ≡ Some i
 protected_twice processes given protections named i protection p m at found old texts kept =
     let (t, is, same) = kept_at protection_given texts given i protection kept at in
     let (front, those, passed) = m.so_far texts kept in
@@ -277,7 +277,7 @@ pub protected_all :
     (named : sets.FinSet nat_cmp) (i : ℕ)
     → Protected processes given protections named i → length given ≤ i
     → (texts : List Spelt) → given ≡ map protection_given texts
-    → (first_place (is_bad_protection processes) texts ≡ None)
+    → (first_index (is_bad_protection processes) texts ≡ None)
     × (protections ≡ map (protection_in processes) texts)
 protected_all processes given protections named i m all texts kept =
     let (front, those, passed) = m.so_far texts kept in

@@ -10,7 +10,7 @@ use Rattle.fy_config.specs.declared.given.GivenGrant.{GivenGrant}
 use Rattle.fy_config.specs.declared.fields.GivenFields.{GivenFields}
 use Rattle.fy_config.specs.Given.{process_given, actor_given, actor_kept, grant_given, protection_given}
 use Rattle.fy_config.specs.Config.{Fields, first_outside}
-use Rattle.fy_config.specs.Kept.{Keeps, grant_count, first_given_outside}
+use Rattle.fy_config.specs.Kept.{HoldsFields, grant_count, first_given_outside}
 
 -- lists that look alike are as long
 as_long :
@@ -38,7 +38,7 @@ count_given n (actor ∷ actors) =
 
 -- the first part outside its range is the same
 pub outside_kept :
-    (given : GivenFields) (f : Fields) → Keeps given f → first_given_outside given ≡ first_outside f
+    (given : GivenFields) (f : Fields) → HoldsFields given f → first_given_outside given ≡ first_outside f
 outside_kept given f kept =
     let policies : length given.policies.items ≡ length f.policies =
     sym (length-map given.policies.items (λ text. text.now)) ∙ ap length kept.policies in

@@ -20,7 +20,7 @@ use Rattle.fy_cluster.specs.declared.role.Role.{Role}
 use Rattle.fy_config.specs.declared.fault.Part.{Part}
 use Rattle.fy_config.specs.declared.fault.Part.TheVariants.{JournalLimit, Policies, Process, Actor, Protect}
 use Rattle.fy_config.specs.declared.limits.TheConstants.{MOST_PROTECTIONS}
-use Rattle.fy_config.specs.Config.{Fields, AreRead, limit_given, first_outside, first_place, is_bad_protection, grants_of, number_of, protection_in, setup_in}
+use Rattle.fy_config.specs.Config.{Fields, AreRead, limit_given, first_outside, first_index, is_bad_protection, grants_of, number_of, protection_in, setup_in}
 use Rattle.fy_config.proofs.Places.{some_before, kept_at, no_place}
 
 -- what each part within its range says
@@ -152,7 +152,7 @@ number_within processes name e =
 
 protections_there :
     (processes : List Locality) (protections : List (List ℕ × Members))
-    → first_place (is_bad_protection processes) protections ≡ None
+    → first_index (is_bad_protection processes) protections ≡ None
     → list_all (λ protection. ltb protection.process.0 (length processes)) (map (protection_in processes) protections) ≡ true
 protections_there processes protections good =
     all_from (λ (protection : Protection). ltb protection.process.0 (length processes)) (map (protection_in processes) protections) each
@@ -180,7 +180,7 @@ all_true a b c d e g h1 h2 h3 h4 h5 h6 = rw (h1, h2, h3, h4, h5, h6)
 -- the setup of parts within their ranges and with good names is within its ranges
 pub setup_within :
     (f : Fields) (policies : List Tree)
-    → first_outside f ≡ None → first_place (is_bad_protection f.processes) f.protections ≡ None
+    → first_outside f ≡ None → first_index (is_bad_protection f.processes) f.protections ≡ None
     → AreRead f.policies policies → is_in_range (setup_in f policies) ≡ true
 setup_within f policies inside good read =
     let w : Within f = within f inside in

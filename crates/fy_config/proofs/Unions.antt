@@ -1,7 +1,7 @@
 -- sets of kinds put together
 use Rattle.std.proofs.Common.{◌≡◌, ◌<◌, ◌+◌, ℕ, length, drop, get_or, ◌||◌, List, ◌∷◌, Option, Some, None, option_map, Bool, true, false, refl, ap, ◌∙◌, sym}
 use Rattle.fy_kinds.specs.Members.{Members}
-use Rattle.fy_kinds.specs.Kinds.{with_all, no_deed}
+use Rattle.fy_kinds.specs.Kinds.{in_either, no_deed}
 use Rattle.toml.specs.View.{view, items_view}
 use Rattle.toml.specs.declared.value.Value.{Value}
 use Rattle.fy_locality.specs.Chain.{◌>>=◌}
@@ -17,7 +17,7 @@ or_of_none true = refl
 or_of_none false = refl
 
 -- three sets together, whichever two come first
-pub with_all_regroups : (a b c : Members) → with_all (with_all a b) c ≡ with_all a (with_all b c)
+pub with_all_regroups : (a b c : Members) → in_either (in_either a b) c ≡ in_either a (in_either b c)
 with_all_regroups a b c =
     rw (
       or_regroups a.reboot_process b.reboot_process c.reboot_process,
@@ -28,14 +28,14 @@ with_all_regroups a b c =
     )
 
 -- a set with none more
-pub with_all_none : (a : Members) → with_all a no_deed ≡ a
+pub with_all_none : (a : Members) → in_either a no_deed ≡ a
 with_all_none a = simp or_of_none
 
 -- one set more goes to those that are left, or to those before
 pub one_more :
     (before x : Members) (rest : Option (List Members))
-    → option_map (λ more. with_all (with_all before x) (union_of more)) rest
-    ≡ option_map (λ more. with_all before (union_of more)) (option_map (λ more. x ∷ more) rest)
+    → option_map (λ more. in_either (in_either before x) (union_of more)) rest
+    ≡ option_map (λ more. in_either before (union_of more)) (option_map (λ more. x ∷ more) rest)
 one_more before x None = refl
 one_more before x (Some more) = ap Some (with_all_regroups before x (union_of more))
 
@@ -43,16 +43,16 @@ one_more before x (Some more) = ap Some (with_all_regroups before x (union_of mo
 pub kinds_kept :
     (before x : Members) (vs : List Value) (i : ℕ) (v : Value) (whole : Option Members)
     → i < length vs → v ≡ get_or vs i v → kind_of (view v) ≡ Some x
-    → option_map (λ more. with_all before (union_of more)) (all_of kind_of (items_view (drop i vs)))
+    → option_map (λ more. in_either before (union_of more)) (all_of kind_of (items_view (drop i vs)))
     ≡ whole
-    → option_map (λ more. with_all (with_all before x) (union_of more))
+    → option_map (λ more. in_either (in_either before x) (union_of more))
     (all_of kind_of (items_view (drop (i + 1) vs)))
     ≡ whole
 kinds_kept before x vs i v whole within is has so_far =
     let rest : Option (List Members) = all_of kind_of (items_view (drop (i + 1) vs)) in
     one_more before x rest
-    ∙ ap (λ o. option_map (λ more. with_all before (union_of more)) (o >>= λ z. option_map (λ zs. z ∷ zs) rest))
+    ∙ ap (λ o. option_map (λ more. in_either before (union_of more)) (o >>= λ z. option_map (λ zs. z ∷ zs) rest))
     (sym has)
-    ∙ ap (option_map (λ more. with_all before (union_of more)))
+    ∙ ap (option_map (λ more. in_either before (union_of more)))
     (sym (all_of-drop kind_of vs i v within is))
     ∙ so_far

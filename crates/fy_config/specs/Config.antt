@@ -117,8 +117,8 @@ first_outside f = option_map (λ part. part.0) (find (λ part. not part.1) (rang
 -- ---- names
 
 -- the place of the first item that fails a test, which is told of those before it
-abbrev pub first_place : {A : Type 0} → (List A → A → Bool) → List A → Option ℕ
-first_place fails xs =
+abbrev pub first_index : {A : Type 0} → (List A → A → Bool) → List A → Option ℕ
+first_index fails xs =
     option_map (λ x. x.0) (find (λ x. fails (take x.0 xs) x.1) (enumerate_from 0 xs))
 
 -- a process whose texts aren't names, or with the name of one before
@@ -143,9 +143,9 @@ bad_name_at part place = option_map (λ index. Name part index) place
 -- for each part its first bad name, where it has one
 abbrev pub bad_names : Fields → List (Option ConfigFault)
 bad_names f =
-    bad_name_at Process (first_place is_bad_process f.processes)
+    bad_name_at Process (first_index is_bad_process f.processes)
     ∷ bad_name_at Actor (position is_bad_actor f.actors)
-    ∷ bad_name_at Protect (first_place (is_bad_protection f.processes) f.protections)
+    ∷ bad_name_at Protect (first_index (is_bad_protection f.processes) f.protections)
     ∷ []
 
 -- the first bad name
@@ -172,12 +172,12 @@ IsFirstRefused texts index =
     × (text : List ℕ) × (slice_get texts index ≡ Some text) × IsRefused text
 
 -- the place of the process with a name
-abbrev pub place_of : List Locality → List ℕ → Option ℕ
-place_of processes name = position (λ p. bytes_eq p.process name) processes
+abbrev pub index_of : List Locality → List ℕ → Option ℕ
+index_of processes name = position (λ p. bytes_eq p.process name) processes
 
 -- the number of the process with a name, which is its place
 abbrev pub number_of : List Locality → List ℕ → ℕ
-number_of processes name = unwrap_or (place_of processes name) 0
+number_of processes name = unwrap_or (index_of processes name) 0
 
 -- the grants of the actor with this number
 abbrev pub grants_of : ℕ × (Role × List (Members × Scope)) → List Grant
@@ -237,11 +237,11 @@ ConfigOf bytes answer =
     × (ms : Entries) × IsDocument bytes ms × DocumentIs ms answer
 
 -- what holds of an answer, save where want of memory takes its place
-abbrev pub UnlessMemory : {A : Type 0}
+abbrev pub UnlessOom : {A : Type 0}
     → (Result A ConfigFault → Type 0) → Result A ConfigFault → Type 0
-UnlessMemory Holds (Err NoMemory) = Unit {0}
-UnlessMemory Holds answer = Holds answer
+UnlessOom Holds (Err NoMemory) = Unit {0}
+UnlessOom Holds answer = Holds answer
 
 -- an answer is what the bytes are; want of memory can take the place of any
 abbrev pub Answers : List ℕ → Result Setup ConfigFault → Type 0
-Answers bytes answer = UnlessMemory (ConfigOf bytes) answer
+Answers bytes answer = UnlessOom (ConfigOf bytes) answer

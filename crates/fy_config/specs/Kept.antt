@@ -17,7 +17,7 @@ use Rattle.fy_config.specs.Given.{process_given, actor_given, actor_kept, protec
 use Rattle.fy_config.specs.Config.{Fields, limit_given}
 
 -- the fields are those that were given, with names in place of texts
-pub record Keeps (given : GivenFields) (f : Fields) : Type 0 where
+pub record HoldsFields (given : GivenFields) (f : Fields) : Type 0 where
   pub journal_limit : given.journal_limit ≡ limit_given f.journal_limit
   pub policies : map (λ text. text.now) given.policies.items ≡ f.policies
   pub processes : given.processes.items ≡ map process_given f.processes
@@ -25,10 +25,10 @@ pub record Keeps (given : GivenFields) (f : Fields) : Type 0 where
   pub protections : given.protections.items ≡ map protection_given f.protections
 
 -- the answer is what the parts spell; want of memory can take the place of any
-abbrev pub AreKept : Result GivenFields ConfigFault → Result Fields ConfigFault → Type 0
-AreKept (Ok given) spelt = (f : Fields) × (spelt ≡ Ok f) × Keeps given f
-AreKept (Err NoMemory) spelt = Unit {0}
-AreKept (Err fault) spelt = spelt ≡ Err fault
+abbrev pub FieldsOrOom : Result GivenFields ConfigFault → Result Fields ConfigFault → Type 0
+FieldsOrOom (Ok given) spelt = (f : Fields) × (spelt ≡ Ok f) × HoldsFields given f
+FieldsOrOom (Err NoMemory) spelt = Unit {0}
+FieldsOrOom (Err fault) spelt = spelt ≡ Err fault
 
 -- how many grants the actors have in all
 abbrev pub grant_count : List GivenActor → ℕ

@@ -5,6 +5,6 @@ use Rattle.fy_config.specs.declared.fault.ConfigFault.{ConfigFault}
 use Rattle.fy_config.specs.Config.{ConfigOf}
 
 -- bytes are one setup, or have one fault
-abbrev pub ConfigIsOne : Type 0
-ConfigIsOne =
+abbrev pub ConfigIsUnambiguous : Type 0
+ConfigIsUnambiguous =
     (bytes : List ℕ) (a b : Result Setup ConfigFault) → ConfigOf bytes a → ConfigOf bytes b → a ≡ b

@@ -1,6 +1,6 @@
 -- what the texts of a file name, as the parts that are read after one another are told it
-use Rattle.std.specs.Prelude.{◌≡◌, ℕ, List, Bool, true, bytes_eq, is_some, Option, Some, None, option_map, Result, Ok, Err}
-use Rattle.std.specs.List.{list_any, list_all}
+use Rattle.std.specs.Prelude.{◌≡◌, ℕ, List, Bool, true, bytes_eq, is_some, map, Option, Some, None, option_map, Result, Ok, Err}
+use Rattle.std.specs.List.{list_any, list_all, flat_map, enumerate_from}
 use Rattle.fy_locality.specs.declared.locality.Locality.{Locality}
 use Rattle.fy_grants.specs.declared.grant.Grant.{Grant}
 use Rattle.fy_cluster.specs.Setup.{Setup, config_refusal}
@@ -9,7 +9,8 @@ use Rattle.fy_config.specs.declared.fault.Part.{Part}
 use Rattle.fy_config.specs.declared.fault.ConfigFault.{ConfigFault}
 use Rattle.fy_config.specs.declared.fault.ConfigFault.TheVariants.{TooLong, Toml, Field, Limit, Name, Policy, PolicyUnmet, NoMemory}
 use Rattle.fy_config.specs.declared.given.GivenGrant.{GivenGrant}
-use Rattle.fy_config.specs.Config.{bad_name_at, IsFirstRefused}
+use Rattle.fy_config.specs.declared.reading.Numbered.{Numbered}
+use Rattle.fy_config.specs.Config.{Fields, bad_name_at, first_bad_name, grants_of, protection_in, IsFirstRefused}
 
 -- a bad name at the first place of a part that is bad; want of memory can take its place
 abbrev pub IsNameFault : Part → Option ℕ → ConfigFault → Type 0
@@ -45,6 +46,18 @@ IsPolicyFault texts (Field part) = ⊥
 IsPolicyFault texts (Limit part) = ⊥
 IsPolicyFault texts (Name part index) = ⊥
 IsPolicyFault texts (PolicyUnmet index) = ⊥
+
+-- the parts are those of the file, with a number for each name
+pub record IsNumbered (f : Fields) (parts : Numbered) : Type 0 where
+  pub processes : parts.map ≡ f.processes
+  pub roles : parts.roles.items ≡ map (λ actor. actor.0) f.actors
+  pub grants : parts.grants.items ≡ flat_map grants_of (enumerate_from 0 f.actors)
+  pub protections : parts.protections.items ≡ map (protection_in f.processes) f.protections
+
+-- the numbered parts of a file, or its first bad name
+abbrev pub AreNumbered : Fields → Result Numbered ConfigFault → Type 0
+AreNumbered f (Ok parts) = (first_bad_name f ≡ None) × IsNumbered f parts
+AreNumbered f (Err fault) = first_bad_name f ≡ Some fault
 
 -- the configuration of a setup, or its first policy that isn't met
 abbrev pub IsMade : Setup → Result Setup ConfigFault → Type 0

@@ -9,7 +9,7 @@ use Rattle.fy_locality.specs.Key.{key_named}
 use Rattle.fy_locality.specs.Locality.{locality_of}
 use Rattle.fy_locality.specs.declared.key.Key.{Key}
 use Rattle.fy_locality.specs.declared.locality.Locality.{Locality}
-use Rattle.fy_kinds.specs.Kinds.{no_deed, with_all, set_named}
+use Rattle.fy_kinds.specs.Kinds.{no_deed, in_either, set_named}
 use Rattle.fy_kinds.specs.Members.{Members}
 use Rattle.fy_grants.specs.declared.grant.Scope.{Scope}
 use Rattle.fy_grants.specs.declared.grant.Scope.TheVariants.{All, Where}
@@ -86,7 +86,7 @@ kind_of d = as_str d >>= set_named
 -- the kinds of all sets together
 abbrev pub union_of : List Members → Members
 union_of [] = no_deed
-union_of (kinds ∷ more) = with_all kinds (union_of more)
+union_of (kinds ∷ more) = in_either kinds (union_of more)
 
 -- the set of the kinds that an array of words names
 abbrev pub kinds_at : List ℕ → Entries → Option Members

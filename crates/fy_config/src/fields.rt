@@ -3,7 +3,7 @@ ghost use Rattle.std.specs.Prelude.{◌≡◌, map, option_map, option_and_then,
 ghost use Rattle.std.specs.Option.{option_copied};
 ghost use Rattle.toml.specs.Data.{as_array, as_str, get_member};
 ghost use Rattle.fy_config.specs.Config.{array_at, limit_given, fields_of};
-ghost use Rattle.fy_config.specs.Kept.{AreKept};
+ghost use Rattle.fy_config.specs.Kept.{FieldsOrOom};
 ghost use Rattle.toml.specs.View.{view, table_view, items_view};
 ghost use Rattle.fy_config.specs.Given.{process_given, actor_given, actor_kept, protection_given};
 ghost use Rattle.fy_config.specs.Tables.{integer_at, list_if_any, all_of, process_of, actor_of, protection_of};
@@ -211,7 +211,7 @@ fn journal_limit_at(table: &Table) -> Option<Option<u32>>
 ///
 /// `Field` with the first part at fault, in the order of parts; `NoMemory`.
 pub fn fields_of<'t>(alloc: Global, table: &'t Table) -> Result<GivenFields<'t>, ConfigFault>
-    ensures { AreKept result (fields_of (table_view table.now)) }
+    ensures { FieldsOrOom result (fields_of (table_view table.now)) }
 {
     let Some(journal_limit) = journal_limit_at(table) else {
         return Err(ConfigFault::Field {

@@ -1,10 +1,10 @@
 //! Laws of what cluster files are.
-ghost use Rattle.fy_config.specs.Laws.{ConfigIsOne};
+ghost use Rattle.fy_config.specs.Laws.{ConfigIsUnambiguous};
 
 /// Bytes are one configuration, or have one fault.
 #[tactic(auto, using(crate::proofs::Once::config_once))]
-pub fn config_is_one()
-    ensures { ConfigIsOne }
+pub fn configs_are_unambiguous()
+    ensures { ConfigIsUnambiguous }
 {
     fy_policy::text_laws::reading_is_settled();
 }

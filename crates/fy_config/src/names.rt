@@ -10,7 +10,7 @@ ghost use Rattle.fy_locality.specs.declared.locality.Locality.{Locality};
 ghost use Rattle.fy_policy.specs.Reading.{Reads};
 ghost use Rattle.fy_config.specs.declared.fault.Part.TheVariants.{Process, Actor, Protect};
 ghost use Rattle.fy_config.specs.Given.{process_given, actor_given, actor_kept, protection_given};
-ghost use Rattle.fy_config.specs.Config.{first_place, is_bad_process, is_bad_actor, is_bad_protection, grants_of, place_of, protection_in, AreRead, IsRefused};
+ghost use Rattle.fy_config.specs.Config.{first_index, is_bad_process, is_bad_actor, is_bad_protection, grants_of, index_of, protection_in, AreRead, IsRefused};
 ghost use Rattle.fy_config.specs.Named.{NamesAre, is_bad_given, grant_by, have_scopes, IsPolicyFault};
 
 use crate::given::{GivenActor, GivenProtection};
@@ -53,7 +53,7 @@ fn push_process(map: &mut Map, process: Option<Locality>) -> Result<bool, AllocE
 pub fn map_of(alloc: Global, given: &[Option<Locality>]) -> Result<Map, ConfigFault>
     requires { length given.now ≤ MOST_PROCESSES }
     ensures { (texts : List Locality) → given.now ≡ map_list process_given texts
-        → NamesAre Process (first_place is_bad_process texts) (λ map. map ≡ texts) result }
+        → NamesAre Process (first_index is_bad_process texts) (λ map. map ≡ texts) result }
 {
     let mut map = Map::make(alloc);
     for (index, process) in given.iter().enumerate() {
@@ -137,7 +137,7 @@ pub fn grants_of(alloc: Global, actors: &[GivenActor]) -> Result<Vec<Grant>, Con
 
 /// The process with a name, where the name is known.
 fn process_named(map: &Map, name: Option<Name>) -> Option<ProcId>
-    ensures place { option_map (λ p. p.0) result ≡ option_and_then (place_of map.now) name }
+    ensures place { option_map (λ p. p.0) result ≡ option_and_then (index_of map.now) name }
     ensures small { IfSome result (λ p. p.0 < MOST_PROCESSES) }
 {
     map.names_differ();
@@ -168,9 +168,9 @@ pub fn protections_of(
     given: &[GivenProtection],
     map: &Map,
 ) -> Result<Vec<Protection>, ConfigFault>
-    requires { first_place is_bad_process map.now ≡ None }
+    requires { first_index is_bad_process map.now ≡ None }
     ensures { (texts : List (List ℕ × Members)) → given.now ≡ map_list protection_given texts
-        → NamesAre Protect (first_place (is_bad_protection map.now) texts)
+        → NamesAre Protect (first_index (is_bad_protection map.now) texts)
         (λ protections. protections.items ≡ map_list (protection_in map.now) texts) result }
 {
     map.names_differ();

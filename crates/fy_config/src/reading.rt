@@ -1,10 +1,10 @@
 //! Cluster files read from their bytes.
-ghost use Rattle.std.specs.Prelude.{◌≡◌, ◌<◌, ◌≤◌, true, nat_le, length, Err, IsUtf8};
+ghost use Rattle.std.specs.Prelude.{◌≡◌, ◌<◌, ◌≤◌, true, nat_le, length, None, Err, IsUtf8};
 ghost use Rattle.toml.specs.View.{table_view};
 ghost use Rattle.fy_cluster.specs.Setup.{setup_of, is_in_range};
-ghost use Rattle.fy_config.specs.Config.{Answers, DocumentIs, UnlessMemory};
-ghost use Rattle.fy_config.specs.Kept.{are_actors_within, first_given_outside, grant_count};
-ghost use Rattle.fy_config.specs.Named.{IsMade};
+ghost use Rattle.fy_config.specs.Config.{Fields, Answers, DocumentIs, UnlessOom};
+ghost use Rattle.fy_config.specs.Kept.{HoldsFields, are_actors_within, first_given_outside, grant_count};
+ghost use Rattle.fy_config.specs.Named.{AreNumbered, IsMade};
 ghost use Rattle.fy_config.specs.declared.limits.TheConstants.{MOST_FILE_BYTES};
 ghost use Rattle.fy_config.specs.declared.fault.ConfigFault.TheVariants.{TooLong, Toml};
 
@@ -63,6 +63,37 @@ fn first_outside(fields: &GivenFields) -> Option<Part>
     None
 }
 
+/// The parts of a file that name something, by the numbers of what they name.
+#[derive(Drop)]
+struct Numbered {
+    map: Map,
+    roles: Vec<Role>,
+    grants: Vec<Grant>,
+    protections: Vec<Protection>,
+}
+
+/// The parts of a file by the numbers of what they name.
+///
+/// # Errors
+///
+/// `Name` at the first bad name; `NoMemory`.
+fn number_parts(alloc: Global, fields: &GivenFields) -> Result<Numbered, ConfigFault>
+    requires inside { first_given_outside fields.now ≡ None }
+    requires spelt { (f : Fields) × HoldsFields fields.now f }
+    ensures { (f : Fields) → HoldsFields fields.now f → UnlessOom (AreNumbered f) result }
+{
+    let map = map_of(alloc, &fields.processes)?;
+    let roles = roles_of(alloc, &fields.actors)?;
+    let grants = grants_of(alloc, &fields.actors)?;
+    let protections = protections_of(alloc, &fields.protections, &map)?;
+    Ok(Numbered {
+        map,
+        roles,
+        grants,
+        protections,
+    })
+}
+
 /// The configuration of parts that are in their ranges.
 ///
 /// # Errors
@@ -90,16 +121,18 @@ fn config_made(
 
 /// The configuration of a document.
 fn config_of(alloc: Global, table: &Table) -> Result<Config, ConfigFault>
-    ensures { UnlessMemory (DocumentIs (table_view table.now)) result }
+    ensures { UnlessOom (DocumentIs (table_view table.now)) result }
 {
     let fields = fields_of(alloc, table)?;
     if let Some(part) = first_outside(&fields) {
         return Err(ConfigFault::Limit { part });
     }
-    let map = map_of(alloc, &fields.processes)?;
-    let roles = roles_of(alloc, &fields.actors)?;
-    let grants = grants_of(alloc, &fields.actors)?;
-    let protections = protections_of(alloc, &fields.protections, &map)?;
+    let Numbered {
+        map,
+        roles,
+        grants,
+        protections,
+    } = number_parts(alloc, &fields)?;
     let policies = policies_of(alloc, &fields.policies)?;
     let Some(limit) = fields.journal_limit else {
         unreachable!();

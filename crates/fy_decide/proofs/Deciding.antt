@@ -7,11 +7,12 @@ use Rattle.std.specs.FinSet as sets
 use Rattle.std.specs.Cmp.{nat_cmp_total, unsigned_tied}
 use Rattle.fy_locality.specs.declared.locality.Locality.{Locality}
 use Rattle.fy_policy.specs.Tree.{Tree, IsPolicy}
+use Rattle.fy_policy.specs.Laws.{EmptySatisfiesNone, MoreSatisfies, TestIsSatisfaction}
 use Rattle.fy_policy.specs.Sat.{Sat, satisfies}
 use Rattle.fy_decide.specs.declared.dead_book.Loss.{Loss}
 use Rattle.fy_decide.specs.declared.dead_book.Loss.TheVariants.{Emptied, Gone}
-use Rattle.fy_decide.specs.Losses.{AreShort, AreSatisfied, all_short, all_satisfied, with_set, without_set, everyone, MayDestroy, may_destroy}
-use Rattle.fy_decide.specs.DeadBook.{Casualties, IsSafe, healed}
+use Rattle.fy_decide.specs.Safety.{AreShort, AreSatisfied, all_short, all_satisfied, with_set, without_set, everyone, MayDestroy, may_destroy}
+use Rattle.fy_decide.specs.DeadBook.{Losses, IsSafe, healed}
 
 pub union_is : (s t : sets.FinSet nat_cmp) → sets.contains (sets.union s t) ≡ with_set (sets.contains s) (sets.contains t)
 union_is s t = λ i p. sets.contains-union nat_cmp_total s t p i
@@ -19,19 +20,19 @@ union_is s t = λ i p. sets.contains-union nat_cmp_total s t p i
 pub difference_is : (s t : sets.FinSet nat_cmp) → sets.contains (sets.difference s t) ≡ without_set (sets.contains s) (sets.contains t)
 difference_is s t = λ i p. sets.contains-difference nat_cmp_total s t p i
 
-abbrev May : Casualties → sets.FinSet nat_cmp → Loss → Type 0
+abbrev May : Losses → sets.FinSet nat_cmp → Loss → Type 0
 May dead s loss = MayDestroy dead.processes dead.policies (sets.contains dead.destroyed) (sets.contains dead.left) (sets.contains s) loss
 
-abbrev may : Casualties → sets.FinSet nat_cmp → Loss → Bool
+abbrev may : Losses → sets.FinSet nat_cmp → Loss → Bool
 may dead s loss = may_destroy dead.processes dead.policies (sets.contains dead.destroyed) (sets.contains dead.left) (sets.contains s) loss
 
-abbrev Short : Casualties → sets.FinSet nat_cmp → Type 0
+abbrev Short : Losses → sets.FinSet nat_cmp → Type 0
 Short dead s = AreShort dead.processes dead.policies (sets.contains (sets.union dead.destroyed s))
 
-abbrev Enough : Casualties → sets.FinSet nat_cmp → Type 0
+abbrev Enough : Losses → sets.FinSet nat_cmp → Type 0
 Enough dead s = AreSatisfied dead.processes dead.policies (sets.contains (sets.difference dead.left s))
 
-module _ (dead : Casualties) (s : sets.FinSet nat_cmp) where
+module _ (dead : Losses) (s : sets.FinSet nat_cmp) where
   short : Short dead s → AreShort dead.processes dead.policies (with_set (sets.contains dead.destroyed) (sets.contains s))
   short = subst (λ t. AreShort dead.processes dead.policies t) (union_is dead.destroyed s)
 
@@ -106,14 +107,14 @@ second true c e = absurd (true≢false (sym e))
 second false c e = e
 
 -- a set is short of each policy that a larger one is short of
-short_of_less : ((processes : List Locality) (policy : Tree) (s t : ℕ → Bool) → ((p : ℕ) → s p ≡ true → t p ≡ true) → Sat processes policy s → Sat processes policy t)
+short_of_less : MoreSatisfies
     → (processes : List Locality) (policies : List Tree) (s t : ℕ → Bool) → ((p : ℕ) → s p ≡ true → t p ≡ true) → AreShort processes policies t → AreShort processes policies s
 short_of_less more processes [] s t less short = tt
 short_of_less more processes (q ∷ qs) s t less short = (λ sat. short.0 (more processes q s t less sat), short_of_less more processes qs s t less short.1)
 
 -- a heal keeps a dead book safe
-pub IsSafe-healed : ((processes : List Locality) (policy : Tree) (s t : ℕ → Bool) → ((p : ℕ) → s p ≡ true → t p ≡ true) → Sat processes policy s → Sat processes policy t)
-    → (dead : Casualties) (p : ℕ) → IsSafe dead → IsSafe (healed p dead)
+pub IsSafe-healed : MoreSatisfies
+    → (dead : Losses) (p : ℕ) → IsSafe dead → IsSafe (healed p dead)
 IsSafe-healed more dead p safe = record {
   short = short_of_less more dead.processes dead.policies _ _ (λ q there. second (eqb q p) (sets.contains dead.destroyed q) (sym (without q) ∙ there)) safe.short;
   satisfied = safe.satisfied;
@@ -132,7 +133,7 @@ none_found t i (x ∷ xs) e = go (λ h. none_found t (i + 1) xs h) (t x) refl e
     go later false is h = (is, later h)
 
 pub each_satisfied : (processes : List Locality) (policies : List Tree) (s : ℕ → Bool)
-    → ((processes : List Locality) (policy : Tree) (s : ℕ → Bool) → (satisfies processes policy s ≡ true) ↔ Sat processes policy s)
+    → TestIsSatisfaction
     → AllByRecursion (λ P. not (satisfies processes P s) ≡ false) policies → AreSatisfied processes policies s
 each_satisfied processes [] s law h = tt
 each_satisfied processes (q ∷ qs) s law h = ((law processes q s).0 (turned (satisfies processes q s) h.0), each_satisfied processes qs s law h.1)
@@ -143,7 +144,7 @@ each_satisfied processes (q ∷ qs) s law h = ((law processes q s).0 (turned (sa
 
 -- ---- a new dead book
 nobody_short : (processes : List Locality) (policies : List Tree) (s : ℕ → Bool)
-    → ((processes : List Locality) (policy : Tree) (s : ℕ → Bool) → IsPolicy policy → ((p : ℕ) → s p ≡ false) → Sat processes policy s → ⊥)
+    → EmptySatisfiesNone
     → ((p : ℕ) → s p ≡ false) → AllByRecursion (λ P. IsPolicy P × Sat processes P (everyone processes)) policies → AreShort processes policies s
 nobody_short processes [] s law empty met = tt
 nobody_short processes (q ∷ qs) s law empty met = (λ sat. law processes q s met.0.0 empty sat, nobody_short processes qs s law empty met.1)
@@ -154,7 +155,7 @@ each_met processes (q ∷ qs) met = (met.0.1, each_met processes qs met.1)
 
 -- nobody destroyed and everyone left, where all processes satisfy each policy
 pub IsSafe-new : (processes : List Locality) (policies : List Tree) (destroyed left : sets.FinSet nat_cmp)
-    → ((processes : List Locality) (policy : Tree) (s : ℕ → Bool) → IsPolicy policy → ((p : ℕ) → s p ≡ false) → Sat processes policy s → ⊥)
+    → EmptySatisfiesNone
     → destroyed ≡ sets.empty → ((q : ℕ) → sets.contains left q ≡ everyone processes q) → AllByRecursion (λ P. IsPolicy P × Sat processes P (everyone processes)) policies
     → IsSafe (record { processes = processes; policies = policies; destroyed = destroyed; left = left })
 IsSafe-new processes policies destroyed left none nobody all met = record {

@@ -17,13 +17,14 @@ use Rattle.fy_kinds.specs.declared.kind.Kind.{Kind}
 use Rattle.fy_kinds.specs.declared.kind.Kind.TheVariants.{RebootProcess, Reboot, RebootAndDelete, KillInstantly}
 use Rattle.fy_kinds.specs.Orders.{Order}
 use Rattle.fy_grants.specs.Rights.{Rights, grants_of, protections_of, is_covered, is_protected}
-use Rattle.fy_decide.specs.DeadBook.{Casualties}
-use Rattle.fy_decide.specs.Verdicts.{Situation, situation_of, numbers, least, first_rule, leave_rules, loss_rules, bar, verdict, hardest, hardest_first, is_allowed, targets, loss_of}
+use Rattle.fy_decide.specs.DeadBook.{Losses}
+use Rattle.fy_decide.specs.Verdicts.{Situation, situation_of, numbers, least, first_rule, permission_rules, loss_rules, bar, verdict, hardest, hardest_first, is_allowed, targets, loss_of}
 use Rattle.fy_decide.specs.declared.dead_book.Loss.{Loss}
 use Rattle.fy_decide.specs.declared.dead_book.Loss.TheVariants.{Emptied, Gone}
-use Rattle.fy_decide.specs.Losses.{AreShort, AreSatisfied, MayDestroy, with_set, without_set}
+use Rattle.fy_decide.specs.Safety.{AreShort, AreSatisfied, MayDestroy, with_set, without_set}
 use Rattle.fy_decide.proofs.Deciding.{none_found, each_satisfied}
 use Rattle.fy_policy.specs.Tree.{Tree}
+use Rattle.fy_policy.specs.Laws.{TestIsSatisfaction}
 use Rattle.fy_policy.specs.Sat.{Sat, satisfies}
 use Rattle.fy_locality.specs.declared.locality.Locality.{Locality}
 use Rattle.std.proofs.lemmas.Iterator.Adapters.{position_from-zero}
@@ -98,23 +99,23 @@ module _ (law : FirstFound) (situation : Situation) (deed : Deed) (s : ℕ → B
   abbrev protected : Option Rule
   protected = option_map Protected (least situation s (λ p. situation.is_protected p deed))
 
-  pub leave_untargeted : list_any s (numbers situation) ≡ false → Some NoTarget ≡ first_rule (leave_rules situation deed s)
+  pub leave_untargeted : list_any s (numbers situation) ≡ false → Some NoTarget ≡ first_rule (permission_rules situation deed s)
   leave_untargeted e = ap (λ c. first_rule (cond c None (Some NoTarget) ∷ no_grant ∷ protected ∷ [])) (sym e)
 
-  some_target : list_any s (numbers situation) ≡ true → first_rule (leave_rules situation deed s) ≡ first_rule (no_grant ∷ protected ∷ [])
+  some_target : list_any s (numbers situation) ≡ true → first_rule (permission_rules situation deed s) ≡ first_rule (no_grant ∷ protected ∷ [])
   some_target e = ap (λ c. first_rule (cond c None (Some NoTarget) ∷ no_grant ∷ protected ∷ [])) e
 
-  pub leave_uncovered : list_any s (numbers situation) ≡ true → (u : Option ProcId) (p : ProcId) → LeastWith s (λ q. not (granted q)) u → u ≡ Some p → Some (NoGrant p) ≡ first_rule (leave_rules situation deed s)
+  pub leave_uncovered : list_any s (numbers situation) ≡ true → (u : Option ProcId) (p : ProcId) → LeastWith s (λ q. not (granted q)) u → u ≡ Some p → Some (NoGrant p) ≡ first_rule (permission_rules situation deed s)
   leave_uncovered any u p found is = sym (some_target any ∙ ap (λ r. first_rule (option_map NoGrant r ∷ protected ∷ [])) (least_is (λ q. not (granted q)) u found ∙ is))
 
-  pub leave_covered : list_any s (numbers situation) ≡ true → (u b : Option ProcId) → LeastWith s (λ q. not (granted q)) u → u ≡ None → LeastWith s (λ q. situation.is_protected q deed) b → first_rule (option_map Protected b ∷ []) ≡ first_rule (leave_rules situation deed s)
+  pub leave_covered : list_any s (numbers situation) ≡ true → (u b : Option ProcId) → LeastWith s (λ q. not (granted q)) u → u ≡ None → LeastWith s (λ q. situation.is_protected q deed) b → first_rule (option_map Protected b ∷ []) ≡ first_rule (permission_rules situation deed s)
   leave_covered any u b found is barred =
       sym (some_target any
       ∙ ap (λ r. first_rule (option_map NoGrant r ∷ protected ∷ [])) (least_is (λ q. not (granted q)) u found ∙ is)
       ∙ ap (λ r. first_rule (option_map Protected r ∷ [])) (least_is (λ q. situation.is_protected q deed) b barred))
 
 -- the same from what the two books answer of their processes and the set of one deed
-module _ (law : FirstFound) (one : (kinds : KindSet) (deed : Deed) → has_some kinds (only deed) ≡ has kinds deed) (dead : Casualties) (rights : Rights) (actor : ℕ) (deed : Deed) (kinds : KindSet) (same : rights.processes ≡ dead.processes) (single : kinds ≡ only deed)
+module _ (law : FirstFound) (one : (kinds : KindSet) (deed : Deed) → has_some kinds (only deed) ≡ has kinds deed) (dead : Losses) (rights : Rights) (actor : ℕ) (deed : Deed) (kinds : KindSet) (same : rights.processes ≡ dead.processes) (single : kinds ≡ only deed)
     (s : sets.FinSet nat_cmp) (small : (q : ℕ) → sets.contains s q ≡ true → q < length dead.processes) (no_target : Bool) (some : no_target ≡ false) (tested : (no_target ≡ true) ↔ (s ≡ sets.empty)) where
   there : list_any (sets.contains s) (range_with_len 0 (length dead.processes)) ≡ true
   there = somebody s (length dead.processes) small no_target some tested
@@ -124,23 +125,23 @@ module _ (law : FirstFound) (one : (kinds : KindSet) (deed : Deed) → has_some 
       subst (λ ps. LeastWith (sets.contains s) (λ q. not (is_covered ps (grants_of rights actor) (only deed) q)) u) same
       (subst (λ ks. LeastWith (sets.contains s) (λ q. not (is_covered rights.processes (grants_of rights actor) ks q)) u) single found)
 
-  pub uncovered_by : (u : Option ProcId) (p : ProcId) → LeastWith (sets.contains s) (λ q. not (is_covered rights.processes (grants_of rights actor) kinds q)) u → u ≡ Some p → Some (NoGrant p) ≡ first_rule (leave_rules (situation_of dead rights actor) deed (sets.contains s))
+  pub uncovered_by : (u : Option ProcId) (p : ProcId) → LeastWith (sets.contains s) (λ q. not (is_covered rights.processes (grants_of rights actor) kinds q)) u → u ≡ Some p → Some (NoGrant p) ≡ first_rule (permission_rules (situation_of dead rights actor) deed (sets.contains s))
   uncovered_by u p found is = leave_uncovered law (situation_of dead rights actor) deed (sets.contains s) small there u p (as_asked u found) is
 
-  pub barred_by : (u b found : Option ProcId) → LeastWith (sets.contains s) (λ q. not (is_covered rights.processes (grants_of rights actor) kinds q)) u → u ≡ None → LeastWith (sets.contains s) (is_protected rights kinds) b → b ≡ found → first_rule (option_map Protected found ∷ []) ≡ first_rule (leave_rules (situation_of dead rights actor) deed (sets.contains s))
+  pub barred_by : (u b found : Option ProcId) → LeastWith (sets.contains s) (λ q. not (is_covered rights.processes (grants_of rights actor) kinds q)) u → u ≡ None → LeastWith (sets.contains s) (is_protected rights kinds) b → b ≡ found → first_rule (option_map Protected found ∷ []) ≡ first_rule (permission_rules (situation_of dead rights actor) deed (sets.contains s))
   barred_by u b found none is barred answer =
       ap (λ o. first_rule (option_map Protected o ∷ [])) (sym answer)
       ∙ leave_covered law (situation_of dead rights actor) deed (sets.contains s) small there u b (as_asked u none) is
       (subst (λ t. LeastWith (sets.contains s) t b) (λ i q. (ap (has_some (protections_of rights q)) single ∙ one (protections_of rights q) deed) i) barred)
 
 -- ---- the bar of a kind
-pub bar_of_leave : (situation : Situation) (deed : Deed) (s : ℕ → Bool) (found : Option Rule) (rule : Rule) → found ≡ first_rule (leave_rules situation deed s) → found ≡ Some rule → Some rule ≡ bar situation deed s
+pub bar_of_leave : (situation : Situation) (deed : Deed) (s : ℕ → Bool) (found : Option Rule) (rule : Rule) → found ≡ first_rule (permission_rules situation deed s) → found ≡ Some rule → Some rule ≡ bar situation deed s
 unfolding bar
-bar_of_leave situation deed s found rule is some = sym (first_of_both (leave_rules situation deed s) (loss_rules situation deed s) ∙ ap (λ r. option_or r (first_rule (loss_rules situation deed s))) (sym is ∙ some))
+bar_of_leave situation deed s found rule is some = sym (first_of_both (permission_rules situation deed s) (loss_rules situation deed s) ∙ ap (λ r. option_or r (first_rule (loss_rules situation deed s))) (sym is ∙ some))
 
-pub bar_of_loss : (situation : Situation) (deed : Deed) (s : ℕ → Bool) (found lost : Option Rule) → found ≡ first_rule (leave_rules situation deed s) → found ≡ None → lost ≡ first_rule (loss_rules situation deed s) → lost ≡ bar situation deed s
+pub bar_of_loss : (situation : Situation) (deed : Deed) (s : ℕ → Bool) (found lost : Option Rule) → found ≡ first_rule (permission_rules situation deed s) → found ≡ None → lost ≡ first_rule (loss_rules situation deed s) → lost ≡ bar situation deed s
 unfolding bar
-bar_of_loss situation deed s found lost is none then = sym (first_of_both (leave_rules situation deed s) (loss_rules situation deed s) ∙ ap (λ r. option_or r (first_rule (loss_rules situation deed s))) (sym is ∙ none) ∙ sym then)
+bar_of_loss situation deed s found lost is none then = sym (first_of_both (permission_rules situation deed s) (loss_rules situation deed s) ∙ ap (λ r. option_or r (first_rule (loss_rules situation deed s))) (sym is ∙ none) ∙ sym then)
 
 -- ---- the verdict
 first_of : {X : Type 0} (b : Bool) (x y : X) → b ≡ true → cond b x y ≡ x
@@ -197,11 +198,11 @@ found_passes t (z ∷ zs) x e = go (found_passes t zs x) (t z) refl e
     go later true is here = let same : z ≡ x = cc in ap t (sym same) ∙ is
     go later false is here = later here
 
-both_true : (a b : Bool) → (a && b) ≡ true → (a ≡ true) × (b ≡ true)
+pub both_true : (a b : Bool) → (a && b) ≡ true → (a ≡ true) × (b ≡ true)
 both_true true b e = (refl, e)
 both_true false b e = absurd (true≢false (sym e))
 
-none_of : {X : Type 0} (o : Option X) → is_none o ≡ true → o ≡ None
+pub none_of : {X : Type 0} (o : Option X) → is_none o ≡ true → o ≡ None
 none_of None e = refl
 none_of (Some x) e = absurd (true≢false (sym e))
 
@@ -220,9 +221,9 @@ or_none : {X : Type 0} (o : Option X) → option_or o None ≡ o
 or_none None = refl
 or_none (Some x) = refl
 
-pub bar_of_clog : (situation : Situation) (s : ℕ → Bool) → first_rule (leave_rules situation Clogging s) ≡ bar situation Clogging s
+pub bar_of_clog : (situation : Situation) (s : ℕ → Bool) → first_rule (permission_rules situation Clogging s) ≡ bar situation Clogging s
 unfolding bar
-bar_of_clog situation s = sym (first_of_both (leave_rules situation Clogging s) (loss_rules situation Clogging s) ∙ or_none _)
+bar_of_clog situation s = sym (first_of_both (permission_rules situation Clogging s) (loss_rules situation Clogging s) ∙ or_none _)
 
 -- ---- what has no bar may be destroyed
 neither : (a b : Option Rule) → option_or a b ≡ None → b ≡ None
@@ -231,7 +232,7 @@ neither (Some x) b e = absurd (let y : ⊥ = cc in y)
 
 no_loss : (situation : Situation) (deed : Deed) (s : ℕ → Bool) → bar situation deed s ≡ None → first_rule (loss_rules situation deed s) ≡ None
 unfolding bar
-no_loss situation deed s e = neither (first_rule (leave_rules situation deed s)) _ (sym (first_of_both (leave_rules situation deed s) (loss_rules situation deed s)) ∙ e)
+no_loss situation deed s e = neither (first_rule (permission_rules situation deed s)) _ (sym (first_of_both (permission_rules situation deed s) (loss_rules situation deed s)) ∙ e)
 
 abbrev too_many : Situation → (ℕ → Bool) → Option ℕ
 too_many situation s = position (λ P. satisfies situation.processes P (with_set situation.destroyed s)) situation.policies
@@ -248,13 +249,13 @@ not_few None None e = refl
 not_few None (Some i) e = absurd (let y : ⊥ = cc in y)
 not_few (Some i) few e = absurd (let y : ⊥ = cc in y)
 
-each_short : (processes : List Locality) (policies : List Tree) (s : ℕ → Bool)
-    → ((processes : List Locality) (policy : Tree) (s : ℕ → Bool) → (satisfies processes policy s ≡ true) ↔ Sat processes policy s)
+pub each_short : (processes : List Locality) (policies : List Tree) (s : ℕ → Bool)
+    → TestIsSatisfaction
     → AllByRecursion (λ P. satisfies processes P s ≡ false) policies → AreShort processes policies s
 each_short processes [] s law h = tt
 each_short processes (q ∷ qs) s law h = (λ sat. absurd (true≢false (sym ((law processes q s).1 sat) ∙ h.0)), each_short processes qs s law h.1)
 
-module _ (law : (processes : List Locality) (policy : Tree) (s : ℕ → Bool) → (satisfies processes policy s ≡ true) ↔ Sat processes policy s) (situation : Situation) (s : ℕ → Bool) where
+module _ (law : TestIsSatisfaction) (situation : Situation) (s : ℕ → Bool) where
   short_where : too_many situation s ≡ None → AreShort situation.processes situation.policies (with_set situation.destroyed s)
   short_where e = each_short situation.processes situation.policies _ law (none_found _ 0 situation.policies (sym (position_from-zero (λ P. satisfies situation.processes P (with_set situation.destroyed s)) situation.policies) ∙ e))
 
@@ -273,5 +274,5 @@ module _ (law : (processes : List Locality) (policy : Tree) (s : ℕ → Bool) �
       some_same : Some Gone ≡ Some loss → Gone ≡ loss
       some_same e = cc
 
-pub struck_may : ((processes : List Locality) (policy : Tree) (s : ℕ → Bool) → (satisfies processes policy s ≡ true) ↔ Sat processes policy s) → (situation : Situation) (order : Order) (kind : Kind) (loss : Loss) → (verdict situation order).struck ≡ Some kind → loss_of kind ≡ Some loss → MayDestroy situation.processes situation.policies situation.destroyed situation.left (those situation order) loss
+pub struck_may : TestIsSatisfaction → (situation : Situation) (order : Order) (kind : Kind) (loss : Loss) → (verdict situation order).struck ≡ Some kind → loss_of kind ≡ Some loss → MayDestroy situation.processes situation.policies situation.destroyed situation.left (those situation order) loss
 struck_may law situation order kind loss struck brings = may_where_free law situation (those situation order) kind loss brings (strikes_free situation order kind struck)

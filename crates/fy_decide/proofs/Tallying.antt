@@ -12,12 +12,13 @@ use Rattle.std.specs.Vec.{with_items}
 use Rattle.fy_locality.specs.declared.locality.Locality.{Locality}
 use Rattle.fy_locality.specs.declared.ProcId.{ProcId}
 use Rattle.fy_policy.specs.Counted.{Tallied}
+use Rattle.fy_policy.specs.Laws.{TestIsSatisfaction}
 use Rattle.fy_policy.specs.Sat.{Sat, satisfies}
 use Rattle.fy_policy.specs.Tree.{Tree}
 use Rattle.fy_decide.specs.declared.dead_book.Loss.{Loss}
 use Rattle.fy_decide.specs.declared.dead_book.Loss.TheVariants.{Emptied, Gone}
-use Rattle.fy_decide.specs.DeadBook.{Casualties, MayLose, may_lose}
-use Rattle.fy_decide.specs.Losses.{AreShort, AreSatisfied, all_short, all_satisfied, first_satisfied, first_short, with_set, without_set}
+use Rattle.fy_decide.specs.DeadBook.{Losses, MayLose, may_lose}
+use Rattle.fy_decide.specs.Safety.{AreShort, AreSatisfied, all_short, all_satisfied, first_satisfied, first_short, with_set, without_set}
 use Rattle.fy_decide.specs.Tallies.{tallied, with_all, without_all}
 use Rattle.fy_decide.proofs.Deciding.{union_is, difference_is}
 
@@ -157,7 +158,7 @@ position_or_len-map f g (x ∷ xs) = ap (λ n. cond (not (f (g x))) (1 + n) 0) (
 position-map : {X Y : Type 0} (f : Y → Bool) (g : X → Y) (xs : List X) → position f (map g xs) ≡ position (λ x. f (g x)) xs
 position-map f g xs = λ i. cond (ltb (position_or_len-map f g xs i) (length-map xs g i)) (Some (position_or_len-map f g xs i)) None
 
-module _ (dead : Casualties) (s : sets.FinSet nat_cmp) where
+module _ (dead : Losses) (s : sets.FinSet nat_cmp) where
   pub first-with : (tallies : List Tallied) → tallies ≡ tallied dead.processes dead.policies dead.destroyed
       → position (λ t. satisfies t.processes t.policy (sets.contains (sets.union t.set s))) tallies ≡ first_satisfied dead.processes dead.policies (with_set (sets.contains dead.destroyed) (sets.contains s))
   first-with tallies are =
@@ -188,7 +189,7 @@ pub not-not : (b : Bool) → not (not b) ≡ b
 not-not true = refl
 not-not false = refl
 
-module _ (dead : Casualties) (s : ℕ → Bool) where
+module _ (dead : Losses) (s : ℕ → Bool) where
   pub many_found : is_some (first_satisfied dead.processes dead.policies (with_set (sets.contains dead.destroyed) s)) ≡ not (all_short dead.processes dead.policies (with_set (sets.contains dead.destroyed) s))
   many_found = found (λ P. satisfies dead.processes P (with_set (sets.contains dead.destroyed) s)) dead.policies
 
@@ -243,7 +244,7 @@ fails A false law = (λ e it. true≢false (sym (law.1 it)), λ none. refl)
 pairs : (A B : Type 0) (a b : Bool) → (a ≡ true) ↔ A → (b ≡ true) ↔ B → ((a && b) ≡ true) ↔ (A × B)
 pairs A B a b f g = (λ e. (f.0 (and-first a b e), g.0 (and-second a b e)), λ h. and-both a b (f.1 h.0) (g.1 h.1))
 
-module _ (law : (processes : List Locality) (policy : Tree) (s : ℕ → Bool) → (satisfies processes policy s ≡ true) ↔ Sat processes policy s) where
+module _ (law : TestIsSatisfaction) where
   short-law : (processes : List Locality) (policies : List Tree) (s : ℕ → Bool) → (all_short processes policies s ≡ true) ↔ AreShort processes policies s
   short-law processes [] s = (λ e. tt, λ e. refl)
   short-law processes (q ∷ qs) s = pairs _ _ (not (satisfies processes q s)) (all_short processes qs s) (fails _ (satisfies processes q s) (law processes q s)) (short-law processes qs s)
@@ -252,9 +253,9 @@ module _ (law : (processes : List Locality) (policy : Tree) (s : ℕ → Bool) �
   enough-law processes [] s = (λ e. tt, λ e. refl)
   enough-law processes (q ∷ qs) s = pairs _ _ (satisfies processes q s) (all_satisfied processes qs s) (law processes q s) (enough-law processes qs s)
 
-  may-law : (dead : Casualties) (s : ℕ → Bool) (loss : Loss) → (may_lose dead s loss ≡ true) ↔ MayLose dead s loss
+  may-law : (dead : Losses) (s : ℕ → Bool) (loss : Loss) → (may_lose dead s loss ≡ true) ↔ MayLose dead s loss
   may-law dead s Emptied = short-law dead.processes dead.policies (with_set (sets.contains dead.destroyed) s)
   may-law dead s Gone = pairs _ _ _ _ (short-law dead.processes dead.policies (with_set (sets.contains dead.destroyed) s)) (enough-law dead.processes dead.policies (without_set (sets.contains dead.left) s))
 
-  pub may-of-test : (dead : Casualties) (s : ℕ → Bool) (loss : Loss) (answer : Bool) → answer ≡ may_lose dead s loss → (answer ≡ true) ↔ MayLose dead s loss
+  pub may-of-test : (dead : Losses) (s : ℕ → Bool) (loss : Loss) (answer : Bool) → answer ≡ may_lose dead s loss → (answer ≡ true) ↔ MayLose dead s loss
   may-of-test dead s loss answer is = (λ e. (may-law dead s loss).0 (sym is ∙ e), λ h. is ∙ (may-law dead s loss).1 h)

@@ -1,5 +1,6 @@
 pub mod DeadBook
-pub mod Losses
+pub mod Hardest
+pub mod Safety
 pub mod Tallies
 pub mod Verdicts
 pub use Rattle.fy_locality.specs.Locality

@@ -5,7 +5,7 @@ use Rattle.std.specs.FinSet as sets
 use Rattle.fy_locality.specs.declared.locality.Locality.{Locality}
 use Rattle.fy_policy.specs.Counted.{Tallied}
 use Rattle.fy_policy.specs.Tree.{Tree}
-use Rattle.fy_decide.specs.DeadBook.{Casualties, IsSafe}
+use Rattle.fy_decide.specs.DeadBook.{Losses, IsSafe}
 
 -- one set, by each policy
 abbrev pub tallied : List Locality → List Tree → sets.FinSet nat_cmp → List Tallied
@@ -22,7 +22,7 @@ without_all s tally = record tally { set = sets.difference tally.set s }
 
 -- a dead book with its tallies: it is safe, and by each policy there is a tally of the destroyed
 -- and one of those left
-pub record IsBook (dead : Casualties) (destroyed left : List Tallied) : Type 0 where
+pub record IsTalliedBook (dead : Losses) (destroyed left : List Tallied) : Type 0 where
   pub safe : IsSafe dead
   pub destroyed_agree : destroyed ≡ tallied dead.processes dead.policies dead.destroyed
   pub left_agree : left ≡ tallied dead.processes dead.policies dead.left

@@ -19,8 +19,8 @@ use Rattle.fy_grants.specs.Least.{least_with}
 use Rattle.fy_grants.specs.Rights.{Rights, grants_of, protections_of, is_covered}
 use Rattle.fy_decide.specs.declared.dead_book.Loss.{Loss}
 use Rattle.fy_decide.specs.declared.dead_book.Loss.TheVariants.{Emptied, Gone}
-use Rattle.fy_decide.specs.DeadBook.{Casualties}
-use Rattle.fy_decide.specs.Losses.{MayDestroy, with_set, without_set, first_satisfied, first_short}
+use Rattle.fy_decide.specs.DeadBook.{Losses}
+use Rattle.fy_decide.specs.Safety.{MayDestroy, with_set, without_set, first_satisfied, first_short}
 
 -- all that an answer to an actor rests on: the actor's grants, who is protected from what, the
 -- destroyed, those left
@@ -33,7 +33,7 @@ pub record Situation : Type 0 where
   pub left : ℕ → Bool
 
 -- the situation of an actor by the dead book and the book of grants
-abbrev pub situation_of : Casualties → Rights → ℕ → Situation
+abbrev pub situation_of : Losses → Rights → ℕ → Situation
 situation_of dead rights actor = record {
   processes = dead.processes;
   policies = dead.policies;
@@ -61,8 +61,8 @@ abbrev pub is_granted_to : Situation → Deed → ℕ → Bool
 is_granted_to situation deed p = is_covered situation.processes situation.grants (only deed) p
 
 -- the first three rules, of leave: each where it bars the deed at these processes
-abbrev pub leave_rules : Situation → Deed → (ℕ → Bool) → List (Option Rule)
-leave_rules situation deed s =
+abbrev pub permission_rules : Situation → Deed → (ℕ → Bool) → List (Option Rule)
+permission_rules situation deed s =
     (if list_any s (numbers situation) then None else Some NoTarget)
     ∷ option_map NoGrant (least situation s (λ p. not (is_granted_to situation deed p)))
     ∷ option_map Protected (least situation s (λ p. situation.is_protected p deed))
@@ -95,7 +95,7 @@ first_rule (Some rule ∷ rest) = Some rule
 
 -- the bar of a deed: the first of the five rules that bars it, or none
 unfoldable pub bar : Situation → Deed → (ℕ → Bool) → Option Rule
-bar situation deed s = first_rule (leave_rules situation deed s ++ loss_rules situation deed s)
+bar situation deed s = first_rule (permission_rules situation deed s ++ loss_rules situation deed s)
 
 -- the kinds, hardest first
 abbrev pub hardest_first : List Kind

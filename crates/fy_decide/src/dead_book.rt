@@ -1,7 +1,7 @@
 //! Who is destroyed, who is left, and whether more may be destroyed.
 ghost use Rattle.std.specs.Prelude.{◌≡◌, ◌↔◌, ℕ, IsTrue, IfOk, IfErr, Some, None};
 ghost use Rattle.std.specs.FinSet as sets;
-ghost use Rattle.fy_decide.specs.Losses.{AreShort, AreSatisfied, AreMet, everyone, first_satisfied, first_short, first_unmet, with_set, without_set};
+ghost use Rattle.fy_decide.specs.Safety.{AreShort, AreSatisfied, AreMet, everyone, first_satisfied, first_short, first_unmet, with_set, without_set};
 ghost use Rattle.fy_decide.specs.DeadBook.{IsFresh, MayLose, may_lose, struck, MayHeal, healed};
 ghost use Rattle.fy_decide.specs.Verdicts.{targets, loss_of};
 
@@ -83,10 +83,10 @@ impl Model for DeadBook {
     ghost use Rattle.std.specs.Ordering.{nat_cmp};
     ghost use Rattle.fy_locality.specs.contracts.locality.Locality as e;
     ghost use Rattle.fy_policy.specs.TreeCode.{tree_code};
-    ghost use Rattle.fy_decide.specs.DeadBook.{Casualties};
-    ghost use Rattle.fy_decide.specs.Tallies.{IsBook};
+    ghost use Rattle.fy_decide.specs.DeadBook.{Losses};
+    ghost use Rattle.fy_decide.specs.Tallies.{IsTalliedBook};
 
-    ghost Value = { Casualties };
+    ghost Value = { Losses };
 
     ghost coded = { Prim.hlevel
         (codes, tree_code, e.the_row.coded, sets.code {R = nat_cmp} coded_ℕ) };
@@ -98,7 +98,7 @@ impl Model for DeadBook {
       left = b.left;
     } };
 
-    ghost invariant = { λ b. IsBook (record {
+    ghost invariant = { λ b. IsTalliedBook (record {
       processes = b.map.value;
       policies = b.policies.items;
       destroyed = b.destroyed;

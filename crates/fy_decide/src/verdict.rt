@@ -2,7 +2,7 @@
 ghost use Rattle.std.specs.Prelude.{◌≡◌, ◌<◌, ℕ, true, length};
 ghost use Rattle.std.specs.FinSet as sets;
 ghost use Rattle.fy_kinds.specs.Kinds.{Deed, Striking, Clogging, only};
-ghost use Rattle.fy_decide.specs.Verdicts.{situation_of, targets, bar, hardest, verdict, first_rule, leave_rules, loss_rules};
+ghost use Rattle.fy_decide.specs.Verdicts.{situation_of, targets, bar, hardest, verdict, first_rule, permission_rules, loss_rules};
 ghost use Rattle.fy_grants.specs.Rights.{Rights};
 
 use crate::DeadBook;
@@ -21,11 +21,11 @@ struct Case<'a> {
 
 impl Case<'_> {
     /// The bar of a deed by the first three rules, those of leave.
-    fn leave_bar(&self, kinds: KindSet, targets: &ProcSet) -> Option<Rule>
+    fn permission_bar(&self, kinds: KindSet, targets: &ProcSet) -> Option<Rule>
         requires members { (q : ℕ)
             → sets.contains targets.now q ≡ true → q < length self.now.dead.now.processes }
         ensures { (deed : Deed) → kinds ≡ only deed → result
-            ≡ first_rule (leave_rules
+            ≡ first_rule (permission_rules
             (situation_of self.now.dead.now self.now.book.now self.now.actor) deed
             (sets.contains targets.now)) }
     {
@@ -52,7 +52,7 @@ impl Case<'_> {
             ≡ bar (situation_of self.now.dead.now self.now.book.now self.now.actor) (Striking kind)
             (sets.contains targets.now) }
     {
-        match self.leave_bar(KindSet::of(kind), targets) {
+        match self.permission_bar(KindSet::of(kind), targets) {
             Some(rule) => Some(rule),
             None => loss_bar(self.dead, kind, targets),
         }
@@ -173,5 +173,5 @@ pub fn judge_clog_at(
         (targets dead.now.processes (sets.contains dead.now.left) target.now) }
 {
     let case = Case { dead, book, actor };
-    case.leave_bar(KindSet::of_clog(), found)
+    case.permission_bar(KindSet::of_clog(), found)
 }

@@ -7,28 +7,28 @@ use Rattle.std.proofs.lemmas.List.{take_more, drop_more, drop_all, take_all, tak
 use Rattle.std.proofs.Math.Seq.{take-append-add}
 use Rattle.std.specs.List.{SwappedAt}
 use Rattle.fy_disk.specs.declared.item.Item.{Item}
-use Rattle.fy_disk.specs.Disk.{passing, outlives, survivors, crashed}
+use Rattle.fy_disk.specs.Disk.{filter_by_place, outlives, survivors, crashed}
 
 some_item : Item
 some_item = record { rec = 0; payload = [] }
 
 -- `was` is worked into `now`: what is kept so far, and then what passes of the rest, is what is wanted
-pub record Works (test : ℕ → Bool) (was now : List Item) (kept at : ℕ) : Type 0 where
+pub record GatheredSoFar (test : ℕ → Bool) (was now : List Item) (kept at : ℕ) : Type 0 where
   pub behind : kept ≤ at
   pub long : length now ≡ length was
-  pub wanted : take kept now ++ passing test at (drop at now) ≡ passing test 0 was
+  pub wanted : take kept now ++ filter_by_place test at (drop at now) ≡ filter_by_place test 0 was
 
-passing_no : (test : ℕ → Bool) (place : ℕ) (x : Item) (xs : List Item) → test place ≡ false → passing test place (x ∷ xs) ≡ passing test (place + 1) xs
+passing_no : (test : ℕ → Bool) (place : ℕ) (x : Item) (xs : List Item) → test place ≡ false → filter_by_place test place (x ∷ xs) ≡ filter_by_place test (place + 1) xs
 passing_no test place x xs fails = rw fails refl
 
-passing_yes : (test : ℕ → Bool) (place : ℕ) (x : Item) (xs : List Item) → test place ≡ true → passing test place (x ∷ xs) ≡ x ∷ passing test (place + 1) xs
+passing_yes : (test : ℕ → Bool) (place : ℕ) (x : Item) (xs : List Item) → test place ≡ true → filter_by_place test place (x ∷ xs) ≡ x ∷ filter_by_place test (place + 1) xs
 passing_yes test place x xs passes = rw passes refl
 
 -- the item at `at` doesn't pass
-pub works_past : (test : ℕ → Bool) (was now : List Item) (kept at : ℕ) → Works test was now kept at → at < length now → test at ≡ false → Works test was now kept (at + 1)
-works_past test was now kept at works within fails =
-    let rest : passing test at (drop at now) ≡ passing test (at + 1) (drop (at + 1) now) =
-    ap (passing test at) (drop_more now at some_item within) ∙ passing_no test at _ (drop (at + 1) now) fails in
+pub gathered_past : (test : ℕ → Bool) (was now : List Item) (kept at : ℕ) → GatheredSoFar test was now kept at → at < length now → test at ≡ false → GatheredSoFar test was now kept (at + 1)
+gathered_past test was now kept at works within fails =
+    let rest : filter_by_place test at (drop at now) ≡ filter_by_place test (at + 1) (drop (at + 1) now) =
+    ap (filter_by_place test at) (drop_more now at some_item within) ∙ passing_no test at _ (drop (at + 1) now) fails in
     record {
       behind = omega (arith, works.behind);
       long = works.long;
@@ -36,9 +36,9 @@ works_past test was now kept at works within fails =
     }
 
 -- the item at `at` passes, and is swapped to where the kept ones end
-pub works_kept : (test : ℕ → Bool) (was now after : List Item) (kept at : ℕ) → Works test was now kept at → at < length now → test at ≡ true → SwappedAt now after kept at
-    → Works test was after (kept + 1) (at + 1)
-works_kept test was now after kept at works within passes swapped =
+pub gathered_kept : (test : ℕ → Bool) (was now after : List Item) (kept at : ℕ) → GatheredSoFar test was now kept at → at < length now → test at ≡ true → SwappedAt now after kept at
+    → GatheredSoFar test was after (kept + 1) (at + 1)
+gathered_kept test was now after kept at works within passes swapped =
     let x : Item = get_or now at some_item in
     let y : Item = get_or now kept some_item in
     let is : after ≡ set (set now kept x) at y = swapped.3 some_item in
@@ -49,30 +49,30 @@ works_kept test was now after kept at works within passes swapped =
     ap (drop (at + 1)) is ∙ drop-set-lt (at + 1) (set now kept x) at y (omega arith) ∙ drop-set-lt (at + 1) now kept x (omega arith) in
     let more : take (kept + 1) after ≡ take kept now ++ x ∷ [] =
     take_more after kept some_item (omega (arith, long)) ∙ ap₂ (λ xs z. xs ++ z ∷ []) front (swapped.0 some_item) in
-    let rest : passing test at (drop at now) ≡ x ∷ passing test (at + 1) (drop (at + 1) after) =
-    ap (passing test at) (drop_more now at some_item within)
+    let rest : filter_by_place test at (drop at now) ≡ x ∷ filter_by_place test (at + 1) (drop (at + 1) after) =
+    ap (filter_by_place test at) (drop_more now at some_item within)
     ∙ passing_yes test at x (drop (at + 1) now) passes
-    ∙ ap (λ xs. x ∷ passing test (at + 1) xs) (sym back) in
+    ∙ ap (λ xs. x ∷ filter_by_place test (at + 1) xs) (sym back) in
     record {
       behind = omega arith;
       long = long ∙ works.long;
-      wanted = ap (λ xs. xs ++ passing test (at + 1) (drop (at + 1) after)) more ∙ append_assoc (take kept now) (x ∷ []) _ ∙ ap (λ xs. take kept now ++ xs) (sym rest) ∙ works.wanted;
+      wanted = ap (λ xs. xs ++ filter_by_place test (at + 1) (drop (at + 1) after)) more ∙ append_assoc (take kept now) (x ∷ []) _ ∙ ap (λ xs. take kept now ++ xs) (sym rest) ∙ works.wanted;
     }
 
 -- ---- where the loop ends
 
-passing_none : (tear at : ℕ) (xs : List Item) → 64 ≤ at → passing (outlives tear) at xs ≡ []
+passing_none : (tear at : ℕ) (xs : List Item) → 64 ≤ at → filter_by_place (outlives tear) at xs ≡ []
 passing_none tear at [] past = refl
 passing_none tear at (x ∷ xs) past =
     passing_no (outlives tear) at x xs (ap (λ b. b && bit_at tear at == 1) (let e : nat_lt at 64 ≡ false = grind (arith, nat_tests) in e))
     ∙ passing_none tear (at + 1) xs (omega arith)
 
 -- of the items behind the first 64 none is left
-passing_rest : (tear at : ℕ) (xs : List Item) → min (length xs) 64 ≤ at → passing (outlives tear) at (drop at xs) ≡ []
+passing_rest : (tear at : ℕ) (xs : List Item) → min (length xs) 64 ≤ at → filter_by_place (outlives tear) at (drop at xs) ≡ []
 passing_rest tear at xs past = go (nat_lt at 64) refl
   where
-    go : (b : Bool) → nat_lt at 64 ≡ b → passing (outlives tear) at (drop at xs) ≡ []
-    go true e = ap (passing (outlives tear) at) (drop_all at xs (let below : at < 64 = grind (arith, nat_tests) in omega arith))
+    go : (b : Bool) → nat_lt at 64 ≡ b → filter_by_place (outlives tear) at (drop at xs) ≡ []
+    go true e = ap (filter_by_place (outlives tear) at) (drop_all at xs (let below : at < 64 = grind (arith, nat_tests) in omega arith))
     go false e = passing_none tear at (drop at xs) (grind (arith, nat_tests))
 
 append_none : (xs ys : List Item) → ys ≡ [] → xs ++ ys ≡ xs
@@ -80,8 +80,8 @@ append_none [] ys none = none
 append_none (x ∷ xs) ys none = ap (λ zs. x ∷ zs) (append_none xs ys none)
 
 -- so those kept are the survivors
-pub works_done : (tear : ℕ) (was now : List Item) (kept at : ℕ) → Works (outlives tear) was now kept at → min (length was) 64 ≤ at → take kept now ≡ survivors tear was
-works_done tear was now kept at works past =
+pub gathered_done : (tear : ℕ) (was now : List Item) (kept at : ℕ) → GatheredSoFar (outlives tear) was now kept at → min (length was) 64 ≤ at → take kept now ≡ survivors tear was
+gathered_done tear was now kept at works past =
     sym (append_none (take kept now) _ (passing_rest tear at now (omega (arith, works.long)))) ∙ works.wanted
 
 -- ---- a crash of the items behind those that are synced

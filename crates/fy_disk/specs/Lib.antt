@@ -1,1 +1,3 @@
 pub mod Disk
+pub mod Disks
+pub mod Holders

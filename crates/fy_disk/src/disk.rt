@@ -1,7 +1,7 @@
-//! The disk itself.
+//! The disk of one process.
 ghost use Rattle.std.specs.Prelude.{◌≡◌, ◌≤◌, [], ◌∷◌, ◌++◌, length, take, drop, vec_len, slice_get, IfOk, IfErr, OnOk};
 ghost use Rattle.std.specs.Option.{option_copied};
-ghost use Rattle.fy_disk.specs.Disk.{blank, written, all_synced, crashed, outlives, survivors};
+ghost use Rattle.fy_disk.specs.Disk.{empty_disk, written, all_synced, crashed, outlives, survivors};
 
 use crate::Item;
 use std::alloc::Global;
@@ -32,7 +32,7 @@ impl Model for Disk {
 impl Disk {
     /// A disk with nothing on it.
     pub fn make(alloc: Global) -> Disk
-        ensures { result ≡ blank }
+        ensures { result ≡ empty_disk }
     {
         Disk {
             items: Vec::new(alloc),
@@ -44,7 +44,7 @@ impl Disk {
     ///
     /// # Errors
     ///
-    /// The item itself where the memory for it is refused. The disk then stays as it was.
+    /// The item itself if the allocation for it fails. The disk then stays as it was.
     pub fn write(&mut self, item: Item) -> Result<(), Item>
         ensures written { OnOk result (self.new ≡ written item self.old) }
         ensures refused { IfErr result (λ back. (back ≡ item) × (self.new ≡ self.old)) }
@@ -52,7 +52,7 @@ impl Disk {
         self.items.push(item).map_err(|refused| refused.value)
     }
 
-    /// Syncs every unsynced item, and says how many they were.
+    /// Syncs every unsynced item and returns how many they were.
     pub fn sync(&mut self) -> usize
         ensures count { result ≡ length self.old.unsynced }
         ensures moved { self.new ≡ all_synced self.old }
@@ -62,8 +62,9 @@ impl Disk {
         count
     }
 
-    /// Crashes: of the unsynced items those stay, and count as synced, whose place among them (from
-    /// 0) is below 64 and has a 1 in `tear`. The others are lost.
+    /// Crashes. An unsynced item survives, and is synced from then on, if its place among the
+    /// unsynced ones (from 0) is below 64 and the bit of `tear` at that place is 1. The others are
+    /// lost.
     pub fn crash(&mut self, tear: u64)
         ensures { self.new ≡ crashed tear self.old }
     {
@@ -72,22 +73,22 @@ impl Disk {
         self.items.truncate(self.synced);
     }
 
-    /// Loses everything.
+    /// Erases every item.
     pub fn wipe(&mut self)
-        ensures { self.new ≡ blank }
+        ensures { self.new ≡ empty_disk }
     {
         self.items.clear();
         self.synced = 0;
     }
 
-    /// A synced item by its place, from 0.
+    /// The synced item at a place, from 0.
     pub fn durable(&self, place: usize) -> Option<&Item>
         ensures { option_copied result ≡ slice_get self.now.synced place }
     {
         self.synced_items().get(place)
     }
 
-    /// An unsynced item by its place among the unsynced ones, from 0.
+    /// The unsynced item at a place among the unsynced ones, from 0.
     pub fn pending(&self, place: usize) -> Option<&Item>
         ensures { option_copied result ≡ slice_get self.now.unsynced place }
     {
@@ -123,15 +124,15 @@ impl Disk {
     }
 }
 
-/// Whether the unsynced item at a place outlives a crash.
+/// Whether the unsynced item at a place survives a crash.
 fn outlives_crash(tear: u64, place: usize) -> bool
     ensures { result ≡ outlives tear place }
 {
     place < 64 && (tear >> place) & 1 == 1
 }
 
-/// Moves those of the items that outlive a crash to the front, over those that don't, and says how
-/// many they are. One that is in its place isn't moved.
+/// Moves the items that survive a crash to the front, in their order, and returns how many they
+/// are.
 fn gather_survivors(items: &mut [Item], tear: u64) -> usize
     ensures survivors { take result items.new ≡ survivors tear items.old }
     ensures few { result ≤ length items.old }

@@ -1,10 +1,13 @@
-//! One simulated disk: what is synced stays through a crash, what isn't may be torn off.
+//! Simulated disks. What is synced stays through a crash, what isn't may be torn off.
 #![tactic(auto)]
 
 mod disk;
+mod disks;
+mod holders;
 mod item;
 mod payload;
 
 pub use disk::Disk;
+pub use disks::Disks;
 pub use item::Item;
 pub use payload::Payload;

@@ -1,4 +1,4 @@
-//! What a record holds.
+//! The bytes of a record.
 ghost use Rattle.std.specs.Prelude.{◌≡◌, ◌↔◌, IfOk, IsTrue};
 
 use std::alloc::{AllocError, Global};
@@ -19,11 +19,11 @@ impl Model for Payload {
 }
 
 impl Payload {
-    /// A payload of a copy of these bytes.
+    /// Makes a payload by copying these bytes.
     ///
     /// # Errors
     ///
-    /// `AllocError` only where the memory for them is refused.
+    /// `AllocError` only if the allocation fails.
     pub fn make(alloc: Global, bytes: &[u8]) -> Result<Payload, AllocError>
         ensures { IfOk result (λ made. made ≡ bytes.now) }
     {
@@ -31,14 +31,14 @@ impl Payload {
         Ok(Payload { bytes })
     }
 
-    /// A payload of these bytes, in the memory that they have.
+    /// Makes a payload of these bytes without copying them.
     pub fn from_vec(bytes: Vec<u8>) -> Payload
         ensures { result ≡ bytes.items }
     {
         Payload { bytes }
     }
 
-    /// The bytes, in the memory that they have.
+    /// Takes the bytes out without copying them.
     pub fn into_vec(self) -> Vec<u8>
         ensures { result.items ≡ self }
     {
@@ -52,11 +52,11 @@ impl Payload {
         self.bytes.as_slice()
     }
 
-    /// An equal payload in memory of its own.
+    /// Copies the payload.
     ///
     /// # Errors
     ///
-    /// `AllocError` only where that memory is refused.
+    /// `AllocError` only if the allocation fails.
     pub fn try_copy(&self, alloc: Global) -> Result<Payload, AllocError>
         ensures { IfOk result (λ copy. copy ≡ self.now) }
     {
@@ -73,7 +73,7 @@ impl PartialEq for Payload {
 
     ghost laws = { partial_equiv_from_equiv nat_list_eq_equiv };
 
-    /// Whether both hold the same bytes.
+    /// Whether both have the same bytes.
     fn eq(&self, other: &Payload) -> bool
         ensures test { result ≡ bytes_eq self.now other.now }
         ensures same { IsTrue result ↔ (self.now ≡ other.now) }

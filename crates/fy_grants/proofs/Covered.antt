@@ -9,12 +9,12 @@ use Rattle.std.proofs.lemmas.Bool.{cases_eq}
 use Rattle.fy_locality.specs.declared.locality.Locality.{Locality}
 use Rattle.fy_kinds.specs.declared.kind.Kind.TheVariants.{RebootProcess, Reboot, RebootAndDelete, KillInstantly}
 use Rattle.fy_kinds.specs.declared.kind_set.KindSet.{KindSet}
-use Rattle.fy_kinds.specs.Kinds.{Deed, Striking, Clogging, has, has_all, only, with_all}
+use Rattle.fy_kinds.specs.Kinds.{Deed, Striking, Clogging, has, has_all, only, in_either}
 use Rattle.fy_grants.specs.declared.grant.Grant.{Grant}
 use Rattle.fy_grants.specs.declared.grant.Scope.TheVariants.{All}
 use Rattle.fy_grants.specs.declared.cover.Cover.{Cover}
 use Rattle.fy_grants.specs.declared.book.TheConstants.{MOST_GRANTS}
-use Rattle.fy_grants.specs.Covers.{bare, covers, set_at, IsCoverOf, IsGroupOf, LeavesOpen, IsBook}
+use Rattle.fy_grants.specs.Covers.{bare, covers, set_at, IsCoverOf, IsGroupOf, LeavesOpen, IsGrantBook}
 use Rattle.fy_grants.specs.Rights.{is_granted, is_covered, is_in_scope}
 use Rattle.fy_grants.proofs.Lists.{counted_none, counted_more, counted_less}
 use Rattle.fy_grants.proofs.Covering.{and_false, left_out}
@@ -58,10 +58,10 @@ abbrev pub OneDeed : Type 0
 OneDeed = (kinds : KindSet) (d : Deed) → has_all kinds (only d) ≡ has kinds d
 
 abbrev pub Together : Type 0
-Together = (a b : KindSet) (d : Deed) → has (with_all a b) d ≡ (has a d || has b d)
+Together = (a b : KindSet) (d : Deed) → has (in_either a b) d ≡ (has a d || has b d)
 
 -- on everyone
-pub more_on_all : OneDeed → Together → (processes : List Locality) (grant : Grant) → grant.scope ≡ All → (everyone more : KindSet) → more ≡ with_all everyone grant.kinds
+pub more_on_all : OneDeed → Together → (processes : List Locality) (grant : Grant) → grant.scope ≡ All → (everyone more : KindSet) → more ≡ in_either everyone grant.kinds
     → (deed : Deed) (p : ℕ) (kept : Bool) → (has more deed || kept) ≡ ((has everyone deed || kept) || is_granted processes grant (only deed) p)
 more_on_all one together processes grant on everyone more is deed p kept =
     ap (λ (k : KindSet). has k deed || kept) is
@@ -117,7 +117,7 @@ always zero i x = refl
 always (suc n) zero x = refl
 always (suc n) (suc i) x = always n i x
 
-pub book_of_none : (processes : List Locality) (actors : ℕ) (lists : List (List Grant)) (kept : List Cover) → lists ≡ replicate actors [] → kept ≡ replicate actors bare → IsBook processes lists 0 kept
+pub book_of_none : (processes : List Locality) (actors : ℕ) (lists : List (List Grant)) (kept : List Cover) → lists ≡ replicate actors [] → kept ≡ replicate actors bare → IsGrantBook processes lists 0 kept
 book_of_none processes actors lists kept none bares = rw (none, bares) (record {
   counted = record { all = sym (counted_none actors); few = omega arith };
   count = length-replicate actors bare ∙ sym (length-replicate actors (let nothing : List Grant = [] in nothing));
@@ -150,9 +150,9 @@ or_false true = refl
 or_false false = refl
 
 pub book_given : (processes : List Locality) (lists : List (List Grant)) (given : ℕ) (kept : List Cover) (a : ℕ) (grant : Grant) (old new : Cover)
-    → IsBook processes lists given kept → a < length lists → given < MOST_GRANTS → old ≡ get_or kept a bare
+    → IsGrantBook processes lists given kept → a < length lists → given < MOST_GRANTS → old ≡ get_or kept a bare
     → ((deed : Deed) (p : ℕ) → covers new deed p ≡ (covers old deed p || is_granted processes grant (only deed) p))
-    → IsBook processes (slice_set lists a (get_or lists a [] ++ grant ∷ [])) (given + 1) (slice_set kept a new)
+    → IsGrantBook processes (slice_set lists a (get_or lists a [] ++ grant ∷ [])) (given + 1) (slice_set kept a new)
 book_given processes lists given kept a grant old new book within few was more = record {
   counted = counted_more lists given a grant book.counted within few;
   count = length-set kept a new ∙ book.count ∙ sym (length-set lists a (get_or lists a [] ++ grant ∷ []));
@@ -165,8 +165,8 @@ book_given processes lists given kept a grant old new book within few was more =
 }
 
 pub book_taken : (processes : List Locality) (lists : List (List Grant)) (given : ℕ) (kept : List Cover) (a i : ℕ) (own : List Grant) (new : Cover)
-    → IsBook processes lists given kept → a < length lists → i < length (get_or lists a []) → own ≡ remove (get_or lists a []) i → IsCoverOf processes own new
-    → IsBook processes (slice_set lists a (remove (get_or lists a []) i)) (given - 1) (slice_set kept a new)
+    → IsGrantBook processes lists given kept → a < length lists → i < length (get_or lists a []) → own ≡ remove (get_or lists a []) i → IsCoverOf processes own new
+    → IsGrantBook processes (slice_set lists a (remove (get_or lists a []) i)) (given - 1) (slice_set kept a new)
 book_taken processes lists given kept a i own new book within some is known = record {
   counted = counted_less lists given a i book.counted within some;
   count = length-set kept a new ∙ book.count ∙ sym (length-set lists a (remove (get_or lists a []) i));

@@ -45,15 +45,16 @@ pub record IsGroupOf (cover : Cover) (kinds : KindSet) (group : sets.FinSet nat_
   pub single : kinds ≡ only deed
   pub is : group ≡ set_at cover deed
 
--- the kinds are one deed, and `left` are those of a set whom the cover leaves open to it
-pub record LeavesOpen (cover : Cover) (kinds : KindSet) (set left : sets.FinSet nat_cmp)
+-- the kinds are one deed, and `uncovered` are those of a set whom the cover leaves open to it
+pub record LeavesOpen (cover : Cover) (kinds : KindSet) (set uncovered : sets.FinSet nat_cmp)
     : Type 0 where
   pub deed : Deed
   pub single : kinds ≡ only deed
-  pub those : (p : ℕ) → sets.contains left p ≡ (sets.contains set p && not (covers cover deed p))
+  pub those : (p : ℕ)
+      → sets.contains uncovered p ≡ (sets.contains set p && not (covers cover deed p))
 
 -- what a Book keeps: the grants are counted, and each actor has its cover
-pub record IsBook (processes : List Locality) (grants : List (List Grant)) (given : ℕ)
+pub record IsGrantBook (processes : List Locality) (grants : List (List Grant)) (given : ℕ)
     (covers : List Cover) : Type 0 where
   pub counted : IsCounted grants given
   pub count : length covers ≡ length grants

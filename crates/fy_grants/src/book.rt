@@ -1,7 +1,7 @@
 //! The book of grants and protections.
 ghost use Rattle.std.specs.Prelude.{◌≡◌, ◌<◌, ◌&&◌, not, ℕ, length, [], map, replicate, Some, None, IfOk, IfErr, IsOk, OnOk, OnErr};
 ghost use Rattle.std.specs.FinSet as sets;
-ghost use Rattle.fy_kinds.specs.Kinds.{with_all, without_all, no_deed};
+ghost use Rattle.fy_kinds.specs.Kinds.{in_either, in_first_alone, no_deed};
 ghost use Rattle.fy_grants.specs.Covers.{bare};
 ghost use Rattle.fy_grants.specs.Least.{LeastWith};
 ghost use Rattle.fy_grants.specs.Rights.{grants_of, protections_of, no_rights, is_covered, is_protected, give_refusal, with_grant, take_refusal, without_grant, with_protection};
@@ -43,10 +43,10 @@ impl Model for Book {
       protections = b.protections.items;
     } };
 
-    ghost use Rattle.fy_grants.specs.Covers.{IsBook};
+    ghost use Rattle.fy_grants.specs.Covers.{IsGrantBook};
 
     ghost invariant = { λ b.
-        IsBook b.processes (map (λ own. own.items) b.grants.items) b.given b.covers.items };
+        IsGrantBook b.processes (map (λ own. own.items) b.grants.items) b.given b.covers.items };
 }
 
 // Written out, so that whoever drops a book makes one call.
@@ -153,7 +153,7 @@ impl Book {
     pub fn protect(&mut self, p: ProcId, kinds: KindSet)
         requires { p.0 < length self.old.protections }
         ensures { self.new
-            ≡ with_protection self.old p.0 (with_all (protections_of self.old p.0) kinds) }
+            ≡ with_protection self.old p.0 (in_either (protections_of self.old p.0) kinds) }
     {
         let place = p.0 as usize;
         self.protections[place] = self.protections[place].union(kinds);
@@ -163,7 +163,7 @@ impl Book {
     pub fn unprotect(&mut self, p: ProcId, kinds: KindSet)
         requires { p.0 < length self.old.protections }
         ensures { self.new
-            ≡ with_protection self.old p.0 (without_all (protections_of self.old p.0) kinds) }
+            ≡ with_protection self.old p.0 (in_first_alone (protections_of self.old p.0) kinds) }
     {
         let place = p.0 as usize;
         self.protections[place] = self.protections[place].difference(kinds);

@@ -14,8 +14,8 @@ pub record Log : Type 0 where
   pub room : ℕ
 
 -- a journal of a version in which nothing stands
-abbrev pub blank : Version → Log
-blank version = record { version = version; entries = []; room = 0 }
+abbrev pub empty_journal : Version → Log
+empty_journal version = record { version = version; entries = []; room = 0 }
 
 -- the journal with one entry more, which is numbered by its place and uses up one place of the room
 abbrev pub entered : ℕ → Act → Reply → Log → Log

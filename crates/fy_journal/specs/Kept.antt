@@ -4,7 +4,7 @@ use Rattle.std.specs.Vec.{vec_capacity}
 use Rattle.fy_journal.specs.declared.journal.Journal.TheInside.{Inside}
 use Rattle.fy_journal.specs.Journal.{Log, IsLog}
 
--- what the fields say
+-- the journal that the fields stand for
 abbrev pub log : Inside → Log
 log journal = record {
   version = journal.version;
@@ -12,8 +12,8 @@ log journal = record {
   room = journal.room;
 }
 
--- they are a journal's, and the room is memory that is there
-abbrev pub IsKept : Inside → Type 0
-IsKept journal =
+-- what always holds of the fields: they stand for a journal, and the room is memory that is there
+abbrev pub JournalInvariant : Inside → Type 0
+JournalInvariant journal =
     IsLog (log journal)
     × (vec_len journal.entries + journal.room ≤ vec_capacity journal.entries)

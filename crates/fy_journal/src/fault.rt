@@ -1,4 +1,4 @@
-//! Why a journal makes no room.
+//! Why a journal can't make room.
 use std::alloc::AllocError;
 
 /// Why no room was made. The journal is then as it was before the call.
@@ -6,7 +6,7 @@ use std::alloc::AllocError;
 pub enum JournalFault {
     /// With so many more there would be more than 2^32 entries.
     TooMany,
-    /// There was no memory for them.
+    /// An allocation failed.
     NoMemory,
 }
 

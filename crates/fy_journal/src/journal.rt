@@ -1,7 +1,7 @@
 //! The journal of a cluster.
 ghost use Rattle.std.specs.Prelude.{◌≡◌, ◌+◌, ◌<◌, ◌≤◌, Err, max, length, slice_get, IsOk, IfErr, IfSome, OnOk, OnErr};
 ghost use Rattle.std.specs.Option.{option_copied};
-ghost use Rattle.fy_journal.specs.Journal.{blank, entered, IsLog};
+ghost use Rattle.fy_journal.specs.Journal.{empty_journal, entered, IsLog};
 ghost use Rattle.fy_journal.specs.declared.fault.JournalFault.TheVariants.{TooMany, NoMemory};
 ghost use Rattle.fy_journal.specs.declared.version.Version.TheVariants.{First, Second};
 
@@ -9,7 +9,7 @@ use crate::{Act, Entry, JournalFault, MOST_ENTRIES, Reply, Version};
 use std::alloc::Global;
 use std::marker::Model;
 
-/// All that was asked of a cluster and replied, the oldest first. Each entry is numbered by its
+/// Every act asked of a cluster with its reply, the oldest first. Each entry is numbered by its
 /// place.
 pub struct Journal {
     version: Version,
@@ -22,14 +22,14 @@ impl Model for Journal {
 
     ghost Value = { Log };
 
-    ghost use Rattle.fy_journal.specs.Kept.{log, IsKept};
+    ghost use Rattle.fy_journal.specs.Kept.{log, JournalInvariant};
 
     ghost view = { log };
 
-    ghost invariant = { IsKept };
+    ghost invariant = { JournalInvariant };
 }
 
-// Written out, so that whoever drops a journal makes one call.
+// By hand, for the reason given at the `Drop` of `fy_acts::Act`.
 impl Drop for Journal {
     fn drop(self) {
         let Journal {
@@ -43,21 +43,21 @@ impl Drop for Journal {
 impl Journal {
     /// A journal of the second version, without entries and without room. Takes no memory.
     pub fn make(alloc: Global) -> Journal
-        ensures { result ≡ blank Second }
+        ensures { result ≡ empty_journal Second }
     {
         Journal::of_version(alloc, Version::Second)
     }
 
     /// A journal of the first version, without entries and without room. Takes no memory.
     pub fn make_first(alloc: Global) -> Journal
-        ensures { result ≡ blank First }
+        ensures { result ≡ empty_journal First }
     {
         Journal::of_version(alloc, Version::First)
     }
 
     /// A journal of a version, without entries and without room. Takes no memory.
     pub fn of_version(alloc: Global, version: Version) -> Journal
-        ensures { result ≡ blank version }
+        ensures { result ≡ empty_journal version }
     {
         Journal {
             version,
@@ -73,11 +73,11 @@ impl Journal {
         self.version
     }
 
-    /// Makes room for `count` pushes. Room that is there already counts.
+    /// Makes sure that there is room for `count` pushes.
     ///
     /// # Errors
     ///
-    /// In order: `TooMany` where with them there would be more than 2^32 entries; `NoMemory`. The
+    /// In order: `TooMany` if with them there would be more than 2^32 entries; `NoMemory`. The
     /// journal is then as it was.
     pub fn reserve(&mut self, count: usize) -> Result<(), JournalFault>
         ensures refused { MOST_ENTRIES < length self.old.entries + count → result ≡ Err TooMany }
@@ -95,7 +95,7 @@ impl Journal {
         Ok(())
     }
 
-    /// Puts an act by the actor with this number last, with its reply. It uses up one place of the
+    /// Appends an act by the actor with this number, with its reply. It uses up one place of the
     /// room, and takes no memory.
     pub fn push(&mut self, by: u32, act: Act, reply: Reply)
         requires { 0 < self.old.room }
@@ -113,7 +113,7 @@ impl Journal {
         self.entries.len()
     }
 
-    /// An entry by its place, from 0.
+    /// The entry at a place, from 0.
     pub fn entry(&self, place: usize) -> Option<&Entry>
         ensures entry { option_copied result ≡ slice_get self.now.entries place }
         ensures number { IfSome result (λ entry. entry.now.at ≡ place) }

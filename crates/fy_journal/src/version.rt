@@ -4,8 +4,8 @@ ghost use Rattle.fy_journal.specs.Versions.{knows};
 
 use crate::Act;
 
-/// By which rules a journal is read. Both give the same reply to the same act, but under the first
-/// nobody may copy, replace or heal.
+/// The rules by which a journal is read. Both versions give the same reply to the same act, but the
+/// first lacks three acts.
 #[derive(Clone, Copy, PartialEq, Eq, Debug)]
 pub enum Version {
     /// There are no `CopyTo`, `Replace` and `Heal`: a journal with one of them isn't legal.
@@ -15,8 +15,7 @@ pub enum Version {
 }
 
 impl Version {
-    /// Whether there is such an act under the version: under the first nobody copies, replaces or
-    /// heals.
+    /// Whether the version has such an act: the first has no `CopyTo`, `Replace` and `Heal`.
     pub fn knows(self, act: &Act) -> bool
         ensures { result ≡ knows self act.now }
     {

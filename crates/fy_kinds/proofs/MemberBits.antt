@@ -8,7 +8,7 @@ use Rattle.std.proofs.lemmas.Nat.{or_lt, and_le_l}
 use Rattle.std.proofs.lemmas.Bool.Decides.{nat_tests}
 use Rattle.bitflags.specs.Sets.{without, find_row, find_name}
 use Rattle.fy_kinds.specs.declared.kind.Kind.TheVariants.{RebootProcess, Reboot, RebootAndDelete, KillInstantly}
-use Rattle.fy_kinds.specs.Kinds.{Striking, Clogging, only, no_deed, with_all, in_both, without_all, has_all, has_some, set_named, table, bits_of, set_of_bits}
+use Rattle.fy_kinds.specs.Kinds.{Striking, Clogging, only, no_deed, in_either, in_each, in_first_alone, has_all, has_some, set_named, table, bits_of, set_of_bits}
 use Rattle.fy_kinds.specs.BitsBack.{all_below, each_below, bits_back}
 
 -- ---- one bit
@@ -33,7 +33,7 @@ without_at a b i small within =
     ∙ ap (λ t. eqb (bit_at a i) 1 && t) (ap (λ n. eqb n 1) (bit_at_not w8 b i small within) ∙ not_test _ (bit_at-lt b i))
 
 -- ---- the operations
-pub or_is : (a b : ℕ) → set_of_bits (bit_or a b) ≡ with_all (set_of_bits a) (set_of_bits b)
+pub or_is : (a b : ℕ) → set_of_bits (bit_or a b) ≡ in_either (set_of_bits a) (set_of_bits b)
 or_is a b = λ i. record {
   reboot_process = or_at a b 0 i;
   reboot = or_at a b 1 i;
@@ -42,7 +42,7 @@ or_is a b = λ i. record {
   clog = or_at a b 4 i;
 }
 
-pub and_is : (a b : ℕ) → set_of_bits (bit_and a b) ≡ in_both (set_of_bits a) (set_of_bits b)
+pub and_is : (a b : ℕ) → set_of_bits (bit_and a b) ≡ in_each (set_of_bits a) (set_of_bits b)
 and_is a b = λ i. record {
   reboot_process = and_at a b 0 i;
   reboot = and_at a b 1 i;
@@ -51,7 +51,7 @@ and_is a b = λ i. record {
   clog = and_at a b 4 i;
 }
 
-pub without_is : (a b : ℕ) → b < 32 → set_of_bits (without 8 a b) ≡ without_all (set_of_bits a) (set_of_bits b)
+pub without_is : (a b : ℕ) → b < 32 → set_of_bits (without 8 a b) ≡ in_first_alone (set_of_bits a) (set_of_bits b)
 without_is a b small =
     let fits : b < 256 = omega arith in
     λ i. record {

@@ -102,16 +102,16 @@ abbrev pub only : Deed → Members
 only deed = those (λ d. place d == place deed)
 
 -- the deeds of either set
-abbrev pub with_all : Members → Members → Members
-with_all a b = those (λ d. has a d || has b d)
+abbrev pub in_either : Members → Members → Members
+in_either a b = those (λ d. has a d || has b d)
 
 -- the deeds of both sets
-abbrev pub in_both : Members → Members → Members
-in_both a b = those (λ d. has a d && has b d)
+abbrev pub in_each : Members → Members → Members
+in_each a b = those (λ d. has a d && has b d)
 
 -- the deeds of the first set that aren't in the second
-abbrev pub without_all : Members → Members → Members
-without_all a b = those (λ d. has a d && not (has b d))
+abbrev pub in_first_alone : Members → Members → Members
+in_first_alone a b = those (λ d. has a d && not (has b d))
 
 -- whether every deed asked for is in the set
 abbrev pub has_all : Members → Members → Bool

@@ -1,6 +1,6 @@
 //! Sets of the four kinds of kill and of clogging.
 ghost use Rattle.std.specs.Prelude.{⊤, ◌≡◌, IsTrue, ◌↔◌};
-ghost use Rattle.fy_kinds.specs.Kinds.{has, no_deed, every_deed, only, with_all, in_both, without_all, has_all, has_some, set_named, table};
+ghost use Rattle.fy_kinds.specs.Kinds.{has, no_deed, every_deed, only, in_either, in_each, in_first_alone, has_all, has_some, set_named, table};
 ghost use Rattle.fy_kinds.specs.Kinds.{Striking, Clogging};
 
 use crate::Kind;
@@ -160,7 +160,7 @@ impl KindSet {
 
     /// The members of either set.
     pub fn union(self, other: KindSet) -> KindSet
-        ensures { result ≡ with_all self other }
+        ensures { result ≡ in_either self other }
     {
         KindSet {
             bits: self.bits.union(other.bits),
@@ -169,7 +169,7 @@ impl KindSet {
 
     /// The members of both sets.
     pub fn intersection(self, other: KindSet) -> KindSet
-        ensures { result ≡ in_both self other }
+        ensures { result ≡ in_each self other }
     {
         KindSet {
             bits: self.bits.intersection(other.bits),
@@ -178,7 +178,7 @@ impl KindSet {
 
     /// The members of this set that aren't members of the other.
     pub fn difference(self, other: KindSet) -> KindSet
-        ensures { result ≡ without_all self other }
+        ensures { result ≡ in_first_alone self other }
     {
         KindSet {
             bits: self.bits.difference(other.bits),
@@ -187,14 +187,14 @@ impl KindSet {
 
     /// Puts in all members of the other set.
     pub fn insert(&mut self, other: KindSet)
-        ensures { self.new ≡ with_all self.old other }
+        ensures { self.new ≡ in_either self.old other }
     {
         *self = self.union(other);
     }
 
     /// Takes out all members of the other set.
     pub fn remove(&mut self, other: KindSet)
-        ensures { self.new ≡ without_all self.old other }
+        ensures { self.new ≡ in_first_alone self.old other }
     {
         *self = self.difference(other);
     }

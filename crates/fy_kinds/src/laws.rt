@@ -2,7 +2,7 @@
 ghost use Rattle.std.specs.Prelude.{◌≡◌, ◌&&◌, ◌||◌, not, Some};
 ghost use Rattle.fy_kinds.specs.declared.kind.Kind.{Kind};
 ghost use Rattle.fy_kinds.specs.declared.kind_set.KindSet.{KindSet};
-ghost use Rattle.fy_kinds.specs.Kinds.{Deed, rank, kind_text, kind_named, deed_text, deed_named, has, only, with_all, in_both, without_all, has_all, has_some};
+ghost use Rattle.fy_kinds.specs.Kinds.{Deed, rank, kind_text, kind_named, deed_text, deed_named, has, only, in_either, in_each, in_first_alone, has_all, has_some};
 
 /// Kinds of one rank are one kind.
 pub fn kinds_by_rank()
@@ -28,10 +28,10 @@ pub fn same_members()
 
 /// The members of sets that were put together.
 pub fn members_together()
-    ensures either { (a b : KindSet) (d : Deed) → has (with_all a b) d ≡ (has a d || has b d) }
-    ensures both { (a b : KindSet) (d : Deed) → has (in_both a b) d ≡ (has a d && has b d) }
+    ensures either { (a b : KindSet) (d : Deed) → has (in_either a b) d ≡ (has a d || has b d) }
+    ensures both { (a b : KindSet) (d : Deed) → has (in_each a b) d ≡ (has a d && has b d) }
     ensures first { (a b : KindSet) (d : Deed)
-        → has (without_all a b) d ≡ (has a d && not (has b d)) }
+        → has (in_first_alone a b) d ≡ (has a d && not (has b d)) }
 {}
 
 /// To have all or some of one deed is to have it.

@@ -2,7 +2,7 @@
 
 ghost use Rattle.std.specs.Prelude.{◌≡◌, ◌≤◌, ◌<◌, ◌+◌, length, vec_len, OnOk, IfOk, IfSome, IsErrOf};
 ghost use Rattle.std.specs.Io.KnownBytes.{IsAtEnd};
-ghost use Rattle.fy_lines.specs.Readings.{Takes, TakesUpTo};
+ghost use Rattle.fy_lines.specs.Readings.{ReadsExactly, ReadsAtMost};
 ghost use Rattle.fy_lines.specs.declared.input.InputFault.TheVariants.{NoMemory};
 
 use std::alloc::{AllocError, Global};
@@ -52,10 +52,10 @@ pub fn read_limited<R: Read>(
     ensures too_long { IsErrOf result InputFault.TooLong →
         IfSome (R.remaining reader.old) (λ xs. limit < length xs) }
     ensures one_past { IsErrOf result InputFault.TooLong →
-        Takes (R.remaining reader.old) (R.remaining reader.new) (limit + 1) }
+        ReadsExactly (R.remaining reader.old) (R.remaining reader.new) (limit + 1) }
     ensures reader_fault { IsErrOf result InputFault.Reader →
-        TakesUpTo (R.remaining reader.old) (R.remaining reader.new) limit }
-    ensures no_further { TakesUpTo (R.remaining reader.old) (R.remaining reader.new) (limit + 1) }
+        ReadsAtMost (R.remaining reader.old) (R.remaining reader.new) limit }
+    ensures no_further { ReadsAtMost (R.remaining reader.old) (R.remaining reader.new) (limit + 1) }
 {
     let mut bytes = Vec::new(alloc);
     let mut chunk = [0u8; CHUNK];

@@ -11,4 +11,4 @@ mod split;
 pub use feed::next_line;
 pub use input::{InputFault, read_limited};
 pub use output::{OutputFault, write_bytes, write_parts};
-pub use split::{first_ended, first_line};
+pub use split::{first_line, split_at_newline};

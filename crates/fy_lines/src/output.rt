@@ -4,7 +4,7 @@
 ghost use Rattle.std.specs.Prelude.{OnOk, OnErr};
 ghost use Rattle.std.specs.List.{flat_map};
 ghost use Rattle.std.specs.Io.KnownBytes.{Appends};
-ghost use Rattle.fy_lines.specs.Fronts.{AppendsFront, StopsShort};
+ghost use Rattle.fy_lines.specs.Prefixes.{AppendsPrefix, AppendsProperPrefix};
 
 use std::io::Write;
 
@@ -21,9 +21,9 @@ pub struct OutputFault;
 pub fn write_bytes<W: Write>(writer: &mut W, bytes: &[u8]) -> Result<(), OutputFault>
     ensures ok { OnOk result (Appends (W.contents writer.old) (W.contents writer.new) bytes.now) }
     ensures err { OnErr result
-        (AppendsFront (W.contents writer.old) (W.contents writer.new) bytes.now) }
+        (AppendsPrefix (W.contents writer.old) (W.contents writer.new) bytes.now) }
     ensures short { OnErr result
-        (StopsShort (W.contents writer.old) (W.contents writer.new) bytes.now) }
+        (AppendsProperPrefix (W.contents writer.old) (W.contents writer.new) bytes.now) }
 {
     let mut rest = bytes;
     while !rest.is_empty() {
@@ -48,7 +48,7 @@ pub fn write_parts<W: Write>(writer: &mut W, parts: &[&[u8]]) -> Result<(), Outp
         (Appends (W.contents writer.old) (W.contents writer.new)
         (flat_map (λ part. part.now) parts.now)) }
     ensures short { OnErr result
-        (StopsShort (W.contents writer.old) (W.contents writer.new)
+        (AppendsProperPrefix (W.contents writer.old) (W.contents writer.new)
         (flat_map (λ part. part.now) parts.now)) }
 {
     for part in parts {

@@ -13,7 +13,7 @@ pub fn first_line(bytes: &[u8]) -> (&[u8], &[u8])
     ensures first { lines_of bytes.now ≡ result.0.now ∷ lines_of result.1.now }
     ensures shorter { length result.1.now < length bytes.now }
 {
-    match first_ended(bytes) {
+    match split_at_newline(bytes) {
         Some((line, rest)) => (line, rest),
         None => (bytes, &[]),
     }
@@ -21,7 +21,7 @@ pub fn first_line(bytes: &[u8]) -> (&[u8], &[u8])
 
 /// The first line without its line feed, and all that follows it; `None` where no line feed is
 /// left, so that a last line without its feed is told apart from one that has it.
-pub fn first_ended(bytes: &[u8]) -> Option<(&[u8], &[u8])>
+pub fn split_at_newline(bytes: &[u8]) -> Option<(&[u8], &[u8])>
     ensures some { IfSome result (λ p. (bytes.now ≡ p.0.now ++ 10 ∷ p.1.now) × IsLine p.0.now) }
     ensures none { IfNone result (IsLine bytes.now) }
 {

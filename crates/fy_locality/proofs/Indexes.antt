@@ -20,12 +20,12 @@ use Rattle.fy_locality.specs.declared.key.Key.{Key}
 use Rattle.fy_locality.specs.declared.key.Key.TheVariants.{Process, Machine, Zone, DataHall, DataCenter}
 use Rattle.fy_locality.specs.declared.map.MapFault.{MapFault}
 use Rattle.fy_locality.specs.declared.map.MapFault.TheVariants.{Name, Twice, TooMany}
-use Rattle.fy_locality.specs.Locality.{value_in, has_value, values_of, are_names, taken_or_full, refusal_of}
-use Rattle.fy_locality.specs.declared.map.Places.{Places}
-use Rattle.fy_locality.specs.Indexed.{Entries, group_of, IsIndex, StandsAt, place_in, ArePlaces, IsIndexed}
-use Rattle.fy_locality.specs.Noted.{noted, Notes}
+use Rattle.fy_locality.specs.Locality.{value_in, has_value, values_of, are_names, id_refusal, refusal_of}
+use Rattle.fy_locality.specs.declared.map.ValueIndexes.{ValueIndexes}
+use Rattle.fy_locality.specs.Indexed.{Entries, group_of, IsIndex, IsValueIndex, value_index_in, AreValueIndexes, IsIndexed}
+use Rattle.fy_locality.specs.Noted.{names_with, AddsToIndex}
 use Rattle.fy_locality.specs.declared.TheConstants.{MOST_PROCESSES}
-use Rattle.fy_locality.proofs.Places.{place-insert_key, ArePlaces-nil, ArePlaces-push, own_stands}
+use Rattle.fy_locality.proofs.ValueIndexes.{place-insert_key, AreValueIndexes-nil, AreValueIndexes-push, own_stands}
 use Rattle.fy_locality.proofs.Values.{values_of-push, values_of-nil, no_value}
 
 keys-insert_entry : (es : Entries) (k : List ℕ) (s : sets.FinSet nat_cmp) → keys_of (insert_entry bytes_eq es k s) ≡ insert_key bytes_eq (keys_of es) k
@@ -58,9 +58,9 @@ is_some-lookup test (e ∷ es) = go (test e.0) (is_some-lookup test es)
 
 -- ---- one value more
 -- the set of a value is put in with p
-pub Notes-some : (old new : Entries) (v : List ℕ) (p : ℕ) (s : sets.FinSet nat_cmp) → new ≡ insert_entry bytes_eq old v s
-    → ((w : List ℕ) → lookup (bytes_eq w) new ≡ cond (bytes_eq v w) (Some s) (lookup (bytes_eq w) old)) → s ≡ sets.insert (group_of old v) p → Notes old (Some v) p new
-Notes-some old new v p s entries updates is = record {
+pub AddsToIndex-some : (old new : Entries) (v : List ℕ) (p : ℕ) (s : sets.FinSet nat_cmp) → new ≡ insert_entry bytes_eq old v s
+    → ((w : List ℕ) → lookup (bytes_eq w) new ≡ cond (bytes_eq v w) (Some s) (lookup (bytes_eq w) old)) → s ≡ sets.insert (group_of old v) p → AddsToIndex old (Some v) p new
+AddsToIndex-some old new v p s entries updates is = record {
   seen = ap keys_of entries ∙ keys-insert_entry old v s;
   grouped = λ w q. ap (λ o. sets.contains (unwrap_or o sets.empty) q) (updates w) ∙ go w q (bytes_eq v w) refl;
 }
@@ -97,9 +97,9 @@ has_value-push (x ∷ xs) new key v (suc q) = has_value-push xs new key v q ∙ 
     later : (a b : ℕ) → eqb a b ≡ eqb (suc a) (suc b)
     later a b = grind (arith, nat_tests)
 
-pub IsIndex-push : (processes : List Locality) (new : Locality) (key : Key) (old new_entries : Entries) → IsIndex processes key old → Notes old (value_in key new) (length processes) new_entries → IsIndex (processes ++ new ∷ []) key new_entries
+pub IsIndex-push : (processes : List Locality) (new : Locality) (key : Key) (old new_entries : Entries) → IsIndex processes key old → AddsToIndex old (value_in key new) (length processes) new_entries → IsIndex (processes ++ new ∷ []) key new_entries
 IsIndex-push processes new key old entries was notes = record {
-  seen = notes.seen ∙ ap (λ names. noted names (value_in key new)) was.seen ∙ sym (values_of-push processes new key);
+  seen = notes.seen ∙ ap (λ names. names_with names (value_in key new)) was.seen ∙ sym (values_of-push processes new key);
   grouped = λ v q.
       notes.grouped v q
       ∙ ap (λ b. b || (eqb q (length processes) && option_eq bytes_eq (value_in key new) (Some v))) (was.grouped v q)
@@ -119,7 +119,7 @@ IsIndexed-nil = record {
   zones_are = IsIndex-nil Zone;
   halls_are = IsIndex-nil DataHall;
   centers_are = IsIndex-nil DataCenter;
-  places_are = ArePlaces-nil;
+  places_are = AreValueIndexes-nil;
 }
 
 -- the own names stay different where the new one is new
@@ -132,7 +132,7 @@ own_names-push processes new own absent =
     ∙ sym (values_of-push processes new Process)
 
 -- what holds where a process isn't refused
-pub not_refused : (processes : List Locality) (id : List ℕ) → taken_or_full processes id ≡ None → (is_member bytes_eq (values_of processes Process) id ≡ false) × (length processes < MOST_PROCESSES)
+pub not_refused : (processes : List Locality) (id : List ℕ) → id_refusal processes id ≡ None → (is_member bytes_eq (values_of processes Process) id ≡ false) × (length processes < MOST_PROCESSES)
 not_refused processes id e = go (is_member bytes_eq (values_of processes Process) id) refl (leb MOST_PROCESSES (length processes)) refl e
   where
     go : (a : Bool) → is_member bytes_eq (values_of processes Process) id ≡ a → (b : Bool) → leb MOST_PROCESSES (length processes) ≡ b → cond a (Some Twice) (cond b (Some TooMany) None) ≡ None → (is_member bytes_eq (values_of processes Process) id ≡ false) × (length processes < MOST_PROCESSES)
@@ -141,12 +141,12 @@ not_refused processes id e = go (is_member bytes_eq (values_of processes Process
     go false is false many e = (is, let h : length processes < MOST_PROCESSES = grind (arith, nat_tests) in h)
 
 -- what a Map keeps, after one process more with a new name
-pub IsIndexed-push : (processes : List Locality) (new : Locality) (ids machines zones halls centers ids' machines' zones' halls' centers' : Entries) (places : List Places) (kept : Places)
-    → IsIndexed processes ids machines zones halls centers places → taken_or_full processes new.process ≡ None
-    → Notes ids (Some new.process) (length processes) ids' → Notes machines (Some new.machine) (length processes) machines' → Notes zones (Some new.zone) (length processes) zones'
-    → Notes halls new.data_hall (length processes) halls' → Notes centers new.data_center (length processes) centers'
-    → StandsAt (keys_of machines') (Some new.machine) kept.machine → StandsAt (keys_of zones') (Some new.zone) kept.zone
-    → StandsAt (keys_of halls') new.data_hall kept.data_hall → StandsAt (keys_of centers') new.data_center kept.data_center
+pub IsIndexed-push : (processes : List Locality) (new : Locality) (ids machines zones halls centers ids' machines' zones' halls' centers' : Entries) (places : List ValueIndexes) (kept : ValueIndexes)
+    → IsIndexed processes ids machines zones halls centers places → id_refusal processes new.process ≡ None
+    → AddsToIndex ids (Some new.process) (length processes) ids' → AddsToIndex machines (Some new.machine) (length processes) machines' → AddsToIndex zones (Some new.zone) (length processes) zones'
+    → AddsToIndex halls new.data_hall (length processes) halls' → AddsToIndex centers new.data_center (length processes) centers'
+    → IsValueIndex (keys_of machines') (Some new.machine) kept.machine → IsValueIndex (keys_of zones') (Some new.zone) kept.zone
+    → IsValueIndex (keys_of halls') new.data_hall kept.data_hall → IsValueIndex (keys_of centers') new.data_center kept.data_center
     → IsIndexed (processes ++ new ∷ []) ids' machines' zones' halls' centers' (places ++ kept ∷ [])
 IsIndexed-push processes new ids machines zones halls centers ids' machines' zones' halls' centers' places kept was taken i m z h c on_machine on_zone in_hall in_center =
     let fresh = not_refused processes new.process taken in
@@ -163,26 +163,26 @@ IsIndexed-push processes new ids machines zones halls centers ids' machines' zon
       zones_are = zones_later;
       halls_are = halls_later;
       centers_are = centers_later;
-      places_are = ArePlaces-push processes new places kept was.places_are (λ key. elim key as (λ k. StandsAt (values_of (processes ++ new ∷ []) k) (value_in k new) (place_in k (length processes) kept)) [
+      places_are = AreValueIndexes-push processes new places kept was.places_are (λ key. elim key as (λ k. IsValueIndex (values_of (processes ++ new ∷ []) k) (value_in k new) (value_index_in k (length processes) kept)) [
         | Process ↦ own_stands processes new own_later
-        | Machine ↦ subst (λ names. StandsAt names (Some new.machine) kept.machine) machines_later.seen on_machine
-        | Zone ↦ subst (λ names. StandsAt names (Some new.zone) kept.zone) zones_later.seen on_zone
-        | DataHall ↦ subst (λ names. StandsAt names new.data_hall kept.data_hall) halls_later.seen in_hall
-        | DataCenter ↦ subst (λ names. StandsAt names new.data_center kept.data_center) centers_later.seen in_center
+        | Machine ↦ subst (λ names. IsValueIndex names (Some new.machine) kept.machine) machines_later.seen on_machine
+        | Zone ↦ subst (λ names. IsValueIndex names (Some new.zone) kept.zone) zones_later.seen on_zone
+        | DataHall ↦ subst (λ names. IsValueIndex names new.data_hall kept.data_hall) halls_later.seen in_hall
+        | DataCenter ↦ subst (λ names. IsValueIndex names new.data_center kept.data_center) centers_later.seen in_center
       ]);
     }
 
 -- ---- why a name is not taken
 module _ (processes : List Locality) (id : List ℕ) where
-  pub taken : is_member bytes_eq (values_of processes Process) id ≡ true → taken_or_full processes id ≡ Some Twice
+  pub taken : is_member bytes_eq (values_of processes Process) id ≡ true → id_refusal processes id ≡ Some Twice
   taken there = ap (λ b. cond b (Some Twice) (cond (leb MOST_PROCESSES (length processes)) (Some TooMany) None)) there
 
-  pub full : is_member bytes_eq (values_of processes Process) id ≡ false → MOST_PROCESSES ≤ length processes → taken_or_full processes id ≡ Some TooMany
+  pub full : is_member bytes_eq (values_of processes Process) id ≡ false → MOST_PROCESSES ≤ length processes → id_refusal processes id ≡ Some TooMany
   full absent many =
       let test : leb MOST_PROCESSES (length processes) ≡ true = grind (arith, nat_tests) in
       ap (λ b. cond b (Some Twice) (cond (leb MOST_PROCESSES (length processes)) (Some TooMany) None)) absent ∙ ap (λ b. cond b (Some TooMany) None) test
 
-  pub free : is_member bytes_eq (values_of processes Process) id ≡ false → length processes < MOST_PROCESSES → taken_or_full processes id ≡ None
+  pub free : is_member bytes_eq (values_of processes Process) id ≡ false → length processes < MOST_PROCESSES → id_refusal processes id ≡ None
   free absent few =
       let test : leb MOST_PROCESSES (length processes) ≡ false = grind (arith, nat_tests) in
       ap (λ b. cond b (Some Twice) (cond (leb MOST_PROCESSES (length processes)) (Some TooMany) None)) absent ∙ ap (λ b. cond b (Some TooMany) None) test
@@ -191,11 +191,11 @@ pub length-keys : (es : Entries) → length es ≡ length (keys_of es)
 length-keys [] = refl
 length-keys (e ∷ es) = ap suc (length-keys es)
 
-pub Notes-from : (old was : Entries) (value : Option (List ℕ)) (p n : ℕ) (new : Entries) → Notes old value p new → old ≡ was → p ≡ n → Notes was value n new
-Notes-from old was value p n new notes from number = subst (λ es. Notes es value n new) from (subst (λ k. Notes old value k new) number notes)
+pub AddsToIndex-from : (old was : Entries) (value : Option (List ℕ)) (p n : ℕ) (new : Entries) → AddsToIndex old value p new → old ≡ was → p ≡ n → AddsToIndex was value n new
+AddsToIndex-from old was value p n new notes from number = subst (λ es. AddsToIndex es value n new) from (subst (λ k. AddsToIndex old value k new) number notes)
 
 -- equal parts
-pub IsIndexed-same : (processes : List Locality) (ids machines zones halls centers : Entries) (places : List Places) (processes' : List Locality) (ids' machines' zones' halls' centers' : Entries) (places' : List Places)
+pub IsIndexed-same : (processes : List Locality) (ids machines zones halls centers : Entries) (places : List ValueIndexes) (processes' : List Locality) (ids' machines' zones' halls' centers' : Entries) (places' : List ValueIndexes)
     → IsIndexed processes ids machines zones halls centers places → processes' ≡ processes → ids' ≡ ids → machines' ≡ machines → zones' ≡ zones → halls' ≡ halls → centers' ≡ centers → places' ≡ places
     → IsIndexed processes' ids' machines' zones' halls' centers' places'
 IsIndexed-same processes ids machines zones halls centers places processes' ids' machines' zones' halls' centers' places' was p i m z h c at = record {
@@ -206,7 +206,7 @@ IsIndexed-same processes ids machines zones halls centers places processes' ids'
   zones_are = same Zone zones zones' was.zones_are z;
   halls_are = same DataHall halls halls' was.halls_are h;
   centers_are = same DataCenter centers centers' was.centers_are c;
-  places_are = subst (λ ps. ArePlaces ps places') (sym p) (subst (ArePlaces processes) (sym at) was.places_are);
+  places_are = subst (λ ps. AreValueIndexes ps places') (sym p) (subst (AreValueIndexes processes) (sym at) was.places_are);
 }
   where
     same : (key : Key) (es es' : Entries) → IsIndex processes key es → es' ≡ es → IsIndex processes' key es'
@@ -217,10 +217,10 @@ on_ok (Ok x) ok h = h
 on_ok (Err e) ok h = absurd (let x : ⊥ = cc in x)
 
 pub no_name : (processes : List Locality) (new : Locality) → are_names new ≡ false → refusal_of processes new ≡ Some Name
-no_name processes new none = ap (λ b. cond b (taken_or_full processes new.process) (Some Name)) none
+no_name processes new none = ap (λ b. cond b (id_refusal processes new.process) (Some Name)) none
 
-pub named : (processes : List Locality) (new : Locality) → are_names new ≡ true → refusal_of processes new ≡ taken_or_full processes new.process
-named processes new names = ap (λ b. cond b (taken_or_full processes new.process) (Some Name)) names
+pub named : (processes : List Locality) (new : Locality) → are_names new ≡ true → refusal_of processes new ≡ id_refusal processes new.process
+named processes new names = ap (λ b. cond b (id_refusal processes new.process) (Some Name)) names
 
 pub not_true : (b : Bool) → (b ≡ true → false ≡ true) → b ≡ false
 not_true true h = sym (h refl)

@@ -20,7 +20,7 @@ use Rattle.fy_locality.specs.declared.locality.Locality.{Locality}
 use Rattle.fy_locality.specs.declared.key.Key.{Key}
 use Rattle.fy_locality.specs.declared.key.Key.TheVariants.{Process}
 use Rattle.fy_locality.specs.Locality.{value_in, value_of, has_value, first_seen, values_of}
-use Rattle.fy_locality.specs.Noted.{noted}
+use Rattle.fy_locality.specs.Noted.{names_with}
 
 -- no process past the end has a value
 pub no_value : (processes : List Locality) (key : Key) (v : List ℕ) (q : ℕ) → length processes ≤ q → has_value processes key v q ≡ false
@@ -153,13 +153,13 @@ first_seen-push (y ∷ ys) x =
     ap (λ zs. y ∷ filter (differs_from y) zs) (first_seen-push ys x)
     ∙ one_more y x (first_seen ys) (is_member bytes_eq (first_seen ys) x) refl (bytes_eq x y) refl
 
-pub values_of-push : (processes : List Locality) (locality : Locality) (key : Key) → values_of (processes ++ locality ∷ []) key ≡ noted (values_of processes key) (value_in key locality)
+pub values_of-push : (processes : List Locality) (locality : Locality) (key : Key) → values_of (processes ++ locality ∷ []) key ≡ names_with (values_of processes key) (value_in key locality)
 unfolding values_of
 values_of-push processes locality key =
     ap first_seen (filter_map-append (value_in key) processes (locality ∷ []))
     ∙ go (filter_map (value_in key) processes) (value_in key locality)
   where
-    go : (vs : List (List ℕ)) (o : Option (List ℕ)) → first_seen (vs ++ cons_option o []) ≡ noted (first_seen vs) o
+    go : (vs : List (List ℕ)) (o : Option (List ℕ)) → first_seen (vs ++ cons_option o []) ≡ names_with (first_seen vs) o
     go vs None = ap first_seen (append-nil vs)
     go vs (Some v) = first_seen-push vs v
 

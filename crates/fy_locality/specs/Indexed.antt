@@ -6,7 +6,7 @@ use Rattle.std.specs.List.{filter_map}
 use Rattle.std.specs.Map.{keys_of, lookup}
 use Rattle.std.specs.Str.{bytes_eq}
 use Rattle.fy_locality.specs.declared.TheConstants.{MOST_PROCESSES}
-use Rattle.fy_locality.specs.declared.map.Places.{Places}
+use Rattle.fy_locality.specs.declared.map.ValueIndexes.{ValueIndexes}
 use Rattle.fy_locality.specs.declared.locality.Locality.{Locality}
 use Rattle.fy_locality.specs.declared.key.Key.{Key}
 use Rattle.fy_locality.specs.declared.key.Key.TheVariants.{Process, Machine, Zone, DataHall, DataCenter}
@@ -28,29 +28,29 @@ pub record IsIndex (processes : List Locality) (key : Key) (entries : Entries) :
       → sets.contains (group_of entries v) q ≡ has_value processes key v q
 
 -- a value stands at its place among the names, and what is no value has no place
-abbrev pub StandsAt : List (List ℕ) → Option (List ℕ) → Option ℕ → Type 0
-StandsAt names value place =
+abbrev pub IsValueIndex : List (List ℕ) → Option (List ℕ) → Option ℕ → Type 0
+IsValueIndex names value place =
     MatchOption value (place ≡ None) (λ v. option_and_then (slice_get names) place ≡ Some v)
 
 -- the place that is kept for a key of process p: its own name stands at its number
-abbrev pub place_in : Key → ℕ → Places → Option ℕ
-place_in Process p places = Some p
-place_in Machine p places = places.machine
-place_in Zone p places = places.zone
-place_in DataHall p places = places.data_hall
-place_in DataCenter p places = places.data_center
+abbrev pub value_index_in : Key → ℕ → ValueIndexes → Option ℕ
+value_index_in Process p places = Some p
+value_index_in Machine p places = places.machine
+value_index_in Zone p places = places.zone
+value_index_in DataHall p places = places.data_hall
+value_index_in DataCenter p places = places.data_center
 
 -- each value of each process stands at the place that is kept for it
-pub record ArePlaces (processes : List Locality) (places : List Places) : Type 0 where
+pub record AreValueIndexes (processes : List Locality) (places : List ValueIndexes) : Type 0 where
   pub count : length places ≡ length processes
   pub stand :
-      (key : Key) (p : ℕ) (kept : Places)
+      (key : Key) (p : ℕ) (kept : ValueIndexes)
       → slice_get places p ≡ Some kept
-      → StandsAt (values_of processes key) (value_of processes key p) (place_in key p kept)
+      → IsValueIndex (values_of processes key) (value_of processes key p) (value_index_in key p kept)
 
 -- names that differ, an index for each key, and places in them
 pub record IsIndexed
-    (processes : List Locality) (ids machines zones halls centers : Entries) (places : List Places)
+    (processes : List Locality) (ids machines zones halls centers : Entries) (places : List ValueIndexes)
     : Type 0 where
   pub few : length processes ≤ MOST_PROCESSES
   pub own : filter_map (value_in Process) processes ≡ values_of processes Process
@@ -59,4 +59,4 @@ pub record IsIndexed
   pub zones_are : IsIndex processes Zone zones
   pub halls_are : IsIndex processes DataHall halls
   pub centers_are : IsIndex processes DataCenter centers
-  pub places_are : ArePlaces processes places
+  pub places_are : AreValueIndexes processes places

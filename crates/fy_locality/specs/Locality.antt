@@ -72,12 +72,12 @@ are_names locality =
     && option_map_or is_name locality.data_center true
 
 -- why a process with a name is not taken, in order
-abbrev pub taken_or_full : List Locality → List ℕ → Option MapFault
-taken_or_full processes id =
+abbrev pub id_refusal : List Locality → List ℕ → Option MapFault
+id_refusal processes id =
     if is_member bytes_eq (values_of processes Process) id
     then Some Twice
     else (if nat_le MOST_PROCESSES (length processes) then Some TooMany else None)
 
 -- why a process is not added, in order
 abbrev pub refusal_of : List Locality → Locality → Option MapFault
-refusal_of processes new = if are_names new then taken_or_full processes new.process else Some Name
+refusal_of processes new = if are_names new then id_refusal processes new.process else Some Name

@@ -54,5 +54,5 @@ words_from f k zero = []
 words_from f k (suc n) = word f (k * 64) 64 ∷ words_from f (suc k) n
 
 -- the words of a set
-unfoldable pub words_of : set.FinSet nat_cmp → List ℕ
-words_of s = words_from (set.contains s) 0 SET_WORDS
+unfoldable pub set_words : set.FinSet nat_cmp → List ℕ
+set_words s = words_from (set.contains s) 0 SET_WORDS

@@ -10,7 +10,7 @@ use Rattle.std.proofs.lemmas.Nat.Bits.{same_from_bits_below, bit_at-lt, bit_at_c
 use Rattle.std.proofs.lemmas.List.{same_lists, get_or_default}
 use Rattle.std.proofs.lemmas.Bool.{cases_lt}
 use Rattle.std.proofs.lemmas.Bool.Decides.{nat_tests}
-use Rattle.fy_locality.specs.Members.{has_bit, members_below, members, AreWords, word, words_from, words_of}
+use Rattle.fy_locality.specs.Members.{has_bit, members_below, members, AreWords, word, words_from, set_words}
 
 with_last :
     (f : ℕ → Bool) (n q : ℕ) → f n ≡ true
@@ -116,9 +116,9 @@ contains-members_at ws k i in_words in_word =
     ∙ ap (λ j. eqb (bit_at (get_or ws j 0) ((k * 64 + i) % 64)) 1) at
     ∙ ap (λ j. eqb (bit_at (get_or ws k 0) j) 1) bit
 
-pub words_of-members : (ws : List ℕ) → AreWords ws → words_of (members ws) ≡ ws
-unfolding words_of
-words_of-members ws are =
+pub set_words-members : (ws : List ℕ) → AreWords ws → set_words (members ws) ≡ ws
+unfolding set_words
+set_words-members ws are =
     let f : ℕ → Bool = set.contains (members ws) in
     same_lists _ _ (length-words_from f 0 16 ∙ sym are.count) (λ k d h.
     let in_words : k < 16 = omega (arith, length-words_from f 0 16) in

@@ -8,13 +8,13 @@ use Rattle.indexmap.specs.IndexSet.{insert_key}
 use Rattle.fy_locality.specs.Indexed.{Entries, group_of}
 
 -- the names after one more is seen, where there is one
-abbrev pub noted : List (List ℕ) → Option (List ℕ) → List (List ℕ)
-noted names None = names
-noted names (Some v) = insert_key bytes_eq names v
+abbrev pub names_with : List (List ℕ) → Option (List ℕ) → List (List ℕ)
+names_with names None = names
+names_with names (Some v) = insert_key bytes_eq names v
 
 -- p is put into the set of its value, where it has one
-pub record Notes (old : Entries) (value : Option (List ℕ)) (p : ℕ) (new : Entries) : Type 0 where
-  pub seen : keys_of new ≡ noted (keys_of old) value
+pub record AddsToIndex (old : Entries) (value : Option (List ℕ)) (p : ℕ) (new : Entries) : Type 0 where
+  pub seen : keys_of new ≡ names_with (keys_of old) value
   pub grouped :
       (v : List ℕ) (q : ℕ)
       → sets.contains (group_of new v) q

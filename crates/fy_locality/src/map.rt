@@ -5,9 +5,9 @@ ghost use Rattle.std.specs.Option.{option_copied};
 ghost use Rattle.std.specs.Map.{keys_of};
 ghost use Rattle.indexmap.specs.IndexMap.{spare};
 ghost use Rattle.fy_locality.specs.declared.key.Key.TheVariants.{Process};
-ghost use Rattle.fy_locality.specs.Locality.{value_of, has_value, values_of, NamesDiffer, ArePeers, locality_of, taken_or_full, refusal_of};
-ghost use Rattle.fy_locality.specs.Indexed.{IsIndex, StandsAt, group_of};
-ghost use Rattle.fy_locality.specs.Noted.{Notes};
+ghost use Rattle.fy_locality.specs.Locality.{value_of, has_value, values_of, NamesDiffer, ArePeers, locality_of, id_refusal, refusal_of};
+ghost use Rattle.fy_locality.specs.Indexed.{IsIndex, IsValueIndex, group_of};
+ghost use Rattle.fy_locality.specs.Noted.{AddsToIndex};
 
 use crate::{BadName, Key, Locality, MOST_PROCESSES, Name, ProcId, ProcSet};
 use indexmap::IndexMap;
@@ -23,13 +23,13 @@ pub struct Map {
     zones: IndexMap<Name, ProcSet>,
     halls: IndexMap<Name, ProcSet>,
     centers: IndexMap<Name, ProcSet>,
-    places: Vec<Places>,
+    places: Vec<ValueIndexes>,
 }
 
 /// Where the values of one process stand among the values of their keys, so that no name has to be
 /// looked up for them. None for a key of which it has no value.
 #[derive(Clone, Copy)]
-struct Places {
+struct ValueIndexes {
     machine: Option<usize>,
     zone: Option<usize>,
     data_hall: Option<usize>,
@@ -147,7 +147,7 @@ impl Map {
 
     /// Where the value of a process stands among the values of a key.
     fn place(&self, p: ProcId, key: Key) -> Option<usize>
-        ensures { StandsAt (values_of self.now key) (value_of self.now key p.0) result }
+        ensures { IsValueIndex (values_of self.now key) (value_of self.now key p.0) result }
     {
         let places = self.places.get(p.0 as usize)?;
         match key {
@@ -250,7 +250,7 @@ impl Map {
     }
 
     fn refusal(&self, id: &Name) -> Option<MapFault>
-        ensures { result ≡ taken_or_full self.now id.now }
+        ensures { result ≡ id_refusal self.now id.now }
     {
         if self.ids.contains_key(id) {
             return Some(MapFault::Twice);
@@ -269,8 +269,8 @@ impl Map {
     /// there already; `NoMemory`.
     pub fn push(&mut self, locality: Locality) -> Result<ProcId, MapFault>
         ensures refused { (fault : MapFault)
-            → taken_or_full self.old locality.process ≡ Some fault → result ≡ Err fault }
-        ensures memory { taken_or_full self.old locality.process ≡ None
+            → id_refusal self.old locality.process ≡ Some fault → result ≡ Err fault }
+        ensures memory { id_refusal self.old locality.process ≡ None
             → IfErr result (λ fault. fault ≡ NoMemory) }
         ensures ok { IfOk result (λ p.
             (p.0 ≡ length self.old) × (self.new ≡ self.old ++ locality ∷ [])) }
@@ -287,12 +287,12 @@ impl Map {
         self.halls.reserve(1)?;
         self.centers.reserve(1)?;
         self.places.reserve(1)?;
-        let _number = note(&mut self.ids, Some(locality.process), number);
-        let places = Places {
-            machine: note(&mut self.machines, Some(locality.machine), number),
-            zone: note(&mut self.zones, Some(locality.zone), number),
-            data_hall: note(&mut self.halls, locality.data_hall, number),
-            data_center: note(&mut self.centers, locality.data_center, number),
+        let _number = add_to_index(&mut self.ids, Some(locality.process), number);
+        let places = ValueIndexes {
+            machine: add_to_index(&mut self.machines, Some(locality.machine), number),
+            zone: add_to_index(&mut self.zones, Some(locality.zone), number),
+            data_hall: add_to_index(&mut self.halls, locality.data_hall, number),
+            data_center: add_to_index(&mut self.centers, locality.data_center, number),
         };
         self.processes.push_reserved(locality);
         self.places.push_reserved(places);
@@ -413,11 +413,15 @@ fn group(index: &IndexMap<Name, ProcSet>, value: &Name) -> ProcSet
 
 /// Puts a process into the set of its value, and says where that value stands; nothing where it has
 /// none.
-fn note(index: &mut IndexMap<Name, ProcSet>, value: Option<Name>, p: ProcId) -> Option<usize>
+fn add_to_index(
+    index: &mut IndexMap<Name, ProcSet>,
+    value: Option<Name>,
+    p: ProcId,
+) -> Option<usize>
     requires room { 0 < spare index.old }
     requires small { p.0 < MOST_PROCESSES }
-    ensures notes { Notes index.old.entries value p.0 index.new.entries }
-    ensures place { StandsAt (keys_of index.new.entries) value result }
+    ensures notes { AddsToIndex index.old.entries value p.0 index.new.entries }
+    ensures place { IsValueIndex (keys_of index.new.entries) value result }
 {
     let name = value?;
     let mut members = group(index, &name);

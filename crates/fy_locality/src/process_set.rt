@@ -25,16 +25,16 @@ impl Model for ProcSet {
 
     ghost coded = { sets.code coded_ℕ };
 
-    ghost use Rattle.fy_locality.specs.Members.{members, words_of, AreWords};
-    ghost use Rattle.fy_locality.specs.MembersInverse.{words_of-members};
+    ghost use Rattle.fy_locality.specs.Members.{members, set_words, AreWords};
+    ghost use Rattle.fy_locality.specs.MembersInverse.{set_words-members};
 
     ghost view = { λ s. members s.words };
 
     ghost invariant = { λ s. AreWords s.words };
 
-    ghost inverse = { λ v. record { words = words_of v } };
+    ghost inverse = { λ v. record { words = set_words v } };
 
-    ghost inverse_ok = { λ a h. λ i. record { words = words_of-members a.words h i } };
+    ghost inverse_ok = { λ a h. λ i. record { words = set_words-members a.words h i } };
 }
 
 impl ProcSet {

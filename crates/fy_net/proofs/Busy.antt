@@ -14,7 +14,7 @@ use Rattle.fy_net.specs.declared.message.Body.TheVariants.{Store, Synced}
 use Rattle.fy_net.specs.declared.pool.Ends.{Ends}
 use Rattle.fy_net.specs.declared.pool.Pool.{Pool}
 use Rattle.fy_net.specs.Net.{process_of}
-use Rattle.fy_net.specs.Pool.{chain_of, no_ends, has_first, is_busy, lower_of, IsFirst, IsThereOf, IsFreeOf, IsPool}
+use Rattle.fy_net.specs.Pool.{chain_of, no_ends, has_first, is_busy, lower_of, IsFirst, IsThereOnChain, IsFreeOf, IsPool}
 use Rattle.fy_net.proofs.Candidates.{FreeAmong, none_among, same_among, one_more}
 use Rattle.fy_net.proofs.Flights.{eqb_same, eqb_other}
 
@@ -144,15 +144,15 @@ neither false b is = (refl, is)
 module _ (pool : Pool) (is_pool : IsPool pool) where
   -- of a process that isn't busy no message is there
   none_where : (p k : ℕ) → p < MOST_PROCESSES → sets.contains pool.busy p ≡ false → p < pool.processes → k < length pool.slots.items
-      → IsThereOf pool.processes pool.slots.items p k ⊎ IsThereOf pool.processes pool.slots.items (pool.processes + p) k → ⊥
+      → IsThereOnChain pool.processes pool.slots.items p k ⊎ IsThereOnChain pool.processes pool.slots.items (pool.processes + p) k → ⊥
   none_where p k small absent lt within there = go there
     where
       none : (has_first pool.ends.items p ≡ false) × (has_first pool.ends.items (pool.processes + p) ≡ false)
       none = neither (has_first pool.ends.items p) (has_first pool.ends.items (pool.processes + p)) (sym (busy_there pool.processes pool.ends.items p small lt) ∙ sym (is_pool.noted p) ∙ absent)
 
-      go : IsThereOf pool.processes pool.slots.items p k ⊎ IsThereOf pool.processes pool.slots.items (pool.processes + p) k → ⊥
-      go (inl store) = no_first (IsThereOf pool.processes pool.slots.items p) (length pool.slots.items) _ none.0 (is_pool.chained.first p (omega (arith, is_pool.chained.wide))) k within store
-      go (inr word) = no_first (IsThereOf pool.processes pool.slots.items (pool.processes + p)) (length pool.slots.items) _ none.1 (is_pool.chained.first (pool.processes + p) (omega (arith, is_pool.chained.wide))) k within word
+      go : IsThereOnChain pool.processes pool.slots.items p k ⊎ IsThereOnChain pool.processes pool.slots.items (pool.processes + p) k → ⊥
+      go (inl store) = no_first (IsThereOnChain pool.processes pool.slots.items p) (length pool.slots.items) _ none.0 (is_pool.chained.first p (omega (arith, is_pool.chained.wide))) k within store
+      go (inr word) = no_first (IsThereOnChain pool.processes pool.slots.items (pool.processes + p)) (length pool.slots.items) _ none.1 (is_pool.chained.first (pool.processes + p) (omega (arith, is_pool.chained.wide))) k within word
 
 -- a process that a set can have isn't in it any more
 abbrev pub NotIn : Set → ℕ → Type 0
@@ -167,17 +167,17 @@ module _ (pool : Pool) (is_pool : IsPool pool) (until : List ℕ) (now : ℕ) (u
   pub walked_none : Walked pool until now up pool.busy None
   walked_none = record {
     within = λ q there. there;
-    found = none_among pool.processes until now up pool.slots.items is_pool.known (NotIn pool.busy) (λ p k asked. none_where pool is_pool p k asked.0 asked.1);
+    found = none_among pool until now up is_pool.known (NotIn pool.busy) (λ p k asked. none_where pool is_pool p k asked.0 asked.1);
   }
 
   pub walked_small : (rest : Set) (p : ℕ) (r : Option ℕ) → IsLeast rest p → Walked pool until now up rest r → (p < MOST_PROCESSES) × (p < pool.processes)
   walked_small rest p r least walked = busy_small pool.processes pool.ends.items p (sym (is_pool.noted p) ∙ walked.within p least.present)
 
   pub walked_more : (rest next : Set) (p : ℕ) (r q : Option ℕ) → IsLeast rest p → next ≡ sets.remove rest p → Walked pool until now up rest r
-      → IsFirst (IsFreeOf until now up pool.processes pool.slots.items p) 0 (length pool.slots.items) q → Walked pool until now up next (lower_of r q)
+      → IsFirst (IsFreeOf pool until now up p) 0 (length pool.slots.items) q → Walked pool until now up next (lower_of r q)
   walked_more rest next p r q least without walked own = record {
     within = λ x there. walked.within x (still x (eqb x p) (sym (gone x) ∙ there));
-    found = one_more pool.processes until now up pool.slots.items is_pool.known (NotIn rest) (NotIn next) p r q small.1
+    found = one_more pool until now up is_pool.known (NotIn rest) (NotIn next) p r q small.1
         (small.0, gone p ∙ ap (λ b. not b && sets.contains rest p) (eqb_same p p refl))
         (λ x asked. (asked.0, gone x ∙ nothing (not (eqb x p)) (sets.contains rest x) asked.1))
         (λ x asked other. (asked.0, sym (gone x ∙ ap (λ b. not b && sets.contains rest x) (eqb_other x p other)) ∙ asked.1))
@@ -199,12 +199,12 @@ module _ (pool : Pool) (is_pool : IsPool pool) (until : List ℕ) (now : ℕ) (u
       nothing false b is = refl
 
   pub walked_all : (rest : Set) (r : Option ℕ) → rest ≡ sets.empty → Walked pool until now up rest r → IsFirst (FreeAmong until now up pool.slots.items (λ q. q < MOST_PROCESSES)) 0 (length pool.slots.items) r
-  walked_all rest r none walked = same_among pool.processes until now up pool.slots.items is_pool.known (NotIn rest) (λ q. q < MOST_PROCESSES) r
+  walked_all rest r none walked = same_among pool until now up is_pool.known (NotIn rest) (λ q. q < MOST_PROCESSES) r
       (λ x asked. asked.0)
       (λ x lt. (lt, ap (λ s. sets.contains s x) none ∙ sets.contains-empty nat_cmp x))
       walked.found
 
   -- one process more beyond those of the set
   pub walked_beyond : (p : ℕ) (r q : Option ℕ) → p < pool.processes → IsFirst (FreeAmong until now up pool.slots.items (λ x. x < p)) 0 (length pool.slots.items) r
-      → IsFirst (IsFreeOf until now up pool.processes pool.slots.items p) 0 (length pool.slots.items) q → IsFirst (FreeAmong until now up pool.slots.items (λ x. x < p + 1)) 0 (length pool.slots.items) (lower_of r q)
-  walked_beyond p r q lt first own = one_more pool.processes until now up pool.slots.items is_pool.known (λ x. x < p) (λ x. x < p + 1) p r q lt (omega arith) (λ x asked. omega arith) (λ x asked other. omega arith) first own
+      → IsFirst (IsFreeOf pool until now up p) 0 (length pool.slots.items) q → IsFirst (FreeAmong until now up pool.slots.items (λ x. x < p + 1)) 0 (length pool.slots.items) (lower_of r q)
+  walked_beyond p r q lt first own = one_more pool until now up is_pool.known (λ x. x < p) (λ x. x < p + 1) p r q lt (omega arith) (λ x asked. omega arith) (λ x asked other. omega arith) first own

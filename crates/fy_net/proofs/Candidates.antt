@@ -6,10 +6,11 @@ use Rattle.std.proofs.lemmas.Bool.{cases_eq, cases_lt, false≢true}
 use Rattle.std.proofs.lemmas.List.{get_or-map, get_or_default}
 use Rattle.fy_net.specs.declared.message.Body.{Body}
 use Rattle.fy_net.specs.declared.message.Body.TheVariants.{Store, Synced}
+use Rattle.fy_net.specs.declared.pool.Pool.{Pool}
 use Rattle.fy_net.specs.declared.slot.Slot.{Slot}
-use Rattle.fy_net.specs.Net.{process_of, is_reached}
+use Rattle.fy_net.specs.Net.{process_of, receiver_is_up}
 use Rattle.fy_net.specs.Places.{may_be_taken}
-use Rattle.fy_net.specs.Pool.{chain_of, chain_at, is_there, lower_of, IsFirst, IsThereOf, IsReachedOf, IsFreeOf}
+use Rattle.fy_net.specs.Pool.{chain_of, chain_at, is_there, lower_of, IsFirst, IsThereOnChain, IsReachedOf, IsFreeOf}
 use Rattle.fy_net.specs.Slots.{there_of}
 use Rattle.fy_net.proofs.Chains.{first_same}
 use Rattle.fy_net.proofs.Slots.{some_slot, found_none, found_first}
@@ -39,35 +40,35 @@ both_parts false reached free = (refl, free)
 both_of_parts : (clogged reached : Bool) → clogged ≡ false → reached ≡ true → (not clogged && reached) ≡ true
 both_of_parts clogged reached unclogged up = rw (unclogged, up) refl
 
-module _ (processes : ℕ) (until : List ℕ) (now : ℕ) (up : ℕ → Bool) where
-  module _ (slots : List Slot) (known : All (λ s. process_of s.message.body < processes) slots) where
+module _ (pool : Pool) (until : List ℕ) (now : ℕ) (up : ℕ → Bool) where
+  module _ (known : All (λ s. process_of s.message.body < pool.processes) pool.slots.items) where
     abbrev Among : (ℕ → Type 0) → ℕ → Type 0
-    Among Asked k = FreeAmong until now up slots Asked k
+    Among Asked k = FreeAmong until now up pool.slots.items Asked k
 
     abbrev body_at : ℕ → Body
-    body_at k = (get_or slots k some_slot).message.body
+    body_at k = (get_or pool.slots.items k some_slot).message.body
 
-    chain_is : (k : ℕ) → k < length slots → chain_at processes slots k ≡ chain_of processes (body_at k)
-    chain_is k lt = get_or-map (λ (x : Slot). chain_of processes x.message.body) slots k some_slot 0 lt
+    chain_is : (k : ℕ) → k < length pool.slots.items → chain_at pool.processes pool.slots.items k ≡ chain_of pool.processes (body_at k)
+    chain_is k lt = get_or-map (λ (x : Slot). chain_of pool.processes x.message.body) pool.slots.items k some_slot 0 lt
 
     -- none of those that were asked has a message that is there
-    of_chains : (k : ℕ) (b : Body) → chain_at processes slots k ≡ chain_of processes b → is_there slots k ≡ true → IsThereOf processes slots (process_of b) k ⊎ IsThereOf processes slots (processes + process_of b) k
+    of_chains : (k : ℕ) (b : Body) → chain_at pool.processes pool.slots.items k ≡ chain_of pool.processes b → is_there pool.slots.items k ≡ true → IsThereOnChain pool.processes pool.slots.items (process_of b) k ⊎ IsThereOnChain pool.processes pool.slots.items (pool.processes + process_of b) k
     of_chains k (Store rec to) chain there = inl (chain, there)
     of_chains k (Synced rec from) chain there = inr (chain, there)
 
-    pub none_among : (Asked : ℕ → Type 0) → ((p k : ℕ) → Asked p → p < processes → k < length slots → IsThereOf processes slots p k ⊎ IsThereOf processes slots (processes + p) k → ⊥) → IsFirst (Among Asked) 0 (length slots) None
+    pub none_among : (Asked : ℕ → Type 0) → ((p k : ℕ) → Asked p → p < pool.processes → k < length pool.slots.items → IsThereOnChain pool.processes pool.slots.items p k ⊎ IsThereOnChain pool.processes pool.slots.items (pool.processes + p) k → ⊥) → IsFirst (Among Asked) 0 (length pool.slots.items) None
     none_among Asked none = λ k _ lt holds. none (process_of (body_at k)) k holds.2 (known k some_slot lt) lt (of_chains k (body_at k) (chain_is k lt) holds.0)
 
     -- others were asked, of which the same holds
-    pub same_among : (Asked Asked' : ℕ → Type 0) (r : Option ℕ) → ((x : ℕ) → Asked x → Asked' x) → ((x : ℕ) → Asked' x → Asked x) → IsFirst (Among Asked) 0 (length slots) r → IsFirst (Among Asked') 0 (length slots) r
-    same_among Asked Asked' r there back = first_same (Among Asked) (Among Asked') 0 (length slots) r (λ k _ _ holds. (holds.0, holds.1, there _ holds.2)) (λ k _ _ holds. (holds.0, holds.1, back _ holds.2))
+    pub same_among : (Asked Asked' : ℕ → Type 0) (r : Option ℕ) → ((x : ℕ) → Asked x → Asked' x) → ((x : ℕ) → Asked' x → Asked x) → IsFirst (Among Asked) 0 (length pool.slots.items) r → IsFirst (Among Asked') 0 (length pool.slots.items) r
+    same_among Asked Asked' r there back = first_same (Among Asked) (Among Asked') 0 (length pool.slots.items) r (λ k _ _ holds. (holds.0, holds.1, there _ holds.2)) (λ k _ _ holds. (holds.0, holds.1, back _ holds.2))
 
     -- one that isn't clogged has those that find it up
-    reached_if : (p k : ℕ) (b : Body) → chain_at processes slots k ≡ chain_of processes b → is_there slots k ≡ true → process_of b ≡ p → is_reached up b ≡ true → IsReachedOf processes slots p (up p) k
+    reached_if : (p k : ℕ) (b : Body) → chain_at pool.processes pool.slots.items k ≡ chain_of pool.processes b → is_there pool.slots.items k ≡ true → process_of b ≡ p → receiver_is_up up b ≡ true → IsReachedOf pool p (up p) k
     reached_if p k (Store rec to) chain there is reached = inr ((chain ∙ is, there), ap up (sym is) ∙ reached)
-    reached_if p k (Synced rec from) chain there is reached = inl (chain ∙ ap (λ x. processes + x) is, there)
+    reached_if p k (Synced rec from) chain there is reached = inl (chain ∙ ap (λ x. pool.processes + x) is, there)
 
-    reached_only : (p k : ℕ) (b : Body) → p < processes → process_of b < processes → chain_at processes slots k ≡ chain_of processes b → IsReachedOf processes slots p (up p) k → (process_of b ≡ p) × (is_reached up b ≡ true)
+    reached_only : (p k : ℕ) (b : Body) → p < pool.processes → process_of b < pool.processes → chain_at pool.processes pool.slots.items k ≡ chain_of pool.processes b → IsReachedOf pool p (up p) k → (process_of b ≡ p) × (receiver_is_up up b ≡ true)
     reached_only p k (Store rec to) below lt chain (inl word) = absurd (omega (arith, word.0))
     reached_only p k (Store rec to) below lt chain (inr store) =
         let is : to.0 ≡ p = sym chain ∙ store.0.0 in
@@ -76,45 +77,45 @@ module _ (processes : ℕ) (until : List ℕ) (now : ℕ) (up : ℕ → Bool) wh
     reached_only p k (Synced rec from) below lt chain (inr store) = absurd (omega (arith, store.0.0))
 
     -- one more is asked
-    pub one_more : (Asked Asked' : ℕ → Type 0) (p : ℕ) (r q : Option ℕ) → p < processes → Asked' p → ((x : ℕ) → Asked x → Asked' x) → ((x : ℕ) → Asked' x → x ≢ p → Asked x)
-        → IsFirst (Among Asked) 0 (length slots) r → IsFirst (IsFreeOf until now up processes slots p) 0 (length slots) q → IsFirst (Among Asked') 0 (length slots) (lower_of r q)
-    one_more Asked Asked' p r q below here more fewer first own = first_same (λ k. Among Asked k ⊎ IsFreeOf until now up processes slots p k) (Among Asked') 0 (length slots) (lower_of r q)
+    pub one_more : (Asked Asked' : ℕ → Type 0) (p : ℕ) (r q : Option ℕ) → p < pool.processes → Asked' p → ((x : ℕ) → Asked x → Asked' x) → ((x : ℕ) → Asked' x → x ≢ p → Asked x)
+        → IsFirst (Among Asked) 0 (length pool.slots.items) r → IsFirst (IsFreeOf pool until now up p) 0 (length pool.slots.items) q → IsFirst (Among Asked') 0 (length pool.slots.items) (lower_of r q)
+    one_more Asked Asked' p r q below here more fewer first own = first_same (λ k. Among Asked k ⊎ IsFreeOf pool until now up p k) (Among Asked') 0 (length pool.slots.items) (lower_of r q)
         (λ k _ lt holds. to k lt holds)
         (λ k _ lt holds. from k lt holds (cases_eq (process_of (body_at k)) p))
-        (lower_is (Among Asked) (IsFreeOf until now up processes slots p) 0 (length slots) r q first own)
+        (lower_is (Among Asked) (IsFreeOf pool until now up p) 0 (length pool.slots.items) r q first own)
       where
-        reached_there : (k : ℕ) → IsReachedOf processes slots p (up p) k → is_there slots k ≡ true
+        reached_there : (k : ℕ) → IsReachedOf pool p (up p) k → is_there pool.slots.items k ≡ true
         reached_there k (inl word) = word.1
         reached_there k (inr store) = store.0.1
 
-        to : (k : ℕ) → k < length slots → Among Asked k ⊎ IsFreeOf until now up processes slots p k → Among Asked' k
+        to : (k : ℕ) → k < length pool.slots.items → Among Asked k ⊎ IsFreeOf pool until now up p k → Among Asked' k
         to k lt (inl free) = (free.0, free.1, more (process_of (body_at k)) free.2)
         to k lt (inr free) =
             let b = body_at k in
-            let only : (process_of b ≡ p) × (is_reached up b ≡ true) = reached_only p k b below (known k some_slot lt) (chain_is k lt) free.1 in
+            let only : (process_of b ≡ p) × (receiver_is_up up b ≡ true) = reached_only p k b below (known k some_slot lt) (chain_is k lt) free.1 in
             let unclogged : nat_lt now (slice_index until (process_of b)) ≡ false = ap (λ x. nat_lt now (slice_index until x)) only.0 ∙ free.0 in
-            (reached_there k free.1, both_of_parts (nat_lt now (slice_index until (process_of b))) (is_reached up b) unclogged only.1, rw only.0 here)
+            (reached_there k free.1, both_of_parts (nat_lt now (slice_index until (process_of b))) (receiver_is_up up b) unclogged only.1, rw only.0 here)
 
-        from : (k : ℕ) → k < length slots → Among Asked' k → (process_of (body_at k) ≡ p) ⊎ (process_of (body_at k) ≢ p) → Among Asked k ⊎ IsFreeOf until now up processes slots p k
+        from : (k : ℕ) → k < length pool.slots.items → Among Asked' k → (process_of (body_at k) ≡ p) ⊎ (process_of (body_at k) ≢ p) → Among Asked k ⊎ IsFreeOf pool until now up p k
         from k lt free (inl is) =
             let b = body_at k in
-            let parts = both_parts (nat_lt now (slice_index until (process_of b))) (is_reached up b) free.1 in
+            let parts = both_parts (nat_lt now (slice_index until (process_of b))) (receiver_is_up up b) free.1 in
             inr (ap (λ x. nat_lt now (slice_index until x)) (sym is) ∙ parts.0, reached_if p k b (chain_is k lt) free.0 is parts.1)
         from k lt free (inr other) = inl (free.0, free.1, fewer (process_of (body_at k)) free.2 other)
 
     -- where all were asked it is the first of all
-    pub first_found : (Asked : ℕ → Type 0) → ((x : ℕ) → x < processes → Asked x) → (i : ℕ) → IsFirst (Among Asked) 0 (length slots) (Some i) → find (may_be_taken until now up) (there_of slots) ≡ Some (get_or slots i some_slot).message
-    first_found Asked all i first = found_first (may_be_taken until now up) slots i some_slot first.1
-        (sym (get_or-map (λ (x : Slot). x.there) slots i some_slot false first.1) ∙ first.2.0) first.2.1
-        (λ k lt there. fails k lt there (may_be_taken until now up (get_or slots k some_slot).message) refl)
+    pub first_found : (Asked : ℕ → Type 0) → ((x : ℕ) → x < pool.processes → Asked x) → (i : ℕ) → IsFirst (Among Asked) 0 (length pool.slots.items) (Some i) → find (may_be_taken until now up) (there_of pool.slots.items) ≡ Some (get_or pool.slots.items i some_slot).message
+    first_found Asked all i first = found_first (may_be_taken until now up) pool.slots.items i some_slot first.1
+        (sym (get_or-map (λ (x : Slot). x.there) pool.slots.items i some_slot false first.1) ∙ first.2.0) first.2.1
+        (λ k lt there. fails k lt there (may_be_taken until now up (get_or pool.slots.items k some_slot).message) refl)
       where
-        fails : (k : ℕ) → k < i → (get_or slots k some_slot).there ≡ true → (b : Bool) → may_be_taken until now up (get_or slots k some_slot).message ≡ b → may_be_taken until now up (get_or slots k some_slot).message ≡ false
-        fails k lt there true is = absurd (first.3 k (omega arith) lt (get_or-map (λ (x : Slot). x.there) slots k some_slot false (omega (arith, first.1)) ∙ there, is, all _ (known k some_slot (omega (arith, first.1)))))
+        fails : (k : ℕ) → k < i → (get_or pool.slots.items k some_slot).there ≡ true → (b : Bool) → may_be_taken until now up (get_or pool.slots.items k some_slot).message ≡ b → may_be_taken until now up (get_or pool.slots.items k some_slot).message ≡ false
+        fails k lt there true is = absurd (first.3 k (omega arith) lt (get_or-map (λ (x : Slot). x.there) pool.slots.items k some_slot false (omega (arith, first.1)) ∙ there, is, all _ (known k some_slot (omega (arith, first.1)))))
         fails k lt there false is = is
 
-    pub none_found : (Asked : ℕ → Type 0) → ((x : ℕ) → x < processes → Asked x) → IsFirst (Among Asked) 0 (length slots) None → find (may_be_taken until now up) (there_of slots) ≡ None
-    none_found Asked all none = found_none (may_be_taken until now up) slots (λ k d lt there. fails k d lt there (may_be_taken until now up (get_or slots k d).message) refl)
+    pub none_found : (Asked : ℕ → Type 0) → ((x : ℕ) → x < pool.processes → Asked x) → IsFirst (Among Asked) 0 (length pool.slots.items) None → find (may_be_taken until now up) (there_of pool.slots.items) ≡ None
+    none_found Asked all none = found_none (may_be_taken until now up) pool.slots.items (λ k d lt there. fails k d lt there (may_be_taken until now up (get_or pool.slots.items k d).message) refl)
       where
-        fails : (k : ℕ) (d : Slot) → k < length slots → (get_or slots k d).there ≡ true → (b : Bool) → may_be_taken until now up (get_or slots k d).message ≡ b → may_be_taken until now up (get_or slots k d).message ≡ false
-        fails k d lt there true is = absurd (none k (omega arith) lt (get_or-map (λ (x : Slot). x.there) slots k d false lt ∙ there, ap (λ (s : Slot). may_be_taken until now up s.message) (get_or_default slots k some_slot d lt) ∙ is, all _ (known k some_slot lt)))
+        fails : (k : ℕ) (d : Slot) → k < length pool.slots.items → (get_or pool.slots.items k d).there ≡ true → (b : Bool) → may_be_taken until now up (get_or pool.slots.items k d).message ≡ b → may_be_taken until now up (get_or pool.slots.items k d).message ≡ false
+        fails k d lt there true is = absurd (none k (omega arith) lt (get_or-map (λ (x : Slot). x.there) pool.slots.items k d false lt ∙ there, ap (λ (s : Slot). may_be_taken until now up s.message) (get_or_default pool.slots.items k some_slot d lt) ∙ is, all _ (known k some_slot lt)))
         fails k d lt there false is = is

@@ -9,9 +9,9 @@ use Rattle.std.proofs.lemmas.List.{map-append, map-set, length-set, length_push,
 use Rattle.std.proofs.Math.Seq.{map-set_same}
 use Rattle.fy_net.specs.declared.pool.Ends.{Ends}
 use Rattle.fy_net.specs.declared.slot.Slot.{Slot}
-use Rattle.fy_net.specs.Pool.{chain_of, chain_at, is_there, no_ends, healed, IsFirst, IsLast, AreLinked, AreChained}
-use Rattle.fy_net.specs.Slots.{marked}
-use Rattle.fy_net.proofs.Chains.{first_same, last_same, first_longer, first_at_end, first_stays, last_longer, last_at_end, links_begun, links_healed, head_elsewhere, head_stays, head_moves}
+use Rattle.fy_net.specs.Pool.{chain_of, chain_at, is_there, no_ends, with_link, IsFirst, IsLast, AreLinked, AreChained}
+use Rattle.fy_net.specs.Slots.{vacated}
+use Rattle.fy_net.proofs.Chains.{first_same, last_same, first_longer, first_at_end, first_stays, last_longer, last_at_end, links_begun, links_extended, head_elsewhere, head_stays, head_moves}
 
 -- ends of which one pair is new
 at_ends : (Q : ℕ → Ends → Type 0) (ends : List Ends) (c : ℕ) (new : Ends) → c < length ends → Q c new → ((x : ℕ) → x < length ends → x ≢ c → Q x (get_or ends x no_ends)) → (x : ℕ) → x < length ends → Q x (get_or (set ends c new) x no_ends)
@@ -23,18 +23,18 @@ at_ends Q ends c new within here others x lt =
 
 -- ---- a slot joins its chain
 
-length_healed : (last : Option ℕ) (n : ℕ) (links : List (Option ℕ)) → length (healed last n links) ≡ length links
-length_healed None n links = refl
-length_healed (Some l) n links = length-set links l (Some n)
+length_with_link : (last : Option ℕ) (n : ℕ) (links : List (Option ℕ)) → length (with_link last n links) ≡ length links
+length_with_link None n links = refl
+length_with_link (Some l) n links = length-set links l (Some n)
 
-healed_links : (chain : ℕ → ℕ) (n : ℕ) (links : List (Option ℕ)) (last : Option ℕ) → length links ≡ n
+with_link_leads : (chain : ℕ → ℕ) (n : ℕ) (links : List (Option ℕ)) (last : Option ℕ) → length links ≡ n
     → ((i : ℕ) → i < n → IsFirst (λ k. chain k ≡ chain i) (i + 1) n (get_or links i None)) → IsLast (λ k. chain k ≡ chain n) n last
-    → (i : ℕ) → i < n + 1 → IsFirst (λ k. chain k ≡ chain i) (i + 1) (n + 1) (get_or (healed last n links ++ None ∷ []) i None)
-healed_links chain n links None many leads last =
+    → (i : ℕ) → i < n + 1 → IsFirst (λ k. chain k ≡ chain i) (i + 1) (n + 1) (get_or (with_link last n links ++ None ∷ []) i None)
+with_link_leads chain n links None many leads last =
     links_begun chain n (λ i. get_or links i None) (λ i. get_or (links ++ None ∷ []) i None) leads last
     (λ i lt. get_or_append_left links (None ∷ []) None i (omega arith)) (get_or_at links None [] None n many)
-healed_links chain n links (Some l) many leads last =
-    links_healed chain n (λ i. get_or links i None) (λ i. get_or (set links l (Some n) ++ None ∷ []) i None) l leads last
+with_link_leads chain n links (Some l) many leads last =
+    links_extended chain n (λ i. get_or links i None) (λ i. get_or (set links l (Some n) ++ None ∷ []) i None) l leads last
     (get_or_append_left (set links l (Some n)) (None ∷ []) None l (omega (arith, length-set links l (Some n), last.0)) ∙ get_or-set_same links l (Some n) None (omega (arith, last.0)))
     (λ i lt other. get_or_append_left (set links l (Some n)) (None ∷ []) None i (omega (arith, length-set links l (Some n))) ∙ get_or-set_other links l i (Some n) None other)
     (get_or_at (set links l (Some n)) None [] None n (length-set links l (Some n) ∙ many))
@@ -47,7 +47,7 @@ joined_first P n (Some i) holds first = first_stays P 0 n i first
 module _ (processes n : ℕ) (slots : List Slot) (links : List (Option ℕ)) (ends : List Ends) where
   pub attached : (e : Ends) → AreChained n processes slots links ends → is_there slots n ≡ true → chain_at processes slots n < length ends
       → e ≡ get_or ends (chain_at processes slots n) e
-      → AreChained (n + 1) processes slots (healed e.last n links ++ None ∷ []) (set ends (chain_at processes slots n) (record { first = option_or e.first (Some n); last = Some n }))
+      → AreChained (n + 1) processes slots (with_link e.last n links ++ None ∷ []) (set ends (chain_at processes slots n) (record { first = option_or e.first (Some n); last = Some n }))
   attached e chained there within is =
       let chain : ℕ → ℕ = chain_at processes slots in
       let c = chain n in
@@ -56,9 +56,9 @@ module _ (processes n : ℕ) (slots : List Slot) (links : List (Option ℕ)) (en
       let last : IsLast (λ k. chain k ≡ c) n e.last = rw own (chained.last c within) in
       let first : IsFirst (λ k. (chain k ≡ c) × (is_there slots k ≡ true)) 0 n e.first = rw own (chained.first c within) in
       record {
-        many = length_push (healed e.last n links) None ∙ ap (λ m. m + 1) (length_healed e.last n links ∙ chained.many);
+        many = length_push (with_link e.last n links) None ∙ ap (λ m. m + 1) (length_with_link e.last n links ∙ chained.many);
         wide = length-set ends c joined ∙ chained.wide;
-        linked = healed_links chain n links e.last chained.many chained.linked last;
+        linked = with_link_leads chain n links e.last chained.many chained.linked last;
         first = λ x lt. at_ends (λ y z. IsFirst (λ k. (chain k ≡ y) × (is_there slots k ≡ true)) 0 (n + 1) z.first) ends c joined within
             (joined_first (λ k. (chain k ≡ c) × (is_there slots k ≡ true)) n e.first (refl, there) first)
             (λ y below other. first_longer (λ k. (chain k ≡ y) × (is_there slots k ≡ true)) 0 n _ (λ holds. other (sym holds.0)) (chained.first y below))
@@ -204,17 +204,17 @@ module _ (n processes : ℕ) (slots slots' : List Slot) (links : List (Option �
             c (omega (arith, length-set ends c0 new));
       }
 
--- ---- a slot is marked
+-- ---- a slot is vacated
 
 module _ (slots : List Slot) (place : ℕ) (s : Slot) (is : s ≡ get_or slots place s) where
-  pub marked_chains : (processes : ℕ) (k : ℕ) → chain_at processes (set slots place (marked s)) k ≡ chain_at processes slots k
-  marked_chains processes k = ap (λ (xs : List ℕ). get_or xs k 0) (map-set_same (λ (x : Slot). chain_of processes x.message.body) slots place (marked s) s (ap (λ (x : Slot). chain_of processes x.message.body) is))
+  pub vacated_chains : (processes : ℕ) (k : ℕ) → chain_at processes (set slots place (vacated s)) k ≡ chain_at processes slots k
+  vacated_chains processes k = ap (λ (xs : List ℕ). get_or xs k 0) (map-set_same (λ (x : Slot). chain_of processes x.message.body) slots place (vacated s) s (ap (λ (x : Slot). chain_of processes x.message.body) is))
 
-  pub marked_stays : (k : ℕ) → k ≢ place → is_there (set slots place (marked s)) k ≡ is_there slots k
-  marked_stays k other = ap (λ (xs : List Bool). get_or xs k false) (map-set (λ (x : Slot). x.there) slots place (marked s)) ∙ get_or-set_other (map (λ (x : Slot). x.there) slots) place k false false other
+  pub vacated_others : (k : ℕ) → k ≢ place → is_there (set slots place (vacated s)) k ≡ is_there slots k
+  vacated_others k other = ap (λ (xs : List Bool). get_or xs k false) (map-set (λ (x : Slot). x.there) slots place (vacated s)) ∙ get_or-set_other (map (λ (x : Slot). x.there) slots) place k false false other
 
-  pub marked_left : place < length slots → is_there (set slots place (marked s)) place ≡ false
-  marked_left within = ap (λ (xs : List Bool). get_or xs place false) (map-set (λ (x : Slot). x.there) slots place (marked s)) ∙ get_or-set_same (map (λ (x : Slot). x.there) slots) place false false (omega (arith, length-map slots (λ (x : Slot). x.there)))
+  pub vacated_gone : place < length slots → is_there (set slots place (vacated s)) place ≡ false
+  vacated_gone within = ap (λ (xs : List Bool). get_or xs place false) (map-set (λ (x : Slot). x.there) slots place (vacated s)) ∙ get_or-set_same (map (λ (x : Slot). x.there) slots) place false false (omega (arith, length-map slots (λ (x : Slot). x.there)))
 
 -- ---- whether a slot is the first
 

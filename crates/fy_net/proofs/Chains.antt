@@ -54,8 +54,8 @@ module _ (chain : ℕ → ℕ) (n : ℕ) (link link' : ℕ → Option ℕ) where
       (rw new (λ k le lt holds. absurd (omega arith)))
 
   -- its last slot was l, which is linked to the new one
-  pub links_healed : (l : ℕ) → ((i : ℕ) → i < n → Leads n (link i) i) → IsLast (λ k. chain k ≡ chain n) n (Some l) → link' l ≡ Some n → ((i : ℕ) → i < n → i ≢ l → link' i ≡ link i) → link' n ≡ None → (i : ℕ) → i < n + 1 → Leads (n + 1) (link' i) i
-  links_healed l leads last healed kept new = below_more (λ i. Leads (n + 1) (link' i) i) n
+  pub links_extended : (l : ℕ) → ((i : ℕ) → i < n → Leads n (link i) i) → IsLast (λ k. chain k ≡ chain n) n (Some l) → link' l ≡ Some n → ((i : ℕ) → i < n → i ≢ l → link' i ≡ link i) → link' n ≡ None → (i : ℕ) → i < n + 1 → Leads (n + 1) (link' i) i
+  links_extended l leads last new_link kept new = below_more (λ i. Leads (n + 1) (link' i) i) n
       (λ i lt. at_place i lt (cases_eq i l))
       (rw new (λ k le lt holds. absurd (omega arith)))
     where
@@ -68,7 +68,7 @@ module _ (chain : ℕ → ℕ) (n : ℕ) (link link' : ℕ → Option ℕ) where
           ]
 
       at_place : (i : ℕ) → i < n → (i ≡ l) ⊎ (i ≢ l) → Leads (n + 1) (link' i) i
-      at_place i lt (inl is) = rw is (rw healed (omega (arith, last.0), omega arith, sym last.1, λ k le less same. last.2 k (omega arith) less (same ∙ last.1)))
+      at_place i lt (inl is) = rw is (rw new_link (omega (arith, last.0), omega arith, sym last.1, λ k le less same. last.2 k (omega arith) less (same ∙ last.1)))
       at_place i lt (inr other) = rw (kept i lt other) (link_kept i (link i) (linked i lt other) (leads i lt))
 
 -- ---- the first of a chain that is there

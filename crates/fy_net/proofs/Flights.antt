@@ -14,7 +14,7 @@ use Rattle.std.specs.Result.{result_ok}
 use Rattle.fy_net.specs.declared.message.Body.{Body}
 use Rattle.fy_net.specs.declared.message.Body.TheVariants.{Store}
 use Rattle.fy_net.specs.declared.message.Message.{Message}
-use Rattle.fy_net.specs.Net.{Traffic, Rises, IsTraffic, body_of, without, process_of, left_by, sent_on, is_free, first_free_of}
+use Rattle.fy_net.specs.Net.{NetState, Rises, IsNetState, body_of, without, process_of, without_message, with_sent, is_free, first_free_of}
 use Rattle.fy_net.specs.Places.{IsAt}
 
 some_message : Message
@@ -105,7 +105,7 @@ first_is_least p low (m ∷ ms) rising =
       | false ↦ λ e. IfSome_then (option_map (λ x. x.number) (find p ms)) (first_is_least p (m.number + 1) ms rising.1) (λ number rest. All-cons (λ (x : Message). IsTrue (p x) → number ≤ x.number) m ms (λ passes. absurd (false≢true (sym e ∙ passes))) rest)
     ] refl
 
-pub first_free_is_least : (net : Traffic) (up : ℕ → Bool) → IsTraffic net → IfSome (first_free_of net up) (λ number. All (λ m. IsTrue (is_free net up m) → number ≤ m.number) net.in_flight)
+pub first_free_is_least : (net : NetState) (up : ℕ → Bool) → IsNetState net → IfSome (first_free_of net up) (λ number. All (λ m. IsTrue (is_free net up m) → number ≤ m.number) net.in_flight)
 first_free_is_least net up sound = first_is_least (is_free net up) 0 net.in_flight sound.rising
 
 -- ---- messages that come and go
@@ -131,7 +131,7 @@ filtered_is_shorter p (m ∷ ms) =
     elim (p m) as (λ b. length (cond b (m ∷ filter p ms) (filter p ms)) ≤ suc (length ms)) [ true ↦ omega arith | false ↦ omega arith ]
 
 -- a network once all messages but those of one kind have left it
-pub sound_filtered : (stays : Message → Bool) (net : Traffic) → IsTraffic net → IsTraffic (record net { in_flight = filter stays net.in_flight })
+pub sound_filtered : (stays : Message → Bool) (net : NetState) → IsNetState net → IsNetState (record net { in_flight = filter stays net.in_flight })
 sound_filtered stays net sound = record {
   rising = rises_filtered stays 0 net.in_flight sound.rising;
   past = All-filter stays (λ (m : Message). m.number < net.sent) net.in_flight sound.past;
@@ -141,10 +141,10 @@ sound_filtered stays net sound = record {
   on_time = sound.on_time;
 }
 
-pub sound_left : (net : Traffic) (number : ℕ) → IsTraffic net → IsTraffic (left_by number net)
+pub sound_left : (net : NetState) (number : ℕ) → IsNetState net → IsNetState (without_message number net)
 sound_left net number sound = sound_filtered (λ m. not (eqb m.number number)) net sound
 
-pub sound_sent : (net : Traffic) (body : Body) → 0 < net.room → process_of body < length net.until → IsTraffic net → IsTraffic (sent_on body net)
+pub sound_sent : (net : NetState) (body : Body) → 0 < net.room → process_of body < length net.until → IsNetState net → IsNetState (with_sent body net)
 sound_sent net body room known sound =
     let next : Message = record { number = net.sent; body = body } in
     record {

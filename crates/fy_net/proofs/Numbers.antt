@@ -6,7 +6,7 @@ use Rattle.std.proofs.lemmas.List.Elements.{All-head, All-tail}
 use Rattle.std.proofs.lemmas.Bool.Decides.{nat_tests}
 use Rattle.fy_net.specs.declared.message.Body.{Body}
 use Rattle.fy_net.specs.declared.message.Message.{Message}
-use Rattle.fy_net.specs.Net.{Traffic, IsTraffic, body_of, without, left_by, sent_on}
+use Rattle.fy_net.specs.Net.{NetState, IsNetState, body_of, without, without_message, with_sent}
 
 eqb_less : (a b : ℕ) → a < b → eqb a b ≡ false
 eqb_less a b lt = grind (arith, nat_tests)
@@ -37,7 +37,7 @@ none_has (m ∷ ms) number past =
     let here : m.number < number = All-head (λ (x : Message). x.number < number) m ms past in
     ap (λ b. first_or b m ms number) (eqb_less m.number number here) ∙ none_has ms number (All-tail (λ (x : Message). x.number < number) m ms past)
 
-pub next-unused : (net : Traffic) → IsTraffic net → body_of net.in_flight net.sent ≡ None
+pub next-unused : (net : NetState) → IsNetState net → body_of net.in_flight net.sent ≡ None
 next-unused net sound = none_has net.in_flight net.sent sound.past
 
 found_last : (ms : List Message) (number : ℕ) (body : Body) → All (λ m. m.number < number) ms → body_of (ms ++ record { number = number; body = body } ∷ []) number ≡ Some body
@@ -46,14 +46,14 @@ found_last (m ∷ ms) number body past =
     let here : m.number < number = All-head (λ (x : Message). x.number < number) m ms past in
     ap (λ b. first_or b m (ms ++ record { number = number; body = body } ∷ []) number) (eqb_less m.number number here) ∙ found_last ms number body (All-tail (λ (x : Message). x.number < number) m ms past)
 
-pub next-sent : (net : Traffic) (body : Body) → IsTraffic net → body_of (sent_on body net).in_flight net.sent ≡ Some body
+pub next-sent : (net : NetState) (body : Body) → IsNetState net → body_of (with_sent body net).in_flight net.sent ≡ Some body
 next-sent net body sound = found_last net.in_flight net.sent body sound.past
 
 found_before : (ms : List Message) (last : Message) (number : ℕ) → number < last.number → body_of (ms ++ last ∷ []) number ≡ body_of ms number
 found_before [] last number lt = ap (λ b. first_or b last [] number) (eqb_more number last.number lt)
 found_before (m ∷ ms) last number lt = either (eqb m.number number) m (ms ++ last ∷ []) ms number (found_before ms last number lt)
 
-pub earlier-kept : (net : Traffic) (body : Body) (number : ℕ) → number < net.sent → body_of (sent_on body net).in_flight number ≡ body_of net.in_flight number
+pub earlier-kept : (net : NetState) (body : Body) (number : ℕ) → number < net.sent → body_of (with_sent body net).in_flight number ≡ body_of net.in_flight number
 earlier-kept net body number lt = found_before net.in_flight (record { number = net.sent; body = body }) number lt
 
 -- what is left of a message and those behind it once those with a number have left
@@ -78,5 +78,5 @@ found_without [] number other = go (eqb other number)
     go false = refl
 found_without (m ∷ ms) number other = one_without m ms number other (found_without ms number other) (eqb m.number number) refl
 
-pub left-gone : (net : Traffic) (number other : ℕ) → body_of (left_by number net).in_flight other ≡ cond (eqb other number) None (body_of net.in_flight other)
-left-gone net number other = found_without net.in_flight number other
+pub removed-gone : (net : NetState) (number other : ℕ) → body_of (without_message number net).in_flight other ≡ cond (eqb other number) None (body_of net.in_flight other)
+removed-gone net number other = found_without net.in_flight number other

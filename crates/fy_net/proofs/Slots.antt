@@ -17,7 +17,7 @@ use Rattle.fy_net.specs.declared.message.Body.TheVariants.{Store}
 use Rattle.fy_net.specs.declared.message.Message.{Message}
 use Rattle.fy_net.specs.declared.slot.Slot.{Slot}
 use Rattle.fy_net.specs.Net.{Rises, body_of, without}
-use Rattle.fy_net.specs.Slots.{messages_of, there_of, marked, IsThereAt}
+use Rattle.fy_net.specs.Slots.{messages_of, there_of, vacated, IsThereAt}
 use Rattle.fy_net.proofs.Flights.{rises_lower, rises_with_next, eqb_same, eqb_other, without_lower}
 
 -- what is there of a slot and those behind it
@@ -80,7 +80,7 @@ found_first p (s ∷ ss) (suc i) d within there passes fails =
 -- ---- marks
 
 -- once the message with a number leaves its place, the others are there
-left_at : (low number : ℕ) (ss : List Slot) (i : ℕ) (d : Slot) → Rises low (messages_of ss) → i < length ss → (get_or ss i d).there ≡ true → (get_or ss i d).message.number ≡ number → there_of (set ss i (marked (get_or ss i d))) ≡ without number (there_of ss)
+left_at : (low number : ℕ) (ss : List Slot) (i : ℕ) (d : Slot) → Rises low (messages_of ss) → i < length ss → (get_or ss i d).there ≡ true → (get_or ss i d).message.number ≡ number → there_of (set ss i (vacated (get_or ss i d))) ≡ without number (there_of ss)
 left_at low number [] i d rising within there here = absurd (omega arith)
 left_at low number (s ∷ ss) zero d rising within there here =
     let same : eqb s.message.number number ≡ true = eqb_same s.message.number number here in
@@ -89,24 +89,24 @@ left_at low number (s ∷ ss) zero d rising within there here =
 left_at low number (s ∷ ss) (suc i) d rising within there here =
     let before : s.message.number + 1 ≤ (get_or ss i d).message.number = number_at_least (s.message.number + 1) ss i d rising.1 (omega arith) in
     let other : eqb s.message.number number ≡ false = eqb_other s.message.number number (λ same. omega arith) in
-    let later : there_of (set ss i (marked (get_or ss i d))) ≡ without number (there_of ss) = left_at (s.message.number + 1) number ss i d rising.1 (omega arith) there here in
-    rw (there_first s (set ss i (marked (get_or ss i d))), there_first s ss, later) (elim s.there as (λ b. first_there b s (without number (there_of ss)) ≡ without number (first_there b s (there_of ss))) [ true ↦ rw other refl | false ↦ refl ])
+    let later : there_of (set ss i (vacated (get_or ss i d))) ≡ without number (there_of ss) = left_at (s.message.number + 1) number ss i d rising.1 (omega arith) there here in
+    rw (there_first s (set ss i (vacated (get_or ss i d))), there_first s ss, later) (elim s.there as (λ b. first_there b s (without number (there_of ss)) ≡ without number (first_there b s (there_of ss))) [ true ↦ rw other refl | false ↦ refl ])
 
-pub one_fewer : (ss : List Slot) (i : ℕ) (d : Slot) → i < length ss → (get_or ss i d).there ≡ true → length (there_of ss) ≡ length (there_of (set ss i (marked (get_or ss i d)))) + 1
+pub one_fewer : (ss : List Slot) (i : ℕ) (d : Slot) → i < length ss → (get_or ss i d).there ≡ true → length (there_of ss) ≡ length (there_of (set ss i (vacated (get_or ss i d)))) + 1
 one_fewer [] i d within there = absurd (omega arith)
 one_fewer (s ∷ ss) zero d within there = rw (there_first s ss, there) (omega arith)
 one_fewer (s ∷ ss) (suc i) d within there =
-    let rest : length (there_of ss) ≡ length (there_of (set ss i (marked (get_or ss i d)))) + 1 = one_fewer ss i d (omega arith) there in
-    rw (there_first s (set ss i (marked (get_or ss i d))), there_first s ss) (elim s.there as (λ b. length (first_there b s (there_of ss)) ≡ length (first_there b s (there_of (set ss i (marked (get_or ss i d))))) + 1) [ true ↦ omega arith | false ↦ rest ])
+    let rest : length (there_of ss) ≡ length (there_of (set ss i (vacated (get_or ss i d)))) + 1 = one_fewer ss i d (omega arith) there in
+    rw (there_first s (set ss i (vacated (get_or ss i d))), there_first s ss) (elim s.there as (λ b. length (first_there b s (there_of ss)) ≡ length (first_there b s (there_of (set ss i (vacated (get_or ss i d))))) + 1) [ true ↦ omega arith | false ↦ rest ])
 
--- what holds once slot i, which is s, is marked
-pub same_marked : (ss : List Slot) (i : ℕ) (s : Slot) → s ≡ get_or ss i s → messages_of (set ss i (marked s)) ≡ messages_of ss
-same_marked ss i s is = map-set_same (λ (x : Slot). x.message) ss i (marked s) s (ap (λ (x : Slot). x.message) is)
+-- what holds once slot i, which is s, is vacated
+pub same_vacated : (ss : List Slot) (i : ℕ) (s : Slot) → s ≡ get_or ss i s → messages_of (set ss i (vacated s)) ≡ messages_of ss
+same_vacated ss i s is = map-set_same (λ (x : Slot). x.message) ss i (vacated s) s (ap (λ (x : Slot). x.message) is)
 
-pub past_marked : (ss : List Slot) (i sent : ℕ) (s : Slot) → i < length ss → s ≡ get_or ss i s → All (λ x. x.message.number < sent) ss → All (λ x. x.message.number < sent) (set ss i (marked s))
-past_marked ss i sent s within is past =
+pub past_vacated : (ss : List Slot) (i sent : ℕ) (s : Slot) → i < length ss → s ≡ get_or ss i s → All (λ x. x.message.number < sent) ss → All (λ x. x.message.number < sent) (set ss i (vacated s))
+past_vacated ss i sent s within is past =
     let here : (get_or ss i s).message.number < sent = past i s within in
-    All-set (λ (x : Slot). x.message.number < sent) ss i (marked s) (omega (arith, ap (λ (x : Slot). x.message.number) is)) past
+    All-set (λ (x : Slot). x.message.number < sent) ss i (vacated s) (omega (arith, ap (λ (x : Slot). x.message.number) is)) past
 
 -- ---- what comes
 

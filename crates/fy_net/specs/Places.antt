@@ -1,8 +1,8 @@
--- parts of a network: where a message stands, and whether it may be taken
+-- where a message stands in a list, and whether it may be taken
 use Rattle.std.specs.Prelude.{◌≡◌, ℕ, ◌<◌, Bool, not, ◌&&◌, nat_lt, List, length, slice_index, slice_index_or, Some}
 use Rattle.std.specs.List.{remove}
 use Rattle.fy_net.specs.declared.message.Message.{Message}
-use Rattle.fy_net.specs.Net.{body_of, without, process_of, is_reached}
+use Rattle.fy_net.specs.Net.{body_of, without, process_of, receiver_is_up}
 
 -- the message with a number stands at place i, and no other has that number
 pub record IsAt (messages : List Message) (number i : ℕ) : Type 0 where
@@ -15,4 +15,4 @@ pub record IsAt (messages : List Message) (number i : ℕ) : Type 0 where
 -- clog ends, and a store goes to a process that is up
 abbrev pub may_be_taken : List ℕ → ℕ → (ℕ → Bool) → Message → Bool
 may_be_taken until now up message =
-    not (nat_lt now (slice_index until (process_of message.body))) && is_reached up message.body
+    not (nat_lt now (slice_index until (process_of message.body))) && receiver_is_up up message.body

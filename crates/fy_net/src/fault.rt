@@ -12,7 +12,7 @@ pub enum NetFault {
     Clogged,
     /// The clock would go past its last tick.
     ClockEnd,
-    /// There was no memory for more messages.
+    /// An allocation failed.
     NoMemory,
 }
 

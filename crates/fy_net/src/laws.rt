@@ -1,12 +1,11 @@
 //! Laws of the messages in flight, for the crates above.
-ghost use Rattle.fy_net.specs.Numbers.{NextIsUnused, NextIsSent, EarlierStay, LeftIsGone};
+ghost use Rattle.fy_net.specs.Numbers.{NextIsUnused, NextIsSent, EarlierStay, RemovedIsGone};
 
-/// No number is used twice: none in flight has the next one, which goes to what is sent next, and a
-/// number that was given out before belongs to the same message as ever, or to none once that has
-/// left.
+/// No number is used twice. No message in flight has the next number, which the next send takes. An
+/// earlier number stays its message's, and is nobody's once that message has left.
 pub fn numbers_are_never_used_again()
     ensures unused { NextIsUnused }
     ensures next { NextIsSent }
     ensures earlier { EarlierStay }
-    ensures left { LeftIsGone }
+    ensures left { RemovedIsGone }
 {}

@@ -1,15 +1,15 @@
-//! What is sent.
+//! Messages.
 ghost use Rattle.std.specs.Prelude.{◌≡◌};
-ghost use Rattle.fy_net.specs.Net.{process_of, is_word_from};
+ghost use Rattle.fy_net.specs.Net.{process_of, is_ack_from};
 
 use fy_locality::ProcId;
 
-/// What a message says. One end of it is a process, the other the client.
+/// What a message says. One of its ends is a process, the other the client.
 #[derive(Clone, Copy, PartialEq, Eq, Debug)]
 pub enum Body {
     /// The client asks a process to store a record.
     Store { rec: u32, to: ProcId },
-    /// A process tells the client that it has synced a record.
+    /// A process acknowledges to the client that it has synced a record.
     Synced { rec: u32, from: ProcId },
 }
 
@@ -21,7 +21,7 @@ pub struct Message {
 }
 
 impl Body {
-    /// The process at its one end.
+    /// The process at one end.
     pub(crate) fn process(self) -> ProcId
         ensures { result.0 ≡ process_of self }
     {
@@ -31,9 +31,9 @@ impl Body {
         }
     }
 
-    /// Whether a process says this.
-    pub(crate) fn is_word_from(self, p: ProcId) -> bool
-        ensures { result ≡ is_word_from p.0 self }
+    /// Whether this is an acknowledgement by a process.
+    pub(crate) fn is_ack_from(self, p: ProcId) -> bool
+        ensures { result ≡ is_ack_from p.0 self }
     {
         match self {
             Body::Store { .. } => false,

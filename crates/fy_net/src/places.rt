@@ -1,13 +1,13 @@
-//! Questions about parts of a network.
+//! Questions about a list of messages, and about clogs.
 ghost use Rattle.std.specs.Prelude.{◌≡◌, ℕ, not, ◌&&◌, nat_lt, slice_index, find, option_map, IfSome, IfNone, None};
 ghost use Rattle.std.specs.FinSet as sets;
-ghost use Rattle.fy_net.specs.Net.{Rises, body_of, process_of, is_reached};
+ghost use Rattle.fy_net.specs.Net.{Rises, body_of, process_of, receiver_is_up};
 ghost use Rattle.fy_net.specs.Places.{IsAt, may_be_taken};
 
 use crate::{Body, Message};
 use fy_locality::{ProcId, ProcSet};
 
-/// Where the message with a number stands.
+/// The place of the message with a number.
 pub(crate) fn place_of(messages: &[Message], number: u64) -> Option<usize>
     requires { Rises 0 messages.now }
     ensures found { IfSome result (λ i. IsAt messages.now number i) }
@@ -19,7 +19,7 @@ pub(crate) fn place_of(messages: &[Message], number: u64) -> Option<usize>
 }
 
 /// Whether a clog of a process lasts beyond a time.
-pub(crate) fn lasts(until: &[u64], now: u64, p: ProcId) -> bool
+pub(crate) fn clog_lasts(until: &[u64], now: u64, p: ProcId) -> bool
     ensures { result ≡ nat_lt now (slice_index until.now p.0) }
 {
     match until.get(p.0 as usize) {
@@ -28,9 +28,9 @@ pub(crate) fn lasts(until: &[u64], now: u64, p: ProcId) -> bool
     }
 }
 
-/// Whether a message of this body finds its process up. A word to the client always does.
+/// Whether a message's receiver is up. The client always is.
 pub(crate) fn reaches(up: &ProcSet, body: Body) -> bool
-    ensures { result ≡ is_reached (sets.contains up.now) body }
+    ensures { result ≡ receiver_is_up (sets.contains up.now) body }
 {
     match body {
         Body::Store { to, .. } => up.contains(to),
@@ -38,14 +38,14 @@ pub(crate) fn reaches(up: &ProcSet, body: Body) -> bool
     }
 }
 
-/// Whether a message isn't clogged and finds its process up.
+/// Whether a message may be delivered: it isn't clogged and its receiver is up.
 fn may_be_taken(until: &[u64], now: u64, up: &ProcSet, message: Message) -> bool
     ensures { result ≡ may_be_taken until.now now (sets.contains up.now) message }
 {
-    !lasts(until, now, message.body.process()) && reaches(up, message.body)
+    !clog_lasts(until, now, message.body.process()) && reaches(up, message.body)
 }
 
-/// The number of the first message that isn't clogged and finds its process up.
+/// The number of the first message that may be delivered.
 pub(crate) fn first_free_among(
     messages: &[Message],
     until: &[u64],

@@ -1,14 +1,14 @@
-//! A network as plain as may be: a list of the messages in flight. What the network answers is
-//! compared with it.
+//! The tests' twin of the network: the same contract over a mere list of the messages in flight.
+//! Tests make the same calls of both and compare what they return.
 ghost use Rattle.std.specs.Prelude.{◌≡◌, ◌+◌, ◌^◌, ◌<◌, ◌≤◌, ℕ, max, length, Some, None, IfOk, IfErr, IfSome, OnOk, OnErr, IsOk, IsOkAnd, IsTrue};
 ghost use Rattle.std.specs.List.{All};
 ghost use Rattle.std.specs.FinSet as sets;
 ghost use Rattle.fy_net.specs.declared.fault.NetFault.{NetFault};
 ghost use Rattle.fy_net.specs.declared.fault.NetFault.TheVariants.{NoMemory};
-ghost use Rattle.fy_net.specs.Net.{quiet, process_of, body_of, left_by, sent_on, voided, is_clogged, clogged_for, unclogged, is_free, first_free_of, reserve_refusal, take_refusal, lose_refusal, advance_refusal, NoneFreeBelow, IsTraffic};
+ghost use Rattle.fy_net.specs.Net.{quiet, process_of, body_of, without_message, with_sent, without_acks_of, is_clogged, clogged_for, unclogged, is_free, first_free_of, reserve_refusal, take_refusal, lose_refusal, advance_refusal, NoneFreeBelow, IsNetState};
 
 use crate::limits::{LAST_TICK, MOST_IN_FLIGHT};
-use crate::places::{first_free_among, lasts, place_of};
+use crate::places::{clog_lasts, first_free_among, place_of};
 use crate::{Body, Message, NetFault};
 use fy_locality::{ProcId, ProcSet};
 use std::alloc::Global;
@@ -26,23 +26,23 @@ pub struct Net {
 }
 
 impl Model for Net {
-    ghost use Rattle.fy_net.specs.Net.{Traffic};
+    ghost use Rattle.fy_net.specs.Net.{NetState};
 
-    ghost Value = { Traffic };
+    ghost Value = { NetState };
 
-    ghost use Rattle.fy_net.specs.PlainlyKept.{traffic, IsKept};
+    ghost use Rattle.fy_net.specs.PlainlyKept.{net_state, PlainNetInvariant};
 
-    ghost view = { traffic };
+    ghost view = { net_state };
 
-    ghost invariant = { IsKept };
+    ghost invariant = { PlainNetInvariant };
 }
 
 impl Net {
-    /// A network of so many processes at time 0, with no clog and nothing in flight.
+    /// Makes a network of so many processes at time 0, with no clog and nothing in flight.
     ///
     /// # Errors
     ///
-    /// `NoMemory` only where the memory for the processes is refused.
+    /// `NoMemory` only if an allocation fails.
     pub fn make(alloc: Global, processes: u32) -> Result<Net, NetFault>
         ensures made { IfOk result (λ net. net ≡ quiet processes) }
         ensures memory { IfErr result (λ fault. fault ≡ NoMemory) }
@@ -57,12 +57,11 @@ impl Net {
         })
     }
 
-    /// Makes room for `count` sends. Room that is there already counts.
+    /// Makes sure that there is room for `count` sends.
     ///
     /// # Errors
     ///
-    /// In order: `NetFull` where more than 65,536 messages would be in flight with them,
-    /// `NoMemory`.
+    /// In order: `NetFull` if more than 65,536 messages would be in flight with them; `NoMemory`.
     pub fn reserve(&mut self, count: usize) -> Result<(), NetFault>
         requires { self.old.sent < 2 ^ 63 }
         ensures refused { (fault : NetFault) →
@@ -81,14 +80,14 @@ impl Net {
         Ok(())
     }
 
-    /// Sends a message and answers its number, which is beyond each number given out before. It
-    /// uses up one place of the room.
+    /// Sends a message and returns its number, which is above every earlier one. It uses up one
+    /// place of the room.
     pub fn send(&mut self, body: Body) -> u64
         requires room { 0 < self.old.room }
         requires process { process_of body < length self.old.until }
         ensures number { result ≡ self.old.sent }
         ensures unused { All (λ message. message.number < result) self.old.in_flight }
-        ensures sent { self.new ≡ sent_on body self.old }
+        ensures sent { self.new ≡ with_sent body self.old }
     {
         let number = self.sent;
         self.messages.push_reserved(Message { number, body });
@@ -97,7 +96,7 @@ impl Net {
         number
     }
 
-    /// What the message in flight with a number says.
+    /// The body of the message in flight with a number.
     pub fn body(&self, number: u64) -> Option<Body>
         ensures body { result ≡ body_of self.now.in_flight number }
         ensures process { IfSome result (λ body. process_of body < length self.now.until) }
@@ -106,38 +105,38 @@ impl Net {
         Some(self.messages[place].body)
     }
 
-    /// Takes a message out of the network, to be delivered, and answers what it says.
+    /// Takes a message out of the network for delivery and returns its body.
     ///
     /// # Errors
     ///
-    /// In order: `NoMessage` where none in flight has the number, `Clogged` where its process is
+    /// In order: `NoMessage` if no message in flight has the number; `Clogged` if its process is
     /// clogged.
     pub fn take(&mut self, number: u64) -> Result<Body, NetFault>
         ensures refused { (fault : NetFault) → take_refusal self.old number ≡ Some fault →
             (result ≡ Err fault) × (self.new ≡ self.old) }
         ensures taken { take_refusal self.old number ≡ None →
             IsOkAnd result (λ body. body_of self.old.in_flight number ≡ Some body)
-            × (self.new ≡ left_by number self.old) }
+            × (self.new ≡ without_message number self.old) }
     {
         let Some(place) = place_of(&self.messages, number) else {
             return Err(NetFault::NoMessage);
         };
-        if lasts(&self.until, self.clock, self.messages[place].body.process()) {
+        if clog_lasts(&self.until, self.clock, self.messages[place].body.process()) {
             return Err(NetFault::Clogged);
         }
         Ok(self.messages.remove(place).body)
     }
 
-    /// Takes a message out of the network, clogged or not, and forgets it.
+    /// Drops a message, clogged or not.
     ///
     /// # Errors
     ///
-    /// `NoMessage` where none in flight has the number.
+    /// `NoMessage` if no message in flight has the number.
     pub fn lose(&mut self, number: u64) -> Result<(), NetFault>
         ensures refused { (fault : NetFault) → lose_refusal self.old number ≡ Some fault →
             (result ≡ Err fault) × (self.new ≡ self.old) }
         ensures lost { lose_refusal self.old number ≡ None →
-            (IsOk result) × (self.new ≡ left_by number self.old) }
+            (IsOk result) × (self.new ≡ without_message number self.old) }
     {
         let Some(place) = place_of(&self.messages, number) else {
             return Err(NetFault::NoMessage);
@@ -146,16 +145,15 @@ impl Net {
         Ok(())
     }
 
-    /// Takes every word of a process out of the network, clogged or not, and forgets it. What goes
-    /// to the process stays. Takes no memory.
+    /// Drops every acknowledgement by a process, clogged or not. Stores to it stay. Takes no
+    /// memory.
     pub fn void(&mut self, p: ProcId)
-        ensures { self.new ≡ voided p.0 self.old }
+        ensures { self.new ≡ without_acks_of p.0 self.old }
     {
-        self.messages
-            .retain(|message| !message.body.is_word_from(p));
+        self.messages.retain(|message| !message.body.is_ack_from(p));
     }
 
-    /// Clogs a process for some ticks from now on, at most up to the clock's end. A longer clog
+    /// Clogs a process for some ticks, at most up to the clock's end. A clog that lasts longer
     /// stays.
     pub fn clog(&mut self, p: ProcId, ticks: u64)
         requires { p.0 < length self.old.until }
@@ -166,7 +164,7 @@ impl Net {
         *until = (*until).max(end);
     }
 
-    /// Ends a process's clog now, where it has one.
+    /// Ends a process's clog now, if it has one.
     pub fn unclog(&mut self, p: ProcId)
         requires { p.0 < length self.old.until }
         ensures { self.new ≡ unclogged p.0 self.old }
@@ -180,7 +178,7 @@ impl Net {
         requires { p.0 < length self.now.until }
         ensures { result ≡ is_clogged self.now p.0 }
     {
-        lasts(&self.until, self.clock, p)
+        clog_lasts(&self.until, self.clock, p)
     }
 
     /// The time, in ticks from 0 to 2^40.
@@ -191,11 +189,11 @@ impl Net {
         self.clock
     }
 
-    /// Lets some ticks pass and answers the new time.
+    /// Lets some ticks pass and returns the new time.
     ///
     /// # Errors
     ///
-    /// `ClockEnd` where that would be past 2^40.
+    /// `ClockEnd` if that would be past 2^40.
     pub fn advance(&mut self, ticks: u64) -> Result<u64, NetFault>
         ensures refused { (fault : NetFault) → advance_refusal self.old ticks ≡ Some fault →
             (result ≡ Err fault) × (self.new ≡ self.old) }
@@ -210,8 +208,8 @@ impl Net {
         Ok(self.clock)
     }
 
-    /// The least number of a message that isn't clogged and, if it is a store, goes to a process of
-    /// `up`.
+    /// The lowest number of a message whose process isn't clogged and, if the message is a store,
+    /// is in `up`.
     pub fn first_free(&self, up: &ProcSet) -> Option<u64>
         ensures first { result ≡ first_free_of self.now (sets.contains up.now) }
         ensures least { IfSome result (NoneFreeBelow self.now (sets.contains up.now)) }
@@ -219,7 +217,7 @@ impl Net {
         first_free_among(&self.messages, &self.until, self.clock, up)
     }
 
-    /// How many messages were sent so far, which is the number of the next one.
+    /// How many messages were sent so far. The next one gets this number.
     pub fn sent(&self) -> u64
         ensures { result ≡ self.now.sent }
     {
@@ -227,9 +225,9 @@ impl Net {
     }
 
     /// The messages in flight stand in order of their numbers, all below the next one, and each is
-    /// of a process that is there. With the room they are no more than may be in flight.
+    /// of an existing process. With the room they are no more than may be in flight.
     pub fn invariant(&self)
-        ensures { IsTraffic self.now }
+        ensures { IsNetState self.now }
     {
         let _messages = &self.messages;
     }

@@ -3,14 +3,14 @@ ghost use Rattle.std.specs.Prelude.{◌≡◌, ℕ, ◌+◌, ◌-◌, ◌^◌, �
 ghost use Rattle.std.specs.List.{All};
 ghost use Rattle.std.specs.Vec.{vec_capacity};
 ghost use Rattle.std.specs.FinSet as sets;
-ghost use Rattle.fy_net.specs.Net.{body_of, process_of, is_word_from, without};
+ghost use Rattle.fy_net.specs.Net.{body_of, process_of, is_ack_from, without};
 ghost use Rattle.fy_net.specs.Places.{may_be_taken};
-ghost use Rattle.fy_net.specs.Slots.{there_of, marked, IsThereAt};
+ghost use Rattle.fy_net.specs.Slots.{there_of, vacated, IsThereAt};
 ghost use Rattle.fy_net.specs.declared.pool.Pool.{Pool};
 ghost use Rattle.fy_net.specs.declared.slot.Slot.{Slot};
-ghost use Rattle.fy_net.specs.Pool.{chain_of, chain_at, is_there, healed, lower_of, IsFirst, IsThereOf, IsReachedOf, IsFreeOf, AreLinked, IsChained, IsNoted, IsPool, HasRoom, IsLike};
+ghost use Rattle.fy_net.specs.Pool.{chain_of, chain_at, is_there, with_link, lower_of, IsFirst, IsThereOnChain, IsReachedOf, IsFreeOf, AreLinked, IsChained, BusyIsRight, IsPool, HasRoom, KeepsRoom};
 
-use crate::places::lasts;
+use crate::places::clog_lasts;
 use crate::slot::{Slot, place_there};
 use crate::{Body, Message};
 use fy_locality::{MOST_PROCESSES, ProcId, ProcSet};
@@ -19,27 +19,28 @@ use std::alloc::{AllocError, Global};
 /// The ends of a chain.
 #[derive(Clone, Copy)]
 pub(crate) struct Ends {
-    /// Its first slot whose message is there.
+    /// Its first slot whose message is in flight.
     pub(crate) first: Option<usize>,
     /// Its last slot.
     pub(crate) last: Option<usize>,
 }
 
-/// Messages in slots in order of number. The slots of one process's stores are a chain, and so are
-/// those of its words.
+/// Messages in slots in order of number. The slots of the stores to a process are one chain, those
+/// of its acknowledgements another.
 #[derive(Drop)]
 pub(crate) struct Pool {
     pub(crate) slots: Vec<Slot>,
-    /// How many messages are there.
+    /// How many messages are in flight.
     pub(crate) there: usize,
     /// The number of the next message.
     pub(crate) sent: u64,
-    /// For each slot the next one of its chain.
+    /// For each slot the next slot of its chain.
     pub(crate) links: Vec<Option<usize>>,
-    /// Of each process's stores, and then of each process's words.
+    /// The ends of each process's chain of stores, and then of each process's chain of
+    /// acknowledgements.
     pub(crate) ends: Vec<Ends>,
     pub(crate) processes: u32,
-    /// The processes below 1024 of which a message is there. A set has no others.
+    /// The processes below 1024 that have a message in flight. A set can have no others.
     pub(crate) busy: ProcSet,
 }
 
@@ -53,10 +54,10 @@ fn chain(processes: u32, body: Body) -> usize
     }
 }
 
-/// Links the last slot of a chain, where it has one, to the slot at a place.
-fn heal(links: &mut Vec<Option<usize>>, last: Option<usize>, place: usize)
+/// Links the last slot of a chain, if it has one, to the slot at a place.
+fn link_last(links: &mut Vec<Option<usize>>, last: Option<usize>, place: usize)
     requires { IfSome last (λ i. i < vec_len links.old) }
-    ensures items { links.new.items ≡ healed last place links.old.items }
+    ensures items { links.new.items ≡ with_link last place links.old.items }
     ensures len { vec_len links.new ≡ vec_len links.old }
     ensures capacity { vec_capacity links.new ≡ vec_capacity links.old }
 {
@@ -102,7 +103,7 @@ impl Pool {
         requires { IsPool self.old }
         ensures pool { IsPool self.new }
         ensures same { there_of self.new.slots.items ≡ there_of self.old.slots.items }
-        ensures like { IsLike self.old self.new }
+        ensures like { KeepsRoom self.old self.new }
         ensures ok { OnOk result (HasRoom count self.new) }
         ensures there { HasRoom count self.old → IsOk result }
     {
@@ -111,13 +112,13 @@ impl Pool {
         self.links.reserve(count)
     }
 
-    /// Clears away the slots that were left, where they are so many that over many calls this costs
-    /// little for each of them.
+    /// Clears the vacated slots away once there are more than twice as many slots as messages in
+    /// flight, and more than twice as many as chains. So over many calls it costs each little.
     fn tidy(&mut self)
         requires { IsPool self.old }
         ensures pool { IsPool self.new }
         ensures same { there_of self.new.slots.items ≡ there_of self.old.slots.items }
-        ensures like { IsLike self.old self.new }
+        ensures like { KeepsRoom self.old self.new }
     {
         if self.slots.len() / 2 <= self.there.max(self.ends.len()) {
             return;
@@ -125,12 +126,12 @@ impl Pool {
         self.clear_away();
     }
 
-    /// Clears away the slots that were left.
+    /// Clears the vacated slots away, and chains the others anew.
     fn clear_away(&mut self)
         requires { IsPool self.old }
         ensures pool { IsPool self.new }
         ensures same { there_of self.new.slots.items ≡ there_of self.old.slots.items }
-        ensures like { IsLike self.old self.new }
+        ensures like { KeepsRoom self.old self.new }
     {
         self.slots.retain(|slot| slot.there);
         self.links.clear();
@@ -151,10 +152,10 @@ impl Pool {
         requires there { is_there self.old.slots.items (vec_len self.old.links) ≡ true }
         requires known { All (λ slot. process_of slot.message.body < self.old.processes)
             self.old.slots.items }
-        requires noted { (p : ℕ) → IsNoted self.old p }
+        requires noted { (p : ℕ) → BusyIsRight self.old p }
         requires room { vec_len self.old.links < vec_capacity self.old.links }
         ensures chained { IsChained (vec_len self.old.links + 1) self.new }
-        ensures noted { (p : ℕ) → IsNoted self.new p }
+        ensures noted { (p : ℕ) → BusyIsRight self.new p }
         ensures rest { self.new ≡ record self.old
             { links = self.new.links; ends = self.new.ends; busy = self.new.busy } }
         ensures len { vec_len self.new.links ≡ vec_len self.old.links + 1 }
@@ -164,21 +165,21 @@ impl Pool {
         let body = self.slots[place].message.body;
         let chain = chain(self.processes, body);
         let ends = self.ends[chain];
-        heal(&mut self.links, ends.last, place);
+        link_last(&mut self.links, ends.last, place);
         self.links.push_reserved(None);
         self.ends[chain] = Ends {
             first: ends.first.or(Some(place)),
             last: Some(place),
         };
-        self.note(body.process());
+        self.update_busy(body.process());
     }
 
-    /// Puts a process into the set of the busy or takes it out, as its chains say.
-    fn note(&mut self, p: ProcId)
+    /// Puts a process into the busy set, or takes it out, as its chains say.
+    fn update_busy(&mut self, p: ProcId)
         requires wide { vec_len self.old.ends ≡ self.old.processes + self.old.processes }
         requires process { p.0 < self.old.processes }
-        requires others { (q : ℕ) → (q ≡ p.0 → ⊥) → IsNoted self.old q }
-        ensures noted { (q : ℕ) → IsNoted self.new q }
+        requires others { (q : ℕ) → (q ≡ p.0 → ⊥) → BusyIsRight self.old q }
+        ensures noted { (q : ℕ) → BusyIsRight self.new q }
         ensures rest { self.new ≡ record self.old { busy = self.new.busy } }
     {
         // no set has a process from 1024 on
@@ -194,7 +195,7 @@ impl Pool {
         }
     }
 
-    /// Puts a message behind all others and answers its number.
+    /// Puts a message behind all others and returns its number.
     pub(crate) fn push(&mut self, body: Body) -> u64
         requires pool { IsPool self.old }
         requires room { HasRoom 1 self.old }
@@ -219,7 +220,7 @@ impl Pool {
         number
     }
 
-    /// How many messages are there.
+    /// How many messages are in flight.
     pub(crate) fn len(&self) -> usize
         requires { IsPool self.now }
         ensures { result ≡ length (there_of self.now.slots.items) }
@@ -234,7 +235,7 @@ impl Pool {
         self.sent
     }
 
-    /// What the message in the slot at a place says.
+    /// The body of the message in the slot at a place.
     pub(crate) fn body(&self, place: usize) -> Body
         requires { place < vec_len self.now.slots }
         ensures { (other : Slot) →
@@ -243,7 +244,7 @@ impl Pool {
         self.slots[place].message.body
     }
 
-    /// Where the message with a number is there.
+    /// The place of the message in flight with a number.
     pub(crate) fn place_of(&self, number: u64) -> Option<usize>
         requires { IsPool self.now }
         ensures found { IfSome result (λ i. IsThereAt self.now.slots.items number i) }
@@ -252,14 +253,14 @@ impl Pool {
         place_there(&self.slots, number)
     }
 
-    /// The next slot behind a place, of the same chain, whose message is there.
+    /// The next slot behind a place, of the same chain, whose message is in flight.
     fn next_there(&self, place: usize) -> Option<usize>
         requires within { place < vec_len self.now.slots }
         requires many { vec_len self.now.links ≡ vec_len self.now.slots }
         requires linked { AreLinked (vec_len self.now.slots) self.now.processes
             self.now.slots.items self.now.links.items }
         ensures { let chain = chain_at self.now.processes self.now.slots.items place in
-            IsFirst (IsThereOf self.now.processes self.now.slots.items chain) (place + 1)
+            IsFirst (IsThereOnChain self.now.processes self.now.slots.items chain) (place + 1)
             (vec_len self.now.slots) result }
     {
         let mut at = self.links[place];
@@ -272,18 +273,18 @@ impl Pool {
         None
     }
 
-    /// Takes the message at a place out and answers what it says.
-    pub(crate) fn leave(&mut self, place: usize) -> Body
+    /// Takes the message at a place out and returns its body.
+    pub(crate) fn vacate(&mut self, place: usize) -> Body
         requires pool { IsPool self.old }
         requires within { place < vec_len self.old.slots }
         requires there { is_there self.old.slots.items place ≡ true }
         ensures pool { IsPool self.new }
-        ensures left { (other : Slot) → self.new.slots.items
+        ensures slot { (other : Slot) → self.new.slots.items
             ≡ slice_set self.old.slots.items place
-            (marked (slice_index_or self.old.slots.items place other)) }
+            (vacated (slice_index_or self.old.slots.items place other)) }
         ensures body { (other : Slot) →
             result ≡ (slice_index_or self.old.slots.items place other).message.body }
-        ensures like { IsLike self.old self.new }
+        ensures like { KeepsRoom self.old self.new }
     {
         let body = self.slots[place].message.body;
         self.slots[place].there = false;
@@ -291,34 +292,34 @@ impl Pool {
         let chain = chain(self.processes, body);
         if self.ends[chain].first == Some(place) {
             self.ends[chain].first = self.next_there(place);
-            self.note(body.process());
+            self.update_busy(body.process());
         }
         body
     }
 
-    /// Takes every word of a process out.
+    /// Takes every acknowledgement by a process out.
     pub(crate) fn void(&mut self, p: ProcId)
         requires { IsPool self.old }
         ensures pool { IsPool self.new }
         ensures there { there_of self.new.slots.items
-            ≡ filter (λ message. not (is_word_from p.0 message.body))
+            ≡ filter (λ message. not (is_ack_from p.0 message.body))
             (there_of self.old.slots.items) }
-        ensures like { IsLike self.old self.new }
+        ensures like { KeepsRoom self.old self.new }
     {
         if p.0 < self.processes {
             let words = self.processes as usize + p.0 as usize;
             while let Some(place) = self.ends[words].first {
-                self.leave(place);
+                self.vacate(place);
             }
         }
     }
 
-    /// The first place of a message of a process that finds it up where it has to be.
+    /// The first place of a process's message whose receiver is up, `up` saying whether the process
+    /// is.
     fn first_of(&self, p: ProcId, up: bool) -> Option<usize>
         requires pool { IsPool self.now }
         requires process { p.0 < self.now.processes }
-        ensures { IsFirst (IsReachedOf self.now.processes self.now.slots.items p.0 up) 0
-            (vec_len self.now.slots) result }
+        ensures { IsFirst (IsReachedOf self.now p.0 up) 0 (vec_len self.now.slots) result }
     {
         let word = self.ends[self.processes as usize + p.0 as usize].first;
         if up {
@@ -328,23 +329,22 @@ impl Pool {
         }
     }
 
-    /// The first place of a message of a process that isn't clogged and that it finds up where it
-    /// has to be.
+    /// The first place of a process's message that may be delivered.
     fn free_of(&self, p: ProcId, until: &[u64], now: u64, up: &ProcSet) -> Option<usize>
         requires pool { IsPool self.now }
         requires process { p.0 < self.now.processes }
-        ensures { IsFirst (IsFreeOf until.now now (sets.contains up.now) self.now.processes
-            self.now.slots.items p.0) 0 (vec_len self.now.slots) result }
+        ensures { IsFirst (IsFreeOf self.now until.now now (sets.contains up.now) p.0) 0
+            (vec_len self.now.slots) result }
     {
-        if !lasts(until, now, p) {
+        if !clog_lasts(until, now, p) {
             self.first_of(p, up.contains(p))
         } else {
             None
         }
     }
 
-    /// The number of the first message that isn't clogged and finds its process up. Only the
-    /// processes of which a message is there are asked, and those from 1024 on.
+    /// The number of the first message that may be delivered. Only the busy processes are asked,
+    /// and those from 1024 on.
     pub(crate) fn first_free(&self, until: &[u64], now: u64, up: &ProcSet) -> Option<u64>
         requires pool { IsPool self.now }
         requires clogs { length until.now ≡ self.now.processes }

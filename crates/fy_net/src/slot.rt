@@ -1,18 +1,20 @@
-//! Where messages stand in the network.
+//! The slots that messages stand in.
 ghost use Rattle.std.specs.Prelude.{◌≡◌, ℕ, IfSome, IfNone, None};
 ghost use Rattle.fy_net.specs.Net.{Rises, body_of};
 ghost use Rattle.fy_net.specs.Slots.{messages_of, there_of, IsThereAt};
 
 use crate::Message;
 
-/// A message's slot. It keeps its place once the message is taken out, until it is cleared away.
+/// A message's slot. Once the message is taken out the slot is vacated, and stays until the pool
+/// clears it away.
 #[derive(Clone, Copy)]
 pub(crate) struct Slot {
     pub(crate) message: Message,
+    /// Whether the message is still in flight.
     pub(crate) there: bool,
 }
 
-/// Where the message with a number is there.
+/// The place of the message in flight with a number.
 pub(crate) fn place_there(slots: &[Slot], number: u64) -> Option<usize>
     requires { Rises 0 (messages_of slots.now) }
     ensures found { IfSome result (λ i. IsThereAt slots.now number i) }

@@ -8,21 +8,40 @@ use Rattle.fy_acts.specs.declared.reply.Reply.{Reply}
 use Rattle.fy_acts.specs.declared.reply.Reply.TheVariants.{Marked}
 use Rattle.fy_acts.specs.declared.entry.Entry.{Entry}
 use Rattle.fy_cluster.specs.Setup.{Setup}
-use Rattle.fy_cluster.specs.History.{History, moment, history, some_is, acked}
-use Rattle.fy_cluster.specs.Replies.{IsNext}
+use Rattle.fy_cluster.specs.History.{History, step_of, history, some_is, acked}
+use Rattle.fy_cluster.specs.Replies.{MayFollow, reply}
 use Rattle.fy_picture.specs.Keeping.{IsAckedAt, says_acked, noted}
 use Rattle.fy_picture.proofs.Afters.{after-append}
 
 -- ---- only a reply that says so acknowledges a record
 
 abbrev pub ByReply : Type 0
-ByReply = (c : Setup) (h : History) (e : Entry) → IsNext c h e → e.reply ≢ Marked true → (r : ℕ) → acked (moment c h e ∷ h) r ≡ acked h r
+ByReply = (c : Setup) (h : History) (e : Entry) → e.reply ≡ reply c h e.by e.act → e.reply ≢ Marked true → (r : ℕ) → acked (step_of c h e ∷ h) r ≡ acked h r
 
 -- a reply that doesn't say so isn't the one that does
-silent : (reply : Reply) → says_acked reply ≡ false → reply ≢ Marked true
-silent reply quiet is = false≢true (sym quiet ∙ ap says_acked is)
+silent : (answered : Reply) → says_acked answered ≡ false → answered ≢ Marked true
+silent answered quiet is = false≢true (sym quiet ∙ ap says_acked is)
 
 -- ---- the place of the entry that did
+
+-- the same as `IsAckedAt`, in one equation: of so many entries the record is acknowledged exactly
+-- where the one at the place is among them
+abbrev AckedSince : Setup → List Entry → ℕ → Option ℕ → Type 0
+AckedSince c xs r found = (count : ℕ) → acked (history c (take count xs)) r ≡ some_is (λ at. nat_lt at count) found
+
+acked_since : (c : Setup) (xs : List Entry) (r : ℕ) (found : Option ℕ) → IsAckedAt c xs r found → AckedSince c xs r found
+acked_since c xs r None is count = is.never count refl
+acked_since c xs r (Some at) is count = elim (cases_lt at count) [
+  | inl l ↦ is.from at count refl l ∙ sym (lt-ltb at count l)
+  | inr l ↦ is.before at count refl l ∙ sym (le-ltb at count l)
+]
+
+acked_at : (c : Setup) (xs : List Entry) (r : ℕ) (found : Option ℕ) → AckedSince c xs r found → IsAckedAt c xs r found
+acked_at c xs r found since = record {
+  before = λ at count is l. since count ∙ ap (some_is (λ place. nat_lt place count)) is ∙ le-ltb at count l;
+  from = λ at count is l. since count ∙ ap (some_is (λ place. nat_lt place count)) is ∙ lt-ltb at count l;
+  never = λ count is. since count ∙ ap (some_is (λ place. nat_lt place count)) is;
+}
 
 -- a place that is noted, tried against a number of entries
 noted_none : (at count : ℕ) (b : Bool) → some_is (λ place. nat_lt place count) (noted at b None) ≡ (b && nat_lt at count)
@@ -33,9 +52,12 @@ and_true : (a b : Bool) → b ≡ true → (a && b) ≡ a
 and_true true b e = e
 and_true false b e = refl
 
-module _ (by_reply : ByReply) (c : Setup) (xs : List Entry) (e : Entry) (r : ℕ) (next : IsNext c (history c xs) e) (place : e.at ≡ length xs) where
+module _ (by_reply : ByReply) (c : Setup) (xs : List Entry) (e : Entry) (r : ℕ) (may : MayFollow c xs e) where
+  place : e.at ≡ length xs
+  place = may.place
+
   abbrev behind : History
-  behind = moment c (history c xs) e ∷ history c xs
+  behind = step_of c (history c xs) e ∷ history c xs
 
   -- what the note is made by
   abbrev now_acked : Bool
@@ -53,17 +75,15 @@ module _ (by_reply : ByReply) (c : Setup) (xs : List Entry) (e : Entry) (r : ℕ
       ap (λ ys. acked (history c ys) r) (take_all count more whole) ∙ ap (λ h. acked h r) (after-append c [] xs (e ∷ []))
 
   -- of a record that was acknowledged before
-  earlier : (at : ℕ) → IsAckedAt c xs r (Some at) → IsAckedAt c more r (Some at)
-  earlier at was = record {
-    since = λ count. elim (cases_lt (length xs) count) [
-      | inl l ↦
-          let all : acked (history c xs) r ≡ true =
-          sym (ap (λ ys. acked (history c ys) r) (take_all (at + 1 + length xs) xs (omega arith))) ∙ was.since (at + 1 + length xs) ∙ lt-ltb at (at + 1 + length xs) (omega arith) in
-          let same : acked (history c xs) r ≡ nat_lt at count = sym (ap (λ ys. acked (history c ys) r) (take_all count xs (omega arith))) ∙ was.since count in
-          long count l ∙ or_left (acked (history c xs) r) _ all ∙ sym all ∙ same
-      | inr l ↦ short count l ∙ was.since count
-    ];
-  }
+  earlier : (at : ℕ) → AckedSince c xs r (Some at) → AckedSince c more r (Some at)
+  earlier at was count = elim (cases_lt (length xs) count) [
+    | inl l ↦
+        let all : acked (history c xs) r ≡ true =
+        sym (ap (λ ys. acked (history c ys) r) (take_all (at + 1 + length xs) xs (omega arith))) ∙ was (at + 1 + length xs) ∙ lt-ltb at (at + 1 + length xs) (omega arith) in
+        let same : acked (history c xs) r ≡ nat_lt at count = sym (ap (λ ys. acked (history c ys) r) (take_all count xs (omega arith))) ∙ was count in
+        long count l ∙ or_left (acked (history c xs) r) _ all ∙ sym all ∙ same
+    | inr l ↦ short count l ∙ was count
+  ]
 
   -- a record is acknowledged behind the entry exactly where it is noted, if it wasn't before
   same_note : acked (history c xs) r ≡ false → acked behind r ≡ now_acked
@@ -71,28 +91,29 @@ module _ (by_reply : ByReply) (c : Setup) (xs : List Entry) (e : Entry) (r : ℕ
     where
       at : (b : Bool) → says_acked e.reply ≡ b → acked behind r ≡ (b && acked behind r)
       at true s = refl
-      at false s = by_reply c (history c xs) e next (silent e.reply s) r ∙ not_yet
+      at false s = by_reply c (history c xs) e may.right (silent e.reply s) r ∙ not_yet
 
   -- of one that was not
-  later : IsAckedAt c xs r None → IsAckedAt c more r (noted e.at now_acked None)
-  later was = record {
-    since = λ count. elim (cases_lt (length xs) count) [
-      | inl l ↦
-          let not_yet : acked (history c xs) r ≡ false = sym (ap (λ ys. acked (history c ys) r) (take_all count xs (omega arith))) ∙ was.since count in
-          long count l ∙ same_note not_yet ∙ sym (and_true now_acked _ (lt-ltb e.at count (omega arith))) ∙ sym (noted_none e.at count now_acked)
-      | inr l ↦ short count l ∙ was.since count ∙ sym (and_right now_acked _ (le-ltb e.at count (omega arith))) ∙ sym (noted_none e.at count now_acked)
-    ];
-  }
+  later : AckedSince c xs r None → AckedSince c more r (noted e.at now_acked None)
+  later was count = elim (cases_lt (length xs) count) [
+    | inl l ↦
+        let not_yet : acked (history c xs) r ≡ false = sym (ap (λ ys. acked (history c ys) r) (take_all count xs (omega arith))) ∙ was count in
+        long count l ∙ same_note not_yet ∙ sym (and_true now_acked _ (lt-ltb e.at count (let p = place in omega arith))) ∙ sym (noted_none e.at count now_acked)
+    | inr l ↦ short count l ∙ was count ∙ sym (and_right now_acked _ (le-ltb e.at count (let p = place in omega arith))) ∙ sym (noted_none e.at count now_acked)
+  ]
+
+  since_more : (found : Option ℕ) → AckedSince c xs r found → AckedSince c more r (noted e.at now_acked found)
+  since_more None was = later was
+  since_more (Some at) was = earlier at was
 
   pub acked_at_more : (found : Option ℕ) → IsAckedAt c xs r found → IsAckedAt c more r (noted e.at now_acked found)
-  acked_at_more None was = later was
-  acked_at_more (Some at) was = earlier at was
+  acked_at_more found was = acked_at c more r (noted e.at now_acked found) (since_more found (acked_since c xs r found was))
 
 -- ---- the notes of a list
 
 -- none was acknowledged before any entry
 pub never : (c : Setup) (r : ℕ) → IsAckedAt c [] r None
-never c r = record { since = λ count. ap (λ ys. acked (history c ys) r) (take_all count [] (omega arith)) }
+never c r = acked_at c [] r None (λ count. ap (λ ys. acked (history c ys) r) (take_all count [] (omega arith)))
 
 -- a note leaves what was where nothing is acknowledged
 pub unnoted : (at : ℕ) (o : Option (Option ℕ)) → o ≡ option_map (noted at false) o

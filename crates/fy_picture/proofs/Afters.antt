@@ -3,26 +3,21 @@ use Rattle.std.proofs.Common.{◌≡◌, ℕ, zero, suc, ◌+◌, ◌*◌, ◌<�
 use Rattle.std.specs.Prelude.{IsSomeAnd}
 use borrow.Author.Count.{below_more}
 use Rattle.std.proofs.Math.Seq.{take-add, drop-nil}
-use Rattle.std.proofs.lemmas.Option.{slice_get-get_or}
+use Rattle.std.proofs.lemmas.List.{take_more}
 use Rattle.fy_acts.specs.declared.entry.Entry.{Entry}
 use Rattle.fy_cluster.specs.Setup.{Setup}
-use Rattle.fy_cluster.specs.History.{History, moment, after, history}
+use Rattle.fy_cluster.specs.History.{History, step_of, after, history}
 
 pub after-append : (c : Setup) (h : History) (xs ys : List Entry) → after c h (xs ++ ys) ≡ after c (after c h xs) ys
 after-append c h [] ys = refl
-after-append c h (x ∷ xs) ys = after-append c (moment c h x ∷ h) xs ys
-
-take-push : {X : Type 0} (xs : List X) (i : ℕ) (x : X) → slice_get xs i ≡ Some x → take (suc i) xs ≡ take i xs ++ x ∷ []
-take-push [] i x e = absurd (cc)
-take-push (y ∷ xs) zero x e = let same : y ≡ x = cc in ap (λ z. z ∷ []) same
-take-push (y ∷ xs) (suc i) x e = ap (λ ys. y ∷ ys) (take-push xs i x e)
+after-append c h (x ∷ xs) ys = after-append c (step_of c h x ∷ h) xs ys
 
 -- one element more of a list
 pub one_more : {X : Type 0} (xs : List X) (i : ℕ) (x : X) → i < length xs → x ≡ get_or xs i x → take (i + 1) xs ≡ take i xs ++ x ∷ []
-one_more xs i x l is = ap (λ n. take n xs) (add-one i) ∙ take-push xs i x (slice_get-get_or xs i x l ∙ ap Some (sym is))
+one_more xs i x l is = take_more xs i x l ∙ ap (λ y. take i xs ++ y ∷ []) (sym is)
 
 -- one entry more
-pub after_next : (c : Setup) (h : History) (xs : List Entry) (i : ℕ) (x : Entry) → i < length xs → x ≡ get_or xs i x → after c h (take (i + 1) xs) ≡ moment c (after c h (take i xs)) x ∷ after c h (take i xs)
+pub after_next : (c : Setup) (h : History) (xs : List Entry) (i : ℕ) (x : Entry) → i < length xs → x ≡ get_or xs i x → after c h (take (i + 1) xs) ≡ step_of c (after c h (take i xs)) x ∷ after c h (take i xs)
 after_next c h xs i x l is = ap (after c h) (one_more xs i x l is) ∙ after-append c h (take i xs) (x ∷ [])
 
 -- a number of columns and one more

@@ -6,7 +6,7 @@ use Rattle.fy_cluster.specs.Setup.{Setup}
 use Rattle.fy_cluster.specs.History.{History, after, history}
 use Rattle.fy_picture.specs.declared.life.Life.{Life}
 use Rattle.fy_picture.specs.declared.state.State.{State}
-use Rattle.fy_picture.specs.Lives.{Lives}
+use Rattle.fy_picture.specs.IsLife.{IsLife}
 use Rattle.std.specs.Prelude.{IsSomeAnd}
 use Rattle.fy_picture.specs.declared.row.Row.{Row}
 use Rattle.fy_policy.specs.Tree.{Tree}
@@ -16,14 +16,14 @@ use Rattle.fy_picture.specs.Rows.{IsRow}
 use Rattle.fy_picture.specs.States.{state_of}
 
 -- the life after the entries so far, and how much time has passed at most
-pub record Follows (processes : List Locality) (p : ℕ) (entries : List Entry) (begun : Life) (i : ℕ) (life : Life) : Type 0 where
-  pub lives : (c : Setup) (h : History) → c.processes ≡ processes → Lives h p begun → Lives (after c h (take i entries)) p life
+pub record StepsTo (processes : List Locality) (p : ℕ) (entries : List Entry) (begun : Life) (i : ℕ) (life : Life) : Type 0 where
+  pub lives : (c : Setup) (h : History) → c.processes ≡ processes → IsLife h p begun → IsLife (after c h (take i entries)) p life
   pub clock : life.now ≤ begun.now + i * 18446744073709551615
 
 -- what a loop over columns keeps: the entries of the columns so far are followed, and the others are the rest
 pub record Draws (processes : List Locality) (p : ℕ) (entries : List Entry) (width i : ℕ) (life : Life) (states : List State) (rest : List Entry) : Type 0 where
   pub rest_is : rest ≡ drop (i * width) entries
-  pub lives : (c : Setup) → c.processes ≡ processes → Lives (history c (take (i * width) entries)) p life
+  pub lives : (c : Setup) → c.processes ≡ processes → IsLife (history c (take (i * width) entries)) p life
   pub clock : life.now + length rest * 18446744073709551615 ≤ length entries * 18446744073709551615
   pub count : length states ≡ i
   pub each : (c : Setup) → c.processes ≡ processes → (k : ℕ) → k < i → slice_get states k ≡ Some (state_of (history c (take ((k + 1) * width) entries)) p)

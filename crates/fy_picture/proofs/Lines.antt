@@ -11,13 +11,13 @@ use Rattle.fy_acts.specs.declared.act.Act.{Act}
 use Rattle.fy_acts.specs.declared.act.Act.TheVariants.{Kill, Clog, Unclog, Form, Begin, Deliver, Lose, Resend, Sync, Up, Tick, Give, Take, Protect, Unprotect, CopyTo, Replace, Heal}
 use Rattle.fy_acts.specs.declared.entry.Entry.{Entry}
 use Rattle.fy_cluster.specs.Setup.{Setup}
-use Rattle.fy_cluster.specs.History.{History, some_is, struck_by, heals_at, destroyed, gone, left, targets_of, moment, after, history}
+use Rattle.fy_cluster.specs.History.{History, some_is, struck_by, heals_at, destroyed, gone, left, targets_of, step_of, after, history}
 use Rattle.fy_picture.specs.declared.state.State.{State}
 use Rattle.fy_picture.specs.declared.row.Row.{Row}
 use Rattle.fy_picture.specs.declared.bearing.Line.{Line}
 use Rattle.fy_picture.specs.Rows.{IsRow}
 use Rattle.fy_picture.specs.States.{state_of}
-use Rattle.fy_picture.specs.Bearing.{borne_by, borne, IsLine}
+use Rattle.fy_picture.specs.Bearing.{killable_by, killable, IsLine}
 use Rattle.fy_picture.specs.Pictures.{AreRows, AreLines}
 use Rattle.fy_picture.specs.Shown.{shows, shown_destroyed, shown_left, IsShownLine, AreShownLines}
 
@@ -52,10 +52,10 @@ targets_none c h (Heal process) p l = refl
 destroyed_none : (c : Setup) (h : History) (xs : List Entry) (p : ℕ) → length c.processes ≤ p → destroyed h p ≡ false → destroyed (after c h xs) p ≡ false
 destroyed_none c h [] p l was = was
 destroyed_none c h (x ∷ xs) p l was =
-    destroyed_none c (moment c h x ∷ h) xs p l
+    destroyed_none c (step_of c h x ∷ h) xs p l
     (or_from _ _
     (ap (λ aimed. some_is is_destroying (cond aimed (struck_by x.act x.reply) None)) (targets_none c h x.act p l))
-    (and_right (not (heals_at (moment c h x) p)) _ was))
+    (and_right (not (heals_at (step_of c h x) p)) _ was))
 
 -- ---- what the rows show
 
@@ -91,8 +91,8 @@ module _ (c : Setup) (journal : List Entry) (width columns : ℕ) (rows : List R
     | inr more ↦ shows_none (λ state. not state.gone) p more ∙ sym (left_none c then p more)
   ]
 
-  borne_is : (P : Tree) → borne_by c.processes P (shown_destroyed rows k) (shown_left rows k) ≡ borne c then P
-  borne_is P = λ i. borne_by c.processes P (λ p. destroyed_shown p i) (λ p. left_shown p i)
+  borne_is : (P : Tree) → killable_by c.processes P (shown_destroyed rows k) (shown_left rows k) ≡ killable c then P
+  borne_is P = λ i. killable_by c.processes P (λ p. destroyed_shown p i) (λ p. left_shown p i)
 
 is_line : (c : Setup) (journal : List Entry) (width columns : ℕ) (rows : List Row) → AreRows c journal width columns rows → (P : Tree) (counts : List ℕ) → IsShownLine c.processes rows columns P counts → IsLine c journal width columns P counts
 is_line c journal width columns rows are P counts shown = record {

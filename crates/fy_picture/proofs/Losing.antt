@@ -10,14 +10,14 @@ use Rattle.std.proofs.lemmas.Option.{slice_get_past, slice_get_read}
 use Rattle.fy_locality.specs.declared.locality.Locality.{Locality}
 use Rattle.fy_policy.specs.Tree.{Tree}
 use Rattle.fy_policy.specs.Sat.{satisfies}
-use Rattle.fy_decide.specs.Losses.{with_set, without_set}
+use Rattle.fy_decide.specs.Safety.{with_set, without_set}
 use Rattle.fy_cluster.specs.History.{some_is}
 use Rattle.fy_picture.specs.declared.state.State.{State}
 use Rattle.fy_picture.specs.declared.row.Row.{Row}
-use Rattle.fy_picture.specs.declared.bearing.Losses.{Losses}
-use Rattle.fy_picture.specs.Bearing.{could_go, borne_by}
-use Rattle.fy_picture.specs.Shown.{shows, shown_destroyed, shown_left, AreShown, AreSame, borne_at}
-use Rattle.fy_picture.proofs.Sets.{empty-has, insert-has, union-has, difference-has}
+use Rattle.fy_picture.specs.declared.bearing.LossCounts.{LossCounts}
+use Rattle.fy_picture.specs.Bearing.{is_killable, killable_by}
+use Rattle.fy_picture.specs.Shown.{shows, shown_destroyed, shown_left, AreShown, AreSame, killable_at}
+use Rattle.std.specs.Cmp.{nat_cmp_total, unsigned_tied}
 
 -- ---- sets
 
@@ -25,9 +25,13 @@ or_false : (b : Bool) → (b || false) ≡ b
 or_false true = refl
 or_false false = refl
 
+-- a set with one process more
+pub insert_has : (s : sets.FinSet nat_cmp) (p q : ℕ) → sets.contains (sets.insert s p) q ≡ (q == p || sets.contains s q)
+insert_has s p q = sets.contains-insert nat_cmp_total s p q ∙ ap (λ b. b || sets.contains s q) (unsigned_tied q p)
+
 -- the set of one process
 pub one_has : (p q : ℕ) → sets.contains {R = nat_cmp} (sets.insert sets.empty p) q ≡ (q == p)
-one_has p q = insert-has sets.empty p q ∙ ap (λ b. q == p || b) (empty-has q) ∙ or_false (q == p)
+one_has p q = insert_has sets.empty p q ∙ ap (λ b. q == p || b) (sets.contains-empty nat_cmp q) ∙ or_false (q == p)
 
 -- where neither has what the other hasn't
 pub same_of : (a b : Bool) → (a && not b) ≡ false → (b && not a) ≡ false → a ≡ b
@@ -40,8 +44,8 @@ same_of false false e f = refl
 pub same_sets : (s t : sets.FinSet nat_cmp) → sets.difference s t ≡ sets.empty → sets.difference t s ≡ sets.empty → (p : ℕ) → sets.contains s p ≡ sets.contains t p
 same_sets s t e f p =
     same_of (sets.contains s p) (sets.contains t p)
-    (sym (difference-has s t p) ∙ ap (λ u. sets.contains u p) e ∙ empty-has p)
-    (sym (difference-has t s p) ∙ ap (λ u. sets.contains u p) f ∙ empty-has p)
+    (sym (sets.contains-difference nat_cmp_total s t p) ∙ ap (λ u. sets.contains u p) e ∙ sets.contains-empty nat_cmp p)
+    (sym (sets.contains-difference nat_cmp_total t s p) ∙ ap (λ u. sets.contains u p) f ∙ sets.contains-empty nat_cmp p)
 
 pub put_on : (a b r : Bool) → b ≡ true → (a || r) ≡ (a && b || r)
 put_on true b r e = ap (λ x. x || r) (sym e)
@@ -85,7 +89,7 @@ pub record ShownSoFar (rows : List Row) (column i : ℕ) (lost kept : sets.FinSe
   pub left : (q : ℕ) → sets.contains kept q ≡ (nat_lt q i && shown_left rows column q)
 
 pub none_yet : (S : ℕ → Bool) (q : ℕ) → sets.contains {R = nat_cmp} sets.empty q ≡ (nat_lt q 0 && S q)
-none_yet S q = empty-has q ∙ sym (ap (λ l. l && S q) (le-ltb q 0 (omega arith)))
+none_yet S q = sets.contains-empty nat_cmp q ∙ sym (ap (λ l. l && S q) (le-ltb q 0 (omega arith)))
 
 -- ---- counting
 
@@ -107,10 +111,10 @@ count_next f n = ap (λ ms. length (filter f ms)) (range_next n) ∙ ap length (
 -- ---- one policy
 
 with_is : (s : sets.FinSet nat_cmp) (p : ℕ) → sets.contains (sets.union s (sets.insert sets.empty p)) ≡ with_set (sets.contains s) (λ q. q == p)
-with_is s p = λ i q. (union-has s (sets.insert sets.empty p) q ∙ ap (λ b. sets.contains s q || b) (one_has p q)) i
+with_is s p = λ i q. (sets.contains-union nat_cmp_total s (sets.insert sets.empty p) q ∙ ap (λ b. sets.contains s q || b) (one_has p q)) i
 
 without_is : (s : sets.FinSet nat_cmp) (p : ℕ) → sets.contains (sets.difference s (sets.insert sets.empty p)) ≡ without_set (sets.contains s) (λ q. q == p)
-without_is s p = λ i q. (difference-has s (sets.insert sets.empty p) q ∙ ap (λ b. sets.contains s q && not b) (one_has p q)) i
+without_is s p = λ i q. (sets.contains-difference nat_cmp_total s (sets.insert sets.empty p) q ∙ ap (λ b. sets.contains s q && not b) (one_has p q)) i
 
 ands : (x y : Bool) → (not x && y) ≡ ((not x && true) && (y && true))
 ands true true = refl
@@ -125,7 +129,7 @@ module _ (processes : List Locality) (P : Tree) (destroyed left : sets.FinSet na
   abbrev without_it : Bool
   without_it = satisfies processes P (without_set (sets.contains left) (λ q. q == p))
 
-  parts : sets.contains left p ≡ true → sets.contains destroyed p ≡ false → (not with_it && without_it) ≡ could_go processes P (sets.contains destroyed) (sets.contains left) p
+  parts : sets.contains left p ≡ true → sets.contains destroyed p ≡ false → (not with_it && without_it) ≡ is_killable processes P (sets.contains destroyed) (sets.contains left) p
   parts is_left is_whole =
       ands with_it without_it
       ∙ sym (ap₂ (λ l d. l && not d && ((not with_it && true) && (without_it && true))) is_left is_whole)
@@ -134,7 +138,7 @@ module _ (processes : List Locality) (P : Tree) (destroyed left : sets.FinSet na
   pub goes_by_left : (a b : Bool) → sets.contains left p ≡ true → sets.contains destroyed p ≡ false
       → a ≡ satisfies processes P (sets.contains (sets.union destroyed (sets.insert sets.empty p)))
       → b ≡ satisfies processes P (sets.contains (sets.difference left (sets.insert sets.empty p)))
-      → a ≡ false → b ≡ could_go processes P (sets.contains destroyed) (sets.contains left) p
+      → a ≡ false → b ≡ is_killable processes P (sets.contains destroyed) (sets.contains left) p
   goes_by_left a b is_left is_whole with_is_a without_is_b short =
       without_is_b ∙ ap (λ s. satisfies processes P s) (without_is left p)
       ∙ ap (λ x. not x && without_it) (sym short ∙ with_is_a ∙ ap (λ s. satisfies processes P s) (with_is destroyed p))
@@ -143,26 +147,26 @@ module _ (processes : List Locality) (P : Tree) (destroyed left : sets.FinSet na
   -- they satisfy it
   pub stays : (a : Bool) → sets.contains left p ≡ true → sets.contains destroyed p ≡ false
       → a ≡ satisfies processes P (sets.contains (sets.union destroyed (sets.insert sets.empty p)))
-      → a ≡ true → not a ≡ could_go processes P (sets.contains destroyed) (sets.contains left) p
+      → a ≡ true → not a ≡ is_killable processes P (sets.contains destroyed) (sets.contains left) p
   stays a is_left is_whole with_is_a enough =
       ap not enough
       ∙ ap (λ x. not x && without_it) (sym enough ∙ with_is_a ∙ ap (λ s. satisfies processes P s) (with_is destroyed p))
       ∙ parts is_left is_whole
 
 -- the same losses leave the same number
-pub borne_same : (processes : List Locality) (P : Tree) (one other : Losses) → AreSame one other → borne_at processes P one ≡ borne_at processes P other
-borne_same processes P one other same = λ i. borne_by processes P (λ p. same.destroyed p i) (λ p. same.left p i)
+pub killable_same : (processes : List Locality) (P : Tree) (one other : LossCounts) → AreSame one other → killable_at processes P one ≡ killable_at processes P other
+killable_same processes P one other same = λ i. killable_by processes P (λ p. same.destroyed p i) (λ p. same.left p i)
 
 -- the losses that are shown leave the number that is shown
-pub borne_shown : (processes : List Locality) (P : Tree) (rows : List Row) (column : ℕ) (losses : Losses) → AreShown rows column losses
-    → borne_at processes P losses ≡ borne_by processes P (shown_destroyed rows column) (shown_left rows column)
-borne_shown processes P rows column losses shown = λ i. borne_by processes P (λ p. shown.destroyed p i) (λ p. shown.left p i)
+pub borne_shown : (processes : List Locality) (P : Tree) (rows : List Row) (column : ℕ) (losses : LossCounts) → AreShown rows column losses
+    → killable_at processes P losses ≡ killable_by processes P (shown_destroyed rows column) (shown_left rows column)
+borne_shown processes P rows column losses shown = λ i. killable_by processes P (λ p. shown.destroyed p i) (λ p. shown.left p i)
 
 -- what a loop over columns keeps: the last number, and the line so far
-pub record DrawsLine (processes : List Locality) (P : Tree) (rows : List Row) (column : ℕ) (losses : Losses) (last : ℕ) (counts : List ℕ) : Type 0 where
-  pub last_is : last ≡ borne_at processes P losses
+pub record DrawsLine (processes : List Locality) (P : Tree) (rows : List Row) (column : ℕ) (losses : LossCounts) (last : ℕ) (counts : List ℕ) : Type 0 where
+  pub last_is : last ≡ killable_at processes P losses
   pub count : length counts ≡ column
-  pub each : (k : ℕ) → k < column → slice_get counts k ≡ Some (borne_by processes P (shown_destroyed rows k) (shown_left rows k))
+  pub each : (k : ℕ) → k < column → slice_get counts k ≡ Some (killable_by processes P (shown_destroyed rows k) (shown_left rows k))
 
 -- a row shows what it shows at its place
 pub row_shows : (test : State → Bool) (rows : List Row) (column i : ℕ) (row : Row) → i < length rows → row ≡ get_or rows i row → some_is test (slice_get row.states.items column) ≡ shows test rows column i

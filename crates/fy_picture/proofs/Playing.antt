@@ -8,9 +8,9 @@ use Rattle.fy_acts.specs.declared.act.Act.{Act}
 use Rattle.fy_acts.specs.declared.reply.Reply.{Reply}
 use Rattle.fy_acts.specs.declared.entry.Entry.{Entry}
 use Rattle.fy_cluster.specs.Setup.{Setup}
-use Rattle.fy_cluster.specs.Course.{Course, entered, history_of}
-use Rattle.fy_cluster.specs.History.{History, begins, records, moment, after, history, acked, keeper}
-use Rattle.fy_cluster.specs.Replies.{Legal, IsNext, reply}
+use Rattle.fy_cluster.specs.Execution.{Execution, entered, history_of}
+use Rattle.fy_cluster.specs.History.{History, begins, records, step_of, after, history, acked, keeper}
+use Rattle.fy_cluster.specs.Replies.{Legal, MayFollow, reply}
 use Rattle.fy_cluster.specs.Survival.{FrontsLegal, NextLegal}
 use Rattle.fy_picture.specs.Keeping.{IsAckedAt, says_acked, noted}
 use Rattle.fy_picture.proofs.Afters.{one_more, after_next, after-append}
@@ -37,24 +37,17 @@ records_next c entries i e l is =
 
 -- ---- the acts once more
 
-length-after : (c : Setup) (h : History) (xs : List Entry) → length (after c h xs) ≡ length h + length xs
-length-after c h [] = omega arith
-length-after c h (x ∷ xs) = length-after c (moment c h x ∷ h) xs ∙ (omega arith)
-
-length-history : (c : Setup) (journal : List Entry) → length (history c journal) ≡ length journal
-length-history c journal = length-after c [] journal ∙ (omega arith)
-
 -- the course with the entries so far
-abbrev pub course_at : Setup → List Entry → ℕ → Course
+abbrev pub course_at : Setup → List Entry → ℕ → Execution
 course_at c entries i = record { setup = c; journal = take i entries }
 
 -- what a loop over the entries keeps: the cluster has those so far
-abbrev pub Plays : Setup → List Entry → ℕ → Course → Type 0
-Plays c entries i course = Legal c entries → course ≡ course_at c entries i
+abbrev pub Plays : Setup → List Entry → ℕ → Execution → Type 0
+Plays c entries i execution = Legal c entries → execution ≡ course_at c entries i
 
--- in a legal journal there is a place for the next entry, and it may come next
+-- in a legal journal the next entry may follow those before it
 pub next_of : FrontsLegal → NextLegal → (c : Setup) (entries : List Entry) (i : ℕ) (e : Entry) → i < length entries → e ≡ get_or entries i e → Legal c entries
-    → (length (take i entries) < c.limit) × IsNext c (history c (take i entries)) e
+    → MayFollow c (take i entries) e
 next_of fronts next c entries i e l is legal =
     let front : Legal c (take (i + 1) entries) = fronts c (take (i + 1) entries) (drop (i + 1) entries) (subst (Legal c) (sym (take-append-drop (i + 1) entries)) legal) in
     let more : Legal c (take i entries ++ e ∷ []) = subst (Legal c) (one_more entries i e l is) front in
@@ -66,30 +59,29 @@ of_parts : (e : Entry) (at : ℕ) (act : Act) (answered : Reply) → e.at ≡ at
 of_parts e at act answered p a r = λ i. record { at = sym p i; by = e.by; act = sym a i; reply = sym r i }
 
 -- the next act makes the next entry
-pub plays_next : FrontsLegal → NextLegal → (c : Setup) (entries : List Entry) (i : ℕ) (e : Entry) (act : Act) (old new : Course) → i < length entries → e ≡ get_or entries i e → act ≡ e.act
+pub plays_next : FrontsLegal → NextLegal → (c : Setup) (entries : List Entry) (i : ℕ) (e : Entry) (act : Act) (old new : Execution) → i < length entries → e ≡ get_or entries i e → act ≡ e.act
     → new ≡ entered old e.by act → Plays c entries i old → Plays c entries (i + 1) new
 plays_next fronts next c entries i e act old new l is same made plays = λ legal.
-    let may = (next_of fronts next c entries i e l is legal).1 in
-    let place : e.at ≡ length (take i entries) = may.place ∙ length-history c (take i entries) in
+    let may = next_of fronts next c entries i e l is legal in
     let right : e.reply ≡ reply c (history c (take i entries)) e.by act = may.right ∙ ap (λ (a : Act). reply c (history c (take i entries)) e.by a) (sym same) in
-    made ∙ ap (λ (x : Course). entered x e.by act) (plays legal)
-    ∙ ap (λ (x : Entry). let more : Course = record { setup = c; journal = take i entries ++ x ∷ [] } in more)
-    (of_parts e (length (take i entries)) act (reply c (history c (take i entries)) e.by act) place (sym same) right)
-    ∙ ap (λ (journal : List Entry). let more : Course = record { setup = c; journal = journal } in more) (sym (one_more entries i e l is))
+    made ∙ ap (λ (x : Execution). entered x e.by act) (plays legal)
+    ∙ ap (λ (x : Entry). let more : Execution = record { setup = c; journal = take i entries ++ x ∷ [] } in more)
+    (of_parts e (length (take i entries)) act (reply c (history c (take i entries)) e.by act) may.place (sym same) right)
+    ∙ ap (λ (journal : List Entry). let more : Execution = record { setup = c; journal = journal } in more) (sym (one_more entries i e l is))
 
 -- a journal that is full has no next entry
-pub never_full : FrontsLegal → NextLegal → (c : Setup) (entries : List Entry) (i : ℕ) (e : Entry) (course : Course) → i < length entries → e ≡ get_or entries i e → course.setup.limit ≤ length course.journal
-    → Plays c entries i course → Legal c entries → ⊥
-never_full fronts next c entries i e course l is full plays legal =
-    let room : length (take i entries) < c.limit = (next_of fronts next c entries i e l is legal).0 in
-    let full_at : c.limit ≤ length (take i entries) = subst (λ (x : Course). x.setup.limit ≤ length x.journal) (plays legal) full in
+pub never_full : FrontsLegal → NextLegal → (c : Setup) (entries : List Entry) (i : ℕ) (e : Entry) (execution : Execution) → i < length entries → e ≡ get_or entries i e → execution.setup.limit ≤ length execution.journal
+    → Plays c entries i execution → Legal c entries → ⊥
+never_full fronts next c entries i e execution l is full plays legal =
+    let room : length (take i entries) < c.limit = (next_of fronts next c entries i e l is legal).room in
+    let full_at : c.limit ≤ length (take i entries) = subst (λ (x : Execution). x.setup.limit ≤ length x.journal) (plays legal) full in
     omega arith
 
 -- ---- who acknowledged
 
 -- what a loop over the entries keeps: the cluster has those so far, and of so many records it is noted which of them acknowledged them
-pub record PlaysOn (c : Setup) (entries : List Entry) (size i : ℕ) (course : Course) (places : List (Option ℕ)) : Type 0 where
-  pub plays : Plays c entries i course
+pub record PlaysOn (c : Setup) (entries : List Entry) (size i : ℕ) (execution : Execution) (places : List (Option ℕ)) : Type 0 where
+  pub plays : Plays c entries i execution
   pub count : length places ≡ size
   pub acked : Legal c entries → (r : ℕ) → r < size → IsSomeAnd (slice_get places r) (IsAckedAt c (take i entries) r)
 
@@ -101,7 +93,7 @@ none_noted c entries size places is r l =
     subst (λ o. IsSomeAnd o (IsAckedAt c [] r)) (sym none) (never c r)
 
 -- the next act makes the next entry, and what it acknowledges is noted
-pub plays_on : FrontsLegal → NextLegal → ByReply → (c : Setup) (entries : List Entry) (size i : ℕ) (e : Entry) (act : Act) (old new : Course) (olds news : List (Option ℕ)) → i < length entries → e ≡ get_or entries i e → act ≡ e.act
+pub plays_on : FrontsLegal → NextLegal → ByReply → (c : Setup) (entries : List Entry) (size i : ℕ) (e : Entry) (act : Act) (old new : Execution) (olds news : List (Option ℕ)) → i < length entries → e ≡ get_or entries i e → act ≡ e.act
     → new ≡ entered old e.by act → length news ≡ length olds
     → ((r : ℕ) → slice_get news r ≡ option_map (noted e.at (says_acked e.reply && acked (history_of new) r)) (slice_get olds r))
     → PlaysOn c entries size i old olds → PlaysOn c entries size (i + 1) new news
@@ -109,16 +101,15 @@ plays_on fronts next by_reply c entries size i e act old new olds news l is same
   plays = plays_next fronts next c entries i e act old new l is same made k.plays;
   count = size_is ∙ k.count;
   acked = λ legal r within.
-      let may = (next_of fronts next c entries i e l is legal).1 in
-      let place : e.at ≡ length (take i entries) = may.place ∙ length-history c (take i entries) in
+      let may = next_of fronts next c entries i e l is legal in
       let with = one_more entries i e l is in
-      let course : new ≡ course_at c entries (i + 1) = plays_next fronts next c entries i e act old new l is same made k.plays legal in
-      let then : history_of new ≡ moment c (history c (take i entries)) e ∷ history c (take i entries) =
-      ap history_of course ∙ ap (history c) with ∙ after-append c [] (take i entries) (e ∷ []) in
+      let execution : new ≡ course_at c entries (i + 1) = plays_next fronts next c entries i e act old new l is same made k.plays legal in
+      let then : history_of new ≡ step_of c (history c (take i entries)) e ∷ history c (take i entries) =
+      ap history_of execution ∙ ap (history c) with ∙ after-append c [] (take i entries) (e ∷ []) in
       subst (λ xs. IsSomeAnd (slice_get news r) (IsAckedAt c xs r)) (sym with)
-      (some_and-map (noted e.at (says_acked e.reply && acked (moment c (history c (take i entries)) e ∷ history c (take i entries)) r))
+      (some_and-map (noted e.at (says_acked e.reply && acked (step_of c (history c (take i entries)) e ∷ history c (take i entries)) r))
       (IsAckedAt c (take i entries) r) (IsAckedAt c (take i entries ++ e ∷ []) r)
-      (acked_at_more by_reply c (take i entries) e r may place) (slice_get olds r) (slice_get news r)
+      (acked_at_more by_reply c (take i entries) e r may) (slice_get olds r) (slice_get news r)
       (noted_is r ∙ ap (λ h. option_map (noted e.at (says_acked e.reply && acked h r)) (slice_get olds r)) then)
       (k.acked legal r within));
 }
@@ -126,6 +117,6 @@ plays_on fronts next by_reply c entries size i e act old new olds news l is same
 -- ---- the keepers
 
 -- what a loop over the records keeps: the keeper of each so far
-pub record ListsKeepers (course : Course) (i : ℕ) (keepers : List (Option ProcId)) : Type 0 where
+pub record ListsKeepers (execution : Execution) (i : ℕ) (keepers : List (Option ProcId)) : Type 0 where
   pub count : length keepers ≡ i
-  pub each : (r : ℕ) → r < i → slice_get keepers r ≡ Some (keeper course.setup (history_of course) r)
+  pub each : (r : ℕ) → r < i → slice_get keepers r ≡ Some (keeper execution.setup (history_of execution) r)

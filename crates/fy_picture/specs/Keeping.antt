@@ -1,11 +1,11 @@
 -- which process keeps each record behind a journal, and which entry acknowledged it
-use Rattle.std.specs.Prelude.{◌≡◌, ◌<◌, ℕ, Bool, false, List, length, min, take, nat_lt, slice_get, Option, Some, None, IsSomeAnd, if◌then◌else◌}
+use Rattle.std.specs.Prelude.{◌≡◌, ◌<◌, ◌≤◌, ℕ, Bool, false, List, length, min, take, slice_get, Option, Some, None, IsSomeAnd, IsTrue, IsFalse, if◌then◌else◌}
 use Rattle.fy_locality.specs.declared.ProcId.{ProcId}
 use Rattle.fy_acts.specs.declared.reply.Reply.{Reply}
 use Rattle.fy_acts.specs.declared.reply.Reply.TheVariants.{Marked}
 use Rattle.fy_acts.specs.declared.entry.Entry.{Entry}
 use Rattle.fy_cluster.specs.Setup.{Setup}
-use Rattle.fy_cluster.specs.History.{some_is, history, records, acked, keeper}
+use Rattle.fy_cluster.specs.History.{history, records, acked, keeper}
 use Rattle.fy_picture.specs.declared.TheConstants.{MOST_KEPT}
 
 -- of each of the first records, by number, its keeper in the history of the whole journal: of an
@@ -16,11 +16,14 @@ pub record AreKeepers (c : Setup) (journal : List Entry) (keepers : List (Option
     pub each : (r : ℕ) → r < length keepers
         → slice_get keepers r ≡ Some (keeper c (history c journal) r)
 
--- the entry at this place acknowledged the record: of so many entries, whatever their number, the
--- record is acknowledged exactly where that one is among them; where no entry did, it never is
+-- the entry at this place acknowledged the record: after the entries before it the record isn't
+-- acknowledged, and after any entries with it the record is; with no place, it never is
 pub record IsAckedAt (c : Setup) (journal : List Entry) (r : ℕ) (place : Option ℕ) : Type 0 where
-  pub since : (count : ℕ)
-      → acked (history c (take count journal)) r ≡ some_is (λ at. nat_lt at count) place
+  pub before : (at count : ℕ) → place ≡ Some at → count ≤ at →
+      IsFalse (acked (history c (take count journal)) r)
+  pub from : (at count : ℕ) → place ≡ Some at → at < count →
+      IsTrue (acked (history c (take count journal)) r)
+  pub never : (count : ℕ) → place ≡ None → IsFalse (acked (history c (take count journal)) r)
 
 -- of each of the first records, by number, the place of the entry that acknowledged it
 pub record AreAckedAt (c : Setup) (journal : List Entry) (places : List (Option ℕ)) : Type 0 where

@@ -2,7 +2,7 @@ pub mod Aims
 pub mod Bearing
 pub mod Glyphs
 pub mod Keeping
-pub mod Lives
+pub mod IsLife
 pub mod Pictures
 pub mod Rows
 pub mod Shown

@@ -7,8 +7,8 @@ use Rattle.fy_policy.specs.Tree.{Tree}
 use Rattle.fy_picture.specs.declared.state.State.{State}
 use Rattle.fy_picture.specs.declared.row.Row.{Row}
 use Rattle.fy_picture.specs.declared.bearing.Line.{Line}
-use Rattle.fy_picture.specs.declared.bearing.Losses.{Losses}
-use Rattle.fy_picture.specs.Bearing.{borne_by}
+use Rattle.fy_picture.specs.declared.bearing.LossCounts.{LossCounts}
+use Rattle.fy_picture.specs.Bearing.{killable_by}
 
 -- the state that a row shows at a column passes the test
 abbrev pub shows : (State → Bool) → List Row → (column : ℕ) → ℕ → Bool
@@ -23,26 +23,26 @@ abbrev pub shown_left : List Row → (column : ℕ) → ℕ → Bool
 shown_left rows column = shows (λ state. not state.gone) rows column
 
 -- the two sets are those that are shown
-pub record AreShown (rows : List Row) (column : ℕ) (losses : Losses) : Type 0 where
+pub record AreShown (rows : List Row) (column : ℕ) (losses : LossCounts) : Type 0 where
   pub destroyed : (p : ℕ) → sets.contains losses.destroyed p ≡ shown_destroyed rows column p
   pub left : (p : ℕ) → sets.contains losses.left p ≡ shown_left rows column p
 
 -- the two losses are of the same processes
-pub record AreSame (one other : Losses) : Type 0 where
+pub record AreSame (one other : LossCounts) : Type 0 where
   pub destroyed : (p : ℕ) → sets.contains one.destroyed p ≡ sets.contains other.destroyed p
   pub left : (p : ℕ) → sets.contains one.left p ≡ sets.contains other.left p
 
 -- how many more the policy could bear at these losses
-abbrev pub borne_at : List Locality → Tree → Losses → ℕ
-borne_at processes P losses =
-    borne_by processes P (sets.contains losses.destroyed) (sets.contains losses.left)
+abbrev pub killable_at : List Locality → Tree → LossCounts → ℕ
+killable_at processes P losses =
+    killable_by processes P (sets.contains losses.destroyed) (sets.contains losses.left)
 
 -- the line of a policy by what the rows show
 pub record IsShownLine (processes : List Locality) (rows : List Row) (columns : ℕ) (P : Tree)
     (counts : List ℕ) : Type 0 where
   pub count : length counts ≡ columns
   pub each : (k : ℕ) → k < columns → slice_get counts k
-      ≡ Some (borne_by processes P (shown_destroyed rows k) (shown_left rows k))
+      ≡ Some (killable_by processes P (shown_destroyed rows k) (shown_left rows k))
 
 -- a line for each policy, by what the rows show
 pub record AreShownLines (processes : List Locality) (policies : List Tree) (rows : List Row)

@@ -1,10 +1,10 @@
-//! How many more each policy could bear.
+//! The line of each policy: how many processes could each be killed next.
 ghost use Rattle.std.specs.Prelude.{◌≡◌, ◌≤◌, ◌<◌, ◌==◌, ◌&&◌, ◌||◌, ℕ, not, length, slice_get, IfOk, IsTrue};
 ghost use Rattle.std.specs.FinSet as sets;
 ghost use Rattle.fy_cluster.specs.History.{some_is};
 ghost use Rattle.fy_locality.specs.declared.TheConstants.{MOST_PROCESSES};
-ghost use Rattle.fy_picture.specs.Bearing.{could_go};
-ghost use Rattle.fy_picture.specs.Shown.{AreShown, AreSame, IsShownLine, AreShownLines, borne_at};
+ghost use Rattle.fy_picture.specs.Bearing.{is_killable};
+ghost use Rattle.fy_picture.specs.Shown.{AreShown, AreSame, IsShownLine, AreShownLines, killable_at};
 
 use crate::row::Row;
 use fy_locality::{Map, ProcId, ProcSet};
@@ -19,9 +19,9 @@ pub struct Line {
     pub counts: Vec<u32>,
 }
 
-/// Who is destroyed and who is left at a moment.
+/// Who is destroyed and who is left after some entries.
 #[derive(Clone, Copy)]
-pub(crate) struct Losses {
+pub(crate) struct LossCounts {
     destroyed: ProcSet,
     left: ProcSet,
 }
@@ -46,7 +46,7 @@ fn is_left(row: &Row, column: usize) -> bool
     }
 }
 
-/// Puts a process into a set where it belongs there.
+/// Puts a process into a set, if it belongs there.
 fn put_if(set: &mut ProcSet, p: ProcId, belongs: bool)
     requires { p.0 < MOST_PROCESSES }
     ensures { (q : ℕ) → sets.contains set.new q ≡ (q == p.0 && belongs || sets.contains set.old q) }
@@ -57,7 +57,7 @@ fn put_if(set: &mut ProcSet, p: ProcId, belongs: bool)
 }
 
 /// Who is destroyed and who is left at the end of a column, by the rows.
-fn losses_at(rows: &[Row], column: usize) -> Losses
+fn losses_at(rows: &[Row], column: usize) -> LossCounts
     requires { length rows.now ≤ MOST_PROCESSES }
     ensures { AreShown rows.now column result }
 {
@@ -68,7 +68,7 @@ fn losses_at(rows: &[Row], column: usize) -> Losses
         put_if(&mut destroyed, p, is_destroyed(&rows[place], column));
         put_if(&mut left, p, is_left(&rows[place], column));
     }
-    Losses { destroyed, left }
+    LossCounts { destroyed, left }
 }
 
 /// Whether two sets have the same processes.
@@ -79,7 +79,7 @@ fn is_same_set(one: &ProcSet, other: &ProcSet) -> bool
 }
 
 /// Whether two losses are of the same processes.
-fn is_same(one: &Losses, other: &Losses) -> bool
+fn is_same(one: &LossCounts, other: &LossCounts) -> bool
     ensures { IsTrue result → AreSame one.now other.now }
 {
     is_same_set(&one.destroyed, &other.destroyed) && is_same_set(&one.left, &other.left)
@@ -87,9 +87,9 @@ fn is_same(one: &Losses, other: &Losses) -> bool
 
 /// Whether a process that is left and not destroyed could be killed for good next, as far as one
 /// policy goes.
-fn could_go(policy: &Policy, map: &Map, losses: &Losses, p: ProcId) -> bool
+fn is_killable(policy: &Policy, map: &Map, losses: &LossCounts, p: ProcId) -> bool
     requires { p.0 < MOST_PROCESSES }
-    ensures { result ≡ could_go map.now policy.now (sets.contains losses.now.destroyed)
+    ensures { result ≡ is_killable map.now policy.now (sets.contains losses.now.destroyed)
         (sets.contains losses.now.left) p.0 }
 {
     if !losses.left.contains(p) || losses.destroyed.contains(p) {
@@ -101,40 +101,40 @@ fn could_go(policy: &Policy, map: &Map, losses: &Losses, p: ProcId) -> bool
         && satisfied(policy, map, &losses.left.difference(&one))
 }
 
-/// How many processes could each go.
+/// How many processes could each be killed for good next.
 #[tactic(auto, using(crate::proofs::Losing::count_next))]
-fn count_borne(policy: &Policy, map: &Map, losses: &Losses) -> u32
-    ensures { result ≡ borne_at map.now policy.now losses.now }
+fn count_killable(policy: &Policy, map: &Map, losses: &LossCounts) -> u32
+    ensures { result ≡ killable_at map.now policy.now losses.now }
 {
     let mut count = 0;
     for p in 0..map.len() {
-        if could_go(policy, map, losses, ProcId(p)) {
+        if is_killable(policy, map, losses, ProcId(p)) {
             count += 1;
         }
     }
     count
 }
 
-/// How many could go at the last losses.
+/// The last losses, and how many processes could each be killed for good after them.
 #[derive(Clone, Copy)]
-struct Borne {
-    losses: Losses,
+struct Killable {
+    losses: LossCounts,
     count: u32,
 }
 
-/// How many can go at the next losses: they are counted only where these are others.
-#[tactic(auto, using(crate::proofs::Losing::borne_same))]
-fn borne_next(last: &Borne, policy: &Policy, map: &Map, losses: Losses) -> Borne
-    requires { last.now.count ≡ borne_at map.now policy.now last.now.losses }
+/// The same of the next losses. The processes are counted anew only where the losses changed.
+#[tactic(auto, using(crate::proofs::Losing::killable_same))]
+fn next_killable(last: &Killable, policy: &Policy, map: &Map, losses: LossCounts) -> Killable
+    requires { last.now.count ≡ killable_at map.now policy.now last.now.losses }
     ensures losses { result.losses ≡ losses }
-    ensures count { result.count ≡ borne_at map.now policy.now losses }
+    ensures count { result.count ≡ killable_at map.now policy.now losses }
 {
     let count = if is_same(&last.losses, &losses) {
         last.count
     } else {
-        count_borne(policy, map, &losses)
+        count_killable(policy, map, &losses)
     };
-    Borne { losses, count }
+    Killable { losses, count }
 }
 
 /// The line of a policy over so many columns, by the rows.
@@ -149,15 +149,15 @@ fn line_of(
     ensures { IfOk result (λ line.
         IsShownLine map.now rows.now columns policy.now line.counts.items) }
 {
-    let losses = Losses {
+    let losses = LossCounts {
         destroyed: ProcSet::empty(),
         left: ProcSet::empty(),
     };
-    let count = count_borne(policy, map, &losses);
-    let mut last = Borne { losses, count };
+    let count = count_killable(policy, map, &losses);
+    let mut last = Killable { losses, count };
     let mut counts = Vec::new(alloc);
     for column in 0..columns {
-        last = borne_next(&last, policy, map, losses_at(rows, column));
+        last = next_killable(&last, policy, map, losses_at(rows, column));
         counts.push(last.count)?;
     }
     Ok(Line { counts })

@@ -1,4 +1,4 @@
-//! What a glyph shows of an order, beside whom it names.
+//! What a glyph shows of an order, besides the processes that it names.
 ghost use Rattle.std.specs.Prelude.{◌≡◌, ◌==◌};
 ghost use Rattle.fy_kinds.specs.Kinds.{rank};
 ghost use Rattle.fy_cluster.specs.History.{some_is};
@@ -7,7 +7,7 @@ ghost use Rattle.fy_picture.specs.Glyphs.{struck_as_ordered, rule_of};
 use fy_journal::{Act, Entry, Reply};
 use fy_kinds::{Kind, Rule};
 
-/// The place of a kind from the mildest, from 0.
+/// The rank of a kind, 0 for the mildest.
 fn rank_of(kind: Kind) -> u32
     ensures { result ≡ rank kind }
 {
@@ -47,8 +47,8 @@ pub fn struck_as_ordered(entry: &Entry) -> bool
     }
 }
 
-/// The rule that the entry's reply names: why an order struck with less, or nobody. A glyph's title
-/// names it.
+/// The rule that the entry's reply names: why an order struck by a milder kind, or struck nobody. A
+/// glyph's title names it.
 pub fn rule_of(entry: &Entry) -> Option<Rule>
     ensures { result ≡ rule_of entry.now.reply }
 {

@@ -1,30 +1,29 @@
-//! Which process keeps each record behind a journal, and which entry acknowledged it.
+//! Which process keeps each record at the end of a journal, and which entry acknowledged it.
 ghost use Rattle.std.specs.Prelude.{◌≡◌, ◌≤◌, ◌<◌, ◌&&◌, ℕ, IfOk, IsSomeAnd, is_some, length, option_map, slice_get};
 ghost use Rattle.fy_cluster.specs.Setup.{Setup};
-ghost use Rattle.fy_cluster.specs.Course.{history_of};
+ghost use Rattle.fy_cluster.specs.Execution.{history_of};
 ghost use Rattle.fy_cluster.specs.History.{acked, begins, history, records};
 ghost use Rattle.fy_cluster.specs.Replies.{Legal};
 ghost use Rattle.fy_picture.specs.declared.TheConstants.{MOST_KEPT};
 ghost use Rattle.fy_picture.specs.Keeping.{AreKeepers, AreAckedAt, IsAckedAt, noted, says_acked};
 
 use crate::MOST_KEPT;
-use crate::views::is_accepted;
+use fy_cluster::effects::is_accepted;
 use fy_cluster::{Cluster, Config, Fault, laws};
 use fy_journal::{Act, Entry, Reply};
 use fy_locality::ProcId;
 use std::alloc::{AllocError, Global};
 
-/// What is told of each record that a journal begins, by its number and up to `MOST_KEPT` of them.
+/// What a picture tells of each record, by its number, up to `MOST_KEPT` records.
 #[derive(Drop)]
 pub(crate) struct Kept {
-    /// Which process keeps it behind the last entry.
+    /// Which process keeps it after the last entry.
     pub keepers: Vec<Option<ProcId>>,
     /// At which entry it was acknowledged.
     pub acked_at: Vec<Option<u32>>,
 }
 
-/// A cluster in which acts were made once more, and at which of them its first records were
-/// acknowledged.
+/// A cluster that has replayed entries, and which of them acknowledged each of its first records.
 #[derive(Drop)]
 struct Replay {
     cluster: Cluster,
@@ -65,8 +64,8 @@ fn says_acked(reply: Reply) -> bool
     }
 }
 
-/// The place noted of a record behind one more entry: the one that was, or else that of the entry
-/// where the record is acknowledged now.
+/// The place noted of a record after one more entry: the one that was noted, or else that of the
+/// entry, where the record is acknowledged now.
 fn noted(cluster: &Cluster, rec: u32, place: Option<u32>, at: u32) -> Option<u32>
     ensures { result ≡ noted at (acked (history_of cluster.now) rec) place }
 {
@@ -80,7 +79,7 @@ fn noted(cluster: &Cluster, rec: u32, place: Option<u32>, at: u32) -> Option<u32
     }
 }
 
-/// Notes the entry behind which the cluster is for each record that it acknowledged.
+/// Notes the cluster's last entry for each record that it acknowledged.
 fn note(cluster: &Cluster, entry: &Entry, acked_at: &mut Vec<Option<u32>>)
     requires { length acked_at.old.items ≤ MOST_KEPT }
     ensures count { length acked_at.new.items ≡ length acked_at.old.items }
@@ -97,9 +96,8 @@ fn note(cluster: &Cluster, entry: &Entry, acked_at: &mut Vec<Option<u32>>)
     }
 }
 
-/// A cluster in which the acts of the entries were made once more, up to the first that it has no
-/// place for: a legal journal has none. Of so many records it is noted which entry acknowledged
-/// them.
+/// Replays the entries, up to the first for which the journal has no room; a legal journal has none
+/// such. Of so many records it is noted which entry acknowledged them.
 fn played(
     alloc: Global,
     config: &Config,
@@ -130,7 +128,7 @@ fn played(
     Ok(Replay { cluster, acked_at })
 }
 
-/// Of each record that the entries begin, up to `MOST_KEPT` of them, which process keeps it behind
+/// Of each record that the entries begin, up to `MOST_KEPT` of them: which process keeps it after
 /// the last entry, and at which entry it was acknowledged.
 ///
 /// # Errors

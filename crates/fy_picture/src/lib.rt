@@ -9,7 +9,6 @@ mod life;
 mod picture;
 mod row;
 mod state;
-mod views;
 
 pub use aim::Aim;
 pub use bearing::Line;
@@ -22,5 +21,5 @@ pub use state::State;
 /// several.
 pub const MOST_COLUMNS: usize = 4000;
 
-/// Of how many records a picture says who keeps them.
+/// The most records of which a picture tells the keeper.
 pub const MOST_KEPT: u32 = 1000;

@@ -1,22 +1,22 @@
-//! The life of one process, followed entry by entry.
+//! Follows one process entry by entry.
 ghost use Rattle.std.specs.Prelude.{◌≡◌, ◌≤◌, ◌<◌, ◌+◌, ◌*◌, ◌==◌, ◌∷◌, [], ℕ, length, unwrap_or, option_map};
 ghost use Rattle.std.specs.Option.{option_map_or};
 ghost use Rattle.fy_cluster.specs.Setup.{Setup};
-ghost use Rattle.fy_cluster.specs.History.{History, some_is, gone, targets_of, moment, after, ups, heals, ticks};
+ghost use Rattle.fy_cluster.specs.History.{History, some_is, gone, targets_of, step_of, after, ups, heals, ticks};
 ghost use Rattle.fy_decide.specs.Verdicts.{targets};
 ghost use Rattle.fy_cluster.specs.History.{left};
 ghost use Rattle.std.specs.Prelude.{false};
-ghost use Rattle.fy_picture.specs.Lives.{Lives, until_after};
+ghost use Rattle.fy_picture.specs.IsLife.{IsLife, until_after};
 ghost use Rattle.fy_picture.specs.States.{state_of};
 
 use crate::State;
-use crate::views::{clogs, heals, struck_by, ticks, unclogs, ups};
+use fy_cluster::effects::{clogs, heals, struck_by, target_of, ticks, unclogs, ups};
 use fy_journal::{Act, Entry};
 use fy_kinds::{Kind, Target};
 use fy_locality::{Map, ProcId};
 use fy_net::LAST_TICK;
 
-/// What a process is like, with the time and until when it is clogged.
+/// The state of a process, with the time and until when it is clogged.
 #[derive(Clone, Copy)]
 pub(crate) struct Life {
     up: bool,
@@ -26,26 +26,13 @@ pub(crate) struct Life {
     until: u128,
 }
 
-/// The target of an act, if it has one.
-pub(crate) fn target_in(act: &Act) -> Option<Target>
-    ensures { (c : Setup) (h : History) (p : ℕ) → targets_of c h act.now p
-        ≡ option_map_or (λ target. targets c.processes (left c h) target p) result false }
-{
-    match *act {
-        Act::Kill { order } => Some(order.target()),
-        Act::Clog { target, .. } => Some(target),
-        Act::Unclog { target } => Some(target),
-        _ => None,
-    }
-}
-
-/// Whether the act's target names the process, by whether it is gone.
+/// Whether the act's target names the process. One that is gone is never named.
 fn is_named(map: &Map, p: ProcId, is_gone: bool, act: &Act) -> bool
     requires { p.0 < length map.now }
     ensures { (c : Setup) (h : History) → c.processes ≡ map.now → is_gone ≡ gone h p.0
         → result ≡ targets_of c h act.now p.0 }
 {
-    match target_in(act) {
+    match target_of(act) {
         Some(target) => !is_gone && map.value(p, target.key) == Some(target.value),
         None => false,
     }
@@ -79,9 +66,9 @@ fn ticks_at(entry: &Entry) -> u64
 }
 
 impl Life {
-    /// Before any entry.
+    /// The state before any entry.
     pub(crate) fn begin() -> Life
-        ensures lives { (p : ℕ) → Lives [] p result }
+        ensures lives { (p : ℕ) → IsLife [] p result }
         ensures clock { result.now ≡ 0 }
     {
         Life {
@@ -98,26 +85,25 @@ impl Life {
         requires { self.now ≤ 340282366920938463444927863358058659840 }
         ensures { result ≡ until_after named entry.now self.now self.until }
     {
-        let freed = if named && unclogs(entry).is_some() {
-            self.until.min(self.now)
-        } else {
-            self.until
-        };
+        if !named {
+            return self.until;
+        }
         match clogs(entry) {
-            Some(ticks) if named => {
+            Some(ticks) => {
                 let end = (self.now + u128::from(ticks)).min(u128::from(LAST_TICK));
-                freed.max(end)
+                self.until.max(end)
             }
-            _ => freed,
+            None if unclogs(entry).is_some() => self.until.min(self.now),
+            None => self.until,
         }
     }
 
-    /// After one entry more.
+    /// The state after one more entry.
     fn after(self, map: &Map, p: ProcId, entry: &Entry) -> Life
         requires there { p.0 < length map.now }
         requires early { self.now ≤ 340282366920938463444927863358058659840 }
-        ensures lives { (c : Setup) (h : History) → c.processes ≡ map.now → Lives h p.0 self
-            → Lives (moment c h entry.now ∷ h) p.0 result }
+        ensures lives { (c : Setup) (h : History) → c.processes ≡ map.now → IsLife h p.0 self
+            → IsLife (step_of c h entry.now ∷ h) p.0 result }
         ensures clock { result.now ≤ self.now + 18446744073709551615 }
     {
         let named = is_named(map, p, self.gone, &entry.act);
@@ -132,13 +118,13 @@ impl Life {
         }
     }
 
-    /// After entries that come next.
+    /// The state after more entries.
     pub(crate) fn after_all(self, map: &Map, p: ProcId, entries: &[Entry]) -> Life
         requires there { p.0 < length map.now }
         requires early { self.now + length entries.now * 18446744073709551615
             ≤ 340282366920938463463374607431768211455 }
-        ensures lives { (c : Setup) (h : History) → c.processes ≡ map.now → Lives h p.0 self
-            → Lives (after c h entries.now) p.0 result }
+        ensures lives { (c : Setup) (h : History) → c.processes ≡ map.now → IsLife h p.0 self
+            → IsLife (after c h entries.now) p.0 result }
         ensures clock { result.now ≤ self.now + length entries.now * 18446744073709551615 }
     {
         let mut life = self;
@@ -148,9 +134,9 @@ impl Life {
         life
     }
 
-    /// What the process is like.
+    /// The state that a picture shows.
     pub(crate) fn state(self) -> State
-        ensures { (h : History) (p : ℕ) → Lives h p self → result ≡ state_of h p }
+        ensures { (h : History) (p : ℕ) → IsLife h p self → result ≡ state_of h p }
     {
         State {
             up: self.up,

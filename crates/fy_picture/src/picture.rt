@@ -59,12 +59,12 @@ fn row_of(
     Ok(Row { states })
 }
 
-/// How many entries a column has to stand for where there are so many.
+/// How many entries each column stands for, in a picture of so many entries.
 fn width_of(count: usize) -> usize
     ensures some { 0 < result }
     ensures room { count ≤ MOST_COLUMNS * result }
 {
-    count.max(1).saturating_sub(1) / MOST_COLUMNS + 1
+    count.saturating_sub(1) / MOST_COLUMNS + 1
 }
 
 /// How many columns of this width so many entries take.

@@ -1,6 +1,6 @@
-//! What a process is like at a moment.
+//! The state of a process after some entries.
 
-/// What a process is like at a moment.
+/// The state of a process after some entries.
 #[derive(Clone, Copy, PartialEq, Eq, Debug)]
 pub struct State {
     /// It runs: no strike came after its last start.
@@ -9,6 +9,6 @@ pub struct State {
     pub gone: bool,
     /// It was emptied or killed for good, and not healed since.
     pub destroyed: bool,
-    /// Its messages are held up.
+    /// Its messages are held back.
     pub clogged: bool,
 }

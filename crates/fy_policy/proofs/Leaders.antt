@@ -13,7 +13,7 @@ use Rattle.fy_locality.specs.declared.locality.Locality.{Locality}
 use Rattle.fy_locality.specs.declared.key.Key.{Key}
 use Rattle.fy_locality.specs.Locality.{has_value, value_of, ArePeers}
 use Rattle.fy_locality.specs.Members.{IsLeast}
-use Rattle.fy_policy.specs.Counted.{IsLeader, place_in}
+use Rattle.fy_policy.specs.Counted.{IsRepresentative, group_at}
 
 module _ (processes : List Locality) (key : Key) (at : ℕ → ℕ) (p : ℕ) where
   -- of those with the value of p, those looked at stand elsewhere
@@ -60,8 +60,8 @@ module _ (processes : List Locality) (key : Key) (at : ℕ → ℕ) (p : ℕ) wh
       below : (q : ℕ) → (length processes ≤ q → ⊥) → q < length processes
       below q ne = omega arith
 
-  pub found-leader : ((key : Key) (v : List ℕ) (p : ℕ) → length processes ≤ p → has_value processes key v p ≡ false) → (peers rest : sets.FinSet nat_cmp) (q : ℕ) → ArePeers processes key p peers → Looked rest → IsLeast rest q → at q ≡ at p → IsLeader processes key at p q
-  found-leader law peers rest q are looked least same = record {
+  pub found-representative : ((key : Key) (v : List ℕ) (p : ℕ) → length processes ≤ p → has_value processes key v p ≡ false) → (peers rest : sets.FinSet nat_cmp) (q : ℕ) → ArePeers processes key p peers → Looked rest → IsLeast rest q → at q ≡ at p → IsRepresentative processes key at p q
+  found-representative law peers rest q are looked least same = record {
     fits = looked-inside law peers rest q are looked least;
     alone = λ missing. absurd (true≢false (ap is_some (sym are.had ∙ missing)));
     leads = λ v e. record {
@@ -96,10 +96,10 @@ before_last [] x q h = absurd (omega arith)
 before_last (y ∷ ys) x zero h = refl
 before_last (y ∷ ys) x (suc q) h = before_last ys x q (omega arith)
 
-pub leader-pushed : (processes : List Locality) (key : Key) (at : ℕ → ℕ) (xs ys : List ℕ) (x n : ℕ) → ys ≡ xs ++ x ∷ [] → length xs ≡ n → ((q : ℕ) → q < n → IsLeader processes key at q (place_in xs q)) → IsLeader processes key at n x → (q : ℕ) → q < n + 1 → IsLeader processes key at q (place_in ys q)
-leader-pushed processes key at xs ys x n is wide before here q small = elim (cases_eq q n) [
-  | inl same ↦ subst (λ k. IsLeader processes key at k (place_in ys k)) (sym same) (subst (IsLeader processes key at n) (sym (ap (λ zs. slice_index_or zs n 0) is ∙ ap (λ k. slice_index_or (xs ++ x ∷ []) k 0) (sym wide) ∙ last_is xs x)) here)
-  | inr other ↦ let low : q < n = less q n small other in subst (IsLeader processes key at q) (sym (ap (λ zs. slice_index_or zs q 0) is ∙ before_last xs x q (subst (λ k. q < k) (sym wide) low))) (before q low)
+pub representative-pushed : (processes : List Locality) (key : Key) (at : ℕ → ℕ) (xs ys : List ℕ) (x n : ℕ) → ys ≡ xs ++ x ∷ [] → length xs ≡ n → ((q : ℕ) → q < n → IsRepresentative processes key at q (group_at xs q)) → IsRepresentative processes key at n x → (q : ℕ) → q < n + 1 → IsRepresentative processes key at q (group_at ys q)
+representative-pushed processes key at xs ys x n is wide before here q small = elim (cases_eq q n) [
+  | inl same ↦ subst (λ k. IsRepresentative processes key at k (group_at ys k)) (sym same) (subst (IsRepresentative processes key at n) (sym (ap (λ zs. slice_index_or zs n 0) is ∙ ap (λ k. slice_index_or (xs ++ x ∷ []) k 0) (sym wide) ∙ last_is xs x)) here)
+  | inr other ↦ let low : q < n = less q n small other in subst (IsRepresentative processes key at q) (sym (ap (λ zs. slice_index_or zs q 0) is ∙ before_last xs x q (subst (λ k. q < k) (sym wide) low))) (before q low)
 ]
   where
     less : (q n : ℕ) → q < n + 1 → q ≢ n → q < n

@@ -30,7 +30,7 @@ gone_too true false none e = absurd (none refl)
 gone_too false false none e = absurd (true≢false (sym e))
 
 pub holder_left : SomeHolderIsLeft
-holder_left processes policy holders destroyed met short = go (list_any left (range_with_len 0 (length processes))) refl
+holder_left processes policy holders destroyed is_satisfied_at short = go (list_any left (range_with_len 0 (length processes))) refl
   where
     left : ℕ → Bool
     left = λ p. holders p && not (destroyed p)
@@ -42,7 +42,7 @@ holder_left processes policy holders destroyed met short = go (list_any left (ra
         let both = held (holders found.0) (destroyed found.0) found.3 in
         (found.0, omega arith, both.0, both.1)
     go false is = absurd (short (Sat-more-below processes policy _ destroyed (λ p below e.
-        gone_too (holders p) (destroyed p) (λ h. true≢false (sym (found_any left 0 (length processes) p (omega arith) (omega arith) h) ∙ is)) e) met))
+        gone_too (holders p) (destroyed p) (λ h. true≢false (sym (found_any left 0 (length processes) p (omega arith) (omega arith) h) ∙ is)) e) is_satisfied_at))
 
 -- ---- a quorum is left
 -- different names, one for each of the first n processes that pass

@@ -15,5 +15,5 @@ pub mod Tests
 pub mod TextLaws
 pub mod TextOnce
 pub mod Texts
-pub mod Turning
+pub mod Toggling
 pub mod Walk

@@ -14,7 +14,7 @@ use Rattle.fy_policy.specs.declared.shape.Shape.{Shape, And}
 use Rattle.fy_policy.specs.Shape.{tree_of}
 use Rattle.fy_policy.specs.Sat.{group, satisfies}
 use Rattle.fy_policy.specs.Tree.{Tree, one, across, every, IsWellFormed}
-use Rattle.fy_policy.specs.Counted.{tree_of_node, place_in, IsParted, IsLeader, IsLeaderOf, IsRight, IsPlanted, HasGroups}
+use Rattle.fy_policy.specs.Counted.{tree_of_node, IsBothOf, group_at, IsSplitByKey, IsRepresentative, IsRepresentativeOf, AreCountersOf, IsBuiltFrom, HasGroups}
 use Rattle.fy_policy.proofs.Counts.{count-none}
 use Rattle.fy_policy.proofs.Tests.{satisfies-none}
 use Rattle.fy_policy.proofs.Shapes.{satisfies-And, parts_from, tree_of-And}
@@ -25,9 +25,9 @@ nobody-within true true = refl
 nobody-within true false = refl
 nobody-within false b = refl
 
-pub one-planted : (processes : List Locality) (at : ℕ → ℕ) (counts : Vec ℕ Global) → length counts.items ≡ length processes + 1 → ((i : ℕ) → slice_index_or counts.items i 0 ≡ 0) → IsPlanted processes at one (One counts)
-unfolding IsRight
-one-planted processes at counts wide zeros = record {
+pub one-build_counters : (processes : List Locality) (at : ℕ → ℕ) (counts : Vec ℕ Global) → length counts.items ≡ length processes + 1 → ((i : ℕ) → slice_index_or counts.items i 0 ≡ 0) → IsBuiltFrom processes at one (One counts)
+unfolding AreCountersOf
+one-build_counters processes at counts wide zeros = record {
   same = λ s. refl;
   counted = tt;
   groups = wide;
@@ -38,7 +38,7 @@ one-planted processes at counts wide zeros = record {
 }
 
 -- leaders part a group by the values of a key
-pub leaders-part : (processes : List Locality) (key : Key) (at below : ℕ → ℕ) → ((p : ℕ) → p < length processes → IsLeader processes key at p (below p)) → IsParted processes key at below
+pub leaders-part : (processes : List Locality) (key : Key) (at below : ℕ → ℕ) → ((p : ℕ) → p < length processes → IsRepresentative processes key at p (below p)) → IsSplitByKey processes key at below
 leaders-part processes key at below leaders = record {
   fits = λ p small. low _ _ (leaders p small).fits;
   same = λ p q v p_small q_small has. go p q v (leaders p p_small) (leaders q q_small) has (value_of processes key q) refl;
@@ -67,7 +67,7 @@ leaders-part processes key at below leaders = record {
     and-false true = refl
     and-false false = refl
 
-    go : (p q : ℕ) (v : List ℕ) → IsLeader processes key at p (below p) → IsLeader processes key at q (below q) → value_of processes key p ≡ Some v → (o : Option (List ℕ)) → value_of processes key q ≡ o
+    go : (p q : ℕ) (v : List ℕ) → IsRepresentative processes key at p (below p) → IsRepresentative processes key at q (below q) → value_of processes key p ≡ Some v → (o : Option (List ℕ)) → value_of processes key q ≡ o
         → eqb (below q) (below p) ≡ (eqb (at q) (at p) && has_value processes key v q)
     go p q v lp lq has None lacks =
         let off : has_value processes key v q ≡ false = ap (λ o. option_eq bytes_eq o (Some v)) lacks in
@@ -78,7 +78,7 @@ leaders-part processes key at below leaders = record {
         let hq = lq.leads w own in
         test (eqb (at q) (at p)) refl (bytes_eq w v) refl hp hq
       where
-        apart : (IsLeaderOf processes key at p v (below p)) → (IsLeaderOf processes key at q w (below q)) → ((eqb (at q) (at p) && has_value processes key v q) ≡ true → ⊥) → eqb (below q) (below p) ≡ false
+        apart : (IsRepresentativeOf processes key at p v (below p)) → (IsRepresentativeOf processes key at q w (below q)) → ((eqb (at q) (at p) && has_value processes key v q) ≡ true → ⊥) → eqb (below q) (below p) ≡ false
         apart hp hq not =
             eqb-no _ _ (λ same.
             let vw : v ≡ w = one_of v w (below p) hp.has (ap (has_value processes key w) (sym same) ∙ hq.has) in
@@ -96,7 +96,7 @@ leaders-part processes key at below leaders = record {
         least : (a b : ℕ) → (a < b → ⊥) → (b < a → ⊥) → a ≡ b
         least a b h k = omega arith
 
-        test : (x : Bool) → eqb (at q) (at p) ≡ x → (y : Bool) → bytes_eq w v ≡ y → IsLeaderOf processes key at p v (below p) → IsLeaderOf processes key at q w (below q) → eqb (below q) (below p) ≡ (eqb (at q) (at p) && has_value processes key v q)
+        test : (x : Bool) → eqb (at q) (at p) ≡ x → (y : Bool) → bytes_eq w v ≡ y → IsRepresentativeOf processes key at p v (below p) → IsRepresentativeOf processes key at q w (below q) → eqb (below q) (below p) ≡ (eqb (at q) (at p) && has_value processes key v q)
         test true together true alike hp hq =
             let wv : w ≡ v = (bytes_eq-Decides w v).0 alike in
             let stand : at q ≡ at p = eqb-is _ _ together in
@@ -118,10 +118,10 @@ leaders-part processes key at below leaders = record {
             let none : (eqb (at q) (at p) && has_value processes key v q) ≡ false = ap (λ b. b && has_value processes key v q) differ in
             apart hp hq (λ h. true≢false (sym h ∙ none)) ∙ sym none
 
-pub across-planted : (processes : List Locality) (at : ℕ → ℕ) (n : ℕ) (key : Key) (tree : Tree) (places counts : Vec ℕ Global) (inner : Box Node Global) → (1 ≤ n) × (n ≤ 1024) → length places.items ≡ length processes → ((p : ℕ) → p < length processes → IsLeader processes key at p (place_in places.items p))
-    → IsPlanted processes (place_in places.items) tree inner.value → length counts.items ≡ length processes + 1 → ((i : ℕ) → slice_index_or counts.items i 0 ≡ 0) → IsPlanted processes at (across n key tree) (Across n key places counts inner)
-unfolding IsRight satisfies
-across-planted processes at n key tree places counts inner fit long leaders below wide zeros = record {
+pub across-build_counters : (processes : List Locality) (at : ℕ → ℕ) (n : ℕ) (key : Key) (tree : Tree) (places counts : Vec ℕ Global) (inner : Box Node Global) → (1 ≤ n) × (n ≤ 1024) → length places.items ≡ length processes → ((p : ℕ) → p < length processes → IsRepresentative processes key at p (group_at places.items p))
+    → IsBuiltFrom processes (group_at places.items) tree inner.value → length counts.items ≡ length processes + 1 → ((i : ℕ) → slice_index_or counts.items i 0 ≡ 0) → IsBuiltFrom processes at (across n key tree) (Across n key places counts inner)
+unfolding AreCountersOf satisfies
+across-build_counters processes at n key tree places counts inner fit long leaders below wide zeros = record {
   same = λ s. λ i. leb n (length (filter (λ v. below.same (group processes key v s) i) (values_of processes key)));
   counted = (fit.0, fit.1, below.counted);
   groups = (wide, record { wide = long; fits = λ p small. low _ _ (leaders p small).fits }, below.groups);
@@ -131,7 +131,7 @@ across-planted processes at n key tree places counts inner fit long leaders belo
       each = λ g h. zeros g ∙ sym (count-none _ (values_of processes key) (λ v. satisfies-none processes (tree_of_node inner.value) _ below.counted (λ x small. off (has_value processes key v x) _ (nobody-within (ltb x (length processes)) (eqb (at x) g)))));
     },
     below.counted,
-    leaders-part processes key at (place_in places.items) leaders,
+    leaders-part processes key at (group_at places.items) leaders,
     below.right,
   );
 }
@@ -148,7 +148,7 @@ pub record AreJoined (processes : List Locality) (at : ℕ → ℕ) (items : Lis
   pub same : (s : ℕ → Bool) → satisfies processes (tree_of_node node) s ≡ list_all (λ q. satisfies processes (tree_of q) s) (take k items)
   pub counted : IsWellFormed (tree_of_node node)
   pub groups : HasGroups (length processes) node
-  pub right : IsRight processes at (λ _. false) node
+  pub right : AreCountersOf processes at (λ _. false) node
 
 all-pushed : (f : Shape → Bool) (xs : List Shape) (x : Shape) → list_all f (xs ++ x ∷ []) ≡ (list_all f xs && (f x && true))
 all-pushed f [] x = refl
@@ -158,7 +158,7 @@ all-pushed f (y ∷ ys) x = ap (λ b. f y && b) (all-pushed f ys x) ∙ both (f 
     both true b c = refl
     both false b c = refl
 
-module _ (processes : List Locality) (at : ℕ → ℕ) (items : List Shape) (k : ℕ) (x : Shape) (within' : k < length items) (is : x ≡ get_or items k x) (next : Node) (planted : IsPlanted processes at (tree_of x) next) where
+module _ (processes : List Locality) (at : ℕ → ℕ) (items : List Shape) (k : ℕ) (x : Shape) (within' : k < length items) (is : x ≡ get_or items k x) (next : Node) (build_counters : IsBuiltFrom processes at (tree_of x) next) where
   more : (s : ℕ → Bool) → list_all (λ q. satisfies processes (tree_of q) s) (take (k + 1) items) ≡ (list_all (λ q. satisfies processes (tree_of q) s) (take k items) && (satisfies processes (tree_of x) s && true))
   more s =
       ap (list_all (λ q. satisfies processes (tree_of q) s)) (take_more items k x within')
@@ -167,10 +167,10 @@ module _ (processes : List Locality) (at : ℕ → ℕ) (items : List Shape) (k 
 
   pub joined-first : k ≡ 0 → AreJoined processes at items (k + 1) next
   joined-first none = record {
-    same = λ s. planted.same s ∙ sym (more s ∙ ap (λ j. list_all (λ q. satisfies processes (tree_of q) s) (take j items) && (satisfies processes (tree_of x) s && true)) none ∙ alone _);
-    counted = planted.counted;
-    groups = planted.groups;
-    right = planted.right;
+    same = λ s. build_counters.same s ∙ sym (more s ∙ ap (λ j. list_all (λ q. satisfies processes (tree_of q) s) (take j items) && (satisfies processes (tree_of x) s && true)) none ∙ alone _);
+    counted = build_counters.counted;
+    groups = build_counters.groups;
+    right = build_counters.right;
   }
     where
       alone : (b : Bool) → (true && (b && true)) ≡ b
@@ -178,15 +178,21 @@ module _ (processes : List Locality) (at : ℕ → ℕ) (items : List Shape) (k 
       alone false = refl
 
   pub joined-next : (first second : Box Node Global) → AreJoined processes at items k first.value → second.value ≡ next → AreJoined processes at items (k + 1) (Both first second)
-  unfolding IsRight satisfies
+  unfolding AreCountersOf satisfies
   joined-next first second before e = record {
-    same = λ s. (λ i. before.same s i && ((ap (λ n. satisfies processes (tree_of_node n) s) e ∙ planted.same s) i && true)) ∙ sym (more s);
-    counted = (tt, (before.counted, (subst (λ n. IsWellFormed (tree_of_node n)) (sym e) planted.counted, tt)));
-    groups = (before.groups, subst (HasGroups (length processes)) (sym e) planted.groups);
-    right = (before.right, subst (IsRight processes at (λ _. false)) (sym e) planted.right);
+    same = λ s. (λ i. before.same s i && ((ap (λ n. satisfies processes (tree_of_node n) s) e ∙ build_counters.same s) i && true)) ∙ sym (more s);
+    counted = (tt, (before.counted, (subst (λ n. IsWellFormed (tree_of_node n)) (sym e) build_counters.counted, tt)));
+    groups = (before.groups, subst (HasGroups (length processes)) (sym e) build_counters.groups);
+    right = (before.right, subst (AreCountersOf processes at (λ _. false)) (sym e) build_counters.right);
   }
 
-joined-all : (processes : List Locality) (at : ℕ → ℕ) (shape : Shape) (parts : Vec Shape Global) (items : List Shape) (k : ℕ) (node : Node) → shape ≡ And parts → items ≡ parts.items → length items ≤ k → AreJoined processes at items k node → IsPlanted processes at (tree_of shape) node
+pub joined-with : (processes : List Locality) (at : ℕ → ℕ) (items : List Shape) (k : ℕ) (x : Shape) → k < length items → x ≡ get_or items k x → (next : Node) → IsBuiltFrom processes at (tree_of x) next
+    → (so_far : Option Node) (node : Node) → MatchOption so_far (k ≡ 0) (AreJoined processes at items k) → IsBothOf so_far next node → AreJoined processes at items (k + 1) node
+joined-with processes at items k x below is next built None node none alone = subst (AreJoined processes at items (k + 1)) (sym alone) (joined-first processes at items k x below is next built none)
+joined-with processes at items k x below is next built (Some first) node joined (a, b, before, after, both) =
+    subst (AreJoined processes at items (k + 1)) (sym both) (joined-next processes at items k x below is next built a b (subst (AreJoined processes at items k) (sym before) joined) after)
+
+joined-all : (processes : List Locality) (at : ℕ → ℕ) (shape : Shape) (parts : Vec Shape Global) (items : List Shape) (k : ℕ) (node : Node) → shape ≡ And parts → items ≡ parts.items → length items ≤ k → AreJoined processes at items k node → IsBuiltFrom processes at (tree_of shape) node
 joined-all processes at shape parts items k node is same past joined = record {
   same = λ s. joined.same s ∙ ap (list_all (λ q. satisfies processes (tree_of q) s)) (take_all k items past ∙ same) ∙ sym (ap (λ q. satisfies processes (tree_of q) s) is ∙ satisfies-And processes s parts);
   counted = joined.counted;
@@ -205,6 +211,6 @@ no_parts shape parts items k is same past none counted = go parts.items refl (lo
     go (q ∷ qs) e h = let l : length (q ∷ qs) ≡ 0 = ap length (sym e) ∙ h in absurd (omega arith)
 
 -- where each And has a part, the parts joined are the policy
-pub planted-all : (processes : List Locality) (at : ℕ → ℕ) (shape : Shape) (parts : Vec Shape Global) (items : List Shape) (k : ℕ) → shape ≡ And parts → items ≡ parts.items → length items ≤ k → IsWellFormed (tree_of shape) → (found : Option Node) → MatchOption found (k ≡ 0) (AreJoined processes at items k) → MatchOption found ⊥ (IsPlanted processes at (tree_of shape))
-planted-all processes at shape parts items k is same past counted None none = no_parts shape parts items k is same past none counted
-planted-all processes at shape parts items k is same past counted (Some node) joined = joined-all processes at shape parts items k node is same past joined
+pub build_counters-all : (processes : List Locality) (at : ℕ → ℕ) (shape : Shape) (parts : Vec Shape Global) (items : List Shape) (k : ℕ) → shape ≡ And parts → items ≡ parts.items → length items ≤ k → IsWellFormed (tree_of shape) → (found : Option Node) → MatchOption found (k ≡ 0) (AreJoined processes at items k) → MatchOption found ⊥ (IsBuiltFrom processes at (tree_of shape))
+build_counters-all processes at shape parts items k is same past counted None none = no_parts shape parts items k is same past none counted
+build_counters-all processes at shape parts items k is same past counted (Some node) joined = joined-all processes at shape parts items k node is same past joined

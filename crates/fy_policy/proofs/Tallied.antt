@@ -7,7 +7,7 @@ use Rattle.fy_locality.specs.declared.locality.Locality.{Locality}
 use Rattle.fy_locality.specs.declared.key.Key.{Key}
 use Rattle.fy_locality.specs.Locality.{has_value, value_of, values_of}
 use Rattle.fy_policy.specs.Counted.{number_of, passing}
-use Rattle.fy_policy.specs.Sat.{group, satisfies}
+use Rattle.fy_policy.specs.Sat.{group, outside, satisfies}
 use Rattle.fy_policy.specs.Tree.{Tree, one, IsWellFormed}
 use Rattle.fy_policy.proofs.Counts.{any_found, found_any, count-without}
 use Rattle.fy_policy.proofs.Tests.{ValuesDiffer, ValuesOccur, satisfies-none}
@@ -67,11 +67,11 @@ same_below f g (suc n) same =
     λ i. cond (same n (omega arith) i) 1 0 + same_below f g n (λ q h. same q (omega arith)) i
 
 -- two tests that differ at one number
-pub number-turned : (f g : ℕ → Bool) (n p : ℕ) → p < n → ((q : ℕ) → q ≢ p → f q ≡ g q) → number_of g n + cond (f p) 1 0 ≡ number_of f n + cond (g p) 1 0
-number-turned f g zero p h same = absurd (omega arith)
-number-turned f g (suc n) p h same = elim (cases_eq p n) [
+pub number-toggled : (f g : ℕ → Bool) (n p : ℕ) → p < n → ((q : ℕ) → q ≢ p → f q ≡ g q) → number_of g n + cond (f p) 1 0 ≡ number_of f n + cond (g p) 1 0
+number-toggled f g zero p h same = absurd (omega arith)
+number-toggled f g (suc n) p h same = elim (cases_eq p n) [
   | inl here ↦ first _ _ _ _ _ _ (ap (λ k. cond (f k) 1 0) here) (ap (λ k. cond (g k) 1 0) here) (same_below f g n (λ q below. same q (λ e. apart q below e here)))
-  | inr other ↦ later _ _ _ _ _ _ (ap (λ b. cond b 1 0) (same n (λ e. other (sym e)))) (number-turned f g n p (omega arith) same)
+  | inr other ↦ later _ _ _ _ _ _ (ap (λ b. cond b 1 0) (same n (λ e. other (sym e)))) (number-toggled f g n p (omega arith) same)
 ]
   where
     apart : (q : ℕ) → q < n → q ≡ p → p ≡ n → ⊥
@@ -85,12 +85,9 @@ number-turned f g (suc n) p h same = elim (cases_eq p n) [
 
 -- ---- two sets that differ in the group of one value
 module _ (processes : List Locality) (key : Key) (q : Tree) (differ : ValuesDiffer) (occur : ValuesOccur) (counted : IsWellFormed q) where
-  abbrev away : (ℕ → Bool) → List ℕ → ℕ → Bool
-  away s v x = s x && not (has_value processes key v x)
-
-  taken : (s : ℕ → Bool) (p : ℕ) (v : List ℕ) → value_of processes key p ≡ Some v → passing processes key q s ≡ cond (satisfies processes q (group processes key v s)) 1 0 + passing processes key q (away s v)
+  pub taken : (s : ℕ → Bool) (p : ℕ) (v : List ℕ) → value_of processes key p ≡ Some v → passing processes key q s ≡ cond (satisfies processes q (group processes key v s)) 1 0 + passing processes key q (outside processes key v s)
   taken s p v at =
-      count-without (λ w. satisfies processes q (group processes key w s)) (λ w. satisfies processes q (group processes key w (away s v))) v
+      count-without (λ w. satisfies processes q (group processes key w s)) (λ w. satisfies processes q (group processes key w (outside processes key v s))) v
       (λ w apart. λ i. satisfies processes q (λ x. kept (s x) (has_value processes key v x) (has_value processes key w x) (has_one processes key v w x apart) i))
       (satisfies-none processes q _ counted (λ x h. empty (s x) (has_value processes key v x)))
       (values_of processes key) (differ processes key) ((occur processes key v).1 (p, at))
@@ -106,12 +103,12 @@ module _ (processes : List Locality) (key : Key) (q : Tree) (differ : ValuesDiff
       empty true false = refl
       empty false b = refl
 
-  pub passing-turned : (s t : ℕ → Bool) (p : ℕ) (v : List ℕ) → value_of processes key p ≡ Some v → ((x : ℕ) → has_value processes key v x ≡ false → s x ≡ t x)
+  pub passing-toggled : (s t : ℕ → Bool) (p : ℕ) (v : List ℕ) → value_of processes key p ≡ Some v → ((x : ℕ) → has_value processes key v x ≡ false → s x ≡ t x)
       → passing processes key q t + cond (satisfies processes q (group processes key v s)) 1 0 ≡ passing processes key q s + cond (satisfies processes q (group processes key v t)) 1 0
-  passing-turned s t p v at same =
+  passing-toggled s t p v at same =
       let a = taken s p v at in
       let b = taken t p v at in
-      let rest : passing processes key q (away s v) ≡ passing processes key q (away t v) = (λ i. passing processes key q (λ x. agree x (has_value processes key v x) refl i)) in
+      let rest : passing processes key q (outside processes key v s) ≡ passing processes key q (outside processes key v t) = (λ i. passing processes key q (λ x. agree x (has_value processes key v x) refl i)) in
       sums _ _ _ _ _ _ a b rest
     where
       agree : (x : ℕ) (b : Bool) → has_value processes key v x ≡ b → (s x && not b) ≡ (t x && not b)

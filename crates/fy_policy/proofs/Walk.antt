@@ -106,8 +106,11 @@ module _ (processes : List Locality) (key : Key) (q : Tree) where
         gone a b e = grind arith
 
   -- at the end
+  pub passing-none : (s : ℕ → Bool) → IsWellFormed q → ((x : ℕ) → s x ≡ false) → passing processes key q s ≡ 0
+  passing-none s counted nobody = count-none _ (values_of processes key) (λ v. satisfies-none processes q _ counted (λ x h. ap (λ b. b && has_value processes key v x) (nobody x)))
+
   pub passing-empty : (rest : sets.FinSet nat_cmp) → IsWellFormed q → rest ≡ sets.empty → passing processes key q (sets.contains rest) ≡ 0
-  passing-empty rest counted none = count-none _ (values_of processes key) (λ v. satisfies-none processes q _ counted (λ x h. ap (λ b. b && has_value processes key v x) (ap (λ s. sets.contains s x) none ∙ sets.contains-empty nat_cmp x)))
+  passing-empty rest counted none = passing-none (sets.contains rest) counted (λ x. ap (λ s. sets.contains s x) none ∙ sets.contains-empty nat_cmp x)
 
 -- one dropped
 pub fewer-dropped : (rest : sets.FinSet nat_cmp) (p : ℕ) → sets.contains rest p ≡ true → p < 1024 → number_of (sets.contains (sets.remove rest p)) 1024 < number_of (sets.contains rest) 1024

@@ -1,13 +1,13 @@
 -- a policy's tree with counts: what its counts are for a set of processes
-use Rattle.std.specs.Prelude.{◌≡◌, ◌≢◌, ℕ, ◌+◌, ◌^◌, ◌<◌, ◌≤◌, Bool, ◌&&◌, not, cond, List, length, filter, Some, None, true, false, nat_lt, slice_index_or}
+use Rattle.std.specs.Prelude.{◌≡◌, ◌≢◌, ℕ, ◌+◌, ◌-◌, ◌^◌, ◌<◌, ◌≤◌, Bool, ◌&&◌, not, cond, List, length, filter, Option, Some, None, true, false, nat_lt, slice_index_or}
 use Rattle.std.specs.Ordering.{nat_cmp}
 use Rattle.std.specs.FinSet as sets
-use Rattle.std.proofs.Common.{zero, suc, eqb}
+use Rattle.std.proofs.Common.{zero, suc, eqb, Box, Global}
 use Rattle.fy_locality.specs.declared.locality.Locality.{Locality}
 use Rattle.fy_locality.specs.declared.key.Key.{Key}
 use Rattle.fy_locality.specs.declared.TheConstants.{MOST_PROCESSES}
 use Rattle.fy_locality.specs.Locality.{has_value, value_of, values_of}
-use Rattle.fy_policy.specs.declared.node.Node.{Node, One, Across', Both'}
+use Rattle.fy_policy.specs.declared.node.Node.{Node, One, Across', Both, Both'}
 use Rattle.fy_policy.specs.Sat.{group, satisfies}
 use Rattle.fy_policy.specs.Tree.{Tree, one, across, every, part, none, IsWellFormed}
 
@@ -16,6 +16,12 @@ abbrev pub tree_of_node : Node → Tree
 tree_of_node (One counts) = one
 tree_of_node (Across' n key places counts ptr inner) = across n key (tree_of_node inner)
 tree_of_node (Both' p a q b) = every (part (tree_of_node a) (part (tree_of_node b) none))
+
+-- two counted trees at once, or the second alone where there is no first
+abbrev pub IsBothOf : Option Node → Node → Node → Type 0
+IsBothOf None second both = both ≡ second
+IsBothOf (Some first) second both =
+    (a b : Box Node Global) × (a.value ≡ first) × (b.value ≡ second) × (both ≡ Both a b)
 
 -- how many numbers below n pass
 abbrev pub number_of : (ℕ → Bool) → ℕ → ℕ
@@ -32,15 +38,15 @@ abbrev pub within : List Locality → (ℕ → ℕ) → ℕ → (ℕ → Bool) �
 within processes at g s q = nat_lt q (length processes) && (eqb (at q) g && s q)
 
 -- s after process p came or went
-abbrev pub turned : (ℕ → Bool) → ℕ → Bool → ℕ → Bool
-turned s p comes q = cond (eqb q p) comes (s q)
+abbrev pub toggled : (ℕ → Bool) → ℕ → Bool → ℕ → Bool
+toggled s p comes q = cond (eqb q p) comes (s q)
 
 -- s after those came or went
-abbrev pub turned_by : (ℕ → Bool) → (ℕ → Bool) → Bool → ℕ → Bool
-turned_by s those comes q = cond (those q) comes (s q)
+abbrev pub toggled_by : (ℕ → Bool) → (ℕ → Bool) → Bool → ℕ → Bool
+toggled_by s those comes q = cond (those q) comes (s q)
 
 -- those of a group who can come, as none of them is in s, or go, as each of them is
-pub record CanTurn
+pub record CanToggle
     (processes : List Locality) (at : ℕ → ℕ) (group : ℕ) (s : ℕ → Bool)
     (those : ℕ → Bool) (comes : Bool) : Type 0 where
   pub known : (q : ℕ) → those q ≡ true → q < length processes
@@ -48,7 +54,7 @@ pub record CanTurn
   pub were : (q : ℕ) → those q ≡ true → s q ≡ not comes
 
 -- a process of a group that can come, as it isn't in s, or go, as it is
-pub record CanTurnAlone
+pub record CanToggleOne
     (processes : List Locality) (at : ℕ → ℕ) (group : ℕ) (s : ℕ → Bool)
     (p : ℕ) (comes : Bool) : Type 0 where
   pub known : p < length processes
@@ -56,13 +62,13 @@ pub record CanTurnAlone
   pub was : s p ≡ not comes
 
 -- the group of each process, as listed
-abbrev pub place_in : List ℕ → ℕ → ℕ
-place_in places p = slice_index_or places p 0
+abbrev pub group_at : List ℕ → ℕ → ℕ
+group_at places p = slice_index_or places p 0
 
 -- each of so many processes has its group below, whose number runs to theirs
 pub record AreGroupsBelow (count : ℕ) (places : List ℕ) : Type 0 where
   pub wide : length places ≡ count
-  pub fits : (p : ℕ) → p < count → place_in places p ≤ count
+  pub fits : (p : ℕ) → p < count → group_at places p ≤ count
 
 -- each group of so many processes has its count
 abbrev pub HasGroups : ℕ → Node → Type 0
@@ -83,18 +89,21 @@ pub record AreCounts (processes : List Locality) (counts : List ℕ) (f : ℕ �
     pub wide : length counts ≡ length processes + 1
     pub each : (g : ℕ) → g ≤ length processes → slice_index_or counts g 0 ≡ f g
 
--- one of those counted at a group was counted before, or wasn't, and is counted after, or isn't
+-- a count once one of those counted is looked at again: without it where it counted before, and
+-- with it where it counts after
+abbrev pub recounted : ℕ → Bool → Bool → ℕ
+recounted count before after = count + cond after 1 0 - cond before 1 0
+
+-- the counts of the other groups stay, and the group's is recounted, if it is far from the greatest
 pub record IsRecounted
     (old : List ℕ) (group : ℕ) (before after : Bool) (new : List ℕ) : Type 0 where
   pub wide : length new ≡ length old
   pub others : (i : ℕ) → i ≢ group → slice_index_or new i 0 ≡ slice_index_or old i 0
-  pub here : group < length old → slice_index_or old group 0 < 2 ^ 31
-      → cond before 1 0 ≤ slice_index_or old group 0 + cond after 1 0
-      → slice_index_or new group 0 + cond before 1 0
-      ≡ slice_index_or old group 0 + cond after 1 0
+  pub here : slice_index_or old group 0 < 2 ^ 31
+      → slice_index_or new group 0 ≡ recounted (slice_index_or old group 0) before after
 
 -- below a key those stand together that stood together and have the same value of it
-pub record IsParted (processes : List Locality) (key : Key) (at below : ℕ → ℕ) : Type 0
+pub record IsSplitByKey (processes : List Locality) (key : Key) (at below : ℕ → ℕ) : Type 0
   where
     pub fits : (p : ℕ) → p < length processes → below p ≤ length processes
     pub same : (p q : ℕ) (v : List ℕ) → p < length processes → q < length processes
@@ -102,7 +111,7 @@ pub record IsParted (processes : List Locality) (key : Key) (at below : ℕ → 
         → eqb (below q) (below p) ≡ (eqb (at q) (at p) && has_value processes key v q)
 
 -- the least process of those that stand together with process p and have the value v of the key
-pub record IsLeaderOf
+pub record IsRepresentativeOf
     (processes : List Locality) (key : Key) (at : ℕ → ℕ) (p : ℕ) (v : List ℕ) (l : ℕ) : Type 0
   where
     pub together : eqb (at l) (at p) ≡ true
@@ -111,41 +120,41 @@ pub record IsLeaderOf
         → (eqb (at x) (at p) && has_value processes key v x) ≡ false
 
 -- a process stands at the leader of its group; one without the key stands alone
-pub record IsLeader (processes : List Locality) (key : Key) (at : ℕ → ℕ) (p l : ℕ) : Type 0
+pub record IsRepresentative (processes : List Locality) (key : Key) (at : ℕ → ℕ) (p l : ℕ) : Type 0
   where
     pub fits : l < length processes
     pub alone : value_of processes key p ≡ None → l ≡ p
     pub leads : (v : List ℕ)
-        → value_of processes key p ≡ Some v → IsLeaderOf processes key at p v l
+        → value_of processes key p ≡ Some v → IsRepresentativeOf processes key at p v l
 
 -- the counts are those of s, where the processes stand in these groups
-unfoldable pub IsRight : List Locality → (ℕ → ℕ) → (ℕ → Bool) → Node → Type 0
-IsRight processes at s (One counts) =
+unfoldable pub AreCountersOf : List Locality → (ℕ → ℕ) → (ℕ → Bool) → Node → Type 0
+AreCountersOf processes at s (One counts) =
     AreCounts processes counts.items
     (λ g. number_of (within processes at g s) (length processes))
-IsRight processes at s (Across' n key places counts ptr inner) =
+AreCountersOf processes at s (Across' n key places counts ptr inner) =
     AreCounts processes counts.items
     (λ g. passing processes key (tree_of_node inner) (within processes at g s))
-    × IsWellFormed (tree_of_node inner) × IsParted processes key at (place_in places.items)
-    × IsRight processes (place_in places.items) s inner
-IsRight processes at s (Both' p a q b) = IsRight processes at s a × IsRight processes at s b
+    × IsWellFormed (tree_of_node inner) × IsSplitByKey processes key at (group_at places.items)
+    × AreCountersOf processes (group_at places.items) s inner
+AreCountersOf processes at s (Both' p a q b) = AreCountersOf processes at s a × AreCountersOf processes at s b
 
 -- those are the counts, and there may be such a group
-pub record IsRightAt
+pub record AreCountersAt
     (processes : List Locality) (at : ℕ → ℕ) (s : ℕ → Bool) (group : ℕ) (node : Node) : Type 0
   where
     pub few : length processes ≤ MOST_PROCESSES
-    pub right : IsRight processes at s node
+    pub right : AreCountersOf processes at s node
     pub inside : group ≤ length processes
 
 -- the counted tree of a policy, for nobody
-pub record IsPlanted
+pub record IsBuiltFrom
     (processes : List Locality) (at : ℕ → ℕ) (tree : Tree) (node : Node) : Type 0 where
   pub same : (s : ℕ → Bool)
       → satisfies processes (tree_of_node node) s ≡ satisfies processes tree s
   pub counted : IsWellFormed (tree_of_node node)
   pub groups : HasGroups (length processes) node
-  pub right : IsRight processes at (λ _. false) node
+  pub right : AreCountersOf processes at (λ _. false) node
 
 -- what a Tally is seen as: the processes of its map, its policy, and a set
 pub record Tallied : Type 0 where
@@ -162,4 +171,4 @@ pub record IsTallied
   pub same : (s : ℕ → Bool)
       → satisfies processes (tree_of_node node) s ≡ satisfies processes policy s
   pub groups : HasGroups (length processes) node
-  pub right : IsRight processes (λ _. 0) (sets.contains set) node
+  pub right : AreCountersOf processes (λ _. 0) (sets.contains set) node

@@ -1,16 +1,21 @@
 -- what the laws of policies and of their texts state
-use Rattle.std.specs.Prelude.{◌≡◌, ◌↔◌, ◌+◌, ◌++◌, ◌<◌, ◌≤◌, ◌||◌, ℕ, Bool, true, false, not, List, length, Result, Ok, Err}
+use Rattle.std.specs.Prelude.{◌≡◌, ◌≢◌, ◌↔◌, ◌+◌, ◌++◌, ◌<◌, ◌≤◌, ◌||◌, ℕ, Bool, true, false, not, cond, List, length, slice_index_or, None, Result, Ok, Err}
+use Rattle.std.specs.List.{list_all}
+use Rattle.std.proofs.Common.{Global, Vec}
 use Rattle.fy_locality.specs.declared.locality.Locality.{Locality}
+use Rattle.fy_locality.specs.declared.key.Key.{Key}
 use Rattle.fy_locality.specs.declared.key.Key.TheVariants.{Process}
-use Rattle.fy_locality.specs.Locality.{NamesDiffer}
+use Rattle.fy_locality.specs.Locality.{NamesDiffer, value_of}
 use Rattle.fy_policy.specs.declared.fault.PolicyFault.{PolicyFault}
 use Rattle.fy_policy.specs.declared.fault.PolicyFault.TheVariants.{NoMemory}
 use Rattle.fy_policy.specs.declared.limits.TheConstants.{MOST_TEXT_BYTES}
-use Rattle.fy_policy.specs.Counted.{number_of}
+use Rattle.fy_policy.specs.declared.shape.Shape.{Shape, And}
+use Rattle.fy_policy.specs.Counted.{number_of, passing}
 use Rattle.fy_policy.specs.Reading.{Reads}
-use Rattle.fy_policy.specs.Sat.{Sat, satisfies}
+use Rattle.fy_policy.specs.Sat.{Sat, IsValueOf, group, outside, satisfies}
+use Rattle.fy_policy.specs.Shape.{tree_of}
 use Rattle.fy_policy.specs.Text.{text}
-use Rattle.fy_policy.specs.Tree.{Tree, one, across, IsPolicy}
+use Rattle.fy_policy.specs.Tree.{Tree, one, across, IsPolicy, IsWellFormed}
 
 -- the empty set satisfies no policy
 abbrev pub EmptySatisfiesNone : Type 0
@@ -23,6 +28,50 @@ abbrev pub MoreSatisfies : Type 0
 MoreSatisfies =
     (processes : List Locality) (policy : Tree) (s t : ℕ → Bool)
     → ((p : ℕ) → s p ≡ true → t p ≡ true) → Sat processes policy s → Sat processes policy t
+
+-- so does a set that is larger as far as the processes of the map go
+abbrev pub MoreOfMapSatisfies : Type 0
+MoreOfMapSatisfies =
+    (processes : List Locality) (policy : Tree) (s t : ℕ → Bool)
+    → ((p : ℕ) → p < length processes → s p ≡ true → t p ≡ true)
+    → Sat processes policy s → Sat processes policy t
+
+-- the values of a key whose groups satisfy a policy are one value, where its group does, and those
+-- of the processes outside it
+abbrev pub ValuesPassApart : Type 0
+ValuesPassApart =
+    (processes : List Locality) (key : Key) (policy : Tree) (v : List ℕ) (s : ℕ → Bool)
+    → IsWellFormed policy → IsValueOf processes key v
+    → passing processes key policy s
+    ≡ cond (satisfies processes policy (group processes key v s)) 1 0
+    + passing processes key policy (outside processes key v s)
+
+-- a process without the key changes nothing
+abbrev pub KeylessPassNothing : Type 0
+KeylessPassNothing =
+    (processes : List Locality) (key : Key) (policy : Tree) (p : ℕ) (s t : ℕ → Bool)
+    → value_of processes key p ≡ None → ((q : ℕ) → q ≢ p → s q ≡ t q)
+    → passing processes key policy s ≡ passing processes key policy t
+
+-- of nobody there is no value whose group satisfies a policy
+abbrev pub NobodyPasses : Type 0
+NobodyPasses =
+    (processes : List Locality) (key : Key) (policy : Tree) (s : ℕ → Bool)
+    → IsWellFormed policy → ((p : ℕ) → s p ≡ false) → passing processes key policy s ≡ 0
+
+-- an And is satisfied where each of its parts is
+abbrev pub AndIsEach : Type 0
+AndIsEach =
+    (processes : List Locality) (parts : Vec Shape Global) (s : ℕ → Bool)
+    → satisfies processes (tree_of (And parts)) s
+    ≡ list_all (λ part. satisfies processes (tree_of part) s) parts.items
+
+-- each part of a well formed And is well formed
+abbrev pub PartsAreWellFormed : Type 0
+PartsAreWellFormed =
+    (parts : Vec Shape Global) (i : ℕ) (default : Shape)
+    → IsWellFormed (tree_of (And parts)) → i < length parts.items
+    → IsWellFormed (tree_of (slice_index_or parts.items i default))
 
 -- a set passes the test exactly where it satisfies the policy
 abbrev pub TestIsSatisfaction : Type 0

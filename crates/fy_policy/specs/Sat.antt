@@ -1,5 +1,5 @@
 -- what it is to satisfy a policy: as a relation, and as a test that computes
-use Rattle.std.specs.Prelude.{◌≡◌, ℕ, ◌<◌, ◌≤◌, Bool, true, ◌&&◌, List, length, filter, Some, nat_le}
+use Rattle.std.specs.Prelude.{◌≡◌, ℕ, ◌<◌, ◌≤◌, Bool, true, not, ◌&&◌, List, length, filter, Some, nat_le}
 use Rattle.std.specs.List.{IsDistinct, AllByRecursion, list_any, range_with_len}
 use Rattle.std.specs.Str.{bytes_eq}
 use Rattle.fy_locality.specs.declared.locality.Locality.{Locality}
@@ -21,6 +21,10 @@ IsValueOf processes key v = (p : ℕ) × (value_of processes key p ≡ Some v)
 -- those of s that have the value v of the key
 abbrev pub group : List Locality → Key → List ℕ → (ℕ → Bool) → ℕ → Bool
 group processes key v s p = s p && has_value processes key v p
+
+-- those of s that don't have the value v of the key
+abbrev pub outside : List Locality → Key → List ℕ → (ℕ → Bool) → ℕ → Bool
+outside processes key v s p = s p && not (has_value processes key v p)
 
 -- one: some process; across n key q: n different values of the key have each a group that satisfies
 -- q; every: each part

@@ -1,5 +1,5 @@
 //! Laws of policies.
-ghost use Rattle.fy_policy.specs.Laws.{AQuorumIsLeft, EmptySatisfiesNone, MoreSatisfies, SomeHolderIsLeft, TestIsSatisfaction};
+ghost use Rattle.fy_policy.specs.Laws.{AndIsEach, AQuorumIsLeft, EmptySatisfiesNone, KeylessPassNothing, MoreOfMapSatisfies, MoreSatisfies, NobodyPasses, PartsAreWellFormed, SomeHolderIsLeft, TestIsSatisfaction, ValuesPassApart};
 
 /// The empty set satisfies no policy.
 pub fn empty_satisfies_none()
@@ -9,6 +9,39 @@ pub fn empty_satisfies_none()
 /// A larger set satisfies what a smaller one does.
 pub fn more_satisfies()
     ensures { MoreSatisfies }
+{}
+
+/// So does a set that is larger as far as the processes of the map go.
+pub fn more_of_map_satisfies()
+    ensures { MoreOfMapSatisfies }
+{}
+
+/// How many values of a key pass may be counted value by value: one, and those outside it.
+pub fn values_pass_apart()
+    ensures { ValuesPassApart }
+{
+    fy_locality::laws::values_differ();
+    fy_locality::laws::values_occur();
+}
+
+/// A process without the key doesn't change how many values of it pass.
+pub fn keyless_pass_nothing()
+    ensures { KeylessPassNothing }
+{}
+
+/// Where nobody is in the set, no value passes.
+pub fn nobody_passes()
+    ensures { NobodyPasses }
+{}
+
+/// An `And` is satisfied where each of its parts is.
+pub fn and_is_each()
+    ensures { AndIsEach }
+{}
+
+/// Each part of a well formed `And` is well formed.
+pub fn parts_are_well_formed()
+    ensures { PartsAreWellFormed }
 {}
 
 /// The test of satisfaction is the relation.

@@ -1,12 +1,12 @@
 //! Replication policies: what sets of processes satisfy one.
 #![tactic(auto)]
 
+mod build_counters;
 mod copied;
 mod fault;
 pub mod laws;
 mod limits;
 mod node;
-mod planted;
 mod policy;
 mod reading;
 mod satisfaction;

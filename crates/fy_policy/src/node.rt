@@ -1,11 +1,11 @@
 //! A policy's tree with counts, for every group of processes at once.
-ghost use Rattle.std.specs.Prelude.{is_some, IfOk, IsTrue, ◌≡◌, ◌+◌, ◌^◌, ◌<◌, ◌≤◌, ℕ, Bool, true, false, not, ◌||◌, cond, nat_lt, List, length, slice_index_or};
+ghost use Rattle.std.specs.Prelude.{is_some, IfOk, IsTrue, ◌≡◌, ◌+◌, ◌^◌, ◌<◌, ◌≤◌, ℕ, Bool, true, false, not, ◌||◌, nat_lt, List, length, slice_index_or};
 ghost use Rattle.std.specs.FinSet as sets;
 ghost use Rattle.fy_locality.specs.declared.TheConstants.{MOST_PROCESSES};
 ghost use Rattle.fy_locality.specs.declared.locality.Locality.{Locality};
 ghost use Rattle.fy_locality.specs.Locality.{value_of};
 ghost use Rattle.fy_policy.specs.Sat.{satisfies};
-ghost use Rattle.fy_policy.specs.Counted.{tree_of_node, IsLeader, IsRight, IsRecounted, place_in, within, turned, turned_by, CanTurn, CanTurnAlone, HasGroup, HasGroups, IsRightAt};
+ghost use Rattle.fy_policy.specs.Counted.{tree_of_node, IsRepresentative, AreCountersOf, IsRecounted, recounted, group_at, within, toggled, toggled_by, CanToggle, CanToggleOne, HasGroup, HasGroups, AreCountersAt};
 
 use fy_locality::{Key, Map, ProcId, ProcSet, laws};
 use std::alloc::{AllocError, Global};
@@ -34,8 +34,7 @@ fn count_at(counts: &[u32], group: u32) -> u32
 
 /// A count after one of those counted was looked at again: it counted before, and it counts after.
 fn recounted(count: u32, before: bool, after: bool) -> u32
-    ensures { count < 2 ^ 31 → cond before 1 0 ≤ count + cond after 1 0
-        → result + cond before 1 0 ≡ count + cond after 1 0 }
+    ensures { count < 2 ^ 31 → result ≡ recounted count before after }
 {
     count
         .saturating_add(u32::from(after))
@@ -52,29 +51,30 @@ fn recount(counts: &mut [u32], group: u32, before: bool, after: bool)
 }
 
 /// Whether the set satisfies the policy at a group.
-pub(crate) fn met(node: &Node, group: u32) -> bool
+pub(crate) fn is_satisfied_at(node: &Node, group: u32) -> bool
     requires { HasGroup group node.now }
     ensures { (processes : List Locality) (at : ℕ → ℕ) (s : ℕ → Bool)
-        → IsRight processes at s node.now → group ≤ length processes
+        → AreCountersOf processes at s node.now → group ≤ length processes
         → result ≡ satisfies processes (tree_of_node node.now) (within processes at group s) }
 {
     match node {
         Node::One(counts) => count_at(counts, group) > 0,
         Node::Across(wanted, _, _, counts, _) => count_at(counts, group) >= *wanted,
-        Node::Both(first, second) => met(first, group) && met(second, group),
+        Node::Both(first, second) => is_satisfied_at(first, group)
+            && is_satisfied_at(second, group),
     }
 }
 
 /// Puts a process of the group into the set, or takes it out.
-pub(crate) fn turn(node: &mut Node, map: &Map, group: u32, p: ProcId, comes: bool)
+pub(crate) fn toggle(node: &mut Node, map: &Map, group: u32, p: ProcId, comes: bool)
     requires groups { HasGroups (length map.now) node.old }
     requires group { group ≤ length map.now }
     requires process { p.0 < length map.now }
     ensures groups { HasGroups (length map.now) node.new }
     ensures tree { tree_of_node node.new ≡ tree_of_node node.old }
-    ensures right { (at : ℕ → ℕ) (s : ℕ → Bool) → IsRightAt map.now at s group node.old
-        → CanTurnAlone map.now at group s p.0 comes
-        → IsRight map.now at (turned s p.0 comes) node.new }
+    ensures right { (at : ℕ → ℕ) (s : ℕ → Bool) → AreCountersAt map.now at s group node.old
+        → CanToggleOne map.now at group s p.0 comes
+        → AreCountersOf map.now at (toggled s p.0 comes) node.new }
 {
     match node {
         Node::One(counts) => recount(counts, group, !comes, comes),
@@ -82,29 +82,35 @@ pub(crate) fn turn(node: &mut Node, map: &Map, group: u32, p: ProcId, comes: boo
             laws::values_differ();
             laws::values_occur();
             let below = count_at(places, p.0);
-            let before = met(inner, below);
-            turn(inner, map, below, p, comes);
-            let after = met(inner, below);
+            let before = is_satisfied_at(inner, below);
+            toggle(inner, map, below, p, comes);
+            let after = is_satisfied_at(inner, below);
             if has_key(map, p, *key) {
                 recount(counts, group, before, after);
             }
         }
         Node::Both(first, second) => {
-            turn(first, map, group, p, comes);
-            turn(second, map, group, p, comes);
+            toggle(first, map, group, p, comes);
+            toggle(second, map, group, p, comes);
         }
     }
 }
 
 /// Whether the set would satisfy the policy at a group after these of its processes came or went,
 /// by value after value of theirs.
-pub(crate) fn met_turned(node: &Node, map: &Map, group: u32, those: &ProcSet, comes: bool) -> bool
+pub(crate) fn satisfied_after_toggle(
+    node: &Node,
+    map: &Map,
+    group: u32,
+    those: &ProcSet,
+    comes: bool,
+) -> bool
     requires groups { HasGroups (length map.now) node.now }
     requires group { group ≤ length map.now }
-    ensures { (at : ℕ → ℕ) (s : ℕ → Bool) → IsRightAt map.now at s group node.now
-        → CanTurn map.now at group s (sets.contains those.now) comes
+    ensures { (at : ℕ → ℕ) (s : ℕ → Bool) → AreCountersAt map.now at s group node.now
+        → CanToggle map.now at group s (sets.contains those.now) comes
         → result ≡ satisfies map.now (tree_of_node node.now)
-        (within map.now at group (turned_by s (sets.contains those.now) comes)) }
+        (within map.now at group (toggled_by s (sets.contains those.now) comes)) }
 {
     match node {
         Node::One(counts) => some_after(count_at(counts, group), those, comes),
@@ -118,35 +124,40 @@ pub(crate) fn met_turned(node: &Node, map: &Map, group: u32, those: &ProcSet, co
             }
             let mut rest = *those;
             while let Some(p) = rest.least() {
-                match map.peers(p, *key) {
-                    None => rest.drop_one(p),
-                    Some(peers) => {
-                        let part = rest.intersection(&peers);
-                        rest = rest.difference(&part);
-                        let below = count_at(places, p.0);
-                        let before = met(inner, below);
-                        let after = met_turned(inner, map, below, &part, comes);
-                        count = recounted(count, before, after);
-                    }
-                }
+                let Some(peers) = map.peers(p, *key) else {
+                    rest.drop_one(p);
+                    continue;
+                };
+                let part = rest.intersection(&peers);
+                rest = rest.difference(&part);
+                let below = count_at(places, p.0);
+                let before = is_satisfied_at(inner, below);
+                let after = satisfied_after_toggle(inner, map, below, &part, comes);
+                count = recounted(count, before, after);
             }
             count >= *wanted
         }
         Node::Both(first, second) => {
-            met_turned(first, map, group, those, comes)
-                && met_turned(second, map, group, those, comes)
+            satisfied_after_toggle(first, map, group, those, comes)
+                && satisfied_after_toggle(second, map, group, those, comes)
         }
     }
 }
 
 /// The same for one process, of which no set need be made.
-pub(crate) fn met_alone(node: &Node, map: &Map, group: u32, p: ProcId, comes: bool) -> bool
+pub(crate) fn satisfied_after_one_toggle(
+    node: &Node,
+    map: &Map,
+    group: u32,
+    p: ProcId,
+    comes: bool,
+) -> bool
     requires groups { HasGroups (length map.now) node.now }
     requires group { group ≤ length map.now }
-    ensures { (at : ℕ → ℕ) (s : ℕ → Bool) → IsRightAt map.now at s group node.now
-        → CanTurnAlone map.now at group s p.0 comes
+    ensures { (at : ℕ → ℕ) (s : ℕ → Bool) → AreCountersAt map.now at s group node.now
+        → CanToggleOne map.now at group s p.0 comes
         → result ≡ satisfies map.now (tree_of_node node.now)
-        (within map.now at group (turned s p.0 comes)) }
+        (within map.now at group (toggled s p.0 comes)) }
 {
     match node {
         Node::One(counts) => some_beside(count_at(counts, group), comes),
@@ -160,15 +171,16 @@ pub(crate) fn met_alone(node: &Node, map: &Map, group: u32, p: ProcId, comes: bo
             }
             if has_key(map, p, *key) {
                 let below = count_at(places, p.0);
-                let before = met(inner, below);
-                let after = met_alone(inner, map, below, p, comes);
+                let before = is_satisfied_at(inner, below);
+                let after = satisfied_after_one_toggle(inner, map, below, p, comes);
                 recounted(count, before, after) >= *wanted
             } else {
                 count >= *wanted
             }
         }
         Node::Both(first, second) => {
-            met_alone(first, map, group, p, comes) && met_alone(second, map, group, p, comes)
+            satisfied_after_one_toggle(first, map, group, p, comes)
+                && satisfied_after_one_toggle(second, map, group, p, comes)
         }
     }
 }
@@ -214,10 +226,10 @@ fn has_key(map: &Map, p: ProcId, key: Key) -> bool
 
 /// The number of the group of a process where groups are parted by a key: its least process. A
 /// process without the key is a group of its own.
-fn leader(map: &Map, places: &[u32], p: ProcId, key: Key) -> u32
+fn representative(map: &Map, places: &[u32], p: ProcId, key: Key) -> u32
     requires process { p.0 < length map.now }
     requires places { length places.now ≡ length map.now }
-    ensures { IsLeader map.now key (place_in places.now) p.0 result }
+    ensures { IsRepresentative map.now key (group_at places.now) p.0 result }
 {
     laws::processes_have_values();
     match map.peers(p, key) {
@@ -237,7 +249,7 @@ fn leader(map: &Map, places: &[u32], p: ProcId, key: Key) -> u32
 }
 
 /// For each process its group where groups are parted by a key.
-pub(crate) fn parted(
+pub(crate) fn split_by_key(
     alloc: Global,
     map: &Map,
     places: &[u32],
@@ -246,11 +258,11 @@ pub(crate) fn parted(
     requires { length places.now ≡ length map.now }
     ensures wide { IfOk result (λ below. length below.items ≡ length map.now) }
     ensures leaders { IfOk result (λ below. (p : ℕ) → p < length map.now
-        → IsLeader map.now key (place_in places.now) p (place_in below.items p)) }
+        → IsRepresentative map.now key (group_at places.now) p (group_at below.items p)) }
 {
     let mut below = Vec::new(alloc);
     for p in 0..map.len() {
-        below.push(leader(map, places, ProcId(p), key))?;
+        below.push(representative(map, places, ProcId(p), key))?;
     }
     Ok(below)
 }

@@ -6,8 +6,10 @@ ghost use Rattle.fy_locality.specs.declared.TheConstants.{MOST_PROCESSES};
 ghost use Rattle.fy_policy.specs.Sat.{satisfies};
 
 use crate::Policy;
-use crate::node::{Node, met, met_alone, met_turned, turn, zeros};
-use crate::planted::planted;
+use crate::build_counters::build_counters;
+use crate::node::{
+    Node, is_satisfied_at, satisfied_after_one_toggle, satisfied_after_toggle, toggle, zeros,
+};
 use fy_locality::{Map, ProcId, ProcSet};
 use std::alloc::{AllocError, Global};
 use std::marker::Model;
@@ -80,7 +82,7 @@ impl Tally {
     {
         let places = zeros(alloc, map.len())?;
         // Each `And` of a policy has a part.
-        let Some(node) = planted(alloc, policy.shape(), map, &places)? else {
+        let Some(node) = build_counters(alloc, policy.shape(), map, &places)? else {
             unreachable!();
         };
         Ok(Tally {
@@ -99,7 +101,7 @@ impl Tally {
     {
         let comes = self.everyone.has(p) & !self.set.has(p);
         if comes {
-            turn(&mut self.node, &self.map, 0, p, true);
+            toggle(&mut self.node, &self.map, 0, p, true);
         }
         self.set.put(p);
     }
@@ -111,7 +113,7 @@ impl Tally {
     {
         let goes = self.everyone.has(p) & self.set.has(p);
         if goes {
-            turn(&mut self.node, &self.map, 0, p, false);
+            toggle(&mut self.node, &self.map, 0, p, false);
         }
         self.set.drop_one(p);
     }
@@ -121,7 +123,7 @@ impl Tally {
         ensures { result
             ≡ satisfies self.now.processes self.now.policy (sets.contains self.now.set) }
     {
-        met(&self.node, 0)
+        is_satisfied_at(&self.node, 0)
     }
 
     /// Whether the set with those given would satisfy the policy. Takes no memory.
@@ -130,7 +132,7 @@ impl Tally {
             (sets.contains (sets.union self.now.set given.now)) }
     {
         let comers = given.intersection(&self.everyone).difference(&self.set);
-        met_turned(&self.node, &self.map, 0, &comers, true)
+        satisfied_after_toggle(&self.node, &self.map, 0, &comers, true)
     }
 
     /// Whether the set with one process would satisfy the policy. Takes no memory, and makes no set.
@@ -140,9 +142,9 @@ impl Tally {
             (sets.contains (sets.insert self.now.set p.0)) }
     {
         if self.everyone.has(p) & !self.set.has(p) {
-            met_alone(&self.node, &self.map, 0, p, true)
+            satisfied_after_one_toggle(&self.node, &self.map, 0, p, true)
         } else {
-            met(&self.node, 0)
+            is_satisfied_at(&self.node, 0)
         }
     }
 
@@ -152,7 +154,7 @@ impl Tally {
             (sets.contains (sets.difference self.now.set given.now)) }
     {
         let goers = given.intersection(&self.everyone).intersection(&self.set);
-        met_turned(&self.node, &self.map, 0, &goers, false)
+        satisfied_after_toggle(&self.node, &self.map, 0, &goers, false)
     }
 
     /// Whether the set without one process would satisfy the policy. Takes no memory, and makes no
@@ -163,9 +165,9 @@ impl Tally {
             (sets.contains (sets.remove self.now.set p.0)) }
     {
         if self.everyone.has(p) & self.set.has(p) {
-            met_alone(&self.node, &self.map, 0, p, false)
+            satisfied_after_one_toggle(&self.node, &self.map, 0, p, false)
         } else {
-            met(&self.node, 0)
+            is_satisfied_at(&self.node, 0)
         }
     }
 }

@@ -17,24 +17,24 @@ use Rattle.fy_kinds.specs.declared.kind.Kind.TheVariants.{RebootProcess, Reboot,
 use Rattle.fy_kinds.specs.declared.order.Target.{Target}
 use Rattle.fy_grants.specs.declared.grant.Scope.{Scope}
 use Rattle.fy_grants.specs.declared.grant.Scope.TheVariants.{All, Where}
-use Rattle.fy_spelling.specs.Candidate.{long_from, short_from, process_from, processes_from, members_from, kind_from, key_from, target_from, deed_from, deeds_from, kinds_from, payload_from, scope_from, act_from, command_from}
+use Rattle.fy_spelling.specs.Candidate.{u64_from, u32_from, process_from, processes_from, members_from, kind_from, key_from, target_from, deed_from, deeds_from, kinds_from, payload_from, scope_from, act_from, command_from}
 use Rattle.fy_spelling.specs.Command.{gathered, asking}
-use Rattle.fy_spelling.specs.Fits.{IsShort, IsLong, IsByte, IsProcess, FitsTarget, FitsScope, FitsMembers, FitsAct}
+use Rattle.fy_spelling.specs.Fits.{IsU32, IsU64, IsByte, IsProcess, FitsTarget, FitsScope, FitsMembers, FitsAct}
 use Rattle.fy_spelling.specs.Values.{under, whole, processes_value, deeds_value, order_value, scope_value, act_listing, kinds_in}
 use Rattle.fy_acts.specs.declared.act.Act.{Act}
 use Rattle.fy_acts.specs.declared.act.Act.TheVariants.{Kill, Clog, Unclog, Form, Begin, Deliver, Lose, Resend, Sync, Up, Tick, Give, Take, Protect, Unprotect, CopyTo, Replace, Heal}
-use Rattle.fy_spelling.specs.declared.reading.Asked.{Asked}
-use Rattle.fy_spelling.specs.declared.reading.Asked.TheVariants.{Order, Other}
+use Rattle.fy_spelling.specs.declared.reading.UncheckedAct.{UncheckedAct}
+use Rattle.fy_spelling.specs.declared.reading.UncheckedAct.TheVariants.{Order, Other}
 
 -- ---- parts
 
-pub long-again : (n : ℕ) → IsLong n → long_from (whole n) ≡ Some n
+pub long-again : (n : ℕ) → IsU64 n → u64_from (whole n) ≡ Some n
 long-again n h = rw (lt-ltb n (2 ^ 64) h) refl
 
-long : (n : ℕ) → IsShort n → IsLong n
+long : (n : ℕ) → IsU32 n → IsU64 n
 long n h = omega arith
 
-pub short-again : (n : ℕ) → IsShort n → short_from (whole n) ≡ Some n
+pub short-again : (n : ℕ) → IsU32 n → u32_from (whole n) ≡ Some n
 short-again n h = rw (long-again n (long n h)) (rw (lt-ltb n (2 ^ 32) h) refl)
 
 pub process-again : (p : ProcId) → IsProcess p → process_from (whole p.0) ≡ Some p
@@ -95,13 +95,13 @@ payload-again bs h = rw (decode_of-encode_lower bs (bytes bs h)) (rw (itself (en
 -- ---- acts
 
 order-again :
-    (t : Target) (kind floor : Kind) (tear : ℕ) → FitsTarget t → IsLong tear
+    (t : Target) (kind floor : Kind) (tear : ℕ) → FitsTarget t → IsU64 tear
     → act_from (under (codes "kill") (order_value t kind floor tear)) ≡ Some (Order t kind floor tear)
 order-again t kind floor tear h small =
     rw (kind-again floor, target-again t h, kind-again kind, long-again tear small) refl
 
 -- what an act is found as
-abbrev pub found_as : Act → Asked
+abbrev pub found_as : Act → UncheckedAct
 found_as (Kill order) = Order order.target order.kind order.floor order.tear
 found_as asked = Other asked
 
@@ -131,18 +131,18 @@ act-again kinds (Replace n p q) same h =
 act-again kinds (Heal p) same h = rw (process-again p h) refl
 
 asking-again :
-    (by : ℕ) (value : Data) (asked : Asked) → IsShort by → act_from value ≡ Some asked
+    (by : ℕ) (value : Data) (asked : UncheckedAct) → IsU32 by → act_from value ≡ Some asked
     → command_from (asking by value) ≡ Some (by, asked)
 asking-again by value asked small e = rw (short-again by small, e) refl
 
 pub command-again :
-    (by : ℕ) (kinds : List Deed) (a : Act) → gathered kinds ≡ kinds_in a → IsShort by → FitsAct a
+    (by : ℕ) (kinds : List Deed) (a : Act) → gathered kinds ≡ kinds_in a → IsU32 by → FitsAct a
     → command_from (asking by (act_listing kinds a)) ≡ Some (by, found_as a)
 command-again by kinds a same small h =
     asking-again by (act_listing kinds a) (found_as a) small (act-again kinds a same h)
 
 pub inverted-again :
-    (by : ℕ) (t : Target) (kind floor : Kind) (tear : ℕ) → IsShort by → FitsTarget t → IsLong tear
+    (by : ℕ) (t : Target) (kind floor : Kind) (tear : ℕ) → IsU32 by → FitsTarget t → IsU64 tear
     → command_from (asking by (under (codes "kill") (order_value t kind floor tear)))
     ≡ Some (by, Order t kind floor tear)
 inverted-again by t kind floor tear small h long =

@@ -8,7 +8,7 @@ use Rattle.fy_spelling.specs.EntryLine.{IsTextOf}
 use Rattle.fy_spelling.specs.Replied.{entry_from}
 use Rattle.fy_spelling.specs.Values.{entry_data}
 use Rattle.fy_acts.specs.declared.entry.Entry.{Entry}
-use Rattle.fy_spelling.specs.declared.reading.Asked.{Asked}
+use Rattle.fy_spelling.specs.declared.reading.UncheckedAct.{UncheckedAct}
 use Rattle.fy_acts.specs.declared.reply.Reply.{Reply}
 use Rattle.fy_spelling.proofs.Again.{found_as}
 use Rattle.fy_spelling.proofs.Lines.{one_value}
@@ -29,5 +29,5 @@ pub found_in :
 found_in line d e json is =
     ap entry_from (one_value line d _ json (json_of line e is)) ∙ entry-again e is.fits
 
-pub same_parts_found : (p q : Asked × ℕ × ℕ × Reply) → Some p ≡ Some q → p ≡ q
+pub same_parts_found : (p q : UncheckedAct × ℕ × ℕ × Reply) → Some p ≡ Some q → p ≡ q
 same_parts_found p q e = cc

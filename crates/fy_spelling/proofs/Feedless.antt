@@ -8,9 +8,9 @@ use Rattle.json.specs.Print.{escape_letter, escape_byte, escape, quoted}
 use Rattle.serde_json.specs.Data.{unsigned, negative, float, Data, null, boolean, number, string, array, object, Items, no_items, item, Members, no_members, member}
 use Rattle.serde_json.specs.Written.{compact_text, items_text, members_text, comma_if}
 use Rattle.fy_spelling.specs.OneText.{HasNoFeed}
-use Rattle.fy_spelling.specs.Tame.{IsTame, ItemsTame, MembersTame}
+use Rattle.fy_spelling.specs.RoundTrip.{RoundTrips, ItemsRoundTrip, MembersRoundTrip}
 use Rattle.fy_spelling.specs.Fits.{FitsEntry}
-use Rattle.fy_spelling.specs.Held.{IsHeld}
+use Rattle.fy_spelling.specs.Representable.{IsRepresentable}
 use Rattle.fy_spelling.specs.Values.{text_of, entry_data}
 use Rattle.fy_acts.specs.declared.entry.Entry.{Entry}
 use Rattle.fy_spelling.proofs.Shapes.{tame_entry, held_entry}
@@ -65,7 +65,7 @@ comma true t h = (λ e. omega arith, h)
 comma false t h = h
 
 mutual
-  line : (d : Data) → IsTame d → HasNoFeed (compact_text d)
+  line : (d : Data) → RoundTrips d → HasNoFeed (compact_text d)
   line null h = (λ e. omega arith, (λ e. omega arith, (λ e. omega arith, (λ e. omega arith, tt))))
   line (boolean true) h = (λ e. omega arith, (λ e. omega arith, (λ e. omega arith, (λ e. omega arith, tt))))
   line (boolean false) h = (λ e. omega arith, (λ e. omega arith, (λ e. omega arith, (λ e. omega arith, (λ e. omega arith, tt)))))
@@ -76,16 +76,16 @@ mutual
   line (array ds) h = (λ e. omega arith, line_items false ds h)
   line (object ms) h = (λ e. omega arith, line_members false ms h.1)
 
-  line_items : (later : Bool) (ds : Items) → ItemsTame ds → HasNoFeed (items_text later ds)
+  line_items : (later : Bool) (ds : Items) → ItemsRoundTrip ds → HasNoFeed (items_text later ds)
   line_items later no_items h = (λ e. omega arith, tt)
   line_items later (item d ds) h = comma later _ (feedless_both _ _ (line d h.0) (line_items true ds h.1))
 
-  line_members : (later : Bool) (ms : Members) → MembersTame ms → HasNoFeed (members_text later ms)
+  line_members : (later : Bool) (ms : Members) → MembersRoundTrip ms → HasNoFeed (members_text later ms)
   line_members later no_members h = (λ e. omega arith, tt)
   line_members later (member k d ms) h =
       comma later _ (feedless_both (quoted k) _ (quotes k) (λ e. omega arith, feedless_both _ _ (line d h.1) (line_members true ms h.2)))
 
-pub held_feedless : (e : Entry) → IsHeld e → HasNoFeed (text_of e)
+pub held_feedless : (e : Entry) → IsRepresentable e → HasNoFeed (text_of e)
 unfolding text_of
 held_feedless e h = line (entry_data e) (tame_entry e h)
 

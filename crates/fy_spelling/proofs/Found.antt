@@ -9,7 +9,7 @@ use Rattle.fy_locality.specs.Key.{key_text}
 use Rattle.fy_locality.specs.declared.ProcId.{ProcId}
 use Rattle.fy_locality.specs.declared.key.Key.{Key}
 use Rattle.fy_locality.specs.declared.key.Key.TheVariants.{Process, Machine, Zone, DataHall, DataCenter}
-use Rattle.fy_kinds.specs.Kinds.{Deed, only, with_all}
+use Rattle.fy_kinds.specs.Kinds.{Deed, only, in_either}
 use Rattle.fy_kinds.specs.Members.{Members}
 use Rattle.fy_team.specs.Members.{are_members}
 use Rattle.fy_team.specs.Standing.{MembersTested}
@@ -45,7 +45,7 @@ or_of_none true = refl
 or_of_none false = refl
 
 -- three sets together, whichever two come first
-with_all_regroups : (a b c : Members) → with_all (with_all a b) c ≡ with_all a (with_all b c)
+with_all_regroups : (a b c : Members) → in_either (in_either a b) c ≡ in_either a (in_either b c)
 with_all_regroups a b c =
     rw (
       or_regroups a.reboot_process b.reboot_process c.reboot_process,
@@ -59,8 +59,8 @@ with_all_regroups a b c =
 one_more :
     (before x : Members) (found : Option Deed) (rest : Option (List Deed))
     → option_map only found ≡ Some x
-    → option_map (λ more. with_all (with_all before x) (gathered more)) rest
-    ≡ option_map (λ more. with_all before (gathered more))
+    → option_map (λ more. in_either (in_either before x) (gathered more)) rest
+    ≡ option_map (λ more. in_either before (gathered more))
     (found >>= λ deed. option_map (λ more. deed ∷ more) rest)
 one_more before x None rest e = absurd (let no : ⊥ = cc in no)
 one_more before x (Some deed) None e = refl
@@ -68,7 +68,7 @@ one_more before x (Some deed) (Some more) e =
     let is : only deed ≡ x = cc in
     ap Some
     (with_all_regroups before x (gathered more)
-    ∙ ap (λ s. with_all before (with_all s (gathered more))) (sym is))
+    ∙ ap (λ s. in_either before (in_either s (gathered more))) (sym is))
 
 drop_next :
     (vs : List Value) (i : ℕ) (v : Value) → i < length vs
@@ -92,13 +92,13 @@ deeds_from-drop vs i v within is =
 pub kinds_kept :
     (before x : Members) (vs : List Value) (i : ℕ) (v : Value) (whole : Option Members)
     → i < length vs → v ≡ get_or vs i v → option_map only (deed_from (view v)) ≡ Some x
-    → option_map (λ more. with_all before (gathered more)) (deeds_from (items_view (drop i vs)))
+    → option_map (λ more. in_either before (gathered more)) (deeds_from (items_view (drop i vs)))
     ≡ whole
-    → option_map (λ more. with_all (with_all before x) (gathered more))
+    → option_map (λ more. in_either (in_either before x) (gathered more))
     (deeds_from (items_view (drop (i + 1) vs)))
     ≡ whole
 kinds_kept before x vs i v whole within is has so_far =
     one_more before x (deed_from (view v)) (deeds_from (items_view (drop (i + 1) vs))) has
-    ∙ ap (option_map (λ more. with_all before (gathered more)))
+    ∙ ap (option_map (λ more. in_either before (gathered more)))
     (sym (deeds_from-drop vs i v within is))
     ∙ so_far

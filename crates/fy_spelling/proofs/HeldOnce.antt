@@ -7,10 +7,10 @@ use Rattle.serde_json.specs.Read.{read}
 use Rattle.fy_kinds.specs.declared.verdict.Rule.{Rule}
 use Rattle.fy_kinds.specs.declared.verdict.Rule.TheVariants.{NoTarget, NoGrant, Protected, TooManyDestroyed, TooFewLeft}
 use Rattle.fy_kinds.specs.declared.verdict.Verdict.{Verdict as VerdictOf}
-use Rattle.fy_spelling.specs.Held.{IsHeldRule, IsHeldReply, IsHeld}
+use Rattle.fy_spelling.specs.Representable.{IsRepresentableRule, IsRepresentableReply, IsRepresentable}
 use Rattle.fy_spelling.specs.Values.{rule_data, reply_data, entry_data, text_of}
 use Rattle.fy_locality.specs.Chain.{◌>>=◌}
-use Rattle.fy_spelling.specs.Candidate.{sole, two, long_from, kind_from}
+use Rattle.fy_spelling.specs.Candidate.{sole, two, u64_from, kind_from}
 use Rattle.fy_spelling.specs.Replied.{first_word, rule_by, reply_by, reply_at}
 use Rattle.fy_acts.specs.declared.reply.Reply.{Reply}
 use Rattle.fy_acts.specs.declared.reply.Reply.TheVariants.{Verdict, Ruled, Formed, Begun, Stored, Marked, Sent, Synced, Time, Done, No}
@@ -22,8 +22,8 @@ use Rattle.fy_spelling.proofs.Shapes.{read_held_text}
 
 abbrev long_rule_by : List ℕ → Data → Option Rule
 long_rule_by word d =
-    if bytes_eq word (codes "TooManyDestroyed") then option_map TooManyDestroyed (at 1 d >>= long_from)
-    else if bytes_eq word (codes "TooFewLeft") then option_map TooFewLeft (at 1 d >>= long_from)
+    if bytes_eq word (codes "TooManyDestroyed") then option_map TooManyDestroyed (at 1 d >>= u64_from)
+    else if bytes_eq word (codes "TooFewLeft") then option_map TooFewLeft (at 1 d >>= u64_from)
     else rule_by word d
 
 abbrev long_rule_from : Data → Option Rule
@@ -47,7 +47,7 @@ long_reply_at None d = sole d >>= λ named. long_reply_by named.0 named.1
 abbrev long_reply_from : Data → Option Reply
 long_reply_from d = long_reply_at (as_str d) d
 
-rule-again : (r : Option Rule) → IsHeldRule r → long_rule_from (rule_data r) ≡ r
+rule-again : (r : Option Rule) → IsRepresentableRule r → long_rule_from (rule_data r) ≡ r
 rule-again None h = refl
 rule-again (Some NoTarget) h = refl
 rule-again (Some (NoGrant p)) h = rw (process-again p h) refl
@@ -55,7 +55,7 @@ rule-again (Some (Protected p)) h = rw (process-again p h) refl
 rule-again (Some (TooManyDestroyed i)) h = rw (long-again i h) refl
 rule-again (Some (TooFewLeft i)) h = rw (long-again i h) refl
 
-reply-again : (r : Reply) → IsHeldReply r → long_reply_from (reply_data r) ≡ Some r
+reply-again : (r : Reply) → IsRepresentableReply r → long_reply_from (reply_data r) ≡ Some r
 reply-again (Verdict v) h = rw (rule-again v.rule h, struck-again v.struck) refl
 reply-again (Ruled r) h = rw (rule-again r h) refl
 reply-again (Formed n) h = rw (short-again n h) refl
@@ -68,12 +68,12 @@ reply-again (Time n) h = rw (long-again n h) refl
 reply-again Done h = refl
 reply-again (No r) h = rw (refusal-again r h) refl
 
-reply_once : (a b : Reply) → IsHeldReply a → IsHeldReply b → reply_data a ≡ reply_data b → a ≡ b
+reply_once : (a b : Reply) → IsRepresentableReply a → IsRepresentableReply b → reply_data a ≡ reply_data b → a ≡ b
 reply_once a b held_a held_b same =
     some_reply a b (sym (reply-again a held_a) ∙ ap long_reply_from same ∙ reply-again b held_b)
 
 -- two held entries with one text are equal
-pub one_held_entry : (a b : Entry) → IsHeld a → IsHeld b → text_of a ≡ text_of b → a ≡ b
+pub one_held_entry : (a b : Entry) → IsRepresentable a → IsRepresentable b → text_of a ≡ text_of b → a ≡ b
 one_held_entry a b held_a held_b same =
     let values : Some (entry_data a) ≡ Some (entry_data b) =
     sym (read_held_text a held_a) ∙ ap read same ∙ read_held_text b held_b in

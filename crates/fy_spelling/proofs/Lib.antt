@@ -10,7 +10,7 @@ pub mod Plain
 pub mod Round
 pub mod Same
 pub mod Shapes
-pub mod Tame
+pub mod RoundTrip
 pub mod OneLine
 pub mod Feedless
 pub mod EntryLines

@@ -1,39 +1,39 @@
 -- what a line comes to, by what is found in its value
 use Rattle.std.proofs.Common.{◌≡◌, ℕ, ◌≤◌, List, [], length, codes, Some, None, Result, Ok, Err, refl, sym, ap, subst, ◌∙◌}
 use Rattle.serde_json.specs.Data.{Data}
-use Rattle.fy_spelling.specs.Candidate.{command_from, IsMeant}
-use Rattle.fy_spelling.specs.Command.{asking, IsJson, Spells, LineOf}
-use Rattle.fy_spelling.specs.Fits.{FitsTarget, IsLong}
+use Rattle.fy_spelling.specs.Candidate.{command_from, IsCheckedAct}
+use Rattle.fy_spelling.specs.Command.{asking, IsJson, ParsesAs, LineOf}
+use Rattle.fy_spelling.specs.Fits.{FitsTarget, IsU64}
 use Rattle.fy_spelling.specs.Values.{under, order_value}
 use Rattle.fy_acts.specs.declared.act.Act.{Act}
 use Rattle.fy_spelling.specs.declared.command.Command.{Command}
 use Rattle.fy_spelling.specs.declared.command.LineFault.{LineFault}
 use Rattle.fy_spelling.specs.declared.command.LineFault.TheVariants.{Syntax}
 use Rattle.fy_spelling.specs.declared.command.TheConstants.{MOST_LINE_BYTES}
-use Rattle.fy_spelling.specs.declared.reading.Asked.{Asked}
-use Rattle.fy_spelling.specs.declared.reading.Asked.TheVariants.{Order, Other}
+use Rattle.fy_spelling.specs.declared.reading.UncheckedAct.{UncheckedAct}
+use Rattle.fy_spelling.specs.declared.reading.UncheckedAct.TheVariants.{Order, Other}
 use Rattle.fy_spelling.proofs.Again.{command-again, inverted-again}
 use Rattle.fy_spelling.proofs.Listing.{Lists, IsFor, told_command}
 
 -- an act that its value lists
-listed : (value : Data) (asked : Asked) (meant : Act) → IsFor value asked → IsMeant asked (Ok meant) → Lists value meant
-listed value (Other asked) meant is e = let same : asked ≡ meant = cc in subst (Lists value) same is
-listed value (Order target kind floor tear) meant is k =
+listed : (value : Data) (asked : UncheckedAct) (checked_act : Act) → IsFor value asked → IsCheckedAct asked (Ok checked_act) → Lists value checked_act
+listed value (Other asked) checked_act is e = let same : asked ≡ checked_act = cc in subst (Lists value) same is
+listed value (Order target kind floor tear) checked_act is k =
     subst (Lists value) (sym k.is)
     (record {
       kinds = [];
       same = refl;
-      fits = (subst FitsTarget (sym k.target_is) is.0, subst IsLong (sym k.tear_is) is.1);
+      fits = (subst FitsTarget (sym k.target_is) is.0, subst IsU64 (sym k.tear_is) is.1);
       is = is.2 ∙ sym (λ i. under (codes "kill") (order_value (k.target_is i) (k.kind_is i) (k.floor_is i) (k.tear_is i)));
     })
 
 pub spelled :
-    (line : List ℕ) (d : Data) (by : ℕ) (asked : Asked) (meant : Act) → IsJson line d
-    → command_from d ≡ Some (by, asked) → IsMeant asked (Ok meant)
-    → Spells line (record { by = by; act = meant })
-spelled line d by asked meant json found is =
+    (line : List ℕ) (d : Data) (by : ℕ) (asked : UncheckedAct) (checked_act : Act) → IsJson line d
+    → command_from d ≡ Some (by, asked) → IsCheckedAct asked (Ok checked_act)
+    → ParsesAs line (record { by = by; act = checked_act })
+spelled line d by asked checked_act json found is =
     let told = told_command d by asked found in
-    let lists = listed told.value asked meant told.act is in
+    let lists = listed told.value asked checked_act told.act is in
     record {
       kinds = lists.kinds;
       same = lists.same;
@@ -43,8 +43,8 @@ spelled line d by asked meant json found is =
     }
 
 pub inverted :
-    (line : List ℕ) (d : Data) (by : ℕ) (asked : Asked) (fault : LineFault) → length line ≤ MOST_LINE_BYTES → IsJson line d
-    → command_from d ≡ Some (by, asked) → IsMeant asked (Err fault) → LineOf line (Err fault)
+    (line : List ℕ) (d : Data) (by : ℕ) (asked : UncheckedAct) (fault : LineFault) → length line ≤ MOST_LINE_BYTES → IsJson line d
+    → command_from d ≡ Some (by, asked) → IsCheckedAct asked (Err fault) → LineOf line (Err fault)
 inverted line d by (Other asked) fault short json found is = absurd (let no : ⊥ = cc in no)
 inverted line d by (Order target kind floor tear) fault short json found is =
     let told = told_command d by (Order target kind floor tear) found in

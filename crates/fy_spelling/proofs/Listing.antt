@@ -6,14 +6,14 @@ use Rattle.fy_kinds.specs.Kinds.{Deed}
 use Rattle.fy_kinds.specs.Members.{Members}
 use Rattle.fy_kinds.specs.declared.order.Target.{Target}
 use Rattle.fy_locality.specs.declared.ProcId.{ProcId}
-use Rattle.fy_spelling.specs.Candidate.{sole, one, two, three, five, long_from, short_from, process_from, members_from, kind_from, target_from, kinds_from, payload_from, target_in, scope_from, long_in, process_in, clog_in, order_in, form_in, begin_in, give_in, protection_in, resend_in, take_in, copy_in, replace_in, aimed_by, moved_by, righted_by, healed_by, asked_by, act_from, command_from}
+use Rattle.fy_spelling.specs.Candidate.{sole, one, two, three, five, u64_from, u32_from, process_from, members_from, kind_from, target_from, kinds_from, payload_from, target_in, scope_from, u64_in, process_in, clog_in, order_in, form_in, begin_in, give_in, protection_in, resend_in, take_in, copy_in, replace_in, clog_or_tick_from, message_act_from, rights_act_from, healing_act_from, named_act_from, act_from, command_from}
 use Rattle.fy_spelling.specs.Command.{gathered, asking}
-use Rattle.fy_spelling.specs.Fits.{IsShort, IsLong, IsProcess, FitsTarget, FitsAct}
+use Rattle.fy_spelling.specs.Fits.{IsU32, IsU64, IsProcess, FitsTarget, FitsAct}
 use Rattle.fy_spelling.specs.Values.{with_fields, under, whole, order_value, protection_value, process_value, act_listing, kinds_in}
 use Rattle.fy_acts.specs.declared.act.Act.{Act}
 use Rattle.fy_acts.specs.declared.act.Act.TheVariants as act
-use Rattle.fy_spelling.specs.declared.reading.Asked.{Asked}
-use Rattle.fy_spelling.specs.declared.reading.Asked.TheVariants.{Order, Other}
+use Rattle.fy_spelling.specs.declared.reading.UncheckedAct.{UncheckedAct}
+use Rattle.fy_spelling.specs.declared.reading.UncheckedAct.TheVariants.{Order, Other}
 use Rattle.fy_spelling.proofs.Told.{came, mapped, same_some, told_one, told_sole, told_two, told_three, told_five, told_long, told_short, told_process, told_members, told_kind, told_target, told_target_in, told_scope, told_kinds, told_payload}
 
 -- the value lists the act
@@ -24,9 +24,9 @@ pub record Lists (value : Data) (asked : Act) : Type 0 where
   pub is : value ≡ act_listing kinds asked
 
 -- the value is that of what was found
-abbrev pub IsFor : Data → Asked → Type 0
+abbrev pub IsFor : Data → UncheckedAct → Type 0
 IsFor value (Order target kind floor tear) =
-    FitsTarget target × IsLong tear
+    FitsTarget target × IsU64 tear
     × (value ≡ under (codes "kill") (order_value target kind floor tear))
 IsFor value (Other asked) = Lists value asked
 
@@ -38,7 +38,7 @@ plain value asked same fits is = record { kinds = []; same = same; fits = fits; 
 
 -- ---- parts
 
-told_long_in : (key : List ℕ) (d : Data) (n : ℕ) → long_in key d ≡ Some n → (d ≡ under key (whole n)) × IsLong n
+told_long_in : (key : List ℕ) (d : Data) (n : ℕ) → u64_in key d ≡ Some n → (d ≡ under key (whole n)) × IsU64 n
 told_long_in key d n e =
     let v = came (one key d) _ n e in
     let m = told_long v.x n v.then in
@@ -57,7 +57,7 @@ told_clog d a e =
     let c = mapped _ (clog_in d) a e in
     let v = came (three (codes "key") (codes "ticks") (codes "value") d) _ c.x c.is in
     let t = came (target_from v.x.0 v.x.2) _ c.x v.then in
-    let n = came (long_from v.x.1) _ c.x t.then in
+    let n = came (u64_from v.x.1) _ c.x t.then in
     let at = told_target v.x.0 v.x.2 t.x t.is in
     let ticks = told_long v.x.1 n.x n.is in
     let same : act.Clog t.x n.x ≡ a = ap (λ (p : Target × ℕ). act.Clog p.0 p.1) (same_some (t.x, n.x) c.x n.then) ∙ same_some _ a c.then in
@@ -74,23 +74,23 @@ told_unclog d a e =
     subst (Lists (under (codes "unclog") d)) (same_some _ a t.then)
     (plain _ (act.Unclog t.x) refl at.1 (ap (under (codes "unclog")) at.0))
 
-told_tick : (d : Data) (a : Act) → option_map act.Tick (long_in (codes "ticks") d) ≡ Some a → Lists (under (codes "tick") d) a
+told_tick : (d : Data) (a : Act) → option_map act.Tick (u64_in (codes "ticks") d) ≡ Some a → Lists (under (codes "tick") d) a
 told_tick d a e =
-    let n = mapped act.Tick (long_in (codes "ticks") d) a e in
+    let n = mapped act.Tick (u64_in (codes "ticks") d) a e in
     let at = told_long_in (codes "ticks") d n.x n.is in
     subst (Lists (under (codes "tick") d)) (same_some _ a n.then)
     (plain _ (act.Tick n.x) refl at.1 (ap (under (codes "tick")) at.0))
 
-told_deliver : (d : Data) (a : Act) → option_map act.Deliver (long_in (codes "message") d) ≡ Some a → Lists (under (codes "deliver") d) a
+told_deliver : (d : Data) (a : Act) → option_map act.Deliver (u64_in (codes "message") d) ≡ Some a → Lists (under (codes "deliver") d) a
 told_deliver d a e =
-    let n = mapped act.Deliver (long_in (codes "message") d) a e in
+    let n = mapped act.Deliver (u64_in (codes "message") d) a e in
     let at = told_long_in (codes "message") d n.x n.is in
     subst (Lists (under (codes "deliver") d)) (same_some _ a n.then)
     (plain _ (act.Deliver n.x) refl at.1 (ap (under (codes "deliver")) at.0))
 
-told_lose : (d : Data) (a : Act) → option_map act.Lose (long_in (codes "message") d) ≡ Some a → Lists (under (codes "lose") d) a
+told_lose : (d : Data) (a : Act) → option_map act.Lose (u64_in (codes "message") d) ≡ Some a → Lists (under (codes "lose") d) a
 told_lose d a e =
-    let n = mapped act.Lose (long_in (codes "message") d) a e in
+    let n = mapped act.Lose (u64_in (codes "message") d) a e in
     let at = told_long_in (codes "message") d n.x n.is in
     subst (Lists (under (codes "lose") d)) (same_some _ a n.then)
     (plain _ (act.Lose n.x) refl at.1 (ap (under (codes "lose")) at.0))
@@ -120,7 +120,7 @@ told_resend : (d : Data) (a : Act) → resend_in d ≡ Some a → Lists (under (
 told_resend d a e =
     let v = came (two (codes "process") (codes "record") d) _ a e in
     let p = came (process_from v.x.0) _ a v.then in
-    let n = came (short_from v.x.1) _ a p.then in
+    let n = came (u32_from v.x.1) _ a p.then in
     let process = told_process v.x.0 p.x p.is in
     let rec = told_short v.x.1 n.x n.is in
     subst (Lists (under (codes "resend") d)) (same_some _ a n.then)
@@ -132,8 +132,8 @@ told_resend d a e =
 told_take : (d : Data) (a : Act) → take_in d ≡ Some a → Lists (under (codes "take") d) a
 told_take d a e =
     let v = came (two (codes "actor") (codes "index") d) _ a e in
-    let m = came (short_from v.x.0) _ a v.then in
-    let n = came (short_from v.x.1) _ a m.then in
+    let m = came (u32_from v.x.0) _ a v.then in
+    let n = came (u32_from v.x.1) _ a m.then in
     let actor = told_short v.x.0 m.x m.is in
     let index = told_short v.x.1 n.x n.is in
     subst (Lists (under (codes "take") d)) (same_some _ a n.then)
@@ -146,7 +146,7 @@ told_copy : (d : Data) (a : Act) → copy_in d ≡ Some a → Lists (under (code
 told_copy d a e =
     let v = came (three (codes "from") (codes "record") (codes "to") d) _ a e in
     let p = came (process_from v.x.0) _ a v.then in
-    let n = came (short_from v.x.1) _ a p.then in
+    let n = came (u32_from v.x.1) _ a p.then in
     let q = came (process_from v.x.2) _ a n.then in
     let from = told_process v.x.0 p.x p.is in
     let rec = told_short v.x.1 n.x n.is in
@@ -162,7 +162,7 @@ told_replace d a e =
     let v = came (three (codes "into") (codes "out") (codes "team") d) _ a e in
     let p = came (process_from v.x.0) _ a v.then in
     let q = came (process_from v.x.1) _ a p.then in
-    let n = came (short_from v.x.2) _ a q.then in
+    let n = came (u32_from v.x.2) _ a q.then in
     let into = told_process v.x.0 p.x p.is in
     let out = told_process v.x.1 q.x q.is in
     let team = told_short v.x.2 n.x n.is in
@@ -175,7 +175,7 @@ told_replace d a e =
 told_form : (d : Data) (a : Act) → form_in d ≡ Some a → Lists (under (codes "form") d) a
 told_form d a e =
     let v = came (two (codes "members") (codes "policy") d) _ a e in
-    let n = came (short_from v.x.1) _ a v.then in
+    let n = came (u32_from v.x.1) _ a v.then in
     let m = came (members_from v.x.0) _ a n.then in
     let policy = told_short v.x.1 n.x n.is in
     let members = told_members v.x.0 m.x m.is in
@@ -188,7 +188,7 @@ told_form d a e =
 told_begin : (d : Data) (a : Act) → begin_in d ≡ Some a → Lists (under (codes "begin") d) a
 told_begin d a e =
     let v = came (two (codes "payload") (codes "team") d) _ a e in
-    let n = came (short_from v.x.1) _ a v.then in
+    let n = came (u32_from v.x.1) _ a v.then in
     let b = came (payload_from v.x.0) _ a n.then in
     let team = told_short v.x.1 n.x n.is in
     let payload = told_payload v.x.0 b.x b.is in
@@ -201,7 +201,7 @@ told_begin d a e =
 told_give : (d : Data) (a : Act) → give_in d ≡ Some a → Lists (under (codes "give") d) a
 told_give d a e =
     let v = came (three (codes "actor") (codes "kinds") (codes "scope") d) _ a e in
-    let n = came (short_from v.x.0) _ a v.then in
+    let n = came (u32_from v.x.0) _ a v.then in
     let k = came (kinds_from v.x.1) _ a n.then in
     let s = came (scope_from v.x.2) _ a k.then in
     let actor = told_short v.x.0 n.x n.is in
@@ -244,13 +244,13 @@ told_protection make word listed named fitting d a e =
           ∙ sym (listed kinds.kinds p.x k.x);
     })
 
-told_order : (d : Data) (asked : Asked) → order_in d ≡ Some asked → IsFor (under (codes "kill") d) asked
+told_order : (d : Data) (asked : UncheckedAct) → order_in d ≡ Some asked → IsFor (under (codes "kill") d) asked
 told_order d asked e =
     let v = came (five (codes "floor") (codes "key") (codes "kind") (codes "tear") (codes "value") d) _ asked e in
     let f = came (kind_from v.x.0) _ asked v.then in
     let t = came (target_from v.x.1 v.x.4) _ asked f.then in
     let k = came (kind_from v.x.2) _ asked t.then in
-    let n = came (long_from v.x.3) _ asked k.then in
+    let n = came (u64_from v.x.3) _ asked k.then in
     let at = told_target v.x.1 v.x.4 t.x t.is in
     let floor = told_kind v.x.0 f.x f.is in
     let kind = told_kind v.x.2 k.x k.is in
@@ -276,14 +276,14 @@ at_word Is name word p q d a here later = go (bytes_eq name word) refl
     go true is e = subst (λ w. Is (under w d) a) (sym ((bytes_eq-Decides name word).0 is)) (here e)
     go false is e = later e
 
-told_aimed : (name : List ℕ) (d : Data) (a : Act) → aimed_by name d ≡ Some a → Lists (under name d) a
+told_aimed : (name : List ℕ) (d : Data) (a : Act) → clog_or_tick_from name d ≡ Some a → Lists (under name d) a
 told_aimed name d a =
     at_word Lists name (codes "clog") _ _ d a (told_clog d a)
     (at_word Lists name (codes "unclog") _ _ d a (told_unclog d a)
     (at_word Lists name (codes "tick") _ _ d a (told_tick d a)
     (λ e. absurd (let no : ⊥ = cc in no))))
 
-told_moved : (name : List ℕ) (d : Data) (a : Act) → moved_by name d ≡ Some a → Lists (under name d) a
+told_moved : (name : List ℕ) (d : Data) (a : Act) → message_act_from name d ≡ Some a → Lists (under name d) a
 told_moved name d a =
     at_word Lists name (codes "deliver") _ _ d a (told_deliver d a)
     (at_word Lists name (codes "lose") _ _ d a (told_lose d a)
@@ -292,7 +292,7 @@ told_moved name d a =
     (at_word Lists name (codes "up") _ _ d a (told_up d a)
     (told_aimed name d a)))))
 
-told_righted : (name : List ℕ) (d : Data) (a : Act) → righted_by name d ≡ Some a → Lists (under name d) a
+told_righted : (name : List ℕ) (d : Data) (a : Act) → rights_act_from name d ≡ Some a → Lists (under name d) a
 told_righted name d a =
     at_word Lists name (codes "give") _ _ d a (told_give d a)
     (at_word Lists name (codes "take") _ _ d a (told_take d a)
@@ -302,7 +302,7 @@ told_righted name d a =
     (told_protection act.Unprotect (codes "unprotect") (λ kinds p set. refl) (λ p set. refl) (λ p set h. h) d a)
     (told_moved name d a))))
 
-told_healed : (name : List ℕ) (d : Data) (a : Act) → healed_by name d ≡ Some a → Lists (under name d) a
+told_healed : (name : List ℕ) (d : Data) (a : Act) → healing_act_from name d ≡ Some a → Lists (under name d) a
 told_healed name d a =
     at_word Lists name (codes "copy") _ _ d a (told_copy d a)
     (at_word Lists name (codes "replace") _ _ d a (told_replace d a)
@@ -311,39 +311,39 @@ told_healed name d a =
 
 -- an act that is no kill
 told_other :
-    (value : Data) (o : Option Act) (asked : Asked)
+    (value : Data) (o : Option Act) (asked : UncheckedAct)
     → ((a : Act) → o ≡ Some a → Lists value a) → option_map Other o ≡ Some asked → IsFor value asked
 told_other value o asked told e =
     let a = mapped Other o asked e in
     subst (IsFor value) (same_some (Other a.x) asked a.then) (told a.x a.is)
 
-told_asked : (name : List ℕ) (d : Data) (asked : Asked) → asked_by name d ≡ Some asked → IsFor (under name d) asked
+told_asked : (name : List ℕ) (d : Data) (asked : UncheckedAct) → named_act_from name d ≡ Some asked → IsFor (under name d) asked
 told_asked name d asked =
     at_word IsFor name (codes "kill") _ _ d asked (told_order d asked)
     (at_word IsFor name (codes "form") _ _ d asked (told_other (under (codes "form") d) _ asked (told_form d))
     (at_word IsFor name (codes "begin") _ _ d asked (told_other (under (codes "begin") d) _ asked (told_begin d))
     (told_other (under name d) _ asked (told_healed name d))))
 
-pub told_act : (d : Data) (asked : Asked) → act_from d ≡ Some asked → IsFor d asked
+pub told_act : (d : Data) (asked : UncheckedAct) → act_from d ≡ Some asked → IsFor d asked
 told_act d asked e =
     let p = came (sole d) _ asked e in
     subst (λ w. IsFor w asked) (sym (told_sole d p.x p.is)) (told_asked p.x.0 p.x.1 asked p.then)
 
 -- the value of a line, and who asks
-pub record IsAsked (d : Data) (actor : ℕ) (asked : Asked) : Type 0 where
+pub record IsAsked (d : Data) (actor : ℕ) (asked : UncheckedAct) : Type 0 where
   pub value : Data
   pub act : IsFor value asked
-  pub by : IsShort actor
+  pub by : IsU32 actor
   pub is : d ≡ asking actor value
 
-pub told_command : (d : Data) (by : ℕ) (asked : Asked) → command_from d ≡ Some (by, asked) → IsAsked d by asked
+pub told_command : (d : Data) (by : ℕ) (asked : UncheckedAct) → command_from d ≡ Some (by, asked) → IsAsked d by asked
 told_command d by asked e =
     let v = came (two (codes "act") (codes "by") d) _ (by, asked) e in
-    let n = came (short_from v.x.1) _ (by, asked) v.then in
+    let n = came (u32_from v.x.1) _ (by, asked) v.then in
     let a = came (act_from v.x.0) _ (by, asked) n.then in
     let actor = told_short v.x.1 n.x n.is in
     let same : (n.x, a.x) ≡ (by, asked) = same_some _ (by, asked) a.then in
-    subst (λ (q : ℕ × Asked). IsAsked d q.0 q.1) same
+    subst (λ (q : ℕ × UncheckedAct). IsAsked d q.0 q.1) same
     (record {
       value = v.x.0;
       act = told_act v.x.0 a.x a.is;

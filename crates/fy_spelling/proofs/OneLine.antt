@@ -5,30 +5,30 @@ use Rattle.fy_kinds.specs.Kinds.{rank}
 use Rattle.fy_kinds.specs.declared.kind.Kind.{Kind}
 use Rattle.fy_kinds.specs.declared.order.Target.{Target}
 use Rattle.fy_spelling.specs.Candidate.{command_from}
-use Rattle.fy_spelling.specs.Command.{asking, Spells, SpellsInverted, LineOf}
+use Rattle.fy_spelling.specs.Command.{asking, ParsesAs, ParsesAsInverted, LineOf}
 use Rattle.fy_spelling.specs.Values.{act_listing}
 use Rattle.fy_acts.specs.declared.act.Act.{Act}
 use Rattle.fy_acts.specs.declared.act.Act.TheVariants.{Kill, Clog, Unclog, Form, Begin, Deliver, Lose, Resend, Sync, Up, Tick, Give, Take, Protect, Unprotect, CopyTo, Replace, Heal}
 use Rattle.fy_spelling.specs.declared.command.Command.{Command}
 use Rattle.fy_spelling.specs.declared.command.LineFault.{LineFault}
 use Rattle.fy_spelling.specs.declared.command.LineFault.TheVariants.{TooLong, Syntax, Floor}
-use Rattle.fy_spelling.specs.declared.reading.Asked.{Asked}
-use Rattle.fy_spelling.specs.declared.reading.Asked.TheVariants.{Order, Other}
+use Rattle.fy_spelling.specs.declared.reading.UncheckedAct.{UncheckedAct}
+use Rattle.fy_spelling.specs.declared.reading.UncheckedAct.TheVariants.{Order, Other}
 use Rattle.fy_spelling.proofs.Again.{found_as, command-again, inverted-again}
 use Rattle.fy_spelling.proofs.Lines.{one_value}
 use Rattle.fy_spelling.proofs.Round.{found_once}
 
 -- who asked, and for what
-abbrev by_of : Option (ℕ × Asked) → ℕ
+abbrev by_of : Option (ℕ × UncheckedAct) → ℕ
 by_of (Some p) = p.0
 by_of None = 0
 
-abbrev asked_of : Asked → Option (ℕ × Asked) → Asked
+abbrev asked_of : UncheckedAct → Option (ℕ × UncheckedAct) → UncheckedAct
 asked_of other (Some p) = p.1
 asked_of other None = other
 
 -- what is found of a line that spells a command
-found : (line : List ℕ) (d : Data) (command : Command) (spells : Spells line command) →
+found : (line : List ℕ) (d : Data) (command : Command) (spells : ParsesAs line command) →
     d ≡ asking command.by (act_listing spells.kinds command.act) →
     command_from d ≡ Some (command.by, found_as command.act)
 found line d command spells is =
@@ -36,7 +36,7 @@ found line d command spells is =
     ∙ command-again command.by spells.kinds command.act spells.same spells.by spells.act
 
 -- a line spells one command
-spelled_once : (line : List ℕ) (a b : Command) → Spells line a → Spells line b → a ≡ b
+spelled_once : (line : List ℕ) (a b : Command) → ParsesAs line a → ParsesAs line b → a ≡ b
 spelled_once line a b first second =
     let value = one_value line _ _ first.json second.json in
     let here = found line _ a first refl in
@@ -51,11 +51,11 @@ ordered : (act : Act) (target : Target) (kind floor : Kind) (tear : ℕ) →
     found_as act ≡ Order target kind floor tear → rank floor ≤ rank kind
 ordered (Kill order) target kind floor tear is = ordered_as order.kind order.floor order.ordered kind floor is
   where
-    kind_of : Asked → Kind
+    kind_of : UncheckedAct → Kind
     kind_of (Order t k f n) = k
     kind_of (Other a) = order.kind
 
-    floor_of : Asked → Kind
+    floor_of : UncheckedAct → Kind
     floor_of (Order t k f n) = f
     floor_of (Other a) = order.floor
 
@@ -83,7 +83,7 @@ ordered (Replace team out into) target kind floor tear is = absurd (let no : ⊥
 ordered (Heal process) target kind floor tear is = absurd (let no : ⊥ = cc in no)
 
 -- a line that spells a command spells no floor above its kind
-not_inverted : (line : List ℕ) (command : Command) → Spells line command → SpellsInverted line → ⊥
+not_inverted : (line : List ℕ) (command : Command) → ParsesAs line command → ParsesAsInverted line → ⊥
 not_inverted line command first second =
     let value = one_value line _ _ second.json first.json in
     let here = found line _ command first value in

@@ -5,7 +5,7 @@ use Rattle.fy_kinds.specs.declared.verdict.Rule.{Rule}
 use Rattle.fy_kinds.specs.declared.verdict.Rule.TheVariants.{NoTarget, NoGrant, Protected, TooManyDestroyed, TooFewLeft}
 use Rattle.fy_spelling.specs.Fits.{FitsRule, FitsRefusal, FitsReply, FitsEntry}
 use Rattle.fy_spelling.specs.Values.{in_order, kinds_in, rule_data, struck_data, refusal_data, reply_data, entry_data}
-use Rattle.fy_spelling.specs.Candidate.{kind_from, IsMeant}
+use Rattle.fy_spelling.specs.Candidate.{kind_from, IsCheckedAct}
 use Rattle.fy_spelling.specs.Replied.{rule_from, refusal_from, reply_from, entry_from}
 use Rattle.fy_acts.specs.declared.act.Act.{Act}
 use Rattle.fy_acts.specs.declared.act.Act.TheVariants.{Kill, Clog, Unclog, Form, Begin, Deliver, Lose, Resend, Sync, Up, Tick, Give, Take, Protect, Unprotect, CopyTo, Replace, Heal}
@@ -92,33 +92,33 @@ entry-again e h =
 same_meant : (a m : Act) → ◌≡◌ {A = Result Act LineFault} (Ok m) (Ok a) → m ≡ a
 same_meant a m e = cc
 
-pub meant-again : (a m : Act) → IsMeant (found_as a) (Ok m) → m ≡ a
-meant-again (Kill o) m k =
+pub checked_act-again : (a m : Act) → IsCheckedAct (found_as a) (Ok m) → m ≡ a
+checked_act-again (Kill o) m k =
     k.is
     ∙ ap Kill (same_parts k.order o.target o.kind o.floor o.tear o.ordered k.target_is k.kind_is k.floor_is k.tear_is)
     ∙ ap Kill (sym (same_parts o o.target o.kind o.floor o.tear o.ordered refl refl refl refl))
-meant-again (Clog t n) m e = same_meant (Clog t n) m e
-meant-again (Unclog t) m e = same_meant (Unclog t) m e
-meant-again (Form ms n) m e = same_meant (Form ms n) m e
-meant-again (Begin n bs) m e = same_meant (Begin n bs) m e
-meant-again (Deliver n) m e = same_meant (Deliver n) m e
-meant-again (Lose n) m e = same_meant (Lose n) m e
-meant-again (Resend n p) m e = same_meant (Resend n p) m e
-meant-again (Sync p) m e = same_meant (Sync p) m e
-meant-again (Up p) m e = same_meant (Up p) m e
-meant-again (Tick n) m e = same_meant (Tick n) m e
-meant-again (Give g) m e = same_meant (Give g) m e
-meant-again (Take k n) m e = same_meant (Take k n) m e
-meant-again (Protect p set) m e = same_meant (Protect p set) m e
-meant-again (Unprotect p set) m e = same_meant (Unprotect p set) m e
-meant-again (CopyTo p n q) m e = same_meant (CopyTo p n q) m e
-meant-again (Replace n p q) m e = same_meant (Replace n p q) m e
-meant-again (Heal p) m e = same_meant (Heal p) m e
+checked_act-again (Clog t n) m e = same_meant (Clog t n) m e
+checked_act-again (Unclog t) m e = same_meant (Unclog t) m e
+checked_act-again (Form ms n) m e = same_meant (Form ms n) m e
+checked_act-again (Begin n bs) m e = same_meant (Begin n bs) m e
+checked_act-again (Deliver n) m e = same_meant (Deliver n) m e
+checked_act-again (Lose n) m e = same_meant (Lose n) m e
+checked_act-again (Resend n p) m e = same_meant (Resend n p) m e
+checked_act-again (Sync p) m e = same_meant (Sync p) m e
+checked_act-again (Up p) m e = same_meant (Up p) m e
+checked_act-again (Tick n) m e = same_meant (Tick n) m e
+checked_act-again (Give g) m e = same_meant (Give g) m e
+checked_act-again (Take k n) m e = same_meant (Take k n) m e
+checked_act-again (Protect p set) m e = same_meant (Protect p set) m e
+checked_act-again (Unprotect p set) m e = same_meant (Unprotect p set) m e
+checked_act-again (CopyTo p n q) m e = same_meant (CopyTo p n q) m e
+checked_act-again (Replace n p q) m e = same_meant (Replace n p q) m e
+checked_act-again (Heal p) m e = same_meant (Heal p) m e
 
 other_way : (a : Act) (f : LineFault) → ◌≡◌ {A = Result Act LineFault} (Err f) (Ok a) → ⊥
 other_way a f e = let no : ⊥ = cc in no
 
-pub none-above : (a : Act) (f : LineFault) → IsMeant (found_as a) (Err f) → ⊥
+pub none-above : (a : Act) (f : LineFault) → IsCheckedAct (found_as a) (Err f) → ⊥
 none-above (Kill o) f k = let below = o.ordered in let above = k.1 in omega arith
 none-above (Clog t n) f e = other_way (Clog t n) f e
 none-above (Unclog t) f e = other_way (Unclog t) f e

@@ -3,15 +3,15 @@ use Rattle.std.proofs.Common.{◌≡◌, ℕ, List, codes, Option, Some, None, r
 use Rattle.serde_json.specs.Data.{Data}
 use Rattle.serde_json.specs.Find.{get}
 use Rattle.serde_json.specs.Read.{read}
-use Rattle.fy_spelling.specs.Fits.{IsShort, FitsAct, FitsReply, FitsEntry}
+use Rattle.fy_spelling.specs.Fits.{IsU32, FitsAct, FitsReply, FitsEntry}
 use Rattle.fy_spelling.specs.Values.{whole, in_order, kinds_in, act_data, reply_data, entry_data, text_of}
 use Rattle.fy_spelling.specs.Command.{asking}
-use Rattle.fy_spelling.specs.Candidate.{short_from, command_from}
+use Rattle.fy_spelling.specs.Candidate.{u32_from, command_from}
 use Rattle.fy_spelling.specs.Replied.{reply_from}
 use Rattle.fy_acts.specs.declared.act.Act.{Act}
 use Rattle.fy_acts.specs.declared.act.Act.TheVariants.{Kill, Clog, Unclog, Form, Begin, Deliver, Lose, Resend, Sync, Up, Tick, Give, Take, Protect, Unprotect, CopyTo, Replace, Heal}
-use Rattle.fy_spelling.specs.declared.reading.Asked.{Asked}
-use Rattle.fy_spelling.specs.declared.reading.Asked.TheVariants.{Other}
+use Rattle.fy_spelling.specs.declared.reading.UncheckedAct.{UncheckedAct}
+use Rattle.fy_spelling.specs.declared.reading.UncheckedAct.TheVariants.{Other}
 use Rattle.fy_acts.specs.declared.reply.Reply.{Reply}
 use Rattle.fy_acts.specs.declared.entry.Entry.{Entry}
 use Rattle.fy_spelling.proofs.Again.{found_as, command-again, short-again}
@@ -86,11 +86,11 @@ found_once (Replace team out into) b e = other_once (Replace team out into) b e
 found_once (Heal process) b e = other_once (Heal process) b e
 
 -- what was found to be asked
-abbrev asked_of : Option (ℕ × Asked) → Asked
+abbrev asked_of : Option (ℕ × UncheckedAct) → UncheckedAct
 asked_of (Some p) = p.1
 asked_of None = Other (Heal (record { 0 = 0 }))
 
-some_once : (x y : Asked) (o : Option (ℕ × Asked)) → o ≡ Some (0, x) → o ≡ Some (0, y) → x ≡ y
+some_once : (x y : UncheckedAct) (o : Option (ℕ × UncheckedAct)) → o ≡ Some (0, x) → o ≡ Some (0, y) → x ≡ y
 some_once x y o e f = sym (ap asked_of e) ∙ ap asked_of f
 
 found : (a : Act) → FitsAct a → command_from (asking 0 (act_data a)) ≡ Some (0, found_as a)
@@ -121,13 +121,13 @@ at_key : (key : List ℕ) (a b : Entry) (d e : Data) → entry_data a ≡ entry_
 at_key key a b d e same at_a at_b =
     some_value d e (sym at_a ∙ ap (get key) same ∙ at_b)
 
-whole_once : (m n : ℕ) → IsShort m → IsShort n → whole m ≡ whole n → m ≡ n
+whole_once : (m n : ℕ) → IsU32 m → IsU32 n → whole m ≡ whole n → m ≡ n
 whole_once m n short_m short_n same =
-    let both : Some m ≡ Some n = sym (short-again m short_m) ∙ ap short_from same ∙ short-again n short_n in
+    let both : Some m ≡ Some n = sym (short-again m short_m) ∙ ap u32_from same ∙ short-again n short_n in
     cc
 
 -- entries of one value are equal where their replies are
-pub entry_once : (a b : Entry) → FitsAct a.act × IsShort a.at × IsShort a.by → FitsAct b.act × IsShort b.at × IsShort b.by
+pub entry_once : (a b : Entry) → FitsAct a.act × IsU32 a.at × IsU32 a.by → FitsAct b.act × IsU32 b.at × IsU32 b.by
     → (reply_data a.reply ≡ reply_data b.reply → a.reply ≡ b.reply) → entry_data a ≡ entry_data b → a ≡ b
 entry_once a b (act_a, at_a, by_a) (act_b, at_b, by_b) replied same =
     let acts = act_once a.act b.act act_a act_b (at_key (codes "act") a b (act_data a.act) (act_data b.act) same refl refl) in

@@ -27,7 +27,7 @@ use Rattle.fy_grants.specs.declared.grant.Scope.TheVariants.{All, Where}
 use Rattle.fy_spelling.specs.Fits.{IsByte, FitsTarget, FitsScope}
 use Rattle.fy_spelling.specs.Values.{whole, in_order, act_data, rule_data, reply_data, text_of}
 use Rattle.fy_spelling.specs.Plain.{command_text}
-use Rattle.fy_spelling.specs.Pieces.{target_text, order_text, clog_text, processes_text, deeds_text, form_text, begin_text, give_text, protection_text, act_text, asked_text, rule_text, verdict_text, ruled_text, no_text, marked_text, reply_text, entry_pieces, IsBare}
+use Rattle.fy_spelling.specs.Pieces.{target_text, order_text, clog_text, processes_text, deeds_text, form_text, begin_text, give_text, protection_text, act_text, asked_text, rule_text, verdict_text, ruled_text, refusal_text, marked_text, reply_text, entry_pieces, NeedsNoEscape}
 use Rattle.fy_acts.specs.declared.act.Act.{Act}
 use Rattle.fy_acts.specs.declared.act.Act.TheVariants.{Kill, Clog, Unclog, Form, Begin, Deliver, Lose, Resend, Sync, Up, Tick, Give, Take, Protect, Unprotect, CopyTo, Replace, Heal}
 use Rattle.fy_kinds.specs.declared.verdict.Rule.{Rule}
@@ -197,7 +197,7 @@ unprotect_same p kinds =
     list_shape (codes "{\"unprotect\":{\"kinds\":[") (deeds_text false (in_order kinds)) (codes ",\"process\":") (decimal p.0) ∙ rw (deeds_same false (in_order kinds)) refl
 
 -- the pieces of an act make its text
-pub act_same : (a : Act) → IsBare a → act_text a ≡ compact_text (act_data a)
+pub act_same : (a : Act) → NeedsNoEscape a → act_text a ≡ compact_text (act_data a)
 unfolding serde_json_on_literals
 act_same (Kill order) h = kill_same order h
 act_same (Clog target ticks) h = clog_same target ticks h
@@ -221,7 +221,7 @@ act_same (Replace team out into) h =
 act_same (Heal process) h = one_shape (codes "{\"heal\":{\"process\":") (decimal process.0)
 
 -- the pieces of a command make its text
-pub command_same : (command : Command) → IsBare command.act → asked_text command ≡ command_text command
+pub command_same : (command : Command) → NeedsNoEscape command.act → asked_text command ≡ command_text command
 unfolding command_text serde_json_on_literals
 command_same command h = rw (act_same command.act h) refl
 
@@ -267,7 +267,7 @@ both_shape h m b n = simp append_assoc
 number_shape : (h n : List ℕ) → h ++ (n ++ codes "]}}") ≡ h ++ (((n ++ codes "]") ++ codes "}") ++ codes "}")
 number_shape h n = simp append_assoc
 
-no_same : (r : Refusal) → no_text r ≡ closing (reply_data (No r))
+no_same : (r : Refusal) → refusal_text r ≡ closing (reply_data (No r))
 unfolding serde_json_on_literals
 no_same Stranger = refl
 no_same WrongRole = refl
@@ -322,7 +322,7 @@ entry_shape : (a p b r : List ℕ)
 entry_shape a p b r = simp append_assoc
 
 -- the pieces of an entry make its text
-pub entry_same : (entry : Entry) → IsBare entry.act → entry_pieces entry ≡ text_of entry
+pub entry_same : (entry : Entry) → NeedsNoEscape entry.act → entry_pieces entry ≡ text_of entry
 unfolding text_of serde_json_on_literals
 entry_same entry h =
     rw (act_same entry.act h, reply_same entry.reply)

@@ -1,9 +1,9 @@
 -- what a line in its plain spelling tells
 use Rattle.std.proofs.Common.{◌≡◌, ◌∙◌, ◌++◌, ℕ, List, false, append_assoc, refl, sym, subst, codes, decimal}
 use Rattle.fy_locality.specs.declared.ProcId.{ProcId}
-use Rattle.fy_spelling.specs.Fits.{IsShort, FitsAct, FitsReply}
-use Rattle.fy_spelling.specs.Pieces.{one_text, processes_text, form_text, asked_text, entry_pieces, IsBare}
-use Rattle.fy_spelling.specs.Command.{Spells}
+use Rattle.fy_spelling.specs.Fits.{IsU32, FitsAct, FitsReply}
+use Rattle.fy_spelling.specs.Pieces.{one_text, processes_text, form_text, asked_text, entry_pieces, NeedsNoEscape}
+use Rattle.fy_spelling.specs.Command.{ParsesAs}
 use Rattle.fy_spelling.specs.EntryLine.{IsTextOf}
 use Rattle.fy_spelling.specs.declared.command.Command.{Command}
 use Rattle.fy_acts.specs.declared.entry.Entry.{Entry}
@@ -13,7 +13,7 @@ use Rattle.fy_spelling.proofs.Plain.{plain_spells}
 use Rattle.fy_spelling.proofs.Same.{command_same, entry_same}
 
 -- nothing in an act that fits needs an escape
-bare : (a : Act) → FitsAct a → IsBare a
+bare : (a : Act) → FitsAct a → NeedsNoEscape a
 bare (Kill order) h = h.0
 bare (Clog target ticks) h = h.0
 bare (Unclog target) h = h
@@ -34,14 +34,14 @@ bare (Replace team out into) h = tt
 bare (Heal process) h = tt
 
 pub spelled_plainly :
-    (line : List ℕ) (command : Command) → IsShort command.by → FitsAct command.act
-    → line ≡ asked_text command → Spells line command
+    (line : List ℕ) (command : Command) → IsU32 command.by → FitsAct command.act
+    → line ≡ asked_text command → ParsesAs line command
 spelled_plainly line command by act is =
-    subst (λ text. Spells text command) (sym (is ∙ command_same command (bare command.act act)))
+    subst (λ text. ParsesAs text command) (sym (is ∙ command_same command (bare command.act act)))
     (plain_spells command by act)
 
 pub told_plainly :
-    (line : List ℕ) (entry : Entry) → IsShort entry.at → IsShort entry.by → FitsAct entry.act
+    (line : List ℕ) (entry : Entry) → IsU32 entry.at → IsU32 entry.by → FitsAct entry.act
     → FitsReply entry.reply → line ≡ entry_pieces entry → IsTextOf line entry
 told_plainly line entry at by act reply is = record {
   text = is ∙ entry_same entry (bare entry.act act);

@@ -5,7 +5,7 @@ use Rattle.std.proofs.lemmas.Bool.Decides.{nat_tests}
 use Rattle.serde_json.specs.Written.{comma_if}
 use Rattle.hex.specs.Hex.{lower_digits, encode_lower, encode_with}
 use Rattle.fy_locality.specs.declared.ProcId.{ProcId}
-use Rattle.fy_kinds.specs.Kinds.{Deed, Striking, Clogging, deed_text, has, those, only, with_all, place, all_kinds}
+use Rattle.fy_kinds.specs.Kinds.{Deed, Striking, Clogging, deed_text, has, those, only, in_either, place, all_kinds}
 use Rattle.fy_kinds.specs.Members.{Members}
 use Rattle.fy_kinds.specs.declared.kind.Kind.TheVariants.{RebootProcess, Reboot, RebootAndDelete, KillInstantly}
 use Rattle.fy_spelling.specs.Values.{in_order}
@@ -97,7 +97,7 @@ set_of p r d k c = record { reboot_process = p; reboot = r; reboot_and_delete = 
 
 -- a deed behind all deeds of a set stands last in the larger set
 abbrev StandsLast : Members → Deed → Type 0
-StandsLast kinds d = in_order (with_all kinds (only d)) ≡ in_order kinds ++ (d ∷ [])
+StandsLast kinds d = in_order (in_either kinds (only d)) ≡ in_order kinds ++ (d ∷ [])
 
 second : (p : Bool) → StandsLast (set_of p false false false false) (Striking Reboot)
 second p = search rules
@@ -128,7 +128,7 @@ other_place d e below = grind (arith, nat_tests)
 
 none_behind :
     (found : Members) (d : Deed) → HasNoneFrom (place d) found
-    → HasNoneFrom (place d + 1) (with_all found (only d))
+    → HasNoneFrom (place d + 1) (in_either found (only d))
 none_behind found d none e behind =
     has_those (λ x. has found x || has (only d) x) e
     ∙ rw (none e (omega arith), has_those (λ x. place x == place d) e) (other_place d e (omega arith))
@@ -147,7 +147,7 @@ read_deed :
     (line rest after : List ℕ) (found : Members) (d : Deed) (later : Bool)
     → HasRead line found later rest (place d)
     → rest ≡ comma_if later ++ (codes "\"" ++ (deed_text d ++ (codes "\"" ++ after)))
-    → HasRead line (with_all found (only d)) true after (place d + 1)
+    → HasRead line (in_either found (only d)) true after (place d + 1)
 read_deed line rest after found d later had is =
     record {
       text =
@@ -162,9 +162,9 @@ pub read_more :
     (line rest after : List ℕ) (found : Members) (d : Deed) (later : Bool) (i : ℕ) → place d ≡ i
     → HasRead line found later rest i
     → rest ≡ comma_if later ++ (codes "\"" ++ (deed_text d ++ (codes "\"" ++ after)))
-    → HasRead line (with_all found (only d)) true after (i + 1)
+    → HasRead line (in_either found (only d)) true after (i + 1)
 read_more line rest after found d later i here had is =
-    subst (λ n. HasRead line (with_all found (only d)) true after (n + 1)) here
+    subst (λ n. HasRead line (in_either found (only d)) true after (n + 1)) here
     (read_deed line rest after found d later
     (subst (λ n. HasRead line found later rest n) (sym here) had) is)
 

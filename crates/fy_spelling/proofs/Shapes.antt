@@ -25,9 +25,9 @@ use Rattle.fy_kinds.specs.declared.kind.Kind.TheVariants.{RebootProcess, Reboot,
 use Rattle.fy_kinds.specs.declared.order.Target.{Target}
 use Rattle.fy_grants.specs.declared.grant.Scope.{Scope}
 use Rattle.fy_grants.specs.declared.grant.Scope.TheVariants.{All, Where}
-use Rattle.fy_spelling.specs.Fits.{IsShort, IsLong, IsProcess, FitsTarget, FitsScope, FitsAct, FitsRule, FitsRefusal, FitsReply, FitsEntry}
-use Rattle.fy_spelling.specs.Held.{IsHeldRule, IsHeldReply, IsHeld}
-use Rattle.fy_spelling.specs.Tame.{IsTame, ItemsTame}
+use Rattle.fy_spelling.specs.Fits.{IsU32, IsU64, IsProcess, FitsTarget, FitsScope, FitsAct, FitsRule, FitsRefusal, FitsReply, FitsEntry}
+use Rattle.fy_spelling.specs.Representable.{IsRepresentableRule, IsRepresentableReply, IsRepresentable}
+use Rattle.fy_spelling.specs.RoundTrip.{RoundTrips, ItemsRoundTrip}
 use Rattle.fy_spelling.specs.Values.{whole, order_value, target_value, clog_value, scope_value, act_listing, act_data, in_order, kinds_in, rule_data, struck_data, refusal_data, reply_data, entry_data, text_of}
 use Rattle.fy_kinds.specs.declared.verdict.Rule.{Rule}
 use Rattle.fy_kinds.specs.declared.verdict.Rule.TheVariants.{NoTarget, NoGrant, Protected, TooManyDestroyed, TooFewLeft}
@@ -38,7 +38,7 @@ use Rattle.fy_acts.specs.declared.reply.Reply.TheVariants.{Verdict, Ruled, Forme
 use Rattle.fy_acts.specs.declared.entry.Entry.{Entry}
 use Rattle.fy_acts.specs.declared.act.Act.{Act}
 use Rattle.fy_acts.specs.declared.act.Act.TheVariants.{Kill, Clog, Unclog, Form, Begin, Deliver, Lose, Resend, Sync, Up, Tick, Give, Take, Protect, Unprotect, CopyTo, Replace, Heal}
-use Rattle.fy_spelling.proofs.Tame.{reads_back, utf8}
+use Rattle.fy_spelling.proofs.RoundTrip.{reads_back, utf8}
 
 -- ---- texts are UTF-8
 
@@ -81,36 +81,36 @@ utf8_key DataCenter = word _ refl
 
 -- ---- parts of acts are tame
 
-pub short : (n : ℕ) → IsShort n → IsLong n
+pub short : (n : ℕ) → IsU32 n → IsU64 n
 short n h = omega arith
 
 -- one member of an object, and two, and three, are tame where their values are
 
-tame_processes : (ps : List ProcId) → AllByRecursion IsProcess ps → ItemsTame (items_of (map (λ p. whole p.0) ps))
+tame_processes : (ps : List ProcId) → AllByRecursion IsProcess ps → ItemsRoundTrip (items_of (map (λ p. whole p.0) ps))
 tame_processes [] h = tt
 tame_processes (p ∷ ps) h = (short p.0 h.0, tame_processes ps h.1)
 
-tame_deeds : (ds : List Deed) → ItemsTame (items_of (map (λ d. string (deed_text d)) ds))
+tame_deeds : (ds : List Deed) → ItemsRoundTrip (items_of (map (λ d. string (deed_text d)) ds))
 tame_deeds [] = tt
 tame_deeds (d ∷ ds) = (utf8_deed d, tame_deeds ds)
 
-pub tame_order : (s : Target) (k f : Kind) (n : ℕ) → FitsTarget s → IsLong n → IsTame (order_value s k f n)
+pub tame_order : (s : Target) (k f : Kind) (n : ℕ) → FitsTarget s → IsU64 n → RoundTrips (order_value s k f n)
 tame_order s k f n fits long =
     (refl, (word _ refl, utf8_kind f, (word _ refl, utf8_key s.key, (word _ refl, utf8_kind k, (word _ refl, long, (word _ refl, utf8_name s.value fits, tt))))))
 
-tame_target : (s : Target) → FitsTarget s → IsTame (target_value s)
+tame_target : (s : Target) → FitsTarget s → RoundTrips (target_value s)
 tame_target s fits = (refl, (word _ refl, utf8_key s.key, (word _ refl, utf8_name s.value fits, tt)))
 
-tame_clog : (s : Target) (n : ℕ) → FitsTarget s → IsLong n → IsTame (clog_value s n)
+tame_clog : (s : Target) (n : ℕ) → FitsTarget s → IsU64 n → RoundTrips (clog_value s n)
 tame_clog s n fits long = (refl, (word _ refl, utf8_key s.key, (word _ refl, long, (word _ refl, utf8_name s.value fits, tt))))
 
-tame_scope : (s : Scope) → FitsScope s → IsTame (scope_value s)
+tame_scope : (s : Scope) → FitsScope s → RoundTrips (scope_value s)
 tame_scope All h = word _ refl
 tame_scope (Where target) h = tame_target target h
 
 -- ---- acts are tame, whatever kinds they list
 
-pub tame_listing : (kinds : List Deed) (a : Act) → FitsAct a → IsTame (act_listing kinds a)
+pub tame_listing : (kinds : List Deed) (a : Act) → FitsAct a → RoundTrips (act_listing kinds a)
 tame_listing kinds (Kill o) h = (refl, (word _ refl, tame_order o.target o.kind o.floor o.tear h.0 h.1, tt))
 tame_listing kinds (Clog s n) h = (refl, (word _ refl, tame_clog s n h.0 h.1, tt))
 tame_listing kinds (Unclog s) h = (refl, (word _ refl, tame_target s h, tt))
@@ -133,7 +133,7 @@ tame_listing kinds (Replace n p q) h =
     (refl, (word _ refl, (refl, (word _ refl, short q.0 h.2, (word _ refl, short p.0 h.1, (word _ refl, short n h.0, tt)))), tt))
 tame_listing kinds (Heal p) h = (refl, (word _ refl, (refl, (word _ refl, short p.0 h, tt)), tt))
 
-pub tame_act : (a : Act) → FitsAct a → IsTame (act_data a)
+pub tame_act : (a : Act) → FitsAct a → RoundTrips (act_data a)
 tame_act a h = tame_listing (in_order (kinds_in a)) a h
 
 -- ---- and they nest at most three deep
@@ -172,7 +172,7 @@ depth_listing kinds (Heal p) = omega arith
 
 -- ---- replies and entries are tame
 
-tame_rule : (r : Option Rule) → IsHeldRule r → IsTame (rule_data r)
+tame_rule : (r : Option Rule) → IsRepresentableRule r → RoundTrips (rule_data r)
 tame_rule None h = tt
 tame_rule (Some NoTarget) h = (word _ refl, tt)
 tame_rule (Some (NoGrant p)) h = (word _ refl, (short p.0 h, tt))
@@ -180,11 +180,11 @@ tame_rule (Some (Protected p)) h = (word _ refl, (short p.0 h, tt))
 tame_rule (Some (TooManyDestroyed i)) h = (word _ refl, (h, tt))
 tame_rule (Some (TooFewLeft i)) h = (word _ refl, (h, tt))
 
-tame_struck : (k : Option Kind) → IsTame (struck_data k)
+tame_struck : (k : Option Kind) → RoundTrips (struck_data k)
 tame_struck None = tt
 tame_struck (Some k) = utf8_kind k
 
-tame_refusal : (r : Refusal) → FitsRefusal r → IsTame (refusal_data r)
+tame_refusal : (r : Refusal) → FitsRefusal r → RoundTrips (refusal_data r)
 tame_refusal Stranger h = (word _ refl, tt)
 tame_refusal WrongRole h = (word _ refl, tt)
 tame_refusal TooMany h = (word _ refl, tt)
@@ -211,7 +211,7 @@ tame_refusal IsMember h = (word _ refl, tt)
 tame_refusal NotDestroyed h = (word _ refl, tt)
 tame_refusal (StillNeeds n) h = (word _ refl, (short n h, tt))
 
-pub tame_reply : (r : Reply) → IsHeldReply r → IsTame (reply_data r)
+pub tame_reply : (r : Reply) → IsRepresentableReply r → RoundTrips (reply_data r)
 tame_reply (Verdict v) h = (refl, (word _ refl, (refl, (word _ refl, tame_rule v.rule h, (word _ refl, tame_struck v.struck, tt))), tt))
 tame_reply (Ruled r) h = (refl, (word _ refl, tame_rule r h, tt))
 tame_reply (Formed n) h = (refl, (word _ refl, short n h, tt))
@@ -224,7 +224,7 @@ tame_reply (Time n) h = (refl, (word _ refl, h, tt))
 tame_reply Done h = word _ refl
 tame_reply (No r) h = (refl, (word _ refl, tame_refusal r h, tt))
 
-pub tame_entry : (e : Entry) → IsHeld e → IsTame (entry_data e)
+pub tame_entry : (e : Entry) → IsRepresentable e → RoundTrips (entry_data e)
 tame_entry e h = (refl, (word _ refl, tame_act e.act h.act, (word _ refl, short e.at h.at, (word _ refl, short e.by h.by, (word _ refl, tame_reply e.reply h.reply, tt)))))
 
 -- ---- and nest at most four deep
@@ -286,7 +286,7 @@ depth_entry e = omega (arith, depth_listing (in_order (kinds_in e.act)) e.act, d
 
 -- ---- what fits can be held
 
-held_rule : (r : Option Rule) → FitsRule r → IsHeldRule r
+held_rule : (r : Option Rule) → FitsRule r → IsRepresentableRule r
 held_rule None h = tt
 held_rule (Some NoTarget) h = tt
 held_rule (Some (NoGrant p)) h = h
@@ -294,7 +294,7 @@ held_rule (Some (Protected p)) h = h
 held_rule (Some (TooManyDestroyed i)) h = short i h
 held_rule (Some (TooFewLeft i)) h = short i h
 
-pub held_reply : (r : Reply) → FitsReply r → IsHeldReply r
+pub held_reply : (r : Reply) → FitsReply r → IsRepresentableReply r
 held_reply (Verdict v) h = held_rule v.rule h
 held_reply (Ruled r) h = held_rule r h
 held_reply (Formed n) h = h
@@ -307,18 +307,18 @@ held_reply (Time n) h = h
 held_reply Done h = h
 held_reply (No r) h = h
 
-pub held_entry : (e : Entry) → FitsEntry e → IsHeld e
+pub held_entry : (e : Entry) → FitsEntry e → IsRepresentable e
 held_entry e h = record { act = h.act; at = h.at; by = h.by; reply = held_reply e.reply h.reply }
 
 -- ---- the text of an entry reads as its value, and is UTF-8
 
-pub read_held_text : (e : Entry) → IsHeld e → read (text_of e) ≡ Some (entry_data e)
+pub read_held_text : (e : Entry) → IsRepresentable e → read (text_of e) ≡ Some (entry_data e)
 unfolding text_of
 read_held_text e h = reads_back (entry_data e) (tame_entry e h) (depth_entry e)
 
 pub read_text_of : (e : Entry) → FitsEntry e → read (text_of e) ≡ Some (entry_data e)
 read_text_of e h = read_held_text e (held_entry e h)
 
-pub utf8_text_of : (e : Entry) → IsHeld e → IsUtf8 (text_of e)
+pub utf8_text_of : (e : Entry) → IsRepresentable e → IsUtf8 (text_of e)
 unfolding text_of
 utf8_text_of e h = utf8 (entry_data e) (tame_entry e h)

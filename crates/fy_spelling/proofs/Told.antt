@@ -24,9 +24,9 @@ use Rattle.fy_grants.specs.declared.grant.Scope.TheVariants.{All, Where}
 use Rattle.fy_team.specs.Members.{are_members}
 use Rattle.fy_locality.specs.Chain.{◌>>=◌}
 use Rattle.fy_locality.specs.Key.{all_keys}
-use Rattle.fy_spelling.specs.Candidate.{next_at, first_of, at_end, sole, one, two, three, five, long_from, short_from, process_from, processes_from, members_from, kind_from, key_from, name_from, target_from, deed_from, deeds_from, kinds_from, given, payload_from, target_in, scope_by, scope_from}
+use Rattle.fy_spelling.specs.Candidate.{next_at, first_of, at_end, sole, one, two, three, five, u64_from, u32_from, process_from, processes_from, members_from, kind_from, key_from, name_from, target_from, deed_from, deeds_from, kinds_from, given, payload_from, target_in, scope_by, scope_from}
 use Rattle.fy_spelling.specs.Command.{gathered}
-use Rattle.fy_spelling.specs.Fits.{IsShort, IsLong, IsByte, IsProcess, FitsTarget, FitsScope, FitsMembers}
+use Rattle.fy_spelling.specs.Fits.{IsU32, IsU64, IsByte, IsProcess, FitsTarget, FitsScope, FitsMembers}
 use Rattle.fy_spelling.specs.Values.{with_fields, under, whole, processes_value, deeds_value, target_value, scope_value}
 
 -- ---- steps
@@ -159,22 +159,22 @@ told_u64 (number m) (float x) n e f = absurd (let no : ⊥ = cc in no)
 small : (n bound : ℕ) → ltb n bound ≡ true → n < bound
 small n bound e = grind (arith, nat_tests)
 
-pub told_long : (d : Data) (n : ℕ) → long_from d ≡ Some n → (d ≡ whole n) × IsLong n
+pub told_long : (d : Data) (n : ℕ) → u64_from d ≡ Some n → (d ≡ whole n) × IsU64 n
 told_long d n e =
     let a = came (as_number d) _ n e in
     let b = came (as_u64 a.x) _ n a.then in
     let c = passed (nat_lt b.x (2 ^ 64)) b.x n b.then in
-    (told_u64 d a.x b.x a.is b.is ∙ ap whole c.1, subst IsLong c.1 (small b.x (2 ^ 64) c.0))
+    (told_u64 d a.x b.x a.is b.is ∙ ap whole c.1, subst IsU64 c.1 (small b.x (2 ^ 64) c.0))
 
-pub told_short : (d : Data) (n : ℕ) → short_from d ≡ Some n → (d ≡ whole n) × IsShort n
+pub told_short : (d : Data) (n : ℕ) → u32_from d ≡ Some n → (d ≡ whole n) × IsU32 n
 told_short d n e =
-    let a = came (long_from d) _ n e in
+    let a = came (u64_from d) _ n e in
     let c = passed (nat_lt a.x (2 ^ 32)) a.x n a.then in
-    ((told_long d a.x a.is).0 ∙ ap whole c.1, subst IsShort c.1 (small a.x (2 ^ 32) c.0))
+    ((told_long d a.x a.is).0 ∙ ap whole c.1, subst IsU32 c.1 (small a.x (2 ^ 32) c.0))
 
 pub told_process : (d : Data) (p : ProcId) → process_from d ≡ Some p → (d ≡ whole p.0) × IsProcess p
 told_process d p e =
-    let a = mapped _ (short_from d) p e in
+    let a = mapped _ (u32_from d) p e in
     let n = told_short d a.x a.is in
     let same = same_some _ p a.then in
     (n.0 ∙ ap (λ (q : ProcId). whole q.0) same, subst IsProcess same n.1)

@@ -22,8 +22,8 @@ use Rattle.fy_acts.specs.declared.act.Act.{Act}
 use Rattle.fy_acts.specs.declared.act.Act.TheVariants as act
 use Rattle.fy_spelling.specs.declared.command.LineFault.{LineFault}
 use Rattle.fy_spelling.specs.declared.command.LineFault.TheVariants.{Floor}
-use Rattle.fy_spelling.specs.declared.reading.Asked.{Asked}
-use Rattle.fy_spelling.specs.declared.reading.Asked.TheVariants.{Order, Other}
+use Rattle.fy_spelling.specs.declared.reading.UncheckedAct.{UncheckedAct}
+use Rattle.fy_spelling.specs.declared.reading.UncheckedAct.TheVariants.{Order, Other}
 
 -- ---- members of objects
 
@@ -93,19 +93,19 @@ abbrev pub below : ℕ → ℕ → Option ℕ
 below bound n = if nat_lt n bound then Some n else None
 
 -- a number of 64 bits
-abbrev pub long_from : Data → Option ℕ
-long_from d = do
+abbrev pub u64_from : Data → Option ℕ
+u64_from d = do
   number ← as_number d
   n ← as_u64 number
   below (2 ^ 64) n
 
 -- a number of 32 bits
-abbrev pub short_from : Data → Option ℕ
-short_from d = long_from d >>= below (2 ^ 32)
+abbrev pub u32_from : Data → Option ℕ
+u32_from d = u64_from d >>= below (2 ^ 32)
 
 -- the number of a process
 abbrev pub process_from : Data → Option ProcId
-process_from d = option_map (λ n. record { 0 = n }) (short_from d)
+process_from d = option_map (λ n. record { 0 = n }) (u32_from d)
 
 -- the numbers of processes
 abbrev pub processes_from : Items → Option (List ProcId)
@@ -167,28 +167,28 @@ payload_from d = do
 -- ---- what acts hold
 
 -- a number of 64 bits at the one key
-abbrev pub long_in : List ℕ → Data → Option ℕ
-long_in key d = one key d >>= long_from
+abbrev pub u64_in : List ℕ → Data → Option ℕ
+u64_in key d = one key d >>= u64_from
 
 -- a process at the key of one
 abbrev pub process_in : Data → Option ProcId
 process_in d = one (codes "process") d >>= process_from
 
 -- two numbers of 32 bits at these keys
-abbrev pub shorts_in : List ℕ → List ℕ → Data → Option (ℕ × ℕ)
-shorts_in first second d = do
+abbrev pub two_u32_in : List ℕ → List ℕ → Data → Option (ℕ × ℕ)
+two_u32_in first second d = do
   values ← two first second d
-  a ← short_from values.0
-  b ← short_from values.1
+  a ← u32_from values.0
+  b ← u32_from values.1
   Some (a, b)
 
 -- three numbers of 32 bits at these keys
-abbrev pub three_shorts_in : List ℕ → List ℕ → List ℕ → Data → Option (ℕ × ℕ × ℕ)
-three_shorts_in first second third d = do
+abbrev pub three_u32_in : List ℕ → List ℕ → List ℕ → Data → Option (ℕ × ℕ × ℕ)
+three_u32_in first second third d = do
   values ← three first second third d
-  a ← short_from values.0
-  b ← short_from values.1
-  c ← short_from values.2
+  a ← u32_from values.0
+  b ← u32_from values.1
+  c ← u32_from values.2
   Some (a, b, c)
 
 -- the target of an object of a key and a value
@@ -202,7 +202,7 @@ abbrev pub clog_in : Data → Option (Target × ℕ)
 clog_in d = do
   values ← three (codes "key") (codes "ticks") (codes "value") d
   target ← target_from values.0 values.2
-  ticks ← long_from values.1
+  ticks ← u64_from values.1
   Some (target, ticks)
 
 -- every process by a word, or those of a target
@@ -216,20 +216,20 @@ scope_from d = scope_by (as_str d) d
 -- ---- acts
 
 -- an order, whether or not its floor is above its kind
-abbrev pub order_in : Data → Option Asked
+abbrev pub order_in : Data → Option UncheckedAct
 order_in d = do
   values ← five (codes "floor") (codes "key") (codes "kind") (codes "tear") (codes "value") d
   floor ← kind_from values.0
   target ← target_from values.1 values.4
   kind ← kind_from values.2
-  tear ← long_from values.3
+  tear ← u64_from values.3
   Some (Order target kind floor tear)
 
 -- the form of a team
 abbrev pub form_in : Data → Option Act
 form_in d = do
   values ← two (codes "members") (codes "policy") d
-  policy ← short_from values.1
+  policy ← u32_from values.1
   members ← members_from values.0
   Some (act.Form members policy)
 
@@ -237,7 +237,7 @@ form_in d = do
 abbrev pub begin_in : Data → Option Act
 begin_in d = do
   values ← two (codes "payload") (codes "team") d
-  team ← short_from values.1
+  team ← u32_from values.1
   payload ← payload_from values.0
   Some (act.Begin team payload)
 
@@ -245,7 +245,7 @@ begin_in d = do
 abbrev pub give_in : Data → Option Act
 give_in d = do
   values ← three (codes "actor") (codes "kinds") (codes "scope") d
-  actor ← short_from values.0
+  actor ← u32_from values.0
   kinds ← kinds_from values.1
   scope ← scope_from values.2
   Some (act.Give (record { actor = actor; kinds = kinds; scope = scope }))
@@ -263,15 +263,15 @@ abbrev pub resend_in : Data → Option Act
 resend_in d = do
   values ← two (codes "process") (codes "record") d
   process ← process_from values.0
-  rec ← short_from values.1
+  rec ← u32_from values.1
   Some (act.Resend rec process)
 
 -- a grant's place
 abbrev pub take_in : Data → Option Act
 take_in d = do
   values ← two (codes "actor") (codes "index") d
-  actor ← short_from values.0
-  index ← short_from values.1
+  actor ← u32_from values.0
+  index ← u32_from values.1
   Some (act.Take actor index)
 
 -- a copy of a record
@@ -279,7 +279,7 @@ abbrev pub copy_in : Data → Option Act
 copy_in d = do
   values ← three (codes "from") (codes "record") (codes "to") d
   from ← process_from values.0
-  rec ← short_from values.1
+  rec ← u32_from values.1
   to ← process_from values.2
   Some (act.CopyTo from rec to)
 
@@ -289,65 +289,65 @@ replace_in d = do
   values ← three (codes "into") (codes "out") (codes "team") d
   into ← process_from values.0
   out ← process_from values.1
-  team ← short_from values.2
+  team ← u32_from values.2
   Some (act.Replace team out into)
 
 -- an act of a target or of ticks, by its name
-abbrev pub aimed_by : List ℕ → Data → Option Act
-aimed_by name d =
+abbrev pub clog_or_tick_from : List ℕ → Data → Option Act
+clog_or_tick_from name d =
     if bytes_eq name (codes "clog") then option_map (λ c. act.Clog c.0 c.1) (clog_in d)
     else if bytes_eq name (codes "unclog") then option_map act.Unclog (target_in d)
-    else if bytes_eq name (codes "tick") then option_map act.Tick (long_in (codes "ticks") d)
+    else if bytes_eq name (codes "tick") then option_map act.Tick (u64_in (codes "ticks") d)
     else None
 
 -- an act of a process or a message, by its name
-abbrev pub moved_by : List ℕ → Data → Option Act
-moved_by name d =
-    if bytes_eq name (codes "deliver") then option_map act.Deliver (long_in (codes "message") d)
-    else if bytes_eq name (codes "lose") then option_map act.Lose (long_in (codes "message") d)
+abbrev pub message_act_from : List ℕ → Data → Option Act
+message_act_from name d =
+    if bytes_eq name (codes "deliver") then option_map act.Deliver (u64_in (codes "message") d)
+    else if bytes_eq name (codes "lose") then option_map act.Lose (u64_in (codes "message") d)
     else if bytes_eq name (codes "resend") then resend_in d
     else if bytes_eq name (codes "sync") then option_map act.Sync (process_in d)
     else if bytes_eq name (codes "up") then option_map act.Up (process_in d)
-    else aimed_by name d
+    else clog_or_tick_from name d
 
 -- an act of rights, by its name
-abbrev pub righted_by : List ℕ → Data → Option Act
-righted_by name d =
+abbrev pub rights_act_from : List ℕ → Data → Option Act
+rights_act_from name d =
     if bytes_eq name (codes "give") then give_in d
     else if bytes_eq name (codes "take") then take_in d
     else if bytes_eq name (codes "protect") then
     option_map (λ p. act.Protect p.0 p.1) (protection_in d)
     else if bytes_eq name (codes "unprotect") then
     option_map (λ p. act.Unprotect p.0 p.1) (protection_in d)
-    else moved_by name d
+    else message_act_from name d
 
 -- an act of healing, by its name
-abbrev pub healed_by : List ℕ → Data → Option Act
-healed_by name d =
+abbrev pub healing_act_from : List ℕ → Data → Option Act
+healing_act_from name d =
     if bytes_eq name (codes "copy") then copy_in d
     else if bytes_eq name (codes "replace") then replace_in d
     else if bytes_eq name (codes "heal") then option_map act.Heal (process_in d)
-    else righted_by name d
+    else rights_act_from name d
 
 -- any act, by its name
-abbrev pub asked_by : List ℕ → Data → Option Asked
-asked_by name d =
+abbrev pub named_act_from : List ℕ → Data → Option UncheckedAct
+named_act_from name d =
     if bytes_eq name (codes "kill") then order_in d
     else if bytes_eq name (codes "form") then option_map Other (form_in d)
     else if bytes_eq name (codes "begin") then option_map Other (begin_in d)
-    else option_map Other (healed_by name d)
+    else option_map Other (healing_act_from name d)
 
 -- what an act's value asks for
-abbrev pub act_from : Data → Option Asked
+abbrev pub act_from : Data → Option UncheckedAct
 act_from d = do
   named ← sole d
-  asked_by named.0 named.1
+  named_act_from named.0 named.1
 
 -- who asks for which act
-abbrev pub command_from : Data → Option (ℕ × Asked)
+abbrev pub command_from : Data → Option (ℕ × UncheckedAct)
 command_from d = do
   values ← two (codes "act") (codes "by") d
-  by ← short_from values.1
+  by ← u32_from values.1
   asked ← act_from values.0
   Some (by, asked)
 
@@ -361,7 +361,7 @@ pub record IsKill (kill : Act) (target : Target) (kind floor : Kind) (tear : ℕ
   pub tear_is : order.tear ≡ tear
 
 -- the act that is asked for, or the fault of a floor above its kind
-abbrev pub IsMeant : Asked → Result Act LineFault → Type 0
-IsMeant (Order target kind floor tear) (Ok kill) = IsKill kill target kind floor tear
-IsMeant (Order target kind floor tear) (Err fault) = (fault ≡ Floor) × (rank kind < rank floor)
-IsMeant (Other asked) meant = meant ≡ Ok asked
+abbrev pub IsCheckedAct : UncheckedAct → Result Act LineFault → Type 0
+IsCheckedAct (Order target kind floor tear) (Ok kill) = IsKill kill target kind floor tear
+IsCheckedAct (Order target kind floor tear) (Err fault) = (fault ≡ Floor) × (rank kind < rank floor)
+IsCheckedAct (Other asked) checked_act = checked_act ≡ Ok asked

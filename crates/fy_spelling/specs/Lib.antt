@@ -4,10 +4,10 @@ pub mod Command
 pub mod Candidate
 pub mod Replied
 pub mod EntryLine
-pub mod Held
+pub mod Representable
 pub mod OneText
 pub mod Plain
 pub mod Pieces
-pub mod Puts
-pub mod Tame
+pub mod AppendsOrOom
+pub mod RoundTrip
 pub mod Rows

@@ -132,25 +132,25 @@ act_text (Replace team out into) =
 act_text (Heal process) = one_text (codes "{\"heal\":{\"process\":") process.0
 
 -- nothing in the act needs an escape: its names are names, and its payload is bytes
-abbrev pub IsBare : Act → Type 0
-IsBare (Kill order) = FitsTarget order.target
-IsBare (Clog target ticks) = FitsTarget target
-IsBare (Unclog target) = FitsTarget target
-IsBare (Form members policy) = ⊤
-IsBare (Begin team payload) = AllByRecursion IsByte payload
-IsBare (Deliver message) = ⊤
-IsBare (Lose message) = ⊤
-IsBare (Resend rec process) = ⊤
-IsBare (Sync process) = ⊤
-IsBare (Up process) = ⊤
-IsBare (Tick ticks) = ⊤
-IsBare (Give grant) = FitsScope grant.scope
-IsBare (Take actor index) = ⊤
-IsBare (Protect process kinds) = ⊤
-IsBare (Unprotect process kinds) = ⊤
-IsBare (CopyTo from rec to) = ⊤
-IsBare (Replace team out into) = ⊤
-IsBare (Heal process) = ⊤
+abbrev pub NeedsNoEscape : Act → Type 0
+NeedsNoEscape (Kill order) = FitsTarget order.target
+NeedsNoEscape (Clog target ticks) = FitsTarget target
+NeedsNoEscape (Unclog target) = FitsTarget target
+NeedsNoEscape (Form members policy) = ⊤
+NeedsNoEscape (Begin team payload) = AllByRecursion IsByte payload
+NeedsNoEscape (Deliver message) = ⊤
+NeedsNoEscape (Lose message) = ⊤
+NeedsNoEscape (Resend rec process) = ⊤
+NeedsNoEscape (Sync process) = ⊤
+NeedsNoEscape (Up process) = ⊤
+NeedsNoEscape (Tick ticks) = ⊤
+NeedsNoEscape (Give grant) = FitsScope grant.scope
+NeedsNoEscape (Take actor index) = ⊤
+NeedsNoEscape (Protect process kinds) = ⊤
+NeedsNoEscape (Unprotect process kinds) = ⊤
+NeedsNoEscape (CopyTo from rec to) = ⊤
+NeedsNoEscape (Replace team out into) = ⊤
+NeedsNoEscape (Heal process) = ⊤
 
 -- a command, who asks first
 abbrev pub asked_text : Command → List ℕ
@@ -161,17 +161,17 @@ asked_text command =
 -- ---- replies, each as the last member of an entry, up to the entry's end
 
 -- a number between two texts
-abbrev pub last_text : List ℕ → ℕ → List ℕ → List ℕ
-last_text head n tail = head ++ (decimal n ++ tail)
+abbrev pub between_text : List ℕ → ℕ → List ℕ → List ℕ
+between_text head n tail = head ++ (decimal n ++ tail)
 
 abbrev pub rule_text : Option Rule → List ℕ
 rule_text None = codes "null"
 rule_text (Some NoTarget) = codes "[\"NoTarget\"]"
-rule_text (Some (NoGrant process)) = last_text (codes "[\"NoGrant\",") process.0 (codes "]")
-rule_text (Some (Protected process)) = last_text (codes "[\"Protected\",") process.0 (codes "]")
+rule_text (Some (NoGrant process)) = between_text (codes "[\"NoGrant\",") process.0 (codes "]")
+rule_text (Some (Protected process)) = between_text (codes "[\"Protected\",") process.0 (codes "]")
 rule_text (Some (TooManyDestroyed policy)) =
-    last_text (codes "[\"TooManyDestroyed\",") policy (codes "]")
-rule_text (Some (TooFewLeft policy)) = last_text (codes "[\"TooFewLeft\",") policy (codes "]")
+    between_text (codes "[\"TooManyDestroyed\",") policy (codes "]")
+rule_text (Some (TooFewLeft policy)) = between_text (codes "[\"TooFewLeft\",") policy (codes "]")
 
 abbrev pub struck_text : Option Kind → List ℕ
 struck_text None = codes ",\"struck\":null}}}"
@@ -188,41 +188,50 @@ ruled_text rule = codes ",\"reply\":{\"ruled\":" ++ (rule_text rule ++ codes "}}
 abbrev pub begun_text : ℕ → ℕ → List ℕ
 begun_text rec first =
     codes ",\"reply\":{\"begun\":{\"first\":" ++ (decimal first
-    ++ last_text (codes ",\"record\":") rec (codes "}}}"))
+    ++ between_text (codes ",\"record\":") rec (codes "}}}"))
 
 abbrev pub synced_text : ℕ → ℕ → List ℕ
 synced_text first count =
     codes ",\"reply\":{\"synced\":{\"count\":" ++ (decimal count
-    ++ last_text (codes ",\"first\":") first (codes "}}}"))
+    ++ between_text (codes ",\"first\":") first (codes "}}}"))
 
-abbrev pub no_text : Refusal → List ℕ
-no_text Stranger = codes ",\"reply\":{\"no\":[\"Stranger\"]}}"
-no_text WrongRole = codes ",\"reply\":{\"no\":[\"WrongRole\"]}}"
-no_text TooMany = codes ",\"reply\":{\"no\":[\"TooMany\"]}}"
-no_text NoPolicy = codes ",\"reply\":{\"no\":[\"NoPolicy\"]}}"
-no_text NoProcess = codes ",\"reply\":{\"no\":[\"NoProcess\"]}}"
-no_text Gone = codes ",\"reply\":{\"no\":[\"Gone\"]}}"
-no_text (TeamShort policy) =
-    last_text (codes ",\"reply\":{\"no\":[\"TeamShort\",") policy (codes "]}}")
-no_text NoTeam = codes ",\"reply\":{\"no\":[\"NoTeam\"]}}"
-no_text Payload = codes ",\"reply\":{\"no\":[\"Payload\"]}}"
-no_text NetFull = codes ",\"reply\":{\"no\":[\"NetFull\"]}}"
-no_text NoMessage = codes ",\"reply\":{\"no\":[\"NoMessage\"]}}"
-no_text Clogged = codes ",\"reply\":{\"no\":[\"Clogged\"]}}"
-no_text NotUp = codes ",\"reply\":{\"no\":[\"NotUp\"]}}"
-no_text NoRecord = codes ",\"reply\":{\"no\":[\"NoRecord\"]}}"
-no_text NotMember = codes ",\"reply\":{\"no\":[\"NotMember\"]}}"
-no_text Acked = codes ",\"reply\":{\"no\":[\"Acked\"]}}"
-no_text IsUp = codes ",\"reply\":{\"no\":[\"IsUp\"]}}"
-no_text ClockEnd = codes ",\"reply\":{\"no\":[\"ClockEnd\"]}}"
-no_text NoActor = codes ",\"reply\":{\"no\":[\"NoActor\"]}}"
-no_text Full = codes ",\"reply\":{\"no\":[\"Full\"]}}"
-no_text NoSuch = codes ",\"reply\":{\"no\":[\"NoSuch\"]}}"
-no_text NoCopy = codes ",\"reply\":{\"no\":[\"NoCopy\"]}}"
-no_text IsMember = codes ",\"reply\":{\"no\":[\"IsMember\"]}}"
-no_text NotDestroyed = codes ",\"reply\":{\"no\":[\"NotDestroyed\"]}}"
-no_text (StillNeeds rec) =
-    last_text (codes ",\"reply\":{\"no\":[\"StillNeeds\",") rec (codes "]}}")
+-- the word that a refusal is told by
+abbrev pub refusal_word : Refusal → List ℕ
+refusal_word Stranger = codes "Stranger"
+refusal_word WrongRole = codes "WrongRole"
+refusal_word TooMany = codes "TooMany"
+refusal_word NoPolicy = codes "NoPolicy"
+refusal_word NoProcess = codes "NoProcess"
+refusal_word Gone = codes "Gone"
+refusal_word (TeamShort policy) = codes "TeamShort"
+refusal_word NoTeam = codes "NoTeam"
+refusal_word Payload = codes "Payload"
+refusal_word NetFull = codes "NetFull"
+refusal_word NoMessage = codes "NoMessage"
+refusal_word Clogged = codes "Clogged"
+refusal_word NotUp = codes "NotUp"
+refusal_word NoRecord = codes "NoRecord"
+refusal_word NotMember = codes "NotMember"
+refusal_word Acked = codes "Acked"
+refusal_word IsUp = codes "IsUp"
+refusal_word ClockEnd = codes "ClockEnd"
+refusal_word NoActor = codes "NoActor"
+refusal_word Full = codes "Full"
+refusal_word NoSuch = codes "NoSuch"
+refusal_word NoCopy = codes "NoCopy"
+refusal_word IsMember = codes "IsMember"
+refusal_word NotDestroyed = codes "NotDestroyed"
+refusal_word (StillNeeds rec) = codes "StillNeeds"
+
+-- what stands behind that word: its number, if it has one, and the end of the entry
+abbrev pub refusal_end : Refusal → List ℕ
+refusal_end (TeamShort policy) = between_text (codes "\",") policy (codes "]}}")
+refusal_end (StillNeeds rec) = between_text (codes "\",") rec (codes "]}}")
+refusal_end _ = codes "\"]}}"
+
+abbrev pub refusal_text : Refusal → List ℕ
+refusal_text refusal =
+    codes ",\"reply\":{\"no\":[\"" ++ (refusal_word refusal ++ refusal_end refusal)
 
 abbrev pub marked_text : Bool → List ℕ
 marked_text true = codes ",\"reply\":{\"marked\":true}}"
@@ -239,7 +248,7 @@ reply_text (Sent message) = one_text (codes ",\"reply\":{\"sent\":") message
 reply_text (Synced first count) = synced_text first count
 reply_text (Time now) = one_text (codes ",\"reply\":{\"time\":") now
 reply_text Done = codes ",\"reply\":\"done\"}"
-reply_text (No refusal) = no_text refusal
+reply_text (No refusal) = refusal_text refusal
 
 -- ---- entries
 

@@ -2,8 +2,8 @@
 use Rattle.std.specs.Prelude.{ℕ, List, [], ◌∷◌, codes}
 use Rattle.serde_json.specs.Data.{Data}
 use Rattle.serde_json.specs.Written.{compact_text}
-use Rattle.fy_spelling.specs.Fits.{IsShort, FitsAct}
-use Rattle.fy_spelling.specs.Command.{Spells}
+use Rattle.fy_spelling.specs.Fits.{IsU32, FitsAct}
+use Rattle.fy_spelling.specs.Command.{ParsesAs}
 use Rattle.fy_spelling.specs.Values.{whole, with_fields, act_data}
 use Rattle.fy_spelling.specs.declared.command.Command.{Command}
 
@@ -17,7 +17,7 @@ unfoldable pub command_text : Command → List ℕ
 command_text command = compact_text (command_data command)
 
 -- the plain text of a command is a line that asks for it
-abbrev pub PlainTextSpells : Type 0
-PlainTextSpells =
-    (command : Command) → IsShort command.by → FitsAct command.act
-    → Spells (command_text command) command
+abbrev pub PlainTextParses : Type 0
+PlainTextParses =
+    (command : Command) → IsU32 command.by → FitsAct command.act
+    → ParsesAs (command_text command) command

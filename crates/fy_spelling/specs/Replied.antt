@@ -8,8 +8,8 @@ use Rattle.fy_kinds.specs.declared.verdict.Rule.{Rule}
 use Rattle.fy_kinds.specs.declared.verdict.Rule.TheVariants as rule
 use Rattle.fy_kinds.specs.declared.verdict.Verdict.{Verdict}
 use Rattle.fy_locality.specs.Chain.{◌>>=◌}
-use Rattle.fy_spelling.specs.Candidate.{next_at, at_end, sole, two, long_from, short_from, process_from, kind_from, act_from}
-use Rattle.fy_spelling.specs.declared.reading.Asked.{Asked}
+use Rattle.fy_spelling.specs.Candidate.{next_at, at_end, sole, two, u64_from, u32_from, process_from, kind_from, act_from}
+use Rattle.fy_spelling.specs.declared.reading.UncheckedAct.{UncheckedAct}
 use Rattle.fy_acts.specs.declared.reply.Refusal.{Refusal}
 use Rattle.fy_acts.specs.declared.reply.Refusal.TheVariants.{Stranger, WrongRole, TooMany, NoPolicy, NoProcess, Gone, TeamShort, NoTeam, Payload, NetFull, NoMessage, Clogged, NotUp, NoRecord, NotMember, Acked, IsUp, ClockEnd, NoActor, Full, NoSuch, NoCopy, IsMember, NotDestroyed, StillNeeds}
 use Rattle.fy_acts.specs.declared.reply.Reply.{Reply}
@@ -20,7 +20,7 @@ abbrev pub first_word : Data → Option (List ℕ)
 first_word d = at 0 d >>= as_str
 
 abbrev pub second_number : Data → Option ℕ
-second_number d = at 1 d >>= short_from
+second_number d = at 1 d >>= u32_from
 
 abbrev pub second_process : Data → Option ProcId
 second_process d = at 1 d >>= process_from
@@ -102,25 +102,25 @@ verdict_from d = do
 abbrev pub begun_from : Data → Option Reply
 begun_from d = do
   values ← two (codes "first") (codes "record") d
-  first ← long_from values.0
-  rec ← short_from values.1
+  first ← u64_from values.0
+  rec ← u32_from values.1
   Some (reply.Begun rec first)
 
 abbrev pub synced_from : Data → Option Reply
 synced_from d = do
   values ← two (codes "count") (codes "first") d
-  count ← short_from values.0
-  first ← long_from values.1
+  count ← u32_from values.0
+  first ← u64_from values.1
   Some (reply.Synced first count)
 
 -- a reply of numbers, by its name
 abbrev pub numbers_by : List ℕ → Data → Option Reply
 numbers_by name d =
-    if bytes_eq name (codes "formed") then option_map reply.Formed (short_from d)
+    if bytes_eq name (codes "formed") then option_map reply.Formed (u32_from d)
     else if bytes_eq name (codes "begun") then begun_from d
-    else if bytes_eq name (codes "sent") then option_map reply.Sent (long_from d)
+    else if bytes_eq name (codes "sent") then option_map reply.Sent (u64_from d)
     else if bytes_eq name (codes "synced") then synced_from d
-    else if bytes_eq name (codes "time") then option_map reply.Time (long_from d)
+    else if bytes_eq name (codes "time") then option_map reply.Time (u64_from d)
     else None
 
 -- any reply of an object, by its name
@@ -157,11 +157,11 @@ four first second third fourth d = do
   at_end e.1 (a.0, b.0, c.0, e.0)
 
 -- what was asked, where it stands, who asked, and the reply
-abbrev pub entry_from : Data → Option (Asked × ℕ × ℕ × Reply)
+abbrev pub entry_from : Data → Option (UncheckedAct × ℕ × ℕ × Reply)
 entry_from d = do
   values ← four (codes "act") (codes "at") (codes "by") (codes "reply") d
-  place ← short_from values.1
-  by ← short_from values.2
+  place ← u32_from values.1
+  by ← u32_from values.2
   told ← reply_from values.3
   asked ← act_from values.0
   Some (asked, place, by, told)

@@ -3,7 +3,7 @@ use Rattle.std.specs.Prelude.{◌≡◌, ◌≤◌, ℕ, List, [], ◌∷◌, �
 use Rattle.serde_json.specs.Written.{compact_text}
 use Rattle.fy_locality.specs.declared.ProcId.{ProcId}
 use Rattle.fy_locality.specs.declared.key.Key.TheVariants.{Zone, DataHall}
-use Rattle.fy_kinds.specs.Kinds.{rank, with_all, only, every_deed, no_deed, Striking, Clogging}
+use Rattle.fy_kinds.specs.Kinds.{rank, in_either, only, every_deed, no_deed, Striking, Clogging}
 use Rattle.fy_kinds.specs.declared.kind.Kind.TheVariants.{Reboot, KillInstantly}
 use Rattle.fy_kinds.specs.declared.verdict.Rule.TheVariants.{NoTarget, TooManyDestroyed}
 use Rattle.fy_grants.specs.declared.grant.Scope.TheVariants.{All, Where}
@@ -101,7 +101,7 @@ pub record ActTexts : Type 0 where
       ≡ codes "{\"give\":{\"actor\":1,\"kinds\":[],\"scope\":{\"key\":\"data_hall\","
       ++ codes "\"value\":\"h-1\"}}}"
   pub protect :
-      text_of_act (Protect (process 5) (with_all (only Clogging) (only (Striking Reboot))))
+      text_of_act (Protect (process 5) (in_either (only Clogging) (only (Striking Reboot))))
       ≡ codes "{\"protect\":{\"kinds\":[\"Reboot\",\"Clog\"],\"process\":5}}"
   pub copy :
       text_of_act (CopyTo (process 6) 7 (process 8))

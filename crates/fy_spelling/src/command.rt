@@ -10,12 +10,13 @@ pub const MOST_LINE_BYTES: usize = 65_536;
 /// An act that an actor asks for.
 #[derive(PartialEq, Eq)]
 pub struct Command {
-    /// The number of whoever asks, an actor or not.
+    /// The number that asks, of an actor or of none.
     pub by: u32,
     pub act: Act,
 }
 
-// Written out, so that whoever drops a command makes one call.
+// By hand: a drop is then one call, and not the whole drop of an act at each place, which the
+// check proves anew there.
 impl Drop for Command {
     fn drop(self) {
         let Command { by: _, act: _ } = self;

@@ -1,10 +1,10 @@
-//! Lines of audits. An entry has one text, which a scan tells; what the scan misses is told by
-//! serde_json's value, and since that has many texts, it is written again and compared.
+//! Lines of audits. An entry has one text. A scan reads it; what the scan misses is read as a JSON
+//! value, and since a value has many texts, the entry is written again and compared with the line.
 ghost use Rattle.std.specs.Prelude.{◌≡◌, ◌↔◌, IfOk, IsTrue};
 ghost use Rattle.fy_spelling.specs.EntryLine.{IsTextOf, EntryAnswers};
 
 use crate::Entry;
-use crate::fits::{entry_is_held, reply_fits};
+use crate::fits::{entry_is_representable, reply_fits};
 use crate::reading::entry_by_value;
 use crate::scan::scan_entry;
 use crate::writing::put_entry;
@@ -29,18 +29,18 @@ impl From<AllocError> for EntryFault {
     }
 }
 
-/// Whether the line is the text of the entry. What the room has is written over.
+/// Whether the line is the text of the entry. The buffer's bytes are overwritten.
 fn is_text_of(line: &[u8], entry: &Entry, room: &mut Vec<u8>) -> Result<bool, AllocError>
     ensures { IfOk result (λ same. IsTrue same ↔ IsTextOf line.now entry.now) }
 {
-    entry_is_held(entry);
+    entry_is_representable(entry);
     room.clear();
     put_entry(room, entry)?;
     Ok(room.as_slice() == line && reply_fits(&entry.reply))
 }
 
-/// The entry of a line of an audit, which is given without its line end, as serde_json's value has
-/// it. The room is a buffer for the line's own use.
+/// The entry of a line of an audit, read as a JSON value. The line has no line feed. `room` is a
+/// buffer that is overwritten.
 ///
 /// # Errors
 ///
@@ -53,10 +53,7 @@ pub fn read_entry_by_value(
 ) -> Result<Entry, EntryFault>
     ensures { EntryAnswers line.now result }
 {
-    let entry = match entry_by_value(alloc, line) {
-        Ok(entry) => entry,
-        Err(fault) => return Err(fault),
-    };
+    let entry = entry_by_value(alloc, line)?;
     match is_text_of(line, &entry, room) {
         Ok(true) => Ok(entry),
         Ok(false) => Err(EntryFault::Syntax),
@@ -64,8 +61,8 @@ pub fn read_entry_by_value(
     }
 }
 
-/// The entry of a line of an audit, which is given without its line end. The room is a buffer for
-/// the line's own use, kept from line to line so that it grows but once.
+/// The entry of a line of an audit. The line has no line feed. `room` is a buffer that is
+/// overwritten: one for all lines grows only once.
 ///
 /// # Errors
 ///

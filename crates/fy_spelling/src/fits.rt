@@ -1,9 +1,10 @@
-//! What the types of acts, replies and entries say of their values, and what is left to test.
+//! The bounds that the types of acts, replies and entries set, shown for the proof, and the one that
+//! is tested. But for that test the functions do nothing, and the compiler leaves nothing of them.
 ghost use Rattle.std.specs.Prelude.{◌≡◌, ◌↔◌, IsTrue, true};
 ghost use Rattle.std.specs.List.{AllByRecursion};
 ghost use Rattle.fy_team.specs.Teams.{AreMembers};
-ghost use Rattle.fy_spelling.specs.Fits.{IsShort, IsLong, IsByte, IsProcess, FitsTarget, FitsScope, FitsMembers, FitsAct, FitsRule, FitsRefusal, FitsReply};
-ghost use Rattle.fy_spelling.specs.Held.{IsHeldRule, IsHeldReply, IsHeld};
+ghost use Rattle.fy_spelling.specs.Fits.{IsU32, IsU64, IsByte, IsProcess, FitsTarget, FitsScope, FitsMembers, FitsAct, FitsRule, FitsRefusal, FitsReply};
+ghost use Rattle.fy_spelling.specs.Representable.{IsRepresentableRule, IsRepresentableReply, IsRepresentable};
 
 use crate::{Act, Entry, Refusal, Reply};
 use fy_disk::Payload;
@@ -12,18 +13,18 @@ use fy_kinds::{Rule, Target};
 use fy_locality::ProcId;
 use fy_team::Members;
 
-pub(crate) fn short_fits(_n: u32)
-    ensures { IsShort _n }
+pub(crate) fn u32_fits(_n: u32)
+    ensures { IsU32 _n }
 {}
 
-fn long_fits(_n: u64)
-    ensures { IsLong _n }
+fn u64_fits(_n: u64)
+    ensures { IsU64 _n }
 {}
 
 fn process_fits(p: ProcId)
     ensures { IsProcess p }
 {
-    short_fits(p.0);
+    u32_fits(p.0);
 }
 
 fn target_fits(target: &Target)
@@ -70,63 +71,70 @@ fn payload_fits(payload: &Payload)
     bytes_fit(payload.bytes());
 }
 
+fn aim_fits(target: &Target, number: u64)
+    ensures { FitsTarget target.now × IsU64 number }
+{
+    target_fits(target);
+    u64_fits(number);
+}
+
+fn shorts_fit(first: u32, second: u32)
+    ensures { IsU32 first × IsU32 second }
+{
+    u32_fits(first);
+    u32_fits(second);
+}
+
+fn copy_fits(rec: u32, process: ProcId)
+    ensures { IsU32 rec × IsProcess process }
+{
+    u32_fits(rec);
+    process_fits(process);
+}
+
 /// The numbers, names and members of an act fit.
 pub fn act_fits(act: &Act)
     ensures { FitsAct act.now }
 {
     match act {
-        Act::Kill { order } => {
-            target_fits(&order.target());
-            long_fits(order.tear());
-        }
-        Act::Clog { target, ticks } => {
-            target_fits(target);
-            long_fits(*ticks);
-        }
+        Act::Kill { order } => aim_fits(&order.target(), order.tear()),
+        Act::Clog { target, ticks } => aim_fits(target, *ticks),
         Act::Unclog { target } => target_fits(target),
         Act::Form { members, policy } => {
             members_fit(members);
-            short_fits(*policy);
+            u32_fits(*policy);
         }
         Act::Begin { team, payload } => {
-            short_fits(*team);
+            u32_fits(*team);
             payload_fits(payload);
         }
-        Act::Deliver { message } | Act::Lose { message } => long_fits(*message),
-        Act::Resend { rec, process } => {
-            short_fits(*rec);
-            process_fits(*process);
-        }
+        Act::Deliver { message } | Act::Lose { message } => u64_fits(*message),
+        Act::Tick { ticks } => u64_fits(*ticks),
+        Act::Resend { rec, process } => copy_fits(*rec, *process),
         Act::Sync { process } | Act::Up { process } | Act::Heal { process } => {
-            process_fits(*process);
+            process_fits(*process)
         }
-        Act::Tick { ticks } => long_fits(*ticks),
         Act::Give { grant } => {
-            short_fits(grant.actor);
+            u32_fits(grant.actor);
             scope_fits(&grant.scope);
         }
-        Act::Take { actor, index } => {
-            short_fits(*actor);
-            short_fits(*index);
-        }
+        Act::Take { actor, index } => shorts_fit(*actor, *index),
         Act::Protect { process, kinds: _ } | Act::Unprotect { process, kinds: _ } => {
-            process_fits(*process);
+            process_fits(*process)
         }
         Act::CopyTo { from, rec, to } => {
             process_fits(*from);
-            short_fits(*rec);
-            process_fits(*to);
+            copy_fits(*rec, *to);
         }
         Act::Replace { team, out, into } => {
-            short_fits(*team);
-            process_fits(*out);
+            copy_fits(*team, *out);
             process_fits(*into);
         }
     }
 }
 
 fn rule_is_held(rule: Option<Rule>)
-    ensures { IsHeldRule rule }
+    ensures { IsRepresentableRule rule }
 {
     match rule {
         None | Some(Rule::NoTarget) => {}
@@ -134,7 +142,7 @@ fn rule_is_held(rule: Option<Rule>)
             process_fits(process);
         }
         Some(Rule::TooManyDestroyed { policy }) | Some(Rule::TooFewLeft { policy }) => {
-            long_fits(policy as u64);
+            u64_fits(policy as u64);
         }
     }
 }
@@ -143,32 +151,32 @@ fn refusal_fits(refusal: Refusal)
     ensures { FitsRefusal refusal }
 {
     match refusal {
-        Refusal::TeamShort { policy } => short_fits(policy),
-        Refusal::StillNeeds { rec } => short_fits(rec),
+        Refusal::TeamShort { policy } => u32_fits(policy),
+        Refusal::StillNeeds { rec } => u32_fits(rec),
         _ => {}
     }
 }
 
 /// The numbers of a reply fit, but for the policy of a rule, which may have 64 bits.
-pub fn reply_is_held(reply: &Reply)
-    ensures { IsHeldReply reply.now }
+pub fn reply_is_representable(reply: &Reply)
+    ensures { IsRepresentableReply reply.now }
 {
     match reply {
         Reply::Verdict(verdict) => rule_is_held(verdict.rule),
         Reply::Ruled { rule } => rule_is_held(*rule),
-        Reply::Formed { team } => short_fits(*team),
+        Reply::Formed { team } => u32_fits(*team),
         Reply::Begun { rec, first } => {
-            short_fits(*rec);
-            long_fits(*first);
+            u32_fits(*rec);
+            u64_fits(*first);
         }
         Reply::Stored | Reply::Done => {}
         Reply::Marked { acked: _ } => {}
-        Reply::Sent { message } => long_fits(*message),
+        Reply::Sent { message } => u64_fits(*message),
         Reply::Synced { first, count } => {
-            long_fits(*first);
-            short_fits(*count);
+            u64_fits(*first);
+            u32_fits(*count);
         }
-        Reply::Time { now } => long_fits(*now),
+        Reply::Time { now } => u64_fits(*now),
         Reply::No(refusal) => refusal_fits(*refusal),
     }
 }
@@ -197,18 +205,19 @@ pub(crate) fn reply_fits(reply: &Reply) -> bool
         Reply::Verdict(verdict) => rule_fits(verdict.rule),
         Reply::Ruled { rule } => rule_fits(*rule),
         reply => {
-            reply_is_held(reply);
+            reply_is_representable(reply);
             true
         }
     }
 }
 
-/// So do those of an entry.
-pub fn entry_is_held(entry: &Entry)
-    ensures { IsHeld entry.now }
+/// The numbers, names and members of an entry fit, but for the policy of a rule, which may have 64
+/// bits.
+pub fn entry_is_representable(entry: &Entry)
+    ensures { IsRepresentable entry.now }
 {
-    short_fits(entry.at);
-    short_fits(entry.by);
+    u32_fits(entry.at);
+    u32_fits(entry.by);
     act_fits(&entry.act);
-    reply_is_held(&entry.reply);
+    reply_is_representable(&entry.reply);
 }

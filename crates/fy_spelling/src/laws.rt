@@ -1,7 +1,7 @@
 //! Laws of texts, for the crates above.
 ghost use Rattle.std.specs.Prelude.{◌≡◌};
-ghost use Rattle.fy_spelling.specs.OneText.{OneEntryPerText, OneHeldEntryPerText, LineComesToOne, TextsAreLines, HeldTextsAreLines};
-ghost use Rattle.fy_spelling.specs.Plain.{PlainTextSpells};
+ghost use Rattle.fy_spelling.specs.OneText.{OneEntryPerText, OneHeldEntryPerText, LineIsUnambiguous, TextsAreLines, HeldTextsAreLines};
+ghost use Rattle.fy_spelling.specs.Plain.{PlainTextParses};
 ghost use Rattle.fy_spelling.specs.Rows.{EntryTexts, ReplyTexts, ActTexts, CommandText};
 
 /// Two entries with one text, whose numbers and names fit, are equal.
@@ -23,13 +23,13 @@ pub fn a_held_text_is_of_one_entry()
 {}
 
 /// A line of a script asks for one command, or has one first fault.
-pub fn a_line_comes_to_one()
-    ensures { LineComesToOne }
+pub fn lines_are_unambiguous()
+    ensures { LineIsUnambiguous }
 {}
 
 /// The plain text of a command, whose numbers and names fit, is a line that asks for it.
-pub fn plain_text_spells()
-    ensures { PlainTextSpells }
+pub fn plain_text_parses()
+    ensures { PlainTextParses }
 {}
 
 /// Entries, replies, acts and a command have the texts that are written out by hand.

@@ -13,7 +13,7 @@ mod writing;
 
 pub use command::{Command, CommandFault, LineFault, MOST_LINE_BYTES};
 pub use entry_line::{EntryFault, read_entry, read_entry_by_value};
-pub use fits::{act_fits, entry_is_held, reply_is_held};
+pub use fits::{act_fits, entry_is_representable, reply_is_representable};
 pub use fy_acts::{Act, Entry, Refusal, Reply};
 pub use reading::read_command_by_value;
 pub use shortcut::read_command;

@@ -3,7 +3,7 @@ ghost use Rattle.std.specs.Prelude.{◌≡◌, Some, None, if◌then◌else◌, 
 ghost use Rattle.std.specs.Option.{option_copied};
 ghost use Rattle.serde_json.specs.View.{view, items_view, members_view};
 ghost use Rattle.fy_team.specs.Members.{are_members};
-ghost use Rattle.fy_spelling.specs.Candidate.{next_at, sole, one, two, three, five, long_from, short_from, process_from, processes_from, members_from, kind_from, key_from, name_from, target_from, kinds_from, payload_from, deeds_from, deed_from, scope_from, target_in};
+ghost use Rattle.fy_spelling.specs.Candidate.{next_at, sole, one, two, three, five, u64_from, u32_from, process_from, processes_from, members_from, kind_from, key_from, name_from, target_from, kinds_from, payload_from, deeds_from, deed_from, scope_from, target_in};
 ghost use Rattle.fy_spelling.specs.Replied.{four};
 ghost use Rattle.fy_kinds.specs.Kinds.{only};
 ghost use Rattle.fy_spelling.specs.Command.{gathered};
@@ -142,24 +142,24 @@ pub(crate) fn sole(value: &Value) -> Option<(&str, &Value)>
 // ---- numbers
 
 /// A number of 64 bits.
-pub(crate) fn long_of(value: &Value) -> Option<u64>
-    ensures { result ≡ long_from (view value.now) }
+pub(crate) fn u64_of(value: &Value) -> Option<u64>
+    ensures { result ≡ u64_from (view value.now) }
 {
     value.as_u64()
 }
 
 /// A number of 32 bits.
-pub(crate) fn short_of(value: &Value) -> Option<u32>
-    ensures { result ≡ short_from (view value.now) }
+pub(crate) fn u32_of(value: &Value) -> Option<u32>
+    ensures { result ≡ u32_from (view value.now) }
 {
-    u32::try_from(long_of(value)?).ok()
+    u32::try_from(u64_of(value)?).ok()
 }
 
 /// The number of a process.
 pub(crate) fn process_of(value: &Value) -> Option<ProcId>
     ensures { result ≡ process_from (view value.now) }
 {
-    Some(ProcId(short_of(value)?))
+    Some(ProcId(u32_of(value)?))
 }
 
 /// The numbers of processes.

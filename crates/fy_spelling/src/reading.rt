@@ -2,16 +2,16 @@
 ghost use Rattle.std.specs.Prelude.{◌≡◌, IfOk, IfSome, IfNone, option_map};
 ghost use Rattle.serde_json.specs.Data.{Data};
 ghost use Rattle.serde_json.specs.View.{view};
-ghost use Rattle.fy_spelling.specs.Candidate.{long_in, process_in, clog_in, order_in, form_in, begin_in, give_in, protection_in, resend_in, take_in, copy_in, replace_in, aimed_by, moved_by, righted_by, healed_by, asked_by, act_from, command_from, IsMeant};
+ghost use Rattle.fy_spelling.specs.Candidate.{u64_in, process_in, clog_in, order_in, form_in, begin_in, give_in, protection_in, resend_in, take_in, copy_in, replace_in, clog_or_tick_from, message_act_from, rights_act_from, healing_act_from, named_act_from, act_from, command_from, IsCheckedAct};
 ghost use Rattle.fy_spelling.specs.Command.{IsJson, LineAnswers};
-ghost use Rattle.fy_spelling.specs.declared.reading.Asked.TheVariants.{Other};
+ghost use Rattle.fy_spelling.specs.declared.reading.UncheckedAct.TheVariants.{Other};
 
 mod entries;
 mod replies;
 
 use crate::parts::{
-    five, kind_of, kinds_of, long_of, member_list_of, one, payload_of, process_of, scope_of,
-    short_of, sole, target_in, target_of, three, two,
+    five, kind_of, kinds_of, member_list_of, one, payload_of, process_of, scope_of, sole,
+    target_in, target_of, three, two, u32_of, u64_of,
 };
 use crate::{Act, Command, CommandFault, LineFault, MOST_LINE_BYTES};
 pub(crate) use entries::entry_by_value;
@@ -23,7 +23,7 @@ use std::alloc::{AllocError, Global};
 
 /// What an act's value asks for.
 #[derive(Drop)]
-pub(crate) enum Asked {
+pub(crate) enum UncheckedAct {
     /// A kill, whether or not its floor is above its kind.
     Order {
         target: Target,
@@ -36,10 +36,10 @@ pub(crate) enum Asked {
 }
 
 /// A number of 64 bits at the one key.
-fn long_in(value: &Value, key: &str) -> Option<u64>
-    ensures { result ≡ long_in key.now (view value.now) }
+fn u64_in(value: &Value, key: &str) -> Option<u64>
+    ensures { result ≡ u64_in key.now (view value.now) }
 {
-    long_of(one(value, key)?)
+    u64_of(one(value, key)?)
 }
 
 /// A process at the key of one.
@@ -55,20 +55,20 @@ fn clog_in(value: &Value) -> Option<(Target, u64)>
 {
     let (key, ticks, value) = three(value, "key", "ticks", "value")?;
     let target = target_of(key, value)?;
-    let ticks = long_of(ticks)?;
+    let ticks = u64_of(ticks)?;
     Some((target, ticks))
 }
 
 /// An order, whether or not its floor is above its kind.
-fn order_in(value: &Value) -> Option<Asked>
+fn order_in(value: &Value) -> Option<UncheckedAct>
     ensures { result ≡ order_in (view value.now) }
 {
     let (floor, key, kind, tear, value) = five(value, "floor", "key", "kind", "tear", "value")?;
     let floor = kind_of(floor)?;
     let target = target_of(key, value)?;
     let kind = kind_of(kind)?;
-    let tear = long_of(tear)?;
-    Some(Asked::Order {
+    let tear = u64_of(tear)?;
+    Some(UncheckedAct::Order {
         target,
         kind,
         floor,
@@ -83,7 +83,7 @@ fn form_in(alloc: Global, value: &Value) -> Result<Option<Act>, AllocError>
     let Some((members, policy)) = two(value, "members", "policy") else {
         return Ok(None);
     };
-    let Some(policy) = short_of(policy) else {
+    let Some(policy) = u32_of(policy) else {
         return Ok(None);
     };
     let Some(members) = member_list_of(alloc, members)? else {
@@ -99,7 +99,7 @@ fn begin_in(alloc: Global, value: &Value) -> Result<Option<Act>, AllocError>
     let Some((payload, team)) = two(value, "payload", "team") else {
         return Ok(None);
     };
-    let Some(team) = short_of(team) else {
+    let Some(team) = u32_of(team) else {
         return Ok(None);
     };
     let Some(payload) = payload_of(alloc, payload)? else {
@@ -113,7 +113,7 @@ fn give_in(value: &Value) -> Option<Act>
     ensures { result ≡ give_in (view value.now) }
 {
     let (actor, kinds, scope) = three(value, "actor", "kinds", "scope")?;
-    let actor = short_of(actor)?;
+    let actor = u32_of(actor)?;
     let kinds = kinds_of(kinds)?;
     let scope = scope_of(scope)?;
     let grant = Grant {
@@ -140,7 +140,7 @@ fn resend_in(value: &Value) -> Option<Act>
 {
     let (process, rec) = two(value, "process", "record")?;
     let process = process_of(process)?;
-    let rec = short_of(rec)?;
+    let rec = u32_of(rec)?;
     Some(Act::Resend { rec, process })
 }
 
@@ -149,8 +149,8 @@ fn take_in(value: &Value) -> Option<Act>
     ensures { result ≡ take_in (view value.now) }
 {
     let (actor, index) = two(value, "actor", "index")?;
-    let actor = short_of(actor)?;
-    let index = short_of(index)?;
+    let actor = u32_of(actor)?;
+    let index = u32_of(index)?;
     Some(Act::Take { actor, index })
 }
 
@@ -160,7 +160,7 @@ fn copy_in(value: &Value) -> Option<Act>
 {
     let (from, rec, to) = three(value, "from", "record", "to")?;
     let from = process_of(from)?;
-    let rec = short_of(rec)?;
+    let rec = u32_of(rec)?;
     let to = process_of(to)?;
     Some(Act::CopyTo { from, rec, to })
 }
@@ -172,13 +172,13 @@ fn replace_in(value: &Value) -> Option<Act>
     let (into, out, team) = three(value, "into", "out", "team")?;
     let into = process_of(into)?;
     let out = process_of(out)?;
-    let team = short_of(team)?;
+    let team = u32_of(team)?;
     Some(Act::Replace { team, out, into })
 }
 
 /// An act of a target or of ticks, by its name.
-fn aimed_by(name: &str, value: &Value) -> Option<Act>
-    ensures { result ≡ aimed_by name.now (view value.now) }
+fn clog_or_tick_from(name: &str, value: &Value) -> Option<Act>
+    ensures { result ≡ clog_or_tick_from name.now (view value.now) }
 {
     match name {
         "clog" => {
@@ -190,7 +190,7 @@ fn aimed_by(name: &str, value: &Value) -> Option<Act>
             Some(Act::Unclog { target })
         }
         "tick" => {
-            let ticks = long_in(value, "ticks")?;
+            let ticks = u64_in(value, "ticks")?;
             Some(Act::Tick { ticks })
         }
         _ => None,
@@ -198,16 +198,16 @@ fn aimed_by(name: &str, value: &Value) -> Option<Act>
 }
 
 /// An act of a process or a message, by its name.
-fn moved_by(name: &str, value: &Value) -> Option<Act>
-    ensures { result ≡ moved_by name.now (view value.now) }
+fn message_act_from(name: &str, value: &Value) -> Option<Act>
+    ensures { result ≡ message_act_from name.now (view value.now) }
 {
     match name {
         "deliver" => {
-            let message = long_in(value, "message")?;
+            let message = u64_in(value, "message")?;
             Some(Act::Deliver { message })
         }
         "lose" => {
-            let message = long_in(value, "message")?;
+            let message = u64_in(value, "message")?;
             Some(Act::Lose { message })
         }
         "resend" => resend_in(value),
@@ -219,13 +219,13 @@ fn moved_by(name: &str, value: &Value) -> Option<Act>
             let process = process_in(value)?;
             Some(Act::Up { process })
         }
-        _ => aimed_by(name, value),
+        _ => clog_or_tick_from(name, value),
     }
 }
 
 /// An act of rights, by its name.
-fn righted_by(name: &str, value: &Value) -> Option<Act>
-    ensures { result ≡ righted_by name.now (view value.now) }
+fn rights_act_from(name: &str, value: &Value) -> Option<Act>
+    ensures { result ≡ rights_act_from name.now (view value.now) }
 {
     match name {
         "give" => give_in(value),
@@ -238,13 +238,13 @@ fn righted_by(name: &str, value: &Value) -> Option<Act>
             let (process, kinds) = protection_in(value)?;
             Some(Act::Unprotect { process, kinds })
         }
-        _ => moved_by(name, value),
+        _ => message_act_from(name, value),
     }
 }
 
 /// An act of healing, or any act but a kill, a form or a begin, by its name.
-fn healed_by(name: &str, value: &Value) -> Option<Act>
-    ensures { result ≡ healed_by name.now (view value.now) }
+fn healing_act_from(name: &str, value: &Value) -> Option<Act>
+    ensures { result ≡ healing_act_from name.now (view value.now) }
 {
     match name {
         "copy" => copy_in(value),
@@ -253,50 +253,54 @@ fn healed_by(name: &str, value: &Value) -> Option<Act>
             let process = process_in(value)?;
             Some(Act::Heal { process })
         }
-        _ => righted_by(name, value),
+        _ => rights_act_from(name, value),
     }
 }
 
 /// An act that is no kill.
-fn other(found: Option<Act>) -> Option<Asked>
+fn other(found: Option<Act>) -> Option<UncheckedAct>
     ensures { result ≡ option_map Other found }
 {
     match found {
-        Some(act) => Some(Asked::Other(act)),
+        Some(act) => Some(UncheckedAct::Other(act)),
         None => None,
     }
 }
 
 /// Any act, by its name.
-fn asked_by(alloc: Global, name: &str, value: &Value) -> Result<Option<Asked>, AllocError>
-    ensures { IfOk result (λ found. found ≡ asked_by name.now (view value.now)) }
+fn named_act_from(
+    alloc: Global,
+    name: &str,
+    value: &Value,
+) -> Result<Option<UncheckedAct>, AllocError>
+    ensures { IfOk result (λ found. found ≡ named_act_from name.now (view value.now)) }
 {
     match name {
         "kill" => Ok(order_in(value)),
         "form" => Ok(other(form_in(alloc, value)?)),
         "begin" => Ok(other(begin_in(alloc, value)?)),
-        _ => Ok(other(healed_by(name, value))),
+        _ => Ok(other(healing_act_from(name, value))),
     }
 }
 
 /// What an act's value asks for.
-fn act_of(alloc: Global, value: &Value) -> Result<Option<Asked>, AllocError>
+fn act_of(alloc: Global, value: &Value) -> Result<Option<UncheckedAct>, AllocError>
     ensures { IfOk result (λ found. found ≡ act_from (view value.now)) }
 {
     let Some((name, value)) = sole(value) else {
         return Ok(None);
     };
-    asked_by(alloc, name, value)
+    named_act_from(alloc, name, value)
 }
 
 /// Who asks for which act.
-fn command_of(alloc: Global, value: &Value) -> Result<Option<(u32, Asked)>, AllocError>
+fn command_of(alloc: Global, value: &Value) -> Result<Option<(u32, UncheckedAct)>, AllocError>
     ensures { IfOk result (λ found. found ≡ command_from (view value.now)) }
 {
     let Some((act, by)) = two(value, "act", "by") else {
         return Ok(None);
     };
-    let Some(by) = short_of(by) else {
+    let Some(by) = u32_of(by) else {
         return Ok(None);
     };
     let Some(asked) = act_of(alloc, act)? else {
@@ -310,11 +314,11 @@ fn command_of(alloc: Global, value: &Value) -> Result<Option<(u32, Asked)>, Allo
 /// # Errors
 ///
 /// `Floor` where it is a kill whose floor is above its kind.
-fn meant(asked: Asked) -> Result<Act, LineFault>
-    ensures { IsMeant asked result }
+fn checked_act(asked: UncheckedAct) -> Result<Act, LineFault>
+    ensures { IsCheckedAct asked result }
 {
     match asked {
-        Asked::Order {
+        UncheckedAct::Order {
             target,
             kind,
             floor,
@@ -323,7 +327,7 @@ fn meant(asked: Asked) -> Result<Act, LineFault>
             Ok(order) => Ok(Act::Kill { order }),
             Err(Floor) => Err(LineFault::Floor),
         },
-        Asked::Other(act) => Ok(act),
+        UncheckedAct::Other(act) => Ok(act),
     }
 }
 
@@ -339,8 +343,7 @@ fn value_of(alloc: Global, line: &[u8]) -> Result<Option<Value>, AllocError>
     }
 }
 
-/// The command of a line of a script, which is told without its line end, as serde_json's value
-/// has it.
+/// The command of a line of a script, read as a JSON value. The line has no line feed.
 ///
 /// # Errors
 ///
@@ -358,7 +361,7 @@ pub fn read_command_by_value(alloc: Global, line: &[u8]) -> Result<Command, Comm
     let Some((by, asked)) = command_of(alloc, &value)? else {
         return Err(CommandFault::Line(LineFault::Syntax));
     };
-    match meant(asked) {
+    match checked_act(asked) {
         Ok(act) => Ok(Command { by, act }),
         Err(fault) => Err(CommandFault::Line(fault)),
     }

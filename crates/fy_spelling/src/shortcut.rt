@@ -1,5 +1,5 @@
-//! Lines of scripts. A line in its plain spelling is told by a scan; what the scan misses is told by
-//! serde_json's value.
+//! Lines of scripts. A scan reads a line in its plain spelling; any other line is read as a JSON
+//! value.
 ghost use Rattle.std.specs.Prelude.{◌≡◌};
 ghost use Rattle.fy_spelling.specs.Command.{LineAnswers};
 
@@ -8,7 +8,7 @@ use crate::scan::scan_command;
 use crate::{Command, CommandFault, LineFault, MOST_LINE_BYTES};
 use std::alloc::Global;
 
-/// The command of a line of a script, which is given without its line end.
+/// The command of a line of a script. The line has no line feed.
 ///
 /// # Errors
 ///

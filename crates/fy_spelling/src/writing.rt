@@ -1,14 +1,14 @@
 //! Texts of acts, replies, entries and commands, written after what a buffer has.
-ghost use Rattle.std.specs.Prelude.{◌≡◌, ◌++◌, OnOk, OnErr, IfOk, decimal, codes, string_bytes};
+ghost use Rattle.std.specs.Prelude.{◌≡◌, ◌++◌, OnOk, OnErr, IfOk, decimal, codes, string_bytes, take};
 ghost use Rattle.fy_spelling.specs.Values.{text_of};
-ghost use Rattle.fy_spelling.specs.Puts.{Puts};
-ghost use Rattle.fy_spelling.specs.Pieces.{one_text, last_text, asked_text, front_text, entry_pieces, IsBare};
+ghost use Rattle.fy_spelling.specs.AppendsOrOom.{AppendsOrOom};
+ghost use Rattle.fy_spelling.specs.Pieces.{one_text, between_text, asked_text, front_text, entry_pieces, NeedsNoEscape};
 ghost use Rattle.fy_spelling.specs.Plain.{command_text};
 
 mod acts;
 mod replies;
 
-use crate::fits::entry_is_held;
+use crate::fits::entry_is_representable;
 use crate::{Command, Entry};
 use acts::put_act;
 use itoa::Buffer;
@@ -17,14 +17,14 @@ use std::alloc::{AllocError, Global};
 
 #[inline(always)]
 fn put(out: &mut Vec<u8>, text: &str) -> Result<(), AllocError>
-    ensures { Puts result out.old.items out.new.items text.now }
+    ensures { AppendsOrOom result out.old.items out.new.items text.now }
 {
     out.extend_from_slice(text.as_bytes())
 }
 
 #[inline(always)]
 fn put_decimal(out: &mut Vec<u8>, n: u64) -> Result<(), AllocError>
-    ensures { Puts result out.old.items out.new.items (decimal n) }
+    ensures { AppendsOrOom result out.old.items out.new.items (decimal n) }
 {
     let mut digits = Buffer::new();
     put(out, digits.format(n))
@@ -33,7 +33,7 @@ fn put_decimal(out: &mut Vec<u8>, n: u64) -> Result<(), AllocError>
 /// A text and then a number.
 #[inline(always)]
 fn put_number(out: &mut Vec<u8>, head: &str, n: u64) -> Result<(), AllocError>
-    ensures { Puts result out.old.items out.new.items (head.now ++ decimal n) }
+    ensures { AppendsOrOom result out.old.items out.new.items (head.now ++ decimal n) }
 {
     put(out, head)?;
     put_decimal(out, n)
@@ -42,7 +42,7 @@ fn put_number(out: &mut Vec<u8>, head: &str, n: u64) -> Result<(), AllocError>
 /// A text and then a word.
 #[inline(always)]
 fn put_word(out: &mut Vec<u8>, head: &str, word: &str) -> Result<(), AllocError>
-    ensures { Puts result out.old.items out.new.items (head.now ++ word.now) }
+    ensures { AppendsOrOom result out.old.items out.new.items (head.now ++ word.now) }
 {
     put(out, head)?;
     put(out, word)
@@ -50,8 +50,8 @@ fn put_word(out: &mut Vec<u8>, head: &str, word: &str) -> Result<(), AllocError>
 
 /// A number between two texts.
 #[inline(always)]
-fn put_last(out: &mut Vec<u8>, head: &str, n: u64, tail: &str) -> Result<(), AllocError>
-    ensures { Puts result out.old.items out.new.items (last_text head.now n tail.now) }
+fn put_between(out: &mut Vec<u8>, head: &str, n: u64, tail: &str) -> Result<(), AllocError>
+    ensures { AppendsOrOom result out.old.items out.new.items (between_text head.now n tail.now) }
 {
     put_number(out, head, n)?;
     put(out, tail)
@@ -60,19 +60,38 @@ fn put_last(out: &mut Vec<u8>, head: &str, n: u64, tail: &str) -> Result<(), All
 /// An object with one number.
 #[inline(always)]
 fn put_one(out: &mut Vec<u8>, head: &str, n: u64) -> Result<(), AllocError>
-    ensures { Puts result out.old.items out.new.items (one_text head.now n) }
+    ensures { AppendsOrOom result out.old.items out.new.items (one_text head.now n) }
 {
-    put_last(out, head, n, "}}")
+    put_between(out, head, n, "}}")
 }
 
 fn put_pieces(out: &mut Vec<u8>, command: &Command) -> Result<(), AllocError>
-    ensures text { Puts result out.old.items out.new.items (asked_text command.now) }
-    ensures bare { OnOk result (IsBare command.now.act) }
+    ensures text { AppendsOrOom result out.old.items out.new.items (asked_text command.now) }
+    ensures bare { OnOk result (NeedsNoEscape command.now.act) }
 {
     put_number(out, "{\"by\":", command.by as u64)?;
     put(out, ",\"act\":")?;
     put_act(out, &command.act)?;
     put(out, "}")
+}
+
+/// What a writer answered; where it was refused memory, the buffer is cut back to this length.
+fn all_or_nothing(
+    out: &mut Vec<u8>,
+    length: usize,
+    put: Result<(), AllocError>,
+) -> Result<(), AllocError>
+    ensures answer { result ≡ put }
+    ensures ok { OnOk result (out.new.items ≡ out.old.items) }
+    ensures err { OnErr result (out.new.items ≡ take length out.old.items) }
+{
+    match put {
+        Ok(()) => Ok(()),
+        Err(refused) => {
+            out.truncate(length);
+            Err(refused)
+        }
+    }
 }
 
 /// Writes the plain text of a command, without a line end, after what the buffer has.
@@ -85,18 +104,13 @@ pub fn put_command(out: &mut Vec<u8>, command: &Command) -> Result<(), AllocErro
     ensures err { OnErr result (out.new.items ≡ out.old.items) }
 {
     let length = out.len();
-    match put_pieces(out, command) {
-        Ok(()) => Ok(()),
-        Err(refused) => {
-            out.truncate(length);
-            Err(refused)
-        }
-    }
+    let put = put_pieces(out, command);
+    all_or_nothing(out, length, put)
 }
 
 fn put_front(out: &mut Vec<u8>, entry: &Entry) -> Result<(), AllocError>
-    ensures text { Puts result out.old.items out.new.items (front_text entry.now) }
-    ensures bare { OnOk result (IsBare entry.now.act) }
+    ensures text { AppendsOrOom result out.old.items out.new.items (front_text entry.now) }
+    ensures bare { OnOk result (NeedsNoEscape entry.now.act) }
 {
     put(out, "{\"act\":")?;
     put_act(out, &entry.act)?;
@@ -105,8 +119,8 @@ fn put_front(out: &mut Vec<u8>, entry: &Entry) -> Result<(), AllocError>
 }
 
 fn put_entry_pieces(out: &mut Vec<u8>, entry: &Entry) -> Result<(), AllocError>
-    ensures text { Puts result out.old.items out.new.items (entry_pieces entry.now) }
-    ensures bare { OnOk result (IsBare entry.now.act) }
+    ensures text { AppendsOrOom result out.old.items out.new.items (entry_pieces entry.now) }
+    ensures bare { OnOk result (NeedsNoEscape entry.now.act) }
 {
     put_front(out, entry)?;
     put_reply(out, &entry.reply)
@@ -122,13 +136,8 @@ pub fn put_entry(out: &mut Vec<u8>, entry: &Entry) -> Result<(), AllocError>
     ensures err { OnErr result (out.new.items ≡ out.old.items) }
 {
     let length = out.len();
-    match put_entry_pieces(out, entry) {
-        Ok(()) => Ok(()),
-        Err(refused) => {
-            out.truncate(length);
-            Err(refused)
-        }
-    }
+    let put = put_entry_pieces(out, entry);
+    all_or_nothing(out, length, put)
 }
 
 /// The one text of an entry, without a line end.
@@ -139,7 +148,7 @@ pub fn put_entry(out: &mut Vec<u8>, entry: &Entry) -> Result<(), AllocError>
 pub fn entry_text(alloc: Global, entry: &Entry) -> Result<String, AllocError>
     ensures { IfOk result (λ text. string_bytes text ≡ text_of entry.now) }
 {
-    entry_is_held(entry);
+    entry_is_representable(entry);
     let mut bytes = Vec::new(alloc);
     put_entry(&mut bytes, entry)?;
     match String::from_utf8(bytes) {

@@ -8,8 +8,8 @@ use fy_locality::{Key, Map, ProcId};
 use fy_picture::{Picture, rule_of};
 use std::alloc::AllocError;
 
-/// Colours that tell apart for the colour-blind (Okabe and Ito), on light paper and, where a reader
-/// knows of it, on dark.
+/// Colours that the colour-blind can tell apart (Okabe and Ito), on light paper and, where the
+/// viewer asks for it, on dark.
 const STYLE: &str = "<style>
 .paper { fill: #ffffff; }
 text { font: 11px sans-serif; fill: #1a1a1a; }
@@ -178,7 +178,7 @@ pub(crate) fn write_names(
     write_value(text, map, p, Key::Process, 186, y)
 }
 
-/// The names of the two rows behind the processes.
+/// The names of the two rows below the processes.
 pub(crate) fn write_last_names(text: &mut String, rows: usize) -> Result<(), AllocError> {
     let nobody = y_of(rows).saturating_add(ROW - 6);
     let records = y_of(rows.saturating_add(1)).saturating_add(ROW - 6);
@@ -218,7 +218,7 @@ pub(crate) fn write_orders(
     Ok(())
 }
 
-/// A red mark where an entry isn't what the rules give, behind the column of the last that is.
+/// A red mark behind the last column, for the entry that isn't what the rules give.
 pub(crate) fn write_bad(
     text: &mut String,
     picture: &Picture,

@@ -1,4 +1,4 @@
-//! The glyphs of orders at those whom they name.
+//! The glyphs of orders, at the processes that they name.
 use crate::layout::{ROW, middle_of, y_of};
 use crate::words::write_order;
 use fy_cluster::Config;
@@ -51,7 +51,7 @@ fn hardness(entry: &Entry) -> u32 {
     }
 }
 
-/// The outline of an order's glyph, round the point that was moved to.
+/// The outline of an order's glyph, as an SVG path round the current point.
 fn outline(entry: &Entry) -> &'static str {
     match entry.act {
         Act::Kill { order } => match order.kind() {
@@ -96,20 +96,15 @@ fn write_glyph(
 /// Notes an order for a process, or for nobody.
 fn note(hits: &mut [Hit], place: usize, at: usize, weight: u32) {
     if let Some(hit) = hits.get_mut(place) {
-        let count = hit.count.saturating_add(1);
+        hit.count = hit.count.saturating_add(1);
         if weight > hit.weight {
-            *hit = Hit { at, weight, count };
-        } else {
-            *hit = Hit {
-                at: hit.at,
-                weight: hit.weight,
-                count,
-            };
+            hit.at = at;
+            hit.weight = weight;
         }
     }
 }
 
-/// The glyphs of one column; after it nothing is noted.
+/// The glyphs of one column. The notes are cleared after it.
 fn write_column(
     text: &mut String,
     entries: &[Entry],

@@ -26,7 +26,7 @@ fn kept_by(
     Ok(kept)
 }
 
-/// The records that a process keeps, behind its row.
+/// The records that a process keeps, at the right of its row.
 fn write_kept(text: &mut String, kept: &[u64], x: u64, y: u64) -> Result<(), AllocError> {
     if kept.is_empty() {
         return Ok(());
@@ -43,7 +43,7 @@ fn write_kept(text: &mut String, kept: &[u64], x: u64, y: u64) -> Result<(), All
     text.push_str("</title></text>\n")
 }
 
-/// Behind the row of each process the records that it keeps at the end.
+/// At the right of each process's row the records that it keeps at the end.
 pub(crate) fn write_keepers(
     alloc: Global,
     text: &mut String,

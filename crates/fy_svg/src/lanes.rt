@@ -14,7 +14,7 @@ pub(crate) struct Lane {
     pub process: u32,
 }
 
-/// The least process with the value that a process has of a key; or without one, as it.
+/// The least process with the same value of a key as this one, or like this one without a value.
 fn first_like(map: &Map, p: ProcId, key: Key) -> u32
     requires { p.0 < length map.now }
 {

@@ -13,9 +13,9 @@ pub(crate) const TOP: u64 = 70;
 pub(crate) const ROW: u64 = 18;
 /// How high a line of text is.
 pub(crate) const LINE: u64 = 15;
-/// How high the stepped line of a policy is where all processes could go.
+/// How high the stepped line of a policy is where every process could be killed next.
 pub(crate) const STEPS: u64 = 26;
-/// How wide the words behind the rows are.
+/// How wide the words at the right of the rows are.
 pub(crate) const ASIDE: u64 = 260;
 /// The most lines of text below the rows.
 pub(crate) const MOST_LINES: usize = 100;
@@ -30,7 +30,7 @@ pub(crate) fn middle_of(column: usize) -> u64 {
     LEFT + column.min(MOST_COLUMNS + 1) as u64 * COLUMN + COLUMN / 2
 }
 
-/// The upper end of a row, of which the two behind the processes are for all else.
+/// The upper end of a row. The two rows below those of the processes are for everything else.
 pub(crate) fn y_of(row: usize) -> u64 {
     TOP + row.min(MOST_PROCESSES as usize + 2) as u64 * ROW
 }

@@ -7,7 +7,7 @@ use std::alloc::{AllocError, Global};
 
 /// What a mark is for.
 #[derive(Clone, Copy)]
-enum What {
+enum MarkKind {
     /// A record was acknowledged. The marks stand below the rows.
     Record,
     /// Time passed. The marks stand at the head.
@@ -33,7 +33,7 @@ impl Fold {
         mark.at.checked_div(self.width).unwrap_or(0)
     }
 
-    /// The entries of a mark's column, by the first and the last.
+    /// The first and the last entry of a mark's column.
     fn write_span(&self, text: &mut String, mark: Mark) -> Result<(), AllocError> {
         let first = self.column_of(mark).saturating_mul(self.width);
         let behind = first.saturating_add(self.width).min(self.entries);
@@ -71,7 +71,7 @@ fn ticks_of(alloc: Global, entries: &[Entry]) -> Result<Vec<Mark>, AllocError> {
 /// What the marks of a column say, of which this is the last and these are all values.
 fn write_title(
     text: &mut String,
-    what: What,
+    what: MarkKind,
     last: Mark,
     values: &[u64],
     fold: Fold,
@@ -84,13 +84,13 @@ fn write_title(
         fold.write_span(text, last)?;
     }
     match what {
-        What::Record => if count == 1 {
+        MarkKind::Record => if count == 1 {
             write!(text, "record {value} is acknowledged")
         } else {
             write!(text, "{count} records are acknowledged: ")?;
             write_numbers(text, values)
         },
-        What::Time => if count == 1 {
+        MarkKind::Time => if count == 1 {
             write!(text, "the time is {value}")
         } else {
             write!(
@@ -104,19 +104,19 @@ fn write_title(
 /// One mark for the marks of a column, of which this is the last and these are all values.
 fn write_mark(
     text: &mut String,
-    what: What,
+    what: MarkKind,
     last: Mark,
     values: &[u64],
     fold: Fold,
     rows: usize,
 ) -> Result<(), AllocError> {
     let (class, y, shape) = match what {
-        What::Record => (
+        MarkKind::Record => (
             "acked",
             y_of(rows.saturating_add(1)).saturating_add(ROW / 2),
             "m-4 0l3 4 6-8",
         ),
-        What::Time => ("tick", y_of(0).saturating_sub(12), "v8"),
+        MarkKind::Time => ("tick", y_of(0).saturating_sub(12), "v8"),
     };
     let x = middle_of(fold.column_of(last));
     let at = last.at;
@@ -132,7 +132,7 @@ fn write_mark(
 fn write_folded(
     alloc: Global,
     text: &mut String,
-    what: What,
+    what: MarkKind,
     marks: &[Mark],
     fold: Fold,
     rows: usize,
@@ -166,7 +166,7 @@ pub(crate) fn write_marks(
         width: picture.width,
     };
     let acks = acks_of(alloc, picture)?;
-    write_folded(alloc, text, What::Record, &acks, fold, rows)?;
+    write_folded(alloc, text, MarkKind::Record, &acks, fold, rows)?;
     let ticks = ticks_of(alloc, entries)?;
-    write_folded(alloc, text, What::Time, &ticks, fold, rows)
+    write_folded(alloc, text, MarkKind::Time, &ticks, fold, rows)
 }

@@ -1,4 +1,4 @@
-//! Below the rows: how many more each policy could bear.
+//! Below the rows: how many processes each policy lets be killed next.
 use crate::layout::{STEPS, foot_of_policy, x_of};
 use fy_cluster::Config;
 use fy_picture::{Line, Picture};
@@ -58,7 +58,7 @@ fn write_label(
 }
 
 /// For each policy a stepped line: how many processes could each be killed for good next, as far as
-/// that policy goes. Behind it stands the number at the end.
+/// that policy goes. The number at the end stands at its right.
 pub(crate) fn write_policies(
     alloc: Global,
     text: &mut String,

@@ -37,8 +37,8 @@ fn write_rows(
     Ok(())
 }
 
-/// The SVG document that shows entries which begin a journal under this configuration; and of a
-/// journal whose entry behind them isn't what the rules give, the place of that.
+/// The SVG document of the entries of a journal under this configuration. `bad` is the place of the
+/// first bad entry, where one follows them.
 ///
 /// # Errors
 ///

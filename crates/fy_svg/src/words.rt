@@ -1,4 +1,4 @@
-//! What is said in words, of an order first of all.
+//! Orders, rules and numbers in words.
 use fy_journal::{Act, Entry, Refusal, Reply};
 use fy_kinds::{Kind, Rule, Target};
 use fy_picture::rule_of;
@@ -43,7 +43,7 @@ fn write_target(text: &mut String, target: Target) -> Result<(), AllocError> {
     write!(text, "{key} {value}")
 }
 
-/// What came of a kill: what struck.
+/// The kind by which a kill struck.
 fn write_struck(text: &mut String, struck: Option<Kind>) -> Result<(), AllocError> {
     match struck {
         Some(kind) => {
@@ -54,7 +54,7 @@ fn write_struck(text: &mut String, struck: Option<Kind>) -> Result<(), AllocErro
     }
 }
 
-/// That an order was refused, and why: where the journal is legal, it is a stranger's.
+/// That an order was refused. In a legal journal only a stranger's order is.
 fn write_refused(text: &mut String, reply: Reply) -> Result<(), AllocError> {
     match reply {
         Reply::No(Refusal::Stranger) => {
@@ -64,7 +64,7 @@ fn write_refused(text: &mut String, reply: Reply) -> Result<(), AllocError> {
     }
 }
 
-/// What came of a clog, or of its end.
+/// Whether a clog, or the end of one, was done.
 fn write_ruled(text: &mut String, reply: Reply) -> Result<(), AllocError> {
     match reply {
         Reply::Ruled { rule: Some(_) } => text.push_str(": barred"),
@@ -73,7 +73,7 @@ fn write_ruled(text: &mut String, reply: Reply) -> Result<(), AllocError> {
     }
 }
 
-/// What was ordered, and what came of it; nothing of another act.
+/// What was ordered, and what struck. Nothing is written of another act.
 fn write_deed(text: &mut String, entry: &Entry) -> Result<(), AllocError> {
     match entry.act {
         Act::Kill { order } => {
@@ -99,7 +99,7 @@ fn write_deed(text: &mut String, entry: &Entry) -> Result<(), AllocError> {
     }
 }
 
-/// An order with what came of it, and why nothing harder did.
+/// An order: what struck, and why nothing harder did.
 pub(crate) fn write_order(text: &mut String, entry: &Entry) -> Result<(), AllocError> {
     let at = entry.at;
     let by = entry.by;

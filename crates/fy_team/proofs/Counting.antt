@@ -67,11 +67,11 @@ below_is_apart p (q ∷ ps) above =
 -- a mark takes one off where it is new and a member's
 pub one_fewer : (marks : sets.FinSet nat_cmp) (p : ℕ) (ps : List ProcId) → AllPairs (λ p q. p.0 < q.0) ps
     → missing_among marks ps ≡ cond (not (sets.contains marks p) && is_among ps p) 1 0 + missing_among (sets.insert marks p) ps
-one_fewer marks p [] rising = nobody (not (sets.contains marks p))
+one_fewer marks p [] rising = no_teams (not (sets.contains marks p))
   where
-    nobody : (b : Bool) → 0 ≡ cond (b && false) 1 0 + 0
-    nobody true = refl
-    nobody false = refl
+    no_teams : (b : Bool) → 0 ≡ cond (b && false) 1 0 + 0
+    no_teams true = refl
+    no_teams false = refl
 one_fewer marks p (q ∷ ps) rising = go (one_fewer marks p ps (λ i j d lt within. rising (suc i) (suc j) d (omega arith) (omega arith))) (eqb q.0 p) refl
   where
     others : is_among ps q.0 ≡ false

@@ -11,7 +11,7 @@ use Rattle.std.proofs.lemmas.Option.{slice_get-get_or, slice_get_within, slice_g
 use Rattle.fy_locality.specs.declared.ProcId.{ProcId}
 use Rattle.fy_team.specs.Teams.{Team, Record, Roster, IsRoster, AreMembers, is_among, all_marked, is_acked, swapped, with_member, marked_by, with_mark, begin_refusal}
 use Rattle.fy_team.specs.declared.fault.TeamFault.TheVariants.{TooMany, NoTeam, Payload}
-use Rattle.fy_team.specs.Counts.{Counted, CountsMissing, CountsMissingIn, AreKept, missing_among, recounted, roster_of}
+use Rattle.fy_team.specs.Counts.{Counted, CountsMissing, CountsMissingIn, TeamsInvariant, missing_among, recounted, roster_of}
 use Rattle.fy_team.specs.declared.limits.TheConstants.{MOST_TEAMS, MOST_RECORDS, MOST_BYTES}
 use Rattle.fy_team.proofs.Marking.{slice_get-set}
 use Rattle.fy_team.proofs.Swapping.{IsRoster-replaced}
@@ -22,7 +22,7 @@ held it = it.held
 -- ---- one record
 
 -- the team of a record is there
-pub team_within : (teams : List Team) (records : List Counted) (i : ℕ) (d : Counted) → AreKept teams records → i < length records → (get_or records i d).held.team < length teams
+pub team_within : (teams : List Team) (records : List Counted) (i : ℕ) (d : Counted) → TeamsInvariant teams records → i < length records → (get_or records i d).held.team < length teams
 team_within teams records i d kept within =
     subst (λ (it : Record). it.team < length teams) (get_or-map held records i d d.held within)
     (kept.roster.named i d.held (omega (arith, length-map records held)))
@@ -32,7 +32,7 @@ pub within_kept : (teams : List Team) (records : List Counted) (roster : Roster)
 within_kept teams records roster rec is within = omega (arith, ap (λ (it : Roster). length it.records) is, length-map records held)
 
 -- the team that is read off a record is there
-pub team_read : (teams : List Team) (records : List Counted) (rec t : ℕ) (it : Counted) → AreKept teams records → rec < length records → it ≡ get_or records rec it → t ≡ it.held.team → t < length teams
+pub team_read : (teams : List Team) (records : List Counted) (rec t : ℕ) (it : Counted) → TeamsInvariant teams records → rec < length records → it ≡ get_or records rec it → t ≡ it.held.team → t < length teams
 team_read teams records rec t it kept within is of_team = omega (arith, of_team, ap (λ (x : Counted). x.held.team) is, team_within teams records rec it kept within)
 
 -- what a record is
@@ -40,7 +40,7 @@ pub record_there : (records : List Counted) (i : ℕ) (d : Counted) → i < leng
 record_there records i d within = slice_get-map held records i ∙ ap (option_map held) (slice_get-get_or records i d within)
 
 -- the number of a record is right for its team
-pub counted_at : (teams : List Team) (records : List Counted) (i : ℕ) (it : Counted) (t : ℕ) (team : Team) → AreKept teams records → i < length records → it ≡ get_or records i it
+pub counted_at : (teams : List Team) (records : List Counted) (i : ℕ) (it : Counted) (t : ℕ) (team : Team) → TeamsInvariant teams records → i < length records → it ≡ get_or records i it
     → t ≡ it.held.team → team ≡ get_or teams t team → CountsMissing team.members it
 counted_at teams records i it t team kept within is of_team is_team =
     let there : slice_get teams it.held.team ≡ Some team =
@@ -56,9 +56,9 @@ counted_for teams x t team members lt of_team is_team are counted s there =
     subst (λ ms. CountsMissing ms x) (are ∙ ap (λ (y : Team). y.members) same) counted
 
 -- a record is changed, and neither its team nor what it holds
-pub AreKept-set : (teams : List Team) (records : List Counted) (i : ℕ) (x d : Counted) → i < length records
-    → x.held.team ≡ (get_or records i d).held.team → x.held.payload ≡ (get_or records i d).held.payload → CountsMissingIn teams x → AreKept teams records → AreKept teams (set records i x)
-AreKept-set teams records i x d within team payload counted kept =
+pub TeamsInvariant-set : (teams : List Team) (records : List Counted) (i : ℕ) (x d : Counted) → i < length records
+    → x.held.team ≡ (get_or records i d).held.team → x.held.payload ≡ (get_or records i d).held.payload → CountsMissingIn teams x → TeamsInvariant teams records → TeamsInvariant teams (set records i x)
+TeamsInvariant-set teams records i x d within team payload counted kept =
     let small : length (get_or records i d).held.payload ≤ MOST_BYTES =
     subst (λ (it : Record). length it.payload ≤ MOST_BYTES) (get_or-map held records i d d.held within) (kept.roster.small i d.held (omega (arith, length-map records held))) in
     record {
@@ -81,8 +81,8 @@ shown_before [] team t i within there = absurd (omega arith)
 shown_before (x ∷ xs) team t zero within there = there
 shown_before (x ∷ xs) team t (suc i) within there = shown_before xs team t i (omega arith) there
 
-pub AreKept-formed : (teams : List Team) (records : List Counted) (team : Team) → AreMembers team.members → length teams < MOST_TEAMS → AreKept teams records → AreKept (teams ++ team ∷ []) records
-AreKept-formed teams records team are few kept = record {
+pub TeamsInvariant-formed : (teams : List Team) (records : List Counted) (team : Team) → AreMembers team.members → length teams < MOST_TEAMS → TeamsInvariant teams records → TeamsInvariant (teams ++ team ∷ []) records
+TeamsInvariant-formed teams records team are few kept = record {
   roster = record {
     rising = All-append (λ (it : Team). AreMembers it.members) teams (team ∷ []) kept.roster.rising (All-cons (λ (it : Team). AreMembers it.members) team [] are (All-nil (λ (it : Team). AreMembers it.members)));
     few_teams = omega (arith, length-append teams (team ∷ []));
@@ -104,9 +104,9 @@ may_be_begun roster team payload none = go (leb (length roster.teams) team) refl
     go false is false isb true isc e = absurd (let x : ⊥ = cc in x)
     go false is false isb false isc e = (grind (arith, nat_tests), grind (arith, nat_tests), grind (arith, nat_tests))
 
-pub AreKept-begun : (teams : List Team) (records : List Counted) (x : Counted) → x.held.team < length teams → length x.held.payload ≤ MOST_BYTES → length records < MOST_RECORDS → CountsMissingIn teams x
-    → AreKept teams records → AreKept teams (records ++ x ∷ [])
-AreKept-begun teams records x within small few counted kept =
+pub TeamsInvariant-begun : (teams : List Team) (records : List Counted) (x : Counted) → x.held.team < length teams → length x.held.payload ≤ MOST_BYTES → length records < MOST_RECORDS → CountsMissingIn teams x
+    → TeamsInvariant teams records → TeamsInvariant teams (records ++ x ∷ [])
+TeamsInvariant-begun teams records x within small few counted kept =
     let is : map held (records ++ x ∷ []) ≡ map held records ++ x.held ∷ [] = map-append held records (x ∷ []) in
     record {
       roster = record {
@@ -124,7 +124,7 @@ AreKept-begun teams records x within small few counted kept =
 -- ---- a mark
 
 -- what is kept of a record that was marked is what the mark makes of it
-pub marked_kept : (teams : List Team) (records : List Counted) (rec p t : ℕ) (it x : Counted) (team : Team) → AreKept teams records → rec < length records → it ≡ get_or records rec it
+pub marked_kept : (teams : List Team) (records : List Counted) (rec p t : ℕ) (it x : Counted) (team : Team) → TeamsInvariant teams records → rec < length records → it ≡ get_or records rec it
     → t ≡ it.held.team → team ≡ get_or teams t team
     → x.held ≡ record it.held { marks = sets.insert it.held.marks p; acked = it.held.acked || all_marked (sets.insert it.held.marks p) team.members }
     → roster_of teams (set records rec x) ≡ marked_by rec p (roster_of teams records)
@@ -178,9 +178,9 @@ counted_anew teams team changed it within counted t there = go (eqb it.held.team
     go true same true over = record { right = λ e. absurd (let f : true ≡ false = sym over ∙ e in let x : ⊥ = cc in x) }
     go false other a is = counted t (ap (λ b. cond b (Some changed) (slice_get teams it.held.team)) (sym other) ∙ found)
 
-pub AreKept-replaced : (teams : List Team) (records : List Counted) (team : ℕ) (out into : ProcId) (was : Team) → slice_get teams team ≡ Some was → is_among was.members out.0 ≡ true
-    → AreKept teams records → AreKept (set teams team (with_member out into was)) (map (recounted team (swapped out into was.members)) records)
-AreKept-replaced teams records team out into was there member kept = record {
+pub TeamsInvariant-replaced : (teams : List Team) (records : List Counted) (team : ℕ) (out into : ProcId) (was : Team) → slice_get teams team ≡ Some was → is_among was.members out.0 ≡ true
+    → TeamsInvariant teams records → TeamsInvariant (set teams team (with_member out into was)) (map (recounted team (swapped out into was.members)) records)
+TeamsInvariant-replaced teams records team out into was there member kept = record {
   roster = subst (λ rs. IsRoster (record { teams = set teams team (with_member out into was); records = rs })) (sym (records_recounted team (swapped out into was.members) records))
       (IsRoster-replaced (roster_of teams records) team out into was there member kept.roster);
   counted = All-map (CountsMissingIn (set teams team (with_member out into was))) (recounted team (swapped out into was.members)) records

@@ -10,7 +10,7 @@ use Rattle.std.proofs.lemmas.Bool.Decides.{nat_tests}
 use Rattle.std.proofs.lemmas.List.Elements.{All-cons, All-head, All-tail}
 use Rattle.fy_locality.specs.declared.ProcId.{ProcId}
 use Rattle.std.proofs.lemmas.Option.{slice_get-get_or, slice_get_within, slice_get-map}
-use Rattle.fy_team.specs.Teams.{Team, Roster, Record, unmarked, marked_by, begun_for, healed, unless_acked, is_marked, is_acked, is_complete, IsMarkedByAll, all_marked, team_number, payload_in, members_in, with_mark}
+use Rattle.fy_team.specs.Teams.{Team, Roster, Record, unmarked, marked_by, with_record, healed, healed_record, is_marked, is_acked, is_complete, IsMarkedByAll, all_marked, team_number, payload_in, members_in, with_mark}
 
 pub same_number : (q at : ℕ) → eqb q at ≡ true → q ≡ at
 same_number q at e = grind (arith, nat_tests)
@@ -203,7 +203,7 @@ begun_marked (it ∷ records) team payload zero q = refl
 begun_marked (it ∷ records) team payload (suc r) q = begun_marked records team payload r q
 
 -- nobody has marked it
-pub begun-marks : (roster : Roster) (team : ℕ) (payload : List ℕ) (r q : ℕ) → is_marked (begun_for team payload roster) r q ≡ is_marked roster r q
+pub begun-marks : (roster : Roster) (team : ℕ) (payload : List ℕ) (r q : ℕ) → is_marked (with_record team payload roster) r q ≡ is_marked roster r q
 begun-marks roster team payload r q = begun_marked roster.records team payload r q
 
 begun_acked : (records : List Record) (team : ℕ) (payload : List ℕ) (r : ℕ) → acked_in (slice_get (records ++ unmarked team payload ∷ []) r) ≡ acked_in (slice_get records r)
@@ -213,7 +213,7 @@ begun_acked (it ∷ records) team payload zero = refl
 begun_acked (it ∷ records) team payload (suc r) = begun_acked records team payload r
 
 -- it isn't acknowledged
-pub begun-acked : (roster : Roster) (team : ℕ) (payload : List ℕ) (r : ℕ) → is_acked (begun_for team payload roster) r ≡ is_acked roster r
+pub begun-acked : (roster : Roster) (team : ℕ) (payload : List ℕ) (r : ℕ) → is_acked (with_record team payload roster) r ≡ is_acked roster r
 begun-acked roster team payload r = begun_acked roster.records team payload r
 
 -- ---- what a heal changes
@@ -229,18 +229,18 @@ and_turned false true = refl
 and_turned false false = refl
 
 pub healed-marks : (roster : Roster) (p r q : ℕ) → is_marked (healed p roster) r q ≡ (is_marked roster r q && (is_acked roster r || not (eqb q p)))
-healed-marks roster p r q = ap (λ found. marked_in found q) (slice_get-map (unless_acked p) roster.records r) ∙ go (slice_get roster.records r)
+healed-marks roster p r q = ap (λ found. marked_in found q) (slice_get-map (healed_record p) roster.records r) ∙ go (slice_get roster.records r)
   where
     one : (it : Record) (b : Bool) → sets.contains (cond b it (record it { marks = sets.remove it.marks p })).marks q ≡ (sets.contains it.marks q && (b || not (eqb q p)))
     one it true = and_one (sets.contains it.marks q)
     one it false = sets.contains-remove nat_cmp_total it.marks p q ∙ ap (λ b. not b && sets.contains it.marks q) (unsigned_tied q p) ∙ and_turned (not (eqb q p)) (sets.contains it.marks q)
 
-    go : (found : Option Record) → marked_in (option_map (unless_acked p) found) q ≡ (marked_in found q && (acked_in found || not (eqb q p)))
+    go : (found : Option Record) → marked_in (option_map (healed_record p) found) q ≡ (marked_in found q && (acked_in found || not (eqb q p)))
     go None = refl
     go (Some it) = one it it.acked
 
 -- what a heal leaves of a record
-unless_acked_leaves : {X : Type 0} (part : Record → X) → ((it : Record) (marks : sets.FinSet nat_cmp) → part (record it { marks = marks }) ≡ part it) → (p : ℕ) (it : Record) → part (unless_acked p it) ≡ part it
+unless_acked_leaves : {X : Type 0} (part : Record → X) → ((it : Record) (marks : sets.FinSet nat_cmp) → part (record it { marks = marks }) ≡ part it) → (p : ℕ) (it : Record) → part (healed_record p it) ≡ part it
 unless_acked_leaves part stays p it = one it.acked
   where
     one : (b : Bool) → part (cond b it (record it { marks = sets.remove it.marks p })) ≡ part it
@@ -249,18 +249,18 @@ unless_acked_leaves part stays p it = one it.acked
 
 -- and of each
 healed_leaves : {X : Type 0} (part : Record → X) → ((it : Record) (marks : sets.FinSet nat_cmp) → part (record it { marks = marks }) ≡ part it)
-    → (p : ℕ) (records : List Record) (r : ℕ) → option_map part (slice_get (map (unless_acked p) records) r) ≡ option_map part (slice_get records r)
-healed_leaves part stays p records r = ap (option_map part) (slice_get-map (unless_acked p) records r) ∙ go (slice_get records r)
+    → (p : ℕ) (records : List Record) (r : ℕ) → option_map part (slice_get (map (healed_record p) records) r) ≡ option_map part (slice_get records r)
+healed_leaves part stays p records r = ap (option_map part) (slice_get-map (healed_record p) records r) ∙ go (slice_get records r)
   where
-    go : (found : Option Record) → option_map part (option_map (unless_acked p) found) ≡ option_map part found
+    go : (found : Option Record) → option_map part (option_map (healed_record p) found) ≡ option_map part found
     go None = refl
     go (Some it) = ap Some (unless_acked_leaves part stays p it)
 
-pub unless_acked-team : (p : ℕ) (it : Record) → (unless_acked p it).team ≡ it.team
-unless_acked-team p it = unless_acked_leaves (λ it. it.team) (λ it marks. refl) p it
+pub healed_record-team : (p : ℕ) (it : Record) → (healed_record p it).team ≡ it.team
+healed_record-team p it = unless_acked_leaves (λ it. it.team) (λ it marks. refl) p it
 
-pub unless_acked-payload : (p : ℕ) (it : Record) → (unless_acked p it).payload ≡ it.payload
-unless_acked-payload p it = unless_acked_leaves (λ it. it.payload) (λ it marks. refl) p it
+pub healed_record-payload : (p : ℕ) (it : Record) → (healed_record p it).payload ≡ it.payload
+healed_record-payload p it = unless_acked_leaves (λ it. it.payload) (λ it marks. refl) p it
 
 pub healed-teams : (roster : Roster) (p r : ℕ) → team_number (healed p roster) r ≡ team_number roster r
 healed-teams roster p r = healed_leaves (λ it. it.team) (λ it marks. refl) p roster.records r

@@ -1,4 +1,4 @@
--- records as they are kept: each with the number of members of its team that haven't marked it
+-- records in memory: each with the number of members of its team that haven't marked it
 use Rattle.std.specs.Prelude.{◌≡◌, ◌&&◌, ◌==◌, ℕ, false, not, Some, List, length, map, filter, slice_get, if◌then◌else◌}
 use Rattle.std.specs.List.{All}
 use Rattle.std.specs.Ordering.{nat_cmp}
@@ -6,7 +6,7 @@ use Rattle.std.specs.FinSet as sets
 use Rattle.fy_locality.specs.declared.ProcId.{ProcId}
 use Rattle.fy_team.specs.Teams.{Team, Record, Roster, IsRoster}
 
--- a record, and how many members of its team are said to have no mark
+-- a record, and the count of its team's members that have no mark
 pub record Counted : Type 0 where
   pub held : Record
   pub missing : ℕ
@@ -15,25 +15,25 @@ pub record Counted : Type 0 where
 abbrev pub missing_among : sets.FinSet nat_cmp → List ProcId → ℕ
 missing_among marks members = length (filter (λ p. not (sets.contains marks p.0)) members)
 
--- the number is right for these members; of an acknowledged record nothing is said
+-- the count is right for these members, unless the record is acknowledged
 pub record CountsMissing (members : List ProcId) (it : Counted) : Type 0 where
   pub right : it.held.acked ≡ false → it.missing ≡ missing_among it.held.marks members
 
--- the number is right for the members of the record's team
+-- the count is right for the members of the record's team
 abbrev pub CountsMissingIn : List Team → Counted → Type 0
 CountsMissingIn teams it =
     (team : Team) → slice_get teams it.held.team ≡ Some team → CountsMissing team.members it
 
--- the teams and the records without their numbers
+-- the teams and the records without their counts
 abbrev pub roster_of : List Team → List Counted → Roster
 roster_of teams records = record { teams = teams; records = map (λ it. it.held) records }
 
--- what holds of teams and records as they are kept
-pub record AreKept (teams : List Team) (records : List Counted) : Type 0 where
+-- what always holds of the fields: they stand for a roster, and each count is right
+pub record TeamsInvariant (teams : List Team) (records : List Counted) : Type 0 where
   pub roster : IsRoster (roster_of teams records)
   pub counted : All (CountsMissingIn teams) records
 
--- a record counted anew for these members, where it is of the team with a number and isn't
+-- a record counted anew for these members, if it is of the team with a number and isn't
 -- acknowledged
 abbrev pub recounted : ℕ → List ProcId → Counted → Counted
 recounted team members it =

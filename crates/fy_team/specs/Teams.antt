@@ -1,4 +1,4 @@
--- teams, the records that were begun for them, and who has marked each
+-- teams, the records that were begun for them, and the marks of each record
 use Rattle.std.specs.Prelude.{◌≡◌, ℕ, ◌<◌, ◌≤◌, Bool, true, false, ◌||◌, ◌==◌, not, nat_le, nat_lt, List, [], ◌∷◌, ◌++◌, length, map, filter, slice_get, slice_set, Option, Some, None, option_map, if◌then◌else◌}
 use Rattle.std.specs.List.{All, AllByRecursion, AllPairs, list_all, list_any}
 use Rattle.std.specs.Option.{option_map_or}
@@ -31,8 +31,8 @@ pub record Roster : Type 0 where
   pub records : List Record
 
 -- no team and no record
-abbrev pub nobody : Roster
-nobody = record { teams = []; records = [] }
+abbrev pub no_teams : Roster
+no_teams = record { teams = []; records = [] }
 
 -- ---- members
 
@@ -45,7 +45,7 @@ pub record AreMembers (ps : List ProcId) : Type 0 where
 abbrev pub is_among : List ProcId → ℕ → Bool
 is_among ps q = list_any (λ p. p.0 == q) ps
 
--- the members once `into` stands for `out`: the others stay, those below `into` before it and those
+-- the members once `into` replaces `out`: the others stay, those below `into` before it and those
 -- above behind it
 abbrev pub swapped : ProcId → ProcId → List ProcId → List ProcId
 swapped out into members =
@@ -61,11 +61,11 @@ pub record IsFormed (processes : List Locality) (policies : List Tree) (team : T
   pub known : All (λ p. p.0 < length processes) team.members
   pub satisfied : Sat processes need (is_among team.members)
 
--- every team does
+-- every team is formed
 abbrev pub AreFormed : List Locality → List Tree → List Team → Type 0
 AreFormed processes policies teams = AllByRecursion (IsFormed processes policies) teams
 
--- why members don't make a team under a policy, in order
+-- why members may not form a team under a policy, in order
 abbrev pub unfit :
     List Locality → Option Tree → sets.FinSet nat_cmp → List ProcId → ℕ → Option TeamFault
 unfit processes None gone members policy = Some NoPolicy
@@ -82,8 +82,8 @@ form_refusal roster processes policies gone members policy =
     else unfit processes (slice_get policies policy) gone members policy
 
 -- the teams once one more is formed
-abbrev pub formed_of : List ProcId → ℕ → Roster → Roster
-formed_of members policy roster =
+abbrev pub with_team : List ProcId → ℕ → Roster → Roster
+with_team members policy roster =
     record roster { teams = roster.teams ++ record { members = members; policy = policy } ∷ [] }
 
 -- the members of the team with a number
@@ -94,11 +94,11 @@ members_in roster team = option_map (λ it. it.members) (slice_get roster.teams 
 abbrev pub policy_in : Roster → ℕ → Option ℕ
 policy_in roster team = option_map (λ it. it.policy) (slice_get roster.teams team)
 
--- a team once `into` stands for `out` in it
+-- a team once `into` replaces `out` in it
 abbrev pub with_member : ProcId → ProcId → Team → Team
 with_member out into team = record team { members = swapped out into team.members }
 
--- the teams once `into` stands for `out` in one that is there
+-- the teams once `into` replaces `out` in one of them
 abbrev pub replaced : ℕ → ProcId → ProcId → Roster → Roster
 replaced team out into roster = record roster {
   teams = option_map_or
@@ -107,8 +107,8 @@ replaced team out into roster = record roster {
       roster.teams;
 }
 
--- the team is there, `out` is a member, `into` a process that isn't one, and with `into` for `out`
--- the members satisfy the policy that the team names
+-- there is such a team, `out` is a member and `into` a process that isn't, and with `into` for
+-- `out` the members satisfy the policy that the team names
 pub record MayReplace (processes : List Locality) (policies : List Tree) (roster : Roster)
     (team : ℕ) (out into : ProcId) : Type 0 where
   pub members : List ProcId
@@ -137,7 +137,7 @@ abbrev pub unmarked : ℕ → List ℕ → Record
 unmarked team payload =
     record { team = team; payload = payload; marks = sets.empty; acked = false }
 
--- why a record isn't begun, in order
+-- why a record may not be begun, in order
 abbrev pub begin_refusal : Roster → ℕ → List ℕ → Option TeamFault
 begin_refusal roster team payload =
     if nat_le (length roster.teams) team then Some NoTeam
@@ -145,39 +145,39 @@ begin_refusal roster team payload =
     else (if nat_le MOST_RECORDS (length roster.records) then Some TooMany else None))
 
 -- the records once one more is begun: nobody has marked it
-abbrev pub begun_for : ℕ → List ℕ → Roster → Roster
-begun_for team payload roster =
+abbrev pub with_record : ℕ → List ℕ → Roster → Roster
+with_record team payload roster =
     record roster { records = roster.records ++ unmarked team payload ∷ [] }
 
 -- whether each of these members is among the marks
 abbrev pub all_marked : sets.FinSet nat_cmp → List ProcId → Bool
 all_marked marks members = list_all (λ p. sets.contains marks p.0) members
 
--- whether the team with a number is there and each of its members is among the marks
+-- whether there is such a team and each of its members is among the marks
 abbrev pub is_complete : Roster → ℕ → sets.FinSet nat_cmp → Bool
 is_complete roster team marks = option_map_or (all_marked marks) (members_in roster team) false
 
--- a record once process p has marked it: acknowledged where it was, and where each member of its
--- team has marked it by then
+-- a record once process p has marked it: acknowledged if it was, or if each member of its team has
+-- then marked it
 abbrev pub with_mark : Roster → ℕ → Record → Record
 with_mark roster p it =
     let marks = sets.insert it.marks p in
     record it { marks = marks; acked = it.acked || is_complete roster it.team marks }
 
--- the records once process p has marked one that is there
+-- the records once process p has marked one of them
 abbrev pub marked_by : ℕ → ℕ → Roster → Roster
 marked_by rec p roster = option_map_or
     (λ it. record roster { records = slice_set roster.records rec (with_mark roster p it) })
     (slice_get roster.records rec)
     roster
 
--- a record once process p is healed: without its mark, but where it is acknowledged
-abbrev pub unless_acked : ℕ → Record → Record
-unless_acked p it = if it.acked then it else record it { marks = sets.remove it.marks p }
+-- a record once process p is healed: without p's mark, unless it is acknowledged
+abbrev pub healed_record : ℕ → Record → Record
+healed_record p it = if it.acked then it else record it { marks = sets.remove it.marks p }
 
 -- the records once process p is healed
 abbrev pub healed : ℕ → Roster → Roster
-healed p roster = record roster { records = map (unless_acked p) roster.records }
+healed p roster = record roster { records = map (healed_record p) roster.records }
 
 -- whether there is such a record and process p has marked it
 abbrev pub is_marked : Roster → ℕ → ℕ → Bool
@@ -198,7 +198,7 @@ pub record IsMarkedByAll (roster : Roster) (rec : ℕ) : Type 0 where
 
 -- ---- what holds of all teams and records
 
--- members rise, each record is of a team that is there and is small, and nothing is beyond its
+-- members rise, each record is of an existing team and small enough, and nothing is beyond its
 -- limit
 pub record IsRoster (roster : Roster) : Type 0 where
   pub rising : All (λ team. AreMembers team.members) roster.teams

@@ -6,7 +6,7 @@ use std::alloc::{AllocError, AllocFailed};
 pub enum MembersFault {
     /// The numbers don't rise, or there are more than 1024.
     Members,
-    /// There was no memory for them.
+    /// An allocation failed.
     NoMemory,
 }
 
@@ -39,7 +39,7 @@ pub enum TeamFault {
     NoTeam,
     /// The payload has more than 256 bytes.
     Payload,
-    /// There was no memory for one more.
+    /// An allocation failed.
     NoMemory,
 }
 

@@ -1,4 +1,4 @@
-//! Whether members make a team.
+//! Whether a team may be formed.
 ghost use Rattle.std.specs.Prelude.{◌≡◌, ◌≤◌, ℕ, false, nat_le, length, slice_get, Some};
 ghost use Rattle.std.specs.List.{list_any};
 ghost use Rattle.std.specs.FinSet as sets;
@@ -9,7 +9,7 @@ use crate::team::KeptTeam;
 use fy_locality::{MOST_PROCESSES, Map, ProcId, ProcSet};
 use fy_policy::{Policy, satisfied};
 
-/// Why the members of a team don't make one under the policy that it names.
+/// Why a team may not be formed under the policy that it names, if it may not.
 pub(crate) fn unfit(
     map: &Map,
     policies: &[Policy],
@@ -25,15 +25,15 @@ pub(crate) fn unfit(
     unfit_for(map, need, gone, team)
 }
 
-/// Why the members of a team don't make one under this policy, which the team names.
+/// Why a team may not be formed under this policy, which it names, if it may not.
 fn unfit_for(map: &Map, need: &Policy, gone: &ProcSet, team: &KeptTeam) -> Option<TeamFault>
     ensures { result ≡ unfit map.now (Some need.now) gone.now team.now.members team.now.policy }
 {
     let (members, policy) = (team.members.as_slice(), team.policy);
-    if has_stranger(map, members) {
+    if has_unknown_process(map, members) {
         return Some(TeamFault::NoProcess);
     }
-    if has_some(gone, members) {
+    if has_any_of(gone, members) {
         return Some(TeamFault::Gone);
     }
     if !satisfied(need, map, &set_of(members)) {
@@ -43,7 +43,7 @@ fn unfit_for(map: &Map, need: &Policy, gone: &ProcSet, team: &KeptTeam) -> Optio
 }
 
 /// Whether some member is no process of the map.
-fn has_stranger(map: &Map, members: &[ProcId]) -> bool
+fn has_unknown_process(map: &Map, members: &[ProcId]) -> bool
     ensures strangers { result ≡ list_any (λ p. nat_le (length map.now) p.0) members.now }
     ensures few { length map.now ≤ MOST_PROCESSES }
 {
@@ -52,7 +52,7 @@ fn has_stranger(map: &Map, members: &[ProcId]) -> bool
 }
 
 /// Whether some member is in the set.
-fn has_some(set: &ProcSet, members: &[ProcId]) -> bool
+fn has_any_of(set: &ProcSet, members: &[ProcId]) -> bool
     ensures { result ≡ list_any (λ p. sets.contains set.now p.0) members.now }
 {
     members.iter().any(|p| set.contains(*p))

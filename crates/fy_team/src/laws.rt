@@ -1,7 +1,7 @@
 //! Laws of teams, for the crates above.
 ghost use Rattle.fy_team.specs.Standing.{MembersTested, FitIsFormed, SwappedMembers, ReplacedMembers, ReplacedPolicies, MarkAcknowledges, AckedByMark, AckedStays, MarkLeavesTeams, MarkIsOneMore, MarkTwice, BegunUnmarked, BegunUnacked, HealedMarks, HealedAcked, HealedTeams, HealedPayloads};
 
-/// Numbers are members exactly where they are few enough and each is more than the one before it.
+/// Numbers are members exactly if they are few enough and each is above the one before it.
 #[tactic(auto, using(crate::proofs::Rising::members_tested))]
 pub fn members_are_tested()
     ensures { MembersTested }
@@ -14,7 +14,7 @@ pub fn fit_is_formed()
     fy_policy::laws::test_is_satisfaction();
 }
 
-/// A replacement changes one team: one process isn't a member any more, and another is. Each team
+/// A replacement changes one team: one process is no longer a member, and another is. Each team
 /// names the policy that it named.
 pub fn a_replacement_changes_one_team()
     ensures among { SwappedMembers }
@@ -30,8 +30,8 @@ pub fn a_mark_acknowledges()
     ensures stays { AckedStays }
 {}
 
-/// A mark leaves the teams, adds one process to the marks of one record, and changes nothing where
-/// it is there already and the record is acknowledged.
+/// A mark leaves the teams, adds one process to the marks of one record, and changes nothing if it
+/// is there already and the record is acknowledged.
 pub fn a_mark_is_one_more()
     ensures teams { MarkLeavesTeams }
     ensures marks { MarkIsOneMore }

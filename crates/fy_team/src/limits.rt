@@ -1,4 +1,4 @@
-//! How far teams and records go.
+//! The limits of teams and records.
 
 /// How many members a team may have.
 pub const MOST_MEMBERS: usize = 1024;

@@ -30,12 +30,12 @@ impl Model for Members {
 }
 
 impl Members {
-    /// Members of a copy of these numbers, whether or not there are such processes.
+    /// Makes members by copying these numbers, whether or not there are such processes.
     ///
     /// # Errors
     ///
-    /// In order: `Members` where the numbers don't rise, one being no more than the one before it,
-    /// or where there are more than 1024; `NoMemory`.
+    /// In order: `Members` if a number isn't above the one before it, or there are more than 1024;
+    /// `NoMemory`.
     pub fn make(alloc: Global, processes: &[ProcId]) -> Result<Members, MembersFault>
         ensures refused { ¬ AreMembers processes.now → result ≡ Err MembersFault.Members }
         ensures memory { AreMembers processes.now → IfErr result (λ fault. fault ≡ NoMemory) }
@@ -48,7 +48,7 @@ impl Members {
         Ok(Members { processes })
     }
 
-    /// Members of these numbers, in the memory that they have.
+    /// Makes members of these numbers without copying them.
     ///
     /// # Errors
     ///
@@ -64,7 +64,7 @@ impl Members {
         Ok(Members { processes })
     }
 
-    /// The members by rising number, in the memory that they have.
+    /// Takes the members out, by rising number, without copying them.
     pub fn into_vec(self) -> Vec<ProcId>
         ensures { result.items ≡ self }
     {
@@ -90,9 +90,9 @@ impl Members {
         }
     }
 
-    /// Lets a process stand for a member, in its place by number. Takes no memory.
+    /// Replaces a member by another process. Takes no memory.
     ///
-    /// Asks for a member, and a process that isn't one.
+    /// `out` must be a member, and `into` must not.
     pub fn replace(&mut self, out: ProcId, into: ProcId)
         requires member { is_among self.old out.0 ≡ true }
         requires stranger { is_among self.old into.0 ≡ false }
@@ -112,11 +112,11 @@ impl Members {
         let _processes = &self.processes;
     }
 
-    /// Equal members in memory of their own.
+    /// Copies the members.
     ///
     /// # Errors
     ///
-    /// `AllocError` only where that memory is refused.
+    /// `AllocError` only if the allocation fails.
     pub fn try_copy(&self, alloc: Global) -> Result<Members, AllocError>
         ensures { IfOk result (λ copy. copy ≡ self.now) }
     {
@@ -150,7 +150,7 @@ impl Eq for Members {
     ghost laws = { Prim.search (comparing, rules) };
 }
 
-/// Whether these make members: they are few enough, and rise.
+/// Whether these are members of a team: they are few enough, and rise.
 fn are_members(processes: &[ProcId]) -> bool
     ensures { IsTrue result ↔ AreMembers processes.now }
 {

@@ -1,7 +1,7 @@
 //! A record as it is kept.
 ghost use Rattle.std.specs.Prelude.{◌≡◌, ◌<◌, ◌&&◌, ◌||◌, not};
 ghost use Rattle.std.specs.FinSet as sets;
-ghost use Rattle.fy_team.specs.Teams.{unmarked, all_marked, unless_acked, is_among};
+ghost use Rattle.fy_team.specs.Teams.{unmarked, all_marked, healed_record, is_among};
 ghost use Rattle.fy_team.specs.Counts.{CountsMissing, missing_among, recounted};
 
 use crate::Members;
@@ -9,9 +9,9 @@ use fy_disk::Payload;
 use fy_locality::{MOST_PROCESSES, ProcId, ProcSet};
 use std::marker::Model;
 
-/// The number of its team, its payload, the processes that have marked it, how many members of its
-/// team haven't, and whether it is acknowledged. The number is right until it is acknowledged, and
-/// isn't looked at from then on.
+/// A record: the number of its team, its payload, the processes that have marked it, how many
+/// members of its team haven't, and whether it is acknowledged. Once it is, the count of members is
+/// neither kept nor read.
 pub(crate) struct KeptRecord {
     team: u32,
     payload: Payload,
@@ -36,7 +36,7 @@ impl Model for KeptRecord {
     } };
 }
 
-// Written out, so that whoever drops a record makes one call.
+// By hand, for the reason given at the `Drop` of `Teams`.
 impl Drop for KeptRecord {
     fn drop(self) {
         let KeptRecord {
@@ -78,8 +78,8 @@ impl KeptRecord {
         &self.payload
     }
 
-    /// Takes down that a process has marked it. Where each of these members, those of its team, has
-    /// marked it by then, it is acknowledged from now on.
+    /// Marks it by a process. The members are those of its team: once each has marked it, it is
+    /// acknowledged.
     pub(crate) fn mark(&mut self, p: ProcId, members: &Members)
         requires small { p.0 < MOST_PROCESSES }
         requires counted { CountsMissing members.now self.old }
@@ -99,11 +99,11 @@ impl KeptRecord {
         }
     }
 
-    /// Takes a process's mark off, but where the record is acknowledged. The members are those of
-    /// its team.
+    /// Takes a process's mark off, unless the record is acknowledged. The members are those of its
+    /// team.
     pub(crate) fn heal(&mut self, p: ProcId, members: &Members)
         requires { CountsMissing members.now self.old }
-        ensures held { self.new.held ≡ unless_acked p.0 self.old.held }
+        ensures held { self.new.held ≡ healed_record p.0 self.old.held }
         ensures counted { CountsMissing members.now self.new }
     {
         if !self.acked && self.marks.contains(p) {
@@ -114,8 +114,8 @@ impl KeptRecord {
         }
     }
 
-    /// Counts anew for these members where it is of the team with this number and isn't
-    /// acknowledged.
+    /// Counts the missing marks anew if it is of the team with this number, which now has these
+    /// members, and isn't acknowledged.
     pub(crate) fn recount(&mut self, team: u32, members: &Members)
         ensures { self.new ≡ recounted team members.now self.old }
     {

@@ -6,7 +6,7 @@ use crate::Members;
 use fy_locality::ProcId;
 use std::marker::Model;
 
-/// Its members, and the number of its policy.
+/// A team: its members, and the number of its policy.
 pub(crate) struct KeptTeam {
     pub(crate) members: Members,
     pub(crate) policy: u32,
@@ -20,7 +20,7 @@ impl Model for KeptTeam {
     ghost view = { λ t. record { members = t.members; policy = t.policy } };
 }
 
-// Written out, so that whoever drops a team makes one call.
+// By hand, for the reason given at the `Drop` of `Teams`.
 impl Drop for KeptTeam {
     fn drop(self) {
         let KeptTeam {
@@ -31,7 +31,7 @@ impl Drop for KeptTeam {
 }
 
 impl KeptTeam {
-    /// Lets a process stand for a member.
+    /// Replaces a member by another process.
     pub(crate) fn replace(&mut self, out: ProcId, into: ProcId)
         requires member { is_among self.old.members out.0 ≡ true }
         requires stranger { is_among self.old.members into.0 ≡ false }

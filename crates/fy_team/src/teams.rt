@@ -1,7 +1,7 @@
 //! The teams and their records.
 ghost use Rattle.std.specs.Prelude.{◌≡◌, ◌<◌, Some, None, length, map, option_map, slice_get, IfOk, IfErr, IsOk, OnOk, OnErr};
 ghost use Rattle.std.specs.Option.{option_copied};
-ghost use Rattle.fy_team.specs.Teams.{nobody, IsFormed, AreFormed, unfit, form_refusal, formed_of, team_number, members_in, policy_in, payload_in, begin_refusal, begun_for, marked_by, is_marked, is_acked, replaced, MayReplace, healed, IsRoster};
+ghost use Rattle.fy_team.specs.Teams.{no_teams, IsFormed, AreFormed, unfit, form_refusal, with_team, team_number, members_in, policy_in, payload_in, begin_refusal, with_record, marked_by, is_marked, is_acked, replaced, MayReplace, healed, IsRoster};
 ghost use Rattle.fy_team.specs.Counts.{recounted};
 ghost use Rattle.fy_team.specs.declared.fault.TeamFault.{TeamFault};
 ghost use Rattle.fy_team.specs.declared.fault.TeamFault.TheVariants.{NoMemory};
@@ -29,7 +29,7 @@ impl Model for Teams {
     ghost use Rattle.std.specs.FinSet as sets;
     ghost use Rattle.std.specs.Ordering.{nat_cmp};
     ghost use Rattle.fy_team.specs.Teams.{Roster};
-    ghost use Rattle.fy_team.specs.Counts.{roster_of, AreKept};
+    ghost use Rattle.fy_team.specs.Counts.{roster_of, TeamsInvariant};
 
     ghost Value = { Roster };
 
@@ -37,10 +37,11 @@ impl Model for Teams {
 
     ghost view = { λ t. roster_of t.teams.items t.records.items };
 
-    ghost invariant = { λ t. AreKept t.teams.items t.records.items };
+    ghost invariant = { λ t. TeamsInvariant t.teams.items t.records.items };
 }
 
-// Written out, so that whoever drops the teams makes one call.
+// By hand. A derived `Drop` would release the parts in each function that drops teams, and the
+// prover would show every release there anew. With this `drop` such a function makes one call.
 impl Drop for Teams {
     fn drop(self) {
         let Teams {
@@ -53,7 +54,7 @@ impl Drop for Teams {
 impl Teams {
     /// No team and no record. Takes no memory.
     pub fn make(alloc: Global) -> Teams
-        ensures { result ≡ nobody }
+        ensures { result ≡ no_teams }
     {
         Teams {
             teams: Vec::new(alloc),
@@ -61,14 +62,14 @@ impl Teams {
         }
     }
 
-    /// Forms a team that names the policy with this number, and answers the team's number.
+    /// Forms a team that names the policy with this number, and returns the team's number.
     ///
     /// # Errors
     ///
-    /// In order: `TooMany` where 4096 teams are there already, `NoPolicy` where there is no such
-    /// policy, `NoProcess` where a member is no process of the map, `Gone` where a member is in
-    /// `gone`, `TeamShort` where the members don't satisfy the policy, `NoMemory`. A refused team
-    /// leaves all as it was.
+    /// In order: `TooMany` if there are 4096 teams already; `NoPolicy` if there is no such policy;
+    /// `NoProcess` if a member is no process of the map; `Gone` if a member is in `gone`;
+    /// `TeamShort` if the members don't satisfy the policy; `NoMemory`. A refused team leaves all
+    /// as it was.
     pub fn form(
         &mut self,
         map: &Map,
@@ -83,7 +84,7 @@ impl Teams {
         ensures memory { form_refusal self.old map.now policies.now gone.now members policy ≡ None →
             IfErr result (λ fault. fault ≡ NoMemory) }
         ensures number { IfOk result (λ team. team ≡ length self.old.teams) }
-        ensures formed { OnOk result (self.new ≡ formed_of members policy self.old) }
+        ensures formed { OnOk result (self.new ≡ with_team members policy self.old) }
         ensures satisfied { OnOk result
             (IsFormed map.now policies.now (record { members = members; policy = policy })) }
         ensures kept { AreFormed map.now policies.now self.old.teams →
@@ -103,12 +104,12 @@ impl Teams {
         Ok(number)
     }
 
-    /// Whether `begin` would take such a record, want of memory aside. Takes no memory.
+    /// Whether `begin` would accept such a record if no allocation fails. Takes no memory.
     ///
     /// # Errors
     ///
-    /// In order: `NoTeam` where there is no such team, `Payload` where it has more than 256 bytes,
-    /// `TooMany` where 65,536 records are there already.
+    /// In order: `NoTeam` if there is no such team; `Payload` if it has more than 256 bytes;
+    /// `TooMany` if there are 65,536 records already.
     pub fn may_begin(&self, team: u32, payload: &Payload) -> Result<(), TeamFault>
         ensures refused { (fault : TeamFault) →
             begin_refusal self.now team payload.now ≡ Some fault → result ≡ Err fault }
@@ -126,7 +127,7 @@ impl Teams {
         Ok(())
     }
 
-    /// Begins a record for a team, with the room for all its marks, and answers the record's
+    /// Begins a record for a team, with the room for all its marks, and returns the record's
     /// number.
     ///
     /// # Errors
@@ -139,7 +140,7 @@ impl Teams {
         ensures memory { begin_refusal self.old team payload ≡ None →
             IfErr result (λ fault. fault ≡ NoMemory) }
         ensures number { IfOk result (λ rec. rec ≡ length self.old.records) }
-        ensures begun { OnOk result (self.new ≡ begun_for team payload self.old) }
+        ensures begun { OnOk result (self.new ≡ with_record team payload self.old) }
         ensures err { OnErr result (self.new ≡ self.old) }
     {
         self.may_begin(team, &payload)?;
@@ -149,11 +150,10 @@ impl Teams {
         Ok(number)
     }
 
-    /// Takes down that a process, member of the team or not, has marked a record, and answers
-    /// whether the record is acknowledged now: it was already, or each member of its team has
-    /// marked it. Takes no memory.
+    /// Marks a record by a process, a member of its team or not, and returns whether the record is
+    /// acknowledged now: it was already, or each member of its team has marked it. Takes no memory.
     ///
-    /// Asks for a record that is there, and a process number below 1024.
+    /// There must be such a record, and the process's number must be below 1024.
     pub fn mark(&mut self, rec: u32, p: ProcId) -> bool
         requires there { rec < length self.old.records }
         requires small { p.0 < MOST_PROCESSES }
@@ -177,12 +177,11 @@ impl Teams {
         }
     }
 
-    /// Lets a process stand for a member of a team from now on. Marks stay, and no record is
-    /// acknowledged by it. Takes no memory.
+    /// Replaces a member of a team by another process. Marks stay, and no record becomes
+    /// acknowledged. Takes no memory.
     ///
-    /// Asks for a team that is there, a member of it and a process of the map that isn't one, so
-    /// that the team satisfies its policy with the one for the other. The map and the policies are
-    /// those by which the caller knows it.
+    /// There must be such a team, `out` must be a member and `into` a process of the map that isn't
+    /// one, and with `into` for `out` the team must satisfy its policy.
     pub fn replace(&mut self, map: &Map, policies: &[Policy], team: u32, out: ProcId, into: ProcId)
         requires { MayReplace map.now policies.now self.old team out into }
         ensures replaced { self.new ≡ replaced team out into self.old }
@@ -204,6 +203,7 @@ impl Teams {
         }
     }
 
+    /// The record with a number, if there is one.
     fn record(&self, rec: u32) -> Option<&KeptRecord>
         ensures { option_map (λ it. it.held) (option_copied result)
             ≡ slice_get self.now.records rec }
@@ -221,7 +221,7 @@ impl Teams {
         }
     }
 
-    /// The number of a record's team, where there is such a record.
+    /// The number of a record's team, if there is such a record.
     pub fn team_of(&self, rec: u32) -> Option<u32>
         ensures { result ≡ team_number self.now rec }
     {
@@ -238,7 +238,7 @@ impl Teams {
         self.records.len() as u32
     }
 
-    /// The members of a team, where there is such a team.
+    /// The members of a team, if there is such a team.
     pub fn members(&self, team: u32) -> Option<&Members>
         ensures { option_copied result ≡ members_in self.now team }
     {
@@ -248,7 +248,7 @@ impl Teams {
         }
     }
 
-    /// The number of the policy that a team names, where there is such a team.
+    /// The number of the policy that a team names, if there is such a team.
     pub fn policy_of(&self, team: u32) -> Option<u32>
         ensures { result ≡ policy_in self.now team }
     {
@@ -256,7 +256,7 @@ impl Teams {
         Some(team.policy)
     }
 
-    /// What a record holds, where there is such a record.
+    /// What a record holds, if there is such a record.
     pub fn payload(&self, rec: u32) -> Option<&Payload>
         ensures { option_copied result ≡ payload_in self.now rec }
     {
@@ -275,8 +275,8 @@ impl Teams {
     }
 }
 
-/// Counts anew for each record of a team that isn't acknowledged which of these members, now those
-/// of the team, haven't marked it.
+/// Counts the missing marks anew in each unacknowledged record of a team, which now has these
+/// members.
 fn recount(records: &mut Vec<KeptRecord>, team: u32, members: &Members)
     ensures { records.new.items ≡ map (recounted team members.now) records.old.items }
 {

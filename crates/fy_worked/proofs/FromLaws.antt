@@ -1,9 +1,9 @@
 -- what the laws of every journal say of written ones
-use Rattle.std.proofs.Common.{◌≡◌, ◌<◌, arith, [], Some, refl, sym}
+use Rattle.std.proofs.Common.{◌≡◌, ◌∙◌, ◌<◌, arith, [], Some, refl, sym}
 use Rattle.fy_kinds.specs.declared.kind.Kind.TheVariants.{Reboot}
 use Rattle.fy_kinds.specs.declared.verdict.Rule.TheVariants.{TooManyDestroyed}
 use Rattle.fy_kinds.specs.declared.verdict.Verdict.{Verdict}
-use Rattle.fy_decide.specs.Losses.{AreShort, AreSatisfied}
+use Rattle.fy_decide.specs.Safety.{AreShort, AreSatisfied}
 use Rattle.fy_decide.specs.Verdicts.{verdict}
 use Rattle.fy_acts.specs.declared.reply.Reply.TheVariants.{Verdict as Verdicted}
 use Rattle.std.specs.Prelude.{ℕ, List, map, IsTrue, is_some}
@@ -15,6 +15,7 @@ use Rattle.fy_cluster.specs.Rules.{situation}
 use Rattle.fy_cluster.specs.Replies.{Legal}
 use Rattle.fy_cluster.specs.Versions.{SecondKnowsAll, LegalUnder}
 use Rattle.fy_cluster.specs.Earlier.{EarlierRulesHold, IsAsEarlier}
+use Rattle.fy_decide.specs.Hardest.{OneVerdictAnswers}
 use Rattle.fy_cluster.specs.Survival.{DestroyedShort, LeftSatisfy, KillsJudged, RecordsKept, KeepersFound, SameActsSameJournal, Kept, by_and_act}
 use Rattle.fy_worked.specs.Clusters.{six}
 use Rattle.fy_worked.specs.Records.{written_and_synced}
@@ -26,8 +27,10 @@ same_verdict v w e = cc
 actor_1_is_there : 1 < 5
 actor_1_is_there = omega arith
 
-pub verdict_stands : KillsJudged → Legal six two_zones → verdict (situation six (history six one_zone) 1) second_kill ≡ record { struck = Some Reboot; rule = Some (TooManyDestroyed 0) }
-verdict_stands law legal = sym (same_verdict _ _ ((law six two_zones legal one_zone [] _ second_kill refl refl).known actor_1_is_there))
+pub verdict_stands : OneVerdictAnswers → KillsJudged → Legal six two_zones → verdict (situation six (history six one_zone) 1) second_kill ≡ record { struck = Some Reboot; rule = Some (TooManyDestroyed 0) }
+verdict_stands one law legal =
+    let told = (law six two_zones legal one_zone [] _ second_kill refl refl).known actor_1_is_there in
+    sym (one (situation six (history six one_zone) 1) second_kill told.0 told.2) ∙ sym (same_verdict _ _ told.1)
 
 pub short_after : DestroyedShort → IsMet six → Legal six written_and_synced → AreShort six.processes six.policies (destroyed (history six written_and_synced))
 short_after law met legal = law six written_and_synced met legal

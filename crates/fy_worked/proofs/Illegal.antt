@@ -86,9 +86,9 @@ marked_unsynced l = marked_or_stored l.1.1.1.0.right
 marked_or_no_message : Marked false ≡ No NoMessage → ⊥
 marked_or_no_message e = absurd (cc)
 
-pub word_never_sent : Legal six wrong.word_never_sent → ⊥
+pub ack_never_sent : Legal six wrong.ack_never_sent → ⊥
 unfolding cluster_on_literals
-word_never_sent l = marked_or_no_message l.1.1.1.1.0.right
+ack_never_sent l = marked_or_no_message l.1.1.1.1.0.right
 
 sent_or_acknowledged : Sent 4 ≡ No Acked → ⊥
 sent_or_acknowledged e = absurd (cc)
@@ -113,9 +113,9 @@ pub mark_kept : Legal six wrong.mark_kept → ⊥
 unfolding cluster_on_literals
 mark_kept l = acked_or_not l.1.1.1.1.1.1.1.1.1.1.1.0.right
 
-pub word_kept : Legal six wrong.word_kept → ⊥
+pub ack_kept : Legal six wrong.ack_kept → ⊥
 unfolding cluster_on_literals
-word_kept l = marked_or_no_message l.1.1.1.1.1.1.1.1.0.right
+ack_kept l = marked_or_no_message l.1.1.1.1.1.1.1.1.0.right
 
 done_or_needed : Done ≡ No (StillNeeds 0) → ⊥
 done_or_needed e = absurd (cc)

@@ -4,7 +4,7 @@ use Rattle.std.specs.Prelude.{codes}
 use Rattle.std.specs.List.{IsDistinct}
 use Rattle.fy_policy.specs.Tree.{IsPolicy}
 use Rattle.fy_policy.specs.Sat.{Sat}
-use Rattle.fy_decide.specs.Losses.{everyone}
+use Rattle.fy_decide.specs.Safety.{everyone}
 use Rattle.fy_cluster.specs.Setup.{IsMet}
 use Rattle.fy_worked.specs.Clusters.{six, in_two_zones, six_processes}
 

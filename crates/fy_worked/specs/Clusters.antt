@@ -36,6 +36,7 @@ located process machine zone =
       data_center = Some (codes "d0");
     }
 
+-- four processes in two zones
 abbrev pub four_processes : List Locality
 four_processes =
     located (codes "p0") (codes "m0") (codes "z0")
@@ -44,6 +45,7 @@ four_processes =
     ∷ located (codes "p3") (codes "m3") (codes "z1")
     ∷ []
 
+-- six processes in three zones
 abbrev pub six_processes : List Locality
 six_processes =
     located (codes "p0") (codes "m0") (codes "z0")
@@ -54,6 +56,7 @@ six_processes =
     ∷ located (codes "p5") (codes "m5") (codes "z2")
     ∷ []
 
+-- every kind of kill, and clogging
 abbrev pub every_kind : KindSet
 every_kind =
     record {
@@ -64,6 +67,7 @@ every_kind =
       clog = true;
     }
 
+-- kill for good and reboot
 abbrev pub kill_and_reboot : KindSet
 kill_and_reboot =
     record {
@@ -74,8 +78,7 @@ kill_and_reboot =
       clog = false;
     }
 
--- actor 0 stores, actor 1 may do everything everywhere, actor 2 may kill and reboot everywhere,
--- actor 3 has no grant, actor 4 operates
+-- actor 0 stores, 1 may do all, 2 may kill and reboot, 3 has no grant, 4 operates
 abbrev pub cluster : List Locality → Tree → ℕ → Setup
 cluster processes policy limit = record {
   processes = processes;
@@ -110,15 +113,19 @@ members s = filter s (0 ∷ 1 ∷ 2 ∷ 3 ∷ 4 ∷ 5 ∷ [])
 
 -- ---- what stands in a journal
 
+-- the entry at a place, by an actor
 abbrev pub entry : (at by : ℕ) → Act → Reply → Entry
 entry at by act reply = record { at = at; by = by; act = act; reply = reply }
 
+-- the process with a number
 abbrev pub process : ℕ → ProcId
 process p = record { 0 = p }
 
+-- all processes of a zone
 abbrev pub zone_named : List ℕ → Target
 zone_named name = record { key = Zone; value = name }
 
+-- one process
 abbrev pub process_named : List ℕ → Target
 process_named name = record { key = Process; value = name }
 

@@ -54,8 +54,8 @@ sent_and_healed =
     ∷ []
 
 -- the word that it sent before is gone, and the other's word is the first
-abbrev pub word_taken : List Entry
-word_taken =
+abbrev pub ack_voided : List Entry
+ack_voided =
     sent_and_healed
     ++ entry 7 0 (Deliver 2) (No NoMessage)
     ∷ entry 8 0 (Deliver 1) Stored
@@ -93,8 +93,8 @@ marked_again =
     ∷ []
 
 -- of four messages in flight a heal takes the process's own word alone
-abbrev pub own_word_taken : List Entry
-own_word_taken =
+abbrev pub own_ack_voided : List Entry
+own_ack_voided =
     entry 0 0 (Form pair 0) (Formed 0)
     ∷ entry 1 0 (Begin 0 hi) (Begun 0 0)
     ∷ entry 2 0 (Begin 0 hi) (Begun 1 2)
@@ -108,9 +108,9 @@ own_word_taken =
     ∷ []
 
 -- the others come, and so does a word that it sends later
-abbrev pub later_words_come : List Entry
-later_words_come =
-    own_word_taken
+abbrev pub later_acks_delivered : List Entry
+later_acks_delivered =
+    own_ack_voided
     ++ entry 10 0 (Deliver 5) (Marked false)
     ∷ entry 11 0 (Deliver 2) Stored
     ∷ entry 12 0 (Sync (process 0)) (Synced 6 1)

@@ -15,21 +15,25 @@ use Rattle.fy_acts.specs.declared.entry.Entry.{Entry}
 use Rattle.fy_cluster.specs.Setup.{Setup}
 use Rattle.fy_worked.specs.Clusters.{six, guarded_six, entry, process, zone_named, process_named, kill, empty, reboot, reboot_or_restart, struck, weakened, barred}
 
+-- the kinds that destroy
 abbrev pub destroying : KindSet
 destroying = record no_deed { reboot_and_delete = true; kill_instantly = true }
 
+-- reboots alone
 abbrev pub rebooting : KindSet
 rebooting = only (Striking Reboot)
 
+-- restarts alone
 abbrev pub restarting : KindSet
 restarting = only (Striking RebootProcess)
 
+-- clogging alone
 abbrev pub clogging : KindSet
 clogging = only Clogging
 
 -- leave of the actor without grants
-abbrev pub leave : KindSet → Scope → Grant
-leave kinds scope = record { actor = 3; kinds = kinds; scope = scope }
+abbrev pub permission : KindSet → Scope → Grant
+permission kinds scope = record { actor = 3; kinds = kinds; scope = scope }
 
 -- a protected process is only rebooted, with its zone; whoever has no grant is told of that first
 abbrev pub protected : List Entry
@@ -54,7 +58,7 @@ first_of_the_rules =
 -- a grant is given and taken, and a protection made and ended; nobody is in a hall
 abbrev pub given_and_taken : List Entry
 given_and_taken =
-    entry 0 4 (Give (leave rebooting All)) Done
+    entry 0 4 (Give (permission rebooting All)) Done
     ∷ entry 1 3 (reboot_or_restart (process_named (codes "p0"))) (struck Reboot)
     ∷ entry 2 4 (Take 3 0) Done
     ∷ entry 3 4 (Take 3 0) (No NoSuch)
@@ -70,9 +74,9 @@ given_and_taken =
 -- second one
 abbrev pub closed_up : List Entry
 closed_up =
-    entry 0 4 (Give (leave rebooting All)) Done
-    ∷ entry 1 4 (Give (leave restarting All)) Done
-    ∷ entry 2 4 (Give (leave clogging All)) Done
+    entry 0 4 (Give (permission rebooting All)) Done
+    ∷ entry 1 4 (Give (permission restarting All)) Done
+    ∷ entry 2 4 (Give (permission clogging All)) Done
     ∷ entry 3 4 (Take 3 1) Done
     ∷ entry 4 3 (reboot_or_restart (process_named (codes "p0"))) (struck Reboot)
     ∷ entry 5 4 (Take 3 1) Done
@@ -83,7 +87,7 @@ closed_up =
 -- a grant for a zone covers its processes alone
 abbrev pub one_zone_granted : List Entry
 one_zone_granted =
-    entry 0 4 (Give (leave rebooting (Where (zone_named (codes "z0"))))) Done
+    entry 0 4 (Give (permission rebooting (Where (zone_named (codes "z0"))))) Done
     ∷ entry 1 3 (reboot (zone_named (codes "z0")) 0) (struck Reboot)
     ∷ entry 2 3 (reboot (zone_named (codes "z1")) 0) (barred (NoGrant (process 2)))
     ∷ []
@@ -112,13 +116,13 @@ protected_from_the_start =
 
 -- the six, with so many grants
 abbrev pub granted : ℕ → Setup
-granted n = record six { grants = replicate n (leave rebooting All) }
+granted n = record six { grants = replicate n (permission rebooting All) }
 
 -- one more than 4095 grants is given, and no further one to anybody
 abbrev pub full_of_grants : List Entry
 full_of_grants =
-    entry 0 4 (Give (leave restarting All)) Done
+    entry 0 4 (Give (permission restarting All)) Done
     ∷ entry 1 4 (Give (record { actor = 2; kinds = restarting; scope = All })) (No Full)
     ∷ entry 2 4 (Take 3 0) Done
-    ∷ entry 3 4 (Give (leave restarting All)) Done
+    ∷ entry 3 4 (Give (permission restarting All)) Done
     ∷ []

@@ -72,8 +72,8 @@ clogged_by_zone =
     ∷ []
 
 -- a clog holds words back, too
-abbrev pub word_held_back : List Entry
-word_held_back =
+abbrev pub ack_held_back : List Entry
+ack_held_back =
     begun
     ++ entry 2 0 (Deliver 0) Stored
     ∷ entry 3 0 (Sync (process 0)) (Synced 2 1)
@@ -84,8 +84,8 @@ word_held_back =
     ∷ []
 
 -- a word that is held back or lost marks nothing; the other member's is the first
-abbrev pub word_lost : List Entry
-word_lost =
+abbrev pub ack_lost : List Entry
+ack_lost =
     begun
     ++ entry 2 0 (Deliver 0) Stored
     ∷ entry 3 0 (Deliver 1) Stored
@@ -168,8 +168,8 @@ clogged_and_down =
 
 -- a clog of a zone isn't for the one that is gone, whose word comes; nor is there a target without
 -- the other
-abbrev pub word_of_the_gone : List Entry
-word_of_the_gone =
+abbrev pub ack_of_the_gone : List Entry
+ack_of_the_gone =
     begun
     ++ entry 2 0 (Deliver 0) Stored
     ∷ entry 3 0 (Sync (process 0)) (Synced 2 1)

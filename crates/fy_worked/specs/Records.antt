@@ -170,8 +170,8 @@ restarted_and_torn =
     ∷ []
 
 -- two records are synced by both members; of each, one word has come
-abbrev pub one_word_each : List Entry
-one_word_each =
+abbrev pub one_ack_each : List Entry
+one_ack_each =
     entry 0 0 (Form pair 0) (Formed 0)
     ∷ entry 1 0 (Begin 0 (10 ∷ [])) (Begun 0 0)
     ∷ entry 2 0 (Begin 0 (11 ∷ [])) (Begun 1 2)
@@ -187,7 +187,7 @@ one_word_each =
 
 -- the second word of the first record acknowledges it alone
 abbrev pub first_acknowledged : List Entry
-first_acknowledged = one_word_each ++ entry 11 0 (Deliver 6) (Marked true) ∷ []
+first_acknowledged = one_ack_each ++ entry 11 0 (Deliver 6) (Marked true) ∷ []
 
 -- what was written and not synced is gone with the rest of an emptied disk
 abbrev pub emptied_unsynced : List Entry

@@ -111,8 +111,8 @@ abbrev pub not_yet_acknowledged : List Entry
 not_yet_acknowledged = all_marked ++ entry 10 0 (Resend 0 (process 0)) (Sent 5) ∷ []
 
 -- a word of another record doesn't acknowledge it
-abbrev pub word_of_another : List Entry
-word_of_another =
+abbrev pub ack_of_another_record : List Entry
+ack_of_another_record =
     all_marked
     ++ entry 10 0 (Begin 0 hi) (Begun 1 5)
     ∷ entry 11 0 (Deliver 5) Stored

@@ -11,7 +11,7 @@ use Rattle.fy_acts.specs.declared.reply.Reply.TheVariants.{Done}
 use Rattle.fy_acts.specs.declared.entry.Entry.{Entry}
 use Rattle.fy_cluster.specs.Setup.{Setup}
 use Rattle.fy_worked.specs.Clusters.{cluster, in_two_zones, entry, process, zone_named, kill, reboot, struck, weakened, barred}
-use Rattle.fy_worked.specs.Leave.{leave, rebooting}
+use Rattle.fy_worked.specs.Leave.{permission, rebooting}
 
 -- a process in no data hall
 abbrev pub placed : (process machine zone : List ℕ) → Option (List ℕ) → Locality
@@ -39,9 +39,11 @@ two_centers =
 abbrev pub centers : Setup
 centers = cluster two_centers in_two_zones 1000
 
+-- all processes of a machine
 abbrev pub machine_named : List ℕ → Target
 machine_named name = record { key = Machine; value = name }
 
+-- all processes of a data center
 abbrev pub center_named : List ℕ → Target
 center_named name = record { key = DataCenter; value = name }
 
@@ -59,9 +61,9 @@ by_machine_and_center =
 -- first is taken
 abbrev pub covered_by_two_grants : List Entry
 covered_by_two_grants =
-    entry 0 4 (Give (leave rebooting (Where (zone_named (codes "z1"))))) Done
+    entry 0 4 (Give (permission rebooting (Where (zone_named (codes "z1"))))) Done
     ∷ entry 1 3 (reboot (center_named (codes "d1")) 0) (barred (NoGrant (process 4)))
-    ∷ entry 2 4 (Give (leave rebooting (Where (zone_named (codes "z2"))))) Done
+    ∷ entry 2 4 (Give (permission rebooting (Where (zone_named (codes "z2"))))) Done
     ∷ entry 3 3 (reboot (center_named (codes "d1")) 0) (struck Reboot)
     ∷ entry 4 4 (Take 3 0) Done
     ∷ entry 5 3 (reboot (center_named (codes "d1")) 0) (barred (NoGrant (process 3)))

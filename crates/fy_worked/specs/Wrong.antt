@@ -9,7 +9,7 @@ use Rattle.fy_acts.specs.declared.reply.Reply.TheVariants.{Formed, Begun, Stored
 use Rattle.fy_acts.specs.declared.entry.Entry.{Entry}
 use Rattle.fy_cluster.specs.Setup.{Setup}
 use Rattle.fy_worked.specs.Clusters.{entry, process, zone_named, process_named, kill, empty, reboot, copy, replace, heal, struck, weakened, barred, cluster, six_processes, in_two_zones}
-use Rattle.fy_worked.specs.Leave.{leave, destroying, rebooting}
+use Rattle.fy_worked.specs.Leave.{permission, destroying, rebooting}
 use Rattle.fy_worked.specs.Targets.{center_named}
 use Rattle.fy_worked.specs.Records.{pair, hi, written_and_synced, forgotten}
 use Rattle.fy_worked.specs.Messages.{begun}
@@ -66,7 +66,7 @@ two_zones_by_center = entry 0 1 (kill (center_named (codes "d1"))) (struck KillI
 -- one grant covers a data centre of which it covers a part
 abbrev pub covered_in_part : List Entry
 covered_in_part =
-    entry 0 4 (Give (leave rebooting (Where (zone_named (codes "z1"))))) Done
+    entry 0 4 (Give (permission rebooting (Where (zone_named (codes "z1"))))) Done
     ∷ entry 1 3 (reboot (center_named (codes "d1")) 0) (struck Reboot)
     ∷ []
 
@@ -79,8 +79,8 @@ abbrev pub marked_unsynced : List Entry
 marked_unsynced = begun ++ entry 2 0 (Deliver 0) (Marked false) ∷ []
 
 -- a word is delivered that nobody has sent
-abbrev pub word_never_sent : List Entry
-word_never_sent = begun ++ entry 2 0 (Deliver 0) Stored ∷ entry 3 0 (Deliver 2) (Marked false) ∷ []
+abbrev pub ack_never_sent : List Entry
+ack_never_sent = begun ++ entry 2 0 (Deliver 0) Stored ∷ entry 3 0 (Deliver 2) (Marked false) ∷ []
 
 -- an acknowledged record is sent again
 abbrev pub sent_though_acknowledged : List Entry
@@ -97,8 +97,8 @@ abbrev pub mark_kept : List Entry
 mark_kept = marked_and_healed ++ entry 10 0 (Deliver 3) (Marked true) ∷ []
 
 -- a heal keeps the word that was sent before
-abbrev pub word_kept : List Entry
-word_kept = sent_and_healed ++ entry 7 0 (Deliver 2) (Marked false) ∷ []
+abbrev pub ack_kept : List Entry
+ack_kept = sent_and_healed ++ entry 7 0 (Deliver 2) (Marked false) ∷ []
 
 -- who lacks an acknowledged record is healed
 abbrev pub healed_in_need : List Entry

@@ -2,8 +2,8 @@
 //! what it comes to; or of a wrong one that it isn't legal.
 pub mod every;
 pub mod healed;
-pub mod leave;
 pub mod messages;
+pub mod permission;
 pub mod records;
 pub mod refused;
 pub mod replaced;

@@ -9,11 +9,11 @@ use Rattle.atomic_table.proofs.Lists.{at_map}
 use Rattle.fy_acts.specs.declared.entry.Entry.{Entry}
 use Rattle.fy_cluster.specs.Setup.{Setup}
 use Rattle.fy_cluster.specs.Replies.{Legal}
-use Rattle.fy_actors.specs.Desk.{Bench, entries_by}
+use Rattle.fy_actors.specs.Desk.{DeskState, entries_by}
 use Rattle.fy_yard.specs.declared.view.View.{View}
-use Rattle.fy_yard.specs.Yard.{StartsWith, Yard, Sitting, actor_count, actors, leftover, IsOf, Missing, new_seat, new_seats}
-use Rattle.fy_yard.specs.Turns.{Sat, Joined, keys, Absent, Differ, KeepsTurns, key_of, joined_by}
-use Rattle.fy_yard.specs.Places.{sitting, key_of_seat, Gathered, IsPlaceOf}
+use Rattle.fy_yard.specs.Yard.{StartsWith, Yard, SeatState, actor_count, actors, closed_seat, IsJournalOf, Missing, new_seat, new_seats}
+use Rattle.fy_yard.specs.Turnstile.{SeatView, Joined, keys, NotAmong, Distinct, KeepsTurns, key_of, joined_by}
+use Rattle.fy_yard.specs.Places.{seat_state, key_of_seat, Gathered, IsPlaceOf}
 use Rattle.fy_yard.proofs.Moves.{ends, Over}
 use Rattle.fy_yard.proofs.Turning.{of_yard}
 use Rattle.fy_yard.proofs.Counting.{most_below, all_there, missing_one, contained, sizes, sizes_all}
@@ -22,25 +22,25 @@ pub new_seats_more : (y : Yard) (a n : ℕ)
     → new_seats y a (suc n) ≡ new_seats y a n ++ new_seat y (a + n) ∷ []
 new_seats_more y a zero = ap (λ (k : ℕ). new_seat y k ∷ []) (omega arith)
 new_seats_more y a (suc n) =
-    ap (λ (l : List Sitting). new_seat y a ∷ l)
+    ap (λ (l : List SeatState). new_seat y a ∷ l)
     (new_seats_more y (a + 1) n
     ∙ ap (λ (k : ℕ). new_seats y (a + 1) n ++ new_seat y k ∷ []) (omega arith))
 
 -- new seats are seats of their cluster
-pub all_new : (y : Yard) (a n : ℕ) → All (λ (s : Sitting). s.of ≡ Some y) (new_seats y a n)
+pub all_new : (y : Yard) (a n : ℕ) → All (λ (s : SeatState). s.of ≡ Some y) (new_seats y a n)
 all_new y a zero k d l = absurd (omega arith)
 all_new y a (suc n) zero d l = refl
 all_new y a (suc n) (suc k) d l = all_new y (a + 1) n k d (omega arith)
 
 -- the first of the seats and those done were joined, and the others are still to be
-pub record Joining (y : Yard) (ss : List Sitting) (i : ℕ) (now : List Sitting) (m : Sat)
+pub record Joining (y : Yard) (ss : List SeatState) (i : ℕ) (now : List SeatState) (m : SeatView)
     : Type 0 where
   pub empty : m.1 ≡ []
-  pub first : Sitting
-  pub done : List Sitting
-  pub todo : List Sitting
+  pub first : SeatState
+  pub done : List SeatState
+  pub todo : List SeatState
   pub seats : ss ≡ first ∷ (done ++ todo)
-  pub left : now ≡ leftover first ∷ (map leftover done ++ todo)
+  pub left : now ≡ closed_seat first ∷ (map closed_seat done ++ todo)
   pub count : i ≡ suc (length done)
   pub setup : m.0.setup ≡ y.setup
   pub all : m.0.all ≡ actor_count y.setup
@@ -73,10 +73,10 @@ map_snoc : {A B : Type 0} (f : A → B) (xs : List A) (x : A)
 map_snoc f [] x = refl
 map_snoc {A} {B} f (y ∷ ys) x = ap (λ (l : List B). f y ∷ l) (map_snoc f ys x)
 
-pub joining_start : (y : Yard) (ss : List Sitting) (f g : Sitting)
-    (p : Place (Option Bench) View) → 0 < length ss → f ≡ get_or ss 0 f → f.of ≡ Some y
-    → sitting f.actor f.receipts (Some p) ≡ f → IsPlaceOf f.actor f.receipts p
-    → g ≡ leftover f → Joining y ss 1 (set ss 0 g) p.me
+pub joining_start : (y : Yard) (ss : List SeatState) (f g : SeatState)
+    (p : Place (Option DeskState) View) → 0 < length ss → f ≡ get_or ss 0 f → f.of ≡ Some y
+    → seat_state f.actor f.receipts (Some p) ≡ f → IsPlaceOf f.actor f.receipts p
+    → g ≡ closed_seat f → Joining y ss 1 (set ss 0 g) p.me
 joining_start y [] f g p one_there is of view at left = absurd (omega arith)
 joining_start y (x ∷ xs) f g p one_there is of view at left =
     let calm = at.calm in
@@ -88,83 +88,83 @@ joining_start y (x ∷ xs) f g p one_there is of view at left =
       done = [];
       todo = xs;
       seats = refl;
-      left = ap (λ (z : Sitting). z ∷ xs) (left ∙ ap leftover is);
+      left = ap (λ (z : SeatState). z ∷ xs) (left ∙ ap closed_seat is);
       count = refl;
       setup = setup;
       all = at.all ∙ ap (λ (c : Setup). actor_count c) setup;
       seated = calm.seated;
       holds = calm.holds;
       live = calm.live;
-      actor = at.actor ∙ ap (λ (z : Sitting). z.actor) is;
-      mine = at.mine ∙ ap (λ (z : Sitting). z.receipts) is;
-      seen = ap (λ (z : Sitting). z.seen) (view ∙ is);
+      actor = at.actor ∙ ap (λ (z : SeatState). z.actor) is;
+      mine = at.mine ∙ ap (λ (z : SeatState). z.receipts) is;
+      seen = ap (λ (z : SeatState). z.seen) (view ∙ is);
       parts = calm.parts;
       kept = calm.kept;
     }
 
 -- the seat that comes next is still as it was
-pub joining_at : (y : Yard) (ss : List Sitting) (i : ℕ) (now : List Sitting) (m : Sat)
-    (d : Sitting) → Joining y ss i now m → get_or now i d ≡ get_or ss i d
+pub joining_at : (y : Yard) (ss : List SeatState) (i : ℕ) (now : List SeatState) (m : SeatView)
+    (d : SeatState) → Joining y ss i now m → get_or now i d ≡ get_or ss i d
 joining_at y ss i now m d j =
-    let first : Sitting = j.first in
-    let done : List Sitting = j.done in
-    let todo : List Sitting = j.todo in
+    let first : SeatState = j.first in
+    let done : List SeatState = j.done in
+    let todo : List SeatState = j.todo in
     let near : get_or now i d ≡ get_or todo 0 d =
-    ap (λ (z : List Sitting × ℕ). get_or z.0 z.1 d) (λ k. (j.left k, j.count k))
-    ∙ at_mid (map leftover done) todo (length done) d (sym (length-map done leftover)) in
+    ap (λ (z : List SeatState × ℕ). get_or z.0 z.1 d) (λ k. (j.left k, j.count k))
+    ∙ at_mid (map closed_seat done) todo (length done) d (sym (length-map done closed_seat)) in
     let far : get_or ss i d ≡ get_or todo 0 d =
-    ap (λ (z : List Sitting × ℕ). get_or z.0 z.1 d) (λ k. (j.seats k, j.count k))
+    ap (λ (z : List SeatState × ℕ). get_or z.0 z.1 d) (λ k. (j.seats k, j.count k))
     ∙ at_mid done todo (length done) d refl in
     near ∙ sym far
 
-pub joining_next : (y : Yard) (ss : List Sitting) (i : ℕ) (now : List Sitting) (m m' : Sat)
-    (f g : Sitting) (p : Place (Option Bench) View) (j : Joining y ss i now m)
+pub joining_next : (y : Yard) (ss : List SeatState) (i : ℕ) (now : List SeatState) (m m' : SeatView)
+    (f g : SeatState) (p : Place (Option DeskState) View) (j : Joining y ss i now m)
     → i < length ss → f ≡ get_or now i f → f.of ≡ Some y
-    → sitting f.actor f.receipts (Some p) ≡ f → IsPlaceOf f.actor f.receipts p
-    → g ≡ leftover f → m' ≡ (joined_by m.0 p.me.0, m.1)
+    → seat_state f.actor f.receipts (Some p) ≡ f → IsPlaceOf f.actor f.receipts p
+    → g ≡ closed_seat f → m' ≡ (joined_by m.0 p.me.0, m.1)
     → Joining y ss (i + 1) (set now i g) m'
 joining_next y ss i now m m' f g p j room is of view at left joined =
     next j.todo j.seats j.left
   where
-    next : (todo : List Sitting) → ss ≡ j.first ∷ (j.done ++ todo)
-        → now ≡ leftover j.first ∷ (map leftover j.done ++ todo)
+    next : (todo : List SeatState) → ss ≡ j.first ∷ (j.done ++ todo)
+        → now ≡ closed_seat j.first ∷ (map closed_seat j.done ++ todo)
         → Joining y ss (i + 1) (set now i g) m'
     next [] seats here =
         let count = j.count in
-        absurd (let long = ap (λ (l : List Sitting). length l) seats in
+        absurd (let long = ap (λ (l : List SeatState). length l) seats in
         omega (arith, length-append j.done []))
     next (x ∷ xs) seats here =
         let calm = at.calm in
         let actor = at.actor in
         let mine = at.mine in
         let count = j.count in
-        let many : length j.done ≡ length (map leftover j.done) =
-        sym (length-map j.done leftover) in
+        let many : length j.done ≡ length (map closed_seat j.done) =
+        sym (length-map j.done closed_seat) in
         let same : f ≡ x =
         is
-        ∙ (ap (λ (z : List Sitting × ℕ). get_or z.0 z.1 f) (λ k. (here k, count k))
-        ∙ at_mid (map leftover j.done) (x ∷ xs) (length j.done) f many) in
+        ∙ (ap (λ (z : List SeatState × ℕ). get_or z.0 z.1 f) (λ k. (here k, count k))
+        ∙ at_mid (map closed_seat j.done) (x ∷ xs) (length j.done) f many) in
         let parts = j.parts in
         let one = calm.parts in
         let key : key_of p.me.0 ≡ key_of_seat x =
         ap (λ (z : Joined). z) (λ k. (actor k, (mine k, (view k).seen)))
         ∙ ap key_of_seat same in
-        let gone : g ≡ leftover x = left ∙ ap leftover same in
-        subst (λ (z : Sat). Joining y ss (i + 1) (set now i g) z) (sym joined) record {
+        let gone : g ≡ closed_seat x = left ∙ ap closed_seat same in
+        subst (λ (z : SeatView). Joining y ss (i + 1) (set now i g) z) (sym joined) record {
           empty = j.empty;
           first = j.first;
           done = j.done ++ x ∷ [];
           todo = xs;
           seats =
               seats
-              ∙ ap (λ (l : List Sitting). j.first ∷ l) (sym (append_assoc j.done (x ∷ []) xs));
+              ∙ ap (λ (l : List SeatState). j.first ∷ l) (sym (append_assoc j.done (x ∷ []) xs));
           left =
-              ap (λ (z : List Sitting × ℕ). set z.0 z.1 g) (λ k. (here k, count k))
-              ∙ (ap (λ (l : List Sitting). leftover j.first ∷ l)
-              (set_mid (map leftover j.done) x xs (length j.done) g many)
-              ∙ ap (λ (l : List Sitting). leftover j.first ∷ (l ++ xs))
-              (ap (λ (z : Sitting). map leftover j.done ++ z ∷ []) gone
-              ∙ sym (map_snoc leftover j.done x)));
+              ap (λ (z : List SeatState × ℕ). set z.0 z.1 g) (λ k. (here k, count k))
+              ∙ (ap (λ (l : List SeatState). closed_seat j.first ∷ l)
+              (set_mid (map closed_seat j.done) x xs (length j.done) g many)
+              ∙ ap (λ (l : List SeatState). closed_seat j.first ∷ (l ++ xs))
+              (ap (λ (z : SeatState). map closed_seat j.done ++ z ∷ []) gone
+              ∙ sym (map_snoc closed_seat j.done x)));
           count = omega (arith, length-append j.done (x ∷ []));
           setup = j.setup;
           all = j.all;
@@ -185,29 +185,29 @@ none_left : {A : Type 0} (xs : List A) → length xs ≡ 0 → xs ≡ []
 none_left [] e = refl
 none_left (x ∷ xs) e = absurd (omega arith)
 
-pub record JoinedAll (y : Yard) (ss now : List Sitting) (m : Sat) : Type 0 where
-  pub left : now ≡ map leftover ss
+pub record JoinedAll (y : Yard) (ss now : List SeatState) (m : SeatView) : Type 0 where
+  pub left : now ≡ map closed_seat ss
   pub gathered : Gathered y ss m
 
-pub joining_end : (y : Yard) (ss : List Sitting) (i : ℕ) (now : List Sitting) (m : Sat)
+pub joining_end : (y : Yard) (ss : List SeatState) (i : ℕ) (now : List SeatState) (m : SeatView)
     → Joining y ss i now m → length ss ≤ i → JoinedAll y ss now m
 joining_end y ss i now m j over =
     let count = j.count in
-    let long = ap (λ (l : List Sitting). length l) j.seats in
+    let long = ap (λ (l : List SeatState). length l) j.seats in
     let none_todo : j.todo ≡ [] =
     none_left j.todo (omega (arith, length-append j.done j.todo)) in
     let all : ss ≡ j.first ∷ j.done =
     j.seats
-    ∙ (ap (λ (l : List Sitting). j.first ∷ (j.done ++ l)) none_todo
-    ∙ ap (λ (l : List Sitting). j.first ∷ l) (append-nil j.done)) in
-    let whole = ap (λ (l : List Sitting). length l) all in
+    ∙ (ap (λ (l : List SeatState). j.first ∷ (j.done ++ l)) none_todo
+    ∙ ap (λ (l : List SeatState). j.first ∷ l) (append-nil j.done)) in
+    let whole = ap (λ (l : List SeatState). length l) all in
     let parts = j.parts in
     record {
       left =
           j.left
-          ∙ (ap (λ (l : List Sitting). leftover j.first ∷ (map leftover j.done ++ l)) none_todo
-          ∙ (ap (λ (l : List Sitting). leftover j.first ∷ l) (append-nil (map leftover j.done))
-          ∙ sym (ap (map leftover) all)));
+          ∙ (ap (λ (l : List SeatState). closed_seat j.first ∷ (map closed_seat j.done ++ l)) none_todo
+          ∙ (ap (λ (l : List SeatState). closed_seat j.first ∷ l) (append-nil (map closed_seat j.done))
+          ∙ sym (ap (map closed_seat) all)));
       gathered = record {
         empty = j.empty;
         first = j.first;
@@ -225,29 +225,29 @@ joining_end y ss i now m j over =
       };
     }
 
-absent_all : (a : ℕ) (ss : List Sitting) → Absent a (actors ss)
-    → All (λ (s : Sitting). s.actor ≢ a) ss
+absent_all : (a : ℕ) (ss : List SeatState) → NotAmong a (actors ss)
+    → All (λ (s : SeatState). s.actor ≢ a) ss
 absent_all a [] n k d l = absurd (omega arith)
 absent_all a (s ∷ ss) n zero d l = n.0
 absent_all a (s ∷ ss) n (suc k) d l = absent_all a ss n.1 k d (omega arith)
 
-pub missing : (n : ℕ) (ss : List Sitting) → length ss < n → Missing n ss
+pub missing : (n : ℕ) (ss : List SeatState) → length ss < n → Missing n ss
 missing n ss few =
     let m = missing_one n (actors ss)
-    (rw (length-map ss (λ (s : Sitting). s.actor)) few) in
+    (rw (length-map ss (λ (s : SeatState). s.actor)) few) in
     (m.0, m.1, absent_all m.0 ss m.2)
 
 -- the end of a shared cluster
-pub record Found (y : Yard) (ss : List Sitting) (r : Option Bench) : Type 0 where
-  pub desk : Bench
+pub record Found (y : Yard) (ss : List SeatState) (r : Option DeskState) : Type 0 where
+  pub desk : DeskState
   pub is : r ≡ Some desk
   pub setup : desk.setup ≡ y.setup
   pub legal : Legal y.setup desk.journal
-  pub each : All (λ (s : Sitting). IsOf desk.journal s) ss
+  pub each : All (λ (s : SeatState). IsJournalOf desk.journal s) ss
   pub whole : (a : ℕ) → a < actor_count y.setup → Contains (actors ss) a
   pub count : length ss ≡ actor_count y.setup
   pub strangers : (a : ℕ) → actor_count y.setup ≤ a → entries_by a desk.journal ≡ []
-  pub entries : sum_by (λ (s : Sitting). length s.receipts) ss ≡ length desk.journal
+  pub entries : sum_by (λ (s : SeatState). length s.receipts) ss ≡ length desk.journal
 
 at_or : {A : Type 0} (l : List A) (i : ℕ) (d : A) → i < length l
     → get_elem? l i ≡ some (get_or l i d)
@@ -255,7 +255,7 @@ at_or [] i d h = absurd (omega arith)
 at_or (x ∷ xs) zero d h = refl
 at_or (x ∷ xs) (suc i) d h = at_or xs i d (omega arith)
 
-keys_map : (ss : List Sitting) → keys (map key_of_seat ss) ≡ actors ss
+keys_map : (ss : List SeatState) → keys (map key_of_seat ss) ≡ actors ss
 keys_map [] = refl
 keys_map (s ∷ ss) = ap (λ (l : List ℕ). s.actor ∷ l) (keys_map ss)
 
@@ -266,14 +266,14 @@ key_at (y ∷ ys) zero x e = (y, refl, some-injective y.0 x e)
 key_at (y ∷ ys) (suc k) x e = key_at ys k x e
 
 -- what all seats have for receipts, added up
-sums : (log : List Entry) (ss : List Sitting) → All (λ (s : Sitting). IsOf log s) ss
-    → sum_by (λ (s : Sitting). length s.receipts) ss ≡ sizes (actors ss) log
+sums : (log : List Entry) (ss : List SeatState) → All (λ (s : SeatState). IsJournalOf log s) ss
+    → sum_by (λ (s : SeatState). length s.receipts) ss ≡ sizes (actors ss) log
 sums log [] each = refl
 sums log (s ∷ ss) each =
     let first : length (entries_by s.actor log) ≡ length s.receipts =
     ap (λ (l : List Entry). length l) (each 0 s (omega arith)).1 in
     let rest = sums log ss (λ k d l. each (suc k) d (omega arith)) in
-    omega (arith, sum_by-cons (λ (s : Sitting). length s.receipts) s ss)
+    omega (arith, sum_by-cons (λ (s : SeatState). length s.receipts) s ss)
 
 below : (v : View) (made : ℕ)
     → (v.actor < made)
@@ -289,19 +289,19 @@ below v made b (suc k) x e =
     let same = z.2 in
     omega arith
 
-each_of : (log : List Entry) (first : Sitting) (rest : List Sitting)
+each_of : (log : List Entry) (first : SeatState) (rest : List SeatState)
     → StartsWith log first.seen → entries_by first.actor log ≡ first.receipts
     → ((k : ℕ) (z : Joined) → get_elem? (map key_of_seat rest) k ≡ some z
     → (entries_by z.0 log ≡ (z.1).0) × StartsWith log ((z.1).1))
-    → All (λ (s : Sitting). IsOf log s) (first ∷ rest)
+    → All (λ (s : SeatState). IsJournalOf log s) (first ∷ rest)
 each_of log first rest saw mine joined zero d l = (saw, mine)
 each_of log first rest saw mine joined (suc k) d l =
     let j = joined k (key_of_seat (get_or rest k d))
     (at_map key_of_seat rest k (get_or rest k d) (at_or rest k d (omega arith))) in
     (j.1, j.0)
 
-pub found : (id : ℕ) (y : Yard) (ss : List Sitting) (m : Sat) (ws : List ℕ)
-    (xs : List (Option Bench)) (r : Option Bench) → Gathered y ss m
+pub found : (id : ℕ) (y : Yard) (ss : List SeatState) (m : SeatView) (ws : List ℕ)
+    (xs : List (Option DeskState)) (r : Option DeskState) → Gathered y ss m
     → actor_count y.setup ≤ length ss → Final (Seen KeepsTurns id m.0) ws xs
     → get_elem? xs 0 ≡ some r → Found y ss r
 found id y ss m ws xs r g many last at =
@@ -312,7 +312,7 @@ found id y ss m ws xs r g many last at =
     let kept = g.kept in
     let f = last in
     let e = ends id v f.0 g.seated g.holds (omega arith) (f.1).0 (f.1).1 in
-    let b : Bench = e.0 in
+    let b : DeskState = e.0 in
     let made : ℕ = e.3.0 in
     let o : Over v b.journal made = e.3.1 in
     let there : r ≡ Some b = some-injective r (Some b) (sym at ∙ f.4 0 (Some b) e.1) in
@@ -320,12 +320,12 @@ found id y ss m ws xs r g many last at =
     let same : v.actor ∷ keys v.kept ≡ actors ss =
     (λ i. actor i ∷ keys (kept i))
     ∙ (ap (λ (l : List ℕ). (g.first).actor ∷ l) (keys_map g.rest) ∙ sym (ap actors g.are)) in
-    let differ : Differ (actors ss) = subst Differ same o.apart in
+    let differ : Distinct (actors ss) = subst Distinct same o.apart in
     let below_all : (k x : ℕ) → get_elem? (actors ss) k ≡ some x → x < made =
     subst (λ (l : List ℕ). (k x : ℕ) → get_elem? l k ≡ some x → x < made) same
     (below v made o.below) in
     let long : length (actors ss) ≡ length ss =
-    length-map ss (λ (s : Sitting). s.actor) in
+    length-map ss (λ (s : SeatState). s.actor) in
     let no_more : length (actors ss) ≤ made = most_below made (actors ss) differ below_all in
     let most = o.most in
     let all_made : made ≡ actor_count y.setup = omega arith in
@@ -335,8 +335,8 @@ found id y ss m ws xs r g many last at =
     let own =
     each_of b.journal g.first g.rest (subst (StartsWith b.journal) g.seen ended.saw) is_first
     (λ k z c. ended.joined k z (ap (λ (l : List Joined). get_elem? l k) kept ∙ c)) in
-    let each : All (λ (s : Sitting). IsOf b.journal s) ss =
-    subst (λ (l : List Sitting). All (λ (s : Sitting). IsOf b.journal s) l) (sym g.are)
+    let each : All (λ (s : SeatState). IsJournalOf b.journal s) ss =
+    subst (λ (l : List SeatState). All (λ (s : SeatState). IsJournalOf b.journal s) l) (sym g.are)
     own in
     record {
       desk = b;

@@ -8,28 +8,28 @@ use native.Mathlib.Decide.{ℕ_discrete}
 use lib.ListN.{get_elem?}
 use Rattle.fy_acts.specs.declared.entry.Entry.{Entry}
 use Rattle.fy_actors.specs.Desk.{entries_by}
-use Rattle.fy_yard.specs.Turns.{Absent, Differ}
+use Rattle.fy_yard.specs.Turnstile.{NotAmong, Distinct}
 use Rattle.fy_yard.proofs.Journals.{by_first, by_passed}
 
 -- numbers that differ, and that are there
 
 here_first : (a x : ℕ) (xs : List ℕ) → Dec (x ≡ a)
-    → ((k : ℕ) × (get_elem? xs k ≡ some a)) ⊎ Absent a xs
-    → ((k : ℕ) × (get_elem? (x ∷ xs) k ≡ some a)) ⊎ Absent a (x ∷ xs)
+    → ((k : ℕ) × (get_elem? xs k ≡ some a)) ⊎ NotAmong a xs
+    → ((k : ℕ) × (get_elem? (x ∷ xs) k ≡ some a)) ⊎ NotAmong a (x ∷ xs)
 here_first a x xs (yes e) r = inl (0, ap (λ (n : ℕ). some n) e)
 here_first a x xs (no n) r =
     ⊎_elim (λ (t : (k : ℕ) × (get_elem? xs k ≡ some a)). inl (suc t.0, t.1))
-    (λ (t : Absent a xs). inr (n, t)) r
+    (λ (t : NotAmong a xs). inr (n, t)) r
 
-here_or_not : (a : ℕ) (ds : List ℕ) → ((k : ℕ) × (get_elem? ds k ≡ some a)) ⊎ Absent a ds
+here_or_not : (a : ℕ) (ds : List ℕ) → ((k : ℕ) × (get_elem? ds k ≡ some a)) ⊎ NotAmong a ds
 here_or_not a [] = inr tt
 here_or_not a (x ∷ xs) = here_first a x xs (ℕ_discrete x a) (here_or_not a xs)
 
-apart_all : (x : ℕ) (xs : List ℕ) → Absent x xs → AllByRecursion (λ y. eqb x y ≡ false) xs
+apart_all : (x : ℕ) (xs : List ℕ) → NotAmong x xs → AllByRecursion (λ y. eqb x y ≡ false) xs
 apart_all x [] n = tt
 apart_all x (y ∷ ys) n = (ne_eqb x y (λ e. n.0 (sym e)), apart_all x ys n.1)
 
-to_distinct : (xs : List ℕ) → Differ xs → IsDistinct eqb xs
+to_distinct : (xs : List ℕ) → Distinct xs → IsDistinct eqb xs
 unfolding IsDistinct
 to_distinct [] d = tt
 to_distinct (x ∷ xs) d = (apart_all x xs d.0, to_distinct xs d.1)
@@ -46,16 +46,16 @@ below_any n [] b q h = absurd (true≢false (sym h))
 below_any n (x ∷ xs) b q h =
     below_first n x q xs (ℕ_discrete q x) (b 0 x refl) (below_any n xs (λ k y e. b (suc k) y e) q) h
 
-pub most_below : (n : ℕ) (xs : List ℕ) → Differ xs → ((k x : ℕ) → get_elem? xs k ≡ some x → x < n)
+pub most_below : (n : ℕ) (xs : List ℕ) → Distinct xs → ((k x : ℕ) → get_elem? xs k ≡ some x → x < n)
     → length xs ≤ n
 most_below n xs d b = length-le_from_distinct_below xs n (to_distinct xs d) (below_any n xs b)
 
 -- numbers below n that differ, as many as n, are all of them
-pub all_there : (n : ℕ) (xs : List ℕ) → Differ xs → ((k x : ℕ) → get_elem? xs k ≡ some x → x < n)
+pub all_there : (n : ℕ) (xs : List ℕ) → Distinct xs → ((k x : ℕ) → get_elem? xs k ≡ some x → x < n)
     → n ≤ length xs → (a : ℕ) → a < n → (k : ℕ) × (get_elem? xs k ≡ some a)
 all_there n xs d b many a less =
     ⊎_elim (λ (t : (k : ℕ) × (get_elem? xs k ≡ some a)). t)
-    (λ (t : Absent a xs). absurd (let long = most_below n (a ∷ xs) (t, d) below in omega arith))
+    (λ (t : NotAmong a xs). absurd (let long = most_below n (a ∷ xs) (t, d) below in omega arith))
     (here_or_not a xs)
   where
     below : (k x : ℕ) → get_elem? (a ∷ xs) k ≡ some x → x < n
@@ -94,18 +94,18 @@ cut_shorter n (y ∷ ys) zero e = let p = cut_no_longer n ys in let q =
 cut_shorter n (y ∷ ys) (suc k) e = let p = cut_shorter n ys k e in let q =
     keep_no_longer n y (ℕ_discrete y n) (cut n ys) in omega arith
 
-keep_back : (n a y : ℕ) (d : Dec (y ≡ n)) (zs ys : List ℕ) → a ≢ n → (Absent a zs → Absent a ys)
-    → Absent a (keep_else n y d zs) → Absent a (y ∷ ys)
+keep_back : (n a y : ℕ) (d : Dec (y ≡ n)) (zs ys : List ℕ) → a ≢ n → (NotAmong a zs → NotAmong a ys)
+    → NotAmong a (keep_else n y d zs) → NotAmong a (y ∷ ys)
 keep_back n a y (yes e) zs ys ne more t = ((λ x. ne (sym x ∙ e)), more t)
 keep_back n a y (no nn) zs ys ne more t = (t.0, more t.1)
 
-cut_back : (n a : ℕ) (ys : List ℕ) → a ≢ n → Absent a (cut n ys) → Absent a ys
+cut_back : (n a : ℕ) (ys : List ℕ) → a ≢ n → NotAmong a (cut n ys) → NotAmong a ys
 cut_back n a [] ne t = tt
 cut_back n a (y ∷ ys) ne t =
     keep_back n a y (ℕ_discrete y n) (cut n ys) ys ne (cut_back n a ys ne) t
 
 -- of n numbers one isn't among fewer
-pub missing_one : (n : ℕ) (xs : List ℕ) → length xs < n → (a : ℕ) × (a < n) × Absent a xs
+pub missing_one : (n : ℕ) (xs : List ℕ) → length xs < n → (a : ℕ) × (a < n) × NotAmong a xs
 missing_one zero xs few = absurd (omega arith)
 missing_one (suc n) xs few = ⊎_elim
     (λ (t : (k : ℕ) × (get_elem? xs k ≡ some n)).
@@ -113,7 +113,7 @@ missing_one (suc n) xs few = ⊎_elim
     let m = missing_one n (cut n xs) (omega arith) in
     let low = m.1 in
     (m.0, (omega arith), cut_back n m.0 xs (λ e. omega arith) m.2))
-    (λ (t : Absent n xs). (n, (omega arith), t))
+    (λ (t : NotAmong n xs). (n, (omega arith), t))
     (here_or_not n xs)
 
 -- a number that stands at some place is contained
@@ -139,7 +139,7 @@ sizes_none [] = refl
 sizes_none (a ∷ xs) = let rest = sizes_none xs in omega arith
 
 -- an entry of none of them counts for none
-sizes_passed : (xs : List ℕ) (e : Entry) (es : List Entry) → Absent e.by xs
+sizes_passed : (xs : List ℕ) (e : Entry) (es : List Entry) → NotAmong e.by xs
     → sizes xs (e ∷ es) ≡ sizes xs es
 sizes_passed [] e es n = refl
 sizes_passed (a ∷ xs) e es n =
@@ -149,14 +149,14 @@ sizes_passed (a ∷ xs) e es n =
     omega arith
 
 -- an entry of one of them counts for one
-sizes_at : (a : ℕ) (xs : List ℕ) (e : Entry) (es : List Entry) → Absent a xs
+sizes_at : (a : ℕ) (xs : List ℕ) (e : Entry) (es : List Entry) → NotAmong a xs
     → (a ≢ e.by → sizes xs (e ∷ es) ≡ suc (sizes xs es)) → Dec (a ≡ e.by)
     → sizes (a ∷ xs) (e ∷ es) ≡ suc (sizes (a ∷ xs) es)
 sizes_at a xs e es apart later (yes is) =
     let first : length (entries_by a (e ∷ es)) ≡ suc (length (entries_by a es)) =
     ap (λ (l : List Entry). length l) (by_first a e es (sym is)) in
     let rest : sizes xs (e ∷ es) ≡ sizes xs es =
-    sizes_passed xs e es (subst (λ (n : ℕ). Absent n xs) is apart) in
+    sizes_passed xs e es (subst (λ (n : ℕ). NotAmong n xs) is apart) in
     omega arith
 sizes_at a xs e es apart later (no n) =
     let passed : length (entries_by a (e ∷ es)) ≡ length (entries_by a es) =
@@ -169,7 +169,7 @@ among_rest : (a b : ℕ) (xs : List ℕ) → a ≢ b
 among_rest a b xs n (zero, at) = absurd (n (some-injective a b at))
 among_rest a b xs n (suc k, at) = (k, at)
 
-sizes_first : (xs : List ℕ) (e : Entry) (es : List Entry) → Differ xs
+sizes_first : (xs : List ℕ) (e : Entry) (es : List Entry) → Distinct xs
     → ((k : ℕ) × (get_elem? xs k ≡ some e.by)) → sizes xs (e ∷ es) ≡ suc (sizes xs es)
 sizes_first [] e es d there = absurd (some-ne-none e.by (sym there.1))
 sizes_first (a ∷ xs) e es d there =
@@ -198,7 +198,7 @@ strangers_later n a e es strangers above =
     sym (by_passed a e es (λ is. omega arith)) ∙ strangers a above
 
 -- where each of so many actors is among these, and nobody else has entries, they count them all
-pub sizes_all : (n : ℕ) (xs : List ℕ) (log : List Entry) → Differ xs
+pub sizes_all : (n : ℕ) (xs : List ℕ) (log : List Entry) → Distinct xs
     → ((a : ℕ) → a < n → (k : ℕ) × (get_elem? xs k ≡ some a))
     → ((a : ℕ) → n ≤ a → entries_by a log ≡ []) → sizes xs log ≡ length log
 sizes_all n xs [] d all strangers = sizes_none xs

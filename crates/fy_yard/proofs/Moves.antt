@@ -12,10 +12,10 @@ use Rattle.atomic_table.proofs.Lists.{at_set, at_snoc, set_here, set_else, set_a
 use Rattle.fy_acts.specs.declared.entry.Entry.{Entry}
 use Rattle.fy_cluster.specs.Setup.{Setup}
 use Rattle.fy_cluster.specs.Replies.{Legal}
-use Rattle.fy_actors.specs.Desk.{Bench, entries_by, OnlyBy}
+use Rattle.fy_actors.specs.Desk.{DeskState, entries_by, OnlyBy}
 use Rattle.fy_yard.specs.declared.view.View.{View}
 use Rattle.fy_yard.specs.Yard.{StartsWith, actor_count}
-use Rattle.fy_yard.specs.Turns.{bench, Joined, keys, Absent, Differ, desk_of, total, Plan, Fits, Busy, slot_of, KeepsTurns, Sat, newcomer, with_ticket, serving_at, after_count, without_ticket, less_one, next_seat, note_of, spent_view, told_by, key_of, joined_by, longer, after_meeting, Met, journal_in, Drawn, Looked, Counted, Advanced}
+use Rattle.fy_yard.specs.Turnstile.{desk_with, Joined, keys, NotAmong, Distinct, desk_at_home, total, TurnstileState, Fits, Busy, slot_of, KeepsTurns, SeatView, first_view, with_ticket, serving_at, after_count, without_ticket, after_split, next_seat, note_of, spent_view, told_by, key_of, joined_by, longer, after_meeting, Met, journal_in, Drawn, Looked, Counted, Advanced}
 use Rattle.fy_yard.proofs.Journals.{by_else, begins_none, begins_more, begins_all, between, whole}
 
 -- the function f, with x at k
@@ -75,38 +75,34 @@ next_word : (n : ℕ)
 next_word n = omega arith
 
 -- the seats but one, where tickets are drawn or served, and nothing else changes
-others_wait : (p : Plan) (next serving : ℕ) (own : ℕ → ℕ) (out : Bool) (hand : ℕ)
-    (left : List Entry) (j : ℕ) (u : View) → Fits p j u
+others_wait : (p : TurnstileState) (next serving : ℕ) (own : ℕ → ℕ) (out : Bool) (home_actor : ℕ)
+    (home_receipts : List Entry) (j : ℕ) (u : View) → Fits p j u
     → (0 < u.waits → (own u.ticket ≡ j) × (serving ≤ u.ticket) × (u.ticket < next))
     → (u.holds ≡ true → (out ≡ true) × (0 < u.waits) × (u.ticket ≡ serving) × (u.seen ≡ p.log))
     → Fits (record p
-    { next = next; serving = serving; own = own; out = out; hand = hand; left = left }) j u
-others_wait p next serving own out hand left j u f queued served = record {
+    { next = next; serving = serving; own = own; out = out; home_actor = home_actor; home_receipts = home_receipts }) j u
+others_wait p next serving own out home_actor home_receipts j u f queued served = record {
   real = f.real;
   saw = f.saw;
   told = f.told;
   sound = f.sound;
-  own = f.own;
-  apart = f.apart;
+  opening = f.opening;
+  tickets = (queued, served, f.tickets.2);
   receipts = f.receipts;
   joined = f.joined;
-  opening = f.opening;
-  queued = queued;
-  served = served;
-  part = f.part;
 }
 
-pub draws : (slots id : ℕ) (me : Sat) → me.0.waits ≡ 0 → 0 < me.0.parts
+pub draws : (slots id : ℕ) (me : SeatView) → me.0.waits ≡ 0 → 0 < me.0.parts
     → Allows KeepsTurns slots id me 1 (λ n. (n + 1) % 2 ^ 64) (Drawn (step slots 1 1 0 none) me)
 draws slots id me idle part s r _ at _ =
     let v : View = me.0 in
-    let p : Plan = r.plan in
+    let p : TurnstileState = r.plan in
     let t : ℕ = p.next in
     let w : View = with_ticket v t in
-    let p' : Plan = record p { next = t + 1; own = put p.own t id } in
+    let p' : TurnstileState = record p { next = t + 1; own = put p.own t id } in
     let mine = r.each id v at in
     let sum = r.counted in
-    let not_served : v.holds ≡ true → ⊥ = λ h. let q = (mine.served h).1 in absurd (omega arith) in
+    let not_served : v.holds ≡ true → ⊥ = λ h. let q = (mine.tickets.1 h).1 in absurd (omega arith) in
     let waits = total_set (λ x. x.waits) s.views id v w at in
     let parts = total_set (λ x. x.parts) s.views id v w at in
     let all_parts = r.parts in (
@@ -124,20 +120,16 @@ draws slots id me idle part s r _ at _ =
               saw = mine.saw;
               told = mine.told;
               sound = mine.sound;
-              own = mine.own;
-              apart = mine.apart;
+              opening = mine.opening;
+              tickets = ((λ _. (put_here p.own t id, (omega arith), (omega arith))), (λ h. absurd (not_served h)), (omega arith));
               receipts = mine.receipts;
               joined = mine.joined;
-              opening = mine.opening;
-              queued = λ _. (put_here p.own t id, (omega arith), (omega arith));
-              served = λ h. absurd (not_served h);
-              part = omega arith;
             }
             (λ j u apart e. let f = r.each j u e in
-            others_wait p (t + 1) p.serving (put p.own t id) p.out p.hand p.left j u f
-            (λ q. let g = f.queued q in let g₂ = g.2 in
+            others_wait p (t + 1) p.serving (put p.own t id) p.out p.home_actor p.home_receipts j u f
+            (λ q. let g = f.tickets.0 q in let g₂ = g.2 in
             (put_else p.own t id u.ticket (λ x. omega arith) ∙ g.0, g.1, (omega arith)))
-            f.served);
+            f.tickets.1);
         blank = r.blank;
         most = r.most;
         unmade = r.unmade;
@@ -154,14 +146,14 @@ at_home : (o : Bool) → (o ≡ true → ⊥) → o ≡ false
 at_home true n = absurd (n refl)
 at_home false n = refl
 
-pub looks : (slots id : ℕ) (me : Sat) → 0 < me.0.waits → me.0.holds ≡ false → me.0.seated ≡ true
+pub looks : (slots id : ℕ) (me : SeatView) → 0 < me.0.waits → me.0.holds ≡ false → me.0.seated ≡ true
     → Allows KeepsTurns slots id me 2 (λ n. n) (Looked (step slots 2 0 0 none) me)
 looks slots id me queued idle seated s r _ at _ =
     let v : View = me.0 in
-    let p : Plan = r.plan in
+    let p : TurnstileState = r.plan in
     let k : ℕ = get_or s.words 2 0 in
     let mine = r.each id v at in
-    let q = mine.queued queued in
+    let q = mine.tickets.0 queued in
     let q₁ = q.1 in
     let q₂ = q.2 in
     let sum = r.counted in
@@ -169,7 +161,7 @@ looks slots id me queued idle seated s r _ at _ =
     let few = r.few in
     let is : k ≡ p.serving % 2 ^ 64 = ap (λ (ws : List ℕ). get_or ws 2 0) r.words in
     let same_words = ap (λ (ws : List ℕ). set ws 2 (get_or ws 2 0)) r.words in
-    let bound = total_below (λ x. x.waits) (λ x. x.parts) s.views (λ j u e. (r.each j u e).part) in
+    let bound = total_below (λ x. x.waits) (λ x. x.parts) s.views (λ j u e. (r.each j u e).tickets.2) in
     let near : v.ticket < p.serving + 18446744073709551616 = omega arith in
     dite (ℕ_discrete k (v.ticket % 18446744073709551616))
     (λ hit.
@@ -178,20 +170,20 @@ looks slots id me queued idle seated s r _ at _ =
     let home : p.out ≡ false = at_home p.out (λ o.
     let b = r.busy o in
     let f = r.each b.0 b.1 b.2 in
-    let g = f.served b.3 in
-    let own : b.0 ≡ id = sym (f.queued g.1).0 ∙ (ap p.own (g.2 ∙ same) ∙ q.0) in
+    let g = f.tickets.1 b.3 in
+    let own : b.0 ≡ id = sym (f.tickets.0 g.1).0 ∙ (ap p.own (g.2 ∙ same) ∙ q.0) in
     let one : b.1 ≡ v = some-injective b.1 v (sym b.2 ∙ (ap (get_elem? s.views) own ∙ at)) in
     off (sym idle ∙ (ap (λ (x : View). x.holds) (sym one) ∙ b.3))) in
     let w : View = serving_at v p.log in
-    let p' : Plan = record p { out = true } in
-    let here : s.homes ≡ some (Some (desk_of p)) ∷ [] =
-    r.home ∙ ap (λ (o : Bool). slot_of o (desk_of p) ∷ []) home in
+    let p' : TurnstileState = record p { out = true } in
+    let here : s.homes ≡ some (Some (desk_at_home p)) ∷ [] =
+    r.home ∙ ap (λ (o : Bool). slot_of o (desk_at_home p) ∷ []) home in
     let waits = total_set (λ x. x.waits) s.views id v w at in
     let parts = total_set (λ x. x.parts) s.views id v w at in
-    let own_start = sym (mine.real (mine.receipts seated).0).0 in (
+    let own_start = sym (mine.real (mine.receipts.0 seated).0).0 in (
       w,
-      takes 0 (Some (desk_of p)),
-      ap (λ (hs : List (maybe.Option (Option Bench))). get_elem? hs 0) here,
+      takes 0 (Some (desk_at_home p)),
+      ap (λ (hs : List (maybe.Option (Option DeskState))). get_elem? hs 0) here,
       record {
         plan = p';
         legal = r.legal;
@@ -202,36 +194,32 @@ looks slots id me queued idle seated s r _ at _ =
               saw = begins_all p.log;
               told = mine.told;
               sound = (r.legal, mine.sound.1);
-              own = λ c. (mine.receipts c).3;
-              apart = mine.apart;
-              receipts = mine.receipts;
-              joined = mine.joined;
               opening = mine.opening;
-              queued = mine.queued;
-              served = λ _. (refl, queued, sym same, refl);
-              part = mine.part;
+              tickets = (mine.tickets.0, (λ _. (refl, queued, sym same, refl)), mine.tickets.2);
+              receipts = (mine.receipts.0, (λ c. (mine.receipts.0 c).3));
+              joined = mine.joined;
             }
             (λ j u apart e. let f = r.each j u e in
-            others_wait p p.next p.serving p.own true p.hand p.left j u f f.queued
-            (λ h. let g = f.served h in (refl, g.1, g.2, g.3)));
+            others_wait p p.next p.serving p.own true p.home_actor p.home_receipts j u f f.tickets.0
+            (λ h. let g = f.tickets.1 h in (refl, g.1, g.2, g.3)));
         blank = r.blank;
         most = r.most;
         unmade = r.unmade;
         counted = omega arith;
         parts = omega arith;
         few = few;
-        home = ap (λ (hs : List (maybe.Option (Option Bench))). set hs 0 none) here;
+        home = ap (λ (hs : List (maybe.Option (Option DeskState))). set hs 0 none) here;
         busy = λ _. busy_here s.views id v w at refl;
       },
       (
         (λ _. (
-          desk_of p,
+          desk_at_home p,
           record {
             now = refl;
             setup = own_start;
             after = mine.saw;
             legal = subst (λ (b : Setup). Legal b p.log) own_start r.legal;
-            own = (mine.receipts seated).3;
+            own = (mine.receipts.0 seated).3;
           },
         )),
         λ n. absurd (n hit),
@@ -264,26 +252,26 @@ nothing_kept : {A : Type 0} (xs : List A) (k : ℕ) (x : A) → xs ≡ [] → ge
 nothing_kept {A} xs k x none_kept e =
     some-ne-none x (sym (ap (λ (l : List A). get_elem? l k) (sym none_kept) ∙ e))
 
-pub counts : (slots id new : ℕ) (me : Sat) (d : Bench) (es : List Entry) → me.0.holds ≡ true
+pub counts : (slots id new : ℕ) (me : SeatView) (d : DeskState) (es : List Entry) → me.0.holds ≡ true
     → me.0.seated ≡ true → me.0.kept ≡ [] → me.1 ≡ (0, Some d) ∷ [] → d.journal ≡ me.0.seen ++ es
     → OnlyBy me.0.actor es
     → Legal me.0.setup (me.0.seen ++ es) → new ≡ length (me.0.seen ++ es)
     → Allows KeepsTurns slots id me 0 (λ _. new) (λ _. Counted (step slots 0 new 0 none) me new)
 counts slots id new me d es holds seated alone carried grown only legal new_is s r _ at _ =
     let v : View = me.0 in
-    let p : Plan = r.plan in
+    let p : TurnstileState = r.plan in
     let h : List Entry = v.seen ++ es in
     let w : View = after_count v h in
-    let p' : Plan = record p { log = h; out = true } in
+    let p' : TurnstileState = record p { log = h; out = true } in
     let mine = r.each id v at in
-    let me_served = mine.served holds in
+    let me_served = mine.tickets.1 holds in
     let whole = me_served.3 in
-    let queued = mine.queued me_served.1 in
+    let queued = mine.tickets.0 me_served.1 in
     let sum = r.counted in
     let all_parts = r.parts in
     let waits = total_set (λ x. x.waits) s.views id v w at in
     let parts = total_set (λ x. x.parts) s.views id v w at in
-    let own = mine.receipts seated in
+    let own = mine.receipts.0 seated in
     let legal' : Legal p.setup h = subst (λ (b : Setup). Legal b h) (mine.real own.0).0 legal in
     let longer_than : (l : List Entry) → StartsWith p.log l → StartsWith h l =
     λ l b. subst (λ (z : List Entry). StartsWith (z ++ es) l) (sym whole)
@@ -304,42 +292,44 @@ counts slots id new me d es holds seated alone carried grown only legal new_is s
               saw = begins_all h;
               told = longer_than v.told mine.told;
               sound = (legal', mine.sound.1);
-              own = λ _. refl;
-              apart = mine.apart;
-              receipts = λ _. (own.0, own.1, own.2, refl);
-              joined = λ k x e. absurd (nothing_kept v.kept k x alone e);
               opening = mine.opening;
-              queued = mine.queued;
-              served = λ _. (refl, me_served.1, me_served.2, refl);
-              part = mine.part;
+              tickets = (mine.tickets.0, (λ _. (refl, me_served.1, me_served.2, refl)), mine.tickets.2);
+              receipts = ((λ _. (own.0, own.1, own.2, refl)), (λ _. refl));
+              joined = ((λ k x e. absurd (nothing_kept v.kept k x alone e)), mine.joined.1);
             }
             (λ j u apart e. let f = r.each j u e in record {
               real = f.real;
               saw = longer_than u.seen f.saw;
               told = longer_than u.told f.told;
               sound = f.sound;
-              own = f.own;
-              apart = f.apart;
-              receipts = λ c. let g = f.receipts c in (
-                g.0,
-                g.1,
-                g.2,
-                of_others u.actor (λ x. apart (sym g.2 ∙ (ap p.who x ∙ own.2)))
-                    ∙ g.3,
-              );
-              joined = λ k x c. let g = f.joined k x c in (
-                g.0,
-                g.1,
-                of_others x.0 (λ y. apart (sym g.1 ∙ (ap p.who y ∙ own.2)))
-                    ∙ g.2,
-                longer_than ((x.1).1) g.3,
-              );
               opening = f.opening;
-              queued = f.queued;
-              served = λ c. let g = f.served c in
-                  absurd (apart
-                  (sym (f.queued g.1).0 ∙ (ap p.own (g.2 ∙ sym me_served.2) ∙ queued.0)));
-              part = f.part;
+              tickets = (
+                f.tickets.0,
+                (λ c. let g = f.tickets.1 c in
+                    absurd (apart
+                    (sym (f.tickets.0 g.1).0 ∙ (ap p.own (g.2 ∙ sym me_served.2) ∙ queued.0)))),
+                f.tickets.2,
+              );
+              receipts = (
+                (λ c. let g = f.receipts.0 c in (
+                  g.0,
+                  g.1,
+                  g.2,
+                  of_others u.actor (λ x. apart (sym g.2 ∙ (ap p.who x ∙ own.2)))
+                      ∙ g.3,
+                )),
+                f.receipts.1,
+              );
+              joined = (
+                (λ k x c. let g = f.joined.0 k x c in (
+                  g.0,
+                  g.1,
+                  of_others x.0 (λ y. apart (sym g.1 ∙ (ap p.who y ∙ own.2)))
+                      ∙ g.2,
+                  longer_than ((x.1).1) g.3,
+                )),
+                f.joined.1,
+              );
             });
         blank = r.blank;
         most = r.most;
@@ -347,31 +337,31 @@ counts slots id new me d es holds seated alone carried grown only legal new_is s
         counted = omega arith;
         parts = omega arith;
         few = r.few;
-        home = r.home ∙ ap (λ (o : Bool). slot_of o (desk_of p) ∷ []) me_served.0;
+        home = r.home ∙ ap (λ (o : Bool). slot_of o (desk_at_home p) ∷ []) me_served.0;
         busy = λ _. busy_here s.views id v w at holds;
       },
       ap (λ (l : List Entry). (after_count v l, me.1)) (sym (ap journal_in carried ∙ grown)),
     )
 
-pub advances : (slots id : ℕ) (me : Sat) (d : Bench) → me.0.holds ≡ true → me.0.waits ≡ 1
+pub advances : (slots id : ℕ) (me : SeatView) (d : DeskState) → me.0.holds ≡ true → me.0.waits ≡ 1
     → me.0.live ≡ true → me.1 ≡ (0, Some d) ∷ [] → d.setup ≡ me.0.setup → d.journal ≡ me.0.seen
     → Allows KeepsTurns slots id me 2 (λ n. (n + 1) % 2 ^ 64) (Advanced (step slots 2 1 0 none) me)
 advances slots id me d holds one live carried setup journal s r _ at _ =
     let v : View = me.0 in
-    let p : Plan = r.plan in
+    let p : TurnstileState = r.plan in
     let w : View = without_ticket v in
-    let p' : Plan =
-    record p { serving = p.serving + 1; out = false; hand = d.actor; left = d.receipts } in
+    let p' : TurnstileState =
+    record p { serving = p.serving + 1; out = false; home_actor = d.actor; home_receipts = d.receipts } in
     let mine = r.each id v at in
-    let me_served = mine.served holds in
-    let queued = mine.queued me_served.1 in
+    let me_served = mine.tickets.1 holds in
+    let queued = mine.tickets.0 me_served.1 in
     let is : v.ticket ≡ p.serving = me_served.2 in
     let sum = r.counted in
     let all_parts = r.parts in
     let waits = total_set (λ x. x.waits) s.views id v w at in
     let parts = total_set (λ x. x.parts) s.views id v w at in
     let out : s.homes ≡ none ∷ [] =
-    r.home ∙ ap (λ (o : Bool). slot_of o (desk_of p) ∷ []) me_served.0 in (
+    r.home ∙ ap (λ (o : Bool). slot_of o (desk_at_home p) ∷ []) me_served.0 in (
       w,
       gives,
       tt,
@@ -386,41 +376,37 @@ advances slots id me d holds one live carried setup journal s r _ at _ =
               saw = mine.saw;
               told = mine.told;
               sound = mine.sound;
-              own = mine.own;
-              apart = mine.apart;
+              opening = mine.opening;
+              tickets = ((λ c. absurd (omega arith)), (λ c. absurd (off c)), (omega arith));
               receipts = mine.receipts;
               joined = mine.joined;
-              opening = mine.opening;
-              queued = λ c. absurd (omega arith);
-              served = λ c. absurd (off c);
-              part = omega arith;
             }
             (λ j u apart e. let f = r.each j u e in
             others_wait p p.next (p.serving + 1) p.own false d.actor d.receipts j u f
-            (λ c. let g = f.queued c in
+            (λ c. let g = f.tickets.0 c in
             let g₁ = g.1 in
             let other : u.ticket ≢ p.serving =
             λ x. apart (sym g.0 ∙ (ap p.own (x ∙ sym is) ∙ queued.0)) in
             let later : p.serving + 1 ≤ u.ticket =
             dite (ℕ_discrete u.ticket p.serving) (λ x. absurd (other x)) (λ x. omega arith) in
             (g.0, later, g.2))
-            (λ c. let g = f.served c in
-            absurd (apart (sym (f.queued g.1).0 ∙ (ap p.own (g.2 ∙ sym is) ∙ queued.0)))));
+            (λ c. let g = f.tickets.1 c in
+            absurd (apart (sym (f.tickets.0 g.1).0 ∙ (ap p.own (g.2 ∙ sym is) ∙ queued.0)))));
         blank = r.blank;
         most = r.most;
         unmade = r.unmade;
         counted = omega arith;
         parts = omega arith;
         few = r.few;
-        home = ap (λ (cs : List (ℕ × Option Bench)). Rattle.atomic_table.specs.Table.homes_after
+        home = ap (λ (cs : List (ℕ × Option DeskState)). Rattle.atomic_table.specs.Table.homes_after
             s.homes cs gives) carried
-            ∙ (ap (λ (hs : List (maybe.Option (Option Bench))). set hs 0 (some (Some d))) out
+            ∙ (ap (λ (hs : List (maybe.Option (Option DeskState))). set hs 0 (some (Some d))) out
             ∙ ap (λ (x : Setup × List Entry). some
-            (Some (bench x.0 x.1 d.actor d.receipts)) ∷ [])
+            (Some (desk_with x.0 x.1 d.actor d.receipts)) ∷ [])
             (λ i. ((setup ∙ (mine.real live).0) i, (journal ∙ me_served.3) i)));
         busy = λ o. absurd (off o);
       },
-      ap (λ (cs : List (ℕ × Option Bench)). (w, Rattle.atomic_table.specs.Table.rest cs)) carried,
+      ap (λ (cs : List (ℕ × Option DeskState)). (w, Rattle.atomic_table.specs.Table.rest cs)) carried,
     )
 
 -- seats that are made and joined
@@ -451,16 +437,16 @@ busy_snoc vs w b = (b.0, b.1, at_front vs w b.0 b.1 b.2, b.3)
 
 pub splits : (id : ℕ) (v : View) → v.opens ≡ true → v.live ≡ true → v.waits ≡ 0 → 0 < v.parts
     → v.holds ≡ false → v.seated ≡ true → v.kept ≡ [] → v.made < v.all
-    → Splits KeepsTurns id v (less_one v) (next_seat v)
+    → Splits KeepsTurns id v (after_split v) (next_seat v)
 splits id v opens live idle some_part not_held seated alone more s r at =
-    let p : Plan = r.plan in
+    let p : TurnstileState = r.plan in
     let n : ℕ = length s.views in
-    let w : View = less_one v in
+    let w : View = after_split v in
     let new : View = next_seat v in
-    let p' : Plan = record p { made = p.made + 1; who = put p.who p.made n } in
+    let p' : TurnstileState = record p { made = p.made + 1; who = put p.who p.made n } in
     let mine = r.each id v at in
     let opened = mine.opening opens in
-    let own = mine.receipts seated in
+    let own = mine.receipts.0 seated in
     let below = below_length s.views id v at in
     let is_made : v.made ≡ p.made = opened.1 in
     let waits = total_set (λ x. x.waits) s.views id v w at in
@@ -482,20 +468,19 @@ splits id v opens live idle some_part not_held seated alone more s r at =
             saw = begins_none p.log;
             told = begins_none p.log;
             sound = (r.blank, r.blank);
-            own = λ _. refl;
-            apart = (tt, tt);
-            receipts = λ _. (
-              refl,
-              (omega arith),
-              ap (put p.who p.made n) is_made
-                  ∙ put_here p.who p.made n,
-              r.unmade v.made (omega arith),
-            );
-            joined = λ k x e. absurd (nothing_kept [] k x refl e);
             opening = λ o. absurd (off o);
-            queued = λ q. absurd (omega arith);
-            served = λ h. absurd (off h);
-            part = omega arith;
+            tickets = ((λ q. absurd (omega arith)), (λ h. absurd (off h)), (omega arith));
+            receipts = (
+              (λ _. (
+                refl,
+                (omega arith),
+                ap (put p.who p.made n) is_made
+                    ∙ put_here p.who p.made n,
+                r.unmade v.made (omega arith),
+              )),
+              (λ _. refl),
+            );
+            joined = ((λ k x e. absurd (nothing_kept [] k x refl e)), (tt, tt));
           }
           (views_set (Fits p') s.views id w
           record {
@@ -503,31 +488,32 @@ splits id v opens live idle some_part not_held seated alone more s r at =
             saw = mine.saw;
             told = mine.told;
             sound = mine.sound;
-            own = mine.own;
-            apart = mine.apart;
-            receipts = λ c. let less = own.1 in
-                (own.0, (omega arith), keeps_who v.actor id own.1 own.2, own.3);
-            joined = λ k x e. absurd (nothing_kept v.kept k x alone e);
             opening = λ _. (opened.0, ap (λ (k : ℕ). k + 1) is_made);
-            queued = mine.queued;
-            served = λ h. absurd (not_served h);
-            part = omega arith;
+            tickets = (mine.tickets.0, (λ h. absurd (not_served h)), (omega arith));
+            receipts = (
+              (λ c. let less = own.1 in
+                  (own.0, (omega arith), keeps_who v.actor id own.1 own.2, own.3)),
+              mine.receipts.1,
+            );
+            joined = ((λ k x e. absurd (nothing_kept v.kept k x alone e)), mine.joined.1);
           }
           (λ j u apart e. let f = r.each j u e in record {
             real = f.real;
             saw = f.saw;
             told = f.told;
             sound = f.sound;
-            own = f.own;
-            apart = f.apart;
-            receipts = λ c. let g = f.receipts c in let less = g.1 in
-                (g.0, (omega arith), keeps_who u.actor j g.1 g.2, g.3);
-            joined = λ k x c. let g = f.joined k x c in let less = g.0 in
-                ((omega arith), keeps_who x.0 j g.0 g.1, g.2, g.3);
             opening = λ o. absurd (apart (sym (f.opening o).0 ∙ opened.0));
-            queued = f.queued;
-            served = f.served;
-            part = f.part;
+            tickets = f.tickets;
+            receipts = (
+              (λ c. let g = f.receipts.0 c in let less = g.1 in
+                  (g.0, (omega arith), keeps_who u.actor j g.1 g.2, g.3)),
+              f.receipts.1,
+            );
+            joined = (
+              (λ k x c. let g = f.joined.0 k x c in let less = g.0 in
+                  ((omega arith), keeps_who x.0 j g.0 g.1, g.2, g.3)),
+              f.joined.1,
+            );
           }));
       blank = r.blank;
       most = (let all_is = (mine.real live).1 in omega arith);
@@ -542,7 +528,7 @@ splits id v opens live idle some_part not_held seated alone more s r at =
 
 pub notes : (id : ℕ) (v : View) → v.live ≡ true → Splits KeepsTurns id v v (note_of v)
 notes id v live s r at =
-    let p : Plan = r.plan in
+    let p : TurnstileState = r.plan in
     let n : ℕ = length s.views in
     let new : View = note_of v in
     let mine = r.each id v at in
@@ -563,14 +549,10 @@ notes id v live s r at =
             saw = mine.saw;
             told = begins_none p.log;
             sound = (mine.sound.0, r.blank);
-            own = λ c. absurd (off c);
-            apart = (tt, tt);
-            receipts = λ c. absurd (off c);
-            joined = λ k x e. absurd (nothing_kept [] k x refl e);
             opening = λ o. absurd (off o);
-            queued = λ q. absurd (omega arith);
-            served = λ h. absurd (off h);
-            part = omega arith;
+            tickets = ((λ q. absurd (omega arith)), (λ h. absurd (off h)), (omega arith));
+            receipts = ((λ c. absurd (off c)), (λ c. absurd (off c)));
+            joined = ((λ k x e. absurd (nothing_kept [] k x refl e)), (tt, tt));
           }
           r.each;
       blank = r.blank;
@@ -584,20 +566,16 @@ notes id v live s r at =
     }
 
 -- a view that is spent fits any plan
-spent_fits : (p : Plan) (j : ℕ) → Legal p.setup [] → Fits p j spent_view
+spent_fits : (p : TurnstileState) (j : ℕ) → Legal p.setup [] → Fits p j spent_view
 spent_fits p j blank = record {
   real = λ c. absurd (off c);
   saw = begins_none p.log;
   told = begins_none p.log;
   sound = (blank, blank);
-  own = λ c. absurd (off c);
-  apart = (tt, tt);
-  receipts = λ c. absurd (off c);
-  joined = λ k x e. absurd (nothing_kept [] k x refl e);
   opening = λ o. absurd (off o);
-  queued = λ q. absurd (omega arith);
-  served = λ h. absurd (off h);
-  part = omega arith;
+  tickets = ((λ q. absurd (omega arith)), (λ h. absurd (off h)), (omega arith));
+  receipts = ((λ c. absurd (off c)), (λ c. absurd (off c)));
+  joined = ((λ k x e. absurd (nothing_kept [] k x refl e)), (tt, tt));
 }
 
 there_too : (vs : List View) (id other : ℕ) (w u : View) → ¬ (other ≡ id)
@@ -607,7 +585,7 @@ there_too vs id other w u apart e = sym (set_else vs id other w apart) ∙ e
 pub tells : (id : ℕ) (v : View) (other : ℕ) (u : View) → u.waits ≡ 0 → u.parts ≡ 0 → u.holds ≡ false
     → Joins KeepsTurns id v other u (told_by v u) spent_view
 tells id v other u idle no_part not_held s r at apart there =
-    let p : Plan = r.plan in
+    let p : TurnstileState = r.plan in
     let w : View = told_by v u in
     let mine = r.each id v at in
     let at' = there_too s.views id other w u apart there in
@@ -629,14 +607,10 @@ tells id v other u idle no_part not_held s r at apart there =
             saw = mine.saw;
             told = theirs.saw;
             sound = (mine.sound.0, theirs.sound.0);
-            own = mine.own;
-            apart = mine.apart;
+            opening = mine.opening;
+            tickets = mine.tickets;
             receipts = mine.receipts;
             joined = mine.joined;
-            opening = mine.opening;
-            queued = mine.queued;
-            served = mine.served;
-            part = mine.part;
           } (λ i y _ g. r.each i y g) j x e);
       blank = r.blank;
       most = r.most;
@@ -660,11 +634,11 @@ tells id v other u idle no_part not_held s r at apart there =
         → w.holds ≡ v.holds → Busy vs → Busy (set vs id w)
     busy_same vs id v w at is b = busy_at vs id v w at is b (ℕ_discrete b.0 id)
 
-absent_snoc : (a b : ℕ) (xs : List ℕ) → Absent a xs → b ≢ a → Absent a (xs ++ b ∷ [])
+absent_snoc : (a b : ℕ) (xs : List ℕ) → NotAmong a xs → b ≢ a → NotAmong a (xs ++ b ∷ [])
 absent_snoc a b [] n d = (d, tt)
 absent_snoc a b (x ∷ xs) n d = (n.0, absent_snoc a b xs n.1 d)
 
-differ_snoc : (b : ℕ) (xs : List ℕ) → Differ xs → Absent b xs → Differ (xs ++ b ∷ [])
+differ_snoc : (b : ℕ) (xs : List ℕ) → Distinct xs → NotAmong b xs → Distinct (xs ++ b ∷ [])
 differ_snoc b [] d n = (tt, tt)
 differ_snoc b (x ∷ xs) d n = (absent_snoc x b xs d.0 (λ e. n.0 (sym e)), differ_snoc b xs d.1 n.1)
 
@@ -673,41 +647,41 @@ keys_snoc [] x = refl
 keys_snoc (y ∷ ys) x = ap (λ (l : List ℕ). y.0 ∷ l) (keys_snoc ys x)
 
 absent_keys : (a : ℕ) (xs : List Joined)
-    → ((k : ℕ) (x : Joined) → get_elem? xs k ≡ some x → x.0 ≢ a) → Absent a (keys xs)
+    → ((k : ℕ) (x : Joined) → get_elem? xs k ≡ some x → x.0 ≢ a) → NotAmong a (keys xs)
 absent_keys a [] h = tt
 absent_keys a (x ∷ xs) h = (h 0 x refl, absent_keys a xs (λ k y e. h (suc k) y e))
 
-differ_more : (a : ℕ) (xs : List Joined) (x : Joined) → Differ (a ∷ keys xs) → a ≢ x.0
+differ_more : (a : ℕ) (xs : List Joined) (x : Joined) → Distinct (a ∷ keys xs) → a ≢ x.0
     → ((k : ℕ) (y : Joined) → get_elem? xs k ≡ some y → y.0 ≢ x.0)
-    → Differ (a ∷ keys (xs ++ x ∷ []))
+    → Distinct (a ∷ keys (xs ++ x ∷ []))
 differ_more a xs x d n h =
-    subst (λ (l : List ℕ). Differ (a ∷ l)) (sym (keys_snoc xs x))
+    subst (λ (l : List ℕ). Distinct (a ∷ l)) (sym (keys_snoc xs x))
     (differ_snoc x.0 (a ∷ keys xs) d (n, absent_keys x.0 xs h))
 
 pub joins : (id : ℕ) (v : View) (other : ℕ) (u : View) → v.seated ≡ true → v.holds ≡ false
     → u.waits ≡ 0 → u.holds ≡ false → u.seated ≡ true
     → Joins KeepsTurns id v other u (joined_by v u) spent_view
 joins id v other u my_seat mine_idle idle not_held seated s r at apart there =
-    let p : Plan = r.plan in
+    let p : TurnstileState = r.plan in
     let w : View = joined_by v u in
     let mine = r.each id v at in
     let at' = there_too s.views id other w u apart there in
     let theirs = r.each other u at' in
-    let own = theirs.receipts seated in
-    let p' : Plan = record p { who = put p.who u.actor id } in
+    let own = theirs.receipts.0 seated in
+    let p' : TurnstileState = record p { who = put p.who u.actor id } in
     let waits = total_set (λ x. x.waits) s.views id v w at in
     let parts = total_set (λ x. x.parts) s.views id v w at in
     let waits' = total_set (λ x. x.waits) (set s.views id w) other u spent_view there in
     let parts' = total_set (λ x. x.parts) (set s.views id w) other u spent_view there in
     let sum = r.counted in
     let all_parts = r.parts in
-    let mine_part = mine.part in
+    let mine_part = mine.tickets.2 in
     let apart_from : (a : ℕ) → p.who a ≡ id → a ≢ u.actor =
     λ a e x. apart (sym own.2 ∙ (ap p.who (sym x) ∙ e)) in
-    let further : Differ (v.actor ∷ keys w.kept) =
-    differ_more v.actor v.kept (key_of u) mine.apart
-    (apart_from v.actor (mine.receipts my_seat).2)
-    (λ k x e. apart_from x.0 (mine.joined k x e).1) in
+    let further : Distinct (v.actor ∷ keys w.kept) =
+    differ_more v.actor v.kept (key_of u) mine.joined.1
+    (apart_from v.actor (mine.receipts.0 my_seat).2)
+    (λ k x e. apart_from x.0 (mine.joined.0 k x e).1) in
     let keeps_who : (a j : ℕ) → j ≢ other → p.who a ≡ j → put p.who u.actor id a ≡ j =
     λ a j n e. put_else p.who u.actor id a (λ x. n (sym e ∙ (ap p.who x ∙ own.2))) ∙ e in
     record {
@@ -721,36 +695,34 @@ joins id v other u my_seat mine_idle idle not_held seated s r at apart there =
             saw = mine.saw;
             told = mine.told;
             sound = mine.sound;
-            own = mine.own;
-            apart = further;
-            receipts = λ c. let g = mine.receipts c in
-                (g.0, g.1, keeps_who v.actor id (λ x. apart (sym x)) g.2, g.3);
-            joined = λ k y c. ⊎_elim
-                (λ c'. let g = mine.joined k y c' in
-                (g.0, keeps_who y.0 id (λ x. apart (sym x)) g.1, g.2, g.3))
-                (λ (same : (u.actor, (u.mine, u.seen)) ≡ y). subst
-                (λ (z : ℕ × (List Entry × List Entry)). (z.0 < p.made)
-                × (put p.who u.actor id z.0 ≡ id) × (entries_by z.0 p.log ≡ (z.1).0)
-                × StartsWith p.log ((z.1).1)) same
-                (own.1, put_here p.who u.actor id, own.3, theirs.saw))
-                (at_snoc v.kept (u.actor, (u.mine, u.seen)) y k c);
             opening = mine.opening;
-            queued = mine.queued;
-            served = λ h. absurd (off (sym mine_idle ∙ h));
-            part = omega arith;
+            tickets = (mine.tickets.0, (λ h. absurd (off (sym mine_idle ∙ h))), (omega arith));
+            receipts = (
+              (λ c. let g = mine.receipts.0 c in
+                  (g.0, g.1, keeps_who v.actor id (λ x. apart (sym x)) g.2, g.3)),
+              mine.receipts.1,
+            );
+            joined = (
+              (λ k y c. ⊎_elim
+                  (λ c'. let g = mine.joined.0 k y c' in
+                  (g.0, keeps_who y.0 id (λ x. apart (sym x)) g.1, g.2, g.3))
+                  (λ (same : (u.actor, (u.mine, u.seen)) ≡ y). subst
+                  (λ (z : ℕ × (List Entry × List Entry)). (z.0 < p.made)
+                  × (put p.who u.actor id z.0 ≡ id) × (entries_by z.0 p.log ≡ (z.1).0)
+                  × StartsWith p.log ((z.1).1)) same
+                  (own.1, put_here p.who u.actor id, own.3, theirs.saw))
+                  (at_snoc v.kept (u.actor, (u.mine, u.seen)) y k c)),
+              further,
+            );
           }) (λ i y _ g far. let f = r.each i y g in record {
             real = f.real;
             saw = f.saw;
             told = f.told;
             sound = f.sound;
-            own = f.own;
-            apart = f.apart;
-            receipts = λ c. let h = f.receipts c in (h.0, h.1, keeps_who y.actor i far h.2, h.3);
-            joined = λ k z c. let h = f.joined k z c in (h.0, keeps_who z.0 i far h.1, h.2, h.3);
             opening = f.opening;
-            queued = f.queued;
-            served = f.served;
-            part = f.part;
+            tickets = f.tickets;
+            receipts = ((λ c. let h = f.receipts.0 c in (h.0, h.1, keeps_who y.actor i far h.2, h.3)), f.receipts.1);
+            joined = ((λ k z c. let h = f.joined.0 k z c in (h.0, keeps_who z.0 i far h.1, h.2, h.3)), f.joined.1);
           }) j x e away);
       blank = r.blank;
       most = r.most;
@@ -794,18 +766,18 @@ meet_lists l xs ys a c true is = let less : length xs < length ys = grind (arith
 meet_lists l xs ys a c false is = let less : length ys ≤ length xs = grind (arith, nat_tests) in
     (begins_all xs, begins_both l ys xs c.0 a.0 c.1 a.1 less)
 
-pub meets : (slots id : ℕ) (me : Sat) → me.0.holds ≡ false → me.0.seated ≡ true
+pub meets : (slots id : ℕ) (me : SeatView) → me.0.holds ≡ false → me.0.seated ≡ true
     → Allows KeepsTurns slots id me 0 (λ n. n) (Met (step slots 0 0 0 none) me)
 meets slots id me idle seated s r _ at _ =
     let v : View = me.0 in
-    let p : Plan = r.plan in
+    let p : TurnstileState = r.plan in
     let w : View = after_meeting v in
     let mine = r.each id v at in
     let sum = r.counted in
     let all_parts = r.parts in
     let waits = total_set (λ x. x.waits) s.views id v w at in
     let parts = total_set (λ x. x.parts) s.views id v w at in
-    let own = mine.receipts seated in
+    let own = mine.receipts.0 seated in
     let far = longer_begins (nat_lt (length v.seen) (length v.told)) p.log v.seen v.told mine.saw
     mine.told in
     let both = meet_lists p.log v.seen v.told mine.saw mine.told
@@ -814,7 +786,7 @@ meets slots id me idle seated s r _ at _ =
     longer_sound (Legal p.setup) (nat_lt (length v.seen) (length v.told)) v.seen v.told
     mine.sound.0 mine.sound.1 in
     let now : entries_by v.actor w.seen ≡ v.mine =
-    between v.actor p.log w.seen v.seen v.mine far both.0 (mine.own seated) own.3 in (
+    between v.actor p.log w.seen v.seen v.mine far both.0 (mine.receipts.1 seated) own.3 in (
       w,
       keeps,
       tt,
@@ -829,14 +801,10 @@ meets slots id me idle seated s r _ at _ =
                   mine.saw mine.told;
               told = begins_none p.log;
               sound = (sound, r.blank);
-              own = λ _. now;
-              apart = mine.apart;
-              receipts = mine.receipts;
-              joined = mine.joined;
               opening = mine.opening;
-              queued = mine.queued;
-              served = λ h. absurd (off (sym idle ∙ h));
-              part = mine.part;
+              tickets = (mine.tickets.0, (λ h. absurd (off (sym idle ∙ h))), mine.tickets.2);
+              receipts = (mine.receipts.0, (λ _. now));
+              joined = mine.joined;
             }
             (λ j u _ e. r.each j u e);
         blank = r.blank;
@@ -857,9 +825,9 @@ meets slots id me idle seated s r _ at _ =
       },
     )
 
-pub starts : (setup : Setup) (d : Bench) → d.setup ≡ setup → d.journal ≡ []
+pub starts : (setup : Setup) (d : DeskState) → d.setup ≡ setup → d.journal ≡ []
     → 1 ≤ actor_count setup → actor_count setup < 2 ^ 64
-    → KeepsTurns (opening (0 ∷ 0 ∷ 0 ∷ []) (Some d ∷ []) (newcomer setup))
+    → KeepsTurns (opening (0 ∷ 0 ∷ 0 ∷ []) (Some d ∷ []) (first_view setup))
 starts setup d is empty some_actor few = record {
   plan = p;
   legal = blank;
@@ -871,7 +839,7 @@ starts setup d is empty some_actor few = record {
   counted = refl;
   parts = omega arith;
   few = few;
-  home = ap (λ (x : Setup × List Entry). some (Some (bench x.0 x.1 d.actor d.receipts)) ∷ [])
+  home = ap (λ (x : Setup × List Entry). some (Some (desk_with x.0 x.1 d.actor d.receipts)) ∷ [])
       (λ i. (is i, empty i));
   busy = λ o. absurd (off o);
 }
@@ -879,7 +847,7 @@ starts setup d is empty some_actor few = record {
     blank : Legal setup []
     blank = (omega arith, tt)
 
-    p : Plan
+    p : TurnstileState
     p = record {
       log = [];
       setup = setup;
@@ -892,24 +860,20 @@ starts setup d is empty some_actor few = record {
       own = λ _. 0;
       who = λ _. 0;
       out = false;
-      hand = d.actor;
-      left = d.receipts;
+      home_actor = d.actor;
+      home_receipts = d.receipts;
     }
 
-    one : (j : ℕ) (v : View) → get_elem? (newcomer setup ∷ []) j ≡ some v → Fits p j v
-    one zero v e = subst (Fits p 0) (some-injective (newcomer setup) v e) record {
+    one : (j : ℕ) (v : View) → get_elem? (first_view setup ∷ []) j ≡ some v → Fits p j v
+    one zero v e = subst (Fits p 0) (some-injective (first_view setup) v e) record {
       real = λ _. (refl, refl);
       saw = begins_none [];
       told = begins_none [];
       sound = (blank, blank);
-      own = λ _. refl;
-      apart = (tt, tt);
-      receipts = λ _. (refl, (omega arith), refl, refl);
-      joined = λ k x c. absurd (nothing_kept [] k x refl c);
       opening = λ _. (refl, refl);
-      queued = λ q. absurd (omega arith);
-      served = λ h. absurd (off h);
-      part = omega arith;
+      tickets = ((λ q. absurd (omega arith)), (λ h. absurd (off h)), (omega arith));
+      receipts = ((λ _. (refl, (omega arith), refl, refl)), (λ _. refl));
+      joined = ((λ k x c. absurd (nothing_kept [] k x refl c)), (tt, tt));
     }
     one (suc j) v e = absurd (some-ne-none v (sym e))
 
@@ -937,21 +901,21 @@ pub record Over (v : View) (log : List Entry) (made : ℕ) : Type 0 where
   pub below : (v.actor < made) × ((k : ℕ) (x : Joined) → get_elem? v.kept k ≡ some x → x.0 < made)
   pub most : made ≤ v.all
   pub parts : v.parts ≡ v.all
-  pub apart : Differ (v.actor ∷ keys v.kept)
+  pub apart : Distinct (v.actor ∷ keys v.kept)
   pub unmade : (a : ℕ) → made ≤ a → entries_by a log ≡ []
 
 total_one : (f : View → ℕ) → f spent_view ≡ 0 → (vs : List View) (i : ℕ) (v : View)
     → get_elem? vs i ≡ some v → f v ≤ total f vs
 total_one f zero_is vs i v a = let none_i = total_set f vs i v spent_view a in omega arith
 
-pub ends : (id : ℕ) (v : View) (s : State (Option Bench) View) → v.seated ≡ true → v.holds ≡ false
+pub ends : (id : ℕ) (v : View) (s : State (Option DeskState) View) → v.seated ≡ true → v.holds ≡ false
     → v.all ≤ v.parts → KeepsTurns s → get_elem? s.views id ≡ some v
-    → (b : Bench) × (get_elem? s.homes 0 ≡ some (some (Some b))) × (b.setup ≡ v.setup)
+    → (b : DeskState) × (get_elem? s.homes 0 ≡ some (some (Some b))) × (b.setup ≡ v.setup)
     × ((made : ℕ) × Over v b.journal made)
 ends id v s seated idle whole r at =
-    let p : Plan = r.plan in
+    let p : TurnstileState = r.plan in
     let mine = r.each id v at in
-    let own = mine.receipts seated in
+    let own = mine.receipts.0 seated in
     let real = mine.real own.0 in
     let all_is = real.1 in
     let all_parts = r.parts in
@@ -960,17 +924,17 @@ ends id v s seated idle whole r at =
     let home : p.out ≡ false = at_home p.out (λ o.
     let b = r.busy o in
     let f = r.each b.0 b.1 b.2 in
-    let g = (f.served b.3).1 in
-    let part = f.part in
+    let g = (f.tickets.1 b.3).1 in
+    let part = f.tickets.2 in
     let apart : id ≢ b.0 =
     λ e. off (sym idle
     ∙ (ap (λ (x : View). x.holds)
     (some-injective v b.1 (sym at ∙ (ap (get_elem? s.views) e ∙ b.2))) ∙ b.3)) in
     let two = total_two (λ x. x.parts) refl s.views id b.0 v b.1 apart at b.2 in
     absurd (omega arith)) in (
-      desk_of p,
-      ap (λ (hs : List (maybe.Option (Option Bench))). get_elem? hs 0)
-          (r.home ∙ ap (λ (o : Bool). slot_of o (desk_of p) ∷ []) home),
+      desk_at_home p,
+      ap (λ (hs : List (maybe.Option (Option DeskState))). get_elem? hs 0)
+          (r.home ∙ ap (λ (o : Bool). slot_of o (desk_at_home p) ∷ []) home),
       sym real.0,
       (
         p.made,
@@ -979,12 +943,12 @@ ends id v s seated idle whole r at =
             legal = subst (λ (b : Setup). Legal b p.log) (sym real.0) r.legal;
             saw = mine.saw;
             mine = own.3;
-            joined = λ k x e. let g = mine.joined k x e in (g.2, g.3);
+            joined = λ k x e. let g = mine.joined.0 k x e in (g.2, g.3);
           };
-          below = (own.1, λ k x e. (mine.joined k x e).0);
+          below = (own.1, λ k x e. (mine.joined.0 k x e).0);
           most = omega arith;
           parts = omega arith;
-          apart = mine.apart;
+          apart = mine.joined.1;
           unmade = r.unmade;
         },
       ),

@@ -7,13 +7,11 @@ use Rattle.fy_acts.specs.declared.entry.Entry.{Entry}
 use Rattle.fy_cluster.specs.Setup.{Setup, IsMet}
 use Rattle.fy_cluster.specs.Replies.{Legal}
 use Rattle.fy_cluster.specs.Survival.{JournalsSurvive}
-use Rattle.fy_acts.specs.declared.act.Act.{Act}
-use Rattle.fy_acts.specs.declared.reply.Reply.{Reply}
-use Rattle.fy_actors.specs.Desk.{Bench, entries_by, OnlyBy, Worked, acted, desk_reply, receipt}
+use Rattle.fy_actors.specs.Desk.{DeskState, entries_by, OnlyBy, Worked}
 use Rattle.fy_yard.specs.declared.view.View.{View}
-use Rattle.fy_yard.specs.Yard.{StartsWith, Yard, Sitting, SeesMore, Ends, Turned, entry, actor_count}
-use Rattle.fy_yard.specs.Turns.{Sat, At, with_ticket, serving_at, after_count, without_ticket, journal_in, KeepsTurns, Drawn, Took, Looks, Counted, Advanced}
-use Rattle.fy_yard.specs.Places.{IsCalm, IsPlaceOf, IsWaiting, Waits, IsSameActor, IsServed, IsGrown, sitting}
+use Rattle.fy_yard.specs.Yard.{StartsWith, Yard, SeatState, SeesMore, actor_count}
+use Rattle.fy_yard.specs.Turnstile.{SeatView, TableStep, with_ticket, serving_at, after_count, without_ticket, journal_in, KeepsTurns, Drawn, Took, Looks, Counted, Advanced}
+use Rattle.fy_yard.specs.Places.{HasNoTicket, IsPlaceOf, IsWaiting, DrewTicket, IsSameActor, IsServed, IsGrown, seat_state}
 use Rattle.fy_yard.proofs.Journals.{by_more, begins_more}
 use Rattle.fy_yard.proofs.Moves.{counts, advances}
 
@@ -45,8 +43,8 @@ served_only v h = record {
   told = refl;
 }
 
-pub drawn : (st : At) (m m' : Sat) (n : ℕ) → IsCalm m → Drawn st m n m' → Waits m m' n
-drawn st m m' n calm d = subst (λ (x : Sat). Waits m x n) (sym d.2) record {
+pub drawn : (st : TableStep) (m m' : SeatView) (n : ℕ) → HasNoTicket m → Drawn st m n m' → DrewTicket m m' n
+drawn st m m' n calm d = subst (λ (x : SeatView). DrewTicket m x n) (sym d.2) record {
   waiting = record {
     empty = calm.empty;
     waits = refl;
@@ -62,56 +60,56 @@ drawn st m m' n calm d = subst (λ (x : Sat). Waits m x n) (sym d.2) record {
 }
 
 -- the look found the seat's number, and the desk came with it
-pub record Came (m m' : Sat) : Type 0 where
-  pub desk : Bench
+pub record Came (m m' : SeatView) : Type 0 where
+  pub desk : DeskState
   pub now : m' ≡ (serving_at m.0 desk.journal, (0, Some desk) ∷ [])
   pub took : Took m m' desk
 
-pub came : (m m' : Sat) (n k : ℕ) → IsWaiting m n → k ≡ n → Looks m k m' → Came m m'
+pub came : (m m' : SeatView) (n k : ℕ) → IsWaiting m n → k ≡ n → Looks m k m' → Came m m'
 came m m' n k waits is looked =
     let found = looked.0 (is ∙ waits.ticket) in
-    let desk : Bench = found.0 in
+    let desk : DeskState = found.0 in
     record {
       desk = desk;
       now =
           found.1.now
-          ∙ ap (λ (c : List (ℕ × Option Bench)). (serving_at m.0 desk.journal, (0, Some desk) ∷ c))
+          ∙ ap (λ (c : List (ℕ × Option DeskState)). (serving_at m.0 desk.journal, (0, Some desk) ∷ c))
           waits.empty;
       took = found.1;
     }
 
-pub in_hand : (m m' : Sat) → Came m m' → (o : Option Bench) × (m'.1 ≡ (0, o) ∷ rest m'.1)
+pub in_hand : (m m' : SeatView) → Came m m' → (o : Option DeskState) × (m'.1 ≡ (0, o) ∷ rest m'.1)
 in_hand m m' t =
-    let e : m'.1 ≡ (0, Some t.desk) ∷ [] = ap (λ (x : Sat). x.1) t.now in (
+    let e : m'.1 ≡ (0, Some t.desk) ∷ [] = ap (λ (x : SeatView). x.1) t.now in (
       Some t.desk,
-      e ∙ ap (λ (cs : List (ℕ × Option Bench)). (0, Some t.desk) ∷ rest cs) (sym e),
+      e ∙ ap (λ (cs : List (ℕ × Option DeskState)). (0, Some t.desk) ∷ rest cs) (sym e),
     )
 
-abbrev first_of : List (ℕ × Option Bench) → Option Bench
+abbrev first_of : List (ℕ × Option DeskState) → Option DeskState
 first_of [] = None
 first_of (x ∷ xs) = x.1
 
-pub is_desk : (m m' : Sat) (r : Option Bench) (t : Came m m') → m'.1 ≡ (0, r) ∷ rest m'.1
+pub is_desk : (m m' : SeatView) (r : Option DeskState) (t : Came m m') → m'.1 ≡ (0, r) ∷ rest m'.1
     → r ≡ Some t.desk
 is_desk m m' r t e =
     first_is ((0, r) ∷ rest m'.1) ((0, Some t.desk) ∷ [])
-    (sym e ∙ ap (λ (x : Sat). x.1) t.now)
+    (sym e ∙ ap (λ (x : SeatView). x.1) t.now)
   where
-    first_is : (xs ys : List (ℕ × Option Bench)) → xs ≡ ys → first_of xs ≡ first_of ys
+    first_is : (xs ys : List (ℕ × Option DeskState)) → xs ≡ ys → first_of xs ≡ first_of ys
     first_is xs ys p = ap first_of p
 
-abbrev bench_or : Bench → Option Bench → Bench
+abbrev bench_or : DeskState → Option DeskState → DeskState
 bench_or d None = d
 bench_or d (Some b) = b
 
-pub served : (m l x : Sat) (n : ℕ) (r : Option Bench) (b : Bench) → IsWaiting m n → Came m l
+pub served : (m l x : SeatView) (n : ℕ) (r : Option DeskState) (b : DeskState) → IsWaiting m n → Came m l
     → l.1 ≡ (0, r) ∷ rest l.1 → x ≡ (l.0, (0, None) ∷ rest l.1) → r ≡ Some b
     → IsServed m.0 x b
 served m l x n r b waits t e new is =
     let same : t.desk ≡ b = ap (bench_or b) (sym (is_desk m l r t e) ∙ is) in
     let now : x ≡ (serving_at m.0 (t.desk).journal, (0, None) ∷ []) =
-    new ∙ ap (λ (z : Sat). (z.0, (0, None) ∷ rest z.1)) t.now in
-    subst (λ (z : Sat × Bench). IsServed m.0 z.0 z.1) (λ i. (sym now i, same i)) record {
+    new ∙ ap (λ (z : SeatView). (z.0, (0, None) ∷ rest z.1)) t.now in
+    subst (λ (z : SeatView × DeskState). IsServed m.0 z.0 z.1) (λ i. (sym now i, same i)) record {
       slot = refl;
       waits = waits.waits;
       holds = refl;
@@ -125,18 +123,18 @@ served m l x n r b waits t e new is =
     }
 
 -- the desk with more entries is counted
-pub stores : (slots id new : ℕ) (m x : Sat) (b : Bench) → x ≡ (m.0, (0, Some b) ∷ rest m.1)
+pub stores : (slots id new : ℕ) (m x : SeatView) (b : DeskState) → x ≡ (m.0, (0, Some b) ∷ rest m.1)
     → m.1 ≡ (0, None) ∷ [] → m.0.holds ≡ true → m.0.seated ≡ true → m.0.kept ≡ []
     → IsGrown m.0 b → Legal b.setup b.journal → new ≡ length b.journal
     → Allows KeepsTurns slots id x 0 (λ _. new) (λ _. Counted (step slots 0 new 0 none) x new)
 stores slots id new m x b is empty holds seated alone grown legal new_is =
-    let x₀ : Sat = (m.0, (0, Some b) ∷ []) in
+    let x₀ : SeatView = (m.0, (0, Some b) ∷ []) in
     let same : x ≡ x₀ =
-    is ∙ ap (λ (cs : List (ℕ × Option Bench)). (m.0, (0, Some b) ∷ rest cs)) empty in
+    is ∙ ap (λ (cs : List (ℕ × Option DeskState)). (m.0, (0, Some b) ∷ rest cs)) empty in
     let setup = grown.setup in
     let journal = grown.journal in
     subst
-    (λ (z : Sat).
+    (λ (z : SeatView).
     Allows KeepsTurns slots id z 0 (λ _. new) (λ _. Counted (step slots 0 new 0 none) z new))
     (sym same)
     (counts slots id new x₀ b grown.new holds seated alone refl journal grown.own
@@ -144,32 +142,32 @@ stores slots id new m x b is empty holds seated alone grown legal new_is =
     (new_is ∙ ap (λ (l : List Entry). length l) journal))
 
 -- the seat after the count
-pub counted : (m x y : Sat) (b : Bench) → x ≡ (m.0, (0, Some b) ∷ rest m.1)
+pub counted : (m x y : SeatView) (b : DeskState) → x ≡ (m.0, (0, Some b) ∷ rest m.1)
     → m.1 ≡ (0, None) ∷ [] → y ≡ (after_count x.0 (journal_in x.1), x.1)
     → y ≡ (after_count m.0 b.journal, (0, Some b) ∷ [])
 counted m x y b is empty did =
     let same : x ≡ (m.0, (0, Some b) ∷ []) =
-    is ∙ ap (λ (cs : List (ℕ × Option Bench)). (m.0, (0, Some b) ∷ rest cs)) empty in
-    did ∙ ap (λ (z : Sat). (after_count z.0 (journal_in z.1), z.1)) same
+    is ∙ ap (λ (cs : List (ℕ × Option DeskState)). (m.0, (0, Some b) ∷ rest cs)) empty in
+    did ∙ ap (λ (z : SeatView). (after_count z.0 (journal_in z.1), z.1)) same
 
-pub moves_on : (slots id : ℕ) (m y : Sat) (b : Bench)
+pub moves_on : (slots id : ℕ) (m y : SeatView) (b : DeskState)
     → y ≡ (after_count m.0 b.journal, (0, Some b) ∷ []) → m.0.holds ≡ true → m.0.waits ≡ 1
     → m.0.live ≡ true → b.setup ≡ m.0.setup
     → Allows KeepsTurns slots id y 2 (λ n. (n + 1) % 2 ^ 64) (Advanced (step slots 2 1 0 none) y)
 moves_on slots id m y b is holds one live setup =
     subst
-    (λ (z : Sat).
+    (λ (z : SeatView).
     Allows KeepsTurns slots id z 2 (λ n. (n + 1) % 2 ^ 64) (Advanced (step slots 2 1 0 none) z))
     (sym is)
     (advances slots id (after_count m.0 b.journal, (0, Some b) ∷ []) b holds one live refl setup
     refl)
 
-pub advanced : (m y z : Sat) (b : Bench) → y ≡ (after_count m.0 b.journal, (0, Some b) ∷ [])
+pub advanced : (m y z : SeatView) (b : DeskState) → y ≡ (after_count m.0 b.journal, (0, Some b) ∷ [])
     → z ≡ (without_ticket y.0, []) → z ≡ (without_ticket (after_count m.0 b.journal), [])
-advanced m y z b is did = did ∙ ap (λ (u : Sat). (without_ticket u.0, [])) is
+advanced m y z b is did = did ∙ ap (λ (u : SeatView). (without_ticket u.0, [])) is
 
 -- entries of the actor that come last are its next receipts
-more_entries : (d : View) (m : Sat) (b : Bench) (j es : List Entry) → IsServed d m b
+more_entries : (d : View) (m : SeatView) (b : DeskState) (j es : List Entry) → IsServed d m b
     → j ≡ b.journal ++ es → OnlyBy d.actor es → entries_by m.0.actor j ≡ d.mine ++ es
 more_entries d m b j es s is only =
     let actor = (s.same).actor in
@@ -177,9 +175,9 @@ more_entries d m b j es s is only =
     ∙ (by_more d.actor b.journal es only ∙ ap (λ (l : List Entry). l ++ es) s.own)
 
 -- what a whole turn leaves: v before it, z after it; the desk came as b and went with the journal j
-pub record Done (v z : Sat) (b : Bench) (j : List Entry) (a : ℕ) (rs : List Entry)
+pub record Done (v z : SeatView) (b : DeskState) (j : List Entry) (a : ℕ) (rs : List Entry)
     : Type 0 where
-  pub calm : IsCalm z
+  pub calm : HasNoTicket z
   pub actor : z.0.actor ≡ a
   pub mine : z.0.mine ≡ rs
   pub all : z.0.all ≡ actor_count z.0.setup
@@ -191,12 +189,12 @@ pub record Done (v z : Sat) (b : Bench) (j : List Entry) (a : ℕ) (rs : List En
   pub own : entries_by a j ≡ rs
 
 -- w with the ticket, m with the desk b in hand, which then has the journal j, with es more
-pub done : (p : Place (Option Bench) View) (w m z : Sat) (n : ℕ) (b : Bench) (c : Setup)
-    (j es : List Entry) (a : ℕ) (rs rs' : List Entry) → IsPlaceOf a rs p → Waits p.me w n
+pub done : (p : Place (Option DeskState) View) (w m z : SeatView) (n : ℕ) (b : DeskState) (c : Setup)
+    (j es : List Entry) (a : ℕ) (rs rs' : List Entry) → IsPlaceOf a rs p → DrewTicket p.me w n
     → IsServed w.0 m b → z ≡ (without_ticket (after_count m.0 j), []) → c ≡ b.setup
     → Legal c j → j ≡ b.journal ++ es → OnlyBy a es → rs' ≡ rs ++ es → Done p.me z b j a rs'
 done p w m z n b c j es a rs rs' at waits served is same_setup legal grown only more =
-    let v : Sat = p.me in
+    let v : SeatView = p.me in
     let calm = at.calm in
     let s = served.same in
     let q = waits.same in
@@ -209,7 +207,7 @@ done p w m z n b c j es a rs rs' at waits served is same_setup legal grown only 
     ∙ (ap (λ (l : List Entry). l ++ es) (waits.mine ∙ at.mine) ∙ sym more) in
     let far : StartsWith b.journal v.0.seen =
     subst (StartsWith b.journal) waits.seen served.after in
-    subst (λ (x : Sat). Done v x b j a rs') (sym is) record {
+    subst (λ (x : SeatView). Done v x b j a rs') (sym is) record {
       calm = record {
         empty = refl;
         waits = refl;
@@ -235,7 +233,7 @@ done p w m z n b c j es a rs rs' at waits served is same_setup legal grown only 
     }
 
 -- the place that the seat has then
-pub placed : (a : ℕ) (rs : List Entry) (p : Place (Option Bench) View) (v : Sat) (b : Bench)
+pub placed : (a : ℕ) (rs : List Entry) (p : Place (Option DeskState) View) (v : SeatView) (b : DeskState)
     (j : List Entry) → Done v p.me b j a rs → IsPlaceOf a rs p
 placed a rs p v b j d =
     record { calm = d.calm; actor = d.actor; mine = d.mine; all = d.all }
@@ -244,14 +242,14 @@ abbrev yard_or : Yard → Option Yard → Yard
 yard_or d None = d
 yard_or d (Some y) = y
 
-pub of_yard : (y : Yard) (s : Sitting) (a : ℕ) (rs : List Entry)
-    (p : Place (Option Bench) View) → sitting a rs (Some p) ≡ s → s.of ≡ Some y
+pub of_yard : (y : Yard) (s : SeatState) (a : ℕ) (rs : List Entry)
+    (p : Place (Option DeskState) View) → seat_state a rs (Some p) ≡ s → s.of ≡ Some y
     → record { id = p.table_id; setup = p.me.0.setup } ≡ y
-of_yard y s a rs p is of = ap (yard_or y) (ap (λ (x : Sitting). x.of) is ∙ of)
+of_yard y s a rs p is of = ap (yard_or y) (ap (λ (x : SeatState). x.of) is ∙ of)
 
-pub sees : (y : Yard) (s : Sitting) (a : ℕ) (rs rs' : List Entry)
-    (p : Place (Option Bench) View) (o : Option Yard) (z : Sat) (b : Bench) (j : List Entry)
-    → JournalsSurvive → IsMet y.setup → sitting a rs (Some p) ≡ s → s.of ≡ Some y
+pub sees : (y : Yard) (s : SeatState) (a : ℕ) (rs rs' : List Entry)
+    (p : Place (Option DeskState) View) (o : Option Yard) (z : SeatView) (b : DeskState) (j : List Entry)
+    → JournalsSurvive → IsMet y.setup → seat_state a rs (Some p) ≡ s → s.of ≡ Some y
     → Done p.me z b j a rs'
     → SeesMore y s (record { of = o; actor = a; receipts = rs'; seen = z.0.seen })
 sees y s a rs rs' p o z b j survive met is of d =
@@ -268,67 +266,23 @@ sees y s a rs rs' p o z b j survive met is of d =
       own = ap (entries_by a) d.seen ∙ d.own;
     }
 
--- the entries that the turn left are the last that the seat has seen
-pub turned : (s : Sitting) (a : ℕ) (rs rs' : List Entry) (p : Place (Option Bench) View)
-    (o : Option Yard) (z : Sat) (b : Bench) (j es : List Entry) → sitting a rs (Some p) ≡ s
-    → Done p.me z b j a rs' → j ≡ b.journal ++ es → OnlyBy a es → rs' ≡ rs ++ es
-    → Turned s (record { of = o; actor = a; receipts = rs'; seen = z.0.seen })
-turned s a rs rs' p o z b j es is d grown only more = record {
-  log = b.journal;
-  new = es;
-  last = d.seen ∙ grown;
-  after = subst (StartsWith b.journal) (ap (λ (x : Sitting). x.seen) is) d.after;
-  only = subst (λ (k : ℕ). OnlyBy k es) (ap (λ (x : Sitting). x.actor) is) only;
-  receipts = more ∙ ap (λ (x : Sitting). x.receipts ++ es) is;
-}
-
 -- a desk that was worked at comes back with more entries
-pub grown : (v : View) (m : Sat) (b b₁ b₂ b₃ : Bench) (a a' : ℕ) (rs rs' : List Entry)
+pub grown : (v : View) (m : SeatView) (b b₁ b₂ b₃ : DeskState) (a a' : ℕ) (rs rs' : List Entry)
     → IsServed v m b → m.0.actor ≡ a → b₁ ≡ record b { actor = a; receipts = rs }
     → Worked b₁ b₂ → b₃ ≡ record b₂ { actor = a'; receipts = rs' } → IsGrown m.0 b₃
 grown v m b b₁ b₂ b₃ a a' rs rs' served actor sat worked left =
     let same = (served.same).setup in
     record {
       setup =
-          ap (λ (x : Bench). x.setup) left
-          ∙ (worked.setup ∙ (ap (λ (x : Bench). x.setup) sat ∙ (served.setup ∙ sym same)));
+          ap (λ (x : DeskState). x.setup) left
+          ∙ (worked.setup ∙ (ap (λ (x : DeskState). x.setup) sat ∙ (served.setup ∙ sym same)));
       new = worked.new;
       journal =
-          ap (λ (x : Bench). x.journal) left
+          ap (λ (x : DeskState). x.journal) left
           ∙ (worked.journal
           ∙ ap (λ (l : List Entry). l ++ worked.new)
-          (ap (λ (x : Bench). x.journal) sat ∙ sym served.seen));
+          (ap (λ (x : DeskState). x.journal) sat ∙ sym served.seen));
       own =
           subst (λ (k : ℕ). OnlyBy k worked.new)
-          (ap (λ (x : Bench). x.actor) sat ∙ sym actor) worked.own;
-    }
-
--- the entry that an act left is the last that the seat has seen
-pub ordered : (s : Sitting) (a : ℕ) (rs rs' : List Entry) (p : Place (Option Bench) View)
-    (o : Option Yard) (z : Sat) (b b₁ b₂ : Bench) (j : List Entry) (at : ℕ) (act : Act)
-    (reply : Reply) → sitting a rs (Some p) ≡ s → Done p.me z b j a rs'
-    → b₁ ≡ record b { actor = a; receipts = rs } → b₂ ≡ acted b₁ act → reply ≡ desk_reply b₁ act
-    → j ≡ b₂.journal → rs' ≡ b₂.receipts → at ≡ length b.journal
-    → Ends s (record { of = o; actor = a; receipts = rs'; seen = z.0.seen }) act at reply
-ordered s a rs rs' p o z b b₁ b₂ j at act reply is d sat did said journal receipts place =
-    let before : b₁.journal ≡ b.journal = ap (λ (x : Bench). x.journal) sat in
-    let had : b₁.receipts ≡ s.receipts =
-    ap (λ (x : Bench). x.receipts) sat ∙ ap (λ (x : Sitting). x.receipts) is in
-    let by : b₁.actor ≡ s.actor =
-    ap (λ (x : Bench). x.actor) sat ∙ ap (λ (x : Sitting). x.actor) is in
-    let where_at : length b₁.journal ≡ at =
-    ap (λ (l : List Entry). length l) before ∙ sym place in
-    let same : receipt b₁ act ≡ entry at s.actor act reply =
-    λ i. entry (where_at i) (by i) act (sym said i) in
-    record {
-      log = b.journal;
-      last =
-          d.seen
-          ∙ (journal
-          ∙ (ap (λ (x : Bench). x.journal) did ∙ (λ i. before i ++ same i ∷ [])));
-      place = place;
-      after = subst (StartsWith b.journal) (ap (λ (x : Sitting). x.seen) is) d.after;
-      receipts =
-          receipts
-          ∙ (ap (λ (x : Bench). x.receipts) did ∙ (λ i. had i ++ same i ∷ []));
+          (ap (λ (x : DeskState). x.actor) sat ∙ sym actor) worked.own;
     }

@@ -1,5 +1,6 @@
 pub mod Yard
-pub mod Turns
+pub mod Turnstile
 pub mod Places
+pub mod AtDesk
 pub mod Posts
 pub mod Parts

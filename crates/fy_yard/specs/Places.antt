@@ -4,20 +4,20 @@ use Rattle.atomic_table.specs.Seated.{TableId}
 use Rattle.atomic_table.specs.declared.shared.Seat.{Seat as Place}
 use Rattle.fy_acts.specs.declared.entry.Entry.{Entry}
 use Rattle.fy_cluster.specs.Replies.{Legal}
-use Rattle.fy_actors.specs.Desk.{Bench, entries_by, OnlyBy}
+use Rattle.fy_actors.specs.Desk.{DeskState, entries_by, OnlyBy}
 use Rattle.fy_yard.specs.declared.view.View.{View}
-use Rattle.fy_yard.specs.Yard.{Yard, Sitting, actor_count, StartsWith}
-use Rattle.fy_yard.specs.Turns.{Sat, Joined}
+use Rattle.fy_yard.specs.Yard.{Yard, SeatState, actor_count, StartsWith}
+use Rattle.fy_yard.specs.Turnstile.{SeatView, Joined}
 
 -- a table of three words and one slot
 abbrev pub IsTurnstile : TableId → Type 0
 IsTurnstile id = (id.words ≡ 3) × (id.slots ≡ 1)
 
 -- what a seat is seen as: its actor, its receipts, and its place while it has one
-abbrev pub sitting : ℕ → List Entry → Option (Place (Option Bench) View) → Sitting
-sitting actor receipts None =
+abbrev pub seat_state : ℕ → List Entry → Option (Place (Option DeskState) View) → SeatState
+seat_state actor receipts None =
     record { of = None; actor = actor; receipts = receipts; seen = [] }
-sitting actor receipts (Some place) =
+seat_state actor receipts (Some place) =
     record {
       of = Some (record { id = place.table_id; setup = place.me.0.setup });
       actor = actor;
@@ -26,7 +26,7 @@ sitting actor receipts (Some place) =
     }
 
 -- a seat that has no ticket
-pub record IsCalm (m : Sat) : Type 0 where
+pub record HasNoTicket (m : SeatView) : Type 0 where
   pub empty : m.1 ≡ []
   pub waits : m.0.waits ≡ 0
   pub holds : m.0.holds ≡ false
@@ -37,20 +37,20 @@ pub record IsCalm (m : Sat) : Type 0 where
   pub told : m.0.told ≡ []
 
 -- the place of this actor's seat, with these receipts
-pub record IsPlaceOf (a : ℕ) (rs : List Entry) (place : Place (Option Bench) View)
+pub record IsPlaceOf (a : ℕ) (rs : List Entry) (place : Place (Option DeskState) View)
     : Type 0 where
-  pub calm : IsCalm place.me
+  pub calm : HasNoTicket place.me
   pub actor : place.me.0.actor ≡ a
   pub mine : place.me.0.mine ≡ rs
   pub all : place.me.0.all ≡ actor_count place.me.0.setup
 
 -- a seat has such a place, if any
-abbrev pub IsSitting : ℕ → List Entry → Option (Place (Option Bench) View) → Type 0
-IsSitting actor receipts None = Unit {0}
-IsSitting actor receipts (Some place) = IsPlaceOf actor receipts place
+abbrev pub IsSeat : ℕ → List Entry → Option (Place (Option DeskState) View) → Type 0
+IsSeat actor receipts None = Unit {0}
+IsSeat actor receipts (Some place) = IsPlaceOf actor receipts place
 
 -- a seat that has others to make
-pub record IsOpener (m : Sat) : Type 0 where
+pub record IsOpener (m : SeatView) : Type 0 where
   pub empty : m.1 ≡ []
   pub opens : m.0.opens ≡ true
   pub live : m.0.live ≡ true
@@ -62,7 +62,7 @@ pub record IsOpener (m : Sat) : Type 0 where
   pub more : m.0.made < m.0.all
 
 -- a seat that waits with this ticket
-pub record IsWaiting (m : Sat) (n : ℕ) : Type 0 where
+pub record IsWaiting (m : SeatView) (n : ℕ) : Type 0 where
   pub empty : m.1 ≡ []
   pub waits : m.0.waits ≡ 1
   pub holds : m.0.holds ≡ false
@@ -85,7 +85,7 @@ pub record IsSameActor (v w : View) : Type 0 where
   pub told : w.told ≡ v.told
 
 -- a seat has drawn this ticket
-pub record Waits (m m' : Sat) (n : ℕ) : Type 0 where
+pub record DrewTicket (m m' : SeatView) (n : ℕ) : Type 0 where
   pub waiting : IsWaiting m' n
   pub same : IsSameActor m.0 m'.0
   pub seen : m'.0.seen ≡ m.0.seen
@@ -93,7 +93,7 @@ pub record Waits (m m' : Sat) (n : ℕ) : Type 0 where
 
 -- it is the seat's turn, and the desk is out of its slot: a legal journal that begins with all that
 -- the seat had seen, in which its actor's entries are its receipts
-pub record IsServed (v : View) (m : Sat) (desk : Bench) : Type 0 where
+pub record IsServed (v : View) (m : SeatView) (desk : DeskState) : Type 0 where
   pub slot : m.1 ≡ (0, None) ∷ []
   pub waits : m.0.waits ≡ 1
   pub holds : m.0.holds ≡ true
@@ -106,7 +106,7 @@ pub record IsServed (v : View) (m : Sat) (desk : Bench) : Type 0 where
   pub own : entries_by v.actor desk.journal ≡ v.mine
 
 -- it is the seat's turn, and the desk is out of its slot
-pub record IsServing (m : Sat) : Type 0 where
+pub record HoldsDesk (m : SeatView) : Type 0 where
   pub slot : m.1 ≡ (0, None) ∷ []
   pub waits : m.0.waits ≡ 1
   pub holds : m.0.holds ≡ true
@@ -115,21 +115,21 @@ pub record IsServing (m : Sat) : Type 0 where
   pub kept : m.0.kept ≡ []
 
 -- the desk comes back with more entries, of the seat's actor alone
-pub record IsGrown (v : View) (desk : Bench) : Type 0 where
+pub record IsGrown (v : View) (desk : DeskState) : Type 0 where
   pub setup : desk.setup ≡ v.setup
   pub new : List Entry
   pub journal : desk.journal ≡ v.seen ++ new
   pub own : OnlyBy v.actor new
 
 -- what is kept of a seat that is joined into another
-abbrev pub key_of_seat : Sitting → Joined
+abbrev pub key_of_seat : SeatState → Joined
 key_of_seat s = (s.actor, (s.receipts, s.seen))
 
 -- a place into which all these seats were joined, the first being its own
-pub record Gathered (y : Yard) (seats : List Sitting) (m : Sat) : Type 0 where
+pub record Gathered (y : Yard) (seats : List SeatState) (m : SeatView) : Type 0 where
   pub empty : m.1 ≡ []
-  pub first : Sitting
-  pub rest : List Sitting
+  pub first : SeatState
+  pub rest : List SeatState
   pub are : seats ≡ first ∷ rest
   pub setup : m.0.setup ≡ y.setup
   pub all : m.0.all ≡ actor_count y.setup

@@ -1,25 +1,35 @@
--- what a run leaves of its posts
-use Rattle.std.specs.Prelude.{◌≡◌, ◌≢◌, ◌⊎◌, ℕ, ◌<◌, List, length, slice_index_or}
-use Rattle.fy_yard.specs.Yard.{Yard, Sitting, StartsWith, Keeps, SeesMore}
+-- what a run leaves of a post
+use Rattle.std.specs.Prelude.{◌≡◌, ◌≢◌, ◌⊎◌, ℕ, ◌+◌, ◌≤◌, false, length}
+use Rattle.fy_cluster.specs.declared.fault.Fault.TheVariants.{JournalFull}
+use Rattle.fy_actors.specs.Parts.{Part, has_next_act}
+use Rattle.fy_actors.specs.Parts.Part.{Unspecified}
+use Rattle.fy_yard.specs.Yard.{Yard, SeatState, StartsWith, IsSameSeat, SeesMore}
+use Rattle.fy_yard.specs.Parts.{KeepsPart}
 use Rattle.fy_yard.specs.declared.posts.End.{End}
-use Rattle.fy_yard.specs.declared.posts.End.TheVariants.{NotRun, Limit, Shut}
+use Rattle.fy_yard.specs.declared.posts.End.TheVariants.{NotRun, Ended, Limit, Shut, Failed}
 
--- it took no turn, since the gate or the limit ended it first: its seat is as it was
-abbrev pub Idles : Sitting → Sitting → End → Type 0
-Idles s t end = (t ≡ s) × ((end ≡ Shut) ⊎ (end ≡ Limit))
+-- no turn was taken and the seat is as it was, or it has then seen more
+abbrev pub MaySeeMore : Yard → SeatState → SeatState → Type 0
+MaySeeMore y s t = (t ≡ s) ⊎ SeesMore y s t
 
--- the same seat, with further receipts behind those that it had, and an end of a run: it took no
--- turn, or has then seen a legal journal that begins with what it had seen, in which its actor's
--- entries are its receipts
-pub record Ran (y : Yard) (s t : Sitting) (end : End) : Type 0 where
-  pub seat : Keeps s t
+-- what a run of at most so many turns leaves, a case for each end: after `Ended` no act is left
+-- that is known of; at `Limit` a known part has made that many acts more; `Shut` is by a gate that
+-- may shut; and a known part fails by a full journal only where it is full
+abbrev pub EndsSo : Yard → Type 0 → ℕ → (s t : SeatState) → (was now : Part) → End → Type 0
+EndsSo y shuts most s t was now NotRun = ⊥
+EndsSo y shuts most s t was now Ended = SeesMore y s t × (has_next_act now ≡ false)
+EndsSo y shuts most s t was now Limit =
+    MaySeeMore y s t × (was ≢ Unspecified → length t.receipts ≡ length s.receipts + most)
+EndsSo y shuts most s t was now Shut = MaySeeMore y s t × shuts
+EndsSo y shuts most s t was now (Failed fault) =
+    SeesMore y s t × (fault ≡ JournalFull → was ≢ Unspecified → y.setup.limit ≤ length t.seen)
+
+-- a run of a post: it is the same seat, with further receipts behind those that it had; an actor
+-- that kept to a part still does, and a known part stays known; and it ended so
+pub record Ran (y : Yard) (shuts : Type 0) (most : ℕ) (s t : SeatState) (was now : Part) (end : End)
+    : Type 0 where
+  pub seat : IsSameSeat s t
   pub receipts : StartsWith t.receipts s.receipts
-  pub sees : Idles s t end ⊎ SeesMore y s t
-  pub ended : end ≢ NotRun
-
--- so it is for each post, which has a seat and an end
-abbrev pub AllRan : {A : Type 0} → Yard → (A → Sitting) → (A → End) → List A → List A → Type 0
-AllRan {A} y seat end before after =
-    (i : ℕ) (d : A) → i < length before →
-    Ran y (seat (slice_index_or before i d)) (seat (slice_index_or after i d))
-    (end (slice_index_or after i d))
+  pub follows : (first : Part) → KeepsPart y first s was → KeepsPart y first t now
+  pub known : was ≢ Unspecified → now ≢ Unspecified
+  pub ended : EndsSo y shuts most s t was now end

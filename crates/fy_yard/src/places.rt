@@ -3,27 +3,32 @@ ghost use Rattle.std.specs.Prelude.{◌≡◌, [], ◌∷◌, None, true};
 ghost use Rattle.fy_cluster.specs.Replies.{Legal};
 ghost use Rattle.fy_actors.specs.Desk.{entries_by};
 ghost use Rattle.fy_yard.specs.Yard.{StartsWith};
-ghost use Rattle.fy_yard.specs.Turns.{without_ticket, after_count, less_one, next_seat, after_meeting, told_by};
-ghost use Rattle.fy_yard.specs.Places.{IsTurnstile, IsCalm, IsWaiting, Waits, IsServed, IsServing, IsGrown, IsOpener};
+ghost use Rattle.fy_yard.specs.Turnstile.{without_ticket, after_count, after_split, next_seat, after_meeting, told_by};
+ghost use Rattle.fy_yard.specs.Places.{IsTurnstile, HasNoTicket, IsWaiting, DrewTicket, IsServed, HoldsDesk, IsGrown, IsOpener};
 
-use crate::turns::{Advance, Another, Count, Draw, Look, Meet, Note, Place, Turnstile};
+use crate::turns::{Advance, Count, Draw, Look, MakeNext, Meet, Note, Place, Turnstile};
 use fy_actors::Desk;
 use std::sync::Wait;
 use std::thread;
 
 /// Draws a ticket.
-pub(crate) fn draw(table: &Turnstile, place: &mut Place) -> u64
+pub(crate) fn draw_ticket(table: &Turnstile, place: &mut Place) -> u64
     requires table { (place.old.table_id ≡ table.now.shared.table_id)
         × IsTurnstile table.now.shared.table_id }
-    requires calm { IsCalm place.old.me }
+    requires calm { HasNoTicket place.old.me }
     ensures place { place.new.table_id ≡ place.old.table_id }
-    ensures waits { Waits place.old.me place.new.me result }
+    ensures waits { DrewTicket place.old.me place.new.me result }
 {
     table.shared.fetch_add::<Draw>(place, 1, 1)
 }
 
 /// Looks until the ticket is served, and takes the desk. Inside the door the first look finds it.
-pub(crate) fn wait_for<R: Wait>(rt: &R, table: &Turnstile, place: &mut Place, ticket: u64) -> Desk
+pub(crate) fn wait_for_desk<R: Wait>(
+    rt: &R,
+    table: &Turnstile,
+    place: &mut Place,
+    ticket: u64,
+) -> Desk
     requires table { (place.old.table_id ≡ table.now.shared.table_id)
         × IsTurnstile table.now.shared.table_id }
     requires waits { IsWaiting place.old.me ticket }
@@ -43,10 +48,10 @@ pub(crate) fn wait_for<R: Wait>(rt: &R, table: &Turnstile, place: &mut Place, ti
 }
 
 /// Gives the desk back, counts its entries and lets the next ticket be served.
-pub(crate) fn finish(table: &Turnstile, place: &mut Place, desk: Desk)
+pub(crate) fn return_desk(table: &Turnstile, place: &mut Place, desk: Desk)
     requires table { (place.old.table_id ≡ table.now.shared.table_id)
         × IsTurnstile table.now.shared.table_id }
-    requires serving { IsServing place.old.me }
+    requires serving { HoldsDesk place.old.me }
     requires grown { IsGrown place.old.me.0 desk }
     ensures place { place.new.table_id ≡ place.old.table_id }
     ensures seen { place.new.me ≡ (without_ticket (after_count place.old.me.0 desk.journal), []) }
@@ -59,16 +64,16 @@ pub(crate) fn finish(table: &Turnstile, place: &mut Place, desk: Desk)
 }
 
 /// Makes the next actor's place.
-pub(crate) fn another(table: &Turnstile, place: &mut Place) -> Place
+pub(crate) fn make_next_place(table: &Turnstile, place: &mut Place) -> Place
     requires table { (place.old.table_id ≡ table.now.shared.table_id)
         × IsTurnstile table.now.shared.table_id }
     requires opens { IsOpener place.old.me }
     ensures kept { (place.new.table_id ≡ place.old.table_id)
-        × (place.new.me ≡ (less_one place.old.me.0, place.old.me.1)) }
+        × (place.new.me ≡ (after_split place.old.me.0, place.old.me.1)) }
     ensures new { (result.table_id ≡ place.old.table_id)
         × (result.me ≡ (next_seat place.old.me.0, [])) }
 {
-    table.shared.split_seat::<Another>(place)
+    table.shared.split_seat::<MakeNext>(place)
 }
 
 /// Tells a place what another has seen, and the first then has seen the longer.
@@ -76,7 +81,7 @@ pub(crate) fn inform(table: &Turnstile, place: &mut Place, other: &mut Place)
     requires table { (place.old.table_id ≡ table.now.shared.table_id)
         × (other.old.table_id ≡ table.now.shared.table_id)
         × IsTurnstile table.now.shared.table_id }
-    requires calm { IsCalm place.old.me × IsCalm other.old.me }
+    requires calm { HasNoTicket place.old.me × HasNoTicket other.old.me }
     ensures other { (other.new.table_id ≡ other.old.table_id) × (other.new.me ≡ other.old.me) }
     ensures place { (place.new.table_id ≡ place.old.table_id)
         × (place.new.me

@@ -1,7 +1,7 @@
 //! Actors that take their turns in threads.
-ghost use Rattle.std.specs.Prelude.{◌≡◌, ◌<◌, All, Some, length};
-ghost use Rattle.fy_yard.specs.Posts.{Ran, AllRan};
-ghost use Rattle.fy_yard.specs.Parts.{Played, AllPlayed};
+ghost use Rattle.std.specs.Prelude.{◌≡◌, All, Some};
+ghost use Rattle.std.specs.List.{AllZip};
+ghost use Rattle.fy_yard.specs.Posts.{Ran};
 ghost use denote.Param.Send.{IsSync};
 
 use crate::yard::{Seat, Shared};
@@ -52,8 +52,7 @@ pub struct Post {
 /// Runs a post to its end.
 fn run_post<R: Wait, G: Gate>(rt: &R, shared: &Shared, post: &mut Post, gate: &G, max: u32)
     requires { post.old.seat.of ≡ Some shared.now }
-    ensures ran { Ran shared.now post.old.seat post.new.seat post.new.end }
-    ensures played { Played shared.now (G.shuts gate.now) max post.old.seat post.new.seat
+    ensures { Ran shared.now (G.shuts gate.now) max post.old.seat post.new.seat
         (part post.old.actor) (part post.new.actor) post.new.end }
 {
     let Post { seat, actor, end } = post;
@@ -70,8 +69,7 @@ fn take_turns<R: Wait, G: Gate>(
     max: u32,
 ) -> End
     requires { seat.old.of ≡ Some shared.now }
-    ensures ran { Ran shared.now seat.old seat.new result }
-    ensures played { Played shared.now (G.shuts gate.now) max seat.old seat.new (part actor.old)
+    ensures { Ran shared.now (G.shuts gate.now) max seat.old seat.new (part actor.old)
         (part actor.new) result }
 {
     parts_are_kept();
@@ -94,15 +92,15 @@ fn take_turns<R: Wait, G: Gate>(
 /// and returns once all have ended. Before each turn the gate is asked; no post takes more than
 /// `max` turns, and with a `max` of 0 no gate is asked. Each seat has to be one of this cluster's.
 ///
-/// Each post keeps its seat, with all receipts that it had and those of its turns behind them, and
-/// its end says how it ended, whatever stood there. Where it took a turn, its seat has then seen a
-/// legal journal that begins with all that it had seen, in which its actor's entries are its
-/// receipts; else the seat is as it was, and the end is `Shut` or `Limit`.
+/// Each post keeps its seat, with its receipts and those of its turns behind them. Its end says how
+/// the run ended, whatever stood there before. After a turn the seat has seen a legal journal that
+/// begins with all that it had seen, in which its actor's entries are its receipts. Without a turn
+/// the seat is as it was, and the end is `Shut` or `Limit`.
 ///
-/// Whose actor is known to play a part has kept to it: each of its acts is the one that came next,
-/// by the journal before it. It ended as `Ended` where no act is left, as `Limit` where it made
-/// `max` acts more, and failed by `JournalFull` where the journal is full; and only a gate that may
-/// shut shuts a post.
+/// An actor that is known to play a part has kept to it: each of its acts is the one that came
+/// next, by the journal before it. At `Ended` no act is left, at `Limit` it has made `max` acts
+/// more, and it fails by `JournalFull` only where the journal is full. Only a gate that may shut
+/// shuts a post.
 pub fn run_actors<R: Threads + Wait + Sync, G: Gate>(
     rt: &R,
     shared: &Shared,
@@ -111,9 +109,8 @@ pub fn run_actors<R: Threads + Wait + Sync, G: Gate>(
     max: u32,
 )
     requires { All (λ post. post.seat.of ≡ Some shared.now) posts.old }
-    ensures ran { AllRan shared.now (λ post. post.seat) (λ post. post.end) posts.old posts.new }
-    ensures played { AllPlayed shared.now (G.shuts gate.now) max (λ post. post.seat)
-        (λ post. part post.actor) (λ post. post.end) posts.old posts.new }
+    ensures { AllZip (λ old new. Ran shared.now (G.shuts gate.now) max old.seat new.seat
+        (part old.actor) (part new.actor) new.end) posts.old posts.new }
 {
     if posts.is_empty() {
         return;
@@ -121,8 +118,7 @@ pub fn run_actors<R: Threads + Wait + Sync, G: Gate>(
     let threads = posts.len();
     let work = |_: usize, post: &mut Post|
         requires { IsSync R.row × IsSync G.row × (post.now.seat.of ≡ Some shared.now) }
-        ensures ran { Ran shared.entry.now post.entry.now.seat post.exit.now.seat post.exit.now.end }
-        ensures played { Played shared.entry.now (G.shuts gate.entry.now) max post.entry.now.seat
+        ensures { Ran shared.entry.now (G.shuts gate.entry.now) max post.entry.now.seat
             post.exit.now.seat (part post.entry.now.actor) (part post.exit.now.actor)
             post.exit.now.end }
     { run_post(rt, shared, post, gate, max) };

@@ -1,5 +1,5 @@
 //! The rule of the turnstile, and its steps.
-ghost use Rattle.fy_yard.specs.Turns.{KeepsTurns, newcomer, Drawn, Looked, Counted, Advanced, Met, less_one, next_seat, note_of, told_by, joined_by, spent_view};
+ghost use Rattle.fy_yard.specs.Turnstile.{KeepsTurns, first_view, Drawn, Looked, Counted, Advanced, Met, after_split, next_seat, note_of, told_by, joined_by, spent_view};
 
 use crate::view::View;
 use atomic_table::{Join, Play, Seat, Split, Table, TableRule};
@@ -14,7 +14,7 @@ pub struct InTurn;
 impl TableRule<Option<Desk>, View, Snapshot<Config>> for InTurn {
     ghost holds = { λ _. KeepsTurns };
 
-    ghost first = { λ key. newcomer key.value };
+    ghost first = { λ key. first_view key.value };
 }
 
 /// Draws a ticket.
@@ -53,10 +53,10 @@ impl Play<Option<Desk>, View> for Meet {
 }
 
 /// Makes the seat of the next actor.
-pub struct Another;
+pub struct MakeNext;
 
-impl Split<View> for Another {
-    ghost left = { less_one };
+impl Split<View> for MakeNext {
+    ghost left = { after_split };
 
     ghost right = { next_seat };
 }

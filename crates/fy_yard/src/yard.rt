@@ -1,18 +1,19 @@
 //! The cluster that actors share, and their seats.
 ghost use Rattle.std.specs.Prelude.{◌≡◌, ◌↔◌, ◌<◌, ◌≤◌, [], ◌∷◌, length, map, All, IfOk, IfErr, IfSome, Some, Ok, vec_len};
 ghost use Rattle.std.specs.Vec.{vec_capacity};
-ghost use Rattle.fy_actors.specs.Desk.{Bench, Worked, course_of};
+ghost use Rattle.fy_actors.specs.Desk.{DeskState, Worked, execution_of};
 ghost use Rattle.fy_actors.specs.Parts.{PlaysTurn};
 ghost use Rattle.fy_cluster.specs.Setup.{IsMet};
 ghost use Rattle.fy_cluster.specs.Replies.{Legal};
 ghost use Rattle.fy_cluster.specs.declared.fault.Fault.TheVariants.{JournalFull};
-ghost use Rattle.fy_yard.specs.Turns.{newcomer};
-ghost use Rattle.fy_yard.specs.Places.{IsPlaceOf, Gathered, sitting};
-ghost use Rattle.fy_yard.specs.Yard.{Yard, actor_count, Keeps, Stays, SeesMore, Ends as EndsWith, Turned, Together, leftover, new_seats, Settled, Missing};
+ghost use Rattle.fy_yard.specs.Turnstile.{first_view};
+ghost use Rattle.fy_yard.specs.Places.{IsPlaceOf, Gathered, seat_state};
+ghost use Rattle.fy_yard.specs.Yard.{Yard, actor_count, IsSameSeat, KeepsReceipts, SeesMore, EndsWithAct, Turned, Together, closed_seat, new_seats, Settled, Missing};
+ghost use Rattle.fy_yard.specs.AtDesk.{AtDesk, Does, OnlyWorks, MakesAct};
 ghost use Rattle.fy_yard.specs.Parts.{PlaysAt};
 ghost use Rattle.fy_yard.specs.declared.yard.CloseFault.TheVariants.{SeatsMissing};
 
-use crate::places::{another, draw, finish, inform, wait_for};
+use crate::places::{draw_ticket, inform, make_next_place, return_desk, wait_for_desk};
 use crate::turns::{Ends, Place, Turnstile};
 use atomic_table::Refused;
 use fy_actors::{Desk, FaultActor, Turn};
@@ -69,17 +70,17 @@ impl Model for Seat {
     ghost use Rattle.std.specs.Coded.{codes};
     ghost use Rattle.fy_locality.specs.contracts.locality.Locality as e;
     ghost use Rattle.fy_policy.specs.TreeCode.{tree_code};
-    ghost use Rattle.fy_yard.specs.Yard.{Sitting};
-    ghost use Rattle.fy_yard.specs.Places.{sitting, IsSitting};
+    ghost use Rattle.fy_yard.specs.Yard.{SeatState};
+    ghost use Rattle.fy_yard.specs.Places.{seat_state, IsSeat};
     ghost use Rattle.atomic_table.specs.Seated.{table_id_coded};
 
-    ghost Value = { Sitting };
+    ghost Value = { SeatState };
 
     ghost coded = { Prim.hlevel (codes, tree_code, e.the_row.coded, table_id_coded) };
 
-    ghost view = { λ s. sitting s.actor s.receipts.items s.place };
+    ghost view = { λ s. seat_state s.actor s.receipts.items s.place };
 
-    ghost invariant = { λ s. IsSitting s.actor s.receipts.items s.place };
+    ghost invariant = { λ s. IsSeat s.actor s.receipts.items s.place };
 }
 
 /// The entry that an order left: its place in the journal, from 0, and its reply.
@@ -96,7 +97,7 @@ pub struct Closed {
     pub seats: Vec<Seat>,
 }
 
-/// There was no memory. No meeting answers it.
+/// There was no memory. `meet` never answers it.
 #[derive(Clone, Copy, PartialEq, Eq, Debug)]
 pub struct NoMemory;
 
@@ -105,7 +106,7 @@ pub struct NoMemory;
 pub enum CloseFault {
     /// Some actor's seat isn't among those handed in.
     SeatsMissing(Shared, Vec<Seat>),
-    /// There was no memory. No close answers it.
+    /// There was no memory. `close` never answers it.
     NoMemory(Shared, Vec<Seat>),
 }
 
@@ -120,8 +121,8 @@ fn count_actors(cluster: &Cluster) -> u32
 
 /// The cluster of the desk in the one slot.
 fn cluster_in(mut slots: Vec<Option<Desk>>) -> Cluster
-    requires { (desk : Bench) × (slots.items ≡ Some desk ∷ []) }
-    ensures { (desk : Bench) → slots.items ≡ Some desk ∷ [] → result ≡ course_of desk }
+    requires { (desk : DeskState) × (slots.items ≡ Some desk ∷ []) }
+    ensures { (desk : DeskState) → slots.items ≡ Some desk ∷ [] → result ≡ execution_of desk }
 {
     let Some(Some(desk)) = slots.pop() else {
         unreachable!()
@@ -130,11 +131,11 @@ fn cluster_in(mut slots: Vec<Option<Desk>>) -> Cluster
 }
 
 /// The first place, from which the others are split.
-fn begin(alloc: Global, cluster: Cluster, actors: u32) -> Result<(Shared, Place), Cluster>
+fn open_table(alloc: Global, cluster: Cluster, actors: u32) -> Result<(Shared, Place), Cluster>
     requires empty { cluster.journal ≡ [] }
     requires actors { (actors ≡ actor_count cluster.setup) × (1 ≤ actors) }
     ensures ok { IfOk result (λ made. (made.0.setup ≡ cluster.setup)
-        × (made.1.table_id ≡ made.0.id) × (made.1.me ≡ (newcomer cluster.setup, []))) }
+        × (made.1.table_id ≡ made.0.id) × (made.1.me ≡ (first_view cluster.setup, []))) }
     ensures err { IfErr result (λ back. back ≡ cluster) }
 {
     let Ok(mut slots) = Vec::with_capacity(alloc, 1) else {
@@ -157,9 +158,9 @@ fn begin(alloc: Global, cluster: Cluster, actors: u32) -> Result<(Shared, Place)
 }
 
 /// A seat at its place.
-fn sit(alloc: Global, place: Place, actor: u32) -> Seat
+fn seat_at(alloc: Global, place: Place, actor: u32) -> Seat
     requires { IsPlaceOf actor [] place }
-    ensures { result ≡ sitting actor [] (Some place) }
+    ensures { result ≡ seat_state actor [] (Some place) }
 {
     Seat {
         actor,
@@ -179,15 +180,15 @@ fn seat_all(
     requires room { (seats.items ≡ []) × (actors ≤ vec_capacity seats) }
     requires count { (1 ≤ actors) × (actors ≡ actor_count shared.now.setup) }
     requires place { (place.table_id ≡ shared.now.id)
-        × (place.me ≡ (newcomer shared.now.setup, [])) }
+        × (place.me ≡ (first_view shared.now.setup, [])) }
     ensures { result.items ≡ new_seats shared.now 0 actors }
 {
     let mut place = place;
     for actor in 1..actors {
-        let next = another(&shared.table, &mut place);
-        seats.push_reserved(sit(alloc, next, actor));
+        let next = make_next_place(&shared.table, &mut place);
+        seats.push_reserved(seat_at(alloc, next, actor));
     }
-    let first = sit(alloc, place, 0);
+    let first = seat_at(alloc, place, 0);
     let inserted = seats.insert(0, first);
     prove!(inserted.is_ok());
     seats
@@ -198,25 +199,27 @@ fn gather(shared: &Shared, seats: &mut Vec<Seat>) -> Place
     requires some { 0 < vec_len seats.old }
     requires seats { All (λ s. s.of ≡ Some shared.now) seats.old.items }
     ensures place { result.table_id ≡ shared.now.id }
-    ensures left { seats.new.items ≡ map leftover seats.old.items }
+    ensures left { seats.new.items ≡ map closed_seat seats.old.items }
     ensures gathered { Gathered shared.now seats.old.items result.me }
 {
     let first = &mut seats[0];
-    let mut place = first.rise();
+    let mut place = first.take_place();
     for i in 1..seats.len() {
         let seat = &mut seats[i];
-        let other = seat.rise();
+        let other = seat.take_place();
         shared.table.shared.join_seat::<Ends>(&mut place, other);
     }
     place
 }
 
-/// Asks the boxed actor for a turn.
-fn ask(actor: &mut Box<dyn FaultActor + Send>, desk: &mut Desk) -> Result<Turn, Fault>
-    ensures plays { PlaysTurn (part actor.old, desk.old) (part actor.new, desk.new) result }
+/// Makes an act at the desk. Its receipt tells its entry's place in the journal, and its reply.
+fn make_act(desk: &mut Desk, act: Act) -> Result<Receipt, Fault>
+    ensures makes { MakesAct desk.old desk.new act result }
     ensures worked { Worked desk.old desk.new }
 {
-    actor.turn(desk)
+    let at = desk.journal_len() as u32;
+    let reply = desk.act(act)?;
+    Ok(Receipt { at, reply })
 }
 
 impl Seat {
@@ -235,10 +238,10 @@ impl Seat {
     }
 
     /// Takes the place out.
-    fn rise(&mut self) -> Place
+    fn take_place(&mut self) -> Place
         requires { (yard : Yard) × (self.old.of ≡ Some yard) }
-        ensures left { self.new ≡ leftover self.old }
-        ensures place { sitting self.old.actor self.old.receipts (Some result) ≡ self.old }
+        ensures left { self.new ≡ closed_seat self.old }
+        ensures place { seat_state self.old.actor self.old.receipts (Some result) ≡ self.old }
         ensures is { IsPlaceOf self.old.actor self.old.receipts result }
     {
         let Some(place) = self.place.take() else {
@@ -267,9 +270,41 @@ impl Shared {
         let Ok(seats) = Vec::with_capacity(alloc, actors as usize) else {
             return Err(cluster);
         };
-        let (shared, place) = begin(alloc, cluster, actors)?;
+        let (shared, place) = open_table(alloc, cluster, actors)?;
         let seats = seat_all(alloc, &shared, place, seats, actors);
         Ok((shared, seats))
+    }
+
+    /// Waits for the seat's turn, seats its actor at the desk, has `work` done there, and gives the
+    /// desk back. Besides the desk, `work` changes `who` alone.
+    fn with_desk<R: Wait, A, T, F: FnOnce(&mut A, &mut Desk) -> T>(
+        &self,
+        rt: &R,
+        seat: &mut Seat,
+        who: &mut A,
+        work: F,
+    ) -> T
+        requires seat { seat.old.of ≡ Some self.now }
+        requires callable { F.IsAlwaysCallable work }
+        requires works { OnlyWorks F.FnOnce work }
+        ensures same { IsSameSeat seat.old seat.new }
+        ensures sees { SeesMore self.now seat.old seat.new }
+        ensures turned { Turned seat.old seat.new }
+        ensures did { AtDesk self.now seat.old seat.new
+            (λ before after. Does F.FnOnce work who.old before result who.new after) }
+    {
+        let mut place = seat.take_place();
+        let inside = self.door.lock(rt);
+        let ticket = draw_ticket(&self.table, &mut place);
+        let mut desk = wait_for_desk(rt, &self.table, &mut place, ticket);
+        desk.sit(seat.actor, &mut seat.receipts);
+        let answer = work(who, &mut desk);
+        desk.sit(0, &mut seat.receipts);
+        return_desk(&self.table, &mut place, desk);
+        drop(inside);
+        seat.place = Some(place);
+        laws::journals_survive();
+        answer
     }
 
     /// The seat's actor makes an act, and the entry that it leaves is also the seat's last receipt.
@@ -285,32 +320,23 @@ impl Shared {
     /// `NoMemory`. Cluster and receipts are then as they were before the act.
     pub fn order<R: Wait>(&self, rt: &R, seat: &mut Seat, act: Act) -> Result<Receipt, Fault>
         requires { seat.old.of ≡ Some self.now }
-        ensures same { Keeps seat.old seat.new }
+        ensures same { IsSameSeat seat.old seat.new }
         ensures sees { SeesMore self.now seat.old seat.new }
         ensures ok { IfOk result
-            (λ receipt. EndsWith seat.old seat.new act receipt.at receipt.reply) }
+            (λ receipt. EndsWithAct seat.old seat.new act receipt.at receipt.reply) }
         ensures err { IfErr result (λ fault. (seat.new.receipts ≡ seat.old.receipts)
             × ((fault ≡ JournalFull) ↔ (self.now.setup.limit ≤ length seat.new.seen))) }
     {
-        let Some(mut place) = seat.place.take() else {
-            unreachable!()
-        };
-        let inside = self.door.lock(rt);
-        let ticket = draw(&self.table, &mut place);
-        let mut desk = wait_for(rt, &self.table, &mut place, ticket);
-        let at = desk.journal_len() as u32;
-        desk.sit(seat.actor, &mut seat.receipts);
-        let answer = desk.act(act);
-        desk.sit(0, &mut seat.receipts);
-        finish(&self.table, &mut place, desk);
-        drop(inside);
-        seat.place = Some(place);
-        laws::journals_survive();
-        let reply = match answer {
-            Ok(reply) => reply,
-            Err(fault) => return Err(fault),
-        };
-        Ok(Receipt { at, reply })
+        // An order changes nothing but the desk.
+        self.with_desk(
+            rt,
+            seat,
+            &mut (),
+            |_: &mut (), desk: &mut Desk|
+                ensures makes { MakesAct desk.old desk.new act result }
+                ensures worked { Worked desk.old desk.new }
+            { make_act(desk, act) },
+        )
     }
 
     /// The boxed actor takes a turn for the seat's actor, and the entries that it leaves are also
@@ -330,26 +356,22 @@ impl Shared {
         actor: &mut Box<dyn FaultActor + Send>,
     ) -> Result<Turn, Fault>
         requires { seat.old.of ≡ Some self.now }
-        ensures same { Keeps seat.old seat.new }
+        ensures same { IsSameSeat seat.old seat.new }
         ensures sees { SeesMore self.now seat.old seat.new }
         ensures turned { Turned seat.old seat.new }
         ensures plays { PlaysAt self.now seat.old seat.new (part actor.old) (part actor.new)
             result }
     {
-        let Some(mut place) = seat.place.take() else {
-            unreachable!()
-        };
-        let inside = self.door.lock(rt);
-        let ticket = draw(&self.table, &mut place);
-        let mut desk = wait_for(rt, &self.table, &mut place, ticket);
-        desk.sit(seat.actor, &mut seat.receipts);
-        let answer = ask(actor, &mut desk);
-        desk.sit(0, &mut seat.receipts);
-        finish(&self.table, &mut place, desk);
-        drop(inside);
-        seat.place = Some(place);
-        laws::journals_survive();
-        answer
+        self.with_desk(
+            rt,
+            seat,
+            actor,
+            |actor: &mut Box<dyn FaultActor + Send>, desk: &mut Desk|
+                ensures plays { PlaysTurn (part actor.old, desk.old) (part actor.new, desk.new)
+                    result }
+                ensures worked { Worked desk.old desk.new }
+            { actor.turn(desk) },
+        )
     }
 
     /// Two seats tell each other what they have seen: of their two journals one begins with the
@@ -358,16 +380,12 @@ impl Shared {
     pub fn meet(&self, one: &mut Seat, other: &mut Seat) -> Result<(), NoMemory>
         requires { (one.old.of ≡ Some self.now) × (other.old.of ≡ Some self.now) }
         ensures always { result ≡ Ok tt }
-        ensures one { Stays one.old one.new × SeesMore self.now one.old one.new }
-        ensures other { Stays other.old other.new × SeesMore self.now other.old other.new }
+        ensures one { KeepsReceipts one.old one.new × SeesMore self.now one.old one.new }
+        ensures other { KeepsReceipts other.old other.new × SeesMore self.now other.old other.new }
         ensures together { Together one.old other.old one.new other.new }
     {
-        let Some(mut here) = one.place.take() else {
-            unreachable!()
-        };
-        let Some(mut there) = other.place.take() else {
-            unreachable!()
-        };
+        let mut here = one.take_place();
+        let mut there = other.take_place();
         inform(&self.table, &mut here, &mut there);
         inform(&self.table, &mut there, &mut here);
         one.place = Some(here);

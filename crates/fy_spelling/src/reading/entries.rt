@@ -7,14 +7,14 @@ ghost use Rattle.fy_acts.specs.declared.entry.Entry.{Entry};
 ghost use Rattle.fy_spelling.specs.declared.entry_line.EntryFault.TheVariants.{NoMemory};
 
 use super::replies::reply_of;
-use super::{Asked, act_of, meant, value_of};
-use crate::parts::{four, short_of};
+use super::{UncheckedAct, act_of, checked_act, value_of};
+use crate::parts::{four, u32_of};
 use crate::{Entry, EntryFault, Reply};
 use serde_json::Value;
 use std::alloc::{AllocError, Global};
 
 /// What was asked, where it stands, who asked, and the reply.
-type Parts = (Asked, u32, u32, Reply);
+type Parts = (UncheckedAct, u32, u32, Reply);
 
 /// The parts of an entry.
 fn parts_of(alloc: Global, value: &Value) -> Result<Option<Parts>, AllocError>
@@ -23,10 +23,10 @@ fn parts_of(alloc: Global, value: &Value) -> Result<Option<Parts>, AllocError>
     let Some((act, at, by, reply)) = four(value, "act", "at", "by", "reply") else {
         return Ok(None);
     };
-    let Some(at) = short_of(at) else {
+    let Some(at) = u32_of(at) else {
         return Ok(None);
     };
-    let Some(by) = short_of(by) else {
+    let Some(by) = u32_of(by) else {
         return Ok(None);
     };
     let Some(reply) = reply_of(reply) else {
@@ -49,7 +49,7 @@ pub(crate) fn entry_by_value(alloc: Global, line: &[u8]) -> Result<Entry, EntryF
     let Some((asked, at, by, reply)) = parts_of(alloc, &value)? else {
         return Err(EntryFault::Syntax);
     };
-    match meant(asked) {
+    match checked_act(asked) {
         Ok(act) => Ok(Entry { at, by, act, reply }),
         Err(_) => Err(EntryFault::Syntax),
     }

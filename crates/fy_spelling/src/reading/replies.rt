@@ -3,7 +3,7 @@ ghost use Rattle.std.specs.Prelude.{◌≡◌, option_map};
 ghost use Rattle.serde_json.specs.View.{view};
 ghost use Rattle.fy_spelling.specs.Replied.{first_word, second_number, second_process, rule_by, rule_from, refusal_of_processes, refusal_of_teams, refusal_of_actors, refusal_by, refusal_from, verdict_from, begun_from, synced_from, numbers_by, reply_by, reply_from};
 
-use crate::parts::{kind_of, long_of, process_of, short_of, sole, two};
+use crate::parts::{kind_of, process_of, sole, two, u32_of, u64_of};
 use crate::{Refusal, Reply};
 use fy_kinds::{Rule, Verdict};
 use fy_locality::ProcId;
@@ -20,7 +20,7 @@ fn first_word(value: &Value) -> Option<&str>
 fn second_number(value: &Value) -> Option<u32>
     ensures { result ≡ second_number (view value.now) }
 {
-    short_of(value.get(1usize)?)
+    u32_of(value.get(1usize)?)
 }
 
 /// The process behind it.
@@ -156,8 +156,8 @@ fn begun_of(value: &Value) -> Option<Reply>
     ensures { result ≡ begun_from (view value.now) }
 {
     let (first, rec) = two(value, "first", "record")?;
-    let first = long_of(first)?;
-    let rec = short_of(rec)?;
+    let first = u64_of(first)?;
+    let rec = u32_of(rec)?;
     Some(Reply::Begun { rec, first })
 }
 
@@ -166,8 +166,8 @@ fn synced_of(value: &Value) -> Option<Reply>
     ensures { result ≡ synced_from (view value.now) }
 {
     let (count, first) = two(value, "count", "first")?;
-    let count = short_of(count)?;
-    let first = long_of(first)?;
+    let count = u32_of(count)?;
+    let first = u64_of(first)?;
     Some(Reply::Synced { first, count })
 }
 
@@ -177,17 +177,17 @@ fn numbers_by(name: &str, value: &Value) -> Option<Reply>
 {
     match name {
         "formed" => {
-            let team = short_of(value)?;
+            let team = u32_of(value)?;
             Some(Reply::Formed { team })
         }
         "begun" => begun_of(value),
         "sent" => {
-            let message = long_of(value)?;
+            let message = u64_of(value)?;
             Some(Reply::Sent { message })
         }
         "synced" => synced_of(value),
         "time" => {
-            let now = long_of(value)?;
+            let now = u64_of(value)?;
             Some(Reply::Time { now })
         }
         _ => None,

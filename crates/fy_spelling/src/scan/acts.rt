@@ -5,7 +5,7 @@ ghost use Rattle.fy_kinds.specs.Kinds.{kind_text};
 ghost use Rattle.fy_spelling.specs.Pieces.{one_text, two_text, three_text, valued_text, words_text, scope_text, act_text};
 
 use super::lists::{kinds, payload, processes};
-use super::words::{key_after, kind_after, long_after, name_after, short_after, skip, word_after};
+use super::words::{key_after, kind_after, name_after, skip, string_after, u32_after, u64_after};
 use crate::Act;
 use fy_grants::{Grant, Scope};
 use fy_kinds::{KillOrder, Kind, Target};
@@ -15,20 +15,20 @@ use std::alloc::Global;
 
 /// The number behind a text, up to the end of the act.
 #[inline(always)]
-fn one_long<'l>(line: &'l [u8], head: &str) -> Option<(u64, &'l [u8])>
+fn one_u64<'l>(line: &'l [u8], head: &str) -> Option<(u64, &'l [u8])>
     ensures { IfSome result (λ p. line.now ≡ one_text head.now p.0 ++ p.1.now) }
 {
-    let (number, rest) = long_after(line, head)?;
+    let (number, rest) = u64_after(line, head)?;
     let rest = skip(rest, "}}")?;
     Some((number, rest))
 }
 
 /// The number of 32 bits behind a text, up to the end of the act.
 #[inline(always)]
-fn one_short<'l>(line: &'l [u8], head: &str) -> Option<(u32, &'l [u8])>
+fn one_u32<'l>(line: &'l [u8], head: &str) -> Option<(u32, &'l [u8])>
     ensures { IfSome result (λ p. line.now ≡ one_text head.now p.0 ++ p.1.now) }
 {
-    let (number, rest) = short_after(line, head)?;
+    let (number, rest) = u32_after(line, head)?;
     let rest = skip(rest, "}}")?;
     Some((number, rest))
 }
@@ -38,28 +38,28 @@ fn one_short<'l>(line: &'l [u8], head: &str) -> Option<(u32, &'l [u8])>
 fn one_process<'l>(line: &'l [u8], head: &str) -> Option<(ProcId, &'l [u8])>
     ensures { IfSome result (λ p. line.now ≡ one_text head.now p.0.0 ++ p.1.now) }
 {
-    let (number, rest) = one_short(line, head)?;
+    let (number, rest) = one_u32(line, head)?;
     Some((ProcId(number), rest))
 }
 
 /// Two numbers of 32 bits, each behind a text, up to the end of the act.
 #[inline(always)]
-fn two_shorts<'l>(line: &'l [u8], a: &str, b: &str) -> Option<(u32, u32, &'l [u8])>
+fn two_u32<'l>(line: &'l [u8], a: &str, b: &str) -> Option<(u32, u32, &'l [u8])>
     ensures { IfSome result (λ p. line.now ≡ two_text a.now p.0 b.now p.1 ++ p.2.now) }
 {
-    let (first, rest) = short_after(line, a)?;
-    let (second, rest) = one_short(rest, b)?;
+    let (first, rest) = u32_after(line, a)?;
+    let (second, rest) = one_u32(rest, b)?;
     Some((first, second, rest))
 }
 
 /// Three numbers of 32 bits, each behind a text, up to the end of the act.
 #[inline(always)]
-fn three_shorts<'l>(line: &'l [u8], a: &str, b: &str, c: &str) -> Option<(u32, u32, u32, &'l [u8])>
+fn three_u32<'l>(line: &'l [u8], a: &str, b: &str, c: &str) -> Option<(u32, u32, u32, &'l [u8])>
     ensures { IfSome result (λ p.
         line.now ≡ three_text a.now p.0 b.now p.1 c.now p.2 ++ p.3.now) }
 {
-    let (first, rest) = short_after(line, a)?;
-    let (second, third, rest) = two_shorts(rest, b, c)?;
+    let (first, rest) = u32_after(line, a)?;
+    let (second, third, rest) = two_u32(rest, b, c)?;
     Some((first, second, third, rest))
 }
 
@@ -68,7 +68,7 @@ fn three_shorts<'l>(line: &'l [u8], a: &str, b: &str, c: &str) -> Option<(u32, u
 fn valued<'l>(line: &'l [u8], head: &str) -> Option<(u64, Name, &'l [u8])>
     ensures { IfSome result (λ p. line.now ≡ valued_text head.now p.0 p.1 ++ p.2.now) }
 {
-    let (number, rest) = long_after(line, head)?;
+    let (number, rest) = u64_after(line, head)?;
     let Some((value, rest)) = name_after(rest, ",\"value\":\"") else {
         return None;
     };
@@ -102,6 +102,9 @@ fn kill_words(line: &[u8]) -> Option<(Kind, Key, Kind, &[u8])>
     let (kind, rest) = kind_after(rest, ",\"kind\":\"")?;
     Some((floor, key, kind, rest))
 }
+
+/// Where an act's name begins, behind `{"`.
+const NAME: usize = 2;
 
 // Each act comes with what is behind its end.
 
@@ -146,7 +149,7 @@ fn form(alloc: Global, line: &[u8]) -> Option<(Act, &[u8])>
     let Some((processes, rest)) = processes(alloc, skip(line, "{\"form\":{\"members\":[")?) else {
         return None;
     };
-    let (policy, rest) = one_short(rest, "],\"policy\":")?;
+    let (policy, rest) = one_u32(rest, "],\"policy\":")?;
     let Ok(members) = Members::from_vec(processes) else {
         return None;
     };
@@ -156,8 +159,8 @@ fn form(alloc: Global, line: &[u8]) -> Option<(Act, &[u8])>
 fn begin(alloc: Global, line: &[u8]) -> Option<(Act, &[u8])>
     ensures { IfSome result (λ p. line.now ≡ act_text p.0 ++ p.1.now) }
 {
-    let (digits, rest) = word_after(line, "{\"begin\":{\"payload\":\"")?;
-    let (team, rest) = one_short(rest, ",\"team\":")?;
+    let (digits, rest) = string_after(line, "{\"begin\":{\"payload\":\"")?;
+    let (team, rest) = one_u32(rest, ",\"team\":")?;
     let payload = payload(alloc, digits)?;
     Some((Act::Begin { team, payload }, rest))
 }
@@ -165,21 +168,21 @@ fn begin(alloc: Global, line: &[u8]) -> Option<(Act, &[u8])>
 fn deliver(line: &[u8]) -> Option<(Act, &[u8])>
     ensures { IfSome result (λ p. line.now ≡ act_text p.0 ++ p.1.now) }
 {
-    let (message, rest) = one_long(line, "{\"deliver\":{\"message\":")?;
+    let (message, rest) = one_u64(line, "{\"deliver\":{\"message\":")?;
     Some((Act::Deliver { message }, rest))
 }
 
 fn lose(line: &[u8]) -> Option<(Act, &[u8])>
     ensures { IfSome result (λ p. line.now ≡ act_text p.0 ++ p.1.now) }
 {
-    let (message, rest) = one_long(line, "{\"lose\":{\"message\":")?;
+    let (message, rest) = one_u64(line, "{\"lose\":{\"message\":")?;
     Some((Act::Lose { message }, rest))
 }
 
 fn resend(line: &[u8]) -> Option<(Act, &[u8])>
     ensures { IfSome result (λ p. line.now ≡ act_text p.0 ++ p.1.now) }
 {
-    let (process, rec, rest) = two_shorts(line, "{\"resend\":{\"process\":", ",\"record\":")?;
+    let (process, rec, rest) = two_u32(line, "{\"resend\":{\"process\":", ",\"record\":")?;
     let process = ProcId(process);
     Some((Act::Resend { rec, process }, rest))
 }
@@ -208,7 +211,7 @@ fn heal(line: &[u8]) -> Option<(Act, &[u8])>
 fn tick(line: &[u8]) -> Option<(Act, &[u8])>
     ensures { IfSome result (λ p. line.now ≡ act_text p.0 ++ p.1.now) }
 {
-    let (ticks, rest) = one_long(line, "{\"tick\":{\"ticks\":")?;
+    let (ticks, rest) = one_u64(line, "{\"tick\":{\"ticks\":")?;
     Some((Act::Tick { ticks }, rest))
 }
 
@@ -230,7 +233,7 @@ fn scope(line: &[u8]) -> Option<(Scope, &[u8])>
 fn give(line: &[u8]) -> Option<(Act, &[u8])>
     ensures { IfSome result (λ p. line.now ≡ act_text p.0 ++ p.1.now) }
 {
-    let (actor, rest) = short_after(line, "{\"give\":{\"actor\":")?;
+    let (actor, rest) = u32_after(line, "{\"give\":{\"actor\":")?;
     let (kinds, rest) = kinds(skip(rest, ",\"kinds\":[")?);
     let Some((scope, rest)) = scope(rest) else {
         return None;
@@ -246,7 +249,7 @@ fn give(line: &[u8]) -> Option<(Act, &[u8])>
 fn take(line: &[u8]) -> Option<(Act, &[u8])>
     ensures { IfSome result (λ p. line.now ≡ act_text p.0 ++ p.1.now) }
 {
-    let (actor, index, rest) = two_shorts(line, "{\"take\":{\"actor\":", ",\"index\":")?;
+    let (actor, index, rest) = two_u32(line, "{\"take\":{\"actor\":", ",\"index\":")?;
     Some((Act::Take { actor, index }, rest))
 }
 
@@ -269,7 +272,7 @@ fn unprotect(line: &[u8]) -> Option<(Act, &[u8])>
 fn copy(line: &[u8]) -> Option<(Act, &[u8])>
     ensures { IfSome result (λ p. line.now ≡ act_text p.0 ++ p.1.now) }
 {
-    let (from, rec, to, rest) = three_shorts(
+    let (from, rec, to, rest) = three_u32(
         line,
         "{\"copy\":{\"from\":",
         ",\"record\":",
@@ -283,7 +286,7 @@ fn copy(line: &[u8]) -> Option<(Act, &[u8])>
 fn replace(line: &[u8]) -> Option<(Act, &[u8])>
     ensures { IfSome result (λ p. line.now ≡ act_text p.0 ++ p.1.now) }
 {
-    let (into, out, team, rest) = three_shorts(
+    let (into, out, team, rest) = three_u32(
         line,
         "{\"replace\":{\"into\":",
         ",\"out\":",
@@ -294,11 +297,11 @@ fn replace(line: &[u8]) -> Option<(Act, &[u8])>
     Some((Act::Replace { team, out, into }, rest))
 }
 
-/// The act of a name with this first letter and its third, where several begin with the first.
+/// The act of a name with this first letter, which several begin with, told by its third letter.
 fn act_by_third(line: &[u8], first: u8) -> Option<(Act, &[u8])>
     ensures { IfSome result (λ p. line.now ≡ act_text p.0 ++ p.1.now) }
 {
-    match (first, *line.get(4)?) {
+    match (first, *line.get(NAME + 2)?) {
         (b't', b'c') => tick(line),
         (b't', b'k') => take(line),
         (b'c', b'o') => clog(line),
@@ -312,11 +315,14 @@ fn act_by_third(line: &[u8], first: u8) -> Option<(Act, &[u8])>
     }
 }
 
-/// An act, by its name.
+/// An act, told by the first letter of its name.
+///
+/// Each act's own scan compares its whole name. A letter tells which of the eighteen to try: most
+/// of the time of `run` and `check` goes into lines, and a try of one name after another costs more.
 pub(super) fn act(alloc: Global, line: &[u8]) -> Option<(Act, &[u8])>
     ensures { IfSome result (λ p. line.now ≡ act_text p.0 ++ p.1.now) }
 {
-    match *line.get(2)? {
+    match *line.get(NAME)? {
         b'k' => kill(line),
         b'd' => deliver(line),
         b's' => sync(line),

@@ -5,7 +5,7 @@ ghost use Rattle.hex.specs.Hex.{encode_lower, lower_digits};
 ghost use Rattle.fy_spelling.specs.Values.{in_order};
 ghost use Rattle.fy_spelling.specs.Pieces.{processes_text, deeds_text};
 
-use super::words::{short_after, skip};
+use super::words::{skip, u32_after};
 use fy_disk::Payload;
 use fy_kinds::{KINDS, KindSet};
 use fy_locality::ProcId;
@@ -16,7 +16,7 @@ use std::alloc::Global;
 fn process(line: &[u8], later: bool) -> Option<(ProcId, &[u8])>
     ensures { IfSome result (λ p. line.now ≡ comma_if later ++ (decimal p.0.0 ++ p.1.now)) }
 {
-    let (number, rest) = short_after(line, if later { "," } else { "" })?;
+    let (number, rest) = u32_after(line, if later { "," } else { "" })?;
     Some((ProcId(number), rest))
 }
 
@@ -73,7 +73,7 @@ pub(super) fn kinds(line: &[u8]) -> (KindSet, &[u8])
 
 /// The value of a lower-case digit of a byte.
 #[inline(always)]
-fn half(byte: u8) -> Option<u8>
+fn nibble(byte: u8) -> Option<u8>
     ensures small { IfSome result (λ value. value < 16) }
     ensures byte { IfSome result (λ value. byte ≡ slice_index lower_digits value) }
 {
@@ -96,8 +96,8 @@ pub(super) fn payload(alloc: Global, digits: &[u8]) -> Option<Payload>
         return None;
     };
     for i in 0..count {
-        let high = half(digits[2 * i])?;
-        let low = half(digits[2 * i + 1])?;
+        let high = nibble(digits[2 * i])?;
+        let low = nibble(digits[2 * i + 1])?;
         let Ok(()) = bytes.push(16 * high + low) else {
             return None;
         };

@@ -1,39 +1,47 @@
 //! Replies, each as the last member of an entry with the entry's end.
 ghost use Rattle.std.specs.Prelude.{◌≡◌, ◌++◌, IfSome, codes};
 ghost use Rattle.fy_spelling.specs.Fits.{FitsRule, FitsRefusal, FitsReply};
-ghost use Rattle.fy_spelling.specs.Pieces.{last_text, rule_text, struck_text, verdict_text, ruled_text, no_text, marked_text, reply_text};
+ghost use Rattle.fy_spelling.specs.Pieces.{between_text, rule_text, struck_text, verdict_text, ruled_text, refusal_text, marked_text, reply_text};
 
-use super::words::{ends, kind_after, long_after, short_after, skip, word_after};
+use super::words::{is_exactly, kind_after, skip, string_after, u32_after, u64_after};
 use crate::{Refusal, Reply};
 use fy_kinds::{Kind, Rule, Verdict};
 use fy_locality::ProcId;
 
 /// The number of 32 bits behind a text, and what is behind the text that follows it.
 #[inline(always)]
-fn short_between<'l>(line: &'l [u8], head: &str, tail: &str) -> Option<(u32, &'l [u8])>
-    ensures { IfSome result (λ p. line.now ≡ last_text head.now p.0 tail.now ++ p.1.now) }
+fn u32_between<'l>(line: &'l [u8], head: &str, tail: &str) -> Option<(u32, &'l [u8])>
+    ensures { IfSome result (λ p. line.now ≡ between_text head.now p.0 tail.now ++ p.1.now) }
 {
-    let (number, rest) = short_after(line, head)?;
+    let (number, rest) = u32_after(line, head)?;
     let rest = skip(rest, tail)?;
     Some((number, rest))
 }
 
 /// The last number of 32 bits, between two texts.
 #[inline(always)]
-fn last_short(line: &[u8], head: &str, tail: &str) -> Option<u32>
-    ensures { IfSome result (λ number. line.now ≡ last_text head.now number tail.now) }
+fn last_u32(line: &[u8], head: &str, tail: &str) -> Option<u32>
+    ensures { IfSome result (λ number. line.now ≡ between_text head.now number tail.now) }
 {
-    let (number, rest) = short_after(line, head)?;
-    if ends(rest, tail) { Some(number) } else { None }
+    let (number, rest) = u32_after(line, head)?;
+    if is_exactly(rest, tail) {
+        Some(number)
+    } else {
+        None
+    }
 }
 
 /// The last number of 64 bits, between two texts.
 #[inline(always)]
-fn last_long(line: &[u8], head: &str, tail: &str) -> Option<u64>
-    ensures { IfSome result (λ number. line.now ≡ last_text head.now number tail.now) }
+fn last_u64(line: &[u8], head: &str, tail: &str) -> Option<u64>
+    ensures { IfSome result (λ number. line.now ≡ between_text head.now number tail.now) }
 {
-    let (number, rest) = long_after(line, head)?;
-    if ends(rest, tail) { Some(number) } else { None }
+    let (number, rest) = u64_after(line, head)?;
+    if is_exactly(rest, tail) {
+        Some(number)
+    } else {
+        None
+    }
 }
 
 /// A rule that names a process.
@@ -41,11 +49,11 @@ fn rule_of_process(line: &[u8]) -> Option<(Rule, &[u8])>
     ensures reads { IfSome result (λ p. line.now ≡ rule_text (Some p.0) ++ p.1.now) }
     ensures fits { IfSome result (λ p. FitsRule (Some p.0)) }
 {
-    if let Some((number, rest)) = short_between(line, "[\"NoGrant\",", "]") {
+    if let Some((number, rest)) = u32_between(line, "[\"NoGrant\",", "]") {
         let process = ProcId(number);
         return Some((Rule::NoGrant { process }, rest));
     }
-    let (number, rest) = short_between(line, "[\"Protected\",", "]")?;
+    let (number, rest) = u32_between(line, "[\"Protected\",", "]")?;
     let process = ProcId(number);
     Some((Rule::Protected { process }, rest))
 }
@@ -55,11 +63,11 @@ fn rule_of_policy(line: &[u8]) -> Option<(Rule, &[u8])>
     ensures reads { IfSome result (λ p. line.now ≡ rule_text (Some p.0) ++ p.1.now) }
     ensures fits { IfSome result (λ p. FitsRule (Some p.0)) }
 {
-    if let Some((number, rest)) = short_between(line, "[\"TooManyDestroyed\",", "]") {
+    if let Some((number, rest)) = u32_between(line, "[\"TooManyDestroyed\",", "]") {
         let policy = number as usize;
         return Some((Rule::TooManyDestroyed { policy }, rest));
     }
-    let (number, rest) = short_between(line, "[\"TooFewLeft\",", "]")?;
+    let (number, rest) = u32_between(line, "[\"TooFewLeft\",", "]")?;
     let policy = number as usize;
     Some((Rule::TooFewLeft { policy }, rest))
 }
@@ -86,11 +94,11 @@ fn rule(line: &[u8]) -> Option<(Option<Rule>, &[u8])>
 fn struck(line: &[u8]) -> Option<Option<Kind>>
     ensures { IfSome result (λ struck. line.now ≡ struck_text struck) }
 {
-    if ends(line, ",\"struck\":null}}}") {
+    if is_exactly(line, ",\"struck\":null}}}") {
         return Some(None);
     }
     let (kind, rest) = kind_after(line, ",\"struck\":\"")?;
-    if ends(rest, "}}}") {
+    if is_exactly(rest, "}}}") {
         Some(Some(kind))
     } else {
         None
@@ -111,7 +119,7 @@ fn ruled(line: &[u8]) -> Option<Reply>
     ensures fits { IfSome result (λ reply. FitsReply reply) }
 {
     let (rule, rest) = rule(skip(line, ",\"reply\":{\"ruled\":")?)?;
-    if ends(rest, "}}") {
+    if is_exactly(rest, "}}") {
         Some(Reply::Ruled { rule })
     } else {
         None
@@ -122,8 +130,8 @@ fn begun(line: &[u8]) -> Option<Reply>
     ensures reads { IfSome result (λ reply. line.now ≡ reply_text reply) }
     ensures fits { IfSome result (λ reply. FitsReply reply) }
 {
-    let (first, rest) = long_after(line, ",\"reply\":{\"begun\":{\"first\":")?;
-    let rec = last_short(rest, ",\"record\":", "}}}")?;
+    let (first, rest) = u64_after(line, ",\"reply\":{\"begun\":{\"first\":")?;
+    let rec = last_u32(rest, ",\"record\":", "}}}")?;
     Some(Reply::Begun { rec, first })
 }
 
@@ -131,8 +139,8 @@ fn synced(line: &[u8]) -> Option<Reply>
     ensures reads { IfSome result (λ reply. line.now ≡ reply_text reply) }
     ensures fits { IfSome result (λ reply. FitsReply reply) }
 {
-    let (count, rest) = short_after(line, ",\"reply\":{\"synced\":{\"count\":")?;
-    let first = last_long(rest, ",\"first\":", "}}}")?;
+    let (count, rest) = u32_after(line, ",\"reply\":{\"synced\":{\"count\":")?;
+    let first = last_u64(rest, ",\"first\":", "}}}")?;
     Some(Reply::Synced { first, count })
 }
 
@@ -140,7 +148,7 @@ fn formed(line: &[u8]) -> Option<Reply>
     ensures reads { IfSome result (λ reply. line.now ≡ reply_text reply) }
     ensures fits { IfSome result (λ reply. FitsReply reply) }
 {
-    let team = last_short(line, ",\"reply\":{\"formed\":", "}}")?;
+    let team = last_u32(line, ",\"reply\":{\"formed\":", "}}")?;
     Some(Reply::Formed { team })
 }
 
@@ -148,7 +156,7 @@ fn sent(line: &[u8]) -> Option<Reply>
     ensures reads { IfSome result (λ reply. line.now ≡ reply_text reply) }
     ensures fits { IfSome result (λ reply. FitsReply reply) }
 {
-    let message = last_long(line, ",\"reply\":{\"sent\":", "}}")?;
+    let message = last_u64(line, ",\"reply\":{\"sent\":", "}}")?;
     Some(Reply::Sent { message })
 }
 
@@ -156,7 +164,7 @@ fn time(line: &[u8]) -> Option<Reply>
     ensures reads { IfSome result (λ reply. line.now ≡ reply_text reply) }
     ensures fits { IfSome result (λ reply. FitsReply reply) }
 {
-    let now = last_long(line, ",\"reply\":{\"time\":", "}}")?;
+    let now = last_u64(line, ",\"reply\":{\"time\":", "}}")?;
     Some(Reply::Time { now })
 }
 
@@ -164,9 +172,9 @@ fn marked(line: &[u8]) -> Option<Reply>
     ensures reads { IfSome result (λ reply. line.now ≡ reply_text reply) }
     ensures fits { IfSome result (λ reply. FitsReply reply) }
 {
-    if ends(line, ",\"reply\":{\"marked\":true}}") {
+    if is_exactly(line, ",\"reply\":{\"marked\":true}}") {
         Some(Reply::Marked { acked: true })
-    } else if ends(line, ",\"reply\":{\"marked\":false}}") {
+    } else if is_exactly(line, ",\"reply\":{\"marked\":false}}") {
         Some(Reply::Marked { acked: false })
     } else {
         None
@@ -178,9 +186,9 @@ fn worded(line: &[u8]) -> Option<Reply>
     ensures reads { IfSome result (λ reply. line.now ≡ reply_text reply) }
     ensures fits { IfSome result (λ reply. FitsReply reply) }
 {
-    if ends(line, ",\"reply\":\"done\"}") {
+    if is_exactly(line, ",\"reply\":\"done\"}") {
         Some(Reply::Done)
-    } else if ends(line, ",\"reply\":\"stored\"}") {
+    } else if is_exactly(line, ",\"reply\":\"stored\"}") {
         Some(Reply::Stored)
     } else {
         None
@@ -192,22 +200,22 @@ fn worded(line: &[u8]) -> Option<Reply>
 
 fn refusal_of_processes(word: &[u8]) -> Option<Refusal>
     ensures reads { IfSome result (λ refusal.
-        no_text refusal ≡ codes ",\"reply\":{\"no\":[\"" ++ (word.now ++ codes "\"]}}")) }
+        refusal_text refusal ≡ codes ",\"reply\":{\"no\":[\"" ++ (word.now ++ codes "\"]}}")) }
     ensures fits { IfSome result (λ refusal. FitsRefusal refusal) }
 {
-    if ends(word, "Clogged") {
+    if is_exactly(word, "Clogged") {
         Some(Refusal::Clogged)
-    } else if ends(word, "NotUp") {
+    } else if is_exactly(word, "NotUp") {
         Some(Refusal::NotUp)
-    } else if ends(word, "IsUp") {
+    } else if is_exactly(word, "IsUp") {
         Some(Refusal::IsUp)
-    } else if ends(word, "Gone") {
+    } else if is_exactly(word, "Gone") {
         Some(Refusal::Gone)
-    } else if ends(word, "NoMessage") {
+    } else if is_exactly(word, "NoMessage") {
         Some(Refusal::NoMessage)
-    } else if ends(word, "NoProcess") {
+    } else if is_exactly(word, "NoProcess") {
         Some(Refusal::NoProcess)
-    } else if ends(word, "NetFull") {
+    } else if is_exactly(word, "NetFull") {
         Some(Refusal::NetFull)
     } else {
         refusal_of_teams(word)
@@ -216,22 +224,22 @@ fn refusal_of_processes(word: &[u8]) -> Option<Refusal>
 
 fn refusal_of_teams(word: &[u8]) -> Option<Refusal>
     ensures reads { IfSome result (λ refusal.
-        no_text refusal ≡ codes ",\"reply\":{\"no\":[\"" ++ (word.now ++ codes "\"]}}")) }
+        refusal_text refusal ≡ codes ",\"reply\":{\"no\":[\"" ++ (word.now ++ codes "\"]}}")) }
     ensures fits { IfSome result (λ refusal. FitsRefusal refusal) }
 {
-    if ends(word, "NoTeam") {
+    if is_exactly(word, "NoTeam") {
         Some(Refusal::NoTeam)
-    } else if ends(word, "NoRecord") {
+    } else if is_exactly(word, "NoRecord") {
         Some(Refusal::NoRecord)
-    } else if ends(word, "NotMember") {
+    } else if is_exactly(word, "NotMember") {
         Some(Refusal::NotMember)
-    } else if ends(word, "Acked") {
+    } else if is_exactly(word, "Acked") {
         Some(Refusal::Acked)
-    } else if ends(word, "Payload") {
+    } else if is_exactly(word, "Payload") {
         Some(Refusal::Payload)
-    } else if ends(word, "TooMany") {
+    } else if is_exactly(word, "TooMany") {
         Some(Refusal::TooMany)
-    } else if ends(word, "NoPolicy") {
+    } else if is_exactly(word, "NoPolicy") {
         Some(Refusal::NoPolicy)
     } else {
         refusal_of_actors(word)
@@ -240,20 +248,20 @@ fn refusal_of_teams(word: &[u8]) -> Option<Refusal>
 
 fn refusal_of_actors(word: &[u8]) -> Option<Refusal>
     ensures reads { IfSome result (λ refusal.
-        no_text refusal ≡ codes ",\"reply\":{\"no\":[\"" ++ (word.now ++ codes "\"]}}")) }
+        refusal_text refusal ≡ codes ",\"reply\":{\"no\":[\"" ++ (word.now ++ codes "\"]}}")) }
     ensures fits { IfSome result (λ refusal. FitsRefusal refusal) }
 {
-    if ends(word, "WrongRole") {
+    if is_exactly(word, "WrongRole") {
         Some(Refusal::WrongRole)
-    } else if ends(word, "Stranger") {
+    } else if is_exactly(word, "Stranger") {
         Some(Refusal::Stranger)
-    } else if ends(word, "NoActor") {
+    } else if is_exactly(word, "NoActor") {
         Some(Refusal::NoActor)
-    } else if ends(word, "ClockEnd") {
+    } else if is_exactly(word, "ClockEnd") {
         Some(Refusal::ClockEnd)
-    } else if ends(word, "Full") {
+    } else if is_exactly(word, "Full") {
         Some(Refusal::Full)
-    } else if ends(word, "NoSuch") {
+    } else if is_exactly(word, "NoSuch") {
         Some(Refusal::NoSuch)
     } else {
         refusal_of_healing(word)
@@ -262,14 +270,14 @@ fn refusal_of_actors(word: &[u8]) -> Option<Refusal>
 
 fn refusal_of_healing(word: &[u8]) -> Option<Refusal>
     ensures reads { IfSome result (λ refusal.
-        no_text refusal ≡ codes ",\"reply\":{\"no\":[\"" ++ (word.now ++ codes "\"]}}")) }
+        refusal_text refusal ≡ codes ",\"reply\":{\"no\":[\"" ++ (word.now ++ codes "\"]}}")) }
     ensures fits { IfSome result (λ refusal. FitsRefusal refusal) }
 {
-    if ends(word, "NoCopy") {
+    if is_exactly(word, "NoCopy") {
         Some(Refusal::NoCopy)
-    } else if ends(word, "IsMember") {
+    } else if is_exactly(word, "IsMember") {
         Some(Refusal::IsMember)
-    } else if ends(word, "NotDestroyed") {
+    } else if is_exactly(word, "NotDestroyed") {
         Some(Refusal::NotDestroyed)
     } else {
         None
@@ -278,22 +286,22 @@ fn refusal_of_healing(word: &[u8]) -> Option<Refusal>
 
 /// A refusal that has a number.
 fn refusal_of_number(line: &[u8]) -> Option<Refusal>
-    ensures reads { IfSome result (λ refusal. line.now ≡ no_text refusal) }
+    ensures reads { IfSome result (λ refusal. line.now ≡ refusal_text refusal) }
     ensures fits { IfSome result (λ refusal. FitsRefusal refusal) }
 {
-    if let Some(policy) = last_short(line, ",\"reply\":{\"no\":[\"TeamShort\",", "]}}") {
+    if let Some(policy) = last_u32(line, ",\"reply\":{\"no\":[\"TeamShort\",", "]}}") {
         return Some(Refusal::TeamShort { policy });
     }
-    let rec = last_short(line, ",\"reply\":{\"no\":[\"StillNeeds\",", "]}}")?;
+    let rec = last_u32(line, ",\"reply\":{\"no\":[\"StillNeeds\",", "]}}")?;
     Some(Refusal::StillNeeds { rec })
 }
 
 fn refusal(line: &[u8]) -> Option<Refusal>
-    ensures reads { IfSome result (λ refusal. line.now ≡ no_text refusal) }
+    ensures reads { IfSome result (λ refusal. line.now ≡ refusal_text refusal) }
     ensures fits { IfSome result (λ refusal. FitsRefusal refusal) }
 {
-    let (word, rest) = word_after(line, ",\"reply\":{\"no\":[\"")?;
-    if ends(rest, "]}}") {
+    let (word, rest) = string_after(line, ",\"reply\":{\"no\":[\"")?;
+    if is_exactly(rest, "]}}") {
         refusal_of_processes(word)
     } else {
         refusal_of_number(line)
@@ -308,12 +316,33 @@ fn no(line: &[u8]) -> Option<Reply>
     Some(Reply::No(refusal))
 }
 
-/// A reply that is an object, by the first letter of its name.
-fn named(line: &[u8], letter: u8) -> Option<Reply>
+/// The two replies whose names begin with an s, told apart by the letter behind it.
+fn sent_or_synced(line: &[u8]) -> Option<Reply>
     ensures reads { IfSome result (λ reply. line.now ≡ reply_text reply) }
     ensures fits { IfSome result (λ reply. FitsReply reply) }
 {
-    match letter {
+    if *line.get(NAME + 1)? == b'e' {
+        sent(line)
+    } else {
+        synced(line)
+    }
+}
+
+/// Where a reply's value begins, behind `,"reply":`, and where the name in it does, behind `{"`.
+const VALUE: usize = 9;
+
+const NAME: usize = 11;
+
+/// A reply, with what stands before it in an entry and the entry's end, told by the first letter of
+/// its name, as acts are.
+pub(super) fn reply(line: &[u8]) -> Option<Reply>
+    ensures reads { IfSome result (λ reply. line.now ≡ reply_text reply) }
+    ensures fits { IfSome result (λ reply. FitsReply reply) }
+{
+    if *line.get(VALUE)? != b'{' {
+        return worded(line);
+    }
+    match *line.get(NAME)? {
         b'v' => verdict(line),
         b'n' => no(line),
         b'm' => marked(line),
@@ -321,22 +350,7 @@ fn named(line: &[u8], letter: u8) -> Option<Reply>
         b'b' => begun(line),
         b't' => time(line),
         b'f' => formed(line),
-        b'e' => sent(line),
-        b'y' => synced(line),
+        b's' => sent_or_synced(line),
         _ => None,
     }
-}
-
-/// A reply, with what stands before it in an entry and the entry's end.
-pub(super) fn reply(line: &[u8]) -> Option<Reply>
-    ensures reads { IfSome result (λ reply. line.now ≡ reply_text reply) }
-    ensures fits { IfSome result (λ reply. FitsReply reply) }
-{
-    if *line.get(9)? != b'{' {
-        return worded(line);
-    }
-    let first = *line.get(11)?;
-    // Two names begin with an s: they are told apart by the letter behind it.
-    let letter = if first == b's' { *line.get(12)? } else { first };
-    named(line, letter)
 }

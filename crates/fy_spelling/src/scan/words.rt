@@ -16,7 +16,7 @@ pub(super) fn skip<'l>(line: &'l [u8], text: &str) -> Option<&'l [u8]>
 
 /// Whether a text is all that is left.
 #[inline(always)]
-pub(super) fn ends(line: &[u8], text: &str) -> bool
+pub(super) fn is_exactly(line: &[u8], text: &str) -> bool
     ensures { IsTrue result → line.now ≡ text.now }
 {
     line == text.as_bytes()
@@ -77,7 +77,7 @@ fn number(line: &[u8]) -> Option<(u64, &[u8])>
 
 /// The word behind a text, and what is behind its quote.
 #[inline(always)]
-pub(super) fn word_after<'l>(line: &'l [u8], text: &str) -> Option<(&'l [u8], &'l [u8])>
+pub(super) fn string_after<'l>(line: &'l [u8], text: &str) -> Option<(&'l [u8], &'l [u8])>
     ensures { IfSome result (λ p. line.now ≡ text.now ++ (p.0.now ++ (codes "\"" ++ p.1.now))) }
 {
     word(skip(line, text)?)
@@ -85,7 +85,7 @@ pub(super) fn word_after<'l>(line: &'l [u8], text: &str) -> Option<(&'l [u8], &'
 
 /// The number behind a text.
 #[inline(always)]
-pub(super) fn long_after<'l>(line: &'l [u8], text: &str) -> Option<(u64, &'l [u8])>
+pub(super) fn u64_after<'l>(line: &'l [u8], text: &str) -> Option<(u64, &'l [u8])>
     ensures { IfSome result (λ p. line.now ≡ text.now ++ (decimal p.0 ++ p.1.now)) }
 {
     number(skip(line, text)?)
@@ -93,10 +93,10 @@ pub(super) fn long_after<'l>(line: &'l [u8], text: &str) -> Option<(u64, &'l [u8
 
 /// The number of 32 bits behind a text.
 #[inline(always)]
-pub(super) fn short_after<'l>(line: &'l [u8], text: &str) -> Option<(u32, &'l [u8])>
+pub(super) fn u32_after<'l>(line: &'l [u8], text: &str) -> Option<(u32, &'l [u8])>
     ensures { IfSome result (λ p. line.now ≡ text.now ++ (decimal p.0 ++ p.1.now)) }
 {
-    let (number, rest) = long_after(line, text)?;
+    let (number, rest) = u64_after(line, text)?;
     if number > u32::MAX as u64 {
         return None;
     }
@@ -143,7 +143,7 @@ pub(super) fn kind_after<'l>(line: &'l [u8], text: &str) -> Option<(Kind, &'l [u
     ensures { IfSome result (λ p.
         line.now ≡ text.now ++ (kind_text p.0 ++ (codes "\"" ++ p.1.now))) }
 {
-    let (word, rest) = word_after(line, text)?;
+    let (word, rest) = string_after(line, text)?;
     let kind = kind(word)?;
     Some((kind, rest))
 }
@@ -154,7 +154,7 @@ pub(super) fn key_after<'l>(line: &'l [u8], text: &str) -> Option<(Key, &'l [u8]
     ensures { IfSome result (λ p.
         line.now ≡ text.now ++ (key_text p.0 ++ (codes "\"" ++ p.1.now))) }
 {
-    let (word, rest) = word_after(line, text)?;
+    let (word, rest) = string_after(line, text)?;
     let key = key(word)?;
     Some((key, rest))
 }
@@ -164,7 +164,7 @@ pub(super) fn key_after<'l>(line: &'l [u8], text: &str) -> Option<(Key, &'l [u8]
 pub(super) fn name_after<'l>(line: &'l [u8], text: &str) -> Option<(Name, &'l [u8])>
     ensures { IfSome result (λ p. line.now ≡ text.now ++ (p.0 ++ (codes "\"" ++ p.1.now))) }
 {
-    let (word, rest) = word_after(line, text)?;
+    let (word, rest) = string_after(line, text)?;
     let Ok(name) = Name::from_bytes(word) else {
         return None;
     };

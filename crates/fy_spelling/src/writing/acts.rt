@@ -4,10 +4,11 @@ ghost use Rattle.serde_json.specs.Written.{comma_if};
 ghost use Rattle.std.specs.List.{AllByRecursion};
 ghost use Rattle.hex.specs.Hex.{encode_lower};
 ghost use Rattle.fy_locality.specs.Name.{is_name};
+ghost use Rattle.fy_acts.specs.declared.act.Act.TheVariants.{Resend, Take, CopyTo, Replace};
 ghost use Rattle.fy_spelling.specs.Fits.{IsByte, FitsTarget, FitsScope};
 ghost use Rattle.fy_spelling.specs.Values.{in_order};
-ghost use Rattle.fy_spelling.specs.Puts.{Puts};
-ghost use Rattle.fy_spelling.specs.Pieces.{one_text, two_text, three_text, valued_text, target_text, keys_text, words_text, order_text, clog_text, processes_text, deeds_text, form_text, begin_text, scope_text, give_text, protection_text, act_text, IsBare};
+ghost use Rattle.fy_spelling.specs.AppendsOrOom.{AppendsOrOom};
+ghost use Rattle.fy_spelling.specs.Pieces.{one_text, two_text, valued_text, target_text, keys_text, words_text, order_text, clog_text, processes_text, deeds_text, form_text, begin_text, scope_text, give_text, protection_text, act_text, NeedsNoEscape};
 
 use super::{put, put_decimal, put_number, put_one, put_word};
 use crate::Act;
@@ -20,33 +21,16 @@ use std::alloc::AllocError;
 /// An object with two numbers.
 #[inline(always)]
 fn put_two(out: &mut Vec<u8>, a: &str, m: u64, b: &str, n: u64) -> Result<(), AllocError>
-    ensures { Puts result out.old.items out.new.items (two_text a.now m b.now n) }
+    ensures { AppendsOrOom result out.old.items out.new.items (two_text a.now m b.now n) }
 {
     put_number(out, a, m)?;
     put_one(out, b, n)
 }
 
-/// An object with three numbers.
-#[inline(always)]
-fn put_three(
-    out: &mut Vec<u8>,
-    a: &str,
-    m: u64,
-    b: &str,
-    n: u64,
-    c: &str,
-    k: u64,
-) -> Result<(), AllocError>
-    ensures { Puts result out.old.items out.new.items (three_text a.now m b.now n c.now k) }
-{
-    put_number(out, a, m)?;
-    put_two(out, b, n, c, k)
-}
-
 /// A name between two texts.
 #[inline(always)]
 fn put_name(out: &mut Vec<u8>, head: &str, name: &Name, tail: &str) -> Result<(), AllocError>
-    ensures text { Puts result out.old.items out.new.items (head.now ++ (name.now ++ tail.now)) }
+    ensures text { AppendsOrOom result out.old.items out.new.items (head.now ++ (name.now ++ tail.now)) }
     ensures name { OnOk result (is_name name.now ≡ true) }
 {
     put(out, head)?;
@@ -57,7 +41,7 @@ fn put_name(out: &mut Vec<u8>, head: &str, name: &Name, tail: &str) -> Result<()
 /// A number, and then a name under `value`.
 #[inline(always)]
 fn put_valued(out: &mut Vec<u8>, head: &str, n: u64, value: &Name) -> Result<(), AllocError>
-    ensures text { Puts result out.old.items out.new.items (valued_text head.now n value.now) }
+    ensures text { AppendsOrOom result out.old.items out.new.items (valued_text head.now n value.now) }
     ensures name { OnOk result (is_name value.now ≡ true) }
 {
     put_number(out, head, n)?;
@@ -67,7 +51,7 @@ fn put_valued(out: &mut Vec<u8>, head: &str, n: u64, value: &Name) -> Result<(),
 /// A key, and then a name under `value`.
 #[inline(always)]
 fn put_target(out: &mut Vec<u8>, head: &str, target: &Target, tail: &str) -> Result<(), AllocError>
-    ensures text { Puts result out.old.items out.new.items (target_text head.now target.now tail.now) }
+    ensures text { AppendsOrOom result out.old.items out.new.items (target_text head.now target.now tail.now) }
     ensures name { OnOk result (FitsTarget target.now) }
 {
     put_word(out, head, target.key.text())?;
@@ -75,21 +59,21 @@ fn put_target(out: &mut Vec<u8>, head: &str, target: &Target, tail: &str) -> Res
 }
 
 fn put_keys(out: &mut Vec<u8>, key: &str, kind: &str) -> Result<(), AllocError>
-    ensures { Puts result out.old.items out.new.items (keys_text key.now kind.now) }
+    ensures { AppendsOrOom result out.old.items out.new.items (keys_text key.now kind.now) }
 {
     put_word(out, "\",\"key\":\"", key)?;
     put_word(out, "\",\"kind\":\"", kind)
 }
 
 fn put_words(out: &mut Vec<u8>, floor: &str, key: &str, kind: &str) -> Result<(), AllocError>
-    ensures { Puts result out.old.items out.new.items (words_text floor.now key.now kind.now) }
+    ensures { AppendsOrOom result out.old.items out.new.items (words_text floor.now key.now kind.now) }
 {
     put_word(out, "{\"kill\":{\"floor\":\"", floor)?;
     put_keys(out, key, kind)
 }
 
 fn put_kill(out: &mut Vec<u8>, order: &KillOrder) -> Result<(), AllocError>
-    ensures text { Puts result out.old.items out.new.items (order_text order.now) }
+    ensures text { AppendsOrOom result out.old.items out.new.items (order_text order.now) }
     ensures name { OnOk result (FitsTarget order.now.target) }
 {
     let target = order.target();
@@ -103,7 +87,7 @@ fn put_kill(out: &mut Vec<u8>, order: &KillOrder) -> Result<(), AllocError>
 }
 
 fn put_clog(out: &mut Vec<u8>, target: &Target, ticks: u64) -> Result<(), AllocError>
-    ensures text { Puts result out.old.items out.new.items (clog_text target.now ticks) }
+    ensures text { AppendsOrOom result out.old.items out.new.items (clog_text target.now ticks) }
     ensures name { OnOk result (FitsTarget target.now) }
 {
     put_word(out, "{\"clog\":{\"key\":\"", target.key.text())?;
@@ -111,7 +95,7 @@ fn put_clog(out: &mut Vec<u8>, target: &Target, ticks: u64) -> Result<(), AllocE
 }
 
 fn put_processes(out: &mut Vec<u8>, processes: &[ProcId]) -> Result<(), AllocError>
-    ensures { Puts result out.old.items out.new.items (processes_text false processes.now) }
+    ensures { AppendsOrOom result out.old.items out.new.items (processes_text false processes.now) }
 {
     let mut later = false;
     for p in processes {
@@ -125,7 +109,7 @@ fn put_processes(out: &mut Vec<u8>, processes: &[ProcId]) -> Result<(), AllocErr
 }
 
 fn put_form(out: &mut Vec<u8>, members: &[ProcId], policy: u32) -> Result<(), AllocError>
-    ensures { Puts result out.old.items out.new.items (form_text members.now policy) }
+    ensures { AppendsOrOom result out.old.items out.new.items (form_text members.now policy) }
 {
     put(out, "{\"form\":{\"members\":[")?;
     put_processes(out, members)?;
@@ -138,7 +122,7 @@ const DIGITS: &[u8; 16] = b"0123456789abcdef";
 /// Two digits for each byte.
 #[tactic(auto, unfolding(hex::specs::Hex::encode_with))]
 fn put_bytes(out: &mut Vec<u8>, bytes: &[u8]) -> Result<(), AllocError>
-    ensures text { Puts result out.old.items out.new.items (encode_lower bytes.now) }
+    ensures text { AppendsOrOom result out.old.items out.new.items (encode_lower bytes.now) }
     ensures bytes { OnOk result (AllByRecursion IsByte bytes.now) }
 {
     for &byte in bytes {
@@ -150,7 +134,7 @@ fn put_bytes(out: &mut Vec<u8>, bytes: &[u8]) -> Result<(), AllocError>
 }
 
 fn put_begin(out: &mut Vec<u8>, team: u32, payload: &Payload) -> Result<(), AllocError>
-    ensures text { Puts result out.old.items out.new.items (begin_text team payload.now) }
+    ensures text { AppendsOrOom result out.old.items out.new.items (begin_text team payload.now) }
     ensures bytes { OnOk result (AllByRecursion IsByte payload.now) }
 {
     put(out, "{\"begin\":{\"payload\":\"")?;
@@ -160,7 +144,7 @@ fn put_begin(out: &mut Vec<u8>, team: u32, payload: &Payload) -> Result<(), Allo
 
 /// A word of a list, with a comma where one stands before it.
 fn put_listed(out: &mut Vec<u8>, later: bool, word: &str) -> Result<(), AllocError>
-    ensures { Puts result out.old.items out.new.items
+    ensures { AppendsOrOom result out.old.items out.new.items
         (comma_if later ++ (codes "\"" ++ (word.now ++ codes "\""))) }
 {
     put_word(out, if later { ",\"" } else { "\"" }, word)?;
@@ -168,7 +152,7 @@ fn put_listed(out: &mut Vec<u8>, later: bool, word: &str) -> Result<(), AllocErr
 }
 
 fn put_kinds(out: &mut Vec<u8>, kinds: KindSet) -> Result<(), AllocError>
-    ensures { Puts result out.old.items out.new.items (deeds_text false (in_order kinds)) }
+    ensures { AppendsOrOom result out.old.items out.new.items (deeds_text false (in_order kinds)) }
 {
     let mut later = false;
     for &kind in &KINDS {
@@ -184,7 +168,7 @@ fn put_kinds(out: &mut Vec<u8>, kinds: KindSet) -> Result<(), AllocError>
 }
 
 fn put_scope(out: &mut Vec<u8>, scope: &Scope) -> Result<(), AllocError>
-    ensures text { Puts result out.old.items out.new.items (scope_text scope.now) }
+    ensures text { AppendsOrOom result out.old.items out.new.items (scope_text scope.now) }
     ensures name { OnOk result (FitsScope scope.now) }
 {
     match scope {
@@ -194,7 +178,7 @@ fn put_scope(out: &mut Vec<u8>, scope: &Scope) -> Result<(), AllocError>
 }
 
 fn put_give(out: &mut Vec<u8>, grant: &Grant) -> Result<(), AllocError>
-    ensures text { Puts result out.old.items out.new.items (give_text grant.now) }
+    ensures text { AppendsOrOom result out.old.items out.new.items (give_text grant.now) }
     ensures name { OnOk result (FitsScope grant.now.scope) }
 {
     put_number(out, "{\"give\":{\"actor\":", grant.actor as u64)?;
@@ -210,17 +194,50 @@ fn put_protection(
     kinds: KindSet,
     process: ProcId,
 ) -> Result<(), AllocError>
-    ensures { Puts result out.old.items out.new.items (protection_text head.now kinds process) }
+    ensures { AppendsOrOom result out.old.items out.new.items (protection_text head.now kinds process) }
 {
     put(out, head)?;
     put_kinds(out, kinds)?;
     put_one(out, "],\"process\":", process.0 as u64)
 }
 
+#[inline(always)]
+fn put_resend(out: &mut Vec<u8>, rec: u32, process: ProcId) -> Result<(), AllocError>
+    ensures { AppendsOrOom result out.old.items out.new.items (act_text (Resend rec process)) }
+{
+    let head = "{\"resend\":{\"process\":";
+    put_two(out, head, process.0 as u64, ",\"record\":", rec as u64)
+}
+
+#[inline(always)]
+fn put_take(out: &mut Vec<u8>, actor: u32, index: u32) -> Result<(), AllocError>
+    ensures { AppendsOrOom result out.old.items out.new.items (act_text (Take actor index)) }
+{
+    let head = "{\"take\":{\"actor\":";
+    put_two(out, head, actor as u64, ",\"index\":", index as u64)
+}
+
+#[inline(always)]
+fn put_copy(out: &mut Vec<u8>, from: ProcId, rec: u32, to: ProcId) -> Result<(), AllocError>
+    ensures { AppendsOrOom result out.old.items out.new.items (act_text (CopyTo from rec to)) }
+{
+    put_number(out, "{\"copy\":{\"from\":", from.0 as u64)?;
+    put_two(out, ",\"record\":", rec as u64, ",\"to\":", to.0 as u64)
+}
+
+/// A member of a team with the process that takes its place.
+#[inline(always)]
+fn put_replace(out: &mut Vec<u8>, team: u32, member: ProcId, into: ProcId) -> Result<(), AllocError>
+    ensures { AppendsOrOom result out.old.items out.new.items (act_text (Replace team member into)) }
+{
+    put_number(out, "{\"replace\":{\"into\":", into.0 as u64)?;
+    put_two(out, ",\"out\":", member.0 as u64, ",\"team\":", team as u64)
+}
+
 /// Writes the text of an act.
 pub(super) fn put_act(out: &mut Vec<u8>, act: &Act) -> Result<(), AllocError>
-    ensures text { Puts result out.old.items out.new.items (act_text act.now) }
-    ensures bare { OnOk result (IsBare act.now) }
+    ensures text { AppendsOrOom result out.old.items out.new.items (act_text act.now) }
+    ensures bare { OnOk result (NeedsNoEscape act.now) }
 {
     match act {
         Act::Kill { order } => put_kill(out, order),
@@ -230,52 +247,24 @@ pub(super) fn put_act(out: &mut Vec<u8>, act: &Act) -> Result<(), AllocError>
         Act::Begin { team, payload } => put_begin(out, *team, payload),
         Act::Deliver { message } => put_one(out, "{\"deliver\":{\"message\":", *message),
         Act::Lose { message } => put_one(out, "{\"lose\":{\"message\":", *message),
-        Act::Resend { rec, process } => put_two(
-            out,
-            "{\"resend\":{\"process\":",
-            process.0 as u64,
-            ",\"record\":",
-            *rec as u64,
-        ),
+        Act::Resend { rec, process } => put_resend(out, *rec, *process),
         Act::Sync { process } => put_one(out, "{\"sync\":{\"process\":", process.0 as u64),
         Act::Up { process } => put_one(out, "{\"up\":{\"process\":", process.0 as u64),
         Act::Tick { ticks } => put_one(out, "{\"tick\":{\"ticks\":", *ticks),
         Act::Give { grant } => put_give(out, grant),
-        Act::Take { actor, index } => put_two(
-            out,
-            "{\"take\":{\"actor\":",
-            *actor as u64,
-            ",\"index\":",
-            *index as u64,
-        ),
+        Act::Take { actor, index } => put_take(out, *actor, *index),
         Act::Protect { process, kinds } => {
             put_protection(out, "{\"protect\":{\"kinds\":[", *kinds, *process)
         }
         Act::Unprotect { process, kinds } => {
             put_protection(out, "{\"unprotect\":{\"kinds\":[", *kinds, *process)
         }
-        Act::CopyTo { from, rec, to } => put_three(
-            out,
-            "{\"copy\":{\"from\":",
-            from.0 as u64,
-            ",\"record\":",
-            *rec as u64,
-            ",\"to\":",
-            to.0 as u64,
-        ),
+        Act::CopyTo { from, rec, to } => put_copy(out, *from, *rec, *to),
         Act::Replace {
             team,
-            out: left,
+            out: member,
             into,
-        } => put_three(
-            out,
-            "{\"replace\":{\"into\":",
-            into.0 as u64,
-            ",\"out\":",
-            left.0 as u64,
-            ",\"team\":",
-            *team as u64,
-        ),
+        } => put_replace(out, *team, *member, *into),
         Act::Heal { process } => put_one(out, "{\"heal\":{\"process\":", process.0 as u64),
     }
 }

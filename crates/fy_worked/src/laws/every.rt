@@ -4,7 +4,7 @@ ghost use Rattle.fy_kinds.specs.declared.kind.Kind.TheVariants.{Reboot};
 ghost use Rattle.fy_team.specs.Teams.{is_among};
 ghost use Rattle.fy_grants.specs.Least.{LeastWith};
 ghost use Rattle.fy_kinds.specs.declared.verdict.Rule.TheVariants.{TooManyDestroyed};
-ghost use Rattle.fy_decide.specs.Losses.{AreShort, AreSatisfied};
+ghost use Rattle.fy_decide.specs.Safety.{AreShort, AreSatisfied};
 ghost use Rattle.fy_decide.specs.Verdicts.{verdict};
 ghost use Rattle.fy_acts.specs.declared.entry.Entry.{Entry};
 ghost use Rattle.fy_cluster.specs.Setup.{IsMet};
@@ -81,4 +81,5 @@ pub fn verdict_stands()
 {
     strikes::two_zones();
     fy_cluster::laws::kills_judged();
+    fy_decide::laws::verdict_answers();
 }

@@ -5,7 +5,7 @@ ghost use Rattle.fy_cluster.specs.History.{history, destroyed, gone, up, sent, s
 ghost use Rattle.fy_cluster.specs.Replies.{Legal};
 ghost use Rattle.fy_worked.specs.Clusters.{six, members, process};
 ghost use Rattle.fy_worked.specs.Records.{item, hi};
-ghost use Rattle.fy_worked.specs.Healed.{still_needed, copied_back, healed, healed_stands_in, word_taken, mark_taken, marked_again, own_word_taken, later_words_come, refused_takes_nothing, destroyed_again, one_of_two_healed, not_healed, least_needed, copies_refused, copied_along, copied_to_who_is_down, not_copied_while_down};
+ghost use Rattle.fy_worked.specs.Healed.{still_needed, copied_back, healed, healed_stands_in, ack_voided, mark_taken, marked_again, own_ack_voided, later_acks_delivered, refused_takes_nothing, destroyed_again, one_of_two_healed, not_healed, least_needed, copies_refused, copied_along, copied_to_who_is_down, not_copied_while_down};
 
 /// A member that was emptied isn't healed while it lacks an acknowledged record.
 pub fn still_needed()
@@ -42,12 +42,12 @@ pub fn healed_stands_in()
 {}
 
 /// A heal takes the word that was sent before out of the network.
-pub fn word_taken()
-    ensures legal { Legal six word_taken }
-    ensures destroyed { members (destroyed (history six word_taken)) ≡ [] }
-    ensures in_flight { members (in_flight (history six word_taken)) ≡ [] }
-    ensures marked { members (marked (history six word_taken) 0) ≡ 2 ∷ [] }
-    ensures acked { acked (history six word_taken) 0 ≡ false }
+pub fn ack_voided()
+    ensures legal { Legal six ack_voided }
+    ensures destroyed { members (destroyed (history six ack_voided)) ≡ [] }
+    ensures in_flight { members (in_flight (history six ack_voided)) ≡ [] }
+    ensures marked { members (marked (history six ack_voided) 0) ≡ 2 ∷ [] }
+    ensures acked { acked (history six ack_voided) 0 ≡ false }
 {}
 
 /// A heal takes away the mark for a record that isn't acknowledged.
@@ -68,17 +68,17 @@ pub fn marked_again()
 
 /// A heal takes the words of its process alone: neither other words nor stores, not even those to
 /// it.
-pub fn own_word_taken()
-    ensures legal { Legal six own_word_taken }
-    ensures in_flight { members (in_flight (history six own_word_taken)) ≡ 2 ∷ 3 ∷ 5 ∷ [] }
-    ensures words { filter (in_flight (history six own_word_taken)) (4 ∷ 5 ∷ 6 ∷ []) ≡ 5 ∷ [] }
+pub fn own_ack_voided()
+    ensures legal { Legal six own_ack_voided }
+    ensures in_flight { members (in_flight (history six own_ack_voided)) ≡ 2 ∷ 3 ∷ 5 ∷ [] }
+    ensures words { filter (in_flight (history six own_ack_voided)) (4 ∷ 5 ∷ 6 ∷ []) ≡ 5 ∷ [] }
 {}
 
 /// A heal takes no word that is sent later.
-pub fn later_words_come()
-    ensures legal { Legal six later_words_come }
-    ensures first { members (marked (history six later_words_come) 0) ≡ 2 ∷ [] }
-    ensures second { members (marked (history six later_words_come) 1) ≡ 0 ∷ [] }
+pub fn later_acks_delivered()
+    ensures legal { Legal six later_acks_delivered }
+    ensures first { members (marked (history six later_acks_delivered) 0) ≡ 2 ∷ [] }
+    ensures second { members (marked (history six later_acks_delivered) 1) ≡ 0 ∷ [] }
 {}
 
 /// A refused heal takes nothing away.

@@ -4,7 +4,7 @@ ghost use Rattle.fy_cluster.specs.History.{history, up, records, synced, unsynce
 ghost use Rattle.fy_cluster.specs.Replies.{Legal};
 ghost use Rattle.fy_worked.specs.Clusters.{six, members};
 ghost use Rattle.fy_worked.specs.Records.{item, hi};
-ghost use Rattle.fy_worked.specs.Messages.{clogged_until, unclogged, longest_clog_holds, clogged_again, clogged_by_zone, word_held_back, word_lost, clogged_to_the_end, lost_and_resent, lost_though_clogged, waited_for, delivered_once, clogged_and_down, word_of_the_gone};
+ghost use Rattle.fy_worked.specs.Messages.{clogged_until, unclogged, longest_clog_holds, clogged_again, clogged_by_zone, ack_held_back, ack_lost, clogged_to_the_end, lost_and_resent, lost_though_clogged, waited_for, delivered_once, clogged_and_down, ack_of_the_gone};
 
 /// A clog holds messages back for its ticks and no longer.
 pub fn clogged_until()
@@ -41,16 +41,16 @@ pub fn clogged_by_zone()
 {}
 
 /// A clog holds a process's words back as well as what it is sent.
-pub fn word_held_back()
-    ensures legal { Legal six word_held_back }
-    ensures marked { members (marked (history six word_held_back) 0) ≡ 0 ∷ [] }
+pub fn ack_held_back()
+    ensures legal { Legal six ack_held_back }
+    ensures marked { members (marked (history six ack_held_back) 0) ≡ 0 ∷ [] }
 {}
 
 /// A word that is held back or lost marks nothing.
-pub fn word_lost()
-    ensures legal { Legal six word_lost }
-    ensures marked { members (marked (history six word_lost) 0) ≡ 2 ∷ [] }
-    ensures acked { acked (history six word_lost) 0 ≡ false }
+pub fn ack_lost()
+    ensures legal { Legal six ack_lost }
+    ensures marked { members (marked (history six ack_lost) 0) ≡ 2 ∷ [] }
+    ensures acked { acked (history six ack_lost) 0 ≡ false }
 {}
 
 /// No clog outlasts the clock: at its last tick everything is delivered.
@@ -97,8 +97,8 @@ pub fn clogged_and_down()
 {}
 
 /// No clog is for a process that is gone, and its word comes.
-pub fn word_of_the_gone()
-    ensures legal { Legal six word_of_the_gone }
-    ensures clogged { members (clogged (history six word_of_the_gone)) ≡ 1 ∷ [] }
-    ensures marked { members (marked (history six word_of_the_gone) 0) ≡ 0 ∷ [] }
+pub fn ack_of_the_gone()
+    ensures legal { Legal six ack_of_the_gone }
+    ensures clogged { members (clogged (history six ack_of_the_gone)) ≡ 1 ∷ [] }
+    ensures marked { members (marked (history six ack_of_the_gone) 0) ≡ 0 ∷ [] }
 {}

@@ -4,7 +4,7 @@ ghost use Rattle.fy_net.specs.declared.message.Body.TheVariants.{Store};
 ghost use Rattle.fy_cluster.specs.History.{history, destroyed, gone, up, members_for, sent, synced, unsynced, in_flight, marked, acked, keeper};
 ghost use Rattle.fy_cluster.specs.Replies.{Legal};
 ghost use Rattle.fy_worked.specs.Clusters.{six, four_of_one, members, process};
-ghost use Rattle.fy_worked.specs.Records.{written_and_synced, forgotten, and_back, acknowledged, spared, three_written, torn, torn_and_back, torn_once, counted_anew, counted_anew_after_sync, last_bit_kept, emptied_unsynced, weakened_and_torn, restarted, not_synced_while_down, restarted_and_torn, one_word_each, first_acknowledged, written_again, second_team, item, hi};
+ghost use Rattle.fy_worked.specs.Records.{written_and_synced, forgotten, and_back, acknowledged, spared, three_written, torn, torn_and_back, torn_once, counted_anew, counted_anew_after_sync, last_bit_kept, emptied_unsynced, weakened_and_torn, restarted, not_synced_while_down, restarted_and_torn, one_ack_each, first_acknowledged, written_again, second_team, item, hi};
 
 /// A record is acknowledged once each member's word of it has come. Its keeper is the member that
 /// isn't destroyed.
@@ -140,13 +140,13 @@ pub fn restarted_and_torn()
 
 /// A word counts for its own record and its own sender: with one word of each of two records,
 /// neither is acknowledged.
-pub fn one_word_each()
-    ensures legal { Legal six one_word_each }
-    ensures first { acked (history six one_word_each) 0 ≡ false }
-    ensures second { acked (history six one_word_each) 1 ≡ false }
-    ensures marked_first { members (marked (history six one_word_each) 0) ≡ 0 ∷ [] }
-    ensures marked_second { members (marked (history six one_word_each) 1) ≡ 2 ∷ [] }
-    ensures keeper { keeper six (history six one_word_each) 0 ≡ None }
+pub fn one_ack_each()
+    ensures legal { Legal six one_ack_each }
+    ensures first { acked (history six one_ack_each) 0 ≡ false }
+    ensures second { acked (history six one_ack_each) 1 ≡ false }
+    ensures marked_first { members (marked (history six one_ack_each) 0) ≡ 0 ∷ [] }
+    ensures marked_second { members (marked (history six one_ack_each) 1) ≡ 2 ∷ [] }
+    ensures keeper { keeper six (history six one_ack_each) 0 ≡ None }
 {}
 
 /// The least member that holds an acknowledged record is its keeper.

@@ -6,7 +6,7 @@ ghost use Rattle.fy_cluster.specs.Replies.{Legal};
 ghost use Rattle.fy_worked.specs.Clusters.{six, members, process};
 ghost use Rattle.fy_worked.specs.Strikes.{three_and_two};
 ghost use Rattle.fy_worked.specs.Records.{pair, item, hi};
-ghost use Rattle.fy_worked.specs.Replaced.{not_replaced, copied, replaced, healed_outside, stays_acknowledged, gone_replaced, mark_counts, all_marked, not_yet_acknowledged, word_of_another, acknowledged_from_outside, mark_outside_taken, sent_to_members, needed_by_its_team, replaces_refused, short_by_its_policy, pair_behind};
+ghost use Rattle.fy_worked.specs.Replaced.{not_replaced, copied, replaced, healed_outside, stays_acknowledged, gone_replaced, mark_counts, all_marked, not_yet_acknowledged, ack_of_another_record, acknowledged_from_outside, mark_outside_taken, sent_to_members, needed_by_its_team, replaces_refused, short_by_its_policy, pair_behind};
 
 /// Nobody comes into a team who is in it, would leave it short or lacks an acknowledged record of
 /// it.
@@ -79,10 +79,10 @@ pub fn not_yet_acknowledged()
 {}
 
 /// A word of another record doesn't acknowledge it.
-pub fn word_of_another()
-    ensures legal { Legal six word_of_another }
-    ensures acked { acked (history six word_of_another) 0 ≡ false }
-    ensures other { members (marked (history six word_of_another) 1) ≡ 0 ∷ [] }
+pub fn ack_of_another_record()
+    ensures legal { Legal six ack_of_another_record }
+    ensures acked { acked (history six ack_of_another_record) 0 ≡ false }
+    ensures other { members (marked (history six ack_of_another_record) 1) ≡ 0 ∷ [] }
 {}
 
 /// The next word of the record acknowledges it, whoever sent it.

@@ -2,7 +2,7 @@
 ghost use Rattle.fy_cluster.specs.Replies.{Legal};
 ghost use Rattle.fy_worked.specs.Clusters.{six, four};
 ghost use Rattle.fy_worked.specs.Targets.{centers};
-ghost use Rattle.fy_worked.specs.Wrong.{second_zone_killed, place_left_out, grant_overlooked, protection_named_first, replication_before_grant, replication_before_protection, two_zones_by_center, covered_in_part, number_left_out, marked_unsynced, word_never_sent, sent_though_acknowledged, too_few_left, mark_kept, word_kept, healed_in_need, replaced_in_need, replaced_by_member, replaced_short, acknowledged_by_replace, copied_from_nothing, copied_while_down, healed_and_counted, back_and_not_counted, short_lived, two_ticks};
+ghost use Rattle.fy_worked.specs.Wrong.{second_zone_killed, place_left_out, grant_overlooked, protection_named_first, replication_before_grant, replication_before_protection, two_zones_by_center, covered_in_part, number_left_out, marked_unsynced, ack_never_sent, sent_though_acknowledged, too_few_left, mark_kept, ack_kept, healed_in_need, replaced_in_need, replaced_by_member, replaced_short, acknowledged_by_replace, copied_from_nothing, copied_while_down, healed_and_counted, back_and_not_counted, short_lived, two_ticks};
 
 /// A kill that is to be weakened isn't answered as one that struck.
 pub fn second_zone_killed()
@@ -55,8 +55,8 @@ pub fn marked_unsynced()
 {}
 
 /// No word comes before its process has synced.
-pub fn word_never_sent()
-    ensures { Legal six word_never_sent → ⊥ }
+pub fn ack_never_sent()
+    ensures { Legal six ack_never_sent → ⊥ }
 {}
 
 /// An acknowledged record isn't sent again.
@@ -75,8 +75,8 @@ pub fn mark_kept()
 {}
 
 /// A heal takes the word that was sent before.
-pub fn word_kept()
-    ensures { Legal six word_kept → ⊥ }
+pub fn ack_kept()
+    ensures { Legal six ack_kept → ⊥ }
 {}
 
 /// Who lacks an acknowledged record isn't healed.

@@ -1,6 +1,6 @@
 use Rattle.std.proofs.Common.{◌∙◌, sym, ap, ap₂, ◌++◌, ◌∷◌, [], List}
 use Rattle.fy_acts.specs.declared.act.Act.{Act}
-use Rattle.fy_actors.specs.Agendas.{attrition_act}
+use Rattle.fy_actors.specs.Schedules.{attrition_act}
 use Rattle.fy_actors.proofs.Working.{one_order, one_act_more}
 use Rattle.fy_actors.proofs.attrition.kill_orders.Goals as goal
 

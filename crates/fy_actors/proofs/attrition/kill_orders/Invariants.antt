@@ -1,6 +1,6 @@
 use Rattle.std.proofs.Common.{◌≡◌, ◌≤◌, take}
 use Rattle.fy_kinds.specs.Kinds.{rank}
-use Rattle.fy_actors.specs.Agendas.{attrition_acts}
+use Rattle.fy_actors.specs.Schedules.{attrition_acts}
 use Rattle.fy_actors.proofs.attrition.kill_orders.Given as goal
 
 abbrev pub invariant-loop-machine : goal.invariant-loop-machine

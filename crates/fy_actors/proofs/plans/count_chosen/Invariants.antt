@@ -2,10 +2,10 @@ use Rattle.std.proofs.Common.{◌≡◌, ◌+◌, ◌≤◌, length, drop}
 use Rattle.fy_actors.specs.Plans.{chosen}
 use Rattle.fy_actors.proofs.plans.count_chosen.Given as goal
 
-abbrev pub invariant-loop-place : goal.invariant-loop-place
-invariant-loop-place l = record {
+abbrev pub invariant-loop-index : goal.invariant-loop-index
+invariant-loop-index l = record {
   counted :
-      l.count + length (chosen (drop l.place l.words) (drop l.place l.candidates))
+      l.count + length (chosen (drop l.index l.words) (drop l.index l.candidates))
       ≡ length (chosen l.words l.candidates);
-  few : l.count ≤ l.place;
+  few : l.count ≤ l.index;
 }

@@ -3,5 +3,5 @@ use Rattle.fy_locality.specs.declared.key.Key.TheVariants.{Machine}
 use Rattle.fy_locality.specs.Locality.{values_of}
 use Rattle.fy_actors.proofs.plans.machines.Given as goal
 
-abbrev pub invariant-loop-place : goal.invariant-loop-place
-invariant-loop-place l = l.machines.items ≡ take l.place (values_of l.map Machine)
+abbrev pub invariant-loop-index : goal.invariant-loop-index
+invariant-loop-index l = l.machines.items ≡ take l.index (values_of l.map Machine)

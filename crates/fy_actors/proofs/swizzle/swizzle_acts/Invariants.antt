@@ -1,6 +1,6 @@
 use Rattle.std.proofs.Common.{◌≡◌, ◌++◌, map, take}
 use Rattle.fy_acts.specs.declared.act.Act.TheVariants.{Clog, Unclog}
-use Rattle.fy_actors.specs.Agendas.{process_target}
+use Rattle.fy_actors.specs.Schedules.{process_target}
 use Rattle.fy_actors.proofs.swizzle.swizzle_acts.Given as goal
 
 abbrev pub invariant-loop-p : goal.invariant-loop-p

@@ -1,7 +1,7 @@
 use Rattle.std.proofs.Common.{◌≡◌, true, false, not, [], ◌∷◌, ap, sym, subst, ◌∙◌, true≢false}
 use Rattle.std.specs.FinSet as sets
 use Rattle.fy_policy.specs.Sat.{Sat}
-use Rattle.fy_decide.specs.Losses.{MayDestroy, with_set, without_set}
+use Rattle.fy_decide.specs.Safety.{MayDestroy, with_set, without_set}
 use Rattle.fy_decide.specs.declared.dead_book.Loss.TheVariants.{Gone}
 use Rattle.fy_bears.proofs.Borne.{may-short, with-is, without-is}
 use Rattle.fy_bears.proofs.bearing.is_too_many.Goals as goal

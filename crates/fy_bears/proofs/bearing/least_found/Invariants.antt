@@ -1,6 +1,6 @@
 use Rattle.std.proofs.Common.{[], ◌∷◌}
 use Rattle.std.specs.FinSet as sets
-use Rattle.fy_decide.specs.Losses.{MayDestroy}
+use Rattle.fy_decide.specs.Safety.{MayDestroy}
 use Rattle.fy_bears.proofs.bearing.least_found.Given as goal
 
 -- those that are kept may not be lost

@@ -7,9 +7,9 @@ use Rattle.fy_policy.specs.Counted.{number_of}
 use Rattle.fy_policy.specs.Sat.{Sat}
 use Rattle.fy_policy.specs.Shape.{tree_of}
 use Rattle.fy_policy.specs.Tree.{Tree, IsPolicy, IsWellFormed}
-use Rattle.fy_decide.specs.Losses.{MayDestroy}
+use Rattle.fy_decide.specs.Safety.{MayDestroy}
 use Rattle.fy_bears.specs.Bears.{MayLoseBy}
-use Rattle.fy_bears.specs.Costs.{IsNeeded, IsLacked}
+use Rattle.fy_bears.specs.Costs.{NeedsAtLeast, LacksAtLeast}
 use Rattle.fy_bears.proofs.Borne.{each_at, short-with, satisfied-without}
 use Rattle.fy_bears.proofs.bearing.tolerance_of.Goals.{in-Emptied, in-Gone}
 use Rattle.fy_bears.proofs.bearing.tolerance_of.Goals as goal
@@ -20,16 +20,16 @@ returns-clause-any c = λ policy at s small.
     let is : tree_of c.shape-shape.result.now ≡ policy = c.shape-shape.ensures.shape ∙ same in
     let formed : IsPolicy c.index-policies-index.result = c.shape-shape.ensures.policy in
     let counted : IsWellFormed (tree_of c.shape-shape.result.now) = subst IsWellFormed (sym c.shape-shape.ensures.shape) formed.counted in
-    let needs0 : IsNeeded c.args.dead.now.processes policy (sets.contains c.everyone.result) (sets.contains c.destroyed-destroyed.result) c.in_ok-needed.needed.least =
-    subst (λ q. IsNeeded c.args.dead.now.processes q (sets.contains c.everyone.result) (sets.contains c.destroyed-destroyed.result) c.in_ok-needed.needed.least) is
-    (subst (λ ps. IsNeeded ps (tree_of c.shape-shape.result.now) (sets.contains c.everyone.result) (sets.contains c.destroyed-destroyed.result) c.in_ok-needed.needed.least) c.requires.map (c.in_ok-needed.ensures counted)) in
-    let needs : IsNeeded c.args.dead.now.processes policy (sets.contains c.everyone.result) (sets.contains c.args.dead.now.destroyed) c.in_ok-needed.needed.least =
-    subst (λ d. IsNeeded c.args.dead.now.processes policy (sets.contains c.everyone.result) (sets.contains d) c.in_ok-needed.needed.least) c.destroyed-destroyed.ensures.destroyed needs0 in
-    let lacks0 : IsLacked c.args.dead.now.processes policy (sets.contains c.left-left.result) c.in_ok-lacked.lacked.least =
-    subst (λ q. IsLacked c.args.dead.now.processes q (sets.contains c.left-left.result) c.in_ok-lacked.lacked.least) is
-    (subst (λ ps. IsLacked ps (tree_of c.shape-shape.result.now) (sets.contains c.left-left.result) c.in_ok-lacked.lacked.least) c.requires.map (c.in_ok-lacked.ensures counted)) in
-    let lacks : IsLacked c.args.dead.now.processes policy (sets.contains c.args.dead.now.left) c.in_ok-lacked.lacked.least =
-    subst (λ l. IsLacked c.args.dead.now.processes policy (sets.contains l) c.in_ok-lacked.lacked.least) c.left-left.ensures.left lacks0 in
+    let needs0 : NeedsAtLeast c.args.dead.now.processes policy (sets.contains c.everyone.result) (sets.contains c.destroyed-destroyed.result) c.in_ok-needed.needed.least =
+    subst (λ q. NeedsAtLeast c.args.dead.now.processes q (sets.contains c.everyone.result) (sets.contains c.destroyed-destroyed.result) c.in_ok-needed.needed.least) is
+    (subst (λ ps. NeedsAtLeast ps (tree_of c.shape-shape.result.now) (sets.contains c.everyone.result) (sets.contains c.destroyed-destroyed.result) c.in_ok-needed.needed.least) c.requires.map (c.in_ok-needed.ensures counted)) in
+    let needs : NeedsAtLeast c.args.dead.now.processes policy (sets.contains c.everyone.result) (sets.contains c.args.dead.now.destroyed) c.in_ok-needed.needed.least =
+    subst (λ d. NeedsAtLeast c.args.dead.now.processes policy (sets.contains c.everyone.result) (sets.contains d) c.in_ok-needed.needed.least) c.destroyed-destroyed.ensures.destroyed needs0 in
+    let lacks0 : LacksAtLeast c.args.dead.now.processes policy (sets.contains c.left-left.result) c.in_ok-lacked.lacked.least =
+    subst (λ q. LacksAtLeast c.args.dead.now.processes q (sets.contains c.left-left.result) c.in_ok-lacked.lacked.least) is
+    (subst (λ ps. LacksAtLeast ps (tree_of c.shape-shape.result.now) (sets.contains c.left-left.result) c.in_ok-lacked.lacked.least) c.requires.map (c.in_ok-lacked.ensures counted)) in
+    let lacks : LacksAtLeast c.args.dead.now.processes policy (sets.contains c.args.dead.now.left) c.in_ok-lacked.lacked.least =
+    subst (λ l. LacksAtLeast c.args.dead.now.processes policy (sets.contains l) c.in_ok-lacked.lacked.least) c.left-left.ensures.left lacks0 in
     let short : Sat c.args.dead.now.processes policy (sets.contains c.args.dead.now.destroyed) → ⊥ =
     each_at (λ P. Sat c.args.dead.now.processes P (sets.contains c.args.dead.now.destroyed) → ⊥) c.args.dead.now.policies c.args.index policy c.destroyed-destroyed.ensures.short at in
     let met : Sat c.args.dead.now.processes policy (sets.contains c.args.dead.now.left) =
@@ -40,14 +40,14 @@ returns-clause-any c = λ policy at s small.
       | in-Emptied w ↦
           let least : c.match-loss.part.least ≡ c.in_ok-needed.needed.least = ap (λ part. part.least) w.part-is in
           subst (MayLoseBy c.args.dead.now policy s) (sym w.in-Emptied.is)
-          (short-with c.args.dead.now.processes policy c.test_is_satisfaction.ensures (sets.contains c.everyone.result) (sets.contains c.args.dead.now.destroyed) c.in_ok-needed.needed.least c.saturating_sub.result everyone needs short (omega arith) s small, tt)
+          (short-with c.args.dead.now.processes policy c.test_is_satisfaction.ensures c.more_of_map_satisfies.ensures (sets.contains c.everyone.result) (sets.contains c.args.dead.now.destroyed) c.in_ok-needed.needed.least c.saturating_sub.result everyone needs short (omega arith) s small, tt)
       | in-Gone w ↦
           let least : c.match-loss.part.least ≡ w.lesser-part.result.least = ap (λ part. part.least) w.part-is in
           let first : w.lesser-part.result.least ≤ c.in_ok-needed.needed.least = w.lesser-part.ensures.first in
           let second : w.lesser-part.result.least ≤ c.in_ok-lacked.lacked.least = w.lesser-part.ensures.second in
           subst (MayLoseBy c.args.dead.now policy s) (sym w.in-Gone.is) (
-            (short-with c.args.dead.now.processes policy c.test_is_satisfaction.ensures (sets.contains c.everyone.result) (sets.contains c.args.dead.now.destroyed) c.in_ok-needed.needed.least c.saturating_sub.result everyone needs short (omega arith) s small, tt),
-            (satisfied-without c.args.dead.now.processes policy c.test_is_satisfaction.ensures (sets.contains c.args.dead.now.left) c.in_ok-lacked.lacked.least c.saturating_sub.result lacks met (omega arith) s small, tt),
+            (short-with c.args.dead.now.processes policy c.test_is_satisfaction.ensures c.more_of_map_satisfies.ensures (sets.contains c.everyone.result) (sets.contains c.args.dead.now.destroyed) c.in_ok-needed.needed.least c.saturating_sub.result everyone needs short (omega arith) s small, tt),
+            (satisfied-without c.args.dead.now.processes policy c.test_is_satisfaction.ensures c.more_of_map_satisfies.ensures (sets.contains c.args.dead.now.left) c.in_ok-lacked.lacked.least c.saturating_sub.result lacks met (omega arith) s small, tt),
           )
     ]
   where

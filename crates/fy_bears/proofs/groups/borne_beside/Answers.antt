@@ -3,18 +3,18 @@ use Rattle.std.specs.FinSet as sets
 use Rattle.std.specs.Prelude.{slice_get}
 use Rattle.fy_locality.specs.Locality.{values_of}
 use Rattle.fy_decide.specs.DeadBook.{may_lose}
-use Rattle.fy_decide.specs.Losses.{with_set}
-use Rattle.fy_bears.specs.Bears.{whole}
+use Rattle.fy_decide.specs.Safety.{with_set}
+use Rattle.fy_bears.specs.Bears.{left_with_value}
 use Rattle.fy_bears.proofs.Borne.{map_more, with-is}
 use Rattle.fy_bears.proofs.groups.borne_beside.Goals as goal
 
 pub loop-i-preserved : goal.loop-i-preserved
 loop-i-preserved c =
-    map_more (λ value. may_lose c.args.dead.now (with_set (whole c.args.dead.now c.args.key c.args.first.now) (whole c.args.dead.now c.args.key value)) c.args.loss) (values_of c.args.dead.now.processes c.args.key) c.loop-i.i c.in-Some.value c.loop-i.borne.items c.push.new.self.items c.may_destroy.result
+    map_more (λ value. may_lose c.args.dead.now (with_set (left_with_value c.args.dead.now c.args.key c.args.first.now) (left_with_value c.args.dead.now c.args.key value)) c.args.loss) (values_of c.args.dead.now.processes c.args.key) c.loop-i.i c.in-Some.value c.loop-i.borne.items c.push.new.self.items c.may_destroy.result
     (ap (λ processes. slice_get (values_of processes c.args.key) c.loop-i.i) (sym c.requires.map) ∙ sym c.in-Some.ensures)
     c.loop-i.invariant c.in_ok-push.ensures.items
     (c.may_destroy.ensures.test
     ∙ ap (λ s. may_lose c.args.dead.now s c.args.loss)
     (with-is c.members_left-one.result c.members_left.result c.union-both.result c.union-both.ensures
     ∙ ap (λ s. with_set s (sets.contains c.members_left.result)) c.members_left-one.ensures
-    ∙ ap (λ s. with_set (whole c.args.dead.now c.args.key c.args.first.now) s) c.members_left.ensures))
+    ∙ ap (λ s. with_set (left_with_value c.args.dead.now c.args.key c.args.first.now) s) c.members_left.ensures))

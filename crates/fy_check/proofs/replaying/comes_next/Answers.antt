@@ -1,32 +1,32 @@
 use Rattle.std.proofs.Common.{◌≡◌, refl, sym, ◌∙◌, ap, subst}
 use Rattle.std.specs.Bool.{Decides}
-use Rattle.fy_cluster.specs.Course.{replied, entered}
+use Rattle.fy_cluster.specs.Execution.{replied, entered}
 use Rattle.fy_check.proofs.Nexts.{had_place, by_reply, entered_is}
 use Rattle.fy_check.proofs.replaying.comes_next.Goals as goal
 
 pub returns-in-Ok-clause-next : goal.returns-in-Ok-clause-next
 returns-in-Ok-clause-next c =
-    let course = c.args.cluster.now in
+    let execution = c.args.cluster.now in
     let e = c.args.entry in
     let parts = c.into_parts-by.ensures in
-    let right = c.in-Ok.ensures.replied ∙ ap (λ p. replied course p.1 p.2) parts in
+    let right = c.in-Ok.ensures.replied ∙ ap (λ p. replied execution p.1 p.2) parts in
     let same : Decides c.eq.result (c.in-Ok.reply ≡ c.into_parts-by.result.3) =
     subst (λ b. Decides b (c.in-Ok.reply ≡ c.into_parts-by.result.3)) (sym c.eq.ensures)
     (c.equal_is_the_same.ensures.replies c.in-Ok.reply c.into_parts-by.result.3) in
-    by_reply c.versions.ensures.next c.args.version course.setup course.journal e c.in-Ok.reply
+    by_reply c.versions.ensures.next c.args.version execution.setup execution.journal e c.in-Ok.reply
     c.eq.result c.requires.legal (sym c.knows.ensures ∙ c.if-not-knows.false)
     (had_place _ _ c.in-Ok.reply c.in-Ok.ensures.full) c.requires.place right
     (subst (λ p. Decides c.eq.result (c.in-Ok.reply ≡ p.3)) parts same)
 
 pub returns-in-Ok-clause-entered : goal.returns-in-Ok-clause-entered
 returns-in-Ok-clause-entered c = λ t.
-    let course = c.args.cluster.now in
+    let execution = c.args.cluster.now in
     let e = c.args.entry in
     let parts = c.into_parts-by.ensures in
-    let right = c.in-Ok.ensures.replied ∙ ap (λ p. replied course p.1 p.2) parts in
-    let is = c.in-Ok.ensures.entered ∙ ap (λ p. entered course p.1 p.2) parts in
+    let right = c.in-Ok.ensures.replied ∙ ap (λ p. replied execution p.1 p.2) parts in
+    let is = c.in-Ok.ensures.entered ∙ ap (λ p. entered execution p.1 p.2) parts in
     let same : Decides c.eq.result (c.in-Ok.reply ≡ c.into_parts-by.result.3) =
     subst (λ b. Decides b (c.in-Ok.reply ≡ c.into_parts-by.result.3)) (sym c.eq.ensures)
     (c.equal_is_the_same.ensures.replies c.in-Ok.reply c.into_parts-by.result.3) in
     let told = subst (λ p. Decides c.eq.result (c.in-Ok.reply ≡ p.3)) parts same in
-    entered_is course c.apply.new.self e e.act c.in-Ok.reply refl c.requires.place (told.0 t) right is
+    entered_is execution c.apply.new.self e e.act c.in-Ok.reply refl c.requires.place (told.0 t) right is

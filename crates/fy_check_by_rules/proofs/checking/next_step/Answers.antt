@@ -18,5 +18,5 @@ returns-clause-put c = λ so_far are place.
     let setup = c.args.before.now.config.now in
     let steps = c.args.before.now.steps.now in
     let step = c.in_ok-step.step in
-    put_last c.one_entry_more.ensures.moments c.args.version setup so_far c.args.entry.now steps step are c.in_ok-step.ensures
+    put_last c.one_entry_more.ensures.steps c.args.version setup so_far c.args.entry.now steps step are c.in_ok-step.ensures
     ((c.in_ok-may.ensures.next so_far are place).0 c.if-not-may.false)

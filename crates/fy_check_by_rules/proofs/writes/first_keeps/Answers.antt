@@ -1,6 +1,6 @@
 use Rattle.std.proofs.Common.{[], ◌≡◌, ◌<◌, length, get_or, cond, drop, ◌+◌, sym, ◌∙◌, ap, rules}
 use Rattle.fy_cluster.specs.History.{close_keeps}
-use Rattle.fy_check_by_rules.specs.Past.{moment_of}
+use Rattle.fy_check_by_rules.specs.Past.{as_step}
 use Rattle.fy_check_by_rules.proofs.Written.{keeps_first, keeps-next}
 use Rattle.fy_check_by_rules.proofs.writes.first_keeps.Goals as goal
 
@@ -13,7 +13,7 @@ loop-step-preserved c =
     let within : i < length later = search rules in
     let is : s ≡ get_or later i s = search rules in
     c.loop-step.invariant ∙ keeps-next p c.args.place later i s within is
-    ∙ ap (λ b. cond b (close_keeps p c.args.place (moment_of [] s)) (keeps_first p c.args.place (drop (i + 1) later))) (sym c.closes.ensures ∙ c.if-closes.false)
+    ∙ ap (λ b. cond b (close_keeps p c.args.place (as_step [] s)) (keeps_first p c.args.place (drop (i + 1) later))) (sym c.closes.ensures ∙ c.if-closes.false)
 
 pub returns-then-closes : goal.returns-then-closes
 returns-then-closes c =
@@ -24,4 +24,4 @@ returns-then-closes c =
     let within : i < length later = search rules in
     let is : s ≡ get_or later i s = search rules in
     c.close_keeps.ensures ∙ sym (c.loop-step.invariant ∙ keeps-next p c.args.place later i s within is
-    ∙ ap (λ b. cond b (close_keeps p c.args.place (moment_of [] s)) (keeps_first p c.args.place (drop (i + 1) later))) (sym c.closes.ensures ∙ c.if-closes.true))
+    ∙ ap (λ b. cond b (close_keeps p c.args.place (as_step [] s)) (keeps_first p c.args.place (drop (i + 1) later))) (sym c.closes.ensures ∙ c.if-closes.true))

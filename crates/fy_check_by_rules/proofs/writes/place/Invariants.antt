@@ -1,5 +1,5 @@
 use Rattle.std.proofs.Common.{◌≡◌, ◌≤◌, take}
-use Rattle.fy_cluster.specs.History.{place}
+use Rattle.fy_check_by_rules.specs.Written.{place}
 use Rattle.fy_check_by_rules.specs.Past.{past}
 use Rattle.fy_check_by_rules.proofs.writes.place.Given as goal
 

@@ -1,9 +1,11 @@
-use Rattle.std.proofs.Common.{[], ◌≡◌, ◌<◌, ◌+◌, ◌++◌, length, get_or, take, None, sym, ◌∙◌, ap, ap₂, rules}
+use Rattle.std.proofs.Common.{[], ◌≡◌, ◌<◌, ◌+◌, ◌++◌, length, get_or, take, None, sym, ◌∙◌, ap, ap₂, arith, rules}
 use Rattle.std.specs.Prelude.{option_to_list, if◌then◌else◌}
-use Rattle.fy_cluster.specs.History.{is_kept, place, writes}
-use Rattle.fy_check_by_rules.specs.Past.{moment_of, past}
+use Rattle.fy_cluster.specs.History.{writes, synced}
+use Rattle.fy_check_by_rules.specs.Written.{is_kept, place}
+use Rattle.fy_check_by_rules.specs.Past.{as_step, past}
 use Rattle.fy_check_by_rules.specs.Later.{later_after}
-use Rattle.fy_check_by_rules.proofs.Written.{later_at, rest-all, written-next}
+use Rattle.fy_check_by_rules.proofs.Written.{later_at, rest-all, written-next, written_all}
+use Rattle.fy_check_by_rules.proofs.Places.{synced_by_places}
 use Rattle.fy_check_by_rules.proofs.writes.synced.Goals as goal
 
 pub loop-i-preserved : goal.loop-i-preserved
@@ -16,8 +18,14 @@ loop-i-preserved c =
     let is : s ≡ get_or steps i s = c.index-steps-i.is in
     let pushed : c.put.new.list.items ≡ c.loop-i.list.items ++ option_to_list c.kept_write-kept.result = search rules in
     let at : c.place-place.result ≡ place (past (take i steps)) p = search rules in
-    let write : c.kept_write-kept.result ≡ (if is_kept p (later_at steps (i + 1)) (place (past (take i steps)) p) then writes (moment_of [] s) p else None) =
+    let write : c.kept_write-kept.result ≡ (if is_kept p (later_at steps (i + 1)) (place (past (take i steps)) p) then writes (as_step [] s) p else None) =
     c.kept_write-kept.ensures (past (take (i + 1) steps))
-    ∙ ap (λ later. if is_kept p (later_after (past (take (i + 1) steps)) later) c.place-place.result then writes (moment_of [] s) p else None) (rest-all steps (i + 1))
-    ∙ ap (λ n. if is_kept p (later_at steps (i + 1)) n then writes (moment_of [] s) p else None) at in
+    ∙ ap (λ later. if is_kept p (later_after (past (take (i + 1) steps)) later) c.place-place.result then writes (as_step [] s) p else None) (rest-all steps (i + 1))
+    ∙ ap (λ n. if is_kept p (later_at steps (i + 1)) n then writes (as_step [] s) p else None) at in
     pushed ∙ ap₂ (λ items rec. items ++ option_to_list rec) c.loop-i.invariant write ∙ sym (written-next p (is_kept p) steps i s within is)
+
+pub returns : goal.returns
+returns c =
+    let steps = c.args.before.now.steps.now in
+    let p = c.args.p.0 in
+    written_all p (is_kept p) steps c.loop-i.i c.loop-i.list.items (synced (past steps) p) (omega (arith, c.loop-i-test.false)) c.loop-i.invariant (synced_by_places (past steps) p)

@@ -1,5 +1,5 @@
 use Rattle.std.proofs.Common.{◌≡◌, take}
-use Rattle.fy_cluster.specs.History.{is_open, written}
+use Rattle.fy_check_by_rules.specs.Written.{is_open, written}
 use Rattle.fy_check_by_rules.specs.Past.{past}
 use Rattle.fy_check_by_rules.proofs.Written.{later_at, recs}
 use Rattle.fy_check_by_rules.proofs.writes.unsynced.Given as goal

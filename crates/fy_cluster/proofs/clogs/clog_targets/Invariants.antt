@@ -1,4 +1,4 @@
-use Rattle.fy_cluster.specs.Standing.{clog_end}
+use Rattle.fy_cluster.specs.History.{clog_end}
 use Rattle.fy_cluster.proofs.Targets.{VisitsClogs}
 use Rattle.fy_cluster.proofs.clogs.clog_targets.Given as goal
 

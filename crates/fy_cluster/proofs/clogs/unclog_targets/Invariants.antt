@@ -1,4 +1,4 @@
-use Rattle.fy_cluster.specs.Standing.{unclog_end}
+use Rattle.fy_cluster.specs.History.{unclog_end}
 use Rattle.fy_cluster.proofs.Targets.{VisitsClogs}
 use Rattle.fy_cluster.proofs.clogs.unclog_targets.Given as goal
 

@@ -1,5 +1,5 @@
 use Rattle.std.proofs.Common.{ap₂, sym, ◌∙◌}
-use Rattle.fy_decide.specs.Losses.{first_unmet}
+use Rattle.fy_decide.specs.Safety.{first_unmet}
 use Rattle.fy_cluster.proofs.Starting.{not_unmet}
 use Rattle.fy_cluster.proofs.opening.nobody_destroyed.Goals as goal
 

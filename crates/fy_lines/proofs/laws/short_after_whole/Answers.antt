@@ -1,5 +1,5 @@
-use Rattle.fy_lines.proofs.FrontLemmas.{StopsShort-after}
+use Rattle.fy_lines.proofs.FrontLemmas.{AppendsProperPrefix-after}
 use Rattle.fy_lines.proofs.laws.short_after_whole.Goals as goal
 
 pub returns : goal.returns
-returns c = StopsShort-after
+returns c = AppendsProperPrefix-after

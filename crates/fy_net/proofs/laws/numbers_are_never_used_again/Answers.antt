@@ -1,4 +1,4 @@
-use Rattle.fy_net.proofs.Numbers.{next-unused, next-sent, earlier-kept, left-gone}
+use Rattle.fy_net.proofs.Numbers.{next-unused, next-sent, earlier-kept, removed-gone}
 use Rattle.fy_net.proofs.laws.numbers_are_never_used_again.Goals as goal
 
 pub returns-clause-unused : goal.returns-clause-unused
@@ -11,4 +11,4 @@ pub returns-clause-earlier : goal.returns-clause-earlier
 returns-clause-earlier c = earlier-kept
 
 pub returns-clause-left : goal.returns-clause-left
-returns-clause-left c = left-gone
+returns-clause-left c = removed-gone

@@ -1,5 +1,5 @@
 use Rattle.std.proofs.Common.{◌≡◌, ◌<◌, ◌+◌, ◌++◌, ◌∷◌, [], ◌∙◌, Some, min, length, length-append, subst, ap, arith}
-use Rattle.fy_cluster.specs.Course.{Course, history_of}
+use Rattle.fy_cluster.specs.Execution.{Execution, history_of}
 use Rattle.fy_cluster.specs.History.{history, records, keeper}
 use Rattle.fy_picture.specs.declared.TheConstants.{MOST_KEPT}
 use Rattle.fy_picture.proofs.Afters.{values_more}
@@ -10,11 +10,11 @@ loop-rec-init c = record { count = ap length c.new-keepers.ensures.items; each =
 
 pub loop-rec-preserved : goal.loop-rec-preserved
 loop-rec-preserved c =
-    let course = c.in_ok-cluster.field-0.cluster in
+    let execution = c.in_ok-cluster.field-0.cluster in
     let pushed : c.push.new.self.items ≡ c.loop-rec.keepers.items ++ c.keeper.result ∷ [] = c.in_ok-push.ensures.items in
     record {
       count = ap length pushed ∙ length-append c.loop-rec.keepers.items (c.keeper.result ∷ []) ∙ ap (λ n. n + 1) c.loop-rec.invariant.count;
-      each = values_more (λ r. keeper course.setup (history_of course) r) c.loop-rec.keepers.items c.push.new.self.items c.loop-rec.rec
+      each = values_more (λ r. keeper execution.setup (history_of execution) r) c.loop-rec.keepers.items c.push.new.self.items c.loop-rec.rec
           c.loop-rec.invariant.count c.loop-rec.invariant.each
           (pushed ∙ ap (λ x. c.loop-rec.keepers.items ++ x ∷ []) c.keeper.ensures.keeper);
     }
@@ -30,7 +30,7 @@ returns c =
             count = c.loop-rec.invariant.count ∙ at_end ∙ size;
             each = λ r l.
                 c.loop-rec.invariant.each r (subst (λ n. r < n) c.loop-rec.invariant.count l)
-                ∙ ap (λ (x : Course). Some (keeper x.setup (history_of x) r)) (c.in_ok-cluster.ensures.cluster legal);
+                ∙ ap (λ (x : Execution). Some (keeper x.setup (history_of x) r)) (c.in_ok-cluster.ensures.cluster legal);
           };
       acked = λ legal. record {
         count = c.in_ok-cluster.ensures.count ∙ size;

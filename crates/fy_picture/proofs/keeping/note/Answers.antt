@@ -1,5 +1,5 @@
 use Rattle.std.proofs.Common.{◌≡◌, ◌+◌, ◌<◌, ◌&&◌, ◌∙◌, length, option_map, slice_get, set, sym, subst, ap, arith}
-use Rattle.fy_cluster.specs.Course.{history_of}
+use Rattle.fy_cluster.specs.Execution.{history_of}
 use Rattle.fy_cluster.specs.History.{acked}
 use Rattle.fy_picture.specs.Keeping.{noted}
 use Rattle.fy_picture.proofs.Acking.{Notes, notes_more, notes_all}

@@ -1,4 +1,4 @@
-use Rattle.fy_cluster.specs.Course.{history_of}
+use Rattle.fy_cluster.specs.Execution.{history_of}
 use Rattle.fy_cluster.specs.History.{acked}
 use Rattle.fy_picture.specs.Keeping.{noted}
 use Rattle.fy_picture.proofs.Acking.{Notes}

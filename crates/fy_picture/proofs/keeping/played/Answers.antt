@@ -1,6 +1,6 @@
 use Rattle.std.proofs.Common.{◌≡◌, ◌∙◌, ℕ, refl, Option, Some, None, length, replicate, ap}
 use Rattle.std.proofs.lemmas.List.{length-replicate}
-use Rattle.fy_cluster.specs.Course.{opened}
+use Rattle.fy_cluster.specs.Execution.{opened}
 use Rattle.fy_picture.proofs.Playing.{plays_on, none_noted}
 use Rattle.fy_picture.proofs.keeping.played.Goals as goal
 

@@ -2,7 +2,7 @@ use Rattle.std.proofs.Common.{◌≡◌, ◌≤◌, ◌<◌, ◌*◌, ◌+◌, �
 use Rattle.std.proofs.lemmas.List.{take_min, drop_min}
 use Rattle.fy_cluster.specs.Setup.{Setup}
 use Rattle.fy_cluster.specs.History.{history, after}
-use Rattle.fy_picture.specs.Lives.{Lives}
+use Rattle.fy_picture.specs.IsLife.{IsLife}
 use Rattle.fy_picture.specs.States.{state_of}
 use Rattle.fy_picture.proofs.Afters.{after_column, drop_column, values_more}
 use Rattle.fy_picture.proofs.picture.row_of.Goals as goal
@@ -10,7 +10,7 @@ use Rattle.fy_picture.proofs.picture.row_of.Goals as goal
 pub loop-init : goal.loop-init
 loop-init c = record {
   rest_is = ap (λ n. drop n c.args.entries.now) (sym (zero-mul c.args.width));
-  lives = λ s e. subst (λ n. Lives (history s (take n c.args.entries.now)) c.args.p.0 c.begin-life.result) (sym (zero-mul c.args.width)) (c.begin-life.ensures.lives c.args.p.0);
+  lives = λ s e. subst (λ n. IsLife (history s (take n c.args.entries.now)) c.args.p.0 c.begin-life.result) (sym (zero-mul c.args.width)) (c.begin-life.ensures.lives c.args.p.0);
   clock = omega arith;
   count = ap length c.new-states.ensures.items;
   each = λ s e k l. absurd (omega arith);
@@ -31,8 +31,8 @@ loop-preserved c =
     c.split_at.ensures.front ∙ ap (λ n. take n c.loop.rest.now) c.min.ensures ∙ take_min w c.loop.rest.now ∙ ap (λ r. take w r) c.loop.invariant.rest_is in
     let back : c.split_at.result.1.now ≡ drop w (drop (i * w) xs) =
     c.split_at.ensures.back ∙ ap (λ n. drop n c.loop.rest.now) c.min.ensures ∙ drop_min w c.loop.rest.now ∙ ap (λ r. drop w r) c.loop.invariant.rest_is in
-    let next : (s : Setup) → s.processes ≡ c.args.map.now → Lives (history s (take ((i + 1) * w) xs)) c.args.p.0 c.after_all-life.result =
-    λ s e. subst (λ h. Lives h c.args.p.0 c.after_all-life.result)
+    let next : (s : Setup) → s.processes ≡ c.args.map.now → IsLife (history s (take ((i + 1) * w) xs)) c.args.p.0 c.after_all-life.result =
+    λ s e. subst (λ h. IsLife h c.args.p.0 c.after_all-life.result)
     (ap (λ f. after s (history s (take (i * w) xs)) f) front ∙ sym (after_column s xs i w))
     (c.after_all-life.ensures.lives s (history s (take (i * w) xs)) e (c.loop.invariant.lives s e)) in
     let pushed : c.push.new.self.items ≡ c.loop.states.items ++ c.state.result ∷ [] = c.in_ok-push.ensures.items in

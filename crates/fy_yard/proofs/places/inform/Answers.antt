@@ -1,5 +1,5 @@
 use Rattle.std.proofs.Common.{rules, ap}
-use Rattle.fy_yard.specs.Turns.{Sat}
+use Rattle.fy_yard.specs.Turnstile.{SeatView}
 use Rattle.fy_yard.proofs.Moves.{notes, tells, meets}
 use Rattle.fy_yard.proofs.places.inform.Goals as goal
 
@@ -14,8 +14,8 @@ join_seat-requires c =
       search rules,
       search rules,
       tells _ c.args.place.now.me.0 _ c.split_seat-note.result.me.0
-          (ap (λ (m : Sat). m.0.waits) n) (ap (λ (m : Sat). m.0.parts) n)
-          (ap (λ (m : Sat). m.0.holds) n),
+          (ap (λ (m : SeatView). m.0.waits) n) (ap (λ (m : SeatView). m.0.parts) n)
+          (ap (λ (m : SeatView). m.0.holds) n),
     )
 
 pub load-requires : goal.load-requires

@@ -1,5 +1,5 @@
 use Rattle.std.proofs.Common.{rules, ◌≡◌, ◌∙◌, ◌++◌, ◌∷◌, [], ◌+◌, ◌-◌, suc, ℕ, sym, ap, arith, Some}
-use Rattle.fy_yard.specs.Turns.{Sat}
+use Rattle.fy_yard.specs.Turnstile.{SeatView}
 use Rattle.fy_yard.specs.Yard.{Yard, new_seat, new_seats}
 use Rattle.fy_yard.proofs.Closing.{new_seats_more}
 use Rattle.fy_yard.proofs.yard.seat_all.Goals as goal
@@ -7,15 +7,15 @@ use Rattle.fy_yard.proofs.yard.seat_all.Goals as goal
 pub loop-actor-preserved : goal.loop-actor-preserved
 loop-actor-preserved c =
     let i = c.loop-actor.invariant in
-    let new = c.another-next.ensures.new in
+    let new = c.make_next_place-next.ensures.new in
     let a : ℕ = c.loop-actor.actor in
     let y : Yard = c.args.shared.now in
     let id = new.0 ∙ i.0 in
     let setup =
-    ap (λ (m : Sat). m.0.setup) new.1 ∙ ap (λ (m : Sat). m.0.setup) i.1 in
-    let seen = ap (λ (m : Sat). m.0.seen) new.1 in
-    let same : c.sit.result ≡ new_seat y a =
-    c.sit.ensures
+    ap (λ (m : SeatView). m.0.setup) new.1 ∙ ap (λ (m : SeatView). m.0.setup) i.1 in
+    let seen = ap (λ (m : SeatView). m.0.seen) new.1 in
+    let same : c.seat_at.result ≡ new_seat y a =
+    c.seat_at.ensures
     ∙ (λ k. record {
       of = Some (record { id = id k; setup = setup k });
       actor = a;

@@ -1,7 +1,7 @@
 use Rattle.std.proofs.Common.{◌≡◌, [], ◌+◌, ◌-◌, ◌≤◌, ◌<◌}
 use Rattle.std.specs.Vec.{vec_len, vec_capacity}
 use Rattle.fy_yard.specs.Yard.{new_seats}
-use Rattle.fy_yard.specs.Turns.{newcomer}
+use Rattle.fy_yard.specs.Turnstile.{first_view}
 use Rattle.fy_yard.proofs.yard.seat_all.Given as goal
 
 abbrev pub invariant-loop-actor : goal.invariant-loop-actor
@@ -9,7 +9,7 @@ invariant-loop-actor l =
     (l.place.table_id ≡ l.fn.shared.id)
     × (l.place.me
     ≡ (
-      record (newcomer l.fn.shared.setup) {
+      record (first_view l.fn.shared.setup) {
         parts = l.actors + 1 - l.actor;
         made = l.actor;
       },

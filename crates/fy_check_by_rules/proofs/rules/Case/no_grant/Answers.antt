@@ -9,12 +9,12 @@ use Rattle.fy_grants.specs.declared.grant.Grant.{Grant}
 use Rattle.fy_grants.specs.Least.{least_with}
 use Rattle.fy_grants.specs.Rights.{is_covered}
 use Rattle.fy_check_by_rules.specs.Deeds.{deed_of}
-use Rattle.fy_check_by_rules.specs.declared.asked.Asked.{Asked}
+use Rattle.fy_check_by_rules.specs.declared.asked.AskedDeed.{AskedDeed}
 use Rattle.fy_check_by_rules.proofs.Ruling.{of_least, of_none}
 use Rattle.fy_check_by_rules.proofs.rules.Case.no_grant.Goals as goal
 
 -- the least that some grants don't cover
-abbrev uncovered : sets.FinSet nat_cmp → Asked → List Locality → List Grant → Option ℕ
+abbrev uncovered : sets.FinSet nat_cmp → AskedDeed → List Locality → List Grant → Option ℕ
 uncovered targets asked ps own = least_with (length ps) (sets.contains targets) (λ p. not (is_covered ps own (only (deed_of asked)) p))
 
 pub returns-in-Some : goal.returns-in-Some

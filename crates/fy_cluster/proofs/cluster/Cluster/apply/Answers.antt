@@ -1,13 +1,13 @@
 use Rattle.std.proofs.Common.{◌∙◌, ◌<◌, length, sym, subst}
-use Rattle.fy_cluster.specs.Course.{Course}
-use Rattle.fy_cluster.specs.Standing.{IsKept}
+use Rattle.fy_cluster.specs.Execution.{Execution}
+use Rattle.fy_cluster.specs.Standing.{RefinesJournal}
 use Rattle.fy_cluster.proofs.Entering.{kept_after_act, not_full}
 use Rattle.fy_cluster.proofs.cluster.Cluster.apply.Goals as goal
 
 pub invariant_of-self : goal.invariant_of-self
 invariant_of-self c = record {
   kept =
-      kept_after_act c.self.inside.config c.self.inside.journal.entries c.enter.new.journal.entries c.args.by c.args.act c.enter.result c.enter.new.self c.self.inside.machine c.self.invariant.kept (subst (λ (course : Course). length course.journal < course.setup.limit) (sym c.self.view_is) (not_full c.args.self.now c.if-is_full.ensures)) c.enter.ensures.answered
+      kept_after_act c.self.inside.config c.self.inside.journal.entries c.enter.new.journal.entries c.args.by c.args.act c.enter.result c.enter.new.self c.self.inside.machine c.self.invariant.kept (subst (λ (execution : Execution). length execution.journal < execution.setup.limit) (sym c.self.view_is) (not_full c.args.self.now c.if-is_full.ensures)) c.enter.ensures.answered
       c.enter.ensures.entered
       c.enter.ensures.err;
   second = c.enter.ensures.version ∙ c.self.invariant.second;
@@ -15,8 +15,8 @@ invariant_of-self c = record {
 
 pub returns-clause-survives : goal.returns-clause-survives
 returns-clause-survives c =
-    let kept : IsKept c.self.inside.config c.enter.new.journal.entries c.enter.new.self =
-    kept_after_act c.self.inside.config c.self.inside.journal.entries c.enter.new.journal.entries c.args.by c.args.act c.enter.result c.enter.new.self c.self.inside.machine c.self.invariant.kept (subst (λ (course : Course). length course.journal < course.setup.limit) (sym c.self.view_is) (not_full c.args.self.now c.if-is_full.ensures)) c.enter.ensures.answered
+    let kept : RefinesJournal c.self.inside.config c.enter.new.journal.entries c.enter.new.self =
+    kept_after_act c.self.inside.config c.self.inside.journal.entries c.enter.new.journal.entries c.args.by c.args.act c.enter.result c.enter.new.self c.self.inside.machine c.self.invariant.kept (subst (λ (execution : Execution). length execution.journal < execution.setup.limit) (sym c.self.view_is) (not_full c.args.self.now c.if-is_full.ensures)) c.enter.ensures.answered
     c.enter.ensures.entered
     c.enter.ensures.err in
     c.journals_survive.ensures c.self.inside.config c.enter.new.journal.entries kept.setup.met kept.legal

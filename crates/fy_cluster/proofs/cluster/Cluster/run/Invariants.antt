@@ -1,6 +1,6 @@
 use Rattle.std.proofs.Common.{◌≡◌, take}
 use Rattle.fy_cluster.specs.Survival.{Survives}
-use Rattle.fy_cluster.specs.Course.{after_acts}
+use Rattle.fy_cluster.specs.Execution.{after_acts}
 use Rattle.fy_cluster.proofs.cluster.Cluster.run.Given as goal
 
 abbrev pub invariant-loop-by : goal.invariant-loop-by

@@ -2,7 +2,7 @@ use Rattle.std.proofs.Common.{subst, sym, ◌∙◌}
 use Rattle.std.specs.List.{AllByRecursion}
 use Rattle.fy_policy.specs.Tree.{IsPolicy}
 use Rattle.fy_policy.specs.Sat.{Sat}
-use Rattle.fy_decide.specs.Losses.{everyone}
+use Rattle.fy_decide.specs.Safety.{everyone}
 use Rattle.fy_cluster.specs.Setup.{setup_of, is_in_range}
 use Rattle.fy_cluster.proofs.config.Config.make.Goals as goal
 

@@ -53,7 +53,7 @@ returns-in-Err g c =
       awake = up_tells g.point _ c.requires.0 c.args.from.0 there.0 true c.contains-2.result c.contains-2.ensures c.if-not-contains-2.false;
       holds = sym (has_is g.point.setup g.point.before c.args.self.now c.requires.0 c.args.rec c.args.from.0 there.0) ∙ sym c.has_synced.ensures ∙ c.if-not-has_synced.false;
     } in
-    rw c.no_room.ensures
+    rw c.reply_to_net_fault.ensures
     (no_room_left g.point (CopyTo c.args.from c.args.rec c.args.to) 1 c.args.self.now c.reserve.new.self c.in-Err.fault c.requires.0
     (copy_full g.point c.args.rec c.args.from c.args.to may)
     (told _ NoMemory (Err c.in-Err.fault) c.in-Err.ensures.refused c.in-Err.ensures.memory)

@@ -21,7 +21,7 @@ returns-in-Ok g c =
 pub returns-in-Err : goal.returns-in-Err
 returns-in-Err g c =
     let same = c.requires.1 in
-    rw c.replied_to.ensures
+    rw c.reply_to_fault.ensures
     (form_err g.point c.args.members c.args.policy c.args.self.now c.difference-gone.result c.form.new.self c.map-2.result.now c.policies.result.now c.in-Err.fault c.requires.0
     (c.map-2.ensures ∙ ap (λ (s : Setup). s.processes) same)
     (c.policies.ensures ∙ ap (λ (s : Setup). s.policies) same)

@@ -12,7 +12,7 @@ returns-in-Ok g c =
 
 pub returns-in-Err : goal.returns-in-Err
 returns-in-Err g c =
-    rw c.replied_to.ensures
+    rw c.reply_to_fault.ensures
     (give_err g.point c.args.grant c.args.self.now c.give.new.self c.in-Err.fault c.requires
     (told _ NoMemory (Err c.in-Err.fault) c.in-Err.ensures.refused c.in-Err.ensures.memory)
     c.in-Err.ensures.err)

@@ -2,8 +2,8 @@ use Rattle.std.proofs.Common.{◌∙◌, ◌<◌, ap, refl, sym, subst}
 use Rattle.std.specs.FinSet as sets
 use Rattle.fy_decide.specs.Verdicts.{situation_of}
 use Rattle.fy_decide.specs.DeadBook.{MayLose}
-use Rattle.fy_disk.specs.Disk.{blank}
-use Rattle.fy_cluster.specs.Standing.{ChangesAt, targets_by, left_on}
+use Rattle.fy_disk.specs.Disk.{empty_disk}
+use Rattle.fy_cluster.specs.Standing.{ChangesAt, targets_by, disk_after_strike}
 use Rattle.fy_cluster.proofs.Judged.{targets_below, spares, strikes_now, chosen}
 use Rattle.fy_cluster.proofs.machine.Machine.kill.Goals as goal
 
@@ -15,8 +15,8 @@ strike_disks-requires g c p member =
     subst (λ n. p < n) (sym c.requires.0.disks.count)
     (targets_below c.requires.0 c.args.order.now.target c.targets-targets.result (λ q. c.targets-targets.ensures q ∙ ap (λ t. targets_by c.args.self.now t q) c.target.ensures) p member)
 
-pub bury-requires : goal.bury-requires
-bury-requires g c loss brings =
+pub record_losses-requires : goal.record_losses-requires
+record_losses-requires g c loss brings =
     let dead = c.args.self.now.dead in
     subst (λ s. MayLose dead s loss)
     (λ i p. sym (c.targets-targets.ensures p ∙ ap (λ t. targets_by c.args.self.now t p) c.target.ensures) i)
@@ -26,9 +26,9 @@ pub returns : goal.returns
 returns g c =
     strikes_now c.args.order.now c.targets-targets.result _ c.requires.0 c.requires.1.1 c.judge_at-verdict.ensures c.in-Some.is
     (λ p. c.targets-targets.ensures p ∙ ap (λ t. targets_by c.args.self.now t p) c.target.ensures)
-    (subst (λ t. ChangesAt (sets.contains c.targets-targets.result) (left_on c.in-Some.kind t) blank c.args.self.now.disks c.strike_disks.new.disks) c.tear.ensures c.strike_disks.ensures)
+    (subst (λ t. ChangesAt (sets.contains c.targets-targets.result) (disk_after_strike c.in-Some.kind t) empty_disk c.args.self.now.disks c.strike_disks.new.disks) c.tear.ensures c.strike_disks.ensures)
     c.difference-self.ensures
-    c.bury.ensures
+    c.record_losses.ensures
     refl
     refl
     refl

@@ -29,7 +29,7 @@ reserve-requires g c = few_sent g.point.setup g.point.before c.args.self.now.net
 pub returns-in-Err : goal.returns-in-Err
 returns-in-Err g c =
     let is : IsOf g.point.before c.args.rec c.in-Some-members.members.now = is_of g.point.before c.args.self.now.teams c.requires.0.teams c.args.rec c.in-Some.team c.in-Some-members.members.now c.in-Some.ensures c.in-Some-members.ensures in
-    rw c.no_room.ensures
+    rw c.reply_to_net_fault.ensures
     (no_room_left g.point (Resend c.args.rec c.args.process) 1 c.args.self.now c.reserve.new.self c.in-Err.fault c.requires.0
     (resend_full g.point c.args.rec c.args.process c.in-Some-members.members.now is (sym c.if-not-has.ensures)
     (sym (c.requires.0.teams.acked c.args.rec) ∙ sym c.acked.ensures ∙ c.if-acked.false))

@@ -5,8 +5,8 @@ use Rattle.fy_cluster.proofs.machine.Machine.sight.Goals as goal
 
 pub returns : goal.returns
 returns c setup h stands =
-    sees setup h c.args.self.now c.behind.result.now c.intersection.result c.difference.result _ stands c.invariant.ensures c.now.ensures.time c.first_free.ensures.first
-    c.behind.ensures
+    sees setup h c.args.self.now c.with_unsynced.result.now c.intersection.result c.difference.result _ stands c.invariant.ensures c.now.ensures.time c.first_free.ensures.first
+    c.with_unsynced.ensures
     c.intersection.ensures
     c.least.ensures.some
     c.least.ensures.none

@@ -1,6 +1,6 @@
 use Rattle.std.proofs.Common.{◌∙◌, sym, refl, arith, get_or}
 use Rattle.std.proofs.lemmas.Option.{slice_get-get_or}
-use Rattle.fy_disk.specs.Disk.{blank}
+use Rattle.fy_disk.specs.Disk.{empty_disk}
 use Rattle.fy_cluster.proofs.Delivered.{is_held, is_down, payload_there, payload_is, stores, may_be_taken}
 use Rattle.fy_cluster.proofs.machine.Machine.store.Goals as goal
 
@@ -21,11 +21,11 @@ take_out-requires g c = may_be_taken c.args.self.now.net c.args.message _ c.requ
 
 pub returns : goal.returns
 returns g c =
-    stores g.point c.args.message c.args.rec c.args.to c.args.self.now (get_or c.args.self.now.disks c.args.to.0 blank) c.in_ok-payload.payload _ c.requires.0 c.requires.1.1.0 c.requires.1.1.1
+    stores g.point c.args.message c.args.rec c.args.to c.args.self.now (get_or c.args.self.now.disks c.args.to.0 empty_disk) c.in_ok-payload.payload _ c.requires.0 c.requires.1.1.0 c.requires.1.1.1
     (sym c.if-clogged.ensures)
     (sym c.if-not-contains.ensures)
     (c.in_ok-payload.ensures ∙ payload_is g.point.before c.args.self.now.teams c.requires.0.teams c.args.rec c.in-Some.payload.now c.in-Some.ensures)
-    (slice_get-get_or c.args.self.now.disks c.args.to.0 blank (let a = c.requires.0.net.count in let b = c.requires.0.disks.count in let l = c.requires.1.1.1 in omega arith))
+    (slice_get-get_or c.args.self.now.disks c.args.to.0 empty_disk (let a = c.requires.0.net.count in let b = c.requires.0.disks.count in let l = c.requires.1.1.1 in omega arith))
     refl
     refl
     refl

@@ -11,7 +11,7 @@ returns-in-Ok g c =
 
 pub returns-in-Err : goal.returns-in-Err
 returns-in-Err g c =
-    rw c.replied_to.ensures
+    rw c.reply_to_fault.ensures
     (take_err g.point c.args.actor c.args.index c.args.self.now c.take.new.self c.in-Err.fault c.requires
     (told_all _ (Err c.in-Err.fault) c.in-Err.ensures.refused c.in-Err.ensures.accepted)
     c.in-Err.ensures.err)

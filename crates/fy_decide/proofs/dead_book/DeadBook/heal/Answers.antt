@@ -1,6 +1,6 @@
 use Rattle.std.proofs.Common.{map, subst, sym, ap, ◌∙◌}
 use Rattle.std.specs.FinSet as sets
-use Rattle.fy_decide.specs.DeadBook.{Casualties, IsSafe}
+use Rattle.fy_decide.specs.DeadBook.{Losses, IsSafe}
 use Rattle.fy_decide.specs.Tallies.{tallied, without_all}
 use Rattle.fy_decide.proofs.Deciding.{IsSafe-healed}
 use Rattle.fy_decide.proofs.Tallying.{written-back, tallied-without, without-one}
@@ -8,7 +8,7 @@ use Rattle.fy_decide.proofs.dead_book.DeadBook.heal.Goals as goal
 
 pub invariant_of-self : goal.invariant_of-self
 invariant_of-self c =
-    let inside : Casualties = record { processes = c.self.inside.map.value; policies = c.self.inside.policies.items; destroyed = c.self.inside.destroyed; left = c.self.inside.left } in
+    let inside : Losses = record { processes = c.self.inside.map.value; policies = c.self.inside.policies.items; destroyed = c.self.inside.destroyed; left = c.self.inside.left } in
     record {
       safe = subst (λ d. IsSafe (record inside { destroyed = d })) (sym c.drop_one.ensures) (IsSafe-healed c.more_satisfies.ensures inside c.args.p.0 c.self.invariant.safe);
       destroyed_agree =

@@ -1,7 +1,7 @@
 use Rattle.std.proofs.Common.{map, subst, sym, ap, ◌∙◌}
 use Rattle.std.specs.FinSet as sets
-use Rattle.fy_decide.specs.Losses.{MayDestroy}
-use Rattle.fy_decide.specs.DeadBook.{Casualties, IsSafe}
+use Rattle.fy_decide.specs.Safety.{MayDestroy}
+use Rattle.fy_decide.specs.DeadBook.{Losses, IsSafe}
 use Rattle.fy_decide.specs.Tallies.{tallied, with_all, without_all}
 use Rattle.fy_decide.proofs.Deciding.{IsSafe-emptied, IsSafe-gone}
 use Rattle.fy_decide.proofs.Tallying.{written-back, tallied-with, tallied-without}
@@ -9,7 +9,7 @@ use Rattle.fy_decide.proofs.dead_book.DeadBook.strike.Goals as goal
 
 pub invariant_of-self : goal.invariant_of-self
 invariant_of-self c =
-    let inside : Casualties = record { processes = c.self.inside.map.value; policies = c.self.inside.policies.items; destroyed = c.self.inside.destroyed; left = c.self.inside.left } in
+    let inside : Losses = record { processes = c.self.inside.map.value; policies = c.self.inside.policies.items; destroyed = c.self.inside.destroyed; left = c.self.inside.left } in
     record {
       safe =
           subst (λ d. IsSafe (record inside { destroyed = d })) (sym c.union-self-inside.ensures)
@@ -25,7 +25,7 @@ invariant_of-self c =
 
 pub invariant_of-self-in-Gone : goal.invariant_of-self-in-Gone
 invariant_of-self-in-Gone c =
-    let inside : Casualties = record { processes = c.self.inside.map.value; policies = c.self.inside.policies.items; destroyed = c.self.inside.destroyed; left = c.self.inside.left } in
+    let inside : Losses = record { processes = c.self.inside.map.value; policies = c.self.inside.policies.items; destroyed = c.self.inside.destroyed; left = c.self.inside.left } in
     record {
       safe =
           subst (λ d. IsSafe (record inside { destroyed = d; left = c.difference-self-inside.result })) (sym c.union-self-inside.ensures)

@@ -2,7 +2,7 @@ use Rattle.std.proofs.Common.{◌≡◌, ◌<◌, ◌-◌, [], length, ap, sym, 
 use Rattle.std.specs.Prelude.{remove, slice_set}
 use Rattle.std.proofs.lemmas.List.{get_or-set_same, length-set}
 use Rattle.fy_grants.specs.Rights.{without_grant}
-use Rattle.fy_grants.specs.Covers.{IsBook}
+use Rattle.fy_grants.specs.Covers.{IsGrantBook}
 use Rattle.fy_grants.proofs.Lists.{lists_of, own_items, within_lists, written, counted_some}
 use Rattle.fy_grants.proofs.Covered.{book_taken}
 use Rattle.fy_grants.proofs.book.Book.take.Goals as goal
@@ -25,7 +25,7 @@ invariant_of-self c =
     let after : lists_of (slice_set vecs c.args.actor c.remove.new.self) ≡ slice_set (lists_of vecs) c.args.actor (remove (get_or (lists_of vecs) c.args.actor []) c.args.index) = written vecs c.args.actor _ _ closed in
     let still : c.args.actor < length (slice_set vecs c.args.actor c.remove.new.self) = omega (arith, within, length-set vecs c.args.actor c.remove.new.self) in
     let others = c.deref.ensures.value ∙ own_items (slice_set vecs c.args.actor c.remove.new.self) c.args.actor _ still c.index-2.ensures ∙ ap (λ lists. get_or lists c.args.actor []) after ∙ get_or-set_same (lists_of vecs) c.args.actor _ [] (within_lists vecs _ within) in
-    subst (λ lists. IsBook c.self.inside.processes lists (c.self.inside.given - 1) (slice_set c.self.inside.covers.items c.args.actor c.of.result)) (sym after)
+    subst (λ lists. IsGrantBook c.self.inside.processes lists (c.self.inside.given - 1) (slice_set c.self.inside.covers.items c.args.actor c.of.result)) (sym after)
     (book_taken c.self.inside.processes (lists_of vecs) c.self.inside.given c.self.inside.covers.items c.args.actor c.args.index _ c.of.result c.self.invariant (within_lists vecs _ within) some others c.of.ensures)
 
 pub returns-clause-taken : goal.returns-clause-taken

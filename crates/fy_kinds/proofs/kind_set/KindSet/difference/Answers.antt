@@ -1,5 +1,5 @@
 use Rattle.std.proofs.Common.{◌<◌, ◌∙◌, ap, sym, subst}
-use Rattle.fy_kinds.specs.Kinds.{set_of_bits, without_all}
+use Rattle.fy_kinds.specs.Kinds.{set_of_bits, in_first_alone}
 use Rattle.fy_kinds.proofs.MemberBits.{without_is, and_small}
 use Rattle.fy_kinds.proofs.kind_set.KindSet.difference.Goals as goal
 
@@ -7,4 +7,4 @@ pub invariant_of-result : goal.invariant_of-result
 invariant_of-result c = subst (λ n. n < 32) (sym (c.difference.ensures tt)) (and_small _ _ c.self.invariant)
 
 pub returns : goal.returns
-returns c = ap set_of_bits (c.difference.ensures tt) ∙ without_is c.self.inside.bits.0 c.other.inside.bits.0 c.other.invariant ∙ (λ i. without_all (c.self.view_is i) (c.other.view_is i))
+returns c = ap set_of_bits (c.difference.ensures tt) ∙ without_is c.self.inside.bits.0 c.other.inside.bits.0 c.other.invariant ∙ (λ i. in_first_alone (c.self.view_is i) (c.other.view_is i))

@@ -1,6 +1,6 @@
 use Rattle.std.proofs.Common.{subst}
 use Rattle.fy_locality.specs.Locality.{NamesDiffer}
-use Rattle.fy_locality.proofs.Places.{names_differ}
+use Rattle.fy_locality.proofs.ValueIndexes.{names_differ}
 use Rattle.fy_locality.proofs.map.Map.names_differ.Goals as goal
 
 pub returns : goal.returns

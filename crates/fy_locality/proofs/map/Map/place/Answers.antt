@@ -1,5 +1,5 @@
 use Rattle.std.proofs.Common.{sym}
-use Rattle.fy_locality.proofs.Places.{stands_here}
+use Rattle.fy_locality.proofs.ValueIndexes.{stands_here}
 use Rattle.fy_locality.proofs.map.Map.place.Goals as goal
 
 pub returns-in-Process : goal.returns-in-Process

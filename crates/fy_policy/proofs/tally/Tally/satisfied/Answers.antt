@@ -7,7 +7,7 @@ use Rattle.fy_policy.proofs.tally.Tally.satisfied.Goals as goal
 
 pub returns : goal.returns
 returns c =
-    subst (λ t. c.met.result ≡ satisfies t.processes t.policy (sets.contains t.set)) c.self.view_is
-    (c.met.ensures c.self.inside.map.value (λ _. 0) (sets.contains c.self.inside.set) c.self.invariant.right (omega arith)
+    subst (λ t. c.is_satisfied_at.result ≡ satisfies t.processes t.policy (sets.contains t.set)) c.self.view_is
+    (c.is_satisfied_at.ensures c.self.inside.map.value (λ _. 0) (sets.contains c.self.inside.set) c.self.invariant.right (omega arith)
     ∙ c.self.invariant.same (within c.self.inside.map.value (λ _. 0) 0 (sets.contains c.self.inside.set))
     ∙ root-same c.self.inside.map.value c.self.inside.policy (sets.contains c.self.inside.set))

@@ -2,11 +2,11 @@ use Rattle.std.proofs.Common.{◌≡◌, ◌++◌, drop, take}
 use Rattle.std.specs.List.{AllByRecursion}
 use Rattle.hex.specs.Hex.{encode_lower}
 use Rattle.fy_spelling.specs.Fits.{IsByte}
-use Rattle.fy_spelling.specs.Puts.{StandsAtFront}
+use Rattle.fy_spelling.specs.AppendsOrOom.{IsPrefixOf}
 use Rattle.fy_spelling.proofs.writing.acts.put_bytes.Given as goal
 
 abbrev pub invariant-loop-byte : goal.invariant-loop-byte
 invariant-loop-byte l =
-    StandsAtFront l.fn.out.items l.out.items
+    IsPrefixOf l.fn.out.items l.out.items
     × (l.out.items ++ encode_lower (drop l.byte-index l.bytes) ≡ l.fn.out.items ++ encode_lower l.bytes)
     × AllByRecursion IsByte (take l.byte-index l.bytes)

@@ -3,7 +3,7 @@ use Rattle.std.specs.List.{AllPairs}
 use Rattle.fy_locality.specs.declared.ProcId.{ProcId}
 use mir.Val.{bool_byte}
 use Rattle.std.specs.FinSet as sets
-use Rattle.fy_team.specs.Teams.{Record, is_among, unless_acked}
+use Rattle.fy_team.specs.Teams.{Record, is_among, healed_record}
 use Rattle.fy_team.specs.Counts.{Counted, CountsMissing, missing_among}
 use Rattle.fy_team.proofs.Counting.{flag_number, one_more, missing_few, remove_absent}
 use Rattle.fy_team.proofs.record.KeptRecord.heal.Goals as goal
@@ -17,11 +17,11 @@ returns-else-not-self-clause-held c =
     let inside = c.self.inside in
     let it : Record = record { team = inside.team; payload = inside.payload; marks = inside.marks; acked = inside.acked } in
     let without : Record = record it { marks = sets.remove it.marks c.args.p.0 } in
-    let same : it ≡ unless_acked c.args.p.0 it = elim c.else-not-self.branch [
+    let same : it ≡ healed_record c.args.p.0 it = elim c.else-not-self.branch [
       | else-not-self-via-then-not-self+else-contains w ↦ ap (λ marks. record it { marks = marks }) (remove_absent inside.marks c.args.p.0 (sym w.contains.ensures ∙ w.if-contains.false)) ∙ sym (ap (λ b. cond b it without) w.if-not-self.true)
       | else-not-self-via-else-not-self w ↦ sym (ap (λ b. cond b it without) w.if-not-self.false)
     ] in
-    subst (λ (kept : Counted). kept.held ≡ unless_acked c.args.p.0 kept.held) c.self.view_is same
+    subst (λ (kept : Counted). kept.held ≡ healed_record c.args.p.0 kept.held) c.self.view_is same
 
 -- what is missing once a mark is taken off
 parts : (members : List ProcId) (was kept : Counted) (p more : ℕ) (member : Bool) → AllPairs (λ p q. p.0 < q.0) members → CountsMissing members was → kept ≡ was → kept.held.acked ≡ false

@@ -1,10 +1,10 @@
 use Rattle.std.proofs.Common.{◌≡◌, ◌<◌, length, sym, subst, ◌∙◌, arith}
 use Rattle.std.specs.Prelude.{None, slice_get}
 use Rattle.fy_team.specs.Teams.{Roster, Team, AreMembers, AreFormed, unfit}
-use Rattle.fy_team.specs.Counts.{AreKept}
+use Rattle.fy_team.specs.Counts.{TeamsInvariant}
 use Rattle.fy_team.specs.declared.limits.TheConstants.{MOST_TEAMS}
 use Rattle.fy_team.proofs.Rising.{AreFormed-push}
-use Rattle.fy_team.proofs.Keeping.{AreKept-formed}
+use Rattle.fy_team.proofs.Keeping.{TeamsInvariant-formed}
 use Rattle.fy_team.proofs.teams.Teams.form.Goals as goal
 
 pub returns-clause-satisfied : goal.returns-clause-satisfied
@@ -24,5 +24,5 @@ pub invariant_of-self-2 : goal.invariant_of-self-2
 invariant_of-self-2 c =
     let team : Team = record { members = c.args.members; policy = c.args.policy } in
     let few : length c.self.inside.teams.items < MOST_TEAMS = omega (arith, c.self.inside.teams.ok.0) in
-    subst (λ teams. AreKept teams c.self.inside.records.items) (sym c.in_ok-push.ensures.items)
-    (AreKept-formed c.self.inside.teams.items c.self.inside.records.items team (subst AreMembers c.members.view_is c.members.invariant) few c.self.invariant)
+    subst (λ teams. TeamsInvariant teams c.self.inside.records.items) (sym c.in_ok-push.ensures.items)
+    (TeamsInvariant-formed c.self.inside.teams.items c.self.inside.records.items team (subst AreMembers c.members.view_is c.members.invariant) few c.self.invariant)

@@ -2,7 +2,7 @@ use Rattle.std.proofs.Common.{◌≡◌, ◌<◌, ◌||◌, length, ap, sym, sub
 use Rattle.std.specs.FinSet as sets
 use Rattle.fy_team.specs.Teams.{Team, Record, all_marked, marked_by}
 use Rattle.fy_team.specs.Counts.{Counted, CountsMissing}
-use Rattle.fy_team.proofs.Keeping.{within_kept, team_read, counted_at, counted_for, AreKept-set, marked_kept, acked_kept}
+use Rattle.fy_team.proofs.Keeping.{within_kept, team_read, counted_at, counted_for, TeamsInvariant-set, marked_kept, acked_kept}
 use Rattle.fy_team.proofs.teams.Teams.mark.Goals as goal
 
 pub index-team-requires : goal.index-team-requires
@@ -26,7 +26,7 @@ invariant_of-self c =
     let lt : c.team.result < length inside.teams.items = team_read inside.teams.items inside.records.items c.args.rec c.team.result c.index_mut-record.result.now c.self.invariant within c.index_mut-record.ensures.value c.team.ensures in
     let same : c.mark.new.self.held.team ≡ c.index_mut-record.result.now.held.team = ap (λ (it : Record). it.team) c.mark.ensures.held in
     let payload : c.mark.new.self.held.payload ≡ c.index_mut-record.result.now.held.payload = ap (λ (it : Record). it.payload) c.mark.ensures.held in
-    AreKept-set inside.teams.items inside.records.items c.args.rec c.mark.new.self c.index_mut-record.result.now within
+    TeamsInvariant-set inside.teams.items inside.records.items c.args.rec c.mark.new.self c.index_mut-record.result.now within
     (same ∙ ap (λ (x : Counted). x.held.team) c.index_mut-record.ensures.value)
     (payload ∙ ap (λ (x : Counted). x.held.payload) c.index_mut-record.ensures.value)
     (counted_for inside.teams.items c.mark.new.self c.team.result c.index-team.result.now c.team-2.inside.members lt (c.team.ensures ∙ sym same) c.index-team.ensures (ap (λ (it : Team). it.members) c.team-2.view_is) c.mark.ensures.counted)

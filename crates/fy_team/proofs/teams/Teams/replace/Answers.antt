@@ -3,9 +3,9 @@ use Rattle.std.specs.Prelude.{Some, slice_get}
 use Rattle.std.proofs.lemmas.Option.{slice_get_within}
 use Rattle.fy_locality.specs.declared.ProcId.{ProcId}
 use Rattle.fy_team.specs.Teams.{Team, Roster, AreFormed, swapped, with_member, replaced}
-use Rattle.fy_team.specs.Counts.{AreKept, recounted, roster_of}
+use Rattle.fy_team.specs.Counts.{TeamsInvariant, recounted, roster_of}
 use Rattle.fy_team.proofs.Swapping.{AreFormed-replaced, replaced_there, read_there, team_there}
-use Rattle.fy_team.proofs.Keeping.{held, records_recounted, AreKept-replaced}
+use Rattle.fy_team.proofs.Keeping.{held, records_recounted, TeamsInvariant-replaced}
 use Rattle.fy_team.proofs.teams.Teams.replace.Goals as goal
 
 abbrev was : goal.After-recount → Team
@@ -33,9 +33,9 @@ counts c = c.recount.ensures ∙ ap (λ (members : List ProcId). map (recounted 
 
 pub invariant_of-self : goal.invariant_of-self
 invariant_of-self c =
-    subst (λ it. AreKept (set c.self.inside.teams.items c.args.team it) c.recount.new.records.items) (sym (becomes c))
-    (subst (AreKept (set c.self.inside.teams.items c.args.team (with_member c.args.out c.args.into (was c)))) (sym (counts c))
-    (AreKept-replaced c.self.inside.teams.items c.self.inside.records.items c.args.team c.args.out c.args.into (was c) (there c) c.requires.member c.self.invariant))
+    subst (λ it. TeamsInvariant (set c.self.inside.teams.items c.args.team it) c.recount.new.records.items) (sym (becomes c))
+    (subst (TeamsInvariant (set c.self.inside.teams.items c.args.team (with_member c.args.out c.args.into (was c)))) (sym (counts c))
+    (TeamsInvariant-replaced c.self.inside.teams.items c.self.inside.records.items c.args.team c.args.out c.args.into (was c) (there c) c.requires.member c.self.invariant))
 
 pub returns-clause-replaced : goal.returns-clause-replaced
 returns-clause-replaced c =

@@ -1,9 +1,9 @@
 use Rattle.std.proofs.Common.{rules, ◌≡◌, ◌∙◌, length, sym, ap, subst, refl, All, List}
 use Rattle.fy_acts.specs.declared.entry.Entry.{Entry}
-use Rattle.fy_cluster.specs.Course.{Course}
+use Rattle.fy_cluster.specs.Execution.{Execution}
 use Rattle.fy_cluster.specs.Replies.{Legal}
-use Rattle.fy_actors.specs.Desk.{Bench, entries_by, course_of}
-use Rattle.fy_yard.specs.Yard.{Sitting, IsOf, actor_count}
+use Rattle.fy_actors.specs.Desk.{DeskState, entries_by, execution_of}
+use Rattle.fy_yard.specs.Yard.{SeatState, IsJournalOf, actor_count}
 use Rattle.fy_yard.proofs.Closing.{missing, found}
 use Rattle.fy_yard.proofs.yard.Shared.close.Goals as goal
 
@@ -26,17 +26,17 @@ returns-clause-ok c =
     c.gather-place.ensures.gathered (search rules) c.close_with-closed.ensures.values.2
     c.take-desk.ensures.value in
     let same : c.in-Some.desk ≡ f.desk = search rules in
-    let course : c.into_cluster.result ≡ course_of f.desk =
-    c.into_cluster.ensures ∙ ap (λ (b : Bench). course_of b) same in
+    let execution : c.into_cluster.result ≡ execution_of f.desk =
+    c.into_cluster.ensures ∙ ap (λ (b : DeskState). execution_of b) same in
     let journal : c.into_cluster.result.journal ≡ (f.desk).journal =
-    ap (λ (r : Course). r.journal) course in
+    ap (λ (r : Execution). r.journal) execution in
     record {
-      setup = ap (λ (r : Course). r.setup) course ∙ f.setup;
+      setup = ap (λ (r : Execution). r.setup) execution ∙ f.setup;
       survives =
           c.journals_survive.ensures c.args.self.setup c.into_cluster.result.journal
           (search rules) (subst (Legal c.args.self.setup) (sym journal) f.legal);
       each =
-          subst (λ (l : List Entry). All (λ (s : Sitting). IsOf l s) c.args.seats.items)
+          subst (λ (l : List Entry). All (λ (s : SeatState). IsJournalOf l s) c.args.seats.items)
           (sym journal) f.each;
       whole = f.whole;
       count = f.count;

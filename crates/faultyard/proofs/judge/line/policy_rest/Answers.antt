@@ -1,5 +1,0 @@
-use Rattle.faultyard.proofs.WordLemmas.{ascii_is_text}
-use Rattle.faultyard.proofs.judge.line.policy_rest.Goals as goal
-
-pub unreachable-requires : goal.unreachable-requires
-unreachable-requires c = ascii_is_text _ c.if-not-is_policy_text.ensures c.in-Err.ensures.cases.0

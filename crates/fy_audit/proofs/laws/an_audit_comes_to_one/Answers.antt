@@ -1,5 +1,0 @@
-use Rattle.fy_audit.proofs.OneAudit.{answer_once}
-use Rattle.fy_audit.proofs.laws.an_audit_comes_to_one.Goals as goal
-
-pub returns : goal.returns
-returns c = answer_once c.a_text_is_of_one_entry.ensures c.a_text_is_a_line.ensures

@@ -1,0 +1,31 @@
+use Rattle.std.proofs.Common.{◌≡◌, ℕ, ◌<◌, ◌≤◌, Bool, true, ◌&&◌, not, length, slice_index_or}
+use Rattle.std.specs.FinSet as sets
+use Rattle.fy_policy.specs.Counted.{number_of}
+use Rattle.fy_policy.specs.Sat.{satisfies}
+use Rattle.fy_policy.specs.Shape.{tree_of}
+use Rattle.fy_policy.specs.Tree.{IsWellFormed}
+use Rattle.fy_policy.specs.declared.shape.Shape.{Shape}
+use Rattle.fy_bears.specs.Costs.{IsWithin}
+use Rattle.fy_bears.proofs.Lacking.{LackSoFar}
+use Rattle.fy_bears.proofs.Values.{present}
+use Rattle.fy_bears.proofs.fewest_to_break.+fewest_to_break.Given as goal
+
+abbrev pub decreases-fewest_to_break : goal.decreases-fewest_to_break
+decreases-fewest_to_break l = goal.size-fewest_to_break l
+
+abbrev pub invariant-loop-p : goal.invariant-loop-p
+invariant-loop-p l =
+    IsWellFormed (tree_of l.shape)
+    → (s : ℕ → Bool) (level : ℕ) → IsWithin s (sets.contains l.group)
+    → LackSoFar l.map l.key (tree_of l.inner.value) (sets.contains l.group) (sets.contains l.rest) l.counts.items s level
+
+abbrev pub decreases-loop-p : goal.decreases-loop-p
+decreases-loop-p l = present (sets.contains l.rest) 1024
+
+-- a set that lacks fewer satisfies the parts so far
+abbrev pub invariant-loop-part : goal.invariant-loop-part
+invariant-loop-part l =
+    IsWellFormed (tree_of l.shape)
+    → (s : ℕ → Bool) → IsWithin s (sets.contains l.group)
+    → number_of (λ p. sets.contains l.group p && not (s p)) (length l.map) < l.best.least
+    → (k : ℕ) (d : Shape) → k < l.part-index → satisfies l.map (tree_of (slice_index_or l.part-items k d)) s ≡ true

@@ -1,0 +1,92 @@
+//! How many processes it takes at least to satisfy a policy.
+ghost use Rattle.std.specs.Prelude.{◌≡◌, IfOk, List};
+ghost use Rattle.std.specs.FinSet as sets;
+ghost use Rattle.fy_locality.specs.declared.locality.Locality.{Locality};
+ghost use Rattle.fy_policy.specs.Shape.{tree_of};
+ghost use Rattle.fy_policy.specs.Tree.{IsWellFormed, one};
+ghost use Rattle.fy_bears.specs.Costs.{NeedsAtLeast};
+
+use crate::parts::{MORE_THAN_ALL, Part, least_of};
+use fy_locality::{Map, ProcSet};
+use fy_policy::{Shape, laws};
+use std::alloc::{AllocError, Global};
+
+/// How many processes of a group it takes at least to satisfy the policy, the free ones not
+/// counted, and such a set.
+///
+/// # Errors
+///
+/// Want of memory.
+pub(crate) fn fewest_to_satisfy(
+    alloc: Global,
+    shape: &Shape,
+    map: &Map,
+    group: &ProcSet,
+    free: &ProcSet,
+) -> Result<Part, AllocError>
+    ensures { IfOk result (λ part. IsWellFormed (tree_of shape.now)
+        → NeedsAtLeast map.now (tree_of shape.now) (sets.contains group.now) (sets.contains free.now)
+        part.least) }
+{
+    match shape {
+        Shape::One => Ok(one_needed(group, free)),
+        Shape::Across(wanted, key, inner) => {
+            laws::values_pass_apart();
+            laws::keyless_pass_nothing();
+            laws::nobody_passes();
+            let mut counts = Vec::new(alloc);
+            let mut sets = Vec::new(alloc);
+            let mut rest = *group;
+            while let Some(p) = rest.least() {
+                let Some(peers) = map.peers(p, *key) else {
+                    rest.drop_one(p);
+                    continue;
+                };
+                let members = rest.intersection(&peers);
+                rest = rest.difference(&members);
+                let part = fewest_to_satisfy(alloc, inner, map, &members, free)?;
+                counts.push(part.least)?;
+                sets.push(part.set)?;
+            }
+            Ok(least_of(&counts, &sets, *wanted as usize))
+        }
+        Shape::And(parts) => {
+            laws::and_is_each();
+            laws::parts_are_well_formed();
+            let mut least = 0;
+            let mut set = ProcSet::empty();
+            for part in parts {
+                let needed = fewest_to_satisfy(alloc, part, map, group, free)?;
+                least = needed.least.max(least);
+                set = set.union(&needed.set);
+            }
+            Ok(Part { least, set })
+        }
+    }
+}
+
+/// How many processes of a group it takes at least to have one, and such a set.
+fn one_needed(group: &ProcSet, free: &ProcSet) -> Part
+    ensures { (processes : List Locality)
+        → NeedsAtLeast processes one (sets.contains group.now) (sets.contains free.now) result.least }
+{
+    laws::test_is_satisfaction();
+    let both = group.intersection(free);
+    if !both.is_empty() {
+        return Part {
+            least: 0,
+            set: ProcSet::empty(),
+        };
+    }
+    match group.least() {
+        Some(p) => {
+            let mut set = ProcSet::empty();
+            set.put(p);
+            Part { least: 1, set }
+        }
+        None => Part {
+            least: MORE_THAN_ALL,
+            set: ProcSet::empty(),
+        },
+    }
+}

@@ -1,0 +1,8 @@
+//! The engine of `bears`: what a cluster bears, from its start or from the end of an audit on.
+#![tactic(auto)]
+
+mod bears;
+mod lost;
+
+pub use bears::{run_bears, run_bears_after};
+pub use lost::losses_after;

@@ -1,0 +1,32 @@
+use Rattle.std.specs.Io.KnownBytes.{Appends}
+use Rattle.fy_lines.specs.Prefixes.{AppendsProperPrefix}
+use Rattle.fy_check_audit.proofs.Checking.{legal_out, bad_out}
+use Rattle.fy_check_audit.proofs.check.write_finding.Goals as goal
+
+pub returns-in-None-clause-out : goal.returns-in-None-clause-out
+returns-in-None-clause-out g c = λ setup known found.
+    (legal_out setup known c.args.finding
+    (Appends (g.W.Write.contents c.args.writer.now) (g.W.Write.contents c.say.new.writer))
+    (AppendsProperPrefix (g.W.Write.contents c.args.writer.now) (g.W.Write.contents c.say.new.writer))
+    c.say.result found c.in-None.is c.say.ensures.said c.say.ensures.short).0
+
+pub returns-in-None-clause-front_out : goal.returns-in-None-clause-front_out
+returns-in-None-clause-front_out g c = λ setup known found.
+    (legal_out setup known c.args.finding
+    (Appends (g.W.Write.contents c.args.writer.now) (g.W.Write.contents c.say.new.writer))
+    (AppendsProperPrefix (g.W.Write.contents c.args.writer.now) (g.W.Write.contents c.say.new.writer))
+    c.say.result found c.in-None.is c.say.ensures.said c.say.ensures.short).1
+
+pub returns-in-Some-clause-out : goal.returns-in-Some-clause-out
+returns-in-Some-clause-out g c = λ setup known found.
+    (bad_out setup known c.args.finding c.in-Some.at
+    (Appends (g.W.Write.contents c.args.writer.now) (g.W.Write.contents c.say-in-Some.new.writer))
+    (AppendsProperPrefix (g.W.Write.contents c.args.writer.now) (g.W.Write.contents c.say-in-Some.new.writer))
+    c.say-in-Some.result found c.in-Some.is c.say-in-Some.ensures.said c.say-in-Some.ensures.short).0
+
+pub returns-in-Some-clause-front_out : goal.returns-in-Some-clause-front_out
+returns-in-Some-clause-front_out g c = λ setup known found.
+    (bad_out setup known c.args.finding c.in-Some.at
+    (Appends (g.W.Write.contents c.args.writer.now) (g.W.Write.contents c.say-in-Some.new.writer))
+    (AppendsProperPrefix (g.W.Write.contents c.args.writer.now) (g.W.Write.contents c.say-in-Some.new.writer))
+    c.say-in-Some.result found c.in-Some.is c.say-in-Some.ensures.said c.say-in-Some.ensures.short).1

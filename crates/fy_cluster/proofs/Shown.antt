@@ -1,0 +1,77 @@
+-- what a cluster shows of its processes is what the machine's parts say
+use Rattle.std.proofs.Common.{◌≡◌, ℕ, ◌<◌, ◌≤◌, Bool, true, false, ◌&&◌, not, Option, Some, None, refl, sym, ◌∙◌, ap, ap₂, arith, nat_lt, length, slice_get, slice_index, if◌then◌else◌}
+use Rattle.std.proofs.lemmas.Bool.Decides.{nat_tests}
+use Rattle.std.specs.FinSet as sets
+use Rattle.std.specs.Ordering.{nat_cmp}
+use Rattle.std.specs.Cmp.{nat_cmp_total}
+use Rattle.fy_kinds.specs.declared.verdict.Verdict.{Verdict as VerdictOf}
+use Rattle.fy_kinds.specs.Orders.{Order}
+use Rattle.fy_decide.specs.Verdicts.{situation_of, verdict}
+use Rattle.fy_net.specs.Net.{is_clogged}
+use Rattle.fy_acts.specs.declared.act.Act.TheVariants.{Kill}
+use Rattle.fy_acts.specs.declared.reply.Reply.TheVariants.{No, Verdict}
+use Rattle.fy_acts.specs.declared.reply.Refusal.TheVariants.{Stranger}
+use Rattle.fy_cluster.specs.declared.machine.Machine.{Machine}
+use Rattle.fy_cluster.specs.declared.role.Role.{Role}
+use Rattle.fy_cluster.specs.Setup.{Setup}
+use Rattle.fy_cluster.specs.History.{History, members_for, gone, up, now}
+use Rattle.fy_cluster.specs.Replies.{reply}
+use Rattle.fy_cluster.specs.Needs.{is_member_on, needed_on}
+use Rattle.fy_team.specs.Teams.{is_among}
+use Rattle.fy_cluster.specs.Sights.{status_at, needed_at, up_in}
+use Rattle.fy_cluster.specs.Standing.{Refines}
+use Rattle.fy_cluster.proofs.Entering.{stranger, may_reply}
+use Rattle.fy_cluster.proofs.Judged.{judged}
+use Rattle.fy_cluster.proofs.Needed.{needed_is, member_is}
+
+-- who is up, among those that are there
+pub up_is : (c : Setup) (h : History) (m : Machine) → Refines c h m → (everyone out : sets.FinSet nat_cmp) → ((q : ℕ) → sets.contains everyone q ≡ nat_lt q (length c.processes)) → out ≡ sets.intersection everyone m.up
+    → (p : ℕ) → sets.contains out p ≡ up_in c h p
+up_is c h m k everyone out all is p = ap (λ s. sets.contains s p) is ∙ sets.contains-intersection nat_cmp_total everyone m.up p ∙ ap (λ b. b && sets.contains m.up p) (all p) ∙ at (nat_lt p (length c.processes)) refl
+  where
+    at : (b : Bool) → nat_lt p (length c.processes) ≡ b → (b && sets.contains m.up p) ≡ (b && up h p)
+    at true e = let there : p < length c.processes = grind (arith, nat_tests) in k.up.each p there
+    at false e = refl
+
+not_left : (there gone : Bool) → there ≡ true → not (there && not gone) ≡ gone
+not_left true true e = refl
+not_left true false e = refl
+not_left false gone e = absurd (cc)
+
+-- what has become of a process that is there
+pub status_is : (c : Setup) (h : History) (m : Machine) → Refines c h m → (p : ℕ) → p < length m.net.until → (is_up is_held is_destroyed is_left : Bool) → is_up ≡ sets.contains m.up p → is_held ≡ is_clogged m.net p
+    → is_destroyed ≡ sets.contains m.dead.destroyed p → is_left ≡ sets.contains m.dead.left p
+    → record { up = is_up; clogged = is_held; destroyed = is_destroyed; gone = not is_left } ≡ status_at h p
+status_is c h m k p there is_up is_held is_destroyed is_left up_e held_e destroyed_e left_e = λ i. record {
+  up = (up_e ∙ k.up.each p within) i;
+  clogged = (held_e ∙ ap₂ nat_lt k.net.clock (k.net.ends p within)) i;
+  destroyed = (destroyed_e ∙ k.dead.destroyed p) i;
+  gone = (ap not (left_e ∙ k.dead.left p) ∙ not_left (nat_lt p (length c.processes)) (gone h p) below) i;
+}
+  where
+    within : p < length c.processes
+    within = let n = k.net.count in omega (arith, n, there)
+
+    below : nat_lt p (length c.processes) ≡ true
+    below = let l = within in grind (arith, nat_tests)
+
+-- the least record that a process which is there still needs
+pub needed_is_at : (c : Setup) (h : History) (m : Machine) → Refines c h m → (p : ℕ) → p < length c.processes → (found : Option ℕ) → found ≡ needed_on m p (is_member_on m p) → found ≡ needed_at h p
+needed_is_at c h m k p there found is = is ∙ needed_is c h m k p there (is_member_on m p) (λ r. is_among (members_for h r) p) (member_is h m k.teams p)
+
+-- the tests of a number that is that of a process
+pub where_there : {X : Type 0} (n p : ℕ) (x : X) → p < n → Some x ≡ (if nat_lt p n then Some x else None)
+where_there n p x l = let below : nat_lt p n ≡ true = grind (arith, nat_tests) in rw below refl
+
+pub option_where_there : {X : Type 0} (n p : ℕ) (x : Option X) → p < n → x ≡ (if nat_lt p n then x else None)
+option_where_there n p x l = let below : nat_lt p n ≡ true = grind (arith, nat_tests) in rw below refl
+
+pub where_none : {X : Type 0} (n p : ℕ) (x : Option X) → n ≤ p → None ≡ (if nat_lt p n then x else None)
+where_none n p x l = let past : nat_lt p n ≡ false = grind (arith, nat_tests) in rw past refl
+
+-- what a kill would be replied
+pub judged_now : (c : Setup) (h : History) (m : Machine) → Refines c h m → (by : ℕ) (order : Order) (role : Role) (v : VerdictOf) → slice_get c.roles by ≡ Some role → v ≡ verdict (situation_of m.dead m.book by) order → Verdict v ≡ reply c h by (Kill order)
+judged_now c h m k by order role v there is = judged c h m k by order v is ∙ sym (may_reply c h by (Kill order) role there refl)
+
+pub judged_stranger : (c : Setup) (h : History) (by : ℕ) (order : Order) → slice_get c.roles by ≡ None → No Stranger ≡ reply c h by (Kill order)
+judged_stranger c h by order none = sym (stranger c h by (Kill order) none)

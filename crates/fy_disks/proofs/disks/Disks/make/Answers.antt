@@ -1,5 +1,0 @@
-use Rattle.fy_disks.proofs.Kept.{kept_at_start}
-use Rattle.fy_disks.proofs.disks.Disks.make.Goals as goal
-
-pub invariant_of-result : goal.invariant_of-result
-invariant_of-result c = rw (c.in_ok-blank_disks.ensures, c.new.ensures.items, c.empty.ensures) (kept_at_start c.args.processes c.requires)

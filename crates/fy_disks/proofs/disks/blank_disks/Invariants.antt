@@ -1,6 +1,0 @@
-use Rattle.std.proofs.Common.{◌≡◌, replicate}
-use Rattle.fy_disk.specs.Disk.{blank}
-use Rattle.fy_disks.proofs.disks.blank_disks.Given as goal
-
-abbrev pub invariant-loop-process : goal.invariant-loop-process
-invariant-loop-process l = l.disks.items ≡ replicate l._process blank

@@ -1,6 +1,0 @@
-use Rattle.std.proofs.Common.{take}
-use Rattle.fy_disks.specs.Holders.{Loses}
-use Rattle.fy_disks.proofs.holders.let_go.Given as goal
-
-abbrev pub invariant-loop-item : goal.invariant-loop-item
-invariant-loop-item l = Loses l.p.0 (take l.item-index l.items) l.initial.holders.items l.holders.items

@@ -1,0 +1,11 @@
+//! What the engines of the commands share: why one stops, with its fault line and exit status; the
+//! reader of cluster files; the writer of audits.
+#![tactic(auto)]
+
+mod audit;
+mod load;
+mod stop;
+
+pub use audit::{header_text, push_entry_line, write_audit};
+pub use load::load_config;
+pub use stop::{Stop, write_numbered, write_stop};

@@ -1,0 +1,4 @@
+pub mod JudgeBooks
+pub mod JudgeLines
+pub mod JudgeTexts
+pub mod JudgeViews

@@ -1,0 +1,207 @@
+//! What the lines so far say.
+ghost use Rattle.std.specs.Prelude.{◌≡◌, ◌≢◌, Some, OnOk, IfErr};
+ghost use Rattle.fy_judge.specs.JudgeLines.{policy, process, ask, parse_line, empty_input, Step, IsInput};
+ghost use Rattle.fy_judge.specs.JudgeViews.{IfFault, policy_fault_of, process_fault_of};
+
+use crate::line::{Ask, Keyword, asked_id, first_word, keyword_in, policy_text, process_of};
+use crate::stop::JudgeFault;
+use fy_decide::Loss;
+use fy_locality::{Locality, Map, MapFault, Name};
+use fy_policy::{MOST_POLICIES, Policy, PolicyFault, read_policy};
+use std::alloc::{AllocFailed, Global};
+use std::marker::Model;
+
+/// Why a line is not taken.
+#[derive(Clone, Copy, PartialEq, Eq, Debug)]
+pub enum TakeFault {
+    Fault(JudgeFault),
+    NoMemory,
+}
+
+impl<T: Drop> From<AllocFailed<T>> for TakeFault {
+    ghost use Rattle.fy_judge.specs.declared.input.TakeFault.TheVariants.{NoMemory};
+    ghost use Rattle.std.specs.Prelude.{◌≡◌};
+
+    ghost from_gives = { λ _ e. e ≡ NoMemory };
+
+    fn from(_: AllocFailed<T>) -> TakeFault {
+        TakeFault::NoMemory
+    }
+}
+
+/// The policies, the processes and the asks of the lines so far.
+pub struct Input {
+    policies: Vec<Policy>,
+    map: Map,
+    asks: Vec<Ask>,
+}
+
+impl Model for Input {
+    ghost use Rattle.std.specs.Coded.{codes, coded_ℕ};
+    ghost use Rattle.fy_locality.specs.contracts.locality.Locality as l;
+    ghost use Rattle.fy_policy.specs.TreeCode.{tree_code};
+    ghost use Rattle.fy_judge.specs.contracts.line.Ask as a;
+    ghost use Rattle.fy_judge.specs.JudgeLines.{Input, IsInput};
+
+    ghost Value = { Input };
+
+    ghost coded = { Prim.hlevel (codes, tree_code, l.the_row.coded, a.the_row.coded) };
+
+    ghost view = { λ i.
+        record { policies = i.policies.items; processes = i.map; asks = i.asks.items } };
+
+    ghost invariant = { λ i. IsInput
+        (record { policies = i.policies.items; processes = i.map; asks = i.asks.items }) };
+}
+
+// Written out, so that whoever drops an input makes one call.
+impl Drop for Input {
+    fn drop(self) {
+        let Input {
+            policies: _,
+            map: _,
+            asks: _,
+        } = self;
+    }
+}
+
+impl Input {
+    /// Nothing said.
+    pub fn new(alloc: Global) -> Self
+        ensures { result ≡ empty_input }
+    {
+        Input {
+            policies: Vec::new(alloc),
+            map: Map::make(alloc),
+            asks: Vec::new(alloc),
+        }
+    }
+
+    /// The asks, each of a process that is there.
+    pub fn asks(&self) -> &[Ask]
+        ensures asks { result.now ≡ self.now.asks }
+        ensures input { IsInput self.now }
+    {
+        &self.asks
+    }
+
+    /// The policies, of which there are at most eight.
+    pub fn policies(&self) -> &[Policy]
+        ensures policies { result.now ≡ self.now.policies }
+        ensures input { IsInput self.now }
+    {
+        &self.policies
+    }
+
+    /// The processes.
+    pub fn map(&self) -> &Map
+        ensures { result.now ≡ self.now.processes }
+    {
+        &self.map
+    }
+
+    /// Takes the next line.
+    pub fn take_line(&mut self, alloc: Global, line: &[u8]) -> Result<(), TakeFault>
+        ensures taken { OnOk result (Step self.old (parse_line line.now) (Ok self.new)) }
+        ensures refused { IfErr result
+            (λ e. IfFault e (λ fault. Step self.old (parse_line line.now) (Err fault))) }
+    {
+        let (word, rest) = first_word(line);
+        let Some(rest) = rest else {
+            return Err(TakeFault::Fault(JudgeFault::Syntax));
+        };
+        match keyword_in(word) {
+            Some(Keyword::Policy) => match policy_text(rest) {
+                Some(text) => self.take_policy(alloc, text),
+                None => Err(TakeFault::Fault(JudgeFault::Syntax)),
+            },
+            Some(Keyword::Process) => match process_of(rest) {
+                Some(locality) => self.take_process(locality),
+                None => Err(TakeFault::Fault(JudgeFault::Syntax)),
+            },
+            Some(Keyword::Ask(loss)) => match asked_id(rest) {
+                Some(id) => self.take_ask(loss, id),
+                None => Err(TakeFault::Fault(JudgeFault::Syntax)),
+            },
+            None => Err(TakeFault::Fault(JudgeFault::Syntax)),
+        }
+    }
+
+    fn take_policy(&mut self, alloc: Global, text: &str) -> Result<(), TakeFault>
+        ensures taken { OnOk result (Step self.old (Some (policy text.now)) (Ok self.new)) }
+        ensures refused { IfErr result
+            (λ e. IfFault e (λ fault. Step self.old (Some (policy text.now)) (Err fault))) }
+    {
+        if !self.map.is_empty() {
+            return Err(TakeFault::Fault(JudgeFault::Syntax));
+        }
+        let policy = match read_policy(alloc, text) {
+            Ok(policy) => policy,
+            Err(fault) => return Err(policy_fault(fault)),
+        };
+        if self.policies.len() >= MOST_POLICIES {
+            return Err(TakeFault::Fault(JudgeFault::TooMany));
+        }
+        self.policies.push(policy)?;
+        Ok(())
+    }
+
+    fn take_process(&mut self, locality: Locality) -> Result<(), TakeFault>
+        ensures taken { OnOk result (Step self.old (Some (process locality)) (Ok self.new)) }
+        ensures refused { IfErr result
+            (λ e. IfFault e (λ fault. Step self.old (Some (process locality)) (Err fault))) }
+    {
+        if self.policies.is_empty() {
+            return Err(TakeFault::Fault(JudgeFault::Syntax));
+        }
+        if !self.asks.is_empty() {
+            return Err(TakeFault::Fault(JudgeFault::Syntax));
+        }
+        if let Err(fault) = self.map.push(locality) {
+            return Err(process_fault(fault));
+        }
+        Ok(())
+    }
+
+    fn take_ask(&mut self, loss: Loss, id: Name) -> Result<(), TakeFault>
+        ensures taken { OnOk result (Step self.old (Some (ask loss id)) (Ok self.new)) }
+        ensures refused { IfErr result
+            (λ e. IfFault e (λ fault. Step self.old (Some (ask loss id)) (Err fault))) }
+    {
+        if self.map.is_empty() {
+            return Err(TakeFault::Fault(JudgeFault::Syntax));
+        }
+        let Some(process) = self.map.find(&id) else {
+            return Err(TakeFault::Fault(JudgeFault::Unknown));
+        };
+        self.asks.push(Ask { loss, process })?;
+        Ok(())
+    }
+}
+
+/// A policy's fault as a fault of its line.
+fn policy_fault(fault: PolicyFault) -> TakeFault
+    ensures { result ≡ policy_fault_of fault }
+{
+    match fault {
+        PolicyFault::NoMemory => TakeFault::NoMemory,
+        PolicyFault::TooLong
+        | PolicyFault::Syntax
+        | PolicyFault::Count
+        | PolicyFault::Depth
+        | PolicyFault::Nodes => TakeFault::Fault(JudgeFault::Policy),
+    }
+}
+
+/// A process's fault as a fault of its line. Its names are names already.
+fn process_fault(fault: MapFault) -> TakeFault
+    requires { fault ≢ MapFault.Name }
+    ensures { result ≡ process_fault_of fault }
+{
+    match fault {
+        MapFault::Twice => TakeFault::Fault(JudgeFault::Twice),
+        MapFault::TooMany => TakeFault::Fault(JudgeFault::TooMany),
+        MapFault::NoMemory => TakeFault::NoMemory,
+        MapFault::Name => unreachable!(),
+    }
+}

@@ -1,0 +1,12 @@
+use Rattle.std.proofs.Common.{◌≡◌, ◌+◌, ◌-◌, length}
+use Rattle.fy_run.proofs.Guarding.{HasAnswered}
+use Rattle.fy_run.proofs.guard.run_guard.Given as goal
+
+abbrev pub invariant-lines : goal.invariant-lines
+invariant-lines g l =
+    (l.number ≡ length l.cluster.journal + 1)
+    × HasAnswered l.fn.config (g.R.Read.remaining l.fn.reader) (g.R.Read.remaining l.reader)
+    (g.W.Write.contents l.fn.writer) (g.W.Write.contents l.writer) l.cluster
+
+abbrev pub decreases-lines : goal.decreases-lines
+decreases-lines g l = l.cluster.setup.limit - length l.cluster.journal

@@ -1,0 +1,2 @@
+pub mod GuardTexts
+pub mod RunTexts

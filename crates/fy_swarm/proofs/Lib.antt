@@ -1,0 +1,3 @@
+pub mod Casting
+pub mod Playing
+pub mod Swarming
