@@ -22,6 +22,7 @@ pub enum Answer {
 }
 
 impl Answer {
+    /// The line of an answer.
     fn line(self) -> &'static str
         ensures { result.now ≡ answer_line self }
     {
