@@ -34,7 +34,7 @@ impl Answer {
     }
 }
 
-/// The answer to one ask, whose loss is taken down where it is yes.
+/// The answer to one ask, whose loss is recorded where the answer is yes.
 fn answer_ask(dead: &mut DeadBook, ask: JudgeAsk) -> Answer
     requires { ask.process.0 < MOST_PROCESSES }
     ensures { (i : Input) (granted : List Ask) → RecordsGranted i granted dead.old →
