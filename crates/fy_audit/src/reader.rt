@@ -43,9 +43,9 @@ impl<'b> Model for AuditReader<'b> {
 /// Why no entry is had of what is left of an audit.
 #[derive(Clone, Copy)]
 enum NoEntry {
-    /// The first line of what is left is faulty.
+    /// Its first line is faulty.
     Faulty(AuditLineFault),
-    /// There is no memory for the entry.
+    /// There is no memory for it.
     NoMemory,
 }
 
