@@ -71,7 +71,7 @@ impl Model for StorageDriver {
     } };
 }
 
-// Written out: see lib.rt.
+// Written out and not derived: see `Drop` in docs/DECISIONS.md.
 impl Drop for StorageDriver {
     fn drop(self) {
         let StorageDriver {

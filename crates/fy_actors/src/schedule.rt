@@ -25,7 +25,7 @@ impl Model for Schedule {
     ghost view = { λ a. record { acts = a.acts.items; made = a.made } };
 }
 
-// Written out: see lib.rt.
+// Written out and not derived: see `Drop` in docs/DECISIONS.md.
 impl Drop for Schedule {
     fn drop(self) {
         let Schedule {

@@ -14,7 +14,7 @@ pub struct Entry {
     pub reply: Reply,
 }
 
-// By hand, for the reason given at the `Drop` of `Act`.
+// Written out and not derived: see `Drop` in docs/DECISIONS.md.
 impl Drop for Entry {
     fn drop(self) {
         let Entry {

@@ -1,4 +1,5 @@
-//! How many processes may be lost together by one policy, whichever they are.
+//! What one policy bears: how many processes may be lost together, whichever they are, and a set
+//! that is too many.
 ghost use Rattle.std.specs.Prelude.{◌≡◌, ◌↔◌, ◌+◌, ◌<◌, IfOk, IsTrue, Some, length, slice_get, [], ◌∷◌};
 ghost use Rattle.std.specs.FinSet as sets;
 ghost use Rattle.fy_policy.specs.Sat.{Sat};
@@ -18,7 +19,7 @@ use std::alloc::{AllocError, Global};
 pub struct Tolerance {
     /// Any so many processes may be lost together.
     pub any: u32,
-    /// These may not.
+    /// A set of processes that may not be lost together.
     pub too_many: ProcSet,
 }
 
@@ -31,8 +32,8 @@ impl Tolerance {
     }
 }
 
-/// What the policy at a place bears from here on. The map and the policies are those that the book
-/// was made of.
+/// What the policy at a place bears from the dead book on. The map and the policies are those that
+/// the book was made of.
 ///
 /// # Errors
 ///

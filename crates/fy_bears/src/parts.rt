@@ -1,4 +1,5 @@
-//! The parts of an `Across`: how many processes some of them take together at least.
+//! Of several parts of a group, each with its number of processes, those that take the fewest
+//! together: the parts are the values of an `Across`'s key.
 ghost use Rattle.std.specs.Prelude.{◌≡◌, ◌≤◌, ◌-◌, ◌*◌, sum_by};
 ghost use Rattle.fy_bears.specs.Costs.{IsLeastOf};
 

@@ -1,4 +1,5 @@
-//! All that a cluster bears of one kind of loss.
+//! Gathers all that a cluster bears of one kind of loss, by policy and by group, for the two
+//! writers of its text. Nothing is written here.
 ghost use Rattle.std.specs.Prelude.{◌≡◌};
 
 use crate::MOST_PAIRED;
@@ -32,7 +33,7 @@ pub(crate) struct Group {
     pub(crate) pairs: Option<Vec<(u32, u32)>>,
 }
 
-/// What is borne of one kind of loss.
+/// All that is borne of one kind of loss.
 #[derive(Drop)]
 pub(crate) struct Borne {
     pub(crate) loss: Loss,

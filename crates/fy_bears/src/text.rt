@@ -1,4 +1,5 @@
-//! What a cluster bears, for people.
+//! Writes what a cluster bears, for people. The text is promised (docs/FORMATS.md), and tested by
+//! `tests/cli/bears`; no contract says what it is.
 use crate::bearing::Tolerance;
 use crate::tables::{Borne, Case, Group};
 use crate::warnings::warnings_of;

@@ -1,4 +1,6 @@
-//! Records are copied.
+//! The act `CopyTo`: a process that has a record synced sends it to another. Only a message is
+//! sent; the record is on the other's disk once that is delivered, and synced once that process
+//! syncs.
 ghost use Rattle.std.specs.Prelude.{◌≡◌};
 ghost use Rattle.fy_acts.specs.declared.act.Act.TheVariants.{CopyTo};
 ghost use Rattle.fy_cluster.specs.Standing.{Point, Refines, StepsToOrOom, IsReachable};
@@ -11,7 +13,8 @@ use fy_locality::{Map, ProcId};
 use fy_net::Body;
 
 impl Machine {
-    /// Sends a record from a process that has it synced to another, member of its team or not.
+    /// Carries out a CopyTo: sends a record from a process that has it synced to another, member of
+    /// its team or not. The network's room is made before the send.
     pub(crate) fn copy(
         &mut self,
         map: &Map,

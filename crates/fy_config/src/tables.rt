@@ -90,14 +90,14 @@ fn name_given(text: &str) -> Option<Name>
     Name::make(text).ok()
 }
 
-/// The set of the kind that a word names.
+/// The set of the one kind that a word of the file names.
 fn kind_of(value: &Value) -> Option<KindSet>
     ensures { result ≡ kind_of (view value.now) }
 {
     KindSet::named(value.as_str()?)
 }
 
-/// The set of the kinds that words name.
+/// The set of the kinds that words of the file name.
 fn kinds_of(values: &[Value]) -> Option<KindSet>
     ensures { result ≡ option_map union_of (all_of kind_of (items_view values.now)) }
 {

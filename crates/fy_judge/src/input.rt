@@ -54,7 +54,7 @@ impl Model for Input {
         (record { policies = i.policies.items; processes = i.map; asks = i.asks.items }) };
 }
 
-// Written out, so that whoever drops an input makes one call.
+// Written out and not derived: see `Drop` in docs/DECISIONS.md.
 impl Drop for Input {
     fn drop(self) {
         let Input {

@@ -300,7 +300,7 @@ impl Map {
     }
 }
 
-// Written out, so that whoever drops a map makes one call.
+// Written out and not derived: see `Drop` in docs/DECISIONS.md.
 impl Drop for Map {
     fn drop(self) {
         let Map {
@@ -349,7 +349,7 @@ impl<T: Drop> From<AllocFailed<T>> for MapFault {
     }
 }
 
-/// The same values again with their processes, in memory of their own.
+/// A copy of the values of a key with their processes, in memory of its own.
 ///
 /// # Errors
 ///

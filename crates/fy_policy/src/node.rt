@@ -144,7 +144,8 @@ pub(crate) fn satisfied_after_toggle(
     }
 }
 
-/// The same for one process, of which no set need be made.
+/// Whether the set would satisfy the policy at a group after one process came or went. It is
+/// [`satisfied_after_toggle`] for one process, of which no set need be made.
 pub(crate) fn satisfied_after_one_toggle(
     node: &Node,
     map: &Map,
@@ -248,7 +249,8 @@ fn representative(map: &Map, places: &[u32], p: ProcId, key: Key) -> u32
     }
 }
 
-/// For each process its group where groups are parted by a key.
+/// Of each process the number of its group, where groups are parted by a key. That number is the
+/// group's least process, which represents it.
 pub(crate) fn split_by_key(
     alloc: Global,
     map: &Map,

@@ -44,7 +44,7 @@ impl Model for Tally {
     ghost invariant = { λ t. IsTallied t.map.value t.everyone t.policy t.set t.node };
 }
 
-// Written out, so that whoever drops a tally makes one call.
+// Written out and not derived: see `Drop` in docs/DECISIONS.md.
 impl Drop for Tally {
     fn drop(self) {
         let Tally {
@@ -71,7 +71,7 @@ impl Tally {
         Tally::make_shared(alloc, policy, &map)
     }
 
-    /// The same over a map that others share, of which no copy is made.
+    /// A tally of nobody over a map that others share, of which no copy is made.
     ///
     /// # Errors
     ///
@@ -135,7 +135,8 @@ impl Tally {
         satisfied_after_toggle(&self.node, &self.map, 0, &comers, true)
     }
 
-    /// Whether the set with one process would satisfy the policy. Takes no memory, and makes no set.
+    /// Whether the set with one process would satisfy the policy. Takes no memory, and makes no
+    /// set.
     pub fn satisfied_with_one(&self, p: ProcId) -> bool
         requires { p.0 < MOST_PROCESSES }
         ensures { result ≡ satisfies self.now.processes self.now.policy

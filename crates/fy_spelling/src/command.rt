@@ -15,8 +15,7 @@ pub struct Command {
     pub act: Act,
 }
 
-// By hand: a drop is then one call, and not the whole drop of an act at each place, which the
-// check proves anew there.
+// Written out and not derived: see `Drop` in docs/DECISIONS.md.
 impl Drop for Command {
     fn drop(self) {
         let Command { by: _, act: _ } = self;

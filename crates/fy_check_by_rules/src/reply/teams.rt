@@ -63,7 +63,7 @@ pub(crate) fn form(before: &Past, members: &Members, policy: u32) -> Result<Repl
     Ok(Reply::Formed { team: count as u32 })
 }
 
-/// Whether the team satisfies its policy once the swap is made in it.
+/// Whether a team, as it stands so far, satisfies its policy once the swap is made in it.
 fn meets_with(before: &Past, kept: &Team, swap: Swap) -> Result<bool, AllocError>
     ensures { IfOk result (λ met. met ≡ meets before.now.config.now kept.now.policy
         (is_among (swapped swap.out swap.into kept.now.members.items))) }

@@ -86,15 +86,15 @@ pub fn counted_anew()
         ≡ item 0 (10 ∷ []) ∷ item 2 (12 ∷ []) ∷ item 1 (11 ∷ []) ∷ [] }
 {}
 
-/// They count from the last sync, too.
+/// The places of unsynced writes count from the last sync, too.
 pub fn counted_anew_after_sync()
     ensures legal { Legal six counted_anew_after_sync }
     ensures synced { synced (history six counted_anew_after_sync) 0
         ≡ item 0 (10 ∷ []) ∷ item 1 (11 ∷ []) ∷ item 2 (12 ∷ []) ∷ item 1 (11 ∷ []) ∷ [] }
 {}
 
-/// The last of the 64 bits is that of the place 63. The write at the place 64 has no bit, and is torn
-/// off.
+/// The last of the 64 bits is that of the place 63. The write at the place 64 has no bit, and is
+/// torn off.
 pub fn last_bit_kept()
     ensures legal { Legal four_of_one last_bit_kept }
     ensures synced { synced (history four_of_one last_bit_kept) 0
