@@ -15,9 +15,9 @@ use std::marker::Model;
 /// Whether an actor wants further turns.
 #[derive(Clone, Copy, PartialEq, Eq, Debug)]
 pub enum Turn {
-    /// It may have acts left.
+    /// The actor may have acts left.
     More,
-    /// It has no act left, and further turns do nothing.
+    /// The actor has no act left, and further turns do nothing.
     Ended,
 }
 

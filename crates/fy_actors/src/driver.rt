@@ -18,7 +18,7 @@ use std::marker::Model;
 #[derive(Clone, Copy, PartialEq, Eq, Debug)]
 enum Team {
     Unformed,
-    /// It was formed and has this number.
+    /// The team was formed and has this number.
     Formed { team: u32 },
     Refused,
 }

@@ -37,7 +37,7 @@ impl Drop for Schedule {
 }
 
 impl Schedule {
-    /// These acts, none of which was made yet.
+    /// A schedule of these acts, none of which was made yet.
     pub(crate) fn begin(alloc: Global, acts: Vec<Act>) -> Schedule
         ensures { result ≡ begun acts.items }
     {

@@ -12,11 +12,11 @@ pub const MOST_AUDIT_BYTES: usize = 268_435_456;
 /// Why a line of an audit is refused, the first that holds.
 #[derive(Clone, Copy, PartialEq, Eq, Debug)]
 pub enum AuditLineFault {
-    /// It is the first, and isn't the header of a version with its line feed.
+    /// The line is the first, and isn't the header of a version with its line feed.
     Header,
-    /// It has more than 65,536 bytes, without its line feed.
+    /// The line has more than 65,536 bytes, without its line feed.
     TooLong,
-    /// It isn't the one text of an entry that is numbered by its place and that audits of the
+    /// The line isn't the one text of an entry that is numbered by its place and that audits of the
     /// version have, or it lacks its line feed.
     Syntax,
 }
@@ -24,11 +24,11 @@ pub enum AuditLineFault {
 /// Why an audit is refused.
 #[derive(Clone, Copy, PartialEq, Eq, Debug)]
 pub enum AuditFault {
-    /// It has more than 268,435,456 bytes.
+    /// The audit has more than 268,435,456 bytes.
     TooLong,
     /// The first faulty line, counted from 1, and its first fault.
     Line { number: u32, fault: AuditLineFault },
-    /// There is no memory for it.
+    /// There is no memory for the audit.
     NoMemory,
 }
 

@@ -53,7 +53,7 @@ pub(crate) fn fewest_to_break(
                 counts.push(part.least)?;
                 sets.push(part.set)?;
             }
-            // The others are too few then.
+            // Once so many values are broken, the other values are too few.
             let broken = all_but(&counts, wanted);
             Ok(least_of(&counts, &sets, broken))
         }

@@ -8,7 +8,7 @@ use fy_locality::{MOST_PROCESSES, ProcSet};
 /// More processes than there are.
 pub(crate) const MORE_THAN_ALL: u32 = MOST_PROCESSES + 1;
 
-/// So many processes at least, and a set that may do.
+/// How many processes it takes at least, and a set that may do.
 #[derive(Clone, Copy)]
 pub(crate) struct Part {
     pub(crate) least: u32,

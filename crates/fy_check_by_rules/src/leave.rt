@@ -1,4 +1,4 @@
-//! Whether grants cover a process.
+//! Whether grants cover a process: what the second rule asks.
 ghost use Rattle.std.specs.Prelude.{◌≡◌};
 ghost use Rattle.fy_kinds.specs.Kinds.{only};
 ghost use Rattle.fy_grants.specs.Rights.{is_in_scope, is_granted, is_covered};

@@ -1,4 +1,4 @@
-//! Processes are clogged and unclogged.
+//! The acts Clog and Unclog: messages of the processes that are named are held up for some time.
 ghost use Rattle.std.specs.Prelude.{◌≡◌, ◌<◌, ℕ, true, length, IfOk};
 ghost use Rattle.std.specs.Result.{result_err};
 ghost use Rattle.std.specs.FinSet as sets;

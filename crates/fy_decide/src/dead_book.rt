@@ -219,7 +219,7 @@ impl DeadBook {
             .intersection(&self.left)
     }
 
-    /// Takes the loss of a set down. Takes no memory.
+    /// Records the loss of a set. Takes no memory.
     pub fn strike(&mut self, set: &ProcSet, loss: Loss)
         requires { MayLose self.old (sets.contains set.now) loss }
         ensures { self.new ≡ struck self.old set.now loss }

@@ -86,6 +86,7 @@ impl Map {
         self.processes.is_empty()
     }
 
+    /// The values of a key, each with the processes that have it.
     fn index(&self, key: Key) -> &IndexMap<Name, ProcSet>
         ensures index { IsIndex self.now key result.now.entries }
         ensures few { length self.now ≤ MOST_PROCESSES }

@@ -1,4 +1,4 @@
-//! Questions about a list of messages, and about clogs.
+//! Questions about a list of messages, which the twin asks, and about clogs, which both ask.
 ghost use Rattle.std.specs.Prelude.{◌≡◌, ℕ, not, ◌&&◌, nat_lt, slice_index, find, option_map, IfSome, IfNone, None};
 ghost use Rattle.std.specs.FinSet as sets;
 ghost use Rattle.fy_net.specs.Net.{Rises, body_of, process_of, receiver_is_up};

@@ -19,9 +19,9 @@ use std::alloc::{AllocError, Global};
 /// The ends of a chain.
 #[derive(Clone, Copy)]
 pub(crate) struct Ends {
-    /// Its first slot whose message is in flight.
+    /// The chain's first slot whose message is in flight.
     pub(crate) first: Option<usize>,
-    /// Its last slot.
+    /// The chain's last slot.
     pub(crate) last: Option<usize>,
 }
 

@@ -269,7 +269,7 @@ pub(crate) fn representatives_by_key(
     Ok(below)
 }
 
-/// So many zeros.
+/// As many zeros as are asked for.
 pub(crate) fn zeros(alloc: Global, count: u32) -> Result<Vec<u32>, AllocError>
     ensures wide { IfOk result (λ counts. length counts.items ≡ count) }
     ensures zeros { IfOk result (λ counts. (i : ℕ) → slice_index_or counts.items i 0 ≡ 0) }

@@ -1,4 +1,4 @@
-//! A record as it is kept.
+//! A record as it is kept, with how many members have not marked it.
 ghost use Rattle.std.specs.Prelude.{◌≡◌, ◌<◌, ◌&&◌, ◌||◌, not};
 ghost use Rattle.std.specs.FinSet as sets;
 ghost use Rattle.fy_team.specs.Teams.{unmarked, all_marked, healed_record, is_among};

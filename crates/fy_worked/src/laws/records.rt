@@ -6,8 +6,8 @@ ghost use Rattle.fy_cluster.specs.Replies.{Legal};
 ghost use Rattle.fy_worked.specs.Clusters.{six, four_of_one, members, process};
 ghost use Rattle.fy_worked.specs.Records.{written_and_synced, forgotten, and_back, acknowledged, spared, three_written, torn, torn_and_back, torn_once, counted_anew, counted_anew_after_sync, last_bit_kept, emptied_unsynced, weakened_and_torn, restarted, not_synced_while_down, restarted_and_torn, one_ack_each, first_acknowledged, written_again, second_team, item, hi};
 
-/// A record is acknowledged once each member's word of it has come. Its keeper is the member that
-/// isn't destroyed.
+/// A record is acknowledged once each member's acknowledgement of it has come. Its keeper is the
+/// member that isn't destroyed.
 pub fn written_and_synced()
     ensures legal { Legal six written_and_synced }
     ensures keeper { keeper six (history six written_and_synced) 0 ≡ Some (process 2) }
@@ -65,7 +65,7 @@ pub fn torn()
     ensures unsynced { unsynced (history six torn) 0 ≡ [] }
 {}
 
-/// What a reboot kept needs no sync: no word is sent of it.
+/// What a reboot kept needs no sync: no acknowledgement is sent of it.
 pub fn torn_and_back()
     ensures legal { Legal six torn_and_back }
     ensures synced { synced (history six torn_and_back) 0
