@@ -62,16 +62,10 @@ pub fn read_audit(alloc: Global, bytes: &[u8]) -> Result<Journal, AuditFault>
     ensures too_long { (result ≡ Err TooLong) ↔ (MOST_AUDIT_BYTES < length bytes.now) }
 {
     laws::an_audit_is_read_entry_by_entry();
-    let mut reader = match AuditReader::begin(alloc, bytes) {
-        Ok(reader) => reader,
-        Err(fault) => return Err(fault),
-    };
+    let mut reader = AuditReader::begin(alloc, bytes)?;
     let mut journal = Journal::of_version(alloc, reader.version());
     while !reader.is_at_end() {
-        let entry = match reader.next_entry() {
-            Ok(entry) => entry,
-            Err(fault) => return Err(fault),
-        };
+        let entry = reader.next_entry()?;
         if let Err(_) = enter(&mut journal, entry) {
             return Err(AuditFault::NoMemory);
         }

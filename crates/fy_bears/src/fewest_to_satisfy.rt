@@ -13,7 +13,7 @@ use std::alloc::{AllocError, Global};
 
 /// How many processes of a group it takes at least to satisfy the policy, the free ones not
 /// counted, and such a set. Of an `Across` the group is parted by the key's values: each round asks
-/// about the members that have the value of the least process of the rest.
+/// about the processes that have the value of the least process of the rest.
 ///
 /// # Errors
 ///
@@ -43,9 +43,9 @@ pub(crate) fn fewest_to_satisfy(
                     rest.drop_one(p);
                     continue;
                 };
-                let members = rest.intersection(&peers);
-                rest = rest.difference(&members);
-                let part = fewest_to_satisfy(alloc, inner, map, &members, free)?;
+                let with_value = rest.intersection(&peers);
+                rest = rest.difference(&with_value);
+                let part = fewest_to_satisfy(alloc, inner, map, &with_value, free)?;
                 counts.push(part.least)?;
                 sets.push(part.set)?;
             }

@@ -2,8 +2,8 @@
 ghost use Rattle.std.specs.Prelude.{◌≡◌};
 
 use crate::LossesSoFar;
+use crate::borne::{Case, borne_of};
 use crate::json::write_json;
-use crate::tables::{Case, borne_of};
 use crate::text::write_text;
 use fy_decide::{DeadBook, Loss};
 use fy_locality::Map;

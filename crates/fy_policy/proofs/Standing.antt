@@ -486,11 +486,11 @@ module _ (processes : List Locality) (all : sets.FinSet nat_cmp) (policy : Tree)
         → result ≡ satisfies processes policy (sets.contains (sets.difference set given))
     without-goers result e = asked processes all policy set node was (toggled_by (sets.contains set) (sets.contains goers) false) (sets.difference set given) result (λ q low.
         ap (λ b. cond b false (sets.contains set q)) (in-goers q ∙ ap (λ b. (sets.contains given q && b) && sets.contains set q) (present q low))
-        ∙ split_by_key (sets.contains given q) (sets.contains set q)
+        ∙ representatives_by_key (sets.contains given q) (sets.contains set q)
         ∙ sym (sets.contains-difference nat_cmp_total set given q)) e
       where
-        split_by_key : (g s : Bool) → cond ((g && true) && s) false s ≡ (s && not g)
-        split_by_key true true = refl
-        split_by_key true false = refl
-        split_by_key false true = refl
-        split_by_key false false = refl
+        representatives_by_key : (g s : Bool) → cond ((g && true) && s) false s ≡ (s && not g)
+        representatives_by_key true true = refl
+        representatives_by_key true false = refl
+        representatives_by_key false true = refl
+        representatives_by_key false false = refl

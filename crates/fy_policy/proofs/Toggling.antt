@@ -219,9 +219,9 @@ module _ (processes : List Locality) (at : ℕ → ℕ) (g : ℕ) (s : ℕ → B
 
   -- the processes of one value
   module _ (rest peers part rest' : sets.FinSet nat_cmp) (p : ℕ) (v : List ℕ) (has : value_of processes key p ≡ Some v)
-      (are : (x : ℕ) → sets.contains peers x ≡ has_value processes key v x) (split_by_key : part ≡ sets.intersection rest peers) (left : rest' ≡ sets.difference rest part) where
+      (are : (x : ℕ) → sets.contains peers x ≡ has_value processes key v x) (representatives_by_key : part ≡ sets.intersection rest peers) (left : rest' ≡ sets.difference rest part) where
     in-part : (x : ℕ) → sets.contains part x ≡ (sets.contains rest x && has_value processes key v x)
-    in-part x = ap (λ t. sets.contains t x) split_by_key ∙ sets.contains-intersection nat_cmp_total rest peers x ∙ ap (λ b. sets.contains rest x && b) (are x)
+    in-part x = ap (λ t. sets.contains t x) representatives_by_key ∙ sets.contains-intersection nat_cmp_total rest peers x ∙ ap (λ b. sets.contains rest x && b) (are x)
 
     in-rest : (x : ℕ) → sets.contains rest' x ≡ (sets.contains rest x && not (has_value processes key v x))
     in-rest x = ap (λ t. sets.contains t x) left ∙ sets.contains-difference nat_cmp_total rest part x ∙ ap (λ b. sets.contains rest x && not b) (in-part x) ∙ once (sets.contains rest x) (has_value processes key v x)
@@ -380,7 +380,7 @@ module _ (processes : List Locality) (at : ℕ → ℕ) (s : ℕ → Bool) (g : 
 
   module _ (few : length processes ≤ 1024) (inside : g ≤ length processes) (node : Node) (wanted : ℕ) (key : Key) (places counts : Vec ℕ Global) (inner : Box Node Global) (is : node ≡ Across wanted key places counts inner) (right : AreCountersOf processes at s node)
       (those : sets.FinSet nat_cmp) (comes : Bool) (rest peers part rest' : sets.FinSet nat_cmp) (p : ℕ) (v : List ℕ) (has : value_of processes key p ≡ Some v)
-      (are : (x : ℕ) → sets.contains peers x ≡ has_value processes key v x) (split_by_key : part ≡ sets.intersection rest peers) (left : rest' ≡ sets.difference rest part)
+      (are : (x : ℕ) → sets.contains peers x ≡ has_value processes key v x) (representatives_by_key : part ≡ sets.intersection rest peers) (left : rest' ≡ sets.difference rest part)
       (can : CanToggle processes at g s (sets.contains those) comes) (count : ℕ) (half : Halfway processes at g s key (tree_of_node inner.value) (sets.contains those) comes (sets.contains rest) count) (present : sets.contains rest p ≡ true) where
     r : AreCountersOf processes at s (Across wanted key places counts inner)
     r = subst (AreCountersOf processes at s) is right
@@ -396,7 +396,7 @@ module _ (processes : List Locality) (at : ℕ → ℕ) (s : ℕ → Bool) (g : 
 
     below-can : CanToggle processes (group_at places.items) (group_at places.items p) s (sets.contains part) comes
     unfolding AreCountersOf
-    below-can = part-can processes at g s key (tree_of_node inner.value) (sets.contains those) comes rest peers part rest' p v has are split_by_key left (group_at places.items) present count can half (λ q low. r.2.same p q v small low has)
+    below-can = part-can processes at g s key (tree_of_node inner.value) (sets.contains those) comes rest peers part rest' p v has are representatives_by_key left (group_at places.items) present count can half (λ q low. r.2.same p q v small low has)
 
     fits : group_at places.items p ≤ length processes
     unfolding AreCountersOf
@@ -417,8 +417,8 @@ module _ (processes : List Locality) (at : ℕ → ℕ) (s : ℕ → Bool) (g : 
         → (count' : ℕ) → (count < 2147483648 → cond was 1 0 ≤ count + cond now 1 0 → count' + cond was 1 0 ≡ count + cond now 1 0)
         → Halfway processes at g s key (tree_of_node inner.value) (sets.contains those) comes (sets.contains rest') count'
     across-next differ occur below place a a-is was reads b b-is now asks count' change =
-        halfway-next processes at g s key (tree_of_node inner.value) (sets.contains those) comes rest peers part rest' p v has are split_by_key left count half present count' was now few change
-        (exchanged processes at g s key (tree_of_node inner.value) (sets.contains those) comes rest peers part rest' p v has are split_by_key left count half present differ occur formed was now
+        halfway-next processes at g s key (tree_of_node inner.value) (sets.contains those) comes rest peers part rest' p v has are representatives_by_key left count half present count' was now few change
+        (exchanged processes at g s key (tree_of_node inner.value) (sets.contains those) comes rest peers part rest' p v has are representatives_by_key left count half present differ occur formed was now
         (reads processes (group_at places.items) s (subst (AreCountersOf processes (group_at places.items) s) (sym a-is) inner-right) low
         ∙ (λ i. satisfies processes (tree_of_node (a-is i)) (within processes (group_at places.items) (place i) s))
         ∙ ap (satisfies processes (tree_of_node inner.value)) (sym (its-group s)))

@@ -251,7 +251,7 @@ fn representative(map: &Map, places: &[u32], p: ProcId, key: Key) -> u32
 
 /// Of each process the number of its group, where groups are parted by a key. That number is the
 /// group's least process, which represents it.
-pub(crate) fn split_by_key(
+pub(crate) fn representatives_by_key(
     alloc: Global,
     map: &Map,
     places: &[u32],

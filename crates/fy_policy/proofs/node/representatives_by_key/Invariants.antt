@@ -1,6 +1,6 @@
 use Rattle.std.proofs.Common.{◌≡◌, ◌<◌, ℕ, length}
 use Rattle.fy_policy.specs.Counted.{IsRepresentative, group_at}
-use Rattle.fy_policy.proofs.node.split_by_key.Given as goal
+use Rattle.fy_policy.proofs.node.representatives_by_key.Given as goal
 
 abbrev pub invariant-loop-p : goal.invariant-loop-p
 invariant-loop-p l = record {

@@ -11,8 +11,8 @@ use Rattle.fy_decide.specs.Safety.{MayDestroy}
 use Rattle.fy_bears.specs.Bears.{MayLoseBy}
 use Rattle.fy_bears.specs.Costs.{NeedsAtLeast, LacksAtLeast}
 use Rattle.fy_bears.proofs.Borne.{each_at, short-with, satisfied-without}
-use Rattle.fy_bears.proofs.bearing.tolerance_of.Goals.{in-Emptied, in-Gone}
-use Rattle.fy_bears.proofs.bearing.tolerance_of.Goals as goal
+use Rattle.fy_bears.proofs.tolerance.tolerance_of.Goals.{in-Emptied, in-Gone}
+use Rattle.fy_bears.proofs.tolerance.tolerance_of.Goals as goal
 
 pub returns-clause-any : goal.returns-clause-any
 returns-clause-any c = λ policy at s small.

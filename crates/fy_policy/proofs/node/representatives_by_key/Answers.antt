@@ -1,7 +1,7 @@
 use Rattle.std.proofs.Common.{rules}
 use Rattle.fy_policy.specs.Counted.{group_at}
 use Rattle.fy_policy.proofs.Leaders.{representative-pushed}
-use Rattle.fy_policy.proofs.node.split_by_key.Goals as goal
+use Rattle.fy_policy.proofs.node.representatives_by_key.Goals as goal
 
 pub loop-p-preserved : goal.loop-p-preserved
 loop-p-preserved c = record {

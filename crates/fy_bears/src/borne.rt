@@ -3,8 +3,8 @@
 ghost use Rattle.std.specs.Prelude.{◌≡◌};
 
 use crate::MOST_PAIRED;
-use crate::bearing::{Tolerance, tolerance_of};
 use crate::groups::{borne_alone, borne_beside};
+use crate::tolerance::{Tolerance, tolerance_of};
 use fy_decide::{DeadBook, Loss};
 use fy_locality::{Key, Map};
 use fy_policy::Policy;
