@@ -43,9 +43,9 @@ impl<'b> Model for AuditReader<'b> {
 /// Why the rest of an audit gives no entry.
 #[derive(Clone, Copy)]
 enum NoEntry {
-    /// Its first line is faulty.
+    /// The first line of what is left is faulty.
     Faulty(AuditLineFault),
-    /// There is no memory for it.
+    /// There is no memory for the entry.
     NoMemory,
 }
 
