@@ -145,11 +145,12 @@ answered_by setup front commands execution each is legal = record {
 }
 
 -- all lines are answered
-pub answers_all : {setup : Setup} {old left before out : Option (List ℕ)} {execution : Execution}
+pub answers_all : {setup : Setup} (old : Option (List ℕ)) {left before out : Option (List ℕ)}
+    {execution : Execution}
     (P : List ℕ → Type 0) → HasAnswered setup old left before out execution → IsAtEnd left →
     P (audit_text Second execution.journal) → AnswersAll setup old P
-answers_all {setup} {None} {left} {before} {out} {execution} P has ends holds = tt
-answers_all {setup} {Some bytes} {left} {before} {out} {execution} P has ends holds =
+answers_all {setup} None {left} {before} {out} {execution} P has ends holds = tt
+answers_all {setup} (Some bytes) {left} {before} {out} {execution} P has ends holds =
     let (front, rest, commands, is, split, each, same) = has.read in
     let none : rest ≡ [] = subst IsAtEnd is ends in
     let whole : lines_of bytes ≡ front =
@@ -161,12 +162,13 @@ answers_all {setup} {Some bytes} {left} {before} {out} {execution} P has ends ho
     )
 
 -- the lines that were read are answered, and of the next no more was read than the line
-pub in_turn : {setup : Setup} {old left next before out : Option (List ℕ)} {execution : Execution}
+pub in_turn : {setup : Setup} (old : Option (List ℕ)) {left next before out : Option (List ℕ)}
+    {execution : Execution}
     (P : List ℕ → Type 0) → HasAnswered setup old left before out execution →
     ReadsWithinLine left next → P (audit_text Second execution.journal) →
     AnswersInTurn setup old next P
-in_turn {setup} {None} {left} {next} {before} {out} {execution} P has within holds = tt
-in_turn {setup} {Some bytes} {left} {next} {before} {out} {execution} P has within holds =
+in_turn {setup} None {left} {next} {before} {out} {execution} P has within holds = tt
+in_turn {setup} (Some bytes) {left} {next} {before} {out} {execution} P has within holds =
     let (front, rest, commands, is, split, each, same) = has.read in
     record {
       front = front;

@@ -46,12 +46,12 @@ returns-in-Ok-None-clause-answered g c =
     let left = g.R.Read.remaining c.lines.reader in
     let ends : IsAtEnd left =
     subst (λ o. IfNone o (IsAtEnd left)) c.in-Ok-None.field-0-is c.in-Ok-None.ensures.none in
-    (refl, answers_all _ c.lines.invariant.1 ends c.lines.invariant.1.written)
+    (refl, answers_all _ _ c.lines.invariant.1 ends c.lines.invariant.1.written)
 
 pub returns-in-Ok-None-clause-in_turn : goal.returns-in-Ok-None-clause-in_turn
 returns-in-Ok-None-clause-in_turn g c =
     let has = c.lines.invariant.1 in
-    inr (in_turn _ has c.next_command.ensures.no_further (at_least has.written))
+    inr (in_turn _ _ has c.next_command.ensures.no_further (at_least has.written))
 
 pub returns-in-Err-clause-refused : goal.returns-in-Err-clause-refused
 returns-in-Err-clause-refused g c =
@@ -61,16 +61,16 @@ returns-in-Err-clause-refused g c =
 pub returns-in-Err-clause-in_turn : goal.returns-in-Err-clause-in_turn
 returns-in-Err-clause-in_turn g c =
     let has = c.lines.invariant.1 in
-    inr (in_turn _ has c.next_command.ensures.no_further (at_least has.written))
+    inr (in_turn _ _ has c.next_command.ensures.no_further (at_least has.written))
 
 pub returns-in-Err-clause-read_fault : goal.returns-in-Err-clause-read_fault
 returns-in-Err-clause-read_fault g c _ =
-    let has = c.lines.invariant.1 in in_turn _ has c.next_command.ensures.no_further has.written
+    let has = c.lines.invariant.1 in in_turn _ _ has c.next_command.ensures.no_further has.written
 
 pub returns-in-Err-clause-no_memory : goal.returns-in-Err-clause-no_memory
 returns-in-Err-clause-no_memory g c _ =
     let has = c.lines.invariant.1 in
-    inr (in_turn _ has c.next_command.ensures.no_further has.written)
+    inr (in_turn _ _ has c.next_command.ensures.no_further has.written)
 
 pub returns-in-Err-clause-front_out : goal.returns-in-Err-clause-front_out
 returns-in-Err-clause-front_out g c is =
@@ -88,7 +88,7 @@ returns-in-Err-answer-clause-refused g c =
 pub returns-in-Err-answer-clause-in_turn : goal.returns-in-Err-answer-clause-in_turn
 returns-in-Err-answer-clause-in_turn g c =
     let has = c.lines.invariant.1 in
-    inr (in_turn _ has c.next_command.ensures.no_further (still_out has c.in-Err-answer.ensures.err))
+    inr (in_turn _ _ has c.next_command.ensures.no_further (still_out has c.in-Err-answer.ensures.err))
 
 pub returns-in-Err-answer-clause-read_fault : goal.returns-in-Err-answer-clause-read_fault
 returns-in-Err-answer-clause-read_fault g c is =
@@ -98,7 +98,7 @@ returns-in-Err-answer-clause-read_fault g c is =
 pub returns-in-Err-answer-clause-no_memory : goal.returns-in-Err-answer-clause-no_memory
 returns-in-Err-answer-clause-no_memory g c is =
     let has = c.lines.invariant.1 in
-    inr (in_turn _ has c.next_command.ensures.no_further
+    inr (in_turn _ _ has c.next_command.ensures.no_further
     (none_out has c.in-Err-answer.ensures.err
     (same_stop (Err c.in-Err-answer.stop) c.in-Err-answer.stop NoMemory refl is)))
 
