@@ -9,14 +9,14 @@ mod fewest_to_satisfy;
 mod groups;
 mod json;
 mod parts;
-mod telling;
+mod report;
 mod text;
 mod tolerance;
 mod warnings;
 
 pub use book::{LossesSoFar, book_of};
 pub use groups::{borne_alone, borne_beside};
-pub use telling::{Form, report};
+pub use report::{Form, report};
 pub use tolerance::{Tolerance, tolerance_of};
 
 /// Of how many values of a key the pairs are asked about.

@@ -193,18 +193,18 @@ impl Book {
         ensures { LeastWith (sets.contains set.now)
             (λ q. not (is_covered self.now.processes (grants_of self.now actor) kinds q)) result }
     {
-        self.left_open(actor, kinds, set).least()
+        self.uncovered_in(actor, kinds, set).least()
     }
 
     /// The processes of a set that no grant of the actor with all these kinds covers.
-    fn left_open(&self, actor: u32, kinds: KindSet, set: &ProcSet) -> ProcSet
+    fn uncovered_in(&self, actor: u32, kinds: KindSet, set: &ProcSet) -> ProcSet
         ensures { (q : ℕ) → sets.contains result q ≡ (sets.contains set.now q
             && not (is_covered self.now.processes (grants_of self.now actor) kinds q)) }
     {
         let Some(cover) = self.covers.get(actor as usize) else {
             return *set;
         };
-        match cover.left_open(kinds, set) {
+        match cover.uncovered_in(kinds, set) {
             Some(open) => open,
             None => left_uncovered(self.grants(actor), kinds, &self.processes, set),
         }

@@ -101,7 +101,7 @@ impl Cover {
     /// The processes of a set that no grant with this kind covers, where one kind is asked about;
     /// else nothing, since a question about several kinds wants one grant that has them all. Takes
     /// no memory.
-    pub(crate) fn left_open(&self, kinds: KindSet, set: &ProcSet) -> Option<ProcSet>
+    pub(crate) fn uncovered_in(&self, kinds: KindSet, set: &ProcSet) -> Option<ProcSet>
         ensures { IfSome result (LeavesOpen self.now kinds set.now) }
     {
         fy_kinds::laws::one_deed();

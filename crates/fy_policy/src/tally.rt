@@ -16,7 +16,7 @@ use std::marker::Model;
 use std::sync::Arc;
 
 /// A policy, the processes of a map, and a set of processes. Whether the set satisfies the policy
-/// is counted along the policy's tree, for every group of processes, so that a process that comes
+/// is counted along the policy's tree, for every group of processes, so that a process that joins
 /// or goes is counted once a node. Those who share a map share it here too.
 pub struct Tally {
     map: Arc<Map>,
@@ -99,8 +99,8 @@ impl Tally {
         requires { p.0 < MOST_PROCESSES }
         ensures { self.new ≡ record self.old { set = sets.insert self.old.set p.0 } }
     {
-        let comes = self.everyone.has(p) & !self.set.has(p);
-        if comes {
+        let joins = self.everyone.has(p) & !self.set.has(p);
+        if joins {
             toggle(&mut self.node, &self.map, 0, p, true);
         }
         self.set.put(p);

@@ -209,9 +209,9 @@ fn worded(line: &[u8]) -> Option<Reply>
 // functions, from processes over teams and actors to healing: each goes on with the next where it
 // hasn't the word, so the first answers for all four. The order of the chain is free.
 
-/// Any refusal without a number: one of processes and messages, or whatever `refusal_of_teams`
+/// Any refusal without a number: one of processes and messages, or whatever `refusal_from_teams`
 /// finds.
-fn refusal_of_processes(word: &[u8]) -> Option<Refusal>
+fn refusal_from_processes(word: &[u8]) -> Option<Refusal>
     ensures reads { IfSome result (λ refusal.
         refusal_text refusal ≡ codes ",\"reply\":{\"no\":[\"" ++ (word.now ++ codes "\"]}}")) }
     ensures fits { IfSome result (λ refusal. FitsRefusal refusal) }
@@ -231,12 +231,12 @@ fn refusal_of_processes(word: &[u8]) -> Option<Refusal>
     } else if is_exactly(word, "NetFull") {
         Some(Refusal::NetFull)
     } else {
-        refusal_of_teams(word)
+        refusal_from_teams(word)
     }
 }
 
-/// A refusal of teams and records, or whatever `refusal_of_actors` finds.
-fn refusal_of_teams(word: &[u8]) -> Option<Refusal>
+/// A refusal of teams and records, or whatever `refusal_from_actors` finds.
+fn refusal_from_teams(word: &[u8]) -> Option<Refusal>
     ensures reads { IfSome result (λ refusal.
         refusal_text refusal ≡ codes ",\"reply\":{\"no\":[\"" ++ (word.now ++ codes "\"]}}")) }
     ensures fits { IfSome result (λ refusal. FitsRefusal refusal) }
@@ -256,12 +256,12 @@ fn refusal_of_teams(word: &[u8]) -> Option<Refusal>
     } else if is_exactly(word, "NoPolicy") {
         Some(Refusal::NoPolicy)
     } else {
-        refusal_of_actors(word)
+        refusal_from_actors(word)
     }
 }
 
 /// A refusal of actors and the clock, or whatever `refusal_of_healing` finds.
-fn refusal_of_actors(word: &[u8]) -> Option<Refusal>
+fn refusal_from_actors(word: &[u8]) -> Option<Refusal>
     ensures reads { IfSome result (λ refusal.
         refusal_text refusal ≡ codes ",\"reply\":{\"no\":[\"" ++ (word.now ++ codes "\"]}}")) }
     ensures fits { IfSome result (λ refusal. FitsRefusal refusal) }
@@ -319,7 +319,7 @@ fn refusal(line: &[u8]) -> Option<Refusal>
 {
     let (word, rest) = string_after(line, ",\"reply\":{\"no\":[\"")?;
     if is_exactly(rest, "]}}") {
-        refusal_of_processes(word)
+        refusal_from_processes(word)
     } else {
         refusal_of_number(line)
     }

@@ -1,7 +1,7 @@
 use Rattle.std.proofs.Common.{rules}
 use Rattle.std.proofs.lemmas.List.Sorted.{answers_always}
 use Rattle.fy_net.proofs.Flights.{searched_found, searched_missing}
-use Rattle.fy_net.proofs.places.place_of.Goals as goal
+use Rattle.fy_net.proofs.message_list.place_of.Goals as goal
 
 pub returns-clause-found : goal.returns-clause-found
 returns-clause-found c =
