@@ -12,10 +12,6 @@ or_regroups : (a b c : Bool) → ((a || b) || c) ≡ (a || (b || c))
 or_regroups true b c = refl
 or_regroups false b c = refl
 
-or_of_none : (a : Bool) → (a || false) ≡ a
-or_of_none true = refl
-or_of_none false = refl
-
 -- three sets together, whichever two come first
 pub with_all_regroups : (a b c : Members) → in_either (in_either a b) c ≡ in_either a (in_either b c)
 with_all_regroups a b c =
@@ -26,10 +22,6 @@ with_all_regroups a b c =
       or_regroups a.kill_instantly b.kill_instantly c.kill_instantly,
       or_regroups a.clog b.clog c.clog,
     )
-
--- a set with none more
-pub with_all_none : (a : Members) → in_either a no_deed ≡ a
-with_all_none a = simp or_of_none
 
 -- one set more goes to those that are left, or to those before
 pub one_more :

@@ -262,12 +262,6 @@ unfolding AreCountersOf
 both-right processes at s first second a b = (a, b)
 
 -- ---- lists of groups
-pub zero-pushed : (xs : List ℕ) → ((i : ℕ) → slice_index_or xs i 0 ≡ 0) → (i : ℕ) → slice_index_or (xs ++ 0 ∷ []) i 0 ≡ 0
-zero-pushed [] each zero = refl
-zero-pushed [] each (suc i) = refl
-zero-pushed (x ∷ xs) each zero = each 0
-zero-pushed (x ∷ xs) each (suc i) = zero-pushed xs (λ j. each (suc j)) i
-
 -- ---- the one group of the root has every process
 know : (a b h : Bool) → ((a && (true && b)) && h) ≡ (a && (true && (b && h)))
 know true b h = refl
