@@ -18,8 +18,6 @@ WITHOUT = (
 WITHOUT_TOML = "SKIPPED a harness that reads cluster files: this Python is older than 3.11"
 SIX = ROOT / "examples/c6.toml"
 HEADER = '{"audit":2}\n'
-# Calls of the C library that no binding makes.
-UNASKED = {"fy_version", "fy_config_fault"}
 KINDS = ["RebootProcess", "Reboot", "RebootAndDelete", "KillInstantly"]
 KEYS = {"processid": "p", "machineid": "m", "zoneid": "z", "data_hall": "h", "dcid": "d"}
 
