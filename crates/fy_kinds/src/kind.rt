@@ -16,7 +16,7 @@ pub enum Kind {
 }
 
 /// Every kind of kill, the mildest first. Texts list kinds in this order.
-pub const KINDS: [Kind; 4] = [
+pub const MILDEST_FIRST: [Kind; 4] = [
     Kind::RebootProcess,
     Kind::Reboot,
     Kind::RebootAndDelete,
@@ -49,7 +49,10 @@ impl Kind {
     pub fn named(text: &str) -> Option<Kind>
         ensures { result ≡ kind_named text.now }
     {
-        KINDS.iter().copied().find(|kind| kind.text() == text)
+        MILDEST_FIRST
+            .iter()
+            .copied()
+            .find(|kind| kind.text() == text)
     }
 
     /// Whether the disk is emptied.

@@ -1,6 +1,6 @@
 //! Laws of kinds and of their sets, for the crates above.
 ghost use Rattle.std.specs.Prelude.{◌≡◌, ◌&&◌, ◌||◌, not, Some, [], ◌∷◌};
-ghost use Rattle.fy_kinds.specs.declared.kind.TheConstants.{KINDS, HARDEST_FIRST};
+ghost use Rattle.fy_kinds.specs.declared.kind.TheConstants.{MILDEST_FIRST, HARDEST_FIRST};
 ghost use Rattle.fy_kinds.specs.declared.kind.Kind.{Kind};
 ghost use Rattle.fy_kinds.specs.declared.kind.Kind.TheVariants.{RebootProcess, Reboot, RebootAndDelete, KillInstantly};
 ghost use Rattle.fy_kinds.specs.declared.kind_set.KindSet.{KindSet};
@@ -44,7 +44,7 @@ pub fn one_deed()
 
 /// Both lists of the kinds, written out.
 pub fn kinds_in_order()
-    ensures mildest_first { KINDS
+    ensures mildest_first { MILDEST_FIRST
         ≡ RebootProcess ∷ Reboot ∷ RebootAndDelete ∷ KillInstantly ∷ [] }
     ensures hardest_first { HARDEST_FIRST
         ≡ KillInstantly ∷ RebootAndDelete ∷ Reboot ∷ RebootProcess ∷ [] }

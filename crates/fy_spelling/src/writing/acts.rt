@@ -14,7 +14,7 @@ use super::{put, put_decimal, put_number, put_one, put_word};
 use crate::Act;
 use fy_disk::Payload;
 use fy_grants::{Grant, Scope};
-use fy_kinds::{KINDS, KillOrder, KindSet, Target};
+use fy_kinds::{KillOrder, KindSet, MILDEST_FIRST, Target};
 use fy_locality::{Name, ProcId};
 use std::alloc::AllocError;
 
@@ -163,7 +163,7 @@ fn put_kinds(out: &mut Vec<u8>, kinds: KindSet) -> Result<(), AllocError>
     ensures { AppendsOrOom result out.old.items out.new.items (deeds_text false (in_order kinds)) }
 {
     let mut later = false;
-    for &kind in &KINDS {
+    for &kind in &MILDEST_FIRST {
         if kinds.has(kind) {
             put_listed(out, later, kind.text())?;
             later = true;
