@@ -15,7 +15,7 @@ use std::alloc::{AllocError, Global};
 
 /// What is answered to an ask.
 #[derive(Clone, Copy, PartialEq, Eq, Debug)]
-pub enum Answer {
+pub(crate) enum Answer {
     Yes,
     No,
     WasGone,
@@ -54,7 +54,7 @@ fn answer_ask(dead: &mut DeadBook, ask: JudgeAsk) -> Answer
 }
 
 /// The line of each answer, in order.
-pub fn answer_asks(
+pub(crate) fn answer_asks(
     alloc: Global,
     input: &JudgeInput,
     dead: &mut DeadBook,

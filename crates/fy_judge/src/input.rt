@@ -13,7 +13,7 @@ use std::marker::Model;
 
 /// Why a line is not taken.
 #[derive(Clone, Copy, PartialEq, Eq, Debug)]
-pub enum TakeFault {
+pub(crate) enum TakeFault {
     Fault(JudgeFault),
     NoMemory,
 }
@@ -30,7 +30,7 @@ impl<T: Drop> From<AllocFailed<T>> for TakeFault {
 }
 
 /// The policies, the processes and the asks of the lines so far.
-pub struct Input {
+pub(crate) struct Input {
     policies: Vec<Policy>,
     map: Map,
     asks: Vec<Ask>,
@@ -67,7 +67,7 @@ impl Drop for Input {
 
 impl Input {
     /// Nothing said.
-    pub fn new(alloc: Global) -> Self
+    pub(crate) fn new(alloc: Global) -> Self
         ensures { result ≡ empty_input }
     {
         Input {
@@ -78,7 +78,7 @@ impl Input {
     }
 
     /// The asks, each of a process that is there.
-    pub fn asks(&self) -> &[Ask]
+    pub(crate) fn asks(&self) -> &[Ask]
         ensures asks { result.now ≡ self.now.asks }
         ensures input { IsInput self.now }
     {
@@ -86,7 +86,7 @@ impl Input {
     }
 
     /// The policies, of which there are at most eight.
-    pub fn policies(&self) -> &[Policy]
+    pub(crate) fn policies(&self) -> &[Policy]
         ensures policies { result.now ≡ self.now.policies }
         ensures input { IsInput self.now }
     {
@@ -94,14 +94,14 @@ impl Input {
     }
 
     /// The processes.
-    pub fn map(&self) -> &Map
+    pub(crate) fn map(&self) -> &Map
         ensures { result.now ≡ self.now.processes }
     {
         &self.map
     }
 
     /// Takes the next line.
-    pub fn take_line(&mut self, alloc: Global, line: &[u8]) -> Result<(), TakeFault>
+    pub(crate) fn take_line(&mut self, alloc: Global, line: &[u8]) -> Result<(), TakeFault>
         ensures taken { OnOk result (Step self.old (parse_line line.now) (Ok self.new)) }
         ensures refused { IfErr result
             (λ e. IfFault e (λ fault. Step self.old (parse_line line.now) (Err fault))) }

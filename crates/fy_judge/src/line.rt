@@ -15,14 +15,14 @@ use fy_locality::{BadName, Locality, Name, ProcId};
 
 /// May this process be lost in this way?
 #[derive(Clone, Copy)]
-pub struct Ask {
-    pub loss: Loss,
-    pub process: ProcId,
+pub(crate) struct Ask {
+    pub(crate) loss: Loss,
+    pub(crate) process: ProcId,
 }
 
 /// What the first word of a line announces.
 #[derive(Clone, Copy)]
-pub enum Keyword {
+pub(crate) enum Keyword {
     Policy,
     Process,
     Ask(Loss),
@@ -43,7 +43,7 @@ fn split_at_blank(line: &[u8]) -> Option<(&[u8], &[u8])>
 
 /// The first word and those behind it, where there are some.
 #[tactic(auto, using(crate::proofs::WordLemmas::words_of_split, crate::proofs::WordLemmas::words_of_lone))]
-pub fn first_word(line: &[u8]) -> (&[u8], Option<&[u8]>)
+pub(crate) fn first_word(line: &[u8]) -> (&[u8], Option<&[u8]>)
     ensures { MatchOption result.1 (tokens_of line.now ≡ result.0.now ∷ [])
         (λ rest. tokens_of line.now ≡ result.0.now ∷ tokens_of rest.now) }
 {
@@ -96,7 +96,7 @@ fn is_word(word: &[u8], text: &str) -> bool
 }
 
 /// What a first word announces, if it is one of the four.
-pub fn keyword_in(word: &[u8]) -> Option<Keyword>
+pub(crate) fn keyword_in(word: &[u8]) -> Option<Keyword>
     ensures { result ≡ keyword_of word.now }
 {
     if is_word(word, "policy") {
@@ -162,7 +162,7 @@ fn located(
 }
 
 /// The text of a policy, where the words are one that may be a text.
-pub fn policy_text(rest: &[u8]) -> Option<&str>
+pub(crate) fn policy_text(rest: &[u8]) -> Option<&str>
     ensures { option_map (λ text. policy text.now) result
         ≡ parse_arguments (Some Keyword.Policy) (tokens_of rest.now) }
 {
@@ -180,7 +180,7 @@ pub fn policy_text(rest: &[u8]) -> Option<&str>
 }
 
 /// A process, where the words are its five.
-pub fn process_of(rest: &[u8]) -> Option<Locality>
+pub(crate) fn process_of(rest: &[u8]) -> Option<Locality>
     ensures { option_map process result ≡ parse_arguments (Some Keyword.Process) (tokens_of rest.now) }
 {
     let Some((id, machine, zone, hall, center)) = five_words(rest) else {
@@ -193,7 +193,7 @@ pub fn process_of(rest: &[u8]) -> Option<Locality>
 }
 
 /// The ID of an ask, where the words are one name.
-pub fn asked_id(rest: &[u8]) -> Option<Name>
+pub(crate) fn asked_id(rest: &[u8]) -> Option<Name>
     ensures { (loss : Loss) → option_map (ask loss) result
         ≡ parse_arguments (Some (Keyword.Ask loss)) (tokens_of rest.now) }
 {
