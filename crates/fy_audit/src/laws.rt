@@ -1,4 +1,7 @@
-//! Laws of scripts and audits, for the crates above.
+//! Laws of scripts and audits, for the crates above, and the limits as numbers.
+ghost use Rattle.std.specs.Prelude.{◌≡◌};
+ghost use Rattle.fy_audit.specs.declared.audit.TheConstants.{MOST_AUDIT_BYTES};
+ghost use Rattle.fy_audit.specs.declared.script.TheConstants.{MOST_SCRIPT_BYTES};
 ghost use Rattle.fy_audit.specs.One.{AuditIsUnambiguous, AuditTextIsInjective, ScriptIsUnambiguous};
 ghost use Rattle.fy_audit.specs.Reading.{EntryExtendsRead, StopsAreFaults, EndsAsAudit};
 
@@ -36,4 +39,10 @@ pub fn an_audit_is_read_entry_by_entry()
     ensures more { EntryExtendsRead }
     ensures stopped { StopsAreFaults }
     ensures end { EndsAsAudit }
+{}
+
+/// The limits of this crate, as numbers.
+pub fn limits()
+    ensures audit_bytes { MOST_AUDIT_BYTES ≡ 268435456 }
+    ensures script_bytes { MOST_SCRIPT_BYTES ≡ 16777216 }
 {}

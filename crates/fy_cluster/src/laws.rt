@@ -1,4 +1,4 @@
-//! What every legal journal keeps, over the definitions alone.
+//! What every legal journal keeps, over the definitions alone; and the limits as numbers.
 ghost use Rattle.std.specs.Prelude.{◌≡◌, ◌≢◌, ◌∷◌, ℕ, true};
 ghost use Rattle.fy_acts.specs.declared.entry.Entry.{Entry};
 ghost use Rattle.fy_acts.specs.declared.reply.Reply.TheVariants.{Marked};
@@ -8,6 +8,7 @@ ghost use Rattle.fy_cluster.specs.Replies.{reply};
 ghost use Rattle.fy_cluster.specs.Survival.{ClientsTold, DestroyedShort, LeftSatisfy, KillsJudged, RulesNamed, RecordsKept, KeepersFound, JournalsSurvive, FrontsLegal, EntryAddsStep, NextLegal, NoneUnmet, SameActsSameJournal};
 ghost use Rattle.fy_cluster.specs.Versions.{SecondKnowsAll, NextLegalUnder};
 ghost use Rattle.fy_cluster.specs.Earlier.{EarlierRulesHold};
+ghost use Rattle.fy_cluster.specs.declared.config.TheConstants.{MOST_ACTORS, MOST_JOURNAL_ENTRIES};
 
 /// The destroyed are short of every policy.
 #[tactic(auto, using(crate::proofs::Strikes::destroyed_short))]
@@ -131,3 +132,9 @@ pub fn earlier_rules_hold()
     fy_policy::laws::test_is_satisfaction();
     fy_policy::laws::empty_satisfies_none();
 }
+
+/// The limits of this crate, as numbers.
+pub fn limits()
+    ensures actors { MOST_ACTORS ≡ 64 }
+    ensures journal_entries { MOST_JOURNAL_ENTRIES ≡ 1048576 }
+{}

@@ -1,4 +1,6 @@
-//! Laws of what cluster files are.
+//! Laws of what cluster files are, and the limits as numbers.
+ghost use Rattle.std.specs.Prelude.{◌≡◌};
+ghost use Rattle.fy_config.specs.declared.limits.TheConstants.{MOST_FILE_BYTES, MOST_PROTECTIONS};
 ghost use Rattle.fy_config.specs.Laws.{ConfigIsUnambiguous};
 
 /// Bytes are one configuration, or have one fault.
@@ -8,3 +10,9 @@ pub fn configs_are_unambiguous()
 {
     fy_policy::text_laws::reading_is_settled();
 }
+
+/// The limits of this crate, as numbers.
+pub fn limits()
+    ensures file_bytes { MOST_FILE_BYTES ≡ 1048576 }
+    ensures protections { MOST_PROTECTIONS ≡ 1024 }
+{}

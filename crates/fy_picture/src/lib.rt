@@ -5,6 +5,7 @@ mod aim;
 mod bearing;
 mod glyph;
 mod keeping;
+pub mod laws;
 mod life;
 mod picture;
 mod row;

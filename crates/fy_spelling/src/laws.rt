@@ -1,8 +1,9 @@
-//! Laws of texts, for the crates above.
+//! Laws of texts, for the crates above, and the limit as a number.
 ghost use Rattle.std.specs.Prelude.{◌≡◌};
 ghost use Rattle.fy_spelling.specs.OneText.{OneEntryPerText, OneHeldEntryPerText, LineIsUnambiguous, TextsAreLines, HeldTextsAreLines};
 ghost use Rattle.fy_spelling.specs.Plain.{PlainTextParses};
 ghost use Rattle.fy_spelling.specs.Rows.{EntryTexts, ReplyTexts, ActTexts, CommandText};
+ghost use Rattle.fy_spelling.specs.declared.command.TheConstants.{MOST_LINE_BYTES};
 
 /// Two entries with one text, whose numbers and names fit, are equal.
 pub fn a_text_is_of_one_entry()
@@ -38,4 +39,9 @@ pub fn texts_are_as_written_out()
     ensures replies { ReplyTexts }
     ensures acts { ActTexts }
     ensures command { CommandText }
+{}
+
+/// The limit of this crate, as a number.
+pub fn limits()
+    ensures line_bytes { MOST_LINE_BYTES ≡ 65536 }
 {}
