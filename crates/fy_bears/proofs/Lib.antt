@@ -1,4 +1,4 @@
-pub mod Borne
+pub mod BorneLosses
 pub mod Costing
 pub mod Lacking
 pub mod Needing

@@ -10,14 +10,14 @@ mod groups;
 mod json;
 pub mod laws;
 mod parts;
-mod report;
+mod reports;
 mod text;
 mod tolerance;
 mod warnings;
 
 pub use book::{LossesSoFar, book_of};
 pub use groups::{borne_alone, borne_beside};
-pub use report::{Form, report};
+pub use reports::{Form, report};
 pub use tolerance::{Tolerance, tolerance_of};
 
 /// Of how many values of a key the pairs are asked about.

@@ -1,7 +1,7 @@
 use Rattle.std.proofs.Common.{ap, ◌∙◌}
 use Rattle.fy_decide.specs.declared.dead_book.Loss.TheVariants.{Emptied, Gone}
 use Rattle.fy_bears.specs.Bears.{lost_as_allowed}
-use Rattle.fy_bears.proofs.Borne.{lost-processes, lost-policies}
+use Rattle.fy_bears.proofs.BorneLosses.{lost-processes, lost-policies}
 use Rattle.fy_bears.proofs.book.book_of.Goals as goal
 
 pub returns-clause-processes : goal.returns-clause-processes

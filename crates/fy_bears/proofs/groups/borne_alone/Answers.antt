@@ -3,7 +3,7 @@ use Rattle.std.specs.Prelude.{slice_get}
 use Rattle.fy_locality.specs.Locality.{values_of}
 use Rattle.fy_decide.specs.DeadBook.{may_lose}
 use Rattle.fy_bears.specs.Bears.{left_with_value}
-use Rattle.fy_bears.proofs.Borne.{map_more}
+use Rattle.fy_bears.proofs.BorneLosses.{map_more}
 use Rattle.fy_bears.proofs.groups.borne_alone.Goals as goal
 
 pub loop-i-preserved : goal.loop-i-preserved

@@ -5,7 +5,7 @@ use Rattle.fy_locality.specs.Locality.{values_of}
 use Rattle.fy_decide.specs.DeadBook.{may_lose}
 use Rattle.fy_decide.specs.Safety.{with_set}
 use Rattle.fy_bears.specs.Bears.{left_with_value}
-use Rattle.fy_bears.proofs.Borne.{map_more, with-is}
+use Rattle.fy_bears.proofs.BorneLosses.{map_more, with-is}
 use Rattle.fy_bears.proofs.groups.borne_beside.Goals as goal
 
 pub loop-i-preserved : goal.loop-i-preserved

@@ -3,7 +3,7 @@ use Rattle.std.specs.FinSet as sets
 use Rattle.fy_policy.specs.Sat.{Sat}
 use Rattle.fy_decide.specs.Safety.{MayDestroy, with_set, without_set}
 use Rattle.fy_decide.specs.declared.dead_book.Loss.TheVariants.{Gone}
-use Rattle.fy_bears.proofs.Borne.{may-short, with-is, without-is}
+use Rattle.fy_bears.proofs.BorneLosses.{may-short, with-is, without-is}
 use Rattle.fy_bears.proofs.tolerance.is_too_many.Goals as goal
 
 pub returns-then-satisfied : goal.returns-then-satisfied

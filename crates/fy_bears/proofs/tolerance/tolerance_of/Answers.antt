@@ -10,7 +10,7 @@ use Rattle.fy_policy.specs.Tree.{Tree, IsPolicy, IsWellFormed}
 use Rattle.fy_decide.specs.Safety.{MayDestroy}
 use Rattle.fy_bears.specs.Bears.{MayLoseBy}
 use Rattle.fy_bears.specs.Costs.{NeedsAtLeast, LacksAtLeast}
-use Rattle.fy_bears.proofs.Borne.{each_at, short-with, satisfied-without}
+use Rattle.fy_bears.proofs.BorneLosses.{each_at, short-with, satisfied-without}
 use Rattle.fy_bears.proofs.tolerance.tolerance_of.Goals.{in-Emptied, in-Gone}
 use Rattle.fy_bears.proofs.tolerance.tolerance_of.Goals as goal
 
