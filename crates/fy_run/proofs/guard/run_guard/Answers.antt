@@ -2,6 +2,8 @@ use Rattle.std.proofs.Common.{arith, inr, ◌≡◌, ◌+◌, ◌∙◌, length,
 use Rattle.std.specs.Prelude.{IfSome, IfNone, Err}
 use Rattle.std.specs.Io.KnownBytes.{Appends, IsAtEnd}
 use Rattle.fy_lines.specs.Prefixes.{AppendsProperPrefix}
+use Rattle.fy_lines.specs.Readings.{ReadsWithinLine, ReadsInsideLine}
+use Rattle.fy_spelling.specs.declared.command.TheConstants.{MOST_LINE_BYTES}
 use Rattle.fy_cluster.specs.Setup.{Setup}
 use Rattle.fy_cluster.specs.Execution.{Execution, opened}
 use Rattle.fy_audit.specs.AuditText.{header}
@@ -63,7 +65,7 @@ returns-in-Ok-None-clause-in_turn g c =
     let before = g.W.Write.contents c.args.writer.now in
     let out = g.W.Write.contents c.lines.writer in
     let has = c.lines.invariant.1 in
-    inr (in_turn c.args.config.now known left next before out c.lines.cluster (AppendsAtLeast before out)
+    inr (in_turn c.args.config.now ReadsWithinLine known left next before out c.lines.cluster (AppendsAtLeast before out)
     has c.next_command.ensures.no_further (at_least before out _ has.written))
 
 pub returns-in-Err-clause-refused : goal.returns-in-Err-clause-refused
@@ -84,19 +86,20 @@ returns-in-Err-clause-in_turn g c =
     let before = g.W.Write.contents c.args.writer.now in
     let out = g.W.Write.contents c.lines.writer in
     let has = c.lines.invariant.1 in
-    inr (in_turn c.args.config.now known left next before out c.lines.cluster (AppendsAtLeast before out)
+    inr (in_turn c.args.config.now ReadsWithinLine known left next before out c.lines.cluster (AppendsAtLeast before out)
     has c.next_command.ensures.no_further (at_least before out _ has.written))
 
 pub returns-in-Err-clause-read_fault : goal.returns-in-Err-clause-read_fault
-returns-in-Err-clause-read_fault g c _ =
+returns-in-Err-clause-read_fault g c is =
     let known = g.R.Read.remaining c.args.reader.now in
     let left = g.R.Read.remaining c.lines.reader in
     let next = g.R.Read.remaining c.next_command.new.reader in
     let before = g.W.Write.contents c.args.writer.now in
     let out = g.W.Write.contents c.lines.writer in
     let has = c.lines.invariant.1 in
-    in_turn c.args.config.now known left next before out c.lines.cluster (Appends before out) has
-    c.next_command.ensures.no_further has.written
+    in_turn c.args.config.now (λ rest left. ReadsInsideLine rest left MOST_LINE_BYTES) known left next
+    before out c.lines.cluster (Appends before out) has
+    (c.in-Err.ensures.cut (same_stop (Err c.in-Err.stop) c.in-Err.stop Read refl is)) has.written
 
 pub returns-in-Err-clause-no_memory : goal.returns-in-Err-clause-no_memory
 returns-in-Err-clause-no_memory g c _ =
@@ -106,7 +109,7 @@ returns-in-Err-clause-no_memory g c _ =
     let before = g.W.Write.contents c.args.writer.now in
     let out = g.W.Write.contents c.lines.writer in
     let has = c.lines.invariant.1 in
-    inr (in_turn c.args.config.now known left next before out c.lines.cluster (Appends before out) has
+    inr (in_turn c.args.config.now ReadsWithinLine known left next before out c.lines.cluster (Appends before out) has
     c.next_command.ensures.no_further has.written)
 
 pub returns-in-Err-clause-front_out : goal.returns-in-Err-clause-front_out
@@ -141,7 +144,7 @@ returns-in-Err-answer-clause-in_turn g c =
     let out = g.W.Write.contents c.lines.writer in
     let short = g.W.Write.contents c.answer.new.writer in
     let has = c.lines.invariant.1 in
-    inr (in_turn c.args.config.now known left next before out c.lines.cluster
+    inr (in_turn c.args.config.now ReadsWithinLine known left next before out c.lines.cluster
     (AppendsAtLeast before short) has c.next_command.ensures.no_further
     (still_out c.args.config.now known left before out short c.lines.cluster c.answer.new.cluster
     c.in-Ok-Some.command c.in-Err-answer.stop has c.in-Err-answer.ensures.err))
@@ -161,7 +164,7 @@ returns-in-Err-answer-clause-no_memory g c is =
     let out = g.W.Write.contents c.lines.writer in
     let short = g.W.Write.contents c.answer.new.writer in
     let has = c.lines.invariant.1 in
-    inr (in_turn c.args.config.now known left next before out c.lines.cluster (Appends before short) has
+    inr (in_turn c.args.config.now ReadsWithinLine known left next before out c.lines.cluster (Appends before short) has
     c.next_command.ensures.no_further
     (none_out c.args.config.now known left before out short c.lines.cluster c.answer.new.cluster
     c.in-Ok-Some.command c.in-Err-answer.stop has c.in-Err-answer.ensures.err
