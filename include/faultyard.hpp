@@ -23,6 +23,7 @@
 #include <bitset>
 #include <cstddef>
 #include <cstdint>
+#include <cstdio>
 #include <exception>
 #include <new>
 #include <optional>
@@ -31,6 +32,30 @@
 #include <utility>
 
 namespace faultyard {
+
+/* A version, as 1.0.0. */
+struct Version {
+    std::uint32_t major = 0;
+    std::uint32_t minor = 0;
+    std::uint32_t patch = 0;
+
+    friend constexpr bool operator==(const Version &one, const Version &other) noexcept
+    {
+        return one.major == other.major && one.minor == other.minor && one.patch == other.patch;
+    }
+
+    friend constexpr bool operator!=(const Version &one, const Version &other) noexcept
+    {
+        return !(one == other);
+    }
+};
+
+/* The version of the library that is linked or loaded. FAULTYARD_VERSION is that of the header. */
+inline Version version() noexcept
+{
+    const std::uint32_t number = fy_version();
+    return {number / 10000, number / 100 % 100, number % 100};
+}
 
 /* The part of a process's place by which an order names it. */
 enum class Key : std::uint32_t {
@@ -92,6 +117,16 @@ enum class Refusal : std::uint32_t {
     StillNeeds = FY_STILL_NEEDS,
 };
 
+/* A part of a cluster file, in the order in which they are looked at. */
+enum class Part : std::uint32_t {
+    JournalLimit = FY_PART_JOURNAL_LIMIT, /* journal_limit */
+    Policies = FY_PART_POLICIES,          /* policies */
+    Process = FY_PART_PROCESS,            /* process */
+    Actor = FY_PART_ACTOR,                /* actor */
+    Protect = FY_PART_PROTECT,            /* protect */
+    Unknown = FY_PART_UNKNOWN,            /* A key at the top that is none of these. */
+};
+
 /* How a call ended. `Error` has any but `Done` and `Short`. */
 enum class Status : std::uint32_t {
     Done = FY_DONE,
@@ -140,6 +175,15 @@ inline constexpr std::string_view KINDS[] = {
 
 inline constexpr std::string_view RULES[] = {
     "", "NoTarget", "NoGrant", "Protected", "TooManyDestroyed", "TooFewLeft",
+};
+
+inline constexpr std::string_view PARTS[] = {
+    "", "JournalLimit", "Policies", "Process", "Actor", "Protect", "Unknown",
+};
+
+/* The words of the statuses from ConfigTooLong on in fault lines. */
+inline constexpr std::string_view CONFIG_FAULTS[] = {
+    "TooLong", "Toml", "Field", "Limit", "Name", "Policy", "PolicyUnmet",
 };
 
 /* A word, and what `Error::what` answers for it. */
@@ -220,7 +264,7 @@ inline const std::uint8_t *bytes(std::string_view text) noexcept
 
 } // namespace detail
 
-/* The word that scripts and audits have for it; of a status its name here. */
+/* The word that scripts, audits and fault lines have for it; of a status its name here. */
 constexpr std::string_view to_string(Key key) noexcept
 {
     return detail::row_of(detail::KEYS, key, detail::NO_WORD);
@@ -241,6 +285,11 @@ constexpr std::string_view to_string(Refusal refusal) noexcept
     return detail::row_of(detail::REFUSALS, refusal, detail::NO_TEXT).word;
 }
 
+constexpr std::string_view to_string(Part part) noexcept
+{
+    return detail::row_of(detail::PARTS, part, detail::NO_WORD);
+}
+
 constexpr std::string_view to_string(Status status) noexcept
 {
     return detail::row_of(detail::STATUSES, status, detail::NO_TEXT).word;
@@ -255,20 +304,57 @@ public:
     {
     }
 
+    /* Of a cluster file, with where its fault is. */
+    Error(Status status, std::optional<Part> part, std::optional<std::uint64_t> place) noexcept
+        : status_(status), part_(part), place_(place)
+    {
+        write_fault();
+    }
+
     Status status() const noexcept { return status_; }
 
     /* Why the act is refused, where the status is Refused. */
     std::optional<Refusal> refusal() const noexcept { return refusal_; }
 
+    /* The part of the cluster file that the fault is in, where the status is ConfigField to
+     * ConfigUnmet. */
+    std::optional<Part> part() const noexcept { return part_; }
+
+    /* The place in that part, from 0: of the process, actor or protection where the status is
+     * ConfigName, of the policy where it is ConfigPolicy or ConfigUnmet. */
+    std::optional<std::uint64_t> place() const noexcept { return place_; }
+
+    /* What is wrong. Of a cluster file the program's fault line, and what it means. */
     const char *what() const noexcept override
     {
+        if (fault_[0] != '\0')
+            return fault_;
         return refusal_ ? detail::row_of(detail::REFUSALS, *refusal_, detail::NO_TEXT).says
                         : detail::row_of(detail::STATUSES, status_, detail::NO_TEXT).says;
     }
 
 private:
+    void write_fault() noexcept
+    {
+        const auto at = static_cast<std::uint32_t>(status_) - FY_CONFIG_TOO_LONG;
+        const std::string_view word = detail::row_of(detail::CONFIG_FAULTS, at, detail::NO_WORD);
+        const bool is_of_part = status_ == Status::ConfigField || status_ == Status::ConfigLimit ||
+                                status_ == Status::ConfigName;
+        const std::string_view part = is_of_part && part_ ? to_string(*part_) : "";
+        char place[24] = "";
+        if (place_)
+            std::snprintf(place, sizeof place, " %llu", static_cast<unsigned long long>(*place_));
+        std::snprintf(fault_, sizeof fault_, "config: %s%s%s%s: %s", word.data(),
+                      part.empty() ? "" : " ", part.data(), place,
+                      detail::row_of(detail::STATUSES, status_, detail::NO_TEXT).says);
+    }
+
     Status status_;
     std::optional<Refusal> refusal_;
+    std::optional<Part> part_;
+    std::optional<std::uint64_t> place_;
+    /* It has room for each word and text above, and for a place of 20 digits. */
+    char fault_[192] = "";
 };
 
 /* The answer to a kill. */
@@ -347,10 +433,14 @@ struct State {
 class Guard {
 public:
     /* Opens a guard of a cluster in which nothing happened yet, by the text of a cluster file.
-     * Throws NoMemory, and ConfigTooLong to ConfigUnmet, the first that holds. */
+     * Throws NoMemory, and ConfigTooLong to ConfigUnmet, the first that holds, with its part and
+     * place. */
     explicit Guard(std::string_view config)
     {
-        require(fy_open(detail::bytes(config), config.size(), &guard_));
+        const std::uint32_t status = fy_open(detail::bytes(config), config.size(), &guard_);
+        if (status >= FY_CONFIG_TOO_LONG && status <= FY_CONFIG_UNMET)
+            throw fault_of(config, status);
+        require(status);
     }
 
     Guard(Guard &&other) noexcept : guard_(std::exchange(other.guard_, fy_guard{nullptr})) {}
@@ -626,6 +716,22 @@ private:
             throw Error(Status::Refused, static_cast<Refusal>(refusal));
         if (status != FY_DONE)
             throw Error(static_cast<Status>(status));
+    }
+
+    /* The fault of a cluster file that is refused. It is read again, which may want memory. */
+    static Error fault_of(std::string_view config, std::uint32_t refused) noexcept
+    {
+        std::uint32_t part = FY_WHOLE_FILE;
+        std::uint64_t place = 0;
+        const std::uint32_t status =
+            fy_config_fault(detail::bytes(config), config.size(), &part, &place);
+        if (status != refused)
+            return Error(static_cast<Status>(status == FY_DONE ? refused : status));
+        const bool has_place =
+            status == FY_CONFIG_NAME || status == FY_CONFIG_POLICY || status == FY_CONFIG_UNMET;
+        return Error(static_cast<Status>(status),
+                     part == FY_WHOLE_FILE ? std::nullopt : std::optional(static_cast<Part>(part)),
+                     has_place ? std::optional(place) : std::nullopt);
     }
 
     static std::string room_for(std::size_t length)

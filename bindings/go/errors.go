@@ -3,6 +3,8 @@ package faultyard
 // #include <faultyard.h>
 import "C"
 
+import "fmt"
+
 // Status is how a call ended that did not do what it says. It is an error:
 //
 //	if errors.Is(err, faultyard.ErrJournalFull) { .. }
@@ -34,7 +36,8 @@ const (
 	ErrLineTooLong Status = C.FY_LINE_TOO_LONG
 	// ErrLineSyntax is: the line is no command of a script.
 	ErrLineSyntax Status = C.FY_LINE_SYNTAX
-	// ErrConfigTooLong is: the cluster file has more than 1,048,576 bytes.
+	// ErrConfigTooLong is: the cluster file has more than 1,048,576 bytes. It and the next six are
+	// answered by no call; each ConfigFault is its Status by errors.Is.
 	ErrConfigTooLong Status = C.FY_CONFIG_TOO_LONG
 	// ErrConfigToml is: the cluster file is no TOML document in UTF-8.
 	ErrConfigToml Status = C.FY_CONFIG_TOML
@@ -79,6 +82,51 @@ var statusTexts = []string{
 // Error says what the status means.
 func (status Status) Error() string {
 	return "faultyard: " + wordOf("status", statusTexts, uint32(status))
+}
+
+// ConfigFault is why a text is no cluster file, and where. It is an error, and so is its Status:
+//
+//	var fault faultyard.ConfigFault
+//	if errors.As(err, &fault) { .. fault.Part, fault.Place .. }
+//	if errors.Is(err, faultyard.ErrConfigName) { .. } // wherever it is
+type ConfigFault struct {
+	// Status is one of ErrConfigTooLong to ErrConfigUnmet.
+	Status Status
+	// Part is the part of the cluster file that the fault is in.
+	Part Part
+	// Place is its place there, from 0: that of the process, actor or protection of
+	// ErrConfigName, that of the policy of ErrConfigPolicy and ErrConfigUnmet, and else 0.
+	Place uint64
+}
+
+// Error is the fault line of `faultyard run`, and what it means.
+func (fault ConfigFault) Error() string {
+	line := wordOf("config", faultWords, uint32(fault.Status))
+	switch fault.Status {
+	case ErrConfigField, ErrConfigLimit:
+		line = fmt.Sprintf("%s %v", line, fault.Part)
+	case ErrConfigName:
+		line = fmt.Sprintf("%s %v %d", line, fault.Part, fault.Place)
+	case ErrConfigPolicy, ErrConfigUnmet:
+		line = fmt.Sprintf("%s %d", line, fault.Place)
+	}
+	meaning := wordOf("status", statusTexts, uint32(fault.Status))
+	return fmt.Sprintf("faultyard: config: %s: %s", line, meaning)
+}
+
+// Unwrap says that the fault is its Status.
+func (fault ConfigFault) Unwrap() error {
+	return fault.Status
+}
+
+var faultWords = []string{
+	ErrConfigTooLong: "TooLong",
+	ErrConfigToml:    "Toml",
+	ErrConfigField:   "Field",
+	ErrConfigLimit:   "Limit",
+	ErrConfigName:    "Name",
+	ErrConfigPolicy:  "Policy",
+	ErrConfigUnmet:   "PolicyUnmet",
 }
 
 // Refusal is why an act is refused; the act stands in the journal with it. It is an error:

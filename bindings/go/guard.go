@@ -21,6 +21,12 @@ const Header = C.FY_AUDIT_HEADER
 // usualLine is how many bytes most lines have at most; a longer one is read again.
 const usualLine = 512
 
+// Version answers the version of the library that is loaded.
+func Version() (major, minor, patch uint32) {
+	number := uint32(C.fy_version())
+	return number / 10_000, number / 100 % 100, number % 100
+}
+
 // Guard is a guard. Goroutines may share it: a mutex puts their calls in order.
 type Guard struct {
 	lock    sync.Mutex
@@ -29,11 +35,16 @@ type Guard struct {
 
 // Open opens a guard of a cluster in which nothing happened yet, by the text of a cluster file.
 //
-// Its error is ErrNoMemory, or the first of ErrConfigTooLong to ErrConfigUnmet that holds.
+// Its error is ErrNoMemory, or a ConfigFault with the first of ErrConfigTooLong to ErrConfigUnmet
+// that holds.
 func Open(config []byte) (*Guard, error) {
 	guard := new(Guard)
 	text, length := bytesOf(config)
-	if err := errorOf(C.fy_open(text, length, &guard.library)); err != nil {
+	status := C.fy_open(text, length, &guard.library)
+	if C.FY_CONFIG_TOO_LONG <= status && status <= C.FY_CONFIG_UNMET {
+		return nil, faultOf(text, length, status)
+	}
+	if err := errorOf(status); err != nil {
 		return nil, err
 	}
 	// A guard that nobody closed and nobody can reach is freed too.
@@ -463,6 +474,17 @@ func appendEntry(text []byte, its *C.fy_guard, at int) ([]byte, error) {
 		}
 		return append(text, line[:room]...), nil
 	}
+}
+
+// faultOf is the error of a text that is refused with a status. It is read again to say where.
+func faultOf(text *C.uint8_t, length C.size_t, refused C.uint32_t) error {
+	var part C.uint32_t
+	var place C.uint64_t
+	status := C.fy_config_fault(text, length, &part, &place)
+	if status == C.FY_NO_MEMORY {
+		return ErrNoMemory
+	}
+	return ConfigFault{Status(refused), Part(part), uint64(place)}
 }
 
 // errorOf is the error of a status; nil where the call did what it says.

@@ -63,11 +63,35 @@ const (
 	TooFewLeft Rule = C.FY_TOO_FEW_LEFT
 )
 
+// Part is a part of a cluster file. A lower one is looked at first.
+type Part uint32
+
+// The parts.
+const (
+	// WholeFile is no one part: the file is too long, or no TOML document.
+	WholeFile Part = C.FY_WHOLE_FILE
+	// PartJournalLimit is journal_limit.
+	PartJournalLimit Part = C.FY_PART_JOURNAL_LIMIT
+	// PartPolicies is policies.
+	PartPolicies Part = C.FY_PART_POLICIES
+	// PartProcess is process.
+	PartProcess Part = C.FY_PART_PROCESS
+	// PartActor is actor.
+	PartActor Part = C.FY_PART_ACTOR
+	// PartProtect is protect.
+	PartProtect Part = C.FY_PART_PROTECT
+	// PartUnknown is a key at the top that is none of these.
+	PartUnknown Part = C.FY_PART_UNKNOWN
+)
+
 var (
 	keyWords  = []string{"", "processid", "machineid", "zoneid", "data_hall", "dcid"}
 	kindWords = []string{"None", "RebootProcess", "Reboot", "RebootAndDelete", "KillInstantly"}
 	ruleWords = []string{
 		"NoRule", "NoTarget", "NoGrant", "Protected", "TooManyDestroyed", "TooFewLeft",
+	}
+	partWords = []string{
+		"WholeFile", "JournalLimit", "Policies", "Process", "Actor", "Protect", "Unknown",
 	}
 )
 
@@ -84,6 +108,11 @@ func (kind Kind) String() string {
 // String is the word of audits.
 func (rule Rule) String() string {
 	return wordOf("Rule", ruleWords, uint32(rule))
+}
+
+// String is the word of fault lines.
+func (part Part) String() string {
+	return wordOf("Part", partWords, uint32(part))
 }
 
 // wordOf is the word of a number, or tells the number where it has none.

@@ -1,7 +1,8 @@
 //! Why a call failed.
 
 use crate::words::by_number;
-use crate::Refusal;
+use crate::{Part, Refusal};
+use std::ops::RangeInclusive;
 use std::{fmt, io};
 
 /// Why a call failed.
@@ -35,7 +36,8 @@ pub enum Error {
     Protocol(&'static str),
 }
 
-/// Why a text is no cluster file. `faultyard run FILE < /dev/null` says where.
+/// Why a text is no cluster file, and where. As text it is what the fault line of `faultyard run`
+/// says, and what that means.
 #[derive(Clone, Copy, Debug, PartialEq, Eq, Hash)]
 #[non_exhaustive]
 pub enum ConfigFault {
@@ -45,15 +47,75 @@ pub enum ConfigFault {
     Toml,
     /// A key is missing, unknown or of another type, or a word is none of those that may stand
     /// there.
-    Field,
+    Field {
+        /// Where.
+        part: Part,
+    },
     /// A number or a length is outside its range.
-    Limit,
+    Limit {
+        /// Where.
+        part: Part,
+    },
     /// A text is no name, or names what is taken or isn't there.
-    Name,
+    Name {
+        /// Where.
+        part: Part,
+        /// The number of the process, actor or protection, from 0.
+        place: u32,
+    },
     /// A text is no policy.
-    Policy,
+    Policy {
+        /// The number of the policy, from 0.
+        place: u32,
+    },
     /// All processes together don't satisfy one of the policies.
-    Unmet,
+    Unmet {
+        /// The number of the policy, from 0.
+        place: u32,
+    },
+}
+
+impl ConfigFault {
+    /// The statuses that tell one.
+    pub(crate) const STATUSES: RangeInclusive<u32> = 12..=18;
+
+    /// The part of the cluster file that it is in; `None` where it is of the whole file.
+    pub const fn part(self) -> Option<Part> {
+        match self {
+            ConfigFault::TooLong | ConfigFault::Toml => None,
+            ConfigFault::Field { part }
+            | ConfigFault::Limit { part }
+            | ConfigFault::Name { part, .. } => Some(part),
+            ConfigFault::Policy { .. } | ConfigFault::Unmet { .. } => Some(Part::Policies),
+        }
+    }
+
+    /// Its place in that part, from 0, where it names one.
+    pub const fn place(self) -> Option<u32> {
+        match self {
+            ConfigFault::Name { place, .. }
+            | ConfigFault::Policy { place }
+            | ConfigFault::Unmet { place } => Some(place),
+            _ => None,
+        }
+    }
+
+    /// The fault that a status tells with a part and a place, or the error that it tells.
+    pub(crate) fn of(status: u32, part: u32, place: u64) -> Result<ConfigFault, Error> {
+        let part = by_number(Part::ALL, part).ok_or(Error::Protocol("a part"));
+        let place = u32::try_from(place).map_err(|_| Error::Protocol("a number"))?;
+        let fault = match status {
+            12 => ConfigFault::TooLong,
+            13 => ConfigFault::Toml,
+            14 => ConfigFault::Field { part: part? },
+            15 => ConfigFault::Limit { part: part? },
+            16 => ConfigFault::Name { part: part?, place },
+            17 => ConfigFault::Policy { place },
+            18 => ConfigFault::Unmet { place },
+            _ => return Err(Error::of(status)),
+        };
+        Ok(fault)
+    }
 }
 
 impl Error {
@@ -68,14 +130,8 @@ impl Error {
             9 => Error::Floor,
             10 => Error::LineTooLong,
             11 => Error::LineSyntax,
-            12 => Error::Config(ConfigFault::TooLong),
-            13 => Error::Config(ConfigFault::Toml),
-            14 => Error::Config(ConfigFault::Field),
-            15 => Error::Config(ConfigFault::Limit),
-            16 => Error::Config(ConfigFault::Name),
-            17 => Error::Config(ConfigFault::Policy),
-            18 => Error::Config(ConfigFault::Unmet),
-            // No call of this crate meets FY_SHORT, FY_ARGUMENT or FY_CLOSED.
+            // ConfigFault::of has those of a cluster file. No call of this crate meets FY_SHORT,
+            // FY_ARGUMENT or FY_CLOSED.
             _ => Error::Protocol("a status"),
         }
     }
@@ -112,7 +168,7 @@ impl fmt::Display for Error {
             Error::Floor => write!(f, "the floor of the kill is above its kind"),
             Error::LineTooLong => write!(f, "the line has more than 65,536 bytes"),
             Error::LineSyntax => write!(f, "the line is no command of a script"),
-            Error::Config(fault) => write!(f, "the text is no cluster file: {fault}"),
+            Error::Config(fault) => write!(f, "config: {fault}"),
             Error::Protocol(what) => {
                 write!(
                     f,
@@ -125,15 +181,27 @@ impl fmt::Display for Error {
 
 impl fmt::Display for ConfigFault {
     fn fmt(&self, f: &mut fmt::Formatter<'_>) -> fmt::Result {
-        f.pad(match self {
-            ConfigFault::TooLong => "it has more than 1,048,576 bytes",
-            ConfigFault::Toml => "it is no TOML document in UTF-8",
-            ConfigFault::Field => "a key or a word of it is wrong or missing",
-            ConfigFault::Limit => "a number or a length is outside its range",
-            ConfigFault::Name => "a text is no name, or names what is taken or isn't there",
-            ConfigFault::Policy => "a text is no policy",
-            ConfigFault::Unmet => "all processes together don't satisfy a policy",
-        })
+        match self {
+            ConfigFault::TooLong => write!(f, "TooLong: it has more than 1,048,576 bytes"),
+            ConfigFault::Toml => write!(f, "Toml: it is no TOML document in UTF-8"),
+            ConfigFault::Field { part } => {
+                write!(f, "Field {part}: a key or a word is wrong or missing")
+            }
+            ConfigFault::Limit { part } => {
+                write!(f, "Limit {part}: a number or a length is outside its range")
+            }
+            ConfigFault::Name { part, place } => {
+                write!(f, "Name {part} {place}: a text is no name, ")?;
+                write!(f, "or names what is taken or isn't there")
+            }
+            ConfigFault::Policy { place } => write!(f, "Policy {place}: it is no policy"),
+            ConfigFault::Unmet { place } => {
+                write!(
+                    f,
+                    "PolicyUnmet {place}: all processes together don't satisfy it"
+                )
+            }
+        }
     }
 }
 
@@ -177,14 +245,26 @@ mod tests {
     }
 
     #[test]
+    fn faults_that_no_library_of_this_version_answers() {
+        let unknown = |what| Err(Error::Protocol(what));
+        for status in [14, 15, 16] {
+            for part in [0, 7] {
+                assert_eq!(ConfigFault::of(status, part, 0), unknown("a part"));
+            }
+        }
+        assert_eq!(ConfigFault::of(17, 2, 1 << 32), unknown("a number"));
+        for status in [0, 19] {
+            assert_eq!(ConfigFault::of(status, 0, 0), unknown("a status"));
+        }
+        assert_eq!(ConfigFault::of(1, 0, 0), Err(Error::NoMemory));
+    }
+
+    #[test]
     fn an_error_says_what_is_wrong() {
         let refused = Error::Refused(Refusal::StillNeeds);
         assert_eq!(refused.to_string(), "the act is refused: StillNeeds");
-        let config = Error::Config(ConfigFault::Policy);
-        assert_eq!(
-            config.to_string(),
-            "the text is no cluster file: a text is no policy"
-        );
+        let config = Error::Config(ConfigFault::Policy { place: 1 });
+        assert_eq!(config.to_string(), "config: Policy 1: it is no policy");
         let io = io::Error::from(Error::NoMemory);
         assert_eq!(io.kind(), io::ErrorKind::OutOfMemory);
         assert_eq!(io::Error::from(refused).kind(), io::ErrorKind::Other);

@@ -3,7 +3,7 @@
 use crate::error::{accepted, done};
 use crate::sight::somebody;
 use crate::sys::{self, FyGuard, FySeen};
-use crate::{Error, Key, Kind, ProcessSet, Refusal, Sight, State, Verdict};
+use crate::{ConfigFault, Error, Key, Kind, ProcessSet, Refusal, Sight, State, Verdict};
 use std::ops::Range;
 use std::{fmt, io, ptr};
 
@@ -49,7 +49,11 @@ impl Guard {
         };
         // SAFETY: the pointer of a slice isn't null, and `len` bytes behind it may be read. The
         // guard is closed. If it isn't opened, it stays closed, and there is nothing to free.
-        done(unsafe { sys::fy_open(config.as_ptr(), config.len(), &mut raw) })?;
+        let status = unsafe { sys::fy_open(config.as_ptr(), config.len(), &mut raw) };
+        if ConfigFault::STATUSES.contains(&status) {
+            return Err(fault_of(config));
+        }
+        done(status)?;
         Ok(Guard { raw })
     }
 
@@ -388,6 +392,18 @@ impl Guard {
             bytes.truncate(front + told);
             return Ok(());
         }
+    }
+}
+
+/// The error of a text that is no cluster file. It is read again to say where its fault is.
+fn fault_of(config: &[u8]) -> Error {
+    let (mut part, mut place) = (0, 0);
+    // SAFETY: as in `open`. Each answer goes to a variable of its own.
+    let status =
+        unsafe { sys::fy_config_fault(config.as_ptr(), config.len(), &mut part, &mut place) };
+    match ConfigFault::of(status, part, place) {
+        Ok(fault) => Error::Config(fault),
+        Err(error) => error,
     }
 }
 

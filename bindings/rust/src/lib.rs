@@ -98,6 +98,7 @@ mod sight;
 mod state;
 mod sys;
 mod verdict;
+mod version;
 mod words;
 
 pub use error::{ConfigFault, Error};
@@ -106,7 +107,8 @@ pub use set::ProcessSet;
 pub use sight::Sight;
 pub use state::State;
 pub use verdict::{Rule, Verdict};
-pub use words::{Key, Kind, Refusal};
+pub use version::{version, Version};
+pub use words::{Key, Kind, Part, Refusal};
 
 #[cfg(doctest)]
 #[doc = include_str!("../README.md")]

@@ -43,6 +43,13 @@ pub const STATE_DESTROYED: u32 = 4;
 pub const STATE_GONE: u32 = 8;
 
 extern "C" {
+    pub fn fy_version() -> u32;
+    pub fn fy_config_fault(
+        config: *const u8,
+        config_length: usize,
+        part: *mut u32,
+        place: *mut u64,
+    ) -> u32;
     pub fn fy_open(config: *const u8, config_length: usize, guard: *mut FyGuard) -> u32;
     pub fn fy_close(guard: FyGuard);
     pub fn fy_reset(guard: *mut FyGuard) -> u32;

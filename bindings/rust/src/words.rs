@@ -19,7 +19,7 @@ macro_rules! numbered {
             /// All of them, by rising number.
             pub const ALL: &'static [$name] = &[$($name::$variant),*];
 
-            /// Its word in cluster files, scripts and audits.
+            /// Its word in cluster files, scripts, audits and fault lines.
             pub const fn word(self) -> &'static str {
                 match self {
                     $($name::$variant => $word,)*
@@ -93,6 +93,25 @@ numbered! {
         DataHall = 4, "data_hall";
         /// Its data center.
         DataCenter = 5, "dcid";
+    }
+}
+
+numbered! {
+    /// A part of a cluster file, in the order in which they are looked at.
+    #[non_exhaustive]
+    Part {
+        /// `journal_limit`.
+        JournalLimit = 1, "JournalLimit";
+        /// `policies`.
+        Policies = 2, "Policies";
+        /// `process`.
+        Process = 3, "Process";
+        /// `actor`.
+        Actor = 4, "Actor";
+        /// `protect`.
+        Protect = 5, "Protect";
+        /// A key at the top that is none of these.
+        Unknown = 6, "Unknown";
     }
 }
 

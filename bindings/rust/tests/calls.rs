@@ -1,8 +1,8 @@
 //! Each call, and each error that a test can meet.
 
 use faultyard::{
-    ConfigFault, Error, Guard, Key, Kind, ProcessSet, Refusal, Rule, Sight, State, Verdict,
-    AUDIT_HEADER,
+    ConfigFault, Error, Guard, Key, Kind, Part, ProcessSet, Refusal, Rule, Sight, State, Verdict,
+    Version, AUDIT_HEADER,
 };
 
 const CONFIG: &str = include_str!("cluster.toml");
@@ -422,24 +422,90 @@ fn a_full_journal_takes_nothing() {
     assert_eq!((guard.left().len(), guard.journal_len()), (6, 2));
 }
 
+/// The fault of a text that is no cluster file, its part and its place, and what its error says.
+fn fault(text: impl AsRef<[u8]>) -> (ConfigFault, Option<Part>, Option<u32>, String) {
+    let error = Guard::open(text).unwrap_err();
+    match error {
+        Error::Config(fault) => (fault, fault.part(), fault.place(), error.to_string()),
+        other => panic!("{other:?}"),
+    }
+}
+
+fn said(text: &str) -> String {
+    text.to_owned()
+}
+
 #[test]
 fn a_cluster_file_is_refused_by_its_fault() {
-    let fault = |text: &[u8]| match Guard::open(text) {
-        Err(Error::Config(fault)) => fault,
-        other => panic!("{other:?}"),
-    };
-    assert_eq!(
-        fault("#".repeat(1_048_577).as_bytes()),
-        ConfigFault::TooLong
-    );
-    assert_eq!(fault(b"process = ["), ConfigFault::Toml);
-    assert_eq!(fault(&[0xff, 0xfe]), ConfigFault::Toml);
-    assert_eq!(fault(b""), ConfigFault::Field);
-    let changed = |from: &str, to: &str| fault(CONFIG.replace(from, to).as_bytes());
-    assert_eq!(changed("20000", "0"), ConfigFault::Limit);
-    assert_eq!(changed("\"p1\"", "\"p0\""), ConfigFault::Name);
-    assert_eq!(changed("One()", "Two()"), ConfigFault::Policy);
-    assert_eq!(changed("Across(2", "Across(4"), ConfigFault::Unmet);
+    let long = said("config: TooLong: it has more than 1,048,576 bytes");
+    let (its, text) = (ConfigFault::TooLong, "#".repeat(1_048_577));
+    assert_eq!(fault(text), (its, None, None, long));
+    for text in [&b"process = ["[..], &[0xff, 0xfe]] {
+        let toml = said("config: Toml: it is no TOML document in UTF-8");
+        assert_eq!(fault(text), (ConfigFault::Toml, None, None, toml));
+    }
+    let changed = |from: &str, to: &str| fault(CONFIG.replace(from, to));
+    let (its, part) = (ConfigFault::Policy { place: 1 }, Some(Part::Policies));
+    let policy = said("config: Policy 1: it is no policy");
+    let found = changed("\"Across(2", "\"One()\", \"Acrosss(2");
+    assert_eq!(found, (its, part, Some(1), policy));
+    let its = ConfigFault::Unmet { place: 0 };
+    let unmet = said("config: PolicyUnmet 0: all processes together don't satisfy it");
+    assert_eq!(changed("Across(2", "Across(4"), (its, part, Some(0), unmet));
+}
+
+#[test]
+fn a_cluster_file_is_refused_in_each_part() {
+    let changed = |from: &str, to: &str| fault(CONFIG.replace(from, to));
+    let fields = [
+        (Part::JournalLimit, fault("")),
+        (Part::Policies, changed("[\"Across", "[1, \"Across")),
+        (Part::Process, changed("processid = \"p1\", ", "")),
+        (Part::Actor, changed("\"operator\"", "\"reader\"")),
+        (Part::Protect, fault(format!("protect = 1\n{CONFIG}"))),
+        (Part::Unknown, fault(format!("more = 1\n{CONFIG}"))),
+    ];
+    for (part, found) in fields {
+        let says = format!("config: Field {part}: a key or a word is wrong or missing");
+        let its = ConfigFault::Field { part };
+        assert_eq!(found, (its, Some(part), None, says));
+    }
+    let limits = [
+        (Part::JournalLimit, changed("20000", "0")),
+        (
+            Part::Policies,
+            changed("[\"Across(2,zoneid,One())\"]", "[]"),
+        ),
+    ];
+    for (part, found) in limits {
+        let says = format!("config: Limit {part}: a number or a length is outside its range");
+        let its = ConfigFault::Limit { part };
+        assert_eq!(found, (its, Some(part), None, says));
+    }
+    let twice = r#"protect = [{process = "p0", kinds = []}, {process = "p0", kinds = []}]"#;
+    let names = [
+        (Part::Process, 3, changed("\"h0\"", "\"-h\"")),
+        (Part::Actor, 2, changed("value = \"z0\"", "value = \"\"")),
+        (Part::Protect, 1, fault(format!("{twice}\n{CONFIG}"))),
+    ];
+    for (part, place, found) in names {
+        let says = "a text is no name, or names what is taken or isn't there";
+        let says = format!("config: Name {part} {place}: {says}");
+        let its = ConfigFault::Name { part, place };
+        assert_eq!(found, (its, Some(part), Some(place), says));
+    }
+}
+
+#[test]
+fn the_library_is_of_the_version_of_the_crate() {
+    let Version {
+        major,
+        minor,
+        patch,
+    } = faultyard::version();
+    let told = faultyard::version().to_string();
+    assert_eq!(told, format!("{major}.{minor}.{patch}"));
+    assert_eq!(told, env!("CARGO_PKG_VERSION"));
 }
 
 #[test]

@@ -4,10 +4,10 @@
 
 #![deny(unsafe_op_in_unsafe_fn)]
 
-use faultyard::{Error, Guard, Key, Kind, Refusal};
+use faultyard::{ConfigFault, Error, Guard, Key, Kind, Part, Refusal};
 use std::alloc::{GlobalAlloc, Layout};
 use std::ffi::c_void;
-use std::sync::atomic::{AtomicBool, AtomicUsize, Ordering::SeqCst};
+use std::sync::atomic::{AtomicBool, AtomicIsize, AtomicUsize, Ordering::SeqCst};
 use std::{io, ptr};
 
 const CONFIG: &str = include_str!("cluster.toml");
@@ -56,11 +56,13 @@ fn aligned(align: usize, size: usize) -> *mut c_void {
 }
 
 static IS_REFUSED: AtomicBool = AtomicBool::new(false);
+/// How many more requests are granted while memory is refused.
+static GRANTED: AtomicIsize = AtomicIsize::new(0);
 /// How many requests for memory were refused.
 static REFUSED: AtomicUsize = AtomicUsize::new(0);
 
 fn is_refused() -> bool {
-    let refused = IS_REFUSED.load(SeqCst);
+    let refused = IS_REFUSED.load(SeqCst) && GRANTED.fetch_sub(1, SeqCst) <= 0;
     REFUSED.fetch_add(usize::from(refused), SeqCst);
     refused
 }
@@ -155,6 +157,24 @@ fn no_memory() {
     assert_eq!(guard.audit().unwrap().lines().count(), made + 2);
 }
 
+/// A cluster file that is refused is read once more, to say where its fault is.
+fn no_memory_to_say_where_a_fault_is() {
+    let config = CONFIG.replace("\"p1\"", "\"p0\"");
+    let answers = (0..10_000).map(|granted| {
+        GRANTED.store(granted, SeqCst);
+        IS_REFUSED.store(true, SeqCst);
+        let answer = Guard::open(&config);
+        IS_REFUSED.store(false, SeqCst);
+        GRANTED.store(0, SeqCst);
+        answer.expect_err("an error")
+    });
+    let refused = answers.take_while(|it| *it == Error::NoMemory).count();
+    assert!(refused > 1 && refused % 2 == 0, "{refused} requests");
+    let (part, place) = (Part::Process, 1);
+    let fault = ConfigFault::Name { part, place };
+    assert_eq!(Guard::open(&config).err(), Some(Error::Config(fault)));
+}
+
 /// All calls that ask, but for those that write a line.
 fn ask(guard: &Guard) {
     assert_eq!((guard.process("p5"), guard.process_count()), (Some(5), 6));
@@ -201,5 +221,6 @@ fn memory_is_given_back() {
 fn what_the_system_refuses() {
     memory_is_given_back();
     no_memory();
+    no_memory_to_say_where_a_fault_is();
     no_memory_is_asked_for();
 }

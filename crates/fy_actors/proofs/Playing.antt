@@ -23,20 +23,6 @@ use Rattle.fy_actors.specs.Parts.Part.{Acts, Stores, Unspecified}
 
 -- ---- turns of the actors of this crate play their parts
 
-follows : (next : Option Act) (was now : Schedule × DeskState) (result : Result Turn Fault)
-    → TakesTurn one_made has_next next was now result
-    → TakesTurn after_reply has_next_act next (Acts was.0, was.1) (Acts now.0, now.1) result
-follows None was now result t = (t.0, ap (λ (x : Schedule × DeskState). (Acts x.0, x.1)) t.1)
-follows (Some act) was now (Ok took) t =
-    record { made = ap (λ (x : Schedule × DeskState). (Acts x.0, x.1)) t.made; ends = t.ends }
-follows (Some act) was now (Err fault) t =
-    record { same = ap (λ (x : Schedule × DeskState). (Acts x.0, x.1)) t.same; full = t.full }
-
-pub follows_plays : (was now : Schedule × DeskState) (result : Result Turn Fault)
-    → FollowsSchedule was now result
-    → PlaysTurn (Acts was.0, was.1) (Acts now.0, now.1) result
-follows_plays was now result t = (next_of was.0, refl, follows (next_of was.0) was now result t)
-
 drives : (next : Option Act) (was now : Drive × DeskState) (result : Result Turn Fault)
     → TakesTurn driven goes_on next was now result
     → TakesTurn after_reply has_next_act next (Stores was.0, was.1) (Stores now.0, now.1) result

@@ -28,10 +28,6 @@ number-split f g h (suc n) each =
     join : (a b c x y z : ℕ) → a ≡ b + c → x ≡ y + z → a + x ≡ (b + y) + (c + z)
     join a b c x y z e f = omega arith
 
-pub number-none : (f : ℕ → Bool) (n : ℕ) → ((q : ℕ) → q < n → f q ≡ false) → number_of f n ≡ 0
-number-none f zero none = refl
-number-none f (suc n) none = ap (λ b. cond b 1 0 + number_of f n) (none n (omega arith)) ∙ (let rest : number_of f n ≡ 0 = number-none f n (λ q h. none q (omega arith)) in let r : 0 + number_of f n ≡ 0 = omega arith in r)
-
 pub number-some : (f : ℕ → Bool) (n p : ℕ) → p < n → f p ≡ true → 1 ≤ number_of f n
 number-some f zero p h e = absurd (omega arith)
 number-some f (suc n) p h e = go (λ lower. number-some f n p lower e) (f n) refl

@@ -29,28 +29,6 @@ bad_in_front version setup entries more at first =
       bad = λ legal. first.bad (subst (LegalUnder version setup) (take-append-le (at + 1) entries more (omega arith)) legal);
     }
 
--- an entry behind a legal journal that may not come next is the first bad one
-pub next_is_bad : (version : Version) (setup : Setup) (entries : List Entry) (e : Entry) → LegalUnder version setup entries → (LegalUnder version setup (entries ++ e ∷ []) → ⊥) → e.at ≡ length entries → IsFirstBad version setup (entries ++ e ∷ []) e.at
-next_is_bad version setup entries e good bad place =
-    let longer = length-append entries (e ∷ []) in
-    let front = take-append-le e.at entries (e ∷ []) (omega arith) in
-    let all = take_all e.at entries (omega arith) in
-    let whole : take (e.at + 1) (entries ++ e ∷ []) ≡ entries ++ e ∷ [] = take_all (e.at + 1) (entries ++ e ∷ []) (omega arith) in
-    record {
-      good = subst (LegalUnder version setup) (sym (front ∙ all)) good;
-      bad = λ legal. bad (subst (LegalUnder version setup) whole legal);
-    }
-
--- behind a bad entry nothing is done
-pub stays_bad : (entry : Entry) (replayed : Replayed) (at : ℕ) → replayed.first_bad ≡ Some at → (setup : Setup) (entries : List Entry) → HasReplayed setup entries replayed → HasReplayed setup (entries ++ entry ∷ []) replayed
-stays_bad entry replayed at is = λ setup entries has. record {
-  first =
-      subst (HasFirstBad replayed.version setup (entries ++ entry ∷ [])) (sym is)
-      (bad_in_front replayed.version setup entries (entry ∷ []) at
-      (subst (HasFirstBad replayed.version setup entries) is has.first));
-  execution = λ none. absurd (let no : Some at ≡ None = sym is ∙ none in let bad : ⊥ = cc in bad);
-}
-
 -- ---- a journal's entries one after another
 
 -- where the first ones were replayed, one more is

@@ -11,10 +11,6 @@ use Rattle.fy_team.specs.Teams.{is_among}
 pub among-none : (p : ℕ) → is_among [] p ≡ false
 among-none p = refl
 
-or_false : (a b : Bool) → (a || (b || false)) ≡ (a || b)
-or_false a true = refl
-or_false a false = refl
-
 or_assoc : (a b d : Bool) → ((a || b) || d) ≡ (a || (b || d))
 or_assoc true b d = refl
 or_assoc false b d = refl

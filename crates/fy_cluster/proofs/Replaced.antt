@@ -78,13 +78,6 @@ is_team roster team policy members e f = at (slice_get roster.teams team) refl e
 pub named_policy : (point : Point) (team policy : ℕ) (members : List ProcId) (m : Machine) → Refines point.setup point.before m → Some members ≡ members_in m.teams team → Some policy ≡ policy_in m.teams team → policy_of point.before team ≡ policy
 named_policy point team policy members m k e f = ap (λ (o : Option Team). option_map_or (λ t. t.policy) o 0) (ap (λ ts. slice_get ts team) (sym k.teams.teams) ∙ is_team m.teams team policy members e f)
 
-pub no_policy_named : (roster : Roster) (team : ℕ) (members : List ProcId) → Some members ≡ members_in roster team → None ≡ policy_in roster team → ⊥
-no_policy_named roster team members e f = at (slice_get roster.teams team) e f
-  where
-    at : (o : Option Team) → Some members ≡ option_map (λ (it : Team). it.members) o → None ≡ option_map (λ (it : Team). it.policy) o → ⊥
-    at None e f = some_not_none members e
-    at (Some t) e f = some_not_none t.policy (sym f)
-
 -- whether the changed members meet the policy is what the set says
 pub meets_is : (point : Point) (team policy : ℕ) (out into : ProcId) (members : List ProcId) (set : ℕ → Bool) (g : Bool) → members_of point.before team ≡ members → policy_of point.before team ≡ policy → ((q : ℕ) → set q ≡ is_among (swapped out into members) q) → g ≡ meets point.setup policy set
     → meets point.setup (policy_of point.before team) (is_among (swapped out into (members_of point.before team))) ≡ g

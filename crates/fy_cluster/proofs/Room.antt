@@ -78,14 +78,3 @@ room_for c h net n k clear = at (nat_lt MOST_IN_FLIGHT (length net.in_flight + n
 -- only the room has changed
 pub reserved_is : (old new : NetState) (room : ℕ) → new ≡ record old { room = room } → new ≡ record old { room = new.room }
 reserved_is old new room e = e ∙ ap (λ (n : NetState). record old { room = n.room }) (sym e)
-
--- a machine whose network has more room
-pub roomier : (point : Point) (m : Machine) (net : NetState) → Refines point.setup point.before m → net ≡ record m.net { room = net.room } → Refines point.setup point.before (record m { net = net })
-roomier point m net k e = record {
-  dead = k.dead;
-  rights = k.rights;
-  disks = k.disks;
-  up = k.up;
-  net = rw e (record { in_flight = k.net.in_flight; sent_so_far = k.net.sent_so_far; clock = k.net.clock; count = k.net.count; ends = k.net.ends; early = k.net.early; few = k.net.few });
-  teams = k.teams;
-}

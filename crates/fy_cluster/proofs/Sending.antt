@@ -7,9 +7,6 @@ use Rattle.fy_net.specs.Net.{NetState, with_sent}
 use Rattle.fy_cluster.specs.Standing.{numbered, Sends}
 use Rattle.fy_cluster.proofs.Flights.{numbered-append}
 
-pub sent_none : (net : NetState) → Sends net [] net
-sent_none net = record { in_flight = sym (append-nil net.in_flight); count = omega arith; clock = refl; until = refl; room = omega arith }
-
 pub sent_more : (first net : NetState) (bodies : List Body) (b : Body) → 0 < net.room → Sends first bodies net → Sends first (bodies ++ b ∷ []) (with_sent b net)
 sent_more first net bodies b room k = record {
   in_flight = ap₂ (λ (xs : List Message) (n : ℕ). xs ++ record { number = n; body = b } ∷ []) k.in_flight k.count ∙ append_assoc first.in_flight (numbered first.sent bodies) _ ∙ ap (λ xs. first.in_flight ++ xs) (sym (numbered-append first.sent bodies (b ∷ [])));

@@ -33,41 +33,9 @@ up_is c h m k everyone out all is p = ap (λ s. sets.contains s p) is ∙ sets.c
     at true e = let there : p < length c.processes = grind (arith, nat_tests) in k.up.each p there
     at false e = refl
 
-not_left : (there gone : Bool) → there ≡ true → not (there && not gone) ≡ gone
-not_left true true e = refl
-not_left true false e = refl
-not_left false gone e = absurd (cc)
-
--- what has become of a process that is there
-pub status_is : (c : Setup) (h : History) (m : Machine) → Refines c h m → (p : ℕ) → p < length m.net.until → (is_up is_held is_destroyed is_left : Bool) → is_up ≡ sets.contains m.up p → is_held ≡ is_clogged m.net p
-    → is_destroyed ≡ sets.contains m.dead.destroyed p → is_left ≡ sets.contains m.dead.left p
-    → record { up = is_up; clogged = is_held; destroyed = is_destroyed; gone = not is_left } ≡ status_at h p
-status_is c h m k p there is_up is_held is_destroyed is_left up_e held_e destroyed_e left_e = λ i. record {
-  up = (up_e ∙ k.up.each p within) i;
-  clogged = (held_e ∙ ap₂ nat_lt k.net.clock (k.net.ends p within)) i;
-  destroyed = (destroyed_e ∙ k.dead.destroyed p) i;
-  gone = (ap not (left_e ∙ k.dead.left p) ∙ not_left (nat_lt p (length c.processes)) (gone h p) below) i;
-}
-  where
-    within : p < length c.processes
-    within = let n = k.net.count in omega (arith, n, there)
-
-    below : nat_lt p (length c.processes) ≡ true
-    below = let l = within in grind (arith, nat_tests)
-
 -- the least record that a process which is there still needs
 pub needed_is_at : (c : Setup) (h : History) (m : Machine) → Refines c h m → (p : ℕ) → p < length c.processes → (found : Option ℕ) → found ≡ needed_on m p (is_member_on m p) → found ≡ needed_at h p
 needed_is_at c h m k p there found is = is ∙ needed_is c h m k p there (is_member_on m p) (λ r. is_among (members_for h r) p) (member_is h m k.teams p)
-
--- the tests of a number that is that of a process
-pub where_there : {X : Type 0} (n p : ℕ) (x : X) → p < n → Some x ≡ (if nat_lt p n then Some x else None)
-where_there n p x l = let below : nat_lt p n ≡ true = grind (arith, nat_tests) in rw below refl
-
-pub option_where_there : {X : Type 0} (n p : ℕ) (x : Option X) → p < n → x ≡ (if nat_lt p n then x else None)
-option_where_there n p x l = let below : nat_lt p n ≡ true = grind (arith, nat_tests) in rw below refl
-
-pub where_none : {X : Type 0} (n p : ℕ) (x : Option X) → n ≤ p → None ≡ (if nat_lt p n then x else None)
-where_none n p x l = let past : nat_lt p n ≡ false = grind (arith, nat_tests) in rw past refl
 
 -- what a kill would be replied
 pub judged_now : (c : Setup) (h : History) (m : Machine) → Refines c h m → (by : ℕ) (order : Order) (role : Role) (v : VerdictOf) → slice_get c.roles by ≡ Some role → v ≡ verdict (situation_of m.dead m.book by) order → Verdict v ≡ reply c h by (Kill order)

@@ -27,17 +27,6 @@ pub visits_below : {X : Type 0} {set rest : Set} {change : X → X} {empty_disk 
     → IsLeast rest p → Visits set rest change empty_disk old new → p < length new
 visits_below {p} small least k = let n = k.done.count in let s = small p (k.within p least.present) in omega arith
 
-no_both : {X : Type 0} (b : Bool) (x y : X) → y ≡ (if b && not b then x else y)
-no_both true x y = refl
-no_both false x y = refl
-
--- before the first
-pub visits_none : {X : Type 0} (set : Set) (change : X → X) (empty_disk : X) (xs : List X) → Visits set set change empty_disk xs xs
-visits_none set change empty_disk xs = record {
-  within = λ p present. present;
-  done = record { count = refl; each = λ p l. no_both (sets.contains set p) (change (get_or xs p empty_disk)) (get_or xs p empty_disk) };
-}
-
 -- one more
 pub visits_more : {X : Type 0} {set rest next : Set} {change : X → X} {empty_disk : X} {old new later : List X} {p : ℕ} → ((q : ℕ) → sets.contains set q ≡ true → q < length old)
     → IsLeast rest p → next ≡ sets.remove rest p → later ≡ slice_set new p (change (get_or new p empty_disk)) → Visits set rest change empty_disk old new → Visits set next change empty_disk old later

@@ -60,10 +60,6 @@ pub record Granted (actors : List (Role × List GivenGrant)) (grants : List Gran
   pub so_far : (spelt : List Actor) → actors ≡ map actor_given spelt
       → (grants ≡ flat_map grants_of (enumerate_from 0 (take i spelt))) × NotYet is_bad_actor spelt i
 
-pub granted_none :
-    (actors : List (Role × List GivenGrant)) (grants : List Grant) → grants ≡ [] → Granted actors grants 0
-granted_none actors grants e = record { so_far = λ spelt kept. (e, not_yet_none is_bad_actor spelt) }
-
 -- an actor is bad where not all of its scopes are known
 bad_actor :
     (actor : Role × List GivenGrant) (spelt : Actor) (b : Bool)

@@ -30,10 +30,6 @@ found : {A B : Type 0} (g : A → B) (o : Option A) (y : B) → option_map g o �
 found g None y e = absurd (let none : ⊥ = cc in none)
 found g (Some x) y e = (x, refl, cc)
 
-not_found : {A B : Type 0} (g : A → B) (o : Option A) → option_map g o ≡ None → o ≡ None
-not_found g None e = refl
-not_found g (Some x) e = absurd (let none : ⊥ = cc in none)
-
 -- after an item more, what is kept and what is left spell the same
 pub one_more_kept :
     {A B : Type 0} (f : Data → Option A) (g : A → B) (before : List B) (y : B)
@@ -51,16 +47,3 @@ one_more_kept f g before y vs i v whole within is has so_far =
     (sym at)
     ∙ ap (option_map (λ more. before ++ map g more)) (sym (all_of-drop f vs i v within is))
     ∙ so_far
-
--- where an item spells nothing, neither do all of them
-pub none_kept :
-    {A B : Type 0} (f : Data → Option A) (g : A → B) (before : List B)
-    (vs : List Value) (i : ℕ) (v : Value) (whole : Option (List B))
-    → i < length vs → v ≡ get_or vs i v → option_map g (f (view v)) ≡ None
-    → option_map (λ more. before ++ map g more) (all_of f (items_view (drop i vs))) ≡ whole
-    → whole ≡ None
-none_kept f g before vs i v whole within is has so_far =
-    sym so_far
-    ∙ ap (option_map (λ more. before ++ map g more)) (all_of-drop f vs i v within is)
-    ∙ ap (λ o. option_map (λ more. before ++ map g more) (o >>= λ z. option_map (λ zs. z ∷ zs) (all_of f (items_view (drop (i + 1) vs)))))
-    (not_found g (f (view v)) has)

@@ -101,9 +101,6 @@ pub record Mapped (given : List (Option Locality)) (processes : List Locality) (
   pub count : length processes ≡ i
   pub so_far : (texts : List Locality) → given ≡ map process_given texts → (processes ≡ take i texts) × Passed is_bad_process texts i
 
-pub mapped_none : (given : List (Option Locality)) (processes : List Locality) → processes ≡ [] → Mapped given processes 0
-mapped_none given processes e = record { count = ap length e; so_far = λ texts kept. (e, passed_none is_bad_process texts) }
-
 pub mapped_more :
     (given : List (Option Locality)) (processes more : List Locality) (i : ℕ) (process : Option Locality)
     → Mapped given processes i → slice_get given i ≡ Some process
@@ -143,13 +140,3 @@ mapped_bad given processes i process m at bad texts kept =
     sym (bad_kept (take i texts) t) ∙ ap (is_bad_given (take i texts)) same
     ∙ ap (λ before. is_bad_given before process) (sym front) ∙ bad in
     passed_here is_bad_process texts i t passed is wrong
-
-pub mapped_all :
-    (given : List (Option Locality)) (processes : List Locality) (i : ℕ)
-    → Mapped given processes i → length given ≤ i
-    → (texts : List Locality) → given ≡ map process_given texts
-    → (first_index is_bad_process texts ≡ None) × (processes ≡ texts)
-mapped_all given processes i m all texts kept =
-    let (front, passed) = m.so_far texts kept in
-    let short : length texts ≤ i = omega (arith, ap length kept, length-map texts process_given) in
-    (passed_all is_bad_process texts i passed short, front ∙ take_all i texts short)

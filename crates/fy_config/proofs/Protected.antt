@@ -271,17 +271,3 @@ protected_twice processes given protections named i protection p m at found old 
     let here : IsNamedAt processes t.0 p = name_stands processes t protection p same found in
     passed_here (is_bad_protection processes) texts i t passed is
     (bad_where_named processes (take i texts) named t p those here ∙ old)
-
-pub protected_all :
-    (processes : List Locality) (given : List GivenProtection) (protections : List Protection)
-    (named : sets.FinSet nat_cmp) (i : ℕ)
-    → Protected processes given protections named i → length given ≤ i
-    → (texts : List Spelt) → given ≡ map protection_given texts
-    → (first_index (is_bad_protection processes) texts ≡ None)
-    × (protections ≡ map (protection_in processes) texts)
-protected_all processes given protections named i m all texts kept =
-    let (front, those, passed) = m.so_far texts kept in
-    let short : length texts ≤ i = omega (arith, ap length kept, length-map texts protection_given) in (
-      passed_all (is_bad_protection processes) texts i passed short,
-      front ∙ ap (map (protection_in processes)) (take_all i texts short),
-    )

@@ -22,12 +22,12 @@ const TOP_KEYS: [&str; 5] = ["journal_limit", "policies", "process", "actor", "p
 /// What the parts of a file spell, before any limit; none for a limit out of range and for what is
 /// no name.
 #[derive(Drop)]
-pub struct GivenFields<'t> {
-    pub journal_limit: Option<u32>,
-    pub policies: Vec<&'t str>,
-    pub processes: Vec<Option<Locality>>,
-    pub actors: Vec<GivenActor>,
-    pub protections: Vec<GivenProtection>,
+pub(crate) struct GivenFields<'t> {
+    pub(crate) journal_limit: Option<u32>,
+    pub(crate) policies: Vec<&'t str>,
+    pub(crate) processes: Vec<Option<Locality>>,
+    pub(crate) actors: Vec<GivenActor>,
+    pub(crate) protections: Vec<GivenProtection>,
 }
 
 /// The text of a value.
@@ -210,7 +210,7 @@ fn journal_limit_at(table: &Table) -> Option<Option<u32>>
 /// # Errors
 ///
 /// `Field` with the first part at fault, in the order of parts; `NoMemory`.
-pub fn fields_of<'t>(alloc: Global, table: &'t Table) -> Result<GivenFields<'t>, ConfigFault>
+pub(crate) fn fields_of<'t>(alloc: Global, table: &'t Table) -> Result<GivenFields<'t>, ConfigFault>
     ensures { FieldsOrOom result (fields_of (table_view table.now)) }
 {
     let Some(journal_limit) = journal_limit_at(table) else {

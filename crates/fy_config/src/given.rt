@@ -6,21 +6,21 @@ use fy_locality::Name;
 
 /// A grant of an actor; no scope where its value is no name.
 #[derive(Clone, Copy)]
-pub struct GivenGrant {
-    pub kinds: KindSet,
-    pub scope: Option<Scope>,
+pub(crate) struct GivenGrant {
+    pub(crate) kinds: KindSet,
+    pub(crate) scope: Option<Scope>,
 }
 
 /// An actor with its grants in order.
 #[derive(Drop)]
-pub struct GivenActor {
-    pub role: Role,
-    pub grants: Vec<GivenGrant>,
+pub(crate) struct GivenActor {
+    pub(crate) role: Role,
+    pub(crate) grants: Vec<GivenGrant>,
 }
 
 /// A protection; no process where its text is no name.
 #[derive(Clone, Copy)]
-pub struct GivenProtection {
-    pub process: Option<Name>,
-    pub kinds: KindSet,
+pub(crate) struct GivenProtection {
+    pub(crate) process: Option<Name>,
+    pub(crate) kinds: KindSet,
 }

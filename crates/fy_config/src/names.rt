@@ -50,7 +50,7 @@ fn push_process(map: &mut Map, process: Option<Locality>) -> Result<bool, AllocE
 /// # Errors
 ///
 /// `Name` at the first whose texts aren't names or that has the name of an earlier one; `NoMemory`.
-pub fn map_of(alloc: Global, given: &[Option<Locality>]) -> Result<Map, ConfigFault>
+pub(crate) fn map_of(alloc: Global, given: &[Option<Locality>]) -> Result<Map, ConfigFault>
     requires { length given.now ≤ MOST_PROCESSES }
     ensures { (texts : List Locality) → given.now ≡ map_list process_given texts
         → NamesAre Process (first_index is_bad_process texts) (λ map. map ≡ texts) result }
@@ -72,7 +72,7 @@ pub fn map_of(alloc: Global, given: &[Option<Locality>]) -> Result<Map, ConfigFa
 /// # Errors
 ///
 /// Want of memory.
-pub fn roles_of(alloc: Global, actors: &[GivenActor]) -> Result<Vec<Role>, AllocError>
+pub(crate) fn roles_of(alloc: Global, actors: &[GivenActor]) -> Result<Vec<Role>, AllocError>
     ensures { IfOk result (λ roles. roles.items ≡ map_list (λ actor. actor.role) actors.now) }
 {
     actors.iter().map(|actor| actor.role).collect(alloc)
@@ -116,7 +116,7 @@ fn push_grants(grants: &mut Vec<Grant>, number: u32, actor: &GivenActor) -> Resu
 /// # Errors
 ///
 /// `Name` at the first actor with a value that is no name; `NoMemory`.
-pub fn grants_of(alloc: Global, actors: &[GivenActor]) -> Result<Vec<Grant>, ConfigFault>
+pub(crate) fn grants_of(alloc: Global, actors: &[GivenActor]) -> Result<Vec<Grant>, ConfigFault>
     requires { length actors.now ≤ MOST_ACTORS }
     ensures { (spelt : List (Role × List (Members × Scope)))
         → map_list actor_kept actors.now ≡ map_list actor_given spelt
@@ -163,7 +163,7 @@ fn push_protection(
 /// # Errors
 ///
 /// `Name` at the first whose process isn't there or was named before; `NoMemory`.
-pub fn protections_of(
+pub(crate) fn protections_of(
     alloc: Global,
     given: &[GivenProtection],
     map: &Map,
@@ -216,7 +216,7 @@ fn policy_of(alloc: Global, text: &str) -> Result<Option<Policy>, AllocError>
 /// # Errors
 ///
 /// `Policy` at the first text that is of none; `NoMemory`.
-pub fn policies_of(alloc: Global, texts: &[&str]) -> Result<Vec<Policy>, ConfigFault>
+pub(crate) fn policies_of(alloc: Global, texts: &[&str]) -> Result<Vec<Policy>, ConfigFault>
     ensures { let spelt = map_list (λ text. text.now) texts.now in
         MatchResult result (λ policies. AreRead spelt policies.items) (IsPolicyFault spelt) }
 {

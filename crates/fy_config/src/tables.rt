@@ -7,7 +7,7 @@ ghost use Rattle.toml.specs.View.{view, table_view, items_view};
 ghost use Rattle.fy_locality.specs.Locality.{locality_of};
 ghost use Rattle.fy_grants.specs.declared.grant.Scope.TheVariants.{Where};
 ghost use Rattle.fy_config.specs.Given.{name_given, process_given, scope_given, grant_given, actor_given, actor_kept, protection_given};
-ghost use Rattle.fy_config.specs.Tables.{has_only, integer_at, list_if_any, text_at, text_if_any, all_of, kind_of, union_of, kinds_at, scope_where, scope_of, role_named, role_at, process_in, process_of, grant_in, grant_of, actor_of, protection_of};
+ghost use Rattle.fy_config.specs.Tables.{has_only, integer_at, list_if_any, text_at, text_if_any, all_of, kind_set_of, union_of, kinds_at, scope_where, scope_of, role_named, role_at, process_in, process_of, grant_in, grant_of, actor_of, protection_of};
 
 use crate::given::{GivenActor, GivenGrant, GivenProtection};
 use fy_cluster::Role;
@@ -39,7 +39,7 @@ fn is_among(key: &str, keys: &[&str]) -> bool
 }
 
 /// Whether every key is one of these.
-pub fn has_only(table: &Table, keys: &[&str]) -> bool
+pub(crate) fn has_only(table: &Table, keys: &[&str]) -> bool
     ensures { result ≡ has_only (map (λ key. key.now) keys.now) (table_view table.now) }
 {
     for (key, _) in table {
@@ -51,21 +51,21 @@ pub fn has_only(table: &Table, keys: &[&str]) -> bool
 }
 
 /// The value at a key.
-pub fn find<'t>(table: &'t Table, key: &str) -> Option<&'t Value>
+pub(crate) fn find<'t>(table: &'t Table, key: &str) -> Option<&'t Value>
     ensures { option_map (λ v. view v.now) result ≡ get_member key.now (table_view table.now) }
 {
     table.get(key)
 }
 
 /// The text at a key.
-pub fn text_at<'t>(table: &'t Table, key: &str) -> Option<&'t str>
+pub(crate) fn text_at<'t>(table: &'t Table, key: &str) -> Option<&'t str>
     ensures { option_copied result ≡ text_at key.now (table_view table.now) }
 {
     find(table, key)?.as_str()
 }
 
 /// The whole number at a key.
-pub fn integer_at(table: &Table, key: &str) -> Option<i64>
+pub(crate) fn integer_at(table: &Table, key: &str) -> Option<i64>
     ensures { result ≡ integer_at key.now (table_view table.now) }
 {
     find(table, key)?.as_integer()
@@ -90,20 +90,20 @@ fn name_given(text: &str) -> Option<Name>
     Name::make(text).ok()
 }
 
-/// The set of the kind that a word names.
-fn kind_of(value: &Value) -> Option<KindSet>
-    ensures { result ≡ kind_of (view value.now) }
+/// The set of the one kind that a word of the file names.
+fn kind_set_of(value: &Value) -> Option<KindSet>
+    ensures { result ≡ kind_set_of (view value.now) }
 {
     KindSet::named(value.as_str()?)
 }
 
-/// The set of the kinds that words name.
+/// The set of the kinds that words of the file name.
 fn kinds_of(values: &[Value]) -> Option<KindSet>
-    ensures { result ≡ option_map union_of (all_of kind_of (items_view values.now)) }
+    ensures { result ≡ option_map union_of (all_of kind_set_of (items_view values.now)) }
 {
     let mut kinds = KindSet::empty();
     for value in values {
-        kinds.insert(kind_of(value)?);
+        kinds.insert(kind_set_of(value)?);
     }
     Some(kinds)
 }
@@ -156,7 +156,7 @@ fn process_in(table: &Table) -> Option<Option<Locality>>
 }
 
 /// The process of a value, and within it none where one of its texts is no name.
-pub fn process_of(value: &Value) -> Option<Option<Locality>>
+pub(crate) fn process_of(value: &Value) -> Option<Option<Locality>>
     ensures { result ≡ option_map process_given (process_of (view value.now)) }
 {
     let table = value.as_table()?;
@@ -264,7 +264,7 @@ fn role_at(table: &Table) -> Option<Role>
 }
 
 /// The actor of a value.
-pub fn actor_of(alloc: Global, value: &Value) -> Result<Option<GivenActor>, AllocError>
+pub(crate) fn actor_of(alloc: Global, value: &Value) -> Result<Option<GivenActor>, AllocError>
     ensures { IfOk result (λ actor. option_map actor_kept actor
         ≡ option_map actor_given (actor_of (view value.now))) }
 {
@@ -284,7 +284,7 @@ pub fn actor_of(alloc: Global, value: &Value) -> Result<Option<GivenActor>, Allo
 }
 
 /// The protection of a value.
-pub fn protection_of(value: &Value) -> Option<GivenProtection>
+pub(crate) fn protection_of(value: &Value) -> Option<GivenProtection>
     ensures { result ≡ option_map protection_given (protection_of (view value.now)) }
 {
     let table = value.as_table()?;

@@ -22,12 +22,6 @@ pub record HaveFound (ws : List ℕ) (k : ℕ) (found : Option ProcId) : Type 0 
   pub before : (q : ℕ) → is_found found q ≡ true → q < k * 64
   pub each : (q : ℕ) → q < k * 64 → has_bit ws q ≡ is_found found q
 
-pub found-first : (ws : List ℕ) → HaveFound ws 0 None
-found-first ws = record {
-  before = λ q e. absurd (true≢false (sym e));
-  each = λ q h. absurd (let x : ⊥ = omega arith in x);
-}
-
 bit-in : (ws : List ℕ) (k q : ℕ) → k * 64 ≤ q → q < (k + 1) * 64 → has_bit ws q ≡ eqb (bit_at (get_or ws k 0) (q % 64)) 1
 bit-in ws k q low high = let at : q / 64 ≡ k = omega arith in ap (λ j. eqb (bit_at (get_or ws j 0) (q % 64)) 1) at
 

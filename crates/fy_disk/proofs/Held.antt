@@ -20,22 +20,6 @@ some_item = record { rec = 0; payload = [] }
 
 -- ---- before the first item
 
-or_none : (a b : Bool) → a ≡ (a || b && false)
-or_none true b = refl
-or_none false true = refl
-or_none false false = refl
-
-and_none : (a b : Bool) → a ≡ (a && not (b && false))
-and_none true true = refl
-and_none true false = refl
-and_none false b = refl
-
-pub gains_none : (p : ℕ) (holders : List Set) → Gains p [] holders holders
-gains_none p holders = record { count = refl; each = λ rec q. or_none (sets.contains (holders_of holders rec) q) (q == p) }
-
-pub loses_none : (p : ℕ) (holders : List Set) → Loses p [] holders holders
-loses_none p holders = record { count = refl; each = λ rec q. and_none (sets.contains (holders_of holders rec) q) (q == p) }
-
 -- ---- one item more
 
 -- the items are of the record where one before was, or the next one is

@@ -105,10 +105,6 @@ nobody_waits with_unsynced p q e = taken_out with_unsynced p q ∙ ap (λ b. not
 others_wait : (with_unsynced : Set) (p q : ℕ) → (q == p) ≡ false → sets.contains (sets.remove with_unsynced p) q ≡ sets.contains with_unsynced q
 others_wait with_unsynced p q e = taken_out with_unsynced p q ∙ ap (λ b. not b && sets.contains with_unsynced q) e
 
-or_false : (a : Bool) → (a || false && a) ≡ a
-or_false true = refl
-or_false false = refl
-
 -- items behind those that are synced become so, and nothing is left unsynced
 pub kept_gained : (disks : List Stored) (holders later : List Set) (with_unsynced : Set) (p : ℕ) (items : List Item) → p < length disks → DisksInvariant disks holders with_unsynced → Gains p items holders later
     → DisksInvariant (slice_set disks p (record { synced = (disk_of disks p).synced ++ items; unsynced = [] })) later (sets.remove with_unsynced p)

@@ -43,41 +43,8 @@ bare_covers_none cover is deed p = ap (λ c. covers c deed p) is ∙ ap (λ b. b
 
 -- ---- one grant more
 
-either_more : (a b c : Bool) → ((a || c) || b) ≡ ((a || b) || c && true)
-either_more true b c = refl
-either_more false true true = refl
-either_more false true false = refl
-either_more false false true = refl
-either_more false false false = refl
-
-pub or_more : (a b c : Bool) → (a || (b || c)) ≡ ((a || b) || c)
-or_more true b c = refl
-or_more false b c = refl
-
 abbrev pub OneDeed : Type 0
 OneDeed = (kinds : KindSet) (d : Deed) → has_all kinds (only d) ≡ has kinds d
-
-abbrev pub Together : Type 0
-Together = (a b : KindSet) (d : Deed) → has (in_either a b) d ≡ (has a d || has b d)
-
--- on everyone
-pub more_on_all : OneDeed → Together → (processes : List Locality) (grant : Grant) → grant.scope ≡ All → (everyone more : KindSet) → more ≡ in_either everyone grant.kinds
-    → (deed : Deed) (p : ℕ) (kept : Bool) → (has more deed || kept) ≡ ((has everyone deed || kept) || is_granted processes grant (only deed) p)
-more_on_all one together processes grant on everyone more is deed p kept =
-    ap (λ (k : KindSet). has k deed || kept) is
-    ∙ ap (λ b. b || kept) (together everyone grant.kinds deed)
-    ∙ either_more (has everyone deed) kept (has grant.kinds deed)
-    ∙ ap (λ b. (has everyone deed || kept) || b && true) (sym (one grant.kinds deed))
-    ∙ ap (λ s. (has everyone deed || kept) || has_all grant.kinds (only deed) && is_in_scope processes s p) (sym on)
-
--- on the members of a group
-pub more_on_group : OneDeed → (processes : List Locality) (grant : Grant) (deed : Deed) (p : ℕ) (everyone kept more group : Bool) → more ≡ (kept || has grant.kinds deed && group) → group ≡ is_in_scope processes grant.scope p
-    → (everyone || more) ≡ ((everyone || kept) || is_granted processes grant (only deed) p)
-more_on_group one processes grant deed p everyone kept more group is same =
-    ap (λ b. everyone || b) is
-    ∙ or_more everyone kept (has grant.kinds deed && group)
-    ∙ ap (λ b. (everyone || kept) || b && group) (sym (one grant.kinds deed))
-    ∙ ap (λ b. (everyone || kept) || has_all grant.kinds (only deed) && b) same
 
 -- ---- whom a cover leaves open
 
@@ -101,14 +68,6 @@ open_to_others one cover kinds set left group known some is = record {
       ∙ left_out set group p (sets.contains (set_at cover known.deed) p) (ap (λ t. sets.contains t p) known.is)
       ∙ ap (λ b. sets.contains set p && not (b || sets.contains (set_at cover known.deed) p)) (sym (sym (one cover.everyone known.deed) ∙ ap (has_all cover.everyone) (sym known.single) ∙ some));
 }
-
--- of an actor's grants
-pub open_by_cover : (processes : List Locality) (grants : List Grant) (cover : Cover) (kinds : KindSet) (set left : Set) → IsCoverOf processes grants cover → LeavesOpen cover kinds set left
-    → (q : ℕ) → sets.contains left q ≡ (sets.contains set q && not (is_covered processes grants kinds q))
-open_by_cover processes grants cover kinds set left kept found q =
-    found.those q
-    ∙ ap (λ b. sets.contains set q && not b) (kept found.deed q)
-    ∙ ap (λ k. sets.contains set q && not (is_covered processes grants k q)) (sym found.single)
 
 -- ---- a book
 

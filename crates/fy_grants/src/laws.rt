@@ -5,6 +5,7 @@ ghost use Rattle.fy_kinds.specs.declared.kind_set.KindSet.{KindSet};
 ghost use Rattle.fy_grants.specs.declared.grant.Grant.{Grant};
 ghost use Rattle.fy_grants.specs.Rights.{Rights, grant_count, no_rights, with_grant, without_grant, with_protection};
 ghost use Rattle.fy_grants.specs.Changes.{GivenToOne, TakenFromOne, GivenIsCounted, ProtectedOne, LeastIsFirst};
+ghost use Rattle.fy_grants.specs.declared.book.TheConstants.{MOST_GRANTS};
 
 /// A grant goes to its actor's list alone.
 pub fn grants_after_give()
@@ -37,4 +38,9 @@ pub fn protections_after_change()
 /// The least process of a set that passes a test is the first one found below a bound of the set.
 pub fn least_is_first_found()
     ensures { LeastIsFirst }
+{}
+
+/// The limit of this crate, as a number.
+pub fn limits()
+    ensures grants { MOST_GRANTS ≡ 4096 }
 {}

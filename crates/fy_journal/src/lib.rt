@@ -3,6 +3,7 @@
 
 mod fault;
 mod journal;
+pub mod laws;
 mod limits;
 mod version;
 

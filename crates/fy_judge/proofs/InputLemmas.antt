@@ -63,14 +63,6 @@ process_refused i new f some none (inr e) = go (two_reasons i.processes new.proc
     go (inl h) = subst (λ g. IfFault (process_fault_of g) (λ fault. Step i (Some (process new)) (Err fault))) (sym h) (process_twice new some none (e ∙ ap Some h))
     go (inr h) = subst (λ g. IfFault (process_fault_of g) (λ fault. Step i (Some (process new)) (Err fault))) (sym h) (process_too_many new some none (e ∙ ap Some h))
 
-pub not_empty : {X : Type 0} (xs : List X) (n : ℕ) → n ≡ length xs → n ≢ 0 → xs ≡ [] → ⊥
-not_empty xs n is some none = some (is ∙ ap length none)
-
--- asks of processes that are there, after one more
-pub there-push : (asks : List Ask) (a : Ask) (n : ℕ) → AllByRecursion (λ b. b.process.0 < n) asks → a.process.0 < n → AllByRecursion (λ b. b.process.0 < n) (asks ++ a ∷ [])
-there-push [] a n h here = (here, tt)
-there-push (b ∷ bs) a n h here = (h.0, there-push bs a n h.1 here)
-
 pub untrue : {T : Type 0} (b : Bool) → b ≡ false → b ≡ true → T
 untrue b e f = absurd (let x : ⊥ = cc in x)
 

@@ -45,34 +45,7 @@ not_lone line word rest is one =
     let some : 1 ≤ length (tokens_of rest) = some_words rest in
     let x : ⊥ = omega arith in x
 
--- one word more before n others
-pub one_fewer : (line word rest : List ℕ) (n : ℕ) → tokens_of line ≡ word ∷ tokens_of rest → (length (tokens_of rest) ≡ n → ⊥) → length (tokens_of line) ≡ suc n → ⊥
-one_fewer line word rest n is differ e = differ (let h : suc (length (tokens_of rest)) ≡ suc n = sym (ap length is) ∙ e in let x : length (tokens_of rest) ≡ n = omega arith in x)
-
 -- ---- what a keyword with the wrong number of words says
-pub one_word_said : (k : Option Keyword) (words : List (List ℕ)) → (k ≡ Some KeywordPolicy) ⊎ ((loss : Loss) × (k ≡ Some (KeywordAsk loss))) → (length words ≡ 1 → ⊥) → parse_arguments k words ≡ None
-one_word_said k words (inl e) not = ap (λ o. parse_arguments o words) e ∙ go words not
-  where
-    go : (words : List (List ℕ)) → (length words ≡ 1 → ⊥) → parse_arguments (Some KeywordPolicy) words ≡ None
-    go [] not = refl
-    go (w ∷ []) not = absurd (not refl)
-    go (w ∷ v ∷ ws) not = refl
-one_word_said k words (inr e) not = ap (λ o. parse_arguments o words) e.1 ∙ go e.0 words not
-  where
-    go : (loss : Loss) (words : List (List ℕ)) → (length words ≡ 1 → ⊥) → parse_arguments (Some (KeywordAsk loss)) words ≡ None
-    go loss [] not = refl
-    go loss (w ∷ []) not = absurd (not refl)
-    go loss (w ∷ v ∷ ws) not = refl
-
-pub five_words_said : (words : List (List ℕ)) → (length words ≡ 5 → ⊥) → parse_arguments (Some KeywordProcess) words ≡ None
-five_words_said [] not = refl
-five_words_said (a ∷ []) not = refl
-five_words_said (a ∷ b ∷ []) not = refl
-five_words_said (a ∷ b ∷ c ∷ []) not = refl
-five_words_said (a ∷ b ∷ c ∷ d ∷ []) not = refl
-five_words_said (a ∷ b ∷ c ∷ d ∷ e ∷ []) not = absurd (not refl)
-five_words_said (a ∷ b ∷ c ∷ d ∷ e ∷ f ∷ ws) not = refl
-
 pub no_words_said : (k : Option Keyword) → parse_arguments k [] ≡ None
 no_words_said None = refl
 no_words_said (Some KeywordPolicy) = refl
@@ -83,16 +56,6 @@ pub nothing_said : (words : List (List ℕ)) → parse_arguments None words ≡ 
 nothing_said words = refl
 
 -- ---- the words of each form
-pub policy_said : (words : List (List ℕ)) (word : List ℕ) → words ≡ word ∷ [] → (b : Bool) → b ≡ is_text word → cond b (Some (policy word)) None ≡ parse_arguments (Some KeywordPolicy) words
-policy_said words word is b test = ap (λ b. cond b (Some (policy word)) None) test ∙ ap (parse_arguments (Some KeywordPolicy)) (sym is)
-
-pub process_said : (words : List (List ℕ)) (a b c d e : List ℕ) → words ≡ a ∷ b ∷ c ∷ d ∷ e ∷ [] → (t : Bool) → t ≡ are_names (locality_of a b c (known d) (known e)) → cond t (Some (process (locality_of a b c (known d) (known e)))) None ≡ parse_arguments (Some KeywordProcess) words
-process_said words a b c d e is t test = ap (λ t. cond t (Some (process (locality_of a b c (known d) (known e)))) None) test ∙ ap (parse_arguments (Some KeywordProcess)) (sym is)
-
-pub false_of : (b : Bool) → (b ≡ true → false ≡ true) → false ≡ b
-false_of true h = h refl
-false_of false h = refl
-
 -- what has no byte above 127 is text
 pub ascii_is_text : {T : Type 0} (word : List ℕ) → true ≡ is_text word → (IsUtf8 word → ⊥) → T
 ascii_is_text word test not = absurd (not (IsUtf8-from_ascii word (low word (second _ _ (sym test)))))

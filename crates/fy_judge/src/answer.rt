@@ -15,13 +15,14 @@ use std::alloc::{AllocError, Global};
 
 /// What is answered to an ask.
 #[derive(Clone, Copy, PartialEq, Eq, Debug)]
-pub enum Answer {
+pub(crate) enum Answer {
     Yes,
     No,
     WasGone,
 }
 
 impl Answer {
+    /// The line of an answer.
     fn line(self) -> &'static str
         ensures { result.now ≡ answer_line self }
     {
@@ -33,7 +34,7 @@ impl Answer {
     }
 }
 
-/// The answer to one ask, whose loss is taken down where it is yes.
+/// The answer to one ask, whose loss is recorded where the answer is yes.
 fn answer_ask(dead: &mut DeadBook, ask: JudgeAsk) -> Answer
     requires { ask.process.0 < MOST_PROCESSES }
     ensures { (i : Input) (granted : List Ask) → RecordsGranted i granted dead.old →
@@ -53,7 +54,7 @@ fn answer_ask(dead: &mut DeadBook, ask: JudgeAsk) -> Answer
 }
 
 /// The line of each answer, in order.
-pub fn answer_asks(
+pub(crate) fn answer_asks(
     alloc: Global,
     input: &JudgeInput,
     dead: &mut DeadBook,

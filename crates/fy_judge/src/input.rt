@@ -13,7 +13,7 @@ use std::marker::Model;
 
 /// Why a line is not taken.
 #[derive(Clone, Copy, PartialEq, Eq, Debug)]
-pub enum TakeFault {
+pub(crate) enum TakeFault {
     Fault(JudgeFault),
     NoMemory,
 }
@@ -30,7 +30,7 @@ impl<T: Drop> From<AllocFailed<T>> for TakeFault {
 }
 
 /// The policies, the processes and the asks of the lines so far.
-pub struct Input {
+pub(crate) struct Input {
     policies: Vec<Policy>,
     map: Map,
     asks: Vec<Ask>,
@@ -54,7 +54,7 @@ impl Model for Input {
         (record { policies = i.policies.items; processes = i.map; asks = i.asks.items }) };
 }
 
-// Written out, so that whoever drops an input makes one call.
+// Written out and not derived: see `Drop` in docs/DECISIONS.md.
 impl Drop for Input {
     fn drop(self) {
         let Input {
@@ -67,7 +67,7 @@ impl Drop for Input {
 
 impl Input {
     /// Nothing said.
-    pub fn new(alloc: Global) -> Self
+    pub(crate) fn new(alloc: Global) -> Self
         ensures { result ≡ empty_input }
     {
         Input {
@@ -78,7 +78,7 @@ impl Input {
     }
 
     /// The asks, each of a process that is there.
-    pub fn asks(&self) -> &[Ask]
+    pub(crate) fn asks(&self) -> &[Ask]
         ensures asks { result.now ≡ self.now.asks }
         ensures input { IsInput self.now }
     {
@@ -86,7 +86,7 @@ impl Input {
     }
 
     /// The policies, of which there are at most eight.
-    pub fn policies(&self) -> &[Policy]
+    pub(crate) fn policies(&self) -> &[Policy]
         ensures policies { result.now ≡ self.now.policies }
         ensures input { IsInput self.now }
     {
@@ -94,14 +94,14 @@ impl Input {
     }
 
     /// The processes.
-    pub fn map(&self) -> &Map
+    pub(crate) fn map(&self) -> &Map
         ensures { result.now ≡ self.now.processes }
     {
         &self.map
     }
 
     /// Takes the next line.
-    pub fn take_line(&mut self, alloc: Global, line: &[u8]) -> Result<(), TakeFault>
+    pub(crate) fn take_line(&mut self, alloc: Global, line: &[u8]) -> Result<(), TakeFault>
         ensures taken { OnOk result (Step self.old (parse_line line.now) (Ok self.new)) }
         ensures refused { IfErr result
             (λ e. IfFault e (λ fault. Step self.old (parse_line line.now) (Err fault))) }
@@ -127,6 +127,8 @@ impl Input {
         }
     }
 
+    /// Takes a policy, which has to come before all processes. Its text is read before it is
+    /// counted.
     fn take_policy(&mut self, alloc: Global, text: &str) -> Result<(), TakeFault>
         ensures taken { OnOk result (Step self.old (Some (policy text.now)) (Ok self.new)) }
         ensures refused { IfErr result
@@ -146,6 +148,7 @@ impl Input {
         Ok(())
     }
 
+    /// Takes a process, which has to come behind the policies and before all asks.
     fn take_process(&mut self, locality: Locality) -> Result<(), TakeFault>
         ensures taken { OnOk result (Step self.old (Some (process locality)) (Ok self.new)) }
         ensures refused { IfErr result
@@ -163,6 +166,7 @@ impl Input {
         Ok(())
     }
 
+    /// Takes an ask, which has to be about a process that is there.
     fn take_ask(&mut self, loss: Loss, id: Name) -> Result<(), TakeFault>
         ensures taken { OnOk result (Step self.old (Some (ask loss id)) (Ok self.new)) }
         ensures refused { IfErr result

@@ -1,4 +1,5 @@
-//! What a line of the input says.
+//! What a line of `judge`'s input says, from its words. No fault is named here: where a word isn't
+//! what it has to be there is no answer, and the line is then refused in `input.rt`.
 ghost use Rattle.std.specs.Prelude.{◌≡◌, ◌∷◌, ◌++◌, [], ℕ, length, MatchOption, IfSome, IfNone, IsOk, IfOk, IsTrue, true, nat_lt, ◌↔◌};
 ghost use Rattle.std.specs.List.{list_all};
 ghost use Rattle.std.specs.Option.{option_map, option_map_or};
@@ -14,14 +15,14 @@ use fy_locality::{BadName, Locality, Name, ProcId};
 
 /// May this process be lost in this way?
 #[derive(Clone, Copy)]
-pub struct Ask {
-    pub loss: Loss,
-    pub process: ProcId,
+pub(crate) struct Ask {
+    pub(crate) loss: Loss,
+    pub(crate) process: ProcId,
 }
 
 /// What the first word of a line announces.
 #[derive(Clone, Copy)]
-pub enum Keyword {
+pub(crate) enum Keyword {
     Policy,
     Process,
     Ask(Loss),
@@ -42,7 +43,7 @@ fn split_at_blank(line: &[u8]) -> Option<(&[u8], &[u8])>
 
 /// The first word and those behind it, where there are some.
 #[tactic(auto, using(crate::proofs::WordLemmas::words_of_split, crate::proofs::WordLemmas::words_of_lone))]
-pub fn first_word(line: &[u8]) -> (&[u8], Option<&[u8]>)
+pub(crate) fn first_word(line: &[u8]) -> (&[u8], Option<&[u8]>)
     ensures { MatchOption result.1 (tokens_of line.now ≡ result.0.now ∷ [])
         (λ rest. tokens_of line.now ≡ result.0.now ∷ tokens_of rest.now) }
 {
@@ -87,13 +88,15 @@ fn five_words(line: &[u8]) -> Option<(&[u8], &[u8], &[u8], &[u8], &[u8])>
     }
 }
 
+/// Whether a word is this text.
 fn is_word(word: &[u8], text: &str) -> bool
     ensures { result ≡ bytes_eq word.now text.now }
 {
     word == text.as_bytes()
 }
 
-pub fn keyword_in(word: &[u8]) -> Option<Keyword>
+/// What a first word announces, if it is one of the four.
+pub(crate) fn keyword_in(word: &[u8]) -> Option<Keyword>
     ensures { result ≡ keyword_of word.now }
 {
     if is_word(word, "policy") {
@@ -109,12 +112,14 @@ pub fn keyword_in(word: &[u8]) -> Option<Keyword>
     }
 }
 
+/// Whether no byte of a word is above 127.
 fn is_ascii(word: &[u8]) -> bool
     ensures { result ≡ list_all (λ b. nat_lt b 128) word.now }
 {
     word.iter().all(|byte| *byte < 128)
 }
 
+/// Whether a word may be the text of a policy, for the reader of policies to judge.
 fn is_policy_text(word: &[u8]) -> bool
     ensures { result ≡ is_text word.now }
 {
@@ -133,6 +138,7 @@ fn optional_name(word: &[u8]) -> Result<Option<Name>, BadName>
     Ok(Some(name))
 }
 
+/// The process of five words; the last two may be `-`.
 fn located(
     id: &[u8],
     machine: &[u8],
@@ -156,7 +162,7 @@ fn located(
 }
 
 /// The text of a policy, where the words are one that may be a text.
-pub fn policy_text(rest: &[u8]) -> Option<&str>
+pub(crate) fn policy_text(rest: &[u8]) -> Option<&str>
     ensures { option_map (λ text. policy text.now) result
         ≡ parse_arguments (Some Keyword.Policy) (tokens_of rest.now) }
 {
@@ -174,7 +180,7 @@ pub fn policy_text(rest: &[u8]) -> Option<&str>
 }
 
 /// A process, where the words are its five.
-pub fn process_of(rest: &[u8]) -> Option<Locality>
+pub(crate) fn process_of(rest: &[u8]) -> Option<Locality>
     ensures { option_map process result ≡ parse_arguments (Some Keyword.Process) (tokens_of rest.now) }
 {
     let Some((id, machine, zone, hall, center)) = five_words(rest) else {
@@ -187,7 +193,7 @@ pub fn process_of(rest: &[u8]) -> Option<Locality>
 }
 
 /// The ID of an ask, where the words are one name.
-pub fn asked_id(rest: &[u8]) -> Option<Name>
+pub(crate) fn asked_id(rest: &[u8]) -> Option<Name>
     ensures { (loss : Loss) → option_map (ask loss) result
         ≡ parse_arguments (Some (Keyword.Ask loss)) (tokens_of rest.now) }
 {

@@ -93,9 +93,6 @@ pub intersects_is : (a b : ℕ) → a < 32 → b < 32 → not (bit_and a b == 0)
 unfolding alike
 intersects_is a b h k = same _ _ (each_two (λ a b. alike (not (bit_and a b == 0)) (has_some (set_of_bits a) (set_of_bits b))) refl a b h k)
 
-pub empty_is : (a : ℕ) → a < 32 → (set_of_bits a ≡ no_deed) → a ≡ 0
-empty_is a h e = sym (bits_back a h) ∙ ap bits_of e
-
 -- ---- names
 picked : (p q r s t : Bool)
     → option_map set_of_bits (cond p (Some 1) (cond q (Some 2) (cond r (Some 4) (cond s (Some 8) (cond t (Some 16) None)))))

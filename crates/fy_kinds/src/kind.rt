@@ -15,15 +15,15 @@ pub enum Kind {
     KillInstantly,
 }
 
-/// Every kind, from the mildest.
-pub const KINDS: [Kind; 4] = [
+/// Every kind of kill, the mildest first. Texts list kinds in this order.
+pub const MILDEST_FIRST: [Kind; 4] = [
     Kind::RebootProcess,
     Kind::Reboot,
     Kind::RebootAndDelete,
     Kind::KillInstantly,
 ];
 
-/// Every kind, from the hardest.
+/// Every kind of kill, the hardest first. A verdict looks for what strikes in this order.
 pub const HARDEST_FIRST: [Kind; 4] = [
     Kind::KillInstantly,
     Kind::RebootAndDelete,
@@ -49,7 +49,10 @@ impl Kind {
     pub fn named(text: &str) -> Option<Kind>
         ensures { result ≡ kind_named text.now }
     {
-        KINDS.iter().copied().find(|kind| kind.text() == text)
+        MILDEST_FIRST
+            .iter()
+            .copied()
+            .find(|kind| kind.text() == text)
     }
 
     /// Whether the disk is emptied.

@@ -1,6 +1,8 @@
-//! Laws of sets of kinds, for the crates above.
-ghost use Rattle.std.specs.Prelude.{◌≡◌, ◌&&◌, ◌||◌, not, Some};
+//! Laws of kinds and of their sets, for the crates above.
+ghost use Rattle.std.specs.Prelude.{◌≡◌, ◌&&◌, ◌||◌, not, Some, [], ◌∷◌};
+ghost use Rattle.fy_kinds.specs.declared.kind.TheConstants.{MILDEST_FIRST, HARDEST_FIRST};
 ghost use Rattle.fy_kinds.specs.declared.kind.Kind.{Kind};
+ghost use Rattle.fy_kinds.specs.declared.kind.Kind.TheVariants.{RebootProcess, Reboot, RebootAndDelete, KillInstantly};
 ghost use Rattle.fy_kinds.specs.declared.kind_set.KindSet.{KindSet};
 ghost use Rattle.fy_kinds.specs.Kinds.{Deed, rank, kind_text, kind_named, deed_text, deed_named, has, only, in_either, in_each, in_first_alone, has_all, has_some};
 
@@ -38,4 +40,12 @@ pub fn members_together()
 pub fn one_deed()
     ensures all { (kinds : KindSet) (d : Deed) → has_all kinds (only d) ≡ has kinds d }
     ensures some { (kinds : KindSet) (d : Deed) → has_some kinds (only d) ≡ has kinds d }
+{}
+
+/// Both lists of the kinds, written out.
+pub fn kinds_in_order()
+    ensures mildest_first { MILDEST_FIRST
+        ≡ RebootProcess ∷ Reboot ∷ RebootAndDelete ∷ KillInstantly ∷ [] }
+    ensures hardest_first { HARDEST_FIRST
+        ≡ KillInstantly ∷ RebootAndDelete ∷ Reboot ∷ RebootProcess ∷ [] }
 {}

@@ -7,7 +7,7 @@ pub mod laws;
 mod order;
 mod verdict;
 
-pub use kind::{HARDEST_FIRST, KINDS, Kind};
+pub use kind::{HARDEST_FIRST, Kind, MILDEST_FIRST};
 pub use kind_set::KindSet;
 pub use order::{Floor, KillOrder, Target};
 pub use verdict::{Rule, Verdict};

@@ -40,7 +40,7 @@ pub fn write_bytes<W: Write>(writer: &mut W, bytes: &[u8]) -> Result<(), OutputF
 ///
 /// # Errors
 ///
-/// Those of `write_bytes`; what went out is a front of all the parts, and never all of it.
+/// The faults of `write_bytes`; what went out is a front of all the parts, and never all of it.
 pub fn write_parts<W: Write>(writer: &mut W, parts: &[&[u8]]) -> Result<(), OutputFault>
     ensures ok { OnOk result
         (Appends (W.contents writer.old) (W.contents writer.new)

@@ -12,9 +12,6 @@ pub members_are : (ws : List ℕ) → members ws ≡ members_below ws 1024
 unfolding members
 members_are ws = refl
 
-len-cond : (b c : Bool) (k : ℕ) → cond b (cond c k (k + 1)) k ≤ suc k
-len-cond b c k = grind (arith, nat_tests)
-
 pub len-members_below : (ws : List ℕ) (n : ℕ) → set.len (members_below ws n) ≤ n
 unfolding members_below
 len-members_below ws zero = let e : set.len (set.empty {R = nat_cmp}) ≡ 0 = set.len-empty nat_cmp in omega arith
@@ -24,11 +21,6 @@ len-members_below ws (suc n) =
       | true ↦ let e : set.len (set.insert (members_below ws n) n) ≡ cond (set.contains (members_below ws n) n) (set.len (members_below ws n)) (set.len (members_below ws n) + 1) = set.len-insert nat_cmp_total _ n in grind (arith, nat_tests)
       | false ↦ omega arith
     ]
-
--- no more than 1024
-pub len-members : (ws : List ℕ) → set.len (members ws) ≤ 1024
-unfolding members
-len-members ws = len-members_below ws 1024
 
 -- every member is below 1024
 pub small_members : (ws : List ℕ) (q : ℕ) → set.contains (members ws) q ≡ true → q < 1024

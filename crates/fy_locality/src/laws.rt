@@ -1,4 +1,8 @@
-//! Laws of keys and their values, for the crates above.
+//! Laws of keys and their values, for the crates above, and the limits as numbers.
+ghost use Rattle.std.specs.Prelude.{◌≡◌};
+ghost use Rattle.fy_locality.specs.declared.TheConstants.{MOST_PROCESSES};
+ghost use Rattle.fy_locality.specs.declared.process_set.TheConstants.{SET_WORDS};
+ghost use Rattle.fy_locality.specs.declared.name.TheConstants.{MOST_NAME_CHARACTERS};
 ghost use Rattle.fy_locality.specs.Key.{KeyTextsDiffer};
 ghost use Rattle.fy_locality.specs.Values.{ValuesDiffer, ValuesOccur, ValueIsHad, ProcessesHaveValues};
 
@@ -25,4 +29,11 @@ pub fn value_is_had()
 /// Only a process has a value.
 pub fn processes_have_values()
     ensures { ProcessesHaveValues }
+{}
+
+/// The limits of this crate, as numbers.
+pub fn limits()
+    ensures processes { MOST_PROCESSES ≡ 1024 }
+    ensures set_words { SET_WORDS ≡ 16 }
+    ensures name_characters { MOST_NAME_CHARACTERS ≡ 32 }
 {}

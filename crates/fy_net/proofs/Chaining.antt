@@ -111,10 +111,6 @@ passed_more chain there n place at r passed left first = go r first
       ],
     )
 
-pub shorter_ahead : (chain : ℕ → ℕ) (n at : ℕ) (r : Option ℕ) → at < n → IsFirst (λ k. chain k ≡ chain at) (at + 1) n r → ahead n r < ahead n (Some at)
-shorter_ahead chain n at None lt first = omega arith
-shorter_ahead chain n at (Some b) lt first = omega (arith, first.0, first.1)
-
 -- whether the message of the slot at a place is there
 pub there_there : (slots : List Slot) (place : ℕ) (s : Slot) → place < length slots → s ≡ get_or slots place s → s.there ≡ is_there slots place
 there_there slots place s within is = ap (λ (x : Slot). x.there) is ∙ sym (get_or-map (λ (x : Slot). x.there) slots place s false within)

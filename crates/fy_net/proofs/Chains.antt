@@ -73,10 +73,6 @@ module _ (chain : ℕ → ℕ) (n : ℕ) (link link' : ℕ → Option ℕ) where
 
 -- ---- the first of a chain that is there
 
--- what the first of a chain is, among so many slots
-abbrev pub Heads : (ℕ → ℕ) → (ℕ → Bool) → ℕ → ℕ → ℕ → Type 0
-Heads chain there c n k = (chain k ≡ c) × (there k ≡ true)
-
 module _ (chain : ℕ → ℕ) (there there' : ℕ → Bool) (n i : ℕ) (stays : (k : ℕ) → k ≢ i → there' k ≡ there k) (left : there' i ≡ false) where
   left_there : (k : ℕ) → there' k ≡ true → there k ≡ true
   left_there k is =

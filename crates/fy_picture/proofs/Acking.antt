@@ -115,12 +115,6 @@ module _ (by_reply : ByReply) (c : Setup) (xs : List Entry) (e : Entry) (r : ℕ
 pub never : (c : Setup) (r : ℕ) → IsAckedAt c [] r None
 never c r = acked_at c [] r None (λ count. ap (λ ys. acked (history c ys) r) (take_all count [] (omega arith)))
 
--- a note leaves what was where nothing is acknowledged
-pub unnoted : (at : ℕ) (o : Option (Option ℕ)) → o ≡ option_map (noted at false) o
-unnoted at None = refl
-unnoted at (Some None) = refl
-unnoted at (Some (Some place)) = refl
-
 -- what a loop over the records keeps: a note for each so far, and the others as they were
 pub record Notes (f : ℕ → Option ℕ → Option ℕ) (old : List (Option ℕ)) (i : ℕ) (new : List (Option ℕ)) : Type 0 where
   pub count : length new ≡ length old
@@ -135,9 +129,6 @@ after_set xs i p x other l w = at (p == i) refl
     at false e =
         let apart : p ≡ i → ⊥ = eqb-false p i e in
         slice_get-get_or (slice_set xs i x) p other (let n = length-set xs i x in omega arith) ∙ ap Some (get_or-set_other xs i p x other apart) ∙ sym (slice_get-get_or xs p other w)
-
-pub notes_begin : (f : ℕ → Option ℕ → Option ℕ) (old : List (Option ℕ)) → Notes f old 0 old
-notes_begin f old = record { count = refl; each = λ r. sym (ap (λ b. if b then option_map (f r) (slice_get old r) else slice_get old r) (le-ltb r 0 (omega arith))) }
 
 pub notes_more : (f : ℕ → Option ℕ → Option ℕ) (old now : List (Option ℕ)) (i : ℕ) (x : Option ℕ) → i < length now → x ≡ get_or now i x → Notes f old i now → Notes f old (i + 1) (slice_set now i (f i x))
 notes_more f old now i x l is k = record {

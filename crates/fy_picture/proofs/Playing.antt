@@ -69,14 +69,6 @@ plays_next fronts next c entries i e act old new l is same made plays = λ legal
     (of_parts e (length (take i entries)) act (reply c (history c (take i entries)) e.by act) may.place (sym same) right)
     ∙ ap (λ (journal : List Entry). let more : Execution = record { setup = c; journal = journal } in more) (sym (one_more entries i e l is))
 
--- a journal that is full has no next entry
-pub never_full : FrontsLegal → NextLegal → (c : Setup) (entries : List Entry) (i : ℕ) (e : Entry) (execution : Execution) → i < length entries → e ≡ get_or entries i e → execution.setup.limit ≤ length execution.journal
-    → Plays c entries i execution → Legal c entries → ⊥
-never_full fronts next c entries i e execution l is full plays legal =
-    let room : length (take i entries) < c.limit = (next_of fronts next c entries i e l is legal).room in
-    let full_at : c.limit ≤ length (take i entries) = subst (λ (x : Execution). x.setup.limit ≤ length x.journal) (plays legal) full in
-    omega arith
-
 -- ---- who acknowledged
 
 -- what a loop over the entries keeps: the cluster has those so far, and of so many records it is noted which of them acknowledged them

@@ -295,8 +295,3 @@ no_bracket bytes behind items so_far no_next no_end = every_fails bytes (λ us r
     go rest (inr f) = no_next (text f.0 ++ f.1) f.3
 
 -- ---- each call reads less
-pub length-behind : (bytes word rest : List ℕ) → bytes ≡ word ++ rest → length bytes ≡ length word + length rest
-length-behind bytes word rest e = ap length e ∙ length-append word rest
-
-pub length-parts : (bytes behind : List ℕ) (items : List Shape) → PartsSoFar bytes items behind → length behind ≤ length bytes
-length-parts bytes behind items so_far = let l = length-behind bytes (parts_text so_far.all) behind so_far.front in omega arith

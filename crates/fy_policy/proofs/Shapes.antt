@@ -63,9 +63,6 @@ all_pass test (q ∷ qs) each = ap (λ b. b && list_all test qs) (each zero q (o
 pub one_fails : (test : Shape → Bool) (qs : List Shape) (k : ℕ) (q : Shape) → k < length qs → q ≡ get_or qs k q → test q ≡ false → list_all test qs ≡ false
 one_fails test qs k q within is fails = list_all_at test qs k q within (ap test (sym is) ∙ fails)
 
-pub inner_counted : (shape : Shape) (wanted : ℕ) (key : Key) (inner : Box Shape Global) → shape ≡ Across wanted key inner → IsWellFormed (tree_of shape) → (1 ≤ wanted) × IsWellFormed (tree_of inner.value)
-inner_counted shape wanted key inner is h = let c : IsWellFormed (tree_of (Across wanted key inner)) = subst (λ q. IsWellFormed (tree_of q)) is h in (c.0, c.2)
-
 -- the part at a place of the loop's list
 pub part_is_counted' : (shape : Shape) (parts : Vec Shape Global) (items : List Shape) (k : ℕ) (q : Shape) → shape ≡ And parts → items ≡ parts.items → IsWellFormed (tree_of shape) → k < length items → q ≡ get_or items k q → IsWellFormed (tree_of q)
 part_is_counted' shape parts items k q is same h within at =

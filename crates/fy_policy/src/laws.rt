@@ -1,4 +1,7 @@
-//! Laws of policies.
+//! Laws of policies, for the crates above: a call brings the law into a proof, and does nothing
+//! when the program runs. One says the limits as numbers.
+ghost use Rattle.std.specs.Prelude.{◌≡◌};
+ghost use Rattle.fy_policy.specs.declared.limits.TheConstants.{MOST_POLICIES, LEAST_COUNT, MOST_COUNT, MOST_DEPTH, MOST_NODES, MOST_TEXT_BYTES, MOST_READ_BYTES};
 ghost use Rattle.fy_policy.specs.Laws.{AndIsEach, AQuorumIsLeft, EmptySatisfiesNone, KeylessPassNothing, MoreOfMapSatisfies, MoreSatisfies, NobodyPasses, PartsAreWellFormed, SomeHolderIsLeft, TestIsSatisfaction, ValuesPassApart};
 
 /// The empty set satisfies no policy.
@@ -11,7 +14,7 @@ pub fn more_satisfies()
     ensures { MoreSatisfies }
 {}
 
-/// So does a set that is larger as far as the processes of the map go.
+/// A set that is larger as far as the processes of the map go satisfies what the smaller one does.
 pub fn more_of_map_satisfies()
     ensures { MoreOfMapSatisfies }
 {}
@@ -62,4 +65,15 @@ pub fn some_holder_is_left()
 /// `n - k + 1` processes aren't destroyed.
 pub fn a_quorum_is_left()
     ensures { AQuorumIsLeft }
+{}
+
+/// The limits of this crate, as numbers.
+pub fn limits()
+    ensures policies { MOST_POLICIES ≡ 8 }
+    ensures least_count { LEAST_COUNT ≡ 1 }
+    ensures most_count { MOST_COUNT ≡ 1024 }
+    ensures depth { MOST_DEPTH ≡ 8 }
+    ensures nodes { MOST_NODES ≡ 64 }
+    ensures text_bytes { MOST_TEXT_BYTES ≡ 1536 }
+    ensures read_bytes { MOST_READ_BYTES ≡ 4096 }
 {}

@@ -40,10 +40,6 @@ or_regroups : (a b c : Bool) → ((a || b) || c) ≡ (a || (b || c))
 or_regroups true b c = refl
 or_regroups false b c = refl
 
-or_of_none : (a : Bool) → (a || false) ≡ a
-or_of_none true = refl
-or_of_none false = refl
-
 -- three sets together, whichever two come first
 with_all_regroups : (a b c : Members) → in_either (in_either a b) c ≡ in_either a (in_either b c)
 with_all_regroups a b c =

@@ -81,8 +81,3 @@ nothing line d short json none = (
       let found = inverted-again s.actor s.target s.kind s.floor s.tear s.by s.fits.0 s.fits.1 in
       let no : ⊥ = cc in no),
 )
-
-pub no_value :
-    (line : List ℕ) → length line ≤ MOST_LINE_BYTES → ((d : Data) → IsJson line d → ⊥)
-    → LineOf line (Err Syntax)
-no_value line short none = (short, (λ command s. none _ s.json), (λ s. none _ s.json))

@@ -98,9 +98,6 @@ reads_back d tame shallow =
     let fits : tree.depth j ≤ max_depth = omega (arith, same_depth d) in
     rw (same, value-json_tokens j max_depth [] fits) (of_outline d tame)
 
-ascii : (s : List ℕ) (t : List ℕ) → IsUtf8 s → IsUtf8 t → IsUtf8 (s ++ t)
-ascii s t a b = IsUtf8-append s t a b
-
 comma : (later : Bool) (t : List ℕ) → IsUtf8 t → IsUtf8 (comma_if later ++ t)
 comma true t h = IsUtf8-append (44 ∷ []) t (IsUtf8-are_ascii _ refl) h
 comma false t h = h

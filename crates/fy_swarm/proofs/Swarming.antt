@@ -32,16 +32,6 @@ pub seat_count : (y : Yard) (a n : ℕ) → length (new_seats y a n) ≡ n
 seat_count y a zero = refl
 seat_count y a (suc n) = ap suc (seat_count y (a + 1) n)
 
-seat_from : (y : Yard) (a n k : ℕ) (d : SeatState) → k < n → get_or (new_seats y a n) k d ≡ new_seat y (a + k)
-seat_from y a zero k d within = absurd (omega arith)
-seat_from y a (suc n) zero d within = ap (new_seat y) (let e : a ≡ a + 0 = omega arith in e)
-seat_from y a (suc n) (suc k) d within =
-    seat_from y (a + 1) n k d (omega arith) ∙ ap (new_seat y) (let e : a + 1 + k ≡ a + suc k = omega arith in e)
-
--- the seat of an actor by number
-pub seat_at : (y : Yard) (n k : ℕ) (d : SeatState) → k < n → get_or (new_seats y 0 n) k d ≡ new_seat y k
-seat_at y n k d within = seat_from y 0 n k d within ∙ ap (new_seat y) (let e : 0 + k ≡ k = omega arith in e)
-
 abbrev first_of : List SeatState → SeatState → SeatState
 first_of [] d = d
 first_of (x ∷ xs) d = x
@@ -66,9 +56,6 @@ none_left y i left rest none is = sym (seat_count y i left) ∙ sym (ap length i
 abbrev pub AreBack : List Role → Yard → ℕ → List SeatState → Type 0
 AreBack roles y i back =
     (a : ℕ) → a < i → is_active (slice_get roles a) ≡ false → Contains back (new_seat y a)
-
-pub none_back : (roles : List Role) (y : Yard) (back : List SeatState) → AreBack roles y 0 back
-none_back roles y back a below = absurd (omega arith)
 
 pub more_back : (roles : List Role) (y : Yard) (i : ℕ) (back more : List SeatState) → AreBack roles y i back → AreBack roles y i (back ++ more)
 more_back roles y i back more are a below rests = Contains-append_left back more (new_seat y a) (are a below rests)
@@ -140,9 +127,6 @@ AreCast {A} seat part c seed y i posts =
     (a : ℕ) → a < i → is_active (slice_get c.roles a) ≡ true →
     (player : Player) × Plays c seed a (Some player) × (k : ℕ) × (k < length posts)
     × ((d : A) → (seat (get_or posts k d) ≡ new_seat y a) × (part (get_or posts k d) ≡ part_of player))
-
-pub none_cast : {A : Type 0} (seat : A → SeatState) (part : A → Part) (c : Setup) (seed : ℕ) (y : Yard) (posts : List A) → AreCast seat part c seed y 0 posts
-none_cast seat part c seed y posts a below = absurd (let none : ⊥ = omega arith in none)
 
 rests_isnt_loose : (c : Setup) (seed a : ℕ) → Plays c seed a None → is_active (slice_get c.roles a) ≡ false
 rests_isnt_loose c seed a (Plays.rests role) = ap is_active role

@@ -1,4 +1,6 @@
-//! Laws of teams, for the crates above.
+//! Laws of teams, for the crates above, and the limits as numbers.
+ghost use Rattle.std.specs.Prelude.{◌≡◌};
+ghost use Rattle.fy_team.specs.declared.limits.TheConstants.{MOST_MEMBERS, MOST_TEAMS, MOST_RECORDS, MOST_BYTES};
 ghost use Rattle.fy_team.specs.Standing.{MembersTested, FitIsFormed, SwappedMembers, ReplacedMembers, ReplacedPolicies, MarkAcknowledges, AckedByMark, AckedStays, MarkLeavesTeams, MarkIsOneMore, MarkTwice, BegunUnmarked, BegunUnacked, HealedMarks, HealedAcked, HealedTeams, HealedPayloads};
 
 /// Numbers are members exactly if they are few enough and each is above the one before it.
@@ -51,4 +53,12 @@ pub fn a_heal_takes_marks_off()
     ensures acked { HealedAcked }
     ensures teams { HealedTeams }
     ensures payloads { HealedPayloads }
+{}
+
+/// The limits of this crate, as numbers.
+pub fn limits()
+    ensures members { MOST_MEMBERS ≡ 1024 }
+    ensures teams { MOST_TEAMS ≡ 4096 }
+    ensures records { MOST_RECORDS ≡ 65536 }
+    ensures bytes { MOST_BYTES ≡ 256 }
 {}

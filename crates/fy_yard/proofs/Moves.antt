@@ -953,18 +953,3 @@ ends id v s seated idle whole r at =
         },
       ),
     )
-
-pub longer_one : (xs ys : List Entry) → (longer xs ys ≡ xs) ⊎ (longer xs ys ≡ ys)
-longer_one xs ys = cases (nat_lt (length xs) (length ys))
-  where
-    cases : (b : Bool) → ((if b then ys else xs) ≡ xs) ⊎ ((if b then ys else xs) ≡ ys)
-    cases true = inr refl
-    cases false = inl refl
-
--- the longer of a list and one that begins with it
-pub longer_other : (xs ys : List Entry) → StartsWith ys xs → longer xs ys ≡ ys
-longer_other xs ys s = cases (nat_lt (length xs) (length ys)) refl
-  where
-    cases : (b : Bool) → nat_lt (length xs) (length ys) ≡ b → (if b then ys else xs) ≡ ys
-    cases true is = refl
-    cases false is = let le : length ys ≤ length xs = grind (arith, nat_tests) in whole ys xs s le

@@ -3,6 +3,7 @@
 
 #include "told.h"
 
+#include <climits>
 #include <iterator>
 #include <set>
 #include <thread>
@@ -44,19 +45,27 @@ static void throws(int line, Status status, std::optional<Refusal> refusal, Call
 #define REFUSES(refusal, ...)                                                                      \
     throws(__LINE__, Status::Refused, Refusal::refusal, [&] { __VA_ARGS__; })
 
-/* Memory is refused to the library while this is true: the linker has malloc and realloc come here
+/* How many requests for memory the library is granted: the linker has malloc and realloc come here
  * (--wrap). */
-static bool has_no_memory = false;
+static const unsigned long ALL = ULONG_MAX;
+static unsigned long granted = ALL;
+static bool is_refused()
+{
+    const bool refused = granted == 0;
+    if (!refused && granted != ALL)
+        granted--;
+    return refused;
+}
 extern "C" {
 void *__real_malloc(size_t size);
 void *__real_realloc(void *block, size_t size);
 void *__wrap_malloc(size_t size)
 {
-    return has_no_memory ? nullptr : __real_malloc(size);
+    return is_refused() ? nullptr : __real_malloc(size);
 }
 void *__wrap_realloc(void *block, size_t size)
 {
-    return has_no_memory ? nullptr : __real_realloc(block, size);
+    return is_refused() ? nullptr : __real_realloc(block, size);
 }
 }
 
@@ -340,7 +349,7 @@ static void want_of_memory()
     Guard first(SIX), guard(SIX);
     guard.act("{\"by\":0,\"act\":{\"tick\":{\"ticks\":5}}}");
     const std::string before = guard.audit();
-    has_no_memory = true;
+    granted = 0;
     THROWS(NoMemory, Guard{SIX});
     THROWS(NoMemory, (void)first.kill(1, Key::Process, "p0", Kind::Reboot));
     THROWS(NoMemory, first.up(0, 0));
@@ -349,23 +358,129 @@ static void want_of_memory()
     THROWS(NoMemory, guard.reset());
     THROWS(NoMemory, guard.entry(0));
     THROWS(NoMemory, guard.audit());
-    has_no_memory = false;
+    granted = ALL;
     EQUAL(first.journal_len(), 0);
     HOLDS(guard.audit() == before);
 }
 
-/* A cluster file that is none, one for each reason. */
+/* The error of a cluster file that is none. */
+static Error refused(std::string_view config)
+{
+    try {
+        Guard guard(config);
+    } catch (const Error &error) {
+        met.insert(error.status());
+        return error;
+    }
+    return Error(Status::Done);
+}
+
+static const char *const NO_NAME = "journal_limit = 1\n" REST("Across(2,zoneid,One())", "z 1");
+
+/* A cluster file that is none, for each reason and each part. */
 static void cluster_files()
 {
-    THROWS(ConfigField, Guard{std::string_view()});
-    THROWS(ConfigField, Guard{""});
-    THROWS(ConfigToml, Guard{"="});
-    THROWS(ConfigToml, Guard{"\xff"});
-    THROWS(ConfigLimit, Guard{"journal_limit = 0\n" REST("Across(2,zoneid,One())", "z1")});
-    THROWS(ConfigName, Guard{"journal_limit = 1\n" REST("Across(2,zoneid,One())", "z 1")});
-    THROWS(ConfigPolicy, Guard{"journal_limit = 1\n" REST("Across(2,zone,One())", "z1")});
-    THROWS(ConfigUnmet, Guard{"journal_limit = 1\n" REST("Across(3,zoneid,One())", "z1")});
-    THROWS(ConfigTooLong, Guard{std::string(1048577, '\n')});
+#define GOOD REST("Across(2,zoneid,One())", "z1")
+#define NAMED PROCESSES("Across(2,zoneid,One())", "z1")
+    const std::optional<uint64_t> nowhere;
+    const struct {
+        std::string config;
+        Status status;
+        std::optional<Part> part;
+        std::optional<uint64_t> place;
+        const char *says;
+    } files[] = {
+        {std::string(1048577, '\n'), Status::ConfigTooLong, std::nullopt, nowhere,
+         "config: TooLong: the cluster file has more than 1,048,576 bytes"},
+        {"=", Status::ConfigToml, std::nullopt, nowhere,
+         "config: Toml: the cluster file is no TOML document in UTF-8"},
+        {"\xff", Status::ConfigToml, std::nullopt, nowhere,
+         "config: Toml: the cluster file is no TOML document in UTF-8"},
+        {"", Status::ConfigField, Part::JournalLimit, nowhere,
+         "config: Field JournalLimit: a key of the cluster file is missing, unknown or of another "
+         "type, or a word is none of those that may stand there"},
+        {"journal_limit = 1\n", Status::ConfigField, Part::Policies, nowhere,
+         "config: Field Policies: a key of the cluster file is missing, unknown or of another "
+         "type, or a word is none of those that may stand there"},
+        {"journal_limit = 1\nmore = 1\n" GOOD, Status::ConfigField, Part::Unknown, nowhere,
+         "config: Field Unknown: a key of the cluster file is missing, unknown or of another "
+         "type, or a word is none of those that may stand there"},
+        {"journal_limit = 0\n" GOOD, Status::ConfigLimit, Part::JournalLimit, nowhere,
+         "config: Limit JournalLimit: a number or a length of the cluster file is outside its "
+         "range"},
+        {"journal_limit = 1\n" NAMED "actor = []\n", Status::ConfigLimit, Part::Actor, nowhere,
+         "config: Limit Actor: a number or a length of the cluster file is outside its range"},
+        {NO_NAME, Status::ConfigName, Part::Process, 1,
+         "config: Name Process 1: a text of the cluster file is no name, or names what is taken "
+         "or isn't there"},
+        {"journal_limit = 1\n" NAMED "actor = [{role = \"fault\", grants = "
+         "[{kinds = [], key = \"zoneid\", value = \"-\"}]}]\n",
+         Status::ConfigName, Part::Actor, 0,
+         "config: Name Actor 0: a text of the cluster file is no name, or names what is taken or "
+         "isn't there"},
+        {"journal_limit = 1\nprotect = [{process = \"p0\", kinds = []}, "
+         "{process = \"p1\", kinds = []}, {process = \"p9\", kinds = []}]\n" GOOD,
+         Status::ConfigName, Part::Protect, 2,
+         "config: Name Protect 2: a text of the cluster file is no name, or names what is taken "
+         "or isn't there"},
+        {"journal_limit = 1\n" REST("Across(2,zone,One())", "z1"), Status::ConfigPolicy,
+         Part::Policies, 0, "config: Policy 0: a text of the cluster file is no policy"},
+        {"journal_limit = 1\n" REST("One()\", \"Across(3,zoneid,One())", "z1"), Status::ConfigUnmet,
+         Part::Policies, 1,
+         "config: PolicyUnmet 1: all processes of the cluster file together don't satisfy one of "
+         "its policies"},
+    };
+    for (const auto &file : files) {
+        const Error error = refused(file.config);
+        HOLDS(error.status() == file.status && error.refusal() == std::nullopt);
+        HOLDS(error.part() == file.part);
+        HOLDS(error.place() == file.place);
+        HOLDS(std::string_view(error.what()) == file.says);
+    }
+    HOLDS(refused(std::string_view()).part() == Part::JournalLimit);
+    HOLDS(refused(std::string(1048576, '\n')).part() == Part::JournalLimit);
+}
+
+/* A cluster file that is refused is read once more for its part and place. */
+static void want_of_memory_for_a_fault()
+{
+    const auto least = [](auto reads) {
+        unsigned long requests = 0;
+        for (bool is_told = false; !is_told; requests++) {
+            granted = requests;
+            is_told = reads();
+            granted = ALL;
+        }
+        return requests - 1;
+    };
+    const unsigned long once = least([] {
+        uint32_t part = 0;
+        uint64_t place = 0;
+        return fy_config_fault(detail::bytes(NO_NAME), strlen(NO_NAME), &part, &place) ==
+               FY_CONFIG_NAME;
+    });
+    const unsigned long twice = least([] {
+        const Error error = refused(NO_NAME);
+        if (error.status() == Status::ConfigName)
+            return error.part() == Part::Process && error.place() == 1U;
+        HOLDS(error.status() == Status::NoMemory);
+        HOLDS(error.part() == std::nullopt && error.place() == std::nullopt);
+        HOLDS(std::string_view(error.what()) == "there was no memory");
+        return false;
+    });
+    HOLDS(once > 0);
+    EQUAL(twice, 2 * once);
+}
+
+/* The library that is linked is that of the header. */
+static void versions()
+{
+    const Version its = version();
+    EQUAL(its.major * 10000 + its.minor * 100 + its.patch, FAULTYARD_VERSION);
+    HOLDS(std::to_string(its.major) + "." + std::to_string(its.minor) + "." +
+              std::to_string(its.patch) ==
+          FAULTYARD_VERSION_TEXT);
+    HOLDS(its == version() && its != Version());
 }
 
 /* Each call answers that the guard is closed. */
@@ -479,6 +594,11 @@ static void texts()
     HOLDS(std::string_view(Error(Status::Refused, Refusal::IsUp).what()) ==
           "refused: the process is up already");
     HOLDS(std::string_view(Error(static_cast<Status>(20)).what()) == "unknown to this header");
+    const Error longest(Status::ConfigName, Part::JournalLimit, UINT64_MAX);
+    HOLDS(std::string_view(longest.what()) ==
+          "config: Name JournalLimit 18446744073709551615: a text of the cluster file is no name, "
+          "or names what is taken or isn't there");
+    HOLDS(to_string(static_cast<Part>(0)).empty() && to_string(static_cast<Part>(7)) == "unknown");
     HOLDS(to_string(static_cast<Refusal>(26)) == "unknown");
     HOLDS(to_string(static_cast<Key>(UINT32_MAX)) == "unknown");
 }
@@ -496,6 +616,8 @@ int main()
     errors();
     want_of_memory();
     cluster_files();
+    want_of_memory_for_a_fault();
+    versions();
     moves();
     long_lines();
     threads();

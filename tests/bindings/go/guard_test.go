@@ -481,25 +481,73 @@ func TestAnErrorEntersNothing(t *testing.T) {
 }
 
 func TestAClusterFileThatIsNone(t *testing.T) {
+	field := "a key of the cluster file is missing, unknown or wrong, or a word is unknown"
+	limit := "a number or a length of the cluster file is outside its range"
+	name := "a text of the cluster file is no name, or names what is taken or isn't there"
+	at := func(status faultyard.Status, part faultyard.Part, place uint64) faultyard.ConfigFault {
+		return faultyard.ConfigFault{Status: status, Part: part, Place: place}
+	}
+	with := func(line string) []byte { return append(six(t), line+"\n"...) }
 	for _, bad := range []struct {
-		status faultyard.Status
+		fault  faultyard.ConfigFault
 		config []byte
+		says   string
 	}{
-		{faultyard.ErrConfigField, nil},
-		{faultyard.ErrConfigToml, []byte("=")},
-		{faultyard.ErrConfigToml, []byte("\xff")},
-		{faultyard.ErrConfigLimit, sixWith(t, "journal_limit = 1000\n", "journal_limit = 0\n")},
-		{faultyard.ErrConfigName, sixWith(t, `"p0"`, `"p 0"`)},
-		{faultyard.ErrConfigPolicy, sixWith(t, "Across(2,zoneid", "Across(2,zone")},
-		{faultyard.ErrConfigUnmet, sixWith(t, "Across(2,", "Across(4,")},
-		{faultyard.ErrConfigTooLong, bytes.Repeat([]byte("\n"), 1_048_577)},
+		{at(faultyard.ErrConfigTooLong, faultyard.WholeFile, 0),
+			bytes.Repeat([]byte("\n"), 1_048_577),
+			"TooLong: the cluster file has more than 1,048,576 bytes"},
+		{at(faultyard.ErrConfigToml, faultyard.WholeFile, 0), []byte("="),
+			"Toml: the cluster file is no TOML document in UTF-8"},
+		{at(faultyard.ErrConfigToml, faultyard.WholeFile, 0), []byte("\xff"),
+			"Toml: the cluster file is no TOML document in UTF-8"},
+		{at(faultyard.ErrConfigField, faultyard.PartJournalLimit, 0), nil,
+			"Field JournalLimit: " + field},
+		{at(faultyard.ErrConfigField, faultyard.PartPolicies, 0),
+			sixWith(t, `["Across(2,zoneid,One())"]`, "2"), "Field Policies: " + field},
+		{at(faultyard.ErrConfigField, faultyard.PartUnknown, 0),
+			with(`name = "six"`), "Field Unknown: " + field},
+		{at(faultyard.ErrConfigLimit, faultyard.PartJournalLimit, 0),
+			sixWith(t, "journal_limit = 1000\n", "journal_limit = 0\n"),
+			"Limit JournalLimit: " + limit},
+		{at(faultyard.ErrConfigName, faultyard.PartProcess, 5),
+			sixWith(t, `"p5"`, `"p 5"`), "Name Process 5: " + name},
+		{at(faultyard.ErrConfigName, faultyard.PartActor, 2),
+			sixWith(t, `kinds = ["KillInstantly", "Reboot"]`,
+				`kinds = [], key = "zoneid", value = ""`), "Name Actor 2: " + name},
+		{at(faultyard.ErrConfigName, faultyard.PartProtect, 1),
+			with(`protect = [{process = "p0", kinds = []}, {process = "p6", kinds = []}]`),
+			"Name Protect 1: " + name},
+		{at(faultyard.ErrConfigPolicy, faultyard.PartPolicies, 0),
+			sixWith(t, "Across(2,zoneid", "Across(2,zone"),
+			"Policy 0: a text of the cluster file is no policy"},
+		{at(faultyard.ErrConfigUnmet, faultyard.PartPolicies, 1),
+			sixWith(t, `"Across(2,`, `"One()", "Across(4,`),
+			"PolicyUnmet 1: all processes of the cluster file together don't satisfy one of its policies"},
 	} {
 		guard, err := faultyard.Open(bad.config)
-		fails(t, err, bad.status)
+		equal(t, err, bad.fault)
 		equal(t, guard == nil, true)
+		equal(t, err.Error(), "faultyard: config: "+bad.says)
+		fails(t, err, bad.fault.Status)
+		var fault faultyard.ConfigFault
+		equal(t, errors.As(err, &fault), true)
+		equal(t, fault, bad.fault)
 		var status faultyard.Status
 		equal(t, errors.As(err, &status), true)
+		equal(t, status, bad.fault.Status)
 		equal(t, errors.Is(err, faultyard.ErrRefused), false)
+	}
+}
+
+func TestTheVersionIsTheHeaders(t *testing.T) {
+	header, err := os.ReadFile("../../../include/faultyard.h")
+	equal(t, err, nil)
+	major, minor, patch := faultyard.Version()
+	for _, wanted := range []string{
+		fmt.Sprintf("#define FAULTYARD_VERSION %d\n", major*10_000+minor*100+patch),
+		fmt.Sprintf("#define FAULTYARD_VERSION_TEXT \"%d.%d.%d\"\n", major, minor, patch),
+	} {
+		equal(t, strings.Count(string(header), wanted), 1)
 	}
 }
 
@@ -701,6 +749,9 @@ func TestWords(t *testing.T) {
 	told = fmt.Sprint(faultyard.Key(0), faultyard.Kind(5), faultyard.Rule(1<<31), faultyard.Refusal(0))
 	equal(t, told, "Key(0) Kind(5) Rule(2147483648) faultyard: the act is refused: Refusal(0)")
 	equal(t, faultyard.Status(4).Error(), "faultyard: status(4)")
+	equal(t, fmt.Sprint(faultyard.WholeFile, faultyard.PartUnknown, faultyard.Part(7)),
+		"WholeFile Unknown Part(7)")
+	equal(t, faultyard.ConfigFault{}.Error(), "faultyard: config: config(0): status(0)")
 	equal(t, faultyard.ErrJournalFull.Error(),
 		"faultyard: the journal has as many entries as the cluster file allows")
 	for _, kind := range []faultyard.Kind{faultyard.None, faultyard.RebootProcess, faultyard.Reboot} {

@@ -3,6 +3,7 @@
 import json
 import os
 import random
+import re
 import subprocess
 import tempfile
 import unittest
@@ -17,8 +18,6 @@ WITHOUT = (
 WITHOUT_TOML = "SKIPPED a harness that reads cluster files: this Python is older than 3.11"
 SIX = ROOT / "examples/c6.toml"
 HEADER = '{"audit":2}\n'
-# Calls of the C library that no binding makes.
-UNASKED = {"fy_version", "fy_config_fault"}
 KINDS = ["RebootProcess", "Reboot", "RebootAndDelete", "KillInstantly"]
 KEYS = {"processid": "p", "machineid": "m", "zoneid": "z", "data_hall": "h", "dcid": "d"}
 
@@ -46,6 +45,60 @@ def six_with(folder, limit):
     return written(
         folder, "six.toml", text.replace("journal_limit = 1000\n", f"journal_limit = {limit}\n")
     )
+
+
+def version():
+    """The version of the program and of the library, as text."""
+    told = subprocess.run([ROOT / "release/version"], capture_output=True, text=True, check=True)
+    return told.stdout.rstrip("\n")
+
+
+def refused_configs():
+    """Cluster files that are refused, by their fault lines: each fault, and each part."""
+    six = SIX.read_text()
+
+    def changed(old, new):
+        assert six.count(old) == 1, old
+        return six.replace(old, new)
+
+    def emptied(part):
+        return re.sub(rf"^{part} = \[.*?\]$", f"{part} = []", six, flags=re.M | re.S)
+
+    limit, policies = "journal_limit = 1000\n", '"Across(2,zoneid,One())"'
+    grant = '{kinds = ["KillInstantly", "Reboot"]}'
+    protection = '{process = "p0", kinds = []}, '
+    return {
+        "config: TooLong": "#" * 1_048_577,
+        "config: Toml": "=",
+        "config: Field JournalLimit": changed(limit, "journal_limit = 1000.0\n"),
+        "config: Field Policies": changed(policies, "1"),
+        "config: Field Process": changed(' machineid = "m1",', ""),
+        "config: Field Actor": changed('"operator"', '"reader"'),
+        "config: Field Protect": six + 'protect = [{process = "p0"}]\n',
+        "config: Field Unknown": six + 'name = "six"\n',
+        "config: Limit JournalLimit": changed(limit, "journal_limit = 0\n"),
+        "config: Limit Policies": emptied("policies"),
+        "config: Limit Process": emptied("process"),
+        "config: Limit Actor": emptied("actor"),
+        "config: Limit Protect": six + f"protect = [{protection * 1025}]\n",
+        "config: Name Process 1": changed('"p1"', '"p0"'),
+        "config: Name Actor 2": changed(grant, '{kinds = [], key = "zoneid", value = "-"}'),
+        "config: Name Protect 1": six + f"protect = [{protection * 2}]\n",
+        "config: Policy 1": changed(policies, '"One()", "One( )"'),
+        "config: PolicyUnmet 2": changed(policies, '"One()", "One()", "Across(4,zoneid,One())"'),
+    }
+
+
+def refused_files(folder):
+    """These cluster files in a folder, by the fault lines that the program writes for them."""
+    files = {}
+    for number, (line, text) in enumerate(refused_configs().items()):
+        file = written(folder, f"refused-{number}.toml", text)
+        command = [PROGRAM, "run", file]
+        ran = subprocess.run(command, input="", capture_output=True, text=True, timeout=60)
+        assert (ran.returncode, ran.stderr) == (1, f"{line}\n"), (line, ran.stderr)
+        files[line] = file
+    return files
 
 
 def eight_actors(folder):

@@ -1,4 +1,4 @@
-"""What the tests of the bindings for C++ and Go share: both call the library in their process."""
+"""What the tests of bindings on the library share: those for C++, Go and Python by ctypes."""
 
 import os
 import subprocess
@@ -15,6 +15,14 @@ def run(*command, given="", **more):
     if (ran.returncode, ran.stderr) != (0, ""):
         raise AssertionError(f"{words} ended with {ran.returncode}: {ran.stdout}{ran.stderr}")
     return ran.stdout
+
+
+def poor_library(library, *flags):
+    """Builds the library of tests/bindings/go/poor_library, which has hardly any memory."""
+    source = common.ROOT / "tests/bindings/go/poor_library/poor.c"
+    command = [os.environ.get("CC", "cc"), "-Wall", "-Werror", "-shared", "-fPIC", *flags]
+    command += [f"-Wl,--version-script={common.ROOT}/release/libfaultyard.map", "-pthread"]
+    run(*command, f"-I{common.ROOT}/include", "-o", library, source)
 
 
 def installed(folder):

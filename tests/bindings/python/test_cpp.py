@@ -45,7 +45,8 @@ class Header(unittest.TestCase):
     def test_each_value_is_the_c_headers(self):
         text, declared = HEADER.read_text(), C_HEADER.read_text()
         none = {"Kind": "FY_NONE", "Rule": "FY_NO_RULE", "Refusal": "FY_NOT_REFUSED"}
-        for enum in ("Key", "Kind", "Rule", "Refusal", "Status"):
+        none["Part"] = "FY_WHOLE_FILE"
+        for enum in ("Key", "Kind", "Rule", "Refusal", "Part", "Status"):
             body = re.search(rf"enum class {enum} : .*?{{(.*?)^}};", text, re.M | re.S)[1]
             values = re.findall(r"^    (\w+) = (FY_\w+),", body, re.M)
             there = re.search(rf"typedef enum fy_{enum.lower()} {{(.*?)}}", declared, re.S)[1]
@@ -54,10 +55,17 @@ class Header(unittest.TestCase):
             self.assertEqual([constant for _, constant in values], wanted)
             for name, constant in values:
                 spelled = re.sub(r"(?<=.)([A-Z])", r"_\1", name).upper()
-                self.assertEqual(f"FY_{spelled}", constant)
+                self.assertEqual(f"FY_{'PART_' * (enum == 'Part')}{spelled}", constant)
 
-    def test_each_word_is_an_audits(self):
-        for enum in (faultyard.Key, faultyard.Kind, faultyard.Rule, faultyard.Refusal):
+    def test_each_call_is_made(self):
+        declared = re.findall(r"^\w+ fy_(\w+)\(", C_HEADER.read_text(), re.M)
+        made = re.findall(r"\bfy_(?:guard_)?(\w+)", HEADER.read_text())
+        self.assertEqual([call for call in declared if call not in made], [])
+        self.assertIn("config_fault", declared)
+
+    def test_each_word_is_that_of_audits_and_fault_lines(self):
+        enums = (faultyard.Key, faultyard.Kind, faultyard.Rule, faultyard.Refusal, faultyard.Part)
+        for enum in enums:
             wanted = [it.value for it in enum if it is not faultyard.Kind.CLOG]
             self.assertEqual(words(f"{enum.__name__.upper()}S"), ["", *wanted])
         body = re.search(r"enum class Status : .*?{(.*?)^};", HEADER.read_text(), re.M | re.S)[1]
@@ -75,12 +83,19 @@ class Cpp(common.Folder, unittest.TestCase):
         cls.addClassCleanup(made.cleanup)
         cls.programs = Path(made.name)
         archive = Path(common.LIBRARY).with_suffix(".a")
-        for name, more in (("cases", WRAPPED), ("play", [])):
+        for name, more in (("cases", WRAPPED), ("play", []), ("refused", [])):
             command = [CXX, *STRICT, *SANITIZED, *more, *INCLUDE, SOURCES / f"{name}.cpp"]
             run(*command, archive, "-pthread", "-o", cls.programs / name)
 
     def test_each_call_and_each_error(self):
         self.assertRegex(run(self.programs / "cases"), r"\Acases: \d+ checks\n\Z")
+
+    def test_a_refused_cluster_file_is_told_by_the_fault_line_of_the_program(self):
+        files = common.refused_files(self.folder)
+        told = run(self.programs / "refused", *files.values()).splitlines()
+        self.assertEqual(len(told), len(files))
+        for line, error in zip(files, told):
+            self.assertTrue(error.startswith(f"{line}: "), (line, error))
 
     def test_ten_thousand_random_acts_give_the_audit_that_run_gives(self):
         config = common.six_with(self.folder, 10_000)

@@ -1,6 +1,5 @@
 """The binding for Go: its package, and the tests and programs of tests/bindings/go."""
 
-import os
 import re
 import tempfile
 import unittest
@@ -9,7 +8,7 @@ from pathlib import Path
 import common
 import faultyard
 import played
-from native import example, installed, run
+from native import example, installed, poor_library, run
 
 PACKAGE = common.ROOT / "bindings/go"
 TESTS = common.ROOT / "tests/bindings/go"
@@ -56,19 +55,25 @@ class Sources(unittest.TestCase):
             bare = name.removeprefix({"Status": "Err", "Refusal": "Refusal"}.get(enum, ""))
             spelled = re.sub(r"(?<=.)([A-Z])", r"_\1", bare).upper()
             self.assertEqual(f"FY_{spelled}", constant)
-        # What no call of the package answers is left out, and so are the parts of a cluster file.
-        wanted = re.findall(r"^    (FY_(?!PART_)\w+) = \d+,", C_HEADER.read_text(), re.M)
+        # What no call of the package answers is left out.
+        wanted = re.findall(r"^    (FY_\w+) = \d+,", C_HEADER.read_text(), re.M)
         self.assertEqual(
             {constant for _, _, constant in found},
-            set(wanted) - {"FY_DONE", "FY_SHORT", "FY_NOT_REFUSED", "FY_WHOLE_FILE"},
+            set(wanted) - {"FY_DONE", "FY_SHORT", "FY_NOT_REFUSED"},
         )
 
-    def test_each_word_is_an_audits(self):
+    def test_each_call_is_made(self):
+        declared = re.findall(r"^\w+ (fy_\w+)\(", C_HEADER.read_text(), re.M)
+        made = re.findall(r"\bC\.(fy_\w+)\(", (PACKAGE / "guard.go").read_text())
+        self.assertEqual(set(made), set(declared))
+
+    def test_each_word_is_that_of_audits_and_fault_lines(self):
         words, errors = ((PACKAGE / it).read_text() for it in ("words.go", "errors.go"))
         for rows, enum, none in (
             ("keyWords", faultyard.Key, ""),
             ("kindWords", faultyard.Kind, "None"),
             ("ruleWords", faultyard.Rule, "NoRule"),
+            ("partWords", faultyard.Part, "WholeFile"),
         ):
             found = re.search(rf"{rows} += \[\]string{{(.*?)}}", words, re.S)[1]
             wanted = [it.value for it in enum if it is not faultyard.Kind.CLOG]
@@ -102,15 +107,20 @@ class Go(common.Folder, unittest.TestCase):
         self.assertEqual(faultyard.check(config, audit.read_text()), 10_000)
         played.compare(self, told, played.answers(config, acts, wanted))
 
+    def test_a_refused_cluster_file_is_told_by_the_fault_line_of_the_program(self):
+        files = common.refused_files(self.folder)
+        told = go("run", "./refused", *files.values()).splitlines()
+        self.assertEqual(len(told), len(files))
+        for line, error in zip(files, told):
+            self.assertTrue(error.startswith(f"faultyard: {line}: "), (line, error))
+
     def test_want_of_memory_a_lost_line_and_the_thread_of_each_call(self):
         program, library = Path(self.folder, "poor"), Path(self.folder, "libfaultyard.so.1")
         go("build", "-o", program, "./poor")
-        command = [os.environ.get("CC", "cc"), "-Wall", "-Werror", "-shared", "-fPIC"]
-        command += [f"-Wl,--version-script={common.ROOT}/release/libfaultyard.map", "-pthread"]
-        source = TESTS / "poor_library/poor.c"
-        run(*command, f"-I{common.ROOT}/include", "-o", library, source)
+        poor_library(library)
         told = run(program, env={**ENVIRONMENT, "LD_LIBRARY_PATH": self.folder})
-        calls = ("Open", "Kill", "Reset", "Up", "Heal", "Act", "Entry", "Audit")
+        calls = ("Open", "Open, to say where the fault is")
+        calls += ("Kill", "Reset", "Up", "Heal", "Act", "Entry", "Audit")
         wanted = dict.fromkeys(calls, "faultyard: there was no memory")
         wanted["Act"] = "faultyard: the act is made, but its line could not be written"
         no_key = "faultyard: there is no such key, kind or floor"

@@ -7,7 +7,7 @@ import unittest
 
 import common
 import faultyard
-from faultyard import Guard, Key, Kind, Refusal, Rule
+from faultyard import Guard, Key, Kind, Part, Refusal, Rule
 
 # The typed call of each act, and the act as docs/FORMATS.md writes it.
 CALLS = [
@@ -273,25 +273,26 @@ class GuardTests(common.Folder):
         self.assertEqual(faultyard.check(config, before), 3)
 
     def test_a_refused_cluster_file_is_told_with_its_fault(self):
-        six = common.SIX.read_text()
-        texts = {
-            "config: Toml": "=",
-            "config: Field Unknown": six + 'name = "six"\n',
-            "config: Limit JournalLimit": six.replace("journal_limit = 1000", "journal_limit = 0"),
-            "config: Name Process 0": six.replace('"p0"', '"p 0"'),
-            "config: Policy 0": six.replace("Across(2,zoneid,One())", "Across(2, zoneid,One())"),
-            "config: PolicyUnmet 0": six.replace("Across(2,", "Across(4,"),
-            "config: TooLong": "#" * 1_048_577,
+        places = {
+            "config: TooLong": (None, None),
+            "config: Toml": (None, None),
+            "config: Name Process 1": (Part.PROCESS, 1),
+            "config: Name Actor 2": (Part.ACTOR, 2),
+            "config: Name Protect 1": (Part.PROTECT, 1),
+            "config: Policy 1": (Part.POLICIES, 1),
+            "config: PolicyUnmet 2": (Part.POLICIES, 2),
         }
-        for fault, text in texts.items():
-            path = common.written(self.folder, "bad.toml", text)
-            with self.subTest(fault=fault), self.assertRaises(faultyard.ConfigRefused) as caught:
-                Guard(path, transport=self.transport)
-            # The library names no place.
-            self.assertEqual(
-                caught.exception.fault,
-                fault if self.transport == "pipe" else " ".join(fault.split()[:2]),
-            )
+        met = set()
+        for line, file in common.refused_files(self.folder).items():
+            with self.subTest(line), self.assertRaises(faultyard.ConfigRefused) as caught:
+                Guard(file, transport=self.transport)
+            told = caught.exception
+            self.assertEqual((told.fault, str(told)), (line, line))
+            # All others are a Field or a Limit, and name a part alone.
+            place = places.get(line) or (Part(line.split()[2]), None)
+            self.assertEqual((told.part, told.place), place, line)
+            met.add(told.part)
+        self.assertEqual(met, {None, *Part})
 
     def test_a_cluster_file_that_cannot_be_opened(self):
         with self.assertRaises(FileNotFoundError):
@@ -456,6 +457,14 @@ class BothTransports(common.Folder, unittest.TestCase):
                         [library.is_destroyed(p) for p in range(7)],
                     )
                     self.assertEqual(pipe.left(), library.left())
+
+
+class FaultLines(unittest.TestCase):
+    def test_a_fault_that_is_none_of_the_pages(self):
+        for line, place in (("no actor has the role", None), ("config: Name Rack 1", 1)):
+            told = faultyard.ConfigRefused(line)
+            self.assertEqual((told.fault, str(told)), (line, line))
+            self.assertEqual((told.part, told.place), (None, place))
 
 
 class NoTransport(unittest.TestCase):

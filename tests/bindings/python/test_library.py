@@ -13,6 +13,7 @@ from unittest import mock
 import common
 import faultyard
 from faultyard import Guard, library
+from native import poor_library
 
 HEADER = (common.ROOT / "include/faultyard.h").read_text()
 # The types of the header, as ctypes has them.
@@ -64,7 +65,7 @@ def declared():
 class Table(unittest.TestCase):
     def test_each_call_is_declared_so(self):
         there = declared()
-        self.assertEqual(set(library.CALLS), set(there) - common.UNASKED)
+        self.assertEqual(set(library.CALLS), set(there))
         for name, call in library.CALLS.items():
             self.assertEqual(call, there[name], name)
 
@@ -81,14 +82,16 @@ class Table(unittest.TestCase):
         faults = {
             "TOO_LONG": "TooLong",
             "TOML": "Toml",
-            "FIELD": "Field",
-            "LIMIT": "Limit",
-            "NAME": "Name",
-            "POLICY": "Policy",
-            "UNMET": "PolicyUnmet",
+            "FIELD": "Field {part}",
+            "LIMIT": "Limit {part}",
+            "NAME": "Name {part} {place}",
+            "POLICY": "Policy {place}",
+            "UNMET": "PolicyUnmet {place}",
         }
         wanted = {int(statuses[f"CONFIG_{it}"]): f"config: {word}" for it, word in faults.items()}
         self.assertEqual(library.CONFIG_FAULTS, wanted)
+        version = int(re.search(r"^#define FAULTYARD_VERSION (\d+)$", HEADER, re.M)[1])
+        self.assertEqual(library.MAJOR, version // 10_000)
         defined = dict(re.findall(r"^#define FY_(\w+) (\d+)$", HEADER, re.M))
         self.assertEqual(library.MOST_REPLY, int(defined["MOST_REPLY"]))
         self.assertEqual(library.SET_WORDS, int(defined["SET_WORDS"]))
@@ -107,6 +110,37 @@ class Table(unittest.TestCase):
         self.assertIsInstance(caught.exception, faultyard.NotFound)
         with self.assertRaises(faultyard.ProtocolError):
             Guard(common.SIX, transport="library", library="libc.so.6")
+
+
+class Poor(common.Folder, unittest.TestCase):
+    """Libraries that the tests build."""
+
+    def guard(self, **more):
+        return Guard(common.SIX, transport="library", **more)
+
+    def library(self, *flags):
+        common.need("the libraries of other versions", "cc")
+        # What was loaded from a path stays what is loaded from it.
+        path = f"{self.folder}/poor{len(os.listdir(self.folder))}.so"
+        poor_library(path, *flags)
+        return path
+
+    def test_a_library_of_another_major_version_is_refused(self):
+        for number, told in ((20_000, "2.0.0"), (9_912, "0.99.12")):
+            path = self.library(f"-DVERSION={number}")
+            for ask in (library.version, lambda it: self.guard(library=it)):
+                with self.assertRaises(faultyard.ProtocolError) as caught:
+                    ask(path)
+                wanted = f"{path} is faultyard {told}, and this package calls 1.x"
+                self.assertEqual(str(caught.exception), wanted)
+
+    def test_a_library_of_a_later_minor_version_is_none(self):
+        its = library.version(self.library("-DVERSION=19907"))
+        self.assertEqual((its, str(its)), ((1, 99, 7), "1.99.7"))
+
+    def test_want_of_memory_to_say_where_the_fault_is(self):
+        with self.assertRaises(faultyard.OutOfMemory):
+            self.guard(library=self.library())
 
 
 @unittest.skipUnless(common.LIBRARY, common.WITHOUT)
@@ -133,6 +167,10 @@ class InThisProcess(common.Folder, unittest.TestCase):
                 [sys.executable, "-c", text], env=environment, capture_output=True, timeout=60
             )
             self.assertEqual(ran.returncode, status, ran.stderr)
+
+    def test_its_version_is_that_of_the_program(self):
+        for its in (library.version(), library.version(common.LIBRARY)):
+            self.assertEqual((str(its), its), (common.version(), (its.major, its.minor, its.patch)))
 
     def test_it_starts_no_thread(self):
         before = threading.active_count()

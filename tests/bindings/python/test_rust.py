@@ -11,6 +11,7 @@ from pathlib import Path
 
 import common
 import faultyard
+from native import run
 
 HEADER = (common.ROOT / "include/faultyard.h").read_text()
 CRATE = common.ROOT / "bindings/rust"
@@ -53,6 +54,11 @@ def header_numbers(enum):
     return {camel(name): int(number) for name, number in found}
 
 
+def numbered(enum):
+    """The body of an enum of words.rs."""
+    return re.search(rf"^    {enum} {{(.*?)^    }}", source("words.rs"), re.M | re.S)[1]
+
+
 def argument(text):
     """The name of an argument and its type in Rust."""
     its, name = re.fullmatch(r"(.*?)(\w+)", text.strip()).groups()
@@ -74,19 +80,21 @@ class Table(unittest.TestCase):
     def test_each_call_is_declared_so(self):
         there = declared()
         calls = re.findall(r"pub fn (fy_\w+)\(([^)]*)\)(?: -> (\w+))?;", source("sys.rs"))
-        self.assertEqual({name for name, _, _ in calls}, set(there) - common.UNASKED)
+        self.assertEqual({name for name, _, _ in calls}, set(there))
         for name, takes, answer in calls:
             pairs = [tuple(it.strip().split(": ")) for it in takes.split(",") if it.strip()]
             self.assertEqual((pairs, answer), there[name], name)
 
     def test_each_number_is_the_headers(self):
         for enum in ("Key", "Kind", "Refusal"):
-            body = re.search(rf"^    {enum} {{(.*?)^    }}", source("words.rs"), re.M | re.S)[1]
-            found = re.findall(r"^ +(\w+) = (\d+), \"", body, re.M)
+            found = re.findall(r"^ +(\w+) = (\d+), \"", numbered(enum), re.M)
             wanted = header_numbers(f"fy_{enum.lower()}")
             # What stands for none is no variant.
             numbers = {name: int(number) for name, number in found}
             self.assertEqual(numbers, {name: it for name, it in wanted.items() if it})
+        found = re.findall(r"^ +(\w+) = (\d+), \"", numbered("Part"), re.M)
+        parts = {f"Part{name}": int(number) for name, number in found}
+        self.assertEqual(parts | {"WholeFile": 0}, header_numbers("fy_part"))
         found = re.findall(r"^ +(\d+) => Ok\(Some\(Rule::(\w+)", source("verdict.rs"), re.M)
         rules = {name: int(number) for number, name in found}
         self.assertEqual(rules | {"NoRule": 0}, header_numbers("fy_rule"))
@@ -108,24 +116,27 @@ class Table(unittest.TestCase):
         self.assertEqual(len(wanted), 4)
 
     def test_each_status_is_the_headers(self):
-        errors = r"^ +(\d+) => Error::(\w+)(?:\(ConfigFault::(\w+)\))?,$"
-        found = re.findall(errors, source("error.rs"), re.M)
-        told = {name + fault: int(number) for number, name, fault in found}
-        self.assertEqual(told | UNTOLD, header_numbers("fy_status"))
+        found = re.findall(r"^ +(\d+) => Error::(\w+),$", source("error.rs"), re.M)
+        told = {name: int(number) for number, name in found}
+        found = re.findall(r"^ +(\d+) => ConfigFault::(\w+)\b.*,$", source("error.rs"), re.M)
+        faults = {f"Config{name}": int(number) for number, name in found}
+        self.assertEqual(told | faults | UNTOLD, header_numbers("fy_status"))
+        first, last = re.search(r" = (\d+)\.\.=(\d+);", source("error.rs")).groups()
+        self.assertEqual(list(faults.values()), list(range(int(first), int(last) + 1)))
 
     def test_the_words_are_those_of_python(self):
         words = re.findall(r"^ +\w+ = \d+, \"(\w+)\";$", source("words.rs"), re.M)
         # Python's kinds have Clog too, which no kill may be of.
-        others = [it.value for enum in (faultyard.Key, faultyard.Refusal) for it in enum]
+        enums = (faultyard.Key, faultyard.Part, faultyard.Refusal)
+        others = [it.value for enum in enums for it in enum]
         self.assertEqual(words, common.KINDS + others)
         rule = r"^ +Rule::\w+(?: { \.\. })? => \"(\w+)\",$"
         rules = re.findall(rule, source("verdict.rs"), re.M)
         self.assertEqual(rules, [it.value for it in faultyard.Rule])
 
     def test_the_version_is_that_of_the_program(self):
-        told = subprocess.run([common.ROOT / "release/version"], capture_output=True, text=True)
         version = re.search(r'^version = "(.*)"$', (CRATE / "Cargo.toml").read_text(), re.M)[1]
-        self.assertEqual(f"{version}\n", told.stdout)
+        self.assertEqual(version, common.version())
 
 
 class Cargo(common.Folder, unittest.TestCase):
@@ -252,6 +263,13 @@ class Played(Cargo):
 
     def test_so_do_eight_guards_in_eight_threads(self):
         self.same_as_run("apart", 63)
+
+    def test_a_refused_cluster_file_is_told_by_the_fault_line_of_the_program(self):
+        files = common.refused_files(self.folder)
+        told = run(self.target / "debug/play", "refused", *files.values()).splitlines()
+        self.assertEqual(len(told), len(files))
+        for line, error in zip(files, told):
+            self.assertTrue(error.startswith(f"{line}: "), (line, error))
 
     def test_eight_threads_share_a_guard(self):
         config = common.six_with(self.folder, 10_000)

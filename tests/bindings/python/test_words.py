@@ -4,7 +4,7 @@ import re
 import unittest
 
 import common
-from faultyard import Key, Kind, Refusal, Rule
+from faultyard import Key, Kind, Part, Refusal, Rule
 
 HEADER = (common.ROOT / "include/faultyard.h").read_text()
 PAGE = (common.ROOT / "docs/FORMATS.md").read_text()
@@ -26,6 +26,8 @@ class Words(unittest.TestCase):
         self.assertEqual(numbers(Key), numbered("fy_key"))
         self.assertEqual({0: "NO_RULE", **numbers(Rule)}, numbered("fy_rule"))
         self.assertEqual({0: "NOT_REFUSED", **numbers(Refusal)}, numbered("fy_refusal"))
+        parts = {number: f"PART_{name}" for number, name in numbers(Part).items()}
+        self.assertEqual({0: "WHOLE_FILE", **parts}, numbered("fy_part"))
 
     def test_each_word_is_the_pages(self):
         rules = re.search(r"^\| Rule \|.*?\n\n", PAGE, re.M | re.S)[0]
@@ -36,6 +38,8 @@ class Words(unittest.TestCase):
         self.assertEqual([kind.value for kind in Kind], re.findall(r"`(\w+)`", kinds))
         keys = re.search(r"^key    = (.*)$", PAGE, re.M)[1]
         self.assertEqual([key.value for key in Key], re.findall(r'"(\w+)"', keys))
+        parts = re.search(r"^- The parts are (.*), in this order\.", PAGE, re.M)[1]
+        self.assertEqual([part.value for part in Part], re.findall(r"`(\w+)`", parts))
 
 
 class KindsTest(unittest.TestCase):

@@ -10,7 +10,7 @@
 """
 
 from .cluster_file import Actor, ClusterFile
-from .enums import Key, Kind, Refusal, Role, Rule
+from .enums import Key, Kind, Part, Refusal, Role, Rule
 from .errors import (
     ActRefused,
     AuditRefused,
@@ -66,6 +66,7 @@ __all__ = [
     "NotFound",
     "NotOffered",
     "OutOfMemory",
+    "Part",
     "ProtocolError",
     "Refusal",
     "Refused",

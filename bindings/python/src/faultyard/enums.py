@@ -117,3 +117,15 @@ class Refusal(Enum):
     """The process isn't destroyed."""
     STILL_NEEDS = "StillNeeds"
     """The process lacks the acknowledged record that is named."""
+
+
+class Part(Enum):
+    """A part of a cluster file. The value is its word in fault lines."""
+
+    JOURNAL_LIMIT = "JournalLimit"
+    POLICIES = "Policies"
+    PROCESS = "Process"
+    ACTOR = "Actor"
+    PROTECT = "Protect"
+    UNKNOWN = "Unknown"
+    """A key at the top that is none of these."""

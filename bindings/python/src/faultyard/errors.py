@@ -2,10 +2,13 @@
 
 from __future__ import annotations
 
-from typing import TYPE_CHECKING, Optional
+import re
+from typing import Optional
 
-if TYPE_CHECKING:
-    from .enums import Refusal
+from .enums import Part, Refusal
+
+_FAULT = re.compile(r"config: (\w+)(?: ([A-Za-z]+))?(?: (\d+))?")
+"""The fault line of a cluster file: the fault, its part and its place."""
 
 
 class FaultyardError(Exception):
@@ -17,14 +20,24 @@ class NotFound(FaultyardError, FileNotFoundError):
 
 
 class ConfigRefused(FaultyardError, ValueError):
-    """The cluster file is refused. `fault` is the fault line, as `config: Policy 0`.
+    """The cluster file is refused. `fault` is the fault line, as `config: Name Process 1`.
 
-    The library names no place: its fault is `config: Policy`.
+    `part` is the part of the file that the fault is in, and `place` the number of the process,
+    actor, protection or policy there. Each is `None` where the line names none.
     """
 
     def __init__(self, fault: str) -> None:
         super().__init__(fault)
         self.fault = fault
+        self.part: Optional[Part] = None
+        self.place: Optional[int] = None
+        found = _FAULT.fullmatch(fault)
+        if found is not None:
+            word, part, place = found.groups()
+            if word in ("Policy", "PolicyUnmet"):
+                part = Part.POLICIES.value
+            self.part = {it.value: it for it in Part}.get(part)
+            self.place = None if place is None else int(place)
 
 
 class InvalidAct(FaultyardError, ValueError):

@@ -5,10 +5,10 @@ from __future__ import annotations
 import ctypes as c
 import os
 import weakref
-from typing import Any, Dict, FrozenSet, Iterable, List, Mapping, Optional, Tuple
+from typing import Any, Dict, FrozenSet, Iterable, List, Mapping, NamedTuple, Optional, Tuple
 
 from .acts import line
-from .enums import Key, Kind, Refusal, Rule
+from .enums import Key, Kind, Part, Refusal, Rule
 from .errors import ConfigRefused, FaultyardError, GuardClosed, JournalFull, NotFound
 from .errors import OutOfMemory, ProtocolError
 from .programs import StrPath
@@ -43,6 +43,8 @@ _size, _size_out = c.c_size_t, c.POINTER(c.c_size_t)
 _bytes = c.c_char_p
 
 CALLS: Dict[str, Tuple[Any, List[Any]]] = {
+    "fy_version": (_u32, []),
+    "fy_config_fault": (_u32, [_bytes, _size, _u32_out, _u64_out]),
     "fy_open": (_u32, [_bytes, _size, _guard]),
     "fy_close": (None, [_Guard]),
     "fy_reset": (_u32, [_guard]),
@@ -76,6 +78,7 @@ CALLS: Dict[str, Tuple[Any, List[Any]]] = {
 """The library's own calls of include/faultyard.h: what each answers and takes."""
 
 # From include/faultyard.h.
+MAJOR = 1
 DONE, NO_MEMORY, JOURNAL_FULL, REFUSED, SHORT, UNWRITTEN = range(6)
 MOST_REPLY = 128
 SET_WORDS = 16
@@ -86,20 +89,52 @@ STATE_UP, STATE_CLOGGED, STATE_DESTROYED, STATE_GONE = 1, 2, 4, 8
 CONFIG_FAULTS = {
     12: "config: TooLong",
     13: "config: Toml",
-    14: "config: Field",
-    15: "config: Limit",
-    16: "config: Name",
-    17: "config: Policy",
-    18: "config: PolicyUnmet",
+    14: "config: Field {part}",
+    15: "config: Limit {part}",
+    16: "config: Name {part} {place}",
+    17: "config: Policy {place}",
+    18: "config: PolicyUnmet {place}",
 }
+"""The fault line of each status of a cluster file that is refused."""
+PARTS = ["", *(part.value for part in Part)]
 KEYS = {key.value: number for number, key in enumerate(Key, 1)}
 KINDS = {kind.value: number for number, kind in enumerate(Kind, 1)}
 STRUCK: List[Optional[Kind]] = [None, *Kind]
 RULES: List[Optional[Rule]] = [None, *Rule]
 
 
+class Version(NamedTuple):
+    """A version of the library; as text `1.0.0`."""
+
+    major: int
+    minor: int
+    patch: int
+
+    def __str__(self) -> str:
+        return f"{self.major}.{self.minor}.{self.patch}"
+
+
+def version(library: Optional[StrPath] = None) -> Version:
+    """The version of the library that `load` finds."""
+    return _version(load(library))
+
+
+def _version(library: c.CDLL) -> Version:
+    number = int(library.fy_version())
+    return Version(number // 10_000, number // 100 % 100, number % 100)
+
+
+def _declare(library: c.CDLL, calls: Iterable[str]) -> None:
+    """Says what calls answer and take. An `AttributeError` tells one that isn't there."""
+    for call in calls:
+        getattr(library, call).restype, getattr(library, call).argtypes = CALLS[call]
+
+
 def load(library: Optional[StrPath] = None) -> c.CDLL:
-    """The library: the argument, else FAULTYARD_LIB, else what the system's loader finds."""
+    """The library: the argument, else FAULTYARD_LIB, else what the system's loader finds.
+
+    One of another major version than `MAJOR` raises `ProtocolError`.
+    """
     named = os.fspath(library) if library is not None else os.environ.get("FAULTYARD_LIB")
     for name in (named,) if named else NAMES:
         try:
@@ -110,18 +145,18 @@ def load(library: Optional[StrPath] = None) -> c.CDLL:
     else:
         raise NotFound(f"{why}: give `library`, or set FAULTYARD_LIB to its path") from why
     try:
-        for call, (answer, takes) in CALLS.items():
-            getattr(found, call).restype = answer
-            getattr(found, call).argtypes = takes
+        _declare(found, ["fy_version"])
+        its = _version(found)
+        if its.major != MAJOR:
+            raise ProtocolError(f"{name} is faultyard {its}, and this package calls {MAJOR}.x")
+        _declare(found, CALLS)
     except AttributeError as fault:
-        raise ProtocolError(f"{named or name} is no faultyard of this version: {fault}") from None
+        raise ProtocolError(f"{name} is no faultyard of this version: {fault}") from None
     return found
 
 
 def _error(status: int) -> FaultyardError:
     """What a status tells, where an act that is checked wasn't made."""
-    if status in CONFIG_FAULTS:
-        return ConfigRefused(CONFIG_FAULTS[status])
     if status == JOURNAL_FULL:
         return JournalFull("the journal is full")
     if status == NO_MEMORY:
@@ -132,6 +167,16 @@ def _error(status: int) -> FaultyardError:
 def _require(status: int) -> None:
     if status != DONE:
         raise _error(status)
+
+
+def _config_error(library: c.CDLL, text: bytes, refused: int) -> FaultyardError:
+    """What a cluster file tells that is refused with this status: it is read again to say where."""
+    part, place = _u32(), _u64()
+    status = library.fy_config_fault(text, len(text), part, place)
+    if status != refused:
+        return _error(status)
+    line = CONFIG_FAULTS[refused].format(part=PARTS[part.value], place=place.value)
+    return ConfigRefused(line)
 
 
 def _processes(words: Iterable[int]) -> FrozenSet[int]:
@@ -164,7 +209,10 @@ class Library(Transport):
         self._finalizer = weakref.finalize(self, _free, self._library, self._guard, os.getpid())
         # At the end of the interpreter the memory goes with the process.
         self._finalizer.atexit = False
-        _require(self._library.fy_open(text, len(text), self._guard))
+        status = self._library.fy_open(text, len(text), self._guard)
+        if status in CONFIG_FAULTS:
+            raise _config_error(self._library, text, status)
+        _require(status)
 
     def _opened(self) -> _Guard:
         """The guard, which the library asks to be open."""

@@ -7,7 +7,7 @@ ghost use Rattle.fy_spelling.specs.Pieces.{processes_text, deeds_text};
 
 use super::words::{skip, u32_after};
 use fy_disk::Payload;
-use fy_kinds::{KINDS, KindSet};
+use fy_kinds::{KindSet, MILDEST_FIRST};
 use fy_locality::ProcId;
 use std::alloc::Global;
 
@@ -58,7 +58,7 @@ pub(super) fn kinds(line: &[u8]) -> (KindSet, &[u8])
     let mut found = KindSet::empty();
     let mut later = false;
     let mut rest = line;
-    for &kind in &KINDS {
+    for &kind in &MILDEST_FIRST {
         if let Some(after) = listed(rest, later, kind.text()) {
             found.insert(KindSet::of(kind));
             later = true;

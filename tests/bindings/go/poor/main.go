@@ -18,6 +18,8 @@ func main() {
 	}
 	_, err = faultyard.Open(nil)
 	fmt.Println("Open:", err)
+	_, err = faultyard.Open([]byte("="))
+	fmt.Println("Open, to say where the fault is:", err)
 	_, err = guard.Kill(1, faultyard.Order{})
 	fmt.Println("Kill:", err)
 	fmt.Println("Reset:", guard.Reset())

@@ -1,11 +1,16 @@
 /* A library that has memory for its first guard only, whose journal has an entry, and that loses
- * the line of an act. A test can't bring that about with the library itself, since the program in
- * which it runs needs memory too. Two calls at once abort. */
+ * the line of an act. Each cluster file but the empty one is refused, and there is no memory to say
+ * where. A test can't bring that about with the library itself, since the program in which it runs
+ * needs memory too. Two calls at once abort. It is of the version VERSION. */
 #include "faultyard.h"
 
 #include <sched.h>
 #include <stdatomic.h>
 #include <stdlib.h>
+
+#ifndef VERSION
+#define VERSION FAULTYARD_VERSION
+#endif
 
 static int opened;
 static atomic_flag is_called = ATOMIC_FLAG_INIT;
@@ -20,8 +25,23 @@ static void require_turn(void)
     atomic_flag_clear(&is_called);
 }
 
+uint32_t fy_version(void)
+{
+    return VERSION;
+}
+
+uint32_t fy_config_fault(const uint8_t *config, size_t config_length, uint32_t *part,
+                         uint64_t *place)
+{
+    *part = FY_WHOLE_FILE;
+    *place = 0;
+    return FY_NO_MEMORY;
+}
+
 uint32_t fy_open(const uint8_t *config, size_t config_length, fy_guard *guard)
 {
+    if (config_length > 0)
+        return FY_CONFIG_NAME;
     if (opened++ > 0)
         return FY_NO_MEMORY;
     guard->at = &opened;

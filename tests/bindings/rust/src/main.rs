@@ -4,6 +4,7 @@
 //!     play moved CONFIG < ACTS     on a guard, each hundred acts in another thread
 //!     play apart CONFIG < ACTS     on eight guards in eight threads at once: all audits are one
 //!     play shared CONFIG < ACTS    on one guard behind a mutex, by eight threads in any order
+//!     play refused CONFIG ..       tells on a line why each cluster file is refused
 //!
 //! A line of ACTS is a line of a script, or `kill`, `up` or `heal` with its numbers behind tabs. Each
 //! answer is held against its entry in the journal.
@@ -173,8 +174,21 @@ fn shared(config: &str, acts: &[Asked]) -> Guard {
     guard.into_inner().expect("no panic")
 }
 
+fn refused(configs: &[String]) -> io::Result<()> {
+    for config in configs {
+        match Guard::open(fs::read(config)?) {
+            Ok(_) => println!("opened"),
+            Err(error) => println!("{error}"),
+        }
+    }
+    Ok(())
+}
+
 fn main() -> io::Result<()> {
     let words: Vec<String> = env::args().skip(1).collect();
+    if words[0] == "refused" {
+        return refused(&words[1..]);
+    }
     let config = fs::read_to_string(&words[1])?;
     let mut text = String::new();
     io::stdin().read_to_string(&mut text)?;
