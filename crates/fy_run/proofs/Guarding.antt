@@ -8,7 +8,7 @@ use Rattle.std.specs.Io.KnownBytes.{Appends, IsAtEnd}
 use Rattle.std.proofs.KnownBytes.{Appends-trans, Appends-kept}
 use Rattle.fy_lines.specs.Lines.{lines_of}
 use Rattle.fy_lines.specs.Prefixes.{AppendsProperPrefix}
-use Rattle.fy_lines.specs.Readings.{ReadsLine, ReadsWithinLine}
+use Rattle.fy_lines.specs.Readings.{ReadsLine}
 use Rattle.fy_acts.specs.declared.act.Act.{Act}
 use Rattle.fy_acts.specs.declared.entry.Entry.{Entry}
 use Rattle.fy_spelling.specs.Command.{LineOf, LineAnswers}
@@ -25,7 +25,7 @@ use Rattle.fy_cluster.specs.Replies.{Legal}
 use Rattle.fy_cluster.specs.Survival.{by_and_act}
 use Rattle.fy_cluster.specs.Execution.{Execution, opened, entered, after_acts}
 use Rattle.fy_run.specs.RunTexts.{asked, IfRunRefusal}
-use Rattle.fy_run.specs.GuardTexts.{Answered, StopsAtLine, AnswersAll, AnswersBefore, AnswersSome, AnswersInTurn, AppendsAtLeast, entry_of, GivesCommand, NoCommand, NoAnswer}
+use Rattle.fy_run.specs.GuardTexts.{Answered, StopsAtLine, AnswersAll, AnswersBefore, AnswersSome, AreInTurn, AppendsAtLeast, entry_of, GivesCommand, NoCommand, NoAnswer}
 use Rattle.fy_engine.specs.Stops.{command_stop, IsRunStop}
 use Rattle.fy_engine.specs.declared.stop.Stop.{Stop}
 use Rattle.fy_engine.specs.declared.stop.Stop.TheVariants.{Script, JournalFull, Read, Write, NoMemory}
@@ -162,20 +162,20 @@ answers_all {setup} (Some bytes) {left} {before} {out} {execution} P has ends ho
     )
 
 -- the lines that were read are answered, and of the next no more was read than the line
-pub in_turn : {setup : Setup} (old : Option (List ℕ)) {left next before out : Option (List ℕ)}
-    {execution : Execution}
-    (P : List ℕ → Type 0) → HasAnswered setup old left before out execution →
-    ReadsWithinLine left next → P (audit_text Second execution.journal) →
-    AnswersInTurn setup old next P
-in_turn {setup} None {left} {next} {before} {out} {execution} P has within holds = tt
-in_turn {setup} (Some bytes) {left} {next} {before} {out} {execution} P has within holds =
+pub in_turn : {setup : Setup} (Reads : Option (List ℕ) → Option (List ℕ) → Type 0)
+    (old : Option (List ℕ)) {left next before out : Option (List ℕ)} {execution : Execution}
+    (P : List ℕ → Type 0) → HasAnswered setup old left before out execution → Reads left next →
+    P (audit_text Second execution.journal) →
+    IfSome old (λ bytes. AreInTurn setup Reads bytes next P)
+in_turn {setup} Reads None {left} {next} {before} {out} {execution} P has within holds = tt
+in_turn {setup} Reads (Some bytes) {left} {next} {before} {out} {execution} P has within holds =
     let (front, rest, commands, is, split, each, same) = has.read in
     record {
       front = front;
       rest = rest;
       text = audit_text Second execution.journal;
       lines = split;
-      within = subst (λ o. ReadsWithinLine o next) is within;
+      within = subst (λ o. Reads o next) is within;
       answered = answered_by setup front commands execution each same has.legal;
       out = holds;
     }

@@ -3,11 +3,12 @@ use Rattle.std.specs.Prelude.{◌≡◌, ◌≤◌, ◌+◌, ℕ, List, ◌∷�
 use Rattle.std.specs.Io.KnownBytes.{Appends, Keeps}
 use Rattle.fy_lines.specs.Lines.{lines_of}
 use Rattle.fy_lines.specs.Prefixes.{AppendsProperPrefix}
-use Rattle.fy_lines.specs.Readings.{ReadsWithinLine}
+use Rattle.fy_lines.specs.Readings.{ReadsWithinLine, ReadsInsideLine}
 use Rattle.fy_acts.specs.declared.entry.Entry.{Entry}
 use Rattle.fy_spelling.specs.Command.{LineOf}
 use Rattle.fy_spelling.specs.declared.command.Command.{Command}
 use Rattle.fy_spelling.specs.declared.command.LineFault.{LineFault}
+use Rattle.fy_spelling.specs.declared.command.TheConstants.{MOST_LINE_BYTES}
 use Rattle.fy_audit.specs.AuditText.{entry_line}
 use Rattle.fy_audit.specs.Script.{AreCommands}
 use Rattle.fy_audit.specs.declared.script.ScriptFault.TheVariants.{Line}
@@ -65,21 +66,28 @@ pub record AreFirst (setup : Setup) (bytes : List ℕ) (P : List ℕ → Type 0)
 abbrev pub AnswersSome : Setup → Option (List ℕ) → (List ℕ → Type 0) → Type 0
 AnswersSome setup known P = IfSome known (λ bytes. AreFirst setup bytes P)
 
--- some first lines were read and are answered, by a text of which this holds; of the rest no more
--- was read than the next line, and no byte behind its feed
-pub record AreInTurn (setup : Setup) (bytes : List ℕ) (left : Option (List ℕ))
-    (P : List ℕ → Type 0) : Type 0 where
+-- some first lines were read and are answered, by a text of which this holds; and the rest was read
+-- so far
+pub record AreInTurn (setup : Setup) (Reads : Option (List ℕ) → Option (List ℕ) → Type 0)
+    (bytes : List ℕ) (left : Option (List ℕ)) (P : List ℕ → Type 0) : Type 0 where
   pub front : List (List ℕ)
   pub rest : List ℕ
   pub text : List ℕ
   pub lines : lines_of bytes ≡ front ++ lines_of rest
-  pub within : ReadsWithinLine (Some rest) left
+  pub within : Reads (Some rest) left
   pub answered : Answered setup front text
   pub out : P text
 
--- GUARD: of the known bytes so many were read that the lines before the last one are answered
+-- GUARD: of the known bytes so many were read that the lines before the last one are answered; of
+-- that one no byte behind its feed was read
 abbrev pub AnswersInTurn : Setup → Option (List ℕ) → Option (List ℕ) → (List ℕ → Type 0) → Type 0
-AnswersInTurn setup old new P = IfSome old (λ bytes. AreInTurn setup bytes new P)
+AnswersInTurn setup old new P = IfSome old (λ bytes. AreInTurn setup ReadsWithinLine bytes new P)
+
+-- GUARD: so many were read, and of the last line not its feed, nor more bytes than a line may have
+abbrev pub AnswersBeforeCut : Setup → Option (List ℕ) → Option (List ℕ) → (List ℕ → Type 0)
+    → Type 0
+AnswersBeforeCut setup old new P = IfSome old (λ bytes.
+    AreInTurn setup (λ rest left. ReadsInsideLine rest left MOST_LINE_BYTES) bytes new P)
 
 -- GUARD: nothing was read
 abbrev pub ReadNothing : Option (List ℕ) → Option (List ℕ) → Type 0

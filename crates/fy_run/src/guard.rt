@@ -3,12 +3,13 @@
 ghost use Rattle.std.specs.Prelude.{◌≡◌, ◌≤◌, ◌+◌, ◌⊎◌, length, true, Ok, Err, IfOk, IfErr, OnOk, IfSome, IfNone};
 ghost use Rattle.std.specs.Io.KnownBytes.{Appends, IsAtEnd, Keeps};
 ghost use Rattle.fy_lines.specs.Prefixes.{AppendsProperPrefix};
-ghost use Rattle.fy_lines.specs.Readings.{ReadsWithinLine};
+ghost use Rattle.fy_lines.specs.Readings.{ReadsWithinLine, ReadsInsideLine};
+ghost use Rattle.fy_spelling.specs.declared.command.TheConstants.{MOST_LINE_BYTES};
 ghost use Rattle.fy_audit.specs.AuditText.{entry_line};
 ghost use Rattle.fy_audit.specs.declared.script.ScriptFault.TheVariants.{Line};
 ghost use Rattle.fy_cluster.specs.Execution.{entered};
 ghost use Rattle.fy_cluster.specs.Replies.{Legal};
-ghost use Rattle.fy_run.specs.GuardTexts.{AnswersAll, AnswersBefore, AnswersSome, AnswersInTurn, ReadNothing, AppendsAtLeast, entry_of, GivesCommand, NoCommand, NoAnswer};
+ghost use Rattle.fy_run.specs.GuardTexts.{AnswersAll, AnswersBefore, AnswersSome, AnswersInTurn, AnswersBeforeCut, ReadNothing, AppendsAtLeast, entry_of, GivesCommand, NoCommand, NoAnswer};
 ghost use Rattle.fy_run.specs.RunTexts.{IfRunRefusal};
 ghost use Rattle.fy_engine.specs.Stops.{command_stop, IsRunStop};
 
@@ -51,6 +52,8 @@ fn next_command<R: BufRead>(
         (GivesCommand (R.remaining reader.old) (R.remaining reader.new))) }
     ensures none { IfOk result (λ next. IfNone next (IsAtEnd (R.remaining reader.old))) }
     ensures err { IfErr result (NoCommand (R.remaining reader.old) number) }
+    ensures cut { IfErr result (λ stop. stop ≡ Stop.Read →
+        ReadsInsideLine (R.remaining reader.old) (R.remaining reader.new) MOST_LINE_BYTES) }
     ensures no_further { ReadsWithinLine (R.remaining reader.old) (R.remaining reader.new) }
 {
     match next_line(reader, line, MOST_LINE_BYTES) {
@@ -134,7 +137,7 @@ pub fn run_guard<R: BufRead, W: Write>(
         ⊎ AnswersInTurn config.now (R.remaining reader.old) (R.remaining reader.new)
         (AppendsAtLeast (W.contents writer.old) (W.contents writer.new)) }
     ensures read_fault { result ≡ Err Stop.Read →
-        AnswersInTurn config.now (R.remaining reader.old) (R.remaining reader.new)
+        AnswersBeforeCut config.now (R.remaining reader.old) (R.remaining reader.new)
         (Appends (W.contents writer.old) (W.contents writer.new)) }
     ensures no_memory { result ≡ Err Stop.NoMemory →
         (W.contents writer.new ≡ W.contents writer.old)

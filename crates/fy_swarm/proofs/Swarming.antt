@@ -188,7 +188,7 @@ new_follows y a first = record {
 
 -- what a run leaves of a new seat whose actor plays
 finished : (y : Yard) (a : ℕ) (player : Player) (t : SeatState) (now : Part) (end : End)
-    → Ran y ⊥ most_turns (new_seat y a) t (part_of player) now end → end ≢ Failed NoMemory → Finished y a player t
+    → Ran y (λ _ _. ⊥) most_turns (new_seat y a) t (part_of player) now end → end ≢ Failed NoMemory → Finished y a player t
 finished y a player t now end ran remembered = record {
   number = ran.seat.1;
   now = now;
@@ -196,19 +196,19 @@ finished y a player t now end ran remembered = record {
   through = ends end ran.ended remembered;
 }
   where
-    ends : (end : End) → EndsSo y ⊥ most_turns (new_seat y a) t (part_of player) now end → end ≢ Failed NoMemory
+    ends : (end : End) → EndsSo y (λ _ _. ⊥) most_turns (new_seat y a) t (part_of player) now end → end ≢ Failed NoMemory
         → (has_next_act now ≡ false) ⊎ ((length t.receipts ≡ most_turns) ⊎ (y.setup.limit ≤ length t.seen))
     ends NotRun so remembered = absurd so
     ends Ended so remembered = inl so.1
     ends Limit so remembered = inr (inl (so.1 (part_is_known player)))
-    ends Shut so remembered = absurd so.1
+    ends Shut so remembered = absurd so.1.shut
     ends (Failed JournalFull) so remembered = inr (inr (so.1 refl (part_is_known player)))
     ends (Failed NoMemory) so remembered = absurd (remembered refl)
 
 -- all have finished, at the seats of their posts
 pub all_finished : {A : Type 0} (seat : A → SeatState) (part : A → Part) (end : A → End) (c : Setup) (seed : ℕ) (y : Yard) (before after : List A) (back : List SeatState)
     → AreCast seat part c seed y (length c.roles) before → length after ≡ length before
-    → AllZip (λ p q. Ran y ⊥ most_turns (seat p) (seat q) (part p) (part q) (end q)) before after → All (λ p. end p ≢ Failed NoMemory) after → AllFinished c seed y (back ++ map seat after)
+    → AllZip (λ p q. Ran y (λ _ _. ⊥) most_turns (seat p) (seat q) (part p) (part q) (end q)) before after → All (λ p. end p ≢ Failed NoMemory) after → AllFinished c seed y (back ++ map seat after)
 all_finished {A} seat part end c seed y before after back cast same ran remembered a below loose =
     let had = cast a below loose in
     let k = had.2 in
@@ -222,9 +222,9 @@ all_finished {A} seat part end c seed y before after back cast same ran remember
       seat e,
       Contains-append_right back (map seat after) (seat e) (contains_mapped after k d inside),
       finished y a had.0 (seat e) (part e) (end e)
-          (subst (λ q. Ran y ⊥ most_turns (new_seat y a) (seat e) q (part e) (end e)) here.1
-          (subst (λ s. Ran y ⊥ most_turns s (seat e) (part (get_or before k d)) (part e) (end e)) here.0
-          (AllZip-get_or (λ p q. Ran y ⊥ most_turns (seat p) (seat q) (part p) (part q) (end q)) before after k d d ran within)))
+          (subst (λ q. Ran y (λ _ _. ⊥) most_turns (new_seat y a) (seat e) q (part e) (end e)) here.1
+          (subst (λ s. Ran y (λ _ _. ⊥) most_turns s (seat e) (part (get_or before k d)) (part e) (end e)) here.0
+          (AllZip-get_or (λ p q. Ran y (λ _ _. ⊥) most_turns (seat p) (seat q) (part p) (part q) (end q)) before after k d d ran within)))
           (remembered k d inside),
     )
   where

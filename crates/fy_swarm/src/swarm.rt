@@ -30,7 +30,7 @@ const MOST_TURNS: u32 = 1000;
 struct OpenGate;
 
 impl Gate for OpenGate {
-    ghost shuts = { λ _. ⊥ };
+    ghost shuts = { λ _ _ _. ⊥ };
 
     fn before(&self, _actor: u32, _turn: u32) -> bool {
         true
@@ -55,7 +55,7 @@ fn open(alloc: Global, config: &Config) -> Result<(Shared, Vec<Seat>), AllocErro
 fn run_posts<R: Threads + Wait + Sync>(rt: &R, shared: &Shared, posts: &mut Vec<Post>)
     requires { All (λ post. post.seat.of ≡ Some shared.now) posts.old.items }
     ensures theirs { All (λ post. post.seat.of ≡ Some shared.now) posts.new.items }
-    ensures ran { AllZip (λ old new. Ran shared.now ⊥ most_turns old.seat new.seat
+    ensures ran { AllZip (λ old new. Ran shared.now (λ _ _. ⊥) most_turns old.seat new.seat
         (part (old.actor.vtable, old.actor.value)) (part (new.actor.vtable, new.actor.value))
         new.end) posts.old.items posts.new.items }
     ensures same { length posts.new.items ≡ length posts.old.items }

@@ -9,7 +9,7 @@ use Rattle.fy_actors.specs.Desk.{entries_by}
 use Rattle.fy_actors.specs.Parts.{Part, KeepsTo, Tells, TurnsKeepTo, OthersChangeNoPart, AnswersTell}
 use Rattle.fy_actors.specs.Parts.Part.{Unspecified}
 use Rattle.fy_yard.specs.Yard.{Yard, SeatState, StartsWith, IsSameSeat, SeesMore, Turned}
-use Rattle.fy_yard.specs.Posts.{MaySeeMore, EndsSo, Ran}
+use Rattle.fy_yard.specs.Posts.{MaySeeMore, ShutAt, EndsSo, Ran}
 use Rattle.fy_yard.specs.AtDesk.{desk_of}
 use Rattle.fy_yard.specs.Parts.{PlaysAt, KeepsPart}
 use Rattle.fy_yard.specs.declared.posts.End.{End}
@@ -151,7 +151,7 @@ goes_on laws y n s m t was mid now result so_far turn is =
     }
 
 -- the run has ended
-ran : (y : Yard) (shuts : Type 0) (most : ℕ) (s t : SeatState) (was now : Part) (end : End)
+ran : (y : Yard) (shuts : ℕ → ℕ → Type 0) (most : ℕ) (s t : SeatState) (was now : Part) (end : End)
     → Kept y s t was now → EndsSo y shuts most s t was now end
     → Ran y shuts most s t was now end
 ran y shuts most s t was now end kept so = record {
@@ -163,8 +163,8 @@ ran y shuts most s t was now end kept so = record {
 }
 
 -- the actor wants no further turn
-pub ends : Laws → (y : Yard) (shuts : Type 0) (n most : ℕ) (s m t : SeatState) (was mid now : Part)
-    (result : Result Turn Fault) → Playing y n s m was mid → Took y m t mid now result
+pub ends : Laws → (y : Yard) (shuts : ℕ → ℕ → Type 0) (n most : ℕ) (s m t : SeatState)
+    (was mid now : Part) (result : Result Turn Fault) → Playing y n s m was mid → Took y m t mid now result
     → result ≡ Ok Over → Ran y shuts most s t was now Ended
 ends laws y shuts n most s m t was mid now result so_far turn is =
     let said = told laws y m t mid now result turn in
@@ -176,7 +176,7 @@ abbrev err_of : Fault → Result Turn Fault
 err_of fault = Err fault
 
 -- a turn had a fault
-pub fails : Laws → (y : Yard) (shuts : Type 0) (n most : ℕ) (s m t : SeatState)
+pub fails : Laws → (y : Yard) (shuts : ℕ → ℕ → Type 0) (n most : ℕ) (s m t : SeatState)
     (was mid now : Part) (result : Result Turn Fault) (fault : Fault)
     → Playing y n s m was mid → Took y m t mid now result → result ≡ Err fault
     → Ran y shuts most s t was now (Failed fault)
@@ -189,12 +189,21 @@ fails laws y shuts n most s m t was mid now result fault so_far turn failed =
     )
 
 -- the gate, or the limit, ended it
-pub stops : (y : Yard) (shuts : Type 0) (n most : ℕ) (s t : SeatState) (was now : Part)
-    → Playing y n s t was now → shuts → Ran y shuts most s t was now Shut
-stops y shuts n most s t was now so_far shut =
-    ran y shuts most s t was now Shut so_far.kept (so_far.sees, shut)
+pub stops : (y : Yard) (shuts : ℕ → ℕ → Type 0) (n most : ℕ) (s t : SeatState) (was now : Part)
+    → Playing y n s t was now → n < most → (number : ℕ) → number ≡ s.actor → shuts number n
+    → Ran y shuts most s t was now Shut
+stops y shuts n most s t was now so_far below number same shut =
+    ran y shuts most s t was now Shut so_far.kept (
+      so_far.sees,
+      record {
+        turn = n;
+        within = below;
+        shut = subst (λ (a : ℕ). shuts a n) same shut;
+        acts = so_far.acts;
+      },
+    )
 
-pub limits : (y : Yard) (shuts : Type 0) (n most : ℕ) (s t : SeatState) (was now : Part)
+pub limits : (y : Yard) (shuts : ℕ → ℕ → Type 0) (n most : ℕ) (s t : SeatState) (was now : Part)
     → Playing y n s t was now → n ≡ most → Ran y shuts most s t was now Limit
 limits y shuts n most s t was now so_far all =
     ran y shuts most s t was now Limit so_far.kept (

@@ -13,17 +13,17 @@ use std::sync::Wait;
 use std::thread;
 use std::thread::Threads;
 
-/// Who decides whether a post goes on. What holds where it shuts is known of it; a gate that says
-/// nothing of it may always shut.
+/// Who decides whether a post goes on. What holds where it shuts an actor out of a turn is known of
+/// it; a gate that says nothing of it may always shut.
 pub trait Gate: Sync {
-    ghost use Rattle.std.specs.Prelude.{IsFalse};
+    ghost use Rattle.std.specs.Prelude.{ℕ, IsFalse};
 
-    ghost shuts: { Self → Type 0 } = { λ _. Unit {0} };
+    ghost shuts: { Self → ℕ → ℕ → Type 0 } = { λ _ _ _. Unit {0} };
 
     /// Whether the actor may take its turn with this number, from 0. It is asked before each turn
     /// and while no turn is held, so it may take its time without holding up others.
     fn before(&self, actor: u32, turn: u32) -> bool
-        ensures { IsFalse result → shuts self.now };
+        ensures { IsFalse result → shuts self.now actor turn };
 }
 
 /// How a post ended.
@@ -99,8 +99,8 @@ fn take_turns<R: Wait, G: Gate>(
 ///
 /// An actor that is known to play a part has kept to it: each of its acts is the one that came
 /// next, by the journal before it. At `Ended` no act is left, at `Limit` it has made `max` acts
-/// more, and it fails by `JournalFull` only where the journal is full. Only a gate that may shut
-/// shuts a post.
+/// more, and it fails by `JournalFull` only where the journal is full. At `Shut` the gate was asked of
+/// the post's actor and of a turn below `max`, and such an actor has made an act in each turn before.
 pub fn run_actors<R: Threads + Wait + Sync, G: Gate>(
     rt: &R,
     shared: &Shared,

@@ -2,6 +2,8 @@ use Rattle.std.proofs.Common.{arith, inr, ◌≡◌, ◌+◌, ◌∙◌, length,
 use Rattle.std.specs.Prelude.{IfSome, IfNone, Err}
 use Rattle.std.specs.Io.KnownBytes.{Appends, IsAtEnd}
 use Rattle.fy_lines.specs.Prefixes.{AppendsProperPrefix}
+use Rattle.fy_lines.specs.Readings.{ReadsWithinLine, ReadsInsideLine}
+use Rattle.fy_spelling.specs.declared.command.TheConstants.{MOST_LINE_BYTES}
 use Rattle.fy_cluster.specs.Setup.{Setup}
 use Rattle.fy_cluster.specs.Execution.{Execution, opened}
 use Rattle.fy_audit.specs.AuditText.{header}
@@ -51,7 +53,7 @@ returns-in-Ok-None-clause-answered g c =
 pub returns-in-Ok-None-clause-in_turn : goal.returns-in-Ok-None-clause-in_turn
 returns-in-Ok-None-clause-in_turn g c =
     let has = c.lines.invariant.1 in
-    inr (in_turn _ _ has c.next_command.ensures.no_further (at_least has.written))
+    inr (in_turn ReadsWithinLine _ _ has c.next_command.ensures.no_further (at_least has.written))
 
 pub returns-in-Err-clause-refused : goal.returns-in-Err-clause-refused
 returns-in-Err-clause-refused g c =
@@ -61,16 +63,18 @@ returns-in-Err-clause-refused g c =
 pub returns-in-Err-clause-in_turn : goal.returns-in-Err-clause-in_turn
 returns-in-Err-clause-in_turn g c =
     let has = c.lines.invariant.1 in
-    inr (in_turn _ _ has c.next_command.ensures.no_further (at_least has.written))
+    inr (in_turn ReadsWithinLine _ _ has c.next_command.ensures.no_further (at_least has.written))
 
 pub returns-in-Err-clause-read_fault : goal.returns-in-Err-clause-read_fault
-returns-in-Err-clause-read_fault g c _ =
-    let has = c.lines.invariant.1 in in_turn _ _ has c.next_command.ensures.no_further has.written
+returns-in-Err-clause-read_fault g c is =
+    let has = c.lines.invariant.1 in
+    in_turn (λ rest left. ReadsInsideLine rest left MOST_LINE_BYTES) _ _ has
+    (c.in-Err.ensures.cut (same_stop (Err c.in-Err.stop) c.in-Err.stop Read refl is)) has.written
 
 pub returns-in-Err-clause-no_memory : goal.returns-in-Err-clause-no_memory
 returns-in-Err-clause-no_memory g c _ =
     let has = c.lines.invariant.1 in
-    inr (in_turn _ _ has c.next_command.ensures.no_further has.written)
+    inr (in_turn ReadsWithinLine _ _ has c.next_command.ensures.no_further has.written)
 
 pub returns-in-Err-clause-front_out : goal.returns-in-Err-clause-front_out
 returns-in-Err-clause-front_out g c is =
@@ -88,7 +92,7 @@ returns-in-Err-answer-clause-refused g c =
 pub returns-in-Err-answer-clause-in_turn : goal.returns-in-Err-answer-clause-in_turn
 returns-in-Err-answer-clause-in_turn g c =
     let has = c.lines.invariant.1 in
-    inr (in_turn _ _ has c.next_command.ensures.no_further (still_out has c.in-Err-answer.ensures.err))
+    inr (in_turn ReadsWithinLine _ _ has c.next_command.ensures.no_further (still_out has c.in-Err-answer.ensures.err))
 
 pub returns-in-Err-answer-clause-read_fault : goal.returns-in-Err-answer-clause-read_fault
 returns-in-Err-answer-clause-read_fault g c is =
@@ -98,7 +102,7 @@ returns-in-Err-answer-clause-read_fault g c is =
 pub returns-in-Err-answer-clause-no_memory : goal.returns-in-Err-answer-clause-no_memory
 returns-in-Err-answer-clause-no_memory g c is =
     let has = c.lines.invariant.1 in
-    inr (in_turn _ _ has c.next_command.ensures.no_further
+    inr (in_turn ReadsWithinLine _ _ has c.next_command.ensures.no_further
     (none_out has c.in-Err-answer.ensures.err
     (same_stop (Err c.in-Err-answer.stop) c.in-Err-answer.stop NoMemory refl is)))
 

@@ -4,8 +4,8 @@ use Rattle.fy_yard.proofs.posts.take_turns.Goals as goal
 
 pub returns-then-not-before : goal.returns-then-not-before
 returns-then-not-before g c =
-    stops _ _ c.loop-turn.turn _ _ _ _ _ c.loop-turn.invariant
-    (c.before-in-loop-turn.ensures c.if-not-before.true)
+    stops _ _ c.loop-turn.turn _ _ _ _ _ c.loop-turn.invariant (search rules) c.actor-number.result
+    c.actor-number.ensures (c.before-in-loop-turn.ensures c.if-not-before.true)
 
 pub returns-in-Ok-Ended : goal.returns-in-Ok-Ended
 returns-in-Ok-Ended g c =
