@@ -9,7 +9,7 @@ use Rattle.fy_kinds.specs.declared.verdict.Rule.{Rule}
 use Rattle.fy_kinds.specs.declared.verdict.Rule.TheVariants.{NoTarget, NoGrant, Protected, TooManyDestroyed, TooFewLeft}
 use Rattle.fy_kinds.specs.declared.verdict.Verdict.{Verdict}
 use Rattle.fy_grants.specs.Least.{IsLeastWith}
-use Rattle.fy_decide.specs.Safety.{with_set}
+use Rattle.fy_decide.specs.Safety.{with_set, without_set}
 use Rattle.fy_decide.specs.Verdicts.{Situation, is_granted_to, verdict}
 use Rattle.fy_decide.specs.Hardest.{HasTarget, AreGranted, AreUnprotected, StayShort, MayStrike, IsAllowed, StrikesHardest, IsFirstPolicy, FirstRule, AnswersOrder, VerdictAnswers}
 use Rattle.fy_decide.specs.Hardest.StrikesHardest.{strikes, strikes_nobody}
@@ -111,18 +111,18 @@ module _ (s : Situation) (kind : Kind) (t : ℕ → Bool) where
   protection_named found q e (too_many_destroyed k target granted free destroying first) = absurd (let y : ⊥ = cc in y)
   protection_named found q e (too_few_left k target granted free short good first) = absurd (let y : ⊥ = cc in y)
 
-  pub destroyed_named : (found : Option Rule) → (i : ℕ) → found ≡ Some (TooManyDestroyed i) → FirstRule s kind t found → AreUnprotected s kind t × IsFirstPolicy s.policies (λ P. Sat s.processes P (with_set s.destroyed t)) i
+  pub destroyed_named : (found : Option Rule) → (i : ℕ) → found ≡ Some (TooManyDestroyed i) → FirstRule s kind t found → AreGranted s kind t × AreUnprotected s kind t × IsFirstPolicy s.policies (λ P. Sat s.processes P (with_set s.destroyed t)) i
   destroyed_named found i e (no_rule may) = absurd (let y : ⊥ = cc in y)
   destroyed_named found i e (no_target none) = absurd (let y : ⊥ = cc in y)
   destroyed_named found i e (no_grant p least) = absurd (let y : ⊥ = cc in y)
   destroyed_named found i e (protected p granted least) = absurd (let y : ⊥ = cc in y)
-  destroyed_named found i e (too_many_destroyed k target granted free destroying first) = (free, let same : k ≡ i = cc in subst (IsFirstPolicy s.policies (λ P. Sat s.processes P (with_set s.destroyed t))) same first)
+  destroyed_named found i e (too_many_destroyed k target granted free destroying first) = (granted, free, let same : k ≡ i = cc in subst (IsFirstPolicy s.policies (λ P. Sat s.processes P (with_set s.destroyed t))) same first)
   destroyed_named found i e (too_few_left k target granted free short good first) = absurd (let y : ⊥ = cc in y)
 
-  pub left_named : (found : Option Rule) → (i : ℕ) → found ≡ Some (TooFewLeft i) → FirstRule s kind t found → StayShort s t
+  pub left_named : (found : Option Rule) → (i : ℕ) → found ≡ Some (TooFewLeft i) → FirstRule s kind t found → StayShort s t × IsFirstPolicy s.policies (λ P. Sat s.processes P (without_set s.left t) → ⊥) i
   left_named found i e (no_rule may) = absurd (let y : ⊥ = cc in y)
   left_named found i e (no_target none) = absurd (let y : ⊥ = cc in y)
   left_named found i e (no_grant p least) = absurd (let y : ⊥ = cc in y)
   left_named found i e (protected p granted least) = absurd (let y : ⊥ = cc in y)
   left_named found i e (too_many_destroyed k target granted free destroying first) = absurd (let y : ⊥ = cc in y)
-  left_named found i e (too_few_left k target granted free short good first) = short
+  left_named found i e (too_few_left k target granted free short good first) = (short, let same : k ≡ i = cc in subst (IsFirstPolicy s.policies (λ P. Sat s.processes P (without_set s.left t) → ⊥)) same first)

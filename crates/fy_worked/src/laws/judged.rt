@@ -75,9 +75,49 @@ pub fn above_the_order()
     fy_decide::laws::verdict_answers();
 }
 
-/// No target is named where there is none, and only there.
+/// Nothing strikes that the actor has no grant for.
+pub fn only_granted()
+    ensures legal { Legal four (with_kill [] 2 first_kill (weakened Reboot (TooFewLeft 0))) }
+    ensures strikes { StrikesAfter four [] 2 first_kill (Some Reboot) }
+    ensures emptied { StrikesAfter four [] 2 first_kill (Some RebootAndDelete) → ⊥ }
+    ensures judged { JudgedAfter four [] 2 first_kill (weakened Reboot (TooFewLeft 0)) }
+    ensures wrong { JudgedAfter four [] 2 first_kill
+        (weakened RebootAndDelete (TooFewLeft 0)) → ⊥ }
+{
+    fy_decide::laws::verdict_answers();
+}
+
+/// Nothing strikes that a target is protected from.
+pub fn only_unprotected()
+    ensures legal { Legal six
+        (with_kill one_protected 1 first_kill (weakened Reboot (Protected (process 1)))) }
+    ensures strikes { StrikesAfter six one_protected 1 first_kill (Some Reboot) }
+    ensures killed { StrikesAfter six one_protected 1 first_kill (Some KillInstantly) → ⊥ }
+    ensures judged { JudgedAfter six one_protected 1 first_kill
+        (weakened Reboot (Protected (process 1))) }
+    ensures wrong { JudgedAfter six one_protected 1 first_kill (struck KillInstantly) → ⊥ }
+{
+    fy_decide::laws::verdict_answers();
+}
+
+/// No rule is named that doesn't bar the ordered kind.
+pub fn no_rule()
+    ensures names { NamesAfter six [] 1 first_kill None }
+    ensures granted { NamesAfter six [] 1 first_kill (Some (NoGrant (process 0))) → ⊥ }
+    ensures unprotected { NamesAfter six [] 1 first_kill (Some (Protected (process 0))) → ⊥ }
+    ensures few_destroyed { NamesAfter six [] 1 first_kill (Some (TooManyDestroyed 0)) → ⊥ }
+    ensures enough_left { NamesAfter six [] 1 first_kill (Some (TooFewLeft 0)) → ⊥ }
+    ensures wrong { JudgedAfter six [] 1 first_kill
+        (weakened KillInstantly (TooFewLeft 0)) → ⊥ }
+{
+    fy_decide::laws::verdict_answers();
+}
+
+/// No target is named where there is none, and only there. Nothing strikes then.
 pub fn target_first()
     ensures legal { Legal six (with_kill [] 1 nobody_killed (barred NoTarget)) }
+    ensures strikes { StrikesAfter six [] 1 nobody_killed None }
+    ensures struck { StrikesAfter six [] 1 nobody_killed (Some KillInstantly) → ⊥ }
     ensures names { NamesAfter six [] 1 nobody_killed (Some NoTarget) }
     ensures later { NamesAfter six [] 1 nobody_killed (Some (NoGrant (process 0))) → ⊥ }
     ensures judged { JudgedAfter six [] 1 nobody_killed (barred NoTarget) }
@@ -96,6 +136,18 @@ pub fn grant_before_protection()
     ensures judged { JudgedAfter six one_protected 3 first_kill (barred (NoGrant (process 0))) }
     ensures wrong { JudgedAfter six one_protected 3 first_kill
         (barred (Protected (process 1))) → ⊥ }
+{
+    fy_decide::laws::verdict_answers();
+}
+
+/// A missing grant is named before replication.
+pub fn grant_before_replication()
+    ensures legal { Legal six
+        (with_kill one_emptied 3 second_kill (barred (NoGrant (process 2)))) }
+    ensures names { NamesAfter six one_emptied 3 second_kill (Some (NoGrant (process 2))) }
+    ensures later { NamesAfter six one_emptied 3 second_kill (Some (TooManyDestroyed 0)) → ⊥ }
+    ensures judged { JudgedAfter six one_emptied 3 second_kill (barred (NoGrant (process 2))) }
+    ensures wrong { JudgedAfter six one_emptied 3 second_kill (barred (TooManyDestroyed 0)) → ⊥ }
 {
     fy_decide::laws::verdict_answers();
 }

@@ -1,15 +1,23 @@
 use Rattle.std.proofs.Common.{[], Some, None, refl, ltb-true}
+use Rattle.fy_kinds.specs.declared.kind.Kind.TheVariants.{KillInstantly}
 use Rattle.fy_kinds.specs.declared.verdict.Rule.TheVariants.{NoTarget, NoGrant}
 use Rattle.fy_worked.specs.Clusters.{six, process, barred}
 use Rattle.fy_worked.specs.Judged.{with_kill, nobody_killed}
 use Rattle.fy_worked.proofs.Played.{legal_by_acts, cluster_on_literals}
-use Rattle.fy_worked.proofs.FromWords.{right_names, right_judged, judged_names}
-use Rattle.fy_worked.proofs.Turned.{grant_of_nobody, target_there}
+use Rattle.fy_worked.proofs.FromWords.{right_strikes, right_names, right_judged, judged_names}
+use Rattle.fy_worked.proofs.Turned.{nobody_there, grant_of_nobody, target_there}
 use Rattle.fy_worked.proofs.laws.judged.target_first.Goals as goal
 
 pub returns-clause-legal : goal.returns-clause-legal
 unfolding cluster_on_literals
 returns-clause-legal c = legal_by_acts six (with_kill [] 1 nobody_killed (barred NoTarget)) refl refl
+
+pub returns-clause-strikes : goal.returns-clause-strikes
+unfolding cluster_on_literals
+returns-clause-strikes c = right_strikes c.verdict_answers.ensures.answers six [] 1 nobody_killed None refl
+
+pub returns-clause-struck : goal.returns-clause-struck
+returns-clause-struck c = nobody_there c.verdict_answers.ensures.answers (Some KillInstantly) refl
 
 pub returns-clause-names : goal.returns-clause-names
 unfolding cluster_on_literals
