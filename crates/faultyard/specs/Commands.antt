@@ -7,8 +7,8 @@ use Rattle.clap.specs.declared.builder.action.ArgAction.TheVariants.{Set, SetTru
 use Rattle.clap.specs.declared.builder.value_parser.ValueParser.TheVariants.{Unsigned}
 use Rattle.faultyard.specs.declared.task.Task.{Task}
 use Rattle.faultyard.specs.declared.task.Task.TheVariants.{Judge, Run, Check, Swarm, Guard, Show, Bears}
-use Rattle.fy_bears.specs.declared.telling.Form.{Form}
-use Rattle.fy_bears.specs.declared.telling.Form.TheVariants.{Json}
+use Rattle.fy_bears.specs.declared.report.Form.{Form}
+use Rattle.fy_bears.specs.declared.report.Form.TheVariants.{Json}
 
 -- `faultyard` without its subcommands, of which it wants one; it has a version
 abbrev pub bare_command : App

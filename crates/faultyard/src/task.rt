@@ -227,7 +227,7 @@ fn faultyard<'a>(alloc: Global) -> Result<Command<'a>, AllocError>
 ///
 /// # Errors
 ///
-/// Those of `clap`, for help and the version too, whose kinds are `DisplayHelp` and
+/// The errors of `clap`, for help and the version too, whose kinds are `DisplayHelp` and
 /// `DisplayVersion`. Want of memory has the kind `OutOfMemory`.
 pub fn read_task<'a>(alloc: Global, words: &'a [String]) -> Result<Task<'a>, clap::Error>
     ensures task { IfOk result

@@ -48,7 +48,7 @@ impl Model for Attrition {
     ghost view = { λ a. a.schedule };
 }
 
-// Written out: see lib.rt.
+// Written out and not derived: see `Drop` in docs/DECISIONS.md.
 impl Drop for Attrition {
     fn drop(self) {
         let Attrition { schedule: _ } = self;

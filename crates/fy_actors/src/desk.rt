@@ -15,14 +15,15 @@ use std::marker::Model;
 /// Whether an actor wants further turns.
 #[derive(Clone, Copy, PartialEq, Eq, Debug)]
 pub enum Turn {
-    /// It may have acts left.
+    /// The actor may have acts left.
     More,
-    /// It has no act left, and further turns do nothing.
+    /// The actor has no act left, and further turns do nothing.
     Ended,
 }
 
-/// An actor. It is asked for one turn after another, and acts at the desk alone. `part` is what it
-/// is known to do, in a box too; an actor that doesn't define it goes its own way.
+/// An actor that takes turns, of any role: storage actors implement it as fault actors do. It is
+/// asked for one turn after another, and acts at the desk alone. `part` is what it is known to do,
+/// in a box too; an actor that doesn't define it goes its own way.
 pub trait FaultActor: Drop {
     ghost use Rattle.fy_actors.specs.Desk.{Worked};
     ghost use Rattle.fy_actors.specs.Parts.{Part, PlaysTurn};
@@ -69,7 +70,7 @@ impl Model for Desk {
     } };
 }
 
-// Written out: see lib.rt.
+// Written out and not derived: see `Drop` in docs/DECISIONS.md.
 impl Drop for Desk {
     fn drop(self) {
         let Desk {

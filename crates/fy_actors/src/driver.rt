@@ -18,7 +18,7 @@ use std::marker::Model;
 #[derive(Clone, Copy, PartialEq, Eq, Debug)]
 enum Team {
     Unformed,
-    /// It was formed and has this number.
+    /// The team was formed and has this number.
     Formed { team: u32 },
     Refused,
 }
@@ -71,7 +71,7 @@ impl Model for StorageDriver {
     } };
 }
 
-// Written out: see lib.rt.
+// Written out and not derived: see `Drop` in docs/DECISIONS.md.
 impl Drop for StorageDriver {
     fn drop(self) {
         let StorageDriver {

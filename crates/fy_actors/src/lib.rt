@@ -1,9 +1,6 @@
 //! Fault actors: what they plan, the desk at which they take turns, and the actors themselves.
 #![tactic(auto)]
 
-// `Drop` is written out where it could be derived: a function that drops such a value then makes
-// one call. A derived `Drop` drops each field there, and that makes the function's proof long.
-
 mod attrition;
 mod desk;
 mod driver;

@@ -33,7 +33,7 @@ pub struct SwizzlePlan {
     pub frees: Vec<ProcId>,
 }
 
-// Written out: see lib.rt.
+// Written out and not derived: see `Drop` in docs/DECISIONS.md.
 impl Drop for SwizzlePlan {
     fn drop(self) {
         let SwizzlePlan { clogs: _, frees: _ } = self;
@@ -45,7 +45,7 @@ pub struct AttritionPlan {
     pub machines: Vec<Name>,
 }
 
-// Written out: see lib.rt.
+// Written out and not derived: see `Drop` in docs/DECISIONS.md.
 impl Drop for AttritionPlan {
     fn drop(self) {
         let AttritionPlan { machines: _ } = self;

@@ -25,7 +25,7 @@ impl Model for Schedule {
     ghost view = { λ a. record { acts = a.acts.items; made = a.made } };
 }
 
-// Written out: see lib.rt.
+// Written out and not derived: see `Drop` in docs/DECISIONS.md.
 impl Drop for Schedule {
     fn drop(self) {
         let Schedule {
@@ -37,7 +37,7 @@ impl Drop for Schedule {
 }
 
 impl Schedule {
-    /// These acts, none of which was made yet.
+    /// A schedule of these acts, none of which was made yet.
     pub(crate) fn begin(alloc: Global, acts: Vec<Act>) -> Schedule
         ensures { result ≡ begun acts.items }
     {

@@ -27,7 +27,7 @@ impl Model for Swizzle {
     ghost view = { λ s. s.schedule };
 }
 
-// Written out: see lib.rt.
+// Written out and not derived: see `Drop` in docs/DECISIONS.md.
 impl Drop for Swizzle {
     fn drop(self) {
         let Swizzle { schedule: _ } = self;

@@ -98,9 +98,7 @@ pub enum Act {
     },
 }
 
-// By hand. A derived `Drop` would release the parts of an act in each function that drops one, and
-// the prover would show every release there anew: a check took seven minutes and not one. With this
-// `drop` such a function makes one call. It has to name every field.
+// Written out and not derived: see `Drop` in docs/DECISIONS.md.
 impl Drop for Act {
     fn drop(self) {
         match self {

@@ -6,7 +6,7 @@ use crate::{Act, Reply};
 /// One act and its reply.
 #[derive(PartialEq, Eq)]
 pub struct Entry {
-    /// Its place in the journal, from 0.
+    /// The entry's place in the journal, from 0.
     pub at: u32,
     /// The number of who acted. There need be no such actor.
     pub by: u32,
@@ -14,7 +14,7 @@ pub struct Entry {
     pub reply: Reply,
 }
 
-// By hand, for the reason given at the `Drop` of `Act`.
+// Written out and not derived: see `Drop` in docs/DECISIONS.md.
 impl Drop for Entry {
     fn drop(self) {
         let Entry {

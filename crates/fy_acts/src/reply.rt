@@ -26,7 +26,7 @@ pub enum Reply {
     Synced { first: u64, count: u32 },
     /// The time now, in ticks from 0 to 2^40.
     Time { now: u64 },
-    /// It was done.
+    /// The act was done.
     Done,
     /// The act is refused, and nothing but the journal changed.
     No(Refusal),

@@ -6,7 +6,7 @@ use Rattle.fy_lines.specs.Lines.{lines_of}
 use Rattle.fy_spelling.specs.OneText.{OneEntryPerText, TextsAreLines}
 use Rattle.fy_spelling.specs.Values.{text_of}
 use Rattle.fy_acts.specs.declared.entry.Entry.{Entry}
-use Rattle.fy_audit.specs.Audit.{Audit, MayStand, MayStandFrom, BeginsFaulty, FirstFaulty, HasNoHeader, AuditOf}
+use Rattle.fy_audit.specs.Audit.{Audit, MayStand, MayStandFrom, BeginsWithNone, BeginsFaulty, FirstFaulty, HasNoHeader, AuditOf}
 use Rattle.fy_audit.specs.AuditText.{header, entry_line, audit_text}
 use Rattle.fy_audit.specs.declared.audit.AuditFault.{AuditFault}
 use Rattle.fy_audit.specs.declared.audit.AuditFault.TheVariants.{TooLong, Line, NoMemory}
@@ -17,28 +17,23 @@ use Rattle.fy_journal.specs.declared.version.Version.TheVariants.{First, Second}
 use Rattle.fy_audit.proofs.Ones.{line_once}
 use Rattle.fy_audit.proofs.Steps.{spread, first_is, shorter_after}
 
--- what a reader gets no further with: no entry that may stand here is in front
-abbrev Stuck : Version → ℕ → List ℕ → Type 0
-Stuck version place rest =
-    (e : Entry) (more : List ℕ) → MayStand version place e → rest ≡ entry_line e ++ more → ⊥
-
-stuck_at_end : (version : Version) (place : ℕ) → Stuck version place []
-stuck_at_end version place e more may is =
-    let some : 0 ≡ length (entry_line e ++ more) = ap length is in
-    let less = shorter_after [] more e is in
+none_at_end : (version : Version) (place : ℕ) → BeginsWithNone version place []
+none_at_end version place e more begins =
+    let some : 0 ≡ length (entry_line e ++ more) = ap length begins.split in
+    let less = shorter_after [] more e begins.split in
     omega arith
 
-stuck_at_fault :
+none_at_fault :
     TextsAreLines → (version : Version) (place : ℕ) (rest : List ℕ) (fault : AuditLineFault)
-    → BeginsFaulty version place rest fault → Stuck version place rest
-stuck_at_fault lines version place rest of_line.Header faulty e more may is = faulty.is
-stuck_at_fault lines version place rest of_line.TooLong faulty e more may is =
-    let same = first_is lines version place rest faulty.line more faulty.after e may faulty.first is in
+    → BeginsFaulty version place rest fault → BeginsWithNone version place rest
+none_at_fault lines version place rest of_line.Header faulty e more begins = faulty.is
+none_at_fault lines version place rest of_line.TooLong faulty e more begins =
+    let same = first_is lines version place rest faulty.line more faulty.after e begins faulty.first in
     let long = faulty.is in
-    let short = may.short in
+    let short = begins.may.short in
     let equal = ap length same in
     omega arith
-stuck_at_fault lines version place rest of_line.Syntax faulty e more may is = faulty.is.1 e more may is
+none_at_fault lines version place rest of_line.Syntax faulty e more begins = faulty.is.1 e more begins
 
 -- the first entry's line in front of the others
 opened : (e : Entry) (es : List Entry) (rest : List ℕ) →
@@ -49,15 +44,21 @@ opened e es rest = append_assoc (entry_line e) (flat_map entry_line es) rest
 together :
     OneEntryPerText → TextsAreLines → (v : Version) (p m n : ℕ) (xs ys : List Entry) (r q : List ℕ)
     → MayStandFrom v p xs → MayStandFrom v p ys → m ≡ p + length xs → n ≡ p + length ys
-    → Stuck v m r → Stuck v n q → flat_map entry_line xs ++ r ≡ flat_map entry_line ys ++ q
+    → BeginsWithNone v m r → BeginsWithNone v n q → flat_map entry_line xs ++ r ≡ flat_map entry_line ys ++ q
     → (xs ≡ ys) × (r ≡ q)
 together one lines v p m n [] [] r q all these is so stuck held same = (refl, same)
 together one lines v p m n [] (y ∷ ys) r q all these is so stuck held same =
     let place : p ≡ m = omega arith in
-    absurd (stuck y _ (subst (λ k. MayStand v k y) place these.0) (same ∙ opened y ys q))
+    absurd (stuck y _ (record {
+      split = same ∙ opened y ys q;
+      may = subst (λ k. MayStand v k y) place these.0;
+    }))
 together one lines v p m n (x ∷ xs) [] r q all these is so stuck held same =
     let place : p ≡ n = omega arith in
-    absurd (held x _ (subst (λ k. MayStand v k x) place all.0) (sym same ∙ opened x xs r))
+    absurd (held x _ (record {
+      split = sym same ∙ opened x xs r;
+      may = subst (λ k. MayStand v k x) place all.0;
+    }))
 together one lines v p m n (x ∷ xs) (y ∷ ys) r q all these is so stuck held same =
     let here = opened x xs r ∙ spread x (flat_map entry_line xs ++ r) in
     let there = opened y ys q ∙ spread y (flat_map entry_line ys ++ q) in
@@ -88,7 +89,7 @@ record Alike (v w : Version) (xs ys : List Entry) (r q : List ℕ) : Type 0 wher
 alike :
     OneEntryPerText → TextsAreLines → (bytes : List ℕ) (v w : Version) (xs ys : List Entry) (r q : List ℕ)
     → bytes ≡ audit_text v xs ++ r → bytes ≡ audit_text w ys ++ q
-    → MayStandFrom v 0 xs → MayStandFrom w 0 ys → Stuck v (length xs) r → Stuck w (length ys) q
+    → MayStandFrom v 0 xs → MayStandFrom w 0 ys → BeginsWithNone v (length xs) r → BeginsWithNone w (length ys) q
     → Alike v w xs ys r q
 alike one lines bytes v w xs ys r q first second all these stuck held =
     let here = append_assoc (header v) (flat_map entry_line xs) r in
@@ -97,7 +98,7 @@ alike one lines bytes v w xs ys r q first second all these stuck held =
     let back = sym head.0 in
     let found = together one lines v 0 (length xs) (length ys) xs ys r q all
     (subst (λ u. MayStandFrom u 0 ys) back these) (omega arith) (omega arith) stuck
-    (subst (λ u. Stuck u (length ys) q) back held) head.1 in
+    (subst (λ u. BeginsWithNone u (length ys) q) back held) head.1 in
     record { version = head.0; entries = found.0; rest = found.1 }
 
 -- an audit is a reading that leaves nothing
@@ -110,7 +111,7 @@ read_once :
 read_once one lines bytes a b p q =
     let same = alike one lines bytes a.version b.version a.entries b.entries [] []
     (left_none bytes (audit_text a.version a.entries) p.1) (left_none bytes (audit_text b.version b.entries) q.1)
-    p.2 q.2 (stuck_at_end a.version (length a.entries)) (stuck_at_end b.version (length b.entries)) in
+    p.2 q.2 (none_at_end a.version (length a.entries)) (none_at_end b.version (length b.entries)) in
     λ i. record { version = same.version i; entries = same.entries i }
 
 not_faulty :
@@ -119,8 +120,8 @@ not_faulty :
 not_faulty one lines bytes a n f p q =
     let same = alike one lines bytes a.version q.version a.entries q.entries [] q.rest
     (left_none bytes (audit_text a.version a.entries) p.1) q.split p.2 q.faultless
-    (stuck_at_end a.version (length a.entries))
-    (stuck_at_fault lines q.version (length q.entries) q.rest f q.here) in
+    (none_at_end a.version (length a.entries))
+    (none_at_fault lines q.version (length q.entries) q.rest f q.here) in
     let first = q.here.first in
     let none = same.rest in
     let no : ⊥ = cc in no
@@ -161,8 +162,8 @@ one_stop :
 one_stop one lines bytes n m f g p q =
     let same = alike one lines bytes p.version q.version p.entries q.entries p.rest q.rest
     p.split q.split p.faultless q.faultless
-    (stuck_at_fault lines p.version (length p.entries) p.rest f p.here)
-    (stuck_at_fault lines q.version (length q.entries) q.rest g q.here) in
+    (none_at_fault lines p.version (length p.entries) p.rest f p.here)
+    (none_at_fault lines q.version (length q.entries) q.rest g q.here) in
     let first = sym p.here.first ∙ ap lines_of same.rest ∙ q.here.first in
     let line = same_line p.here.line q.here.line p.here.after q.here.after first in
     record {

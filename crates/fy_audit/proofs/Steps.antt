@@ -1,12 +1,14 @@
 -- lines of an audit, entry by entry
-use Rattle.std.proofs.Common.{◌≡◌, ◌∙◌, ℕ, suc, ◌+◌, ◌<◌, List, [], ◌∷◌, ◌++◌, length, refl, sym, ap, arith, append_assoc, append-nil, length-append, ne_eqb}
+use Rattle.std.proofs.Common.{◌≡◌, ◌∙◌, ℕ, suc, ◌+◌, ◌<◌, ◌≤◌, List, [], ◌∷◌, ◌++◌, length, refl, sym, ap, arith, append_assoc, append-nil, length-append, ne_eqb}
 use Rattle.std.specs.List.{flat_map}
 use Rattle.std.proofs.lemmas.Grind.{flat_map-append}
 use Rattle.fy_lines.specs.Lines.{onto_first, lines_of}
 use Rattle.fy_spelling.specs.OneText.{TextsAreLines, HasNoFeed}
 use Rattle.fy_spelling.specs.Values.{text_of}
 use Rattle.fy_acts.specs.declared.entry.Entry.{Entry}
-use Rattle.fy_audit.specs.Audit.{MayStand, MayStandFrom, HasNoHeader}
+use Rattle.fy_spelling.specs.declared.command.TheConstants.{MOST_LINE_BYTES}
+use Rattle.fy_audit.specs.Audit.{MayStand, MayStandFrom, HasNoHeader, BeginsWith, BeginsFaulty}
+use Rattle.fy_audit.specs.declared.audit.AuditLineFault.TheVariants.{Syntax}
 use Rattle.fy_audit.specs.AuditText.{header, entry_line, audit_text}
 use Rattle.fy_journal.specs.declared.version.Version.{Version}
 use Rattle.fy_journal.specs.declared.version.Version.TheVariants.{First, Second}
@@ -26,13 +28,13 @@ same_first a b c d e = cc
 -- where an entry's line stands in front, its text is the first line
 pub first_is :
     TextsAreLines → (version : Version) (place : ℕ) (rest line more : List ℕ) (after : List (List ℕ)) (e : Entry)
-    → MayStand version place e → lines_of rest ≡ line ∷ after → rest ≡ entry_line e ++ more → line ≡ text_of e
-first_is lines version place rest line more after e may first is =
+    → BeginsWith version place rest e more → lines_of rest ≡ line ∷ after → line ≡ text_of e
+first_is lines version place rest line more after e begins first =
     same_first line (text_of e) after (lines_of more)
-    (sym first ∙ ap lines_of (is ∙ spread e more) ∙ ended (text_of e) more (lines e may.fits))
+    (sym first ∙ ap lines_of (begins.split ∙ spread e more) ∙ ended (text_of e) more (lines e begins.may.fits))
 
 -- such a rest is longer than the line by a line feed at least
-pub longer_than :
+longer_than :
     (rest line more : List ℕ) (e : Entry) → line ≡ text_of e → rest ≡ entry_line e ++ more
     → length line < length rest
 longer_than rest line more e same is =
@@ -40,6 +42,24 @@ longer_than rest line more e same is =
     let parts = length-append (text_of e) (10 ∷ more) in
     let text = ap length same in
     omega arith
+
+-- a first line that isn't the text, with a line feed behind it, of an entry that may stand there
+pub no_entry :
+    TextsAreLines → (version : Version) (place : ℕ) (rest line : List ℕ) (after : List (List ℕ))
+    → lines_of rest ≡ line ∷ after → length line ≤ MOST_LINE_BYTES
+    → ((e : Entry) → MayStand version place e → line ≡ text_of e → length line < length rest → ⊥)
+    → BeginsFaulty version place rest Syntax
+no_entry lines version place rest line after first short none = record {
+  line = line;
+  after = after;
+  first = first;
+  is = (
+    short,
+    λ e more begins.
+        let same = first_is lines version place rest line more after e begins first in
+        none e begins.may same (longer_than rest line more e same begins.split),
+  );
+}
 
 -- one more entry at the end
 pub one_more_from :

@@ -40,14 +40,23 @@ MayStandFrom version place [] = ⊤
 MayStandFrom version place (entry ∷ entries) =
     MayStand version place entry × MayStandFrom version (suc place) entries
 
+-- what is left of an audit begins with the line of an entry that may stand there
+pub record BeginsWith (version : Version) (place : ℕ) (rest : List ℕ) (entry : Entry)
+    (after : List ℕ) : Type 0 where
+  pub split : rest ≡ entry_line entry ++ after
+  pub may : MayStand version place entry
+
+-- what is left of an audit begins with no entry that may stand there
+abbrev pub BeginsWithNone : Version → ℕ → List ℕ → Type 0
+BeginsWithNone version place rest =
+    (entry : Entry) (after : List ℕ) → BeginsWith version place rest entry after → ⊥
+
 -- a line, the first of what is left of an audit, has this fault where an entry has to stand
 abbrev pub HasFault : Version → ℕ → List ℕ → List ℕ → AuditLineFault → Type 0
 HasFault version place rest line of_line.Header = ⊥
 HasFault version place rest line of_line.TooLong = MOST_LINE_BYTES < length line
 HasFault version place rest line of_line.Syntax =
-    (length line ≤ MOST_LINE_BYTES)
-    × ((entry : Entry) (more : List ℕ) → MayStand version place entry →
-    rest ≡ entry_line entry ++ more → ⊥)
+    (length line ≤ MOST_LINE_BYTES) × BeginsWithNone version place rest
 
 -- what is left of an audit begins with a line that has this fault where an entry has to stand
 pub record BeginsFaulty (version : Version) (place : ℕ) (rest : List ℕ) (fault : AuditLineFault) :
@@ -94,12 +103,6 @@ AuditAnswers bytes (Err NoMemory) = ⊤
 AuditAnswers bytes answer = AuditOf bytes answer
 
 -- ---- step by step
-
--- what is left of an audit begins with the line of an entry that may stand there
-pub record BeginsWith (version : Version) (place : ℕ) (rest : List ℕ) (entry : Entry)
-    (after : List ℕ) : Type 0 where
-  pub split : rest ≡ entry_line entry ++ after
-  pub may : MayStand version place entry
 
 -- why a reader may stop before what is left of an audit
 abbrev pub EndsBefore : Version → ℕ → List ℕ → NoEntry → Type 0

@@ -12,11 +12,11 @@ pub const MOST_AUDIT_BYTES: usize = 268_435_456;
 /// Why a line of an audit is refused, the first that holds.
 #[derive(Clone, Copy, PartialEq, Eq, Debug)]
 pub enum AuditLineFault {
-    /// It is the first, and isn't the header of a version with its line feed.
+    /// The line is the first, and isn't the header of a version with its line feed.
     Header,
-    /// It has more than 65,536 bytes, without its line feed.
+    /// The line has more than 65,536 bytes, without its line feed.
     TooLong,
-    /// It isn't the one text of an entry that is numbered by its place and that audits of the
+    /// The line isn't the one text of an entry that is numbered by its place and that audits of the
     /// version have, or it lacks its line feed.
     Syntax,
 }
@@ -24,11 +24,11 @@ pub enum AuditLineFault {
 /// Why an audit is refused.
 #[derive(Clone, Copy, PartialEq, Eq, Debug)]
 pub enum AuditFault {
-    /// It has more than 268,435,456 bytes.
+    /// The audit has more than 268,435,456 bytes.
     TooLong,
     /// The first faulty line, counted from 1, and its first fault.
     Line { number: u32, fault: AuditLineFault },
-    /// There is no memory for it.
+    /// There is no memory for the audit.
     NoMemory,
 }
 
@@ -62,16 +62,10 @@ pub fn read_audit(alloc: Global, bytes: &[u8]) -> Result<Journal, AuditFault>
     ensures too_long { (result ≡ Err TooLong) ↔ (MOST_AUDIT_BYTES < length bytes.now) }
 {
     laws::an_audit_is_read_entry_by_entry();
-    let mut reader = match AuditReader::begin(alloc, bytes) {
-        Ok(reader) => reader,
-        Err(fault) => return Err(fault),
-    };
+    let mut reader = AuditReader::begin(alloc, bytes)?;
     let mut journal = Journal::of_version(alloc, reader.version());
     while !reader.is_at_end() {
-        let entry = match reader.next_entry() {
-            Ok(entry) => entry,
-            Err(fault) => return Err(fault),
-        };
+        let entry = reader.next_entry()?;
         if let Err(_) = enter(&mut journal, entry) {
             return Err(AuditFault::NoMemory);
         }

@@ -24,7 +24,7 @@ pub struct AuditReader<'b> {
     version: Version,
     place: u32,
     rest: &'b [u8],
-    /// A buffer for each line's own use, which grows but once.
+    /// A buffer that each line overwrites, so that it grows only once.
     room: Vec<u8>,
 }
 
@@ -40,12 +40,12 @@ impl<'b> Model for AuditReader<'b> {
     ghost invariant = { IsWithin };
 }
 
-/// Why no entry is had of what is left of an audit.
+/// Why the rest of an audit gives no entry.
 #[derive(Clone, Copy)]
 enum NoEntry {
-    /// Its first line is faulty.
+    /// The first line of what is left is faulty.
     Faulty(AuditLineFault),
-    /// There is no memory for it.
+    /// There is no memory for the entry.
     NoMemory,
 }
 

@@ -12,11 +12,11 @@ pub const MOST_SCRIPT_BYTES: usize = 16_777_216;
 /// Why a script is refused.
 #[derive(Clone, Copy, PartialEq, Eq, Debug)]
 pub enum ScriptFault {
-    /// It has more than 16,777,216 bytes.
+    /// The script has more than 16,777,216 bytes.
     TooLong,
     /// The first faulty line, counted from 1, and its first fault.
     Line { number: u32, fault: LineFault },
-    /// There is no memory for it.
+    /// There is no memory for the script.
     NoMemory,
 }
 

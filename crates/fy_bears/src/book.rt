@@ -1,4 +1,4 @@
-//! A dead book from which on losses are counted.
+//! The dead book with the losses so far, from which further losses are counted.
 ghost use Rattle.std.specs.Prelude.{◌≡◌, IfOk};
 ghost use Rattle.fy_bears.specs.Bears.{IsAfterLosses, lost_as_allowed};
 
@@ -18,11 +18,11 @@ pub struct LossesSoFar {
     pub down: ProcSet,
 }
 
-/// The dead book of a cluster after such losses.
+/// The dead book of a cluster after the losses so far.
 ///
 /// # Errors
 ///
-/// Those of `DeadBook::make`.
+/// The faults of `DeadBook::make`.
 pub fn book_of(
     alloc: Global,
     map: &Map,
@@ -40,7 +40,7 @@ pub fn book_of(
     Ok(dead)
 }
 
-/// Takes a loss down. A legal journal has none that may not be.
+/// Records a loss, where the policies bear it. A legal journal has no other losses.
 fn strike_as_allowed(dead: &mut DeadBook, set: &ProcSet, loss: Loss)
     ensures { dead.new ≡ lost_as_allowed set.now loss dead.old }
 {

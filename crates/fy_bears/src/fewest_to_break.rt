@@ -47,13 +47,13 @@ pub(crate) fn fewest_to_break(
                     rest.drop_one(p);
                     continue;
                 };
-                let members = rest.intersection(&peers);
-                rest = rest.difference(&members);
-                let part = fewest_to_break(alloc, inner, map, &members)?;
+                let with_value = rest.intersection(&peers);
+                rest = rest.difference(&with_value);
+                let part = fewest_to_break(alloc, inner, map, &with_value)?;
                 counts.push(part.least)?;
                 sets.push(part.set)?;
             }
-            // The others are too few then.
+            // Once so many values are broken, the other values are too few.
             let broken = all_but(&counts, wanted);
             Ok(least_of(&counts, &sets, broken))
         }

@@ -1,4 +1,4 @@
-//! How many processes it takes at least to satisfy a policy.
+//! How many processes it takes at least to satisfy a policy, counted up the policy's tree.
 ghost use Rattle.std.specs.Prelude.{◌≡◌, IfOk, List};
 ghost use Rattle.std.specs.FinSet as sets;
 ghost use Rattle.fy_locality.specs.declared.locality.Locality.{Locality};
@@ -12,7 +12,8 @@ use fy_policy::{Shape, laws};
 use std::alloc::{AllocError, Global};
 
 /// How many processes of a group it takes at least to satisfy the policy, the free ones not
-/// counted, and such a set.
+/// counted, and such a set. Of an `Across` the group is parted by the key's values: each round asks
+/// about the processes that have the value of the least process of the rest.
 ///
 /// # Errors
 ///
@@ -42,9 +43,9 @@ pub(crate) fn fewest_to_satisfy(
                     rest.drop_one(p);
                     continue;
                 };
-                let members = rest.intersection(&peers);
-                rest = rest.difference(&members);
-                let part = fewest_to_satisfy(alloc, inner, map, &members, free)?;
+                let with_value = rest.intersection(&peers);
+                rest = rest.difference(&with_value);
+                let part = fewest_to_satisfy(alloc, inner, map, &with_value, free)?;
                 counts.push(part.least)?;
                 sets.push(part.set)?;
             }

@@ -1,7 +1,7 @@
-//! What a cluster bears, for programs. Names, keys and policies have no character that JSON would
-//! want to be escaped.
+//! Writes what a cluster bears, for programs, as one JSON object. The text is promised, and tested;
+//! no contract says what it is. Names, keys and policies have no character that JSON would escape.
 use crate::LossesSoFar;
-use crate::tables::{Borne, Case, Group};
+use crate::borne::{Borne, Case, Group};
 use crate::warnings::warnings_of;
 use fy_decide::Loss;
 use fy_locality::{Key, Map, ProcSet};

@@ -1,4 +1,5 @@
-//! The parts of an `Across`: how many processes some of them take together at least.
+//! Of several parts of a group, each with its number of processes, those that take the fewest
+//! together: the parts are the values of an `Across`'s key.
 ghost use Rattle.std.specs.Prelude.{◌≡◌, ◌≤◌, ◌-◌, ◌*◌, sum_by};
 ghost use Rattle.fy_bears.specs.Costs.{IsLeastOf};
 
@@ -7,7 +8,7 @@ use fy_locality::{MOST_PROCESSES, ProcSet};
 /// More processes than there are.
 pub(crate) const MORE_THAN_ALL: u32 = MOST_PROCESSES + 1;
 
-/// So many processes at least, and a set that may do.
+/// How many processes it takes at least, and a set that may do.
 #[derive(Clone, Copy)]
 pub(crate) struct Part {
     pub(crate) least: u32,

@@ -1,6 +1,7 @@
-//! What a cluster bears, for people.
-use crate::bearing::Tolerance;
-use crate::tables::{Borne, Case, Group};
+//! Writes what a cluster bears, for people. The text is promised (docs/FORMATS.md), and tested by
+//! `tests/cli/bears`; no contract says what it is.
+use crate::borne::{Borne, Case, Group};
+use crate::tolerance::Tolerance;
 use crate::warnings::warnings_of;
 use crate::{LossesSoFar, MOST_PAIRED};
 use fy_decide::Loss;

@@ -1,5 +1,5 @@
 //! What in a cluster file is seldom meant.
-use crate::tables::{Borne, Case};
+use crate::borne::{Borne, Case};
 use fy_locality::Key;
 use fy_policy::Shape;
 use std::alloc::{AllocError, Global};

@@ -97,8 +97,8 @@ fn losses_of(alloc: Global, config: &Config, bytes: &[u8]) -> Result<LossesSoFar
 ///
 /// # Errors
 ///
-/// Those of `run_check`: nothing is written but after `Write`, when a front of the text is out, and
-/// never all of it.
+/// The stops of `run_check`: nothing is written but after `Write`, when a front of the text is out,
+/// and never all of it.
 pub fn run_bears_after<R: Read, W: Write>(
     alloc: Global,
     config: &Config,

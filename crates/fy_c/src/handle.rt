@@ -31,7 +31,7 @@ impl Model for FyGuard {
         (box_owns (ghosts.dealloc_token guard.alloc) e.the_row guard.at guard.value) };
 }
 
-// Its cluster may go to another thread, and any thread may free its block.
+// A guard's cluster may go to another thread, and any thread may free its block.
 unsafe impl Send for FyGuard {}
 
 impl FyGuard {

@@ -15,7 +15,7 @@ pub const NO_RECORD: u32 = u32::MAX;
 /// The number for no message.
 pub const NOTHING: u64 = u64::MAX;
 
-/// The key with a number.
+/// The key that a program in C gives by its number.
 pub(crate) fn key_of(number: u32) -> Option<Key>
     ensures some { IfSome result (λ key. number ≡ key_number key) }
     ensures none { IfNone result ((key : Key) → number ≢ key_number key) }
@@ -30,7 +30,7 @@ pub(crate) fn key_of(number: u32) -> Option<Key>
     }
 }
 
-/// The kind with a number.
+/// The kind that a program in C gives by its number.
 pub(crate) fn kind_of(number: u32) -> Option<Kind>
     ensures some { IfSome result (λ kind. number ≡ kind_number kind) }
     ensures none { IfNone result ((kind : Kind) → number ≢ kind_number kind) }

@@ -98,7 +98,7 @@ pub extern "C" fn fy_gone_set(guard: &mut FyGuard, set: &mut [u64])
     write_set(&gone(guard.cluster()), set);
 }
 
-/// The target that a key's number and a name's bytes give.
+/// The target that a program in C gives, by a key's number and a name's bytes.
 ///
 /// # Errors
 ///
@@ -116,7 +116,7 @@ fn target_of(key: u32, value: &[u8]) -> Result<Target, Status>
     Ok(Target { key, value })
 }
 
-/// Those left that have the target's value of its key.
+/// The processes left that have the target's value of its key.
 fn found(cluster: &Cluster, target: &Target) -> ProcSet
     ensures { (p : ℕ) → sets.contains result p ≡ targets_in cluster.now target.now p }
 {

@@ -7,7 +7,7 @@ use fy_config::ConfigFault;
 /// How a call ended. But for `Done`, `Refused` and `Unwritten` nothing changed.
 #[derive(Clone, Copy, PartialEq, Eq, Debug)]
 pub enum Status {
-    /// It did what it says.
+    /// The call did what its name says.
     Done,
     /// There was no memory.
     NoMemory,

@@ -62,7 +62,7 @@ fn stores_of(alloc: Global, rec: u32, processes: &[ProcId]) -> Result<Vec<Body>,
         .collect(alloc)
 }
 
-/// The process's word of each of these records.
+/// The process's acknowledgement of each of these records.
 fn acks_of(alloc: Global, process: ProcId, records: &[u32]) -> Result<Vec<Body>, AllocError>
     ensures { IfOk result (λ words. words.items ≡ map (λ rec. Synced rec process) records.now) }
 {
@@ -87,7 +87,7 @@ fn begin_sends(before: &Past, team: u32) -> Result<Vec<Body>, AllocError>
     stores_of(before.alloc, rec, &members)
 }
 
-/// What a Sync sends: a word of each unsynced write.
+/// What a Sync sends: an acknowledgement of each unsynced write.
 fn sync_sends(before: &Past, process: ProcId) -> Result<Vec<Body>, AllocError>
     ensures { IfOk result (λ words. words.items
         ≡ acks_of process (unsynced (history_of before.now) process.0)) }

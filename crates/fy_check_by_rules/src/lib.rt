@@ -5,7 +5,7 @@
 //! - `reply`: the reply to an act, a file for each group of acts: `kills` (Kill, Clog, Unclog),
 //!   `teams` (Form, Replace), `records` (Begin, Deliver, Lose, Resend, Sync, CopyTo), `processes`
 //!   (Up, Heal), `clock` (Tick) and `rights` (Give, Take, Protect, Unprotect).
-//! - `rules`: the five rules and the verdict on an order, over `leave` and `policies`.
+//! - `rules`: the five rules and the verdict on an order, over `permission` and `policies`.
 //! - `doing`: what an entry did.
 //! - `strikes`, `writes`, `teams`, `marks`, `needs`, `network`, `clock`, `rights`: what the entries
 //!   before say. What one entry did is `fy_cluster::effects`.
@@ -18,11 +18,11 @@ mod asked;
 mod checking;
 mod clock;
 mod doing;
-mod leave;
 mod marks;
 mod needs;
 mod network;
 mod past;
+mod permission;
 mod policies;
 mod reply;
 mod rights;

@@ -56,8 +56,8 @@ fn teller(step: &FoundStep, rec: u32) -> Option<ProcId>
     }
 }
 
-/// Those that keep their mark through the step: a healed process loses it, but of an acknowledged
-/// record.
+/// The processes that keep their mark through the step. A healed process loses its mark, unless the
+/// record is acknowledged.
 fn still_marked(alloc: Global, step: &FoundStep, were: &Marks) -> Result<Vec<ProcId>, AllocError>
     ensures { IfOk result (λ list. (p : ℕ) → is_among list.items p
         ≡ (not (heals_at (as_step [] step.now) p && not were.now.acked)
@@ -72,7 +72,7 @@ fn still_marked(alloc: Global, step: &FoundStep, were: &Marks) -> Result<Vec<Pro
     }
 }
 
-/// Those that have a mark after the step.
+/// The processes that have a mark after the step.
 fn marked_then(
     alloc: Global,
     step: &FoundStep,

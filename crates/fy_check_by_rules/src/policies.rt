@@ -22,7 +22,7 @@ fn with_known(map: &Map, set: ProcSet, p: ProcId) -> ProcSet
     set
 }
 
-/// The set of those members that are there.
+/// The set of the members that are processes of the map.
 fn set_of(map: &Map, members: &[ProcId]) -> ProcSet
     ensures { (q : ℕ) → sets.contains result q
         ≡ (nat_lt q (length map.now) && is_among members.now q) }

@@ -18,7 +18,7 @@ use fy_kinds::KindSet;
 use fy_locality::ProcId;
 use std::alloc::{AllocError, Global};
 
-/// Those of the grants that are the actor's.
+/// The actor's own grants, out of these.
 fn grants_to(alloc: Global, actor: u32, grants: &[Grant]) -> Result<Vec<Grant>, AllocError>
     ensures { IfOk result (λ own. own.items ≡ grants_to actor grants.now) }
 {

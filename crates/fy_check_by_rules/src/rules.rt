@@ -14,8 +14,8 @@ ghost use Rattle.fy_check_by_rules.specs.Past.{history_of};
 ghost use Rattle.fy_check_by_rules.specs.Deeds.{deed_of};
 
 use crate::asked::AskedDeed;
-use crate::leave::is_covered;
 use crate::past::Past;
+use crate::permission::is_covered;
 use crate::policies::{first_satisfied, first_short};
 use crate::rights::{grants, is_protected};
 use crate::strikes::{destroyed, left, targets};

@@ -154,7 +154,7 @@ pub(crate) fn left(before: &Past) -> ProcSet
     left
 }
 
-/// Those left that have the target's value of its key.
+/// The processes left that have the target's value of its key.
 pub(crate) fn targets(before: &Past, target: &Target) -> ProcSet
     ensures { (p : ℕ) → sets.contains result p
         ≡ targets before.now.config.now.processes

@@ -14,7 +14,8 @@ use fy_journal::{Act, Entry};
 use fy_locality::ProcId;
 use std::alloc::{AllocError, Global};
 
-/// A team: its members by rising number, and the number of its policy.
+/// A team as it stands after the entries before: its members by rising number, and the number of
+/// its policy.
 #[derive(Drop)]
 pub(crate) struct Team {
     pub(crate) members: Vec<ProcId>,

@@ -1,5 +1,5 @@
 pub mod Acknowledging
-pub mod Copying
+pub mod CopyTo
 pub mod Deliverable
 pub mod Delivered
 pub mod DiskSteps

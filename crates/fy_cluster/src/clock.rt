@@ -1,4 +1,4 @@
-//! Time.
+//! The act Tick: time passes, up to the clock's end.
 ghost use Rattle.fy_acts.specs.declared.act.Act.TheVariants.{Tick};
 ghost use Rattle.fy_cluster.specs.Standing.{Point, Refines, StepsTo};
 

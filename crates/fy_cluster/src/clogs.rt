@@ -1,4 +1,4 @@
-//! Processes are clogged and unclogged.
+//! The acts Clog and Unclog: messages of the processes that are named are held up for some time.
 ghost use Rattle.std.specs.Prelude.{◌≡◌, ◌<◌, ℕ, true, length, IfOk};
 ghost use Rattle.std.specs.Result.{result_err};
 ghost use Rattle.std.specs.FinSet as sets;
@@ -36,7 +36,7 @@ fn unclog_targets(net: &mut Net, targets: &ProcSet)
 impl Machine {
     /// The processes of a target that are left, or the rule of leave that bars a clog of them and
     /// its end.
-    fn leave_to_clog(&self, map: &Map, by: u32, target: &Target) -> Result<ProcSet, Rule>
+    fn permitted_to_clog(&self, map: &Map, by: u32, target: &Target) -> Result<ProcSet, Rule>
         requires map { map.now ≡ self.now.dead.processes }
         requires book { self.now.book.processes ≡ self.now.dead.processes }
         ensures targets { IfOk result (λ set. (p : ℕ) →
@@ -58,7 +58,7 @@ impl Machine {
         requires by { by ≡ point.by }
         ensures { StepsTo point (Clog target.now ticks) result self.new }
     {
-        match self.leave_to_clog(map, by, target) {
+        match self.permitted_to_clog(map, by, target) {
             Ok(targets) => {
                 clog_targets(&mut self.net, &targets, ticks);
                 Reply::Ruled { rule: None }
@@ -75,7 +75,7 @@ impl Machine {
         requires by { by ≡ point.by }
         ensures { StepsTo point (Unclog target.now) result self.new }
     {
-        match self.leave_to_clog(map, by, target) {
+        match self.permitted_to_clog(map, by, target) {
             Ok(targets) => {
                 unclog_targets(&mut self.net, &targets);
                 Reply::Ruled { rule: None }

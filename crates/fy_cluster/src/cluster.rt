@@ -43,7 +43,7 @@ impl Model for Cluster {
     ghost invariant = { λ x. ClusterInvariant x.config x.journal x.machine };
 }
 
-// Written out, so that whoever drops a cluster makes one call.
+// Written out and not derived: see `Drop` in docs/DECISIONS.md.
 impl Drop for Cluster {
     fn drop(self) {
         let Cluster {

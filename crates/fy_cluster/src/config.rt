@@ -68,7 +68,7 @@ impl Model for Config {
         c.map c.policies.items c.roles.items c.grants.items c.protections.items c.journal_limit) };
 }
 
-// Written out, so that whoever drops a configuration makes one call.
+// Written out and not derived: see `Drop` in docs/DECISIONS.md.
 impl Drop for Config {
     fn drop(self) {
         let Config {

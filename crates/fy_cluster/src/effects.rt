@@ -11,7 +11,8 @@ use fy_journal::{Act, Entry, Reply};
 use fy_kinds::{Kind, KindSet, Target};
 use fy_locality::ProcId;
 
-/// Whether an act with this reply was done: the reply is not `No`, and names no rule against a clog.
+/// Whether an act with this reply was done: the reply is not `No`, and names no rule against a
+/// clog.
 pub fn is_accepted(reply: Reply) -> bool
     ensures { result ≡ is_accepted reply }
 {
@@ -22,7 +23,7 @@ pub fn is_accepted(reply: Reply) -> bool
     }
 }
 
-/// The target of a kill, a clog or an unclog, whatever its reply.
+/// The target that an act names: that of a kill, a clog or an unclog, whatever its reply.
 pub fn target_of(act: &Act) -> Option<Target>
     ensures { (c : Setup) (h : History) (p : ℕ) → targets_of c h act.now p
         ≡ option_map_or (λ target. targets c.processes (left c h) target p) result false }

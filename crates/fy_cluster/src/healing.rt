@@ -1,4 +1,4 @@
-//! Processes are healed.
+//! The act Heal: a process that has its teams' acknowledged records again is destroyed no longer.
 ghost use Rattle.std.specs.Prelude.{◌≡◌};
 ghost use Rattle.fy_acts.specs.declared.act.Act.TheVariants.{Heal};
 ghost use Rattle.fy_cluster.specs.Standing.{Point, Refines, StepsTo};

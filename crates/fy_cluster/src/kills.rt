@@ -1,4 +1,4 @@
-//! Kills: the targets of an order are struck, and recorded as lost where the kind destroys.
+//! The act Kill: the targets of an order are struck, and recorded as lost where the kind destroys.
 ghost use Rattle.std.specs.Prelude.{◌≡◌, ◌<◌, ℕ, true, [], length, slice_set, Some};
 ghost use Rattle.std.specs.FinSet as sets;
 ghost use Rattle.fy_decide.specs.declared.dead_book.Loss.{Loss};

@@ -19,7 +19,7 @@ pub fn destroyed_short()
     fy_decide::laws::struck_may_be_destroyed();
 }
 
-/// Those left satisfy every policy.
+/// The processes left satisfy every policy.
 #[tactic(auto, using(crate::proofs::Strikes::left_satisfy))]
 pub fn left_satisfy()
     ensures { LeftSatisfy }
@@ -81,8 +81,8 @@ pub fn keepers_found()
 
 /// Whatever was ordered: after each prefix of the journal the destroyed are short of every policy,
 /// those left satisfy each, and every acknowledged record has a synced copy on an undestroyed
-/// member; every kill is judged, no rule is named exactly where the ordered kind struck, and clients
-/// are told which records are acknowledged.
+/// member; every kill is judged, no rule is named exactly where the ordered kind struck, and
+/// clients are told which records are acknowledged.
 pub fn journals_survive()
     ensures { JournalsSurvive }
 {
@@ -115,8 +115,8 @@ pub fn same_acts_same_journal()
     ensures { SameActsSameJournal }
 {}
 
-/// Under the second version a journal is legal where its entries are. A legal journal with one entry
-/// more is legal exactly where the entry may follow it and the version knows its act.
+/// Under the second version a journal is legal where its entries are. A legal journal with one
+/// entry more is legal exactly where the entry may follow it and the version knows its act.
 pub fn versions()
     ensures second { SecondKnowsAll }
     ensures next { NextLegalUnder }

@@ -6,7 +6,7 @@ mod clock;
 mod clogs;
 mod cluster;
 mod config;
-mod copies;
+mod copying;
 pub mod effects;
 mod fault;
 mod healing;

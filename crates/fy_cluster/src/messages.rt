@@ -1,4 +1,4 @@
-//! Messages are delivered and lost, and processes sync.
+//! The acts Deliver, Lose and Sync: messages arrive or are lost, and what was written is synced.
 ghost use Rattle.std.specs.Prelude.{◌≡◌, ◌≤◌, ◌<◌, ◌+◌, ◌++◌, Some, None, map, length, slice_set, OnOk, OnErr, IfErr};
 ghost use Rattle.fy_net.specs.Net.{body_of, take_refusal, without_message};
 ghost use Rattle.fy_net.specs.declared.message.Body.TheVariants.{Store, Synced};
@@ -30,7 +30,7 @@ pub(crate) fn reply_to_net_fault(fault: NetFault) -> Result<Reply, Fault>
     }
 }
 
-/// Sends a process's word of each write that it has not synced.
+/// Sends a process's acknowledgement of each write that it has not synced.
 fn send_acks(net: &mut Net, disk: &Disk, process: ProcId)
     requires room { length disk.now.unsynced ≤ net.old.room }
     requires there { process.0 < length net.old.until }
@@ -113,7 +113,7 @@ impl Machine {
         Ok(Reply::Stored)
     }
 
-    /// Delivers a process's word, which is the message in flight with this number.
+    /// Delivers a process's acknowledgement, which is the message in flight with this number.
     fn mark(&mut self, message: u64, rec: u32, from: ProcId) -> Reply
         ghost point: { Point }
         requires stands { Refines point.setup point.before self.old }
@@ -145,7 +145,7 @@ impl Machine {
         }
     }
 
-    /// Syncs what a process has written, and sends its word of each write.
+    /// Syncs what a process has written, and sends its acknowledgement of each write.
     pub(crate) fn sync(&mut self, map: &Map, process: ProcId) -> Result<Reply, Fault>
         ghost point: { Point }
         requires stands { Refines point.setup point.before self.old }

@@ -1,4 +1,4 @@
-//! Processes start.
+//! The act Up: a process starts.
 ghost use Rattle.std.specs.Prelude.{◌≡◌};
 ghost use Rattle.fy_acts.specs.declared.act.Act.TheVariants.{Up};
 ghost use Rattle.fy_cluster.specs.Standing.{Point, Refines, StepsTo};

@@ -1,4 +1,4 @@
-//! Grants and protections are given and taken.
+//! The acts Give, Take, Protect and Unprotect: grants and protections change.
 ghost use Rattle.std.specs.Prelude.{◌≡◌};
 ghost use Rattle.fy_acts.specs.declared.act.Act.TheVariants.{Give, Take, Protect, Unprotect};
 ghost use Rattle.fy_cluster.specs.Standing.{Point, Refines, StepsTo, StepsToOrOom, reply_to_fault};

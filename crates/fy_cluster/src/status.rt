@@ -11,13 +11,13 @@ use fy_locality::ProcId;
 /// The state of a process.
 #[derive(Clone, Copy, PartialEq, Eq, Debug)]
 pub struct Status {
-    /// It runs.
+    /// The process runs.
     pub up: bool,
-    /// Its messages are held back.
+    /// The process's messages are held back.
     pub clogged: bool,
-    /// It was struck by a kind that destroys, and not healed since.
+    /// The process was struck by a kind that destroys, and not healed since.
     pub destroyed: bool,
-    /// It was killed for good.
+    /// The process was killed for good.
     pub gone: bool,
 }
 

@@ -5,7 +5,7 @@ use Rattle.fy_kinds.specs.Kinds.{in_either, no_deed}
 use Rattle.toml.specs.View.{view, items_view}
 use Rattle.toml.specs.declared.value.Value.{Value}
 use Rattle.fy_locality.specs.Chain.{◌>>=◌}
-use Rattle.fy_config.specs.Tables.{all_of, kind_of, union_of}
+use Rattle.fy_config.specs.Tables.{all_of, kind_set_of, union_of}
 use Rattle.fy_config.proofs.Lists.{all_of-drop}
 
 or_regroups : (a b c : Bool) → ((a || b) || c) ≡ (a || (b || c))
@@ -42,17 +42,17 @@ one_more before x (Some more) = ap Some (with_all_regroups before x (union_of mo
 -- after a word more, the kinds so far and those of the words that are left are the same together
 pub kinds_kept :
     (before x : Members) (vs : List Value) (i : ℕ) (v : Value) (whole : Option Members)
-    → i < length vs → v ≡ get_or vs i v → kind_of (view v) ≡ Some x
-    → option_map (λ more. in_either before (union_of more)) (all_of kind_of (items_view (drop i vs)))
+    → i < length vs → v ≡ get_or vs i v → kind_set_of (view v) ≡ Some x
+    → option_map (λ more. in_either before (union_of more)) (all_of kind_set_of (items_view (drop i vs)))
     ≡ whole
     → option_map (λ more. in_either (in_either before x) (union_of more))
-    (all_of kind_of (items_view (drop (i + 1) vs)))
+    (all_of kind_set_of (items_view (drop (i + 1) vs)))
     ≡ whole
 kinds_kept before x vs i v whole within is has so_far =
-    let rest : Option (List Members) = all_of kind_of (items_view (drop (i + 1) vs)) in
+    let rest : Option (List Members) = all_of kind_set_of (items_view (drop (i + 1) vs)) in
     one_more before x rest
     ∙ ap (λ o. option_map (λ more. in_either before (union_of more)) (o >>= λ z. option_map (λ zs. z ∷ zs) rest))
     (sym has)
     ∙ ap (option_map (λ more. in_either before (union_of more)))
-    (sym (all_of-drop kind_of vs i v within is))
+    (sym (all_of-drop kind_set_of vs i v within is))
     ∙ so_far

@@ -80,8 +80,8 @@ process_of d = do
 -- ---- sets of kinds
 
 -- the set of the kind that a word names
-abbrev pub kind_of : Data → Option Members
-kind_of d = as_str d >>= set_named
+abbrev pub kind_set_of : Data → Option Members
+kind_set_of d = as_str d >>= set_named
 
 -- the kinds of all sets together
 abbrev pub union_of : List Members → Members
@@ -90,7 +90,7 @@ union_of (kinds ∷ more) = in_either kinds (union_of more)
 
 -- the set of the kinds that an array of words names
 abbrev pub kinds_at : List ℕ → Entries → Option Members
-kinds_at key ms = option_map union_of (get_member key ms >>= list_of kind_of)
+kinds_at key ms = option_map union_of (get_member key ms >>= list_of kind_set_of)
 
 -- ---- grants and actors
 

@@ -7,7 +7,7 @@ ghost use Rattle.toml.specs.View.{view, table_view, items_view};
 ghost use Rattle.fy_locality.specs.Locality.{locality_of};
 ghost use Rattle.fy_grants.specs.declared.grant.Scope.TheVariants.{Where};
 ghost use Rattle.fy_config.specs.Given.{name_given, process_given, scope_given, grant_given, actor_given, actor_kept, protection_given};
-ghost use Rattle.fy_config.specs.Tables.{has_only, integer_at, list_if_any, text_at, text_if_any, all_of, kind_of, union_of, kinds_at, scope_where, scope_of, role_named, role_at, process_in, process_of, grant_in, grant_of, actor_of, protection_of};
+ghost use Rattle.fy_config.specs.Tables.{has_only, integer_at, list_if_any, text_at, text_if_any, all_of, kind_set_of, union_of, kinds_at, scope_where, scope_of, role_named, role_at, process_in, process_of, grant_in, grant_of, actor_of, protection_of};
 
 use crate::given::{GivenActor, GivenGrant, GivenProtection};
 use fy_cluster::Role;
@@ -90,20 +90,20 @@ fn name_given(text: &str) -> Option<Name>
     Name::make(text).ok()
 }
 
-/// The set of the kind that a word names.
-fn kind_of(value: &Value) -> Option<KindSet>
-    ensures { result ≡ kind_of (view value.now) }
+/// The set of the one kind that a word of the file names.
+fn kind_set_of(value: &Value) -> Option<KindSet>
+    ensures { result ≡ kind_set_of (view value.now) }
 {
     KindSet::named(value.as_str()?)
 }
 
-/// The set of the kinds that words name.
+/// The set of the kinds that words of the file name.
 fn kinds_of(values: &[Value]) -> Option<KindSet>
-    ensures { result ≡ option_map union_of (all_of kind_of (items_view values.now)) }
+    ensures { result ≡ option_map union_of (all_of kind_set_of (items_view values.now)) }
 {
     let mut kinds = KindSet::empty();
     for value in values {
-        kinds.insert(kind_of(value)?);
+        kinds.insert(kind_set_of(value)?);
     }
     Some(kinds)
 }

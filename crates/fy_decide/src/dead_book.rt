@@ -106,7 +106,7 @@ impl Model for DeadBook {
     }) b.destroyed_tallies.items b.left_tallies.items };
 }
 
-// Written out, so that whoever drops a book makes one call.
+// Written out and not derived: see `Drop` in docs/DECISIONS.md.
 impl Drop for DeadBook {
     fn drop(self) {
         let DeadBook {
@@ -208,8 +208,8 @@ impl DeadBook {
         first_short_without(&self.left_tallies, set)
     }
 
-    /// Those left that have the target's value of its key; the map is the one that the book was
-    /// made of.
+    /// The processes left that have the target's value of its key; the map is the one that the book
+    /// was made of.
     pub fn targets(&self, map: &Map, target: &Target) -> ProcSet
         requires { map.now ≡ self.now.processes }
         ensures { (p : ℕ) → sets.contains result p
@@ -219,7 +219,7 @@ impl DeadBook {
             .intersection(&self.left)
     }
 
-    /// Takes the loss of a set down. Takes no memory.
+    /// Records the loss of a set. Takes no memory.
     pub fn strike(&mut self, set: &ProcSet, loss: Loss)
         requires { MayLose self.old (sets.contains set.now) loss }
         ensures { self.new ≡ struck self.old set.now loss }
@@ -261,7 +261,7 @@ impl DeadBook {
         self.destroyed
     }
 
-    /// Those left: they satisfy every policy.
+    /// The processes left: they satisfy every policy.
     pub fn left(&self) -> ProcSet
         ensures left { result ≡ self.now.left }
         ensures satisfied { AreSatisfied self.now.processes self.now.policies

@@ -1,4 +1,4 @@
-//! What an actor may do to whom.
+//! Verdicts: by which kind an actor's order strikes, and the first rule that bars the ordered kind.
 ghost use Rattle.std.specs.Prelude.{◌≡◌, ◌<◌, ℕ, true, length};
 ghost use Rattle.std.specs.FinSet as sets;
 ghost use Rattle.fy_kinds.specs.Kinds.{Deed, Striking, Clogging, only};

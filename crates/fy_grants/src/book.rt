@@ -21,8 +21,8 @@ pub const MOST_GRANTS: usize = 4096;
 
 /// The grants of each actor in the order in which they were given, at most [`MOST_GRANTS`] in all,
 /// and for each process the kinds from which it is protected. The processes are those of a map, of
-/// which it has a copy. Beside the grants of each actor stands whom they cover, so that nobody looks
-/// through grants for it.
+/// which it has a copy. Beside the grants of each actor stands whom they cover, so that nobody
+/// looks through grants for it.
 pub struct Book {
     processes: Map,
     grants: Vec<Vec<Grant>>,
@@ -49,7 +49,7 @@ impl Model for Book {
         IsGrantBook b.processes (map (λ own. own.items) b.grants.items) b.given b.covers.items };
 }
 
-// Written out, so that whoever drops a book makes one call.
+// Written out and not derived: see `Drop` in docs/DECISIONS.md.
 impl Drop for Book {
     fn drop(self) {
         let Book {
@@ -193,18 +193,18 @@ impl Book {
         ensures { LeastWith (sets.contains set.now)
             (λ q. not (is_covered self.now.processes (grants_of self.now actor) kinds q)) result }
     {
-        self.left_open(actor, kinds, set).least()
+        self.uncovered_in(actor, kinds, set).least()
     }
 
-    /// Those of a set that no grant of the actor with all these kinds covers.
-    fn left_open(&self, actor: u32, kinds: KindSet, set: &ProcSet) -> ProcSet
+    /// The processes of a set that no grant of the actor with all these kinds covers.
+    fn uncovered_in(&self, actor: u32, kinds: KindSet, set: &ProcSet) -> ProcSet
         ensures { (q : ℕ) → sets.contains result q ≡ (sets.contains set.now q
             && not (is_covered self.now.processes (grants_of self.now actor) kinds q)) }
     {
         let Some(cover) = self.covers.get(actor as usize) else {
             return *set;
         };
-        match cover.left_open(kinds, set) {
+        match cover.uncovered_in(kinds, set) {
             Some(open) => open,
             None => left_uncovered(self.grants(actor), kinds, &self.processes, set),
         }

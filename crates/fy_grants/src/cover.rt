@@ -57,7 +57,7 @@ impl Cover {
         cover
     }
 
-    /// One more grant covers whom it covers. Takes no memory.
+    /// Adds what one more grant covers. Takes no memory.
     pub(crate) fn add(&mut self, grant: &Grant, map: &Map)
         ensures { (deed : Deed) (p : ℕ) → covers self.new deed p
             ≡ (covers self.old deed p || is_granted map.now grant.now (only deed) p) }
@@ -98,9 +98,10 @@ impl Cover {
         put_group(&mut self.clog, kinds.has_clog(), group);
     }
 
-    /// Those of a set whom the grants leave open to some kinds, where these are one kind; else
-    /// nothing, for whoever asks for many kinds wants one grant that has them all. Takes no memory.
-    pub(crate) fn left_open(&self, kinds: KindSet, set: &ProcSet) -> Option<ProcSet>
+    /// The processes of a set that no grant with this kind covers, where one kind is asked about;
+    /// else nothing, since a question about several kinds wants one grant that has them all. Takes
+    /// no memory.
+    pub(crate) fn uncovered_in(&self, kinds: KindSet, set: &ProcSet) -> Option<ProcSet>
         ensures { IfSome result (LeavesOpen self.now kinds set.now) }
     {
         fy_kinds::laws::one_deed();

@@ -1,4 +1,4 @@
-//! Grants.
+//! A grant: which kinds an actor may order, and on which processes.
 ghost use Rattle.std.specs.Prelude.{◌≡◌, [], ◌∷◌, ◌++◌, OnOk, OnErr};
 
 use fy_kinds::{KindSet, Target};

@@ -1,4 +1,5 @@
-//! Whom grants leave uncovered, and whom protections shield.
+//! Which processes grants leave uncovered and protections shield, by a look at each grant. A
+//! question about one kind alone is answered by the cover (`cover.rt`) instead.
 ghost use Rattle.std.specs.Prelude.{◌≡◌, ◌&&◌, not, ℕ, slice_index_or};
 ghost use Rattle.fy_kinds.specs.Kinds.{no_deed, has_some};
 ghost use Rattle.std.specs.FinSet as sets;

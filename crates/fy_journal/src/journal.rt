@@ -29,7 +29,7 @@ impl Model for Journal {
     ghost invariant = { JournalInvariant };
 }
 
-// By hand, for the reason given at the `Drop` of `fy_acts::Act`.
+// Written out and not derived: see `Drop` in docs/DECISIONS.md.
 impl Drop for Journal {
     fn drop(self) {
         let Journal {

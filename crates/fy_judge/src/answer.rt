@@ -22,6 +22,7 @@ pub enum Answer {
 }
 
 impl Answer {
+    /// The line of an answer.
     fn line(self) -> &'static str
         ensures { result.now ≡ answer_line self }
     {
@@ -33,7 +34,7 @@ impl Answer {
     }
 }
 
-/// The answer to one ask, whose loss is taken down where it is yes.
+/// The answer to one ask, whose loss is recorded where the answer is yes.
 fn answer_ask(dead: &mut DeadBook, ask: JudgeAsk) -> Answer
     requires { ask.process.0 < MOST_PROCESSES }
     ensures { (i : Input) (granted : List Ask) → RecordsGranted i granted dead.old →

@@ -54,7 +54,7 @@ impl Model for Input {
         (record { policies = i.policies.items; processes = i.map; asks = i.asks.items }) };
 }
 
-// Written out, so that whoever drops an input makes one call.
+// Written out and not derived: see `Drop` in docs/DECISIONS.md.
 impl Drop for Input {
     fn drop(self) {
         let Input {
@@ -127,6 +127,8 @@ impl Input {
         }
     }
 
+    /// Takes a policy, which has to come before all processes. Its text is read before it is
+    /// counted.
     fn take_policy(&mut self, alloc: Global, text: &str) -> Result<(), TakeFault>
         ensures taken { OnOk result (Step self.old (Some (policy text.now)) (Ok self.new)) }
         ensures refused { IfErr result
@@ -146,6 +148,7 @@ impl Input {
         Ok(())
     }
 
+    /// Takes a process, which has to come behind the policies and before all asks.
     fn take_process(&mut self, locality: Locality) -> Result<(), TakeFault>
         ensures taken { OnOk result (Step self.old (Some (process locality)) (Ok self.new)) }
         ensures refused { IfErr result
@@ -163,6 +166,7 @@ impl Input {
         Ok(())
     }
 
+    /// Takes an ask, which has to be about a process that is there.
     fn take_ask(&mut self, loss: Loss, id: Name) -> Result<(), TakeFault>
         ensures taken { OnOk result (Step self.old (Some (ask loss id)) (Ok self.new)) }
         ensures refused { IfErr result

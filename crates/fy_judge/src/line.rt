@@ -1,4 +1,5 @@
-//! What a line of the input says.
+//! What a line of `judge`'s input says, from its words. No fault is named here: where a word isn't
+//! what it has to be there is no answer, and the line is then refused in `input.rt`.
 ghost use Rattle.std.specs.Prelude.{◌≡◌, ◌∷◌, ◌++◌, [], ℕ, length, MatchOption, IfSome, IfNone, IsOk, IfOk, IsTrue, true, nat_lt, ◌↔◌};
 ghost use Rattle.std.specs.List.{list_all};
 ghost use Rattle.std.specs.Option.{option_map, option_map_or};
@@ -87,12 +88,14 @@ fn five_words(line: &[u8]) -> Option<(&[u8], &[u8], &[u8], &[u8], &[u8])>
     }
 }
 
+/// Whether a word is this text.
 fn is_word(word: &[u8], text: &str) -> bool
     ensures { result ≡ bytes_eq word.now text.now }
 {
     word == text.as_bytes()
 }
 
+/// What a first word announces, if it is one of the four.
 pub fn keyword_in(word: &[u8]) -> Option<Keyword>
     ensures { result ≡ keyword_of word.now }
 {
@@ -109,12 +112,14 @@ pub fn keyword_in(word: &[u8]) -> Option<Keyword>
     }
 }
 
+/// Whether no byte of a word is above 127.
 fn is_ascii(word: &[u8]) -> bool
     ensures { result ≡ list_all (λ b. nat_lt b 128) word.now }
 {
     word.iter().all(|byte| *byte < 128)
 }
 
+/// Whether a word may be the text of a policy, for the reader of policies to judge.
 fn is_policy_text(word: &[u8]) -> bool
     ensures { result ≡ is_text word.now }
 {
@@ -133,6 +138,7 @@ fn optional_name(word: &[u8]) -> Result<Option<Name>, BadName>
     Ok(Some(name))
 }
 
+/// The process of five words; the last two may be `-`.
 fn located(
     id: &[u8],
     machine: &[u8],

@@ -15,7 +15,7 @@ pub enum Kind {
     KillInstantly,
 }
 
-/// Every kind, from the mildest.
+/// Every kind of kill, the mildest first. Texts list kinds in this order.
 pub const KINDS: [Kind; 4] = [
     Kind::RebootProcess,
     Kind::Reboot,
@@ -23,7 +23,7 @@ pub const KINDS: [Kind; 4] = [
     Kind::KillInstantly,
 ];
 
-/// Every kind, from the hardest.
+/// Every kind of kill, the hardest first. A verdict looks for what strikes in this order.
 pub const HARDEST_FIRST: [Kind; 4] = [
     Kind::KillInstantly,
     Kind::RebootAndDelete,

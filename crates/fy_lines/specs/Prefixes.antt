@@ -2,11 +2,6 @@
 use Rattle.std.specs.Prelude.{◌≡◌, ◌<◌, ℕ, List, ◌++◌, length, Option}
 use Rattle.std.specs.Io.KnownBytes.{Appends}
 
--- known bytes grow by a front of the text
-abbrev pub AppendsPrefix : Option (List ℕ) → Option (List ℕ) → List ℕ → Type 0
-AppendsPrefix old new text =
-    (front : List ℕ) × (rest : List ℕ) × (text ≡ front ++ rest) × Appends old new front
-
 -- known bytes grow by a front of the text, and something is left
 abbrev pub AppendsProperPrefix : Option (List ℕ) → Option (List ℕ) → List ℕ → Type 0
 AppendsProperPrefix old new text =

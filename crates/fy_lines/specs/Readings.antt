@@ -31,6 +31,11 @@ ReadsWithinLine old new =
     (front : List ℕ) × Consumes old new front
     × (IsLine front ⊎ ((line : List ℕ) × (front ≡ line ++ 10 ∷ []) × IsLine line))
 
+-- some of the next line was read, so many bytes at most, and not its line feed
+abbrev pub ReadsInsideLine : Option (List ℕ) → Option (List ℕ) → ℕ → Type 0
+ReadsInsideLine old new most =
+    (front : List ℕ) × Consumes old new front × IsLine front × (length front ≤ most)
+
 -- a piece of a line was read, and stands in the buffer behind what stood there
 abbrev pub ReadsPiece : Option (List ℕ) → Option (List ℕ) → List ℕ → List ℕ → Piece → Type 0
 ReadsPiece old new kept line End = IsAtEnd old × Keeps old new × (line ≡ kept)

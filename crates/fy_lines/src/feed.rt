@@ -2,7 +2,7 @@
 
 ghost use Rattle.std.specs.Prelude.{◌≡◌, ◌≢◌, ◌≤◌, true, false, length, Ok, IfOk, IfErr, OnOk, OnErr, IsErrOf};
 ghost use Rattle.std.specs.Io.KnownBytes.{IsAtEnd, Keeps};
-ghost use Rattle.fy_lines.specs.Readings.{ReadsLine, HasLongLine, ReadsWithinLine, ReadsPiece};
+ghost use Rattle.fy_lines.specs.Readings.{ReadsLine, HasLongLine, ReadsWithinLine, ReadsInsideLine, ReadsPiece};
 ghost use Rattle.fy_lines.specs.declared.input.InputFault.TheVariants.{TooLong};
 
 use crate::input::InputFault;
@@ -64,7 +64,8 @@ fn read_piece<R: BufRead>(reader: &mut R, line: &mut Vec<u8>) -> Result<Piece, I
 ///
 /// `TooLong` only where the line has more than `most` bytes, `Reader` where a call of the reader
 /// fails (also where it was interrupted), and `NoMemory` where there is no room for the line;
-/// whichever comes first. No byte behind the line's feed was read.
+/// whichever comes first. No byte behind the line's feed was read. At `Reader` and `NoMemory` the
+/// feed wasn't either, nor more than `most` bytes of the line.
 pub fn next_line<R: BufRead>(
     reader: &mut R,
     line: &mut Vec<u8>,
@@ -76,6 +77,8 @@ pub fn next_line<R: BufRead>(
     ensures end { result ≡ Ok false → IsAtEnd (R.remaining reader.old) }
     ensures too_long { IsErrOf result InputFault.TooLong →
         HasLongLine (R.remaining reader.old) most }
+    ensures inside { IfErr result (λ fault. fault ≢ TooLong →
+        ReadsInsideLine (R.remaining reader.old) (R.remaining reader.new) most) }
     ensures no_further { ReadsWithinLine (R.remaining reader.old) (R.remaining reader.new) }
 {
     line.clear();

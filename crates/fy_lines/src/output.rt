@@ -4,7 +4,7 @@
 ghost use Rattle.std.specs.Prelude.{OnOk, OnErr};
 ghost use Rattle.std.specs.List.{flat_map};
 ghost use Rattle.std.specs.Io.KnownBytes.{Appends};
-ghost use Rattle.fy_lines.specs.Prefixes.{AppendsPrefix, AppendsProperPrefix};
+ghost use Rattle.fy_lines.specs.Prefixes.{AppendsProperPrefix};
 
 use std::io::Write;
 
@@ -20,8 +20,6 @@ pub struct OutputFault;
 /// takes no byte. What went out then is a front of the bytes, and never all of them.
 pub fn write_bytes<W: Write>(writer: &mut W, bytes: &[u8]) -> Result<(), OutputFault>
     ensures ok { OnOk result (Appends (W.contents writer.old) (W.contents writer.new) bytes.now) }
-    ensures err { OnErr result
-        (AppendsPrefix (W.contents writer.old) (W.contents writer.new) bytes.now) }
     ensures short { OnErr result
         (AppendsProperPrefix (W.contents writer.old) (W.contents writer.new) bytes.now) }
 {
@@ -42,7 +40,7 @@ pub fn write_bytes<W: Write>(writer: &mut W, bytes: &[u8]) -> Result<(), OutputF
 ///
 /// # Errors
 ///
-/// Those of `write_bytes`; what went out is a front of all the parts, and never all of it.
+/// The faults of `write_bytes`; what went out is a front of all the parts, and never all of it.
 pub fn write_parts<W: Write>(writer: &mut W, parts: &[&[u8]]) -> Result<(), OutputFault>
     ensures ok { OnOk result
         (Appends (W.contents writer.old) (W.contents writer.new)

@@ -86,6 +86,7 @@ impl Map {
         self.processes.is_empty()
     }
 
+    /// The values of a key, each with the processes that have it.
     fn index(&self, key: Key) -> &IndexMap<Name, ProcSet>
         ensures index { IsIndex self.now key result.now.entries }
         ensures few { length self.now ≤ MOST_PROCESSES }
@@ -300,7 +301,7 @@ impl Map {
     }
 }
 
-// Written out, so that whoever drops a map makes one call.
+// Written out and not derived: see `Drop` in docs/DECISIONS.md.
 impl Drop for Map {
     fn drop(self) {
         let Map {
@@ -349,7 +350,7 @@ impl<T: Drop> From<AllocFailed<T>> for MapFault {
     }
 }
 
-/// The same values again with their processes, in memory of their own.
+/// A copy of the values of a key with their processes, in memory of its own.
 ///
 /// # Errors
 ///

@@ -39,18 +39,21 @@ impl Model for Name {
         record { bytes = padded-take a.bytes a.len h i; len = length-stored a.bytes a.len h i } };
 }
 
+/// Whether a byte is a letter, a digit, `_` or `-`.
 fn may_stand_in_name(byte: u8) -> bool
     ensures { result ≡ is_name_byte byte }
 {
     byte.is_ascii_alphanumeric() || byte == b'_' || byte == b'-'
 }
 
+/// Whether each byte may stand in a name.
 fn has_name_bytes(text: &[u8]) -> bool
     ensures { result ≡ list_all is_name_byte text.now }
 {
     text.iter().all(|byte| may_stand_in_name(*byte))
 }
 
+/// Whether a text is a name.
 fn spells_name(text: &[u8]) -> bool
     ensures { result ≡ is_name text.now }
 {

@@ -130,7 +130,7 @@ impl ProcSet {
         Processes { rest: *self }
     }
 
-    /// Those of either set.
+    /// The processes of either set.
     pub fn union(&self, other: &ProcSet) -> ProcSet
         ensures { result ≡ sets.union self.now other.now }
     {
@@ -141,7 +141,7 @@ impl ProcSet {
         ProcSet { words }
     }
 
-    /// Those of both sets.
+    /// The processes of both sets.
     pub fn intersection(&self, other: &ProcSet) -> ProcSet
         ensures { result ≡ sets.intersection self.now other.now }
     {
@@ -152,7 +152,7 @@ impl ProcSet {
         ProcSet { words }
     }
 
-    /// Those of this set that aren't in the other.
+    /// The processes of this set that aren't in the other.
     pub fn difference(&self, other: &ProcSet) -> ProcSet
         ensures { result ≡ sets.difference self.now other.now }
     {

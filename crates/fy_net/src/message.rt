@@ -1,4 +1,4 @@
-//! Messages.
+//! Messages: a store of a record to a process, or a process's acknowledgement of one.
 ghost use Rattle.std.specs.Prelude.{◌≡◌};
 ghost use Rattle.fy_net.specs.Net.{process_of, is_ack_from};
 

@@ -10,7 +10,7 @@ ghost use Rattle.fy_net.specs.declared.pool.Pool.{Pool};
 ghost use Rattle.fy_net.specs.declared.slot.Slot.{Slot};
 ghost use Rattle.fy_net.specs.Pool.{chain_of, chain_at, is_there, with_link, lower_of, IsFirst, IsThereOnChain, IsReachedOf, IsFreeOf, AreLinked, IsChained, BusyIsRight, IsPool, HasRoom, KeepsRoom};
 
-use crate::places::clog_lasts;
+use crate::message_list::clog_lasts;
 use crate::slot::{Slot, place_there};
 use crate::{Body, Message};
 use fy_locality::{MOST_PROCESSES, ProcId, ProcSet};
@@ -19,9 +19,9 @@ use std::alloc::{AllocError, Global};
 /// The ends of a chain.
 #[derive(Clone, Copy)]
 pub(crate) struct Ends {
-    /// Its first slot whose message is in flight.
+    /// The chain's first slot whose message is in flight.
     pub(crate) first: Option<usize>,
-    /// Its last slot.
+    /// The chain's last slot.
     pub(crate) last: Option<usize>,
 }
 

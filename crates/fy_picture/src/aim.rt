@@ -15,7 +15,7 @@ use fy_locality::{Map, ProcSet};
 /// The processes that a target can still name, as entries come one after another.
 #[derive(Clone, Copy)]
 pub struct Aim {
-    /// Those that were not killed for good.
+    /// The processes that were not killed for good.
     pub left: ProcSet,
 }
 

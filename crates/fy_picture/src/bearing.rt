@@ -1,4 +1,5 @@
-//! The line of each policy: how many processes could each be killed next.
+//! The line that a picture shows of each policy: column by column, how many processes could each be
+//! killed for good next. `fy_bears` asks another question: how many together.
 ghost use Rattle.std.specs.Prelude.{◌≡◌, ◌≤◌, ◌<◌, ◌==◌, ◌&&◌, ◌||◌, ℕ, not, length, slice_get, IfOk, IsTrue};
 ghost use Rattle.std.specs.FinSet as sets;
 ghost use Rattle.fy_cluster.specs.History.{some_is};
@@ -19,7 +20,7 @@ pub struct Line {
     pub counts: Vec<u32>,
 }
 
-/// Who is destroyed and who is left after some entries.
+/// The processes that are destroyed and those that are left, after some entries.
 #[derive(Clone, Copy)]
 pub(crate) struct LossCounts {
     destroyed: ProcSet,
@@ -122,7 +123,8 @@ struct Killable {
     count: u32,
 }
 
-/// The same of the next losses. The processes are counted anew only where the losses changed.
+/// How many processes could each be killed for good after the next losses. They are counted anew
+/// only where the losses changed.
 #[tactic(auto, using(crate::proofs::Losing::killable_same))]
 fn next_killable(last: &Killable, policy: &Policy, map: &Map, losses: LossCounts) -> Killable
     requires { last.now.count ≡ killable_at map.now policy.now last.now.losses }

@@ -4,6 +4,6 @@ use crate::State;
 /// What a picture shows of one process.
 #[derive(Drop)]
 pub struct Row {
-    /// Its state at the end of each column.
+    /// The process's state at the end of each column.
     pub states: Vec<State>,
 }

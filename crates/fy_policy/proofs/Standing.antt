@@ -109,7 +109,7 @@ pub passing-le : (processes : List Locality) (key : Key) (q : Tree) (s : ℕ →
 unfolding values_of
 passing-le processes key q s = le-le _ _ _ (filter-le _ (values_of processes key)) (le-le _ _ _ (first_seen-le (filter_map (value_in key) processes)) (filter_map-le (value_in key) processes))
 
--- ---- one process comes or goes
+-- ---- one process joins or goes
 pub as_sum : (old new : ℕ) (before after : Bool) → (old < 2147483648 → new ≡ recounted old before after) → old < 2147483648 → cond before 1 0 ≤ old + cond after 1 0 → new + cond before 1 0 ≡ old + cond after 1 0
 as_sum old new before after is small room = sums old new (cond before 1 0) (cond after 1 0) (is small) room
   where
@@ -135,46 +135,46 @@ counts-toggled processes old new f f' g before after few counts change inside lo
     same : (x y n z b a : ℕ) → x ≡ y → n + b ≡ x + a → z + b ≡ y + a → n ≡ z
     same x y n z b a e h k = omega arith
 
-module _ (processes : List Locality) (at : ℕ → ℕ) (s : ℕ → Bool) (p : ℕ) (comes : Bool) where
-  pub within-apart : (g q : ℕ) → q ≢ p → within processes at g s q ≡ within processes at g (toggled s p comes) q
-  within-apart g q apart = keep q p (ltb q (length processes)) (eqb (at q) g) (s q) comes apart
+module _ (processes : List Locality) (at : ℕ → ℕ) (s : ℕ → Bool) (p : ℕ) (joins : Bool) where
+  pub within-apart : (g q : ℕ) → q ≢ p → within processes at g s q ≡ within processes at g (toggled s p joins) q
+  within-apart g q apart = keep q p (ltb q (length processes)) (eqb (at q) g) (s q) joins apart
     where
       keep : (q p : ℕ) (a b c d : Bool) → q ≢ p → (a && (b && c)) ≡ (a && (b && cond (eqb q p) d c))
       keep q p a b c d ne = grind (arith, nat_tests)
 
-  within-other : (g : ℕ) → at p ≢ g → within processes at g s ≡ within processes at g (toggled s p comes)
+  within-other : (g : ℕ) → at p ≢ g → within processes at g s ≡ within processes at g (toggled s p joins)
   within-other g other = λ i q. each q i
     where
       lost : (u g : ℕ) (a c d : Bool) → u ≢ g → (a && (eqb u g && c)) ≡ (a && (eqb u g && d))
       lost u g a c d ne = grind (arith, nat_tests)
 
-      each : (q : ℕ) → within processes at g s q ≡ within processes at g (toggled s p comes) q
+      each : (q : ℕ) → within processes at g s q ≡ within processes at g (toggled s p joins) q
       each q = elim (cases_eq q p) [
-        | inl here ↦ lost (at q) g (ltb q (length processes)) (s q) (toggled s p comes q) (λ e. other (ap at (sym here) ∙ e))
+        | inl here ↦ lost (at q) g (ltb q (length processes)) (s q) (toggled s p joins q) (λ e. other (ap at (sym here) ∙ e))
         | inr apart ↦ within-apart g q apart
       ]
 
-  module _ (g : ℕ) (few : length processes ≤ 1024) (small : p < length processes) (here : at p ≡ g) (inside : g ≤ length processes) (was : s p ≡ not comes) where
+  module _ (g : ℕ) (few : length processes ≤ 1024) (small : p < length processes) (here : at p ≡ g) (inside : g ≤ length processes) (was : s p ≡ not joins) where
     pub its-own : (t : ℕ → Bool) (b : Bool) → t p ≡ b → within processes at g t p ≡ b
     its-own t b e = own p (length processes) (at p) g (t p) b small here e
       where
         own : (p n u g : ℕ) (c b : Bool) → p < n → u ≡ g → c ≡ b → (ltb p n && (eqb u g && c)) ≡ b
         own p n u g c b h e f = grind (arith, nat_tests)
 
-    pub now-is : toggled s p comes p ≡ comes
-    now-is = itself p comes (s p)
+    pub now-is : toggled s p joins p ≡ joins
+    now-is = itself p joins (s p)
       where
         itself : (p : ℕ) (a b : Bool) → cond (eqb p p) a b ≡ a
         itself p a b = grind (arith, nat_tests)
 
-    pub one-toggled : (node : Node) (counts counts' : Vec ℕ Global) → node ≡ One counts → AreCountersOf processes at s node → IsRecounted counts.items g (not comes) comes counts'.items → AreCountersOf processes at (toggled s p comes) (One counts')
+    pub one-toggled : (node : Node) (counts counts' : Vec ℕ Global) → node ≡ One counts → AreCountersOf processes at s node → IsRecounted counts.items g (not joins) joins counts'.items → AreCountersOf processes at (toggled s p joins) (One counts')
     unfolding AreCountersOf
     one-toggled node counts counts' is right change =
         let r : AreCountersOf processes at s (One counts) = subst (AreCountersOf processes at s) is right in
-        counts-toggled processes counts.items counts'.items _ (λ i. number_of (within processes at i (toggled s p comes)) (length processes)) g (not comes) comes few r change inside (number-le _ _)
-        (ap (λ b. number_of (within processes at g (toggled s p comes)) (length processes) + cond b 1 0) (sym (its-own s (not comes) was))
-        ∙ number-toggled (within processes at g s) (within processes at g (toggled s p comes)) (length processes) p small (λ q apart. within-apart g q apart)
-        ∙ ap (λ b. number_of (within processes at g s) (length processes) + cond b 1 0) (its-own (toggled s p comes) comes now-is))
+        counts-toggled processes counts.items counts'.items _ (λ i. number_of (within processes at i (toggled s p joins)) (length processes)) g (not joins) joins few r change inside (number-le _ _)
+        (ap (λ b. number_of (within processes at g (toggled s p joins)) (length processes) + cond b 1 0) (sym (its-own s (not joins) was))
+        ∙ number-toggled (within processes at g s) (within processes at g (toggled s p joins)) (length processes) p small (λ q apart. within-apart g q apart)
+        ∙ ap (λ b. number_of (within processes at g s) (length processes) + cond b 1 0) (its-own (toggled s p joins) joins now-is))
         (λ i other. ap (λ t. number_of t (length processes)) (sym (within-other i (λ e. other (sym e ∙ here)))))
 
     module _ (node : Node) (wanted : ℕ) (key : Key) (places counts : Vec ℕ Global) (inner : Box Node Global) (is : node ≡ Across wanted key places counts inner) (right : AreCountersOf processes at s node) where
@@ -209,41 +209,41 @@ module _ (processes : List Locality) (at : ℕ → ℕ) (s : ℕ → Bool) (p : 
 
       pub across-toggled : ValuesDiffer → ValuesOccur → (counts' : Vec ℕ Global) (inner' : Box Node Global) (before after : Bool) → is_some (value_of processes key p) ≡ true
           → before ≡ satisfies processes (tree_of_node inner.value) (within processes (group_at places.items) (group_at places.items p) s)
-          → after ≡ satisfies processes (tree_of_node inner'.value) (within processes (group_at places.items) (group_at places.items p) (toggled s p comes))
-          → tree_of_node inner'.value ≡ tree_of_node inner.value → AreCountersOf processes (group_at places.items) (toggled s p comes) inner'.value
-          → IsRecounted counts.items g before after counts'.items → AreCountersOf processes at (toggled s p comes) (Across wanted key places counts' inner')
+          → after ≡ satisfies processes (tree_of_node inner'.value) (within processes (group_at places.items) (group_at places.items p) (toggled s p joins))
+          → tree_of_node inner'.value ≡ tree_of_node inner.value → AreCountersOf processes (group_at places.items) (toggled s p joins) inner'.value
+          → IsRecounted counts.items g before after counts'.items → AreCountersOf processes at (toggled s p joins) (Across wanted key places counts' inner')
       unfolding AreCountersOf
       across-toggled differ occur counts' inner' before after some b a same right' change = go (value_of processes key p) refl some
         where
           s' : ℕ → Bool
-          s' = toggled s p comes
+          s' = toggled s p joins
 
           q : Tree
           q = tree_of_node inner.value
 
-          go : (o : Option (List ℕ)) → value_of processes key p ≡ o → is_some o ≡ true → AreCountersOf processes at (toggled s p comes) (Across wanted key places counts' inner')
+          go : (o : Option (List ℕ)) → value_of processes key p ≡ o → is_some o ≡ true → AreCountersOf processes at (toggled s p joins) (Across wanted key places counts' inner')
           go None e h = absurd (true≢false (sym h))
           go (Some v) has h =
               let itself : has_value processes key v p ≡ true = ap (λ o. option_eq bytes_eq o (Some v)) has ∙ nat_list_eq_equiv.refl v in
-              let sum : passing processes key (tree_of_node inner.value) (within processes at g (toggled s p comes)) + cond before 1 0 ≡ passing processes key (tree_of_node inner.value) (within processes at g s) + cond after 1 0 =
-              ap (λ b. passing processes key (tree_of_node inner.value) (within processes at g (toggled s p comes)) + cond b 1 0) (b ∙ ap (satisfies processes (tree_of_node inner.value)) (sym (regroup v has s)))
-              ∙ passing-toggled processes key (tree_of_node inner.value) differ occur r.1 (within processes at g s) (within processes at g (toggled s p comes)) p v has (λ x lacks. within-apart g x (λ e. true≢false (sym itself ∙ ap (has_value processes key v) (sym e) ∙ lacks)))
-              ∙ ap (λ b. passing processes key (tree_of_node inner.value) (within processes at g s) + cond b 1 0) (ap (satisfies processes (tree_of_node inner.value)) (regroup v has (toggled s p comes)) ∙ ap (λ u. satisfies processes u (within processes (group_at places.items) (group_at places.items p) (toggled s p comes))) (sym same) ∙ sym a) in (
-                counts-toggled processes counts.items counts'.items _ (λ i. passing processes key (tree_of_node inner'.value) (within processes at i (toggled s p comes))) g before after few r.0 change inside (passing-le processes key _ _)
-                    (ap (λ u. passing processes key u (within processes at g (toggled s p comes)) + cond before 1 0) same ∙ sum)
+              let sum : passing processes key (tree_of_node inner.value) (within processes at g (toggled s p joins)) + cond before 1 0 ≡ passing processes key (tree_of_node inner.value) (within processes at g s) + cond after 1 0 =
+              ap (λ b. passing processes key (tree_of_node inner.value) (within processes at g (toggled s p joins)) + cond b 1 0) (b ∙ ap (satisfies processes (tree_of_node inner.value)) (sym (regroup v has s)))
+              ∙ passing-toggled processes key (tree_of_node inner.value) differ occur r.1 (within processes at g s) (within processes at g (toggled s p joins)) p v has (λ x lacks. within-apart g x (λ e. true≢false (sym itself ∙ ap (has_value processes key v) (sym e) ∙ lacks)))
+              ∙ ap (λ b. passing processes key (tree_of_node inner.value) (within processes at g s) + cond b 1 0) (ap (satisfies processes (tree_of_node inner.value)) (regroup v has (toggled s p joins)) ∙ ap (λ u. satisfies processes u (within processes (group_at places.items) (group_at places.items p) (toggled s p joins))) (sym same) ∙ sym a) in (
+                counts-toggled processes counts.items counts'.items _ (λ i. passing processes key (tree_of_node inner'.value) (within processes at i (toggled s p joins))) g before after few r.0 change inside (passing-le processes key _ _)
+                    (ap (λ u. passing processes key u (within processes at g (toggled s p joins)) + cond before 1 0) same ∙ sum)
                     (λ i other. (λ j. passing processes key (same j) (sym (within-other i (λ e. other (sym e ∙ here))) j))),
                 subst IsWellFormed (sym same) r.1,
                 r.2,
                 right',
               )
 
-      pub across-keyless : (inner' : Box Node Global) → is_some (value_of processes key p) ≡ false → tree_of_node inner'.value ≡ tree_of_node inner.value → AreCountersOf processes (group_at places.items) (toggled s p comes) inner'.value
-          → AreCountersOf processes at (toggled s p comes) (Across wanted key places counts inner')
+      pub across-keyless : (inner' : Box Node Global) → is_some (value_of processes key p) ≡ false → tree_of_node inner'.value ≡ tree_of_node inner.value → AreCountersOf processes (group_at places.items) (toggled s p joins) inner'.value
+          → AreCountersOf processes at (toggled s p joins) (Across wanted key places counts inner')
       unfolding AreCountersOf
       across-keyless inner' lacks same right' = (
         record {
           wide = r.0.wide;
-          each = λ i within'. r.0.each i within' ∙ alike i ∙ ap (λ u. passing processes key u (within processes at i (toggled s p comes))) (sym same);
+          each = λ i within'. r.0.each i within' ∙ alike i ∙ ap (λ u. passing processes key u (within processes at i (toggled s p joins))) (sym same);
         },
         subst IsWellFormed (sym same) r.1,
         r.2,
@@ -254,8 +254,8 @@ module _ (processes : List Locality) (at : ℕ → ℕ) (s : ℕ → Bool) (p : 
           without None e = refl
           without (Some v) e = absurd (true≢false e)
 
-          alike : (i : ℕ) → passing processes key (tree_of_node inner.value) (within processes at i s) ≡ passing processes key (tree_of_node inner.value) (within processes at i (toggled s p comes))
-          alike i = passing-keyless' processes key (tree_of_node inner.value) (within processes at i s) (within processes at i (toggled s p comes)) p (without _ lacks) (λ x apart. within-apart i x apart)
+          alike : (i : ℕ) → passing processes key (tree_of_node inner.value) (within processes at i s) ≡ passing processes key (tree_of_node inner.value) (within processes at i (toggled s p joins))
+          alike i = passing-keyless' processes key (tree_of_node inner.value) (within processes at i s) (within processes at i (toggled s p joins)) p (without _ lacks) (λ x apart. within-apart i x apart)
 
 pub both-right : (processes : List Locality) (at : ℕ → ℕ) (s : ℕ → Bool) (first second : Box Node Global) → AreCountersOf processes at s first.value → AreCountersOf processes at s second.value → AreCountersOf processes at s (Both first second)
 unfolding AreCountersOf
@@ -348,19 +348,19 @@ toggled-dropped set p x = drop (eqb x p) (sets.contains set x) ∙ sym (sets.con
     drop false b = refl
 
 -- the set after a process came or went, with its counts
-pub tallied-toggled : (processes : List Locality) (all : sets.FinSet nat_cmp) (policy : Tree) (set set' : sets.FinSet nat_cmp) (node node' : Node) (p : ℕ) (comes : Bool) → IsTallied processes all policy set node → HasGroups (length processes) node' → tree_of_node node' ≡ tree_of_node node → AreCountersOf processes (λ _. 0) (toggled (sets.contains set) p comes) node'
-    → ((x : ℕ) → toggled (sets.contains set) p comes x ≡ sets.contains set' x) → IsTallied processes all policy set' node'
-tallied-toggled processes all policy set set' node node' p comes was groups same right is = record {
+pub tallied-toggled : (processes : List Locality) (all : sets.FinSet nat_cmp) (policy : Tree) (set set' : sets.FinSet nat_cmp) (node node' : Node) (p : ℕ) (joins : Bool) → IsTallied processes all policy set node → HasGroups (length processes) node' → tree_of_node node' ≡ tree_of_node node → AreCountersOf processes (λ _. 0) (toggled (sets.contains set) p joins) node'
+    → ((x : ℕ) → toggled (sets.contains set) p joins x ≡ sets.contains set' x) → IsTallied processes all policy set' node'
+tallied-toggled processes all policy set set' node node' p joins was groups same right is = record {
   few = was.few;
   everyone = was.everyone;
   same = λ s. ap (λ t. satisfies processes t s) same ∙ was.same s;
   groups = groups;
-  right = right-alike processes (λ _. 0) (toggled (sets.contains set) p comes) (sets.contains set') (λ x _. is x) node' right;
+  right = right-alike processes (λ _. 0) (toggled (sets.contains set) p joins) (sets.contains set') (λ x _. is x) node' right;
 }
 
 -- a process that was there, or is none of the map, turns none of the map
-pub unturned : (set : sets.FinSet nat_cmp) (p n : ℕ) (comes : Bool) → (p < n → sets.contains set p ≡ comes) → (x : ℕ) → x < n → sets.contains set x ≡ toggled (sets.contains set) p comes x
-unturned set p n comes there x small = elim (cases_eq x p) [ inl here ↦ kept x p comes (sets.contains set x) here (ap (sets.contains set) here ∙ there (moved x p n here small)) | inr other ↦ left x p comes (sets.contains set x) other ]
+pub unturned : (set : sets.FinSet nat_cmp) (p n : ℕ) (joins : Bool) → (p < n → sets.contains set p ≡ joins) → (x : ℕ) → x < n → sets.contains set x ≡ toggled (sets.contains set) p joins x
+unturned set p n joins there x small = elim (cases_eq x p) [ inl here ↦ kept x p joins (sets.contains set x) here (ap (sets.contains set) here ∙ there (moved x p n here small)) | inr other ↦ left x p joins (sets.contains set x) other ]
   where
     moved : (x p n : ℕ) → x ≡ p → x < n → p < n
     moved x p n e h = omega arith
@@ -372,14 +372,14 @@ unturned set p n comes there x small = elim (cases_eq x p) [ inl here ↦ kept x
     left x p c b ne = grind (arith, nat_tests)
 
 -- nothing was counted: the process was there, or is none of the map
-pub tallied-kept : (processes : List Locality) (all : sets.FinSet nat_cmp) (policy : Tree) (set set' : sets.FinSet nat_cmp) (node : Node) (p : ℕ) (comes : Bool) → IsTallied processes all policy set node → ((x : ℕ) → toggled (sets.contains set) p comes x ≡ sets.contains set' x)
-    → (p < length processes → sets.contains set p ≡ comes) → IsTallied processes all policy set' node
-tallied-kept processes all policy set set' node p comes was is there = record {
+pub tallied-kept : (processes : List Locality) (all : sets.FinSet nat_cmp) (policy : Tree) (set set' : sets.FinSet nat_cmp) (node : Node) (p : ℕ) (joins : Bool) → IsTallied processes all policy set node → ((x : ℕ) → toggled (sets.contains set) p joins x ≡ sets.contains set' x)
+    → (p < length processes → sets.contains set p ≡ joins) → IsTallied processes all policy set' node
+tallied-kept processes all policy set set' node p joins was is there = record {
   few = was.few;
   everyone = was.everyone;
   same = was.same;
   groups = was.groups;
-  right = right-alike processes (λ _. 0) (sets.contains set) (sets.contains set') (λ x small. unturned set p (length processes) comes there x small ∙ is x) node was.right;
+  right = right-alike processes (λ _. 0) (sets.contains set) (sets.contains set') (λ x small. unturned set p (length processes) joins there x small ∙ is x) node was.right;
 }
 
 pub came : (all has here : Bool) (p n : ℕ) → (all && not has) ≡ true → all ≡ ltb p n → has ≡ here → (here ≡ false) × (p < n)
@@ -486,11 +486,11 @@ module _ (processes : List Locality) (all : sets.FinSet nat_cmp) (policy : Tree)
         → result ≡ satisfies processes policy (sets.contains (sets.difference set given))
     without-goers result e = asked processes all policy set node was (toggled_by (sets.contains set) (sets.contains goers) false) (sets.difference set given) result (λ q low.
         ap (λ b. cond b false (sets.contains set q)) (in-goers q ∙ ap (λ b. (sets.contains given q && b) && sets.contains set q) (present q low))
-        ∙ split_by_key (sets.contains given q) (sets.contains set q)
+        ∙ representatives_by_key (sets.contains given q) (sets.contains set q)
         ∙ sym (sets.contains-difference nat_cmp_total set given q)) e
       where
-        split_by_key : (g s : Bool) → cond ((g && true) && s) false s ≡ (s && not g)
-        split_by_key true true = refl
-        split_by_key true false = refl
-        split_by_key false true = refl
-        split_by_key false false = refl
+        representatives_by_key : (g s : Bool) → cond ((g && true) && s) false s ≡ (s && not g)
+        representatives_by_key true true = refl
+        representatives_by_key true false = refl
+        representatives_by_key false true = refl
+        representatives_by_key false false = refl

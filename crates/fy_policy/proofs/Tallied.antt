@@ -1,4 +1,4 @@
--- counts by groups: what they say, and how they change where one process comes or goes
+-- counts by groups: what they say, and how they change where one process joins or goes
 use Rattle.std.proofs.Common.{inl, inr, zero, suc, ◌≡◌, ◌≢◌, ℕ, ◌+◌, ◌<◌, ◌≤◌, Bool, true, false, cond, ltb, ◌&&◌, not, List, length, filter, Some, None, refl, sym, ap, ◌∙◌, arith}
 use Rattle.std.specs.List.{list_any, range_with_len}
 use Rattle.std.proofs.lemmas.Bool.{cases_eq}
@@ -124,7 +124,7 @@ module _ (processes : List Locality) (key : Key) (q : Tree) (differ : ValuesDiff
       sums : (ps pt ls lt cs ct : ℕ) → ps ≡ cs + ls → pt ≡ ct + lt → ls ≡ lt → pt + cs ≡ ps + ct
       sums ps pt ls lt cs ct e f g = omega arith
 
--- a process without the key comes or goes
+-- a process without the key joins or goes
 pub passing-keyless' : (processes : List Locality) (key : Key) (q : Tree) (s t : ℕ → Bool) (p : ℕ) → value_of processes key p ≡ None → ((x : ℕ) → x ≢ p → s x ≡ t x) → passing processes key q s ≡ passing processes key q t
 passing-keyless' processes key q s t p keyless same = λ i. length (filter (λ v. satisfies processes q (λ x. alike v x i)) (values_of processes key))
   where

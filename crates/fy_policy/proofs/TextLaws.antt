@@ -71,7 +71,7 @@ module _ (bytes : List ℕ) where
   grammatical : (t : Tree) → IsPolicy t → bytes ≡ text t → IsTextOf bytes t
   grammatical t h e = record { same = e; parts = (counted_splits t h.counted).0 }
 
-  -- two answers of which the first comes earlier in the order of the faults, a policy coming last
+  -- two answers of which the first joins earlier in the order of the faults, a policy coming last
   pub settled : (a b : Result Tree PolicyFault) → Reads bytes a → Reads bytes b → (a ≡ Err NoMemory → ⊥) → (b ≡ Err NoMemory → ⊥) → a ≡ b
   unfolding Reads
   settled (Err NoMemory) b ra rb na nb = absurd (na refl)

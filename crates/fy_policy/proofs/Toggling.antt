@@ -134,12 +134,12 @@ module _ (processes : List Locality) (at : ℕ → ℕ) (g : ℕ) (s : ℕ → B
       each q low true is = taken q (length processes) (at q) (s q) low (can.here q is) (can.were q is)
       each q low false is = kept (within processes at g s q)
 
-  pub some-toggled : (node : Node) (counts : Vec ℕ Global) (comes : Bool) → node ≡ One counts → AreCountersOf processes at s node → g ≤ length processes → CanToggle processes at g s (sets.contains those) comes
+  pub some-toggled : (node : Node) (counts : Vec ℕ Global) (joins : Bool) → node ≡ One counts → AreCountersOf processes at s node → g ≤ length processes → CanToggle processes at g s (sets.contains those) joins
       → (count : ℕ) → count ≡ slice_index_or counts.items g 0 → (answer : Bool)
-      → (comes ≡ true → answer ≡ ltb 0 (count + sets.len those)) → (comes ≡ false → answer ≡ ltb (sets.len those) count)
-      → answer ≡ satisfies processes (tree_of_node node) (within processes at g (toggled_by s (sets.contains those) comes))
+      → (joins ≡ true → answer ≡ ltb 0 (count + sets.len those)) → (joins ≡ false → answer ≡ ltb (sets.len those) count)
+      → answer ≡ satisfies processes (tree_of_node node) (within processes at g (toggled_by s (sets.contains those) joins))
   unfolding AreCountersOf
-  some-toggled node counts comes is right inside can count read answer more less = go comes can more less ∙ ap (λ n. satisfies processes (tree_of_node n) (within processes at g (toggled_by s (sets.contains those) comes))) (sym is)
+  some-toggled node counts joins is right inside can count read answer more less = go joins can more less ∙ ap (λ n. satisfies processes (tree_of_node n) (within processes at g (toggled_by s (sets.contains those) joins))) (sym is)
     where
       r : AreCountersOf processes at s (One counts)
       r = subst (AreCountersOf processes at s) is right
@@ -150,8 +150,8 @@ module _ (processes : List Locality) (at : ℕ → ℕ) (g : ℕ) (s : ℕ → B
       left : (l c n m : ℕ) → c ≡ n → m + l ≡ n → ltb l c ≡ ltb 0 m
       left l c n m e f = grind (arith, nat_tests)
 
-      go : (comes : Bool) → CanToggle processes at g s (sets.contains those) comes → (comes ≡ true → answer ≡ ltb 0 (count + sets.len those)) → (comes ≡ false → answer ≡ ltb (sets.len those) count)
-          → answer ≡ satisfies processes one (within processes at g (toggled_by s (sets.contains those) comes))
+      go : (joins : Bool) → CanToggle processes at g s (sets.contains those) joins → (joins ≡ true → answer ≡ ltb 0 (count + sets.len those)) → (joins ≡ false → answer ≡ ltb (sets.len those) count)
+          → answer ≡ satisfies processes one (within processes at g (toggled_by s (sets.contains those) joins))
       go true can more less = more refl ∙ ap (λ c. ltb 0 (c + sets.len those)) now ∙ ap (ltb 0) (one-came can) ∙ one-number processes _
       go false can more less = less refl ∙ left (sets.len those) count _ _ now (one-went can) ∙ one-number processes _
 
@@ -161,25 +161,25 @@ abbrev pub done : (ℕ → Bool) → (ℕ → Bool) → ℕ → Bool
 done those rest q = those q && not (rest q)
 
 -- the processes of some values came or went already, and those of the others are the rest
-pub record Halfway (processes : List Locality) (at : ℕ → ℕ) (g : ℕ) (s : ℕ → Bool) (key : Key) (tree : Tree) (those : ℕ → Bool) (comes : Bool) (rest : ℕ → Bool) (count : ℕ) : Type 0 where
+pub record Halfway (processes : List Locality) (at : ℕ → ℕ) (g : ℕ) (s : ℕ → Bool) (key : Key) (tree : Tree) (those : ℕ → Bool) (joins : Bool) (rest : ℕ → Bool) (count : ℕ) : Type 0 where
   pub of_those : (q : ℕ) → rest q ≡ true → those q ≡ true
   pub whole : (q x : ℕ) (v : List ℕ) → those q ≡ true → rest q ≡ false → rest x ≡ true → value_of processes key x ≡ Some v → has_value processes key v q ≡ false
-  pub counted : count ≡ passing processes key tree (within processes at g (toggled_by s (done those rest) comes))
+  pub counted : count ≡ passing processes key tree (within processes at g (toggled_by s (done those rest) joins))
 
-module _ (processes : List Locality) (at : ℕ → ℕ) (g : ℕ) (s : ℕ → Bool) (key : Key) (tree : Tree) (those : ℕ → Bool) (comes : Bool) where
+module _ (processes : List Locality) (at : ℕ → ℕ) (g : ℕ) (s : ℕ → Bool) (key : Key) (tree : Tree) (those : ℕ → Bool) (joins : Bool) where
   none-and : (b : Bool) → (b && not b) ≡ false
   none-and true = refl
   none-and false = refl
 
-  pub halfway-first : (count : ℕ) → count ≡ passing processes key tree (within processes at g s) → Halfway processes at g s key tree those comes those count
+  pub halfway-first : (count : ℕ) → count ≡ passing processes key tree (within processes at g s) → Halfway processes at g s key tree those joins those count
   halfway-first count is = record {
     of_those = λ q e. e;
     whole = λ q x v there gone. absurd (true≢false (sym there ∙ gone));
-    counted = is ∙ sym (λ i. passing processes key tree (within processes at g (λ q. cond (none-and (those q) i) comes (s q))));
+    counted = is ∙ sym (λ i. passing processes key tree (within processes at g (λ q. cond (none-and (those q) i) joins (s q))));
   }
 
-  pub halfway-last : (rest : sets.FinSet nat_cmp) (count : ℕ) → rest ≡ sets.empty → Halfway processes at g s key tree those comes (sets.contains rest) count → count ≡ passing processes key tree (within processes at g (toggled_by s those comes))
-  halfway-last rest count none half = half.counted ∙ (λ i. passing processes key tree (within processes at g (λ q. cond (all q i) comes (s q))))
+  pub halfway-last : (rest : sets.FinSet nat_cmp) (count : ℕ) → rest ≡ sets.empty → Halfway processes at g s key tree those joins (sets.contains rest) count → count ≡ passing processes key tree (within processes at g (toggled_by s those joins))
+  halfway-last rest count none half = half.counted ∙ (λ i. passing processes key tree (within processes at g (λ q. cond (all q i) joins (s q))))
     where
       with-none : (b c : Bool) → c ≡ false → (b && not c) ≡ b
       with-none true true e = absurd (true≢false e)
@@ -191,7 +191,7 @@ module _ (processes : List Locality) (at : ℕ → ℕ) (g : ℕ) (s : ℕ → B
 
   -- a process without the key is dropped
   pub halfway-keyless : (rest rest' : sets.FinSet nat_cmp) (count p : ℕ) → rest' ≡ sets.remove rest p → value_of processes key p ≡ None
-      → Halfway processes at g s key tree those comes (sets.contains rest) count → Halfway processes at g s key tree those comes (sets.contains rest') count
+      → Halfway processes at g s key tree those joins (sets.contains rest) count → Halfway processes at g s key tree those joins (sets.contains rest') count
   halfway-keyless rest rest' count p is keyless half = record {
     of_those = λ q e. half.of_those q (second (eqb q p) (sets.contains rest q) (sym (left q) ∙ e));
     whole = λ q x v there gone now has. elim (cases_eq q p) [
@@ -200,8 +200,8 @@ module _ (processes : List Locality) (at : ℕ → ℕ) (g : ℕ) (s : ℕ → B
     ];
     counted =
         half.counted
-        ∙ passing-keyless' processes key tree _ (within processes at g (toggled_by s (done those (sets.contains rest')) comes)) p keyless
-        (λ x other. ap (λ b. ltb x (length processes) && (eqb (at x) g && cond (those x && not b) comes (s x))) (sym (apart x other)));
+        ∙ passing-keyless' processes key tree _ (within processes at g (toggled_by s (done those (sets.contains rest')) joins)) p keyless
+        (λ x other. ap (λ b. ltb x (length processes) && (eqb (at x) g && cond (those x && not b) joins (s x))) (sym (apart x other)));
   }
     where
       left : (x : ℕ) → sets.contains rest' x ≡ (not (eqb x p) && sets.contains rest x)
@@ -219,9 +219,9 @@ module _ (processes : List Locality) (at : ℕ → ℕ) (g : ℕ) (s : ℕ → B
 
   -- the processes of one value
   module _ (rest peers part rest' : sets.FinSet nat_cmp) (p : ℕ) (v : List ℕ) (has : value_of processes key p ≡ Some v)
-      (are : (x : ℕ) → sets.contains peers x ≡ has_value processes key v x) (split_by_key : part ≡ sets.intersection rest peers) (left : rest' ≡ sets.difference rest part) where
+      (are : (x : ℕ) → sets.contains peers x ≡ has_value processes key v x) (representatives_by_key : part ≡ sets.intersection rest peers) (left : rest' ≡ sets.difference rest part) where
     in-part : (x : ℕ) → sets.contains part x ≡ (sets.contains rest x && has_value processes key v x)
-    in-part x = ap (λ t. sets.contains t x) split_by_key ∙ sets.contains-intersection nat_cmp_total rest peers x ∙ ap (λ b. sets.contains rest x && b) (are x)
+    in-part x = ap (λ t. sets.contains t x) representatives_by_key ∙ sets.contains-intersection nat_cmp_total rest peers x ∙ ap (λ b. sets.contains rest x && b) (are x)
 
     in-rest : (x : ℕ) → sets.contains rest' x ≡ (sets.contains rest x && not (has_value processes key v x))
     in-rest x = ap (λ t. sets.contains t x) left ∙ sets.contains-difference nat_cmp_total rest part x ∙ ap (λ b. sets.contains rest x && not b) (in-part x) ∙ once (sets.contains rest x) (has_value processes key v x)
@@ -246,9 +246,9 @@ module _ (processes : List Locality) (at : ℕ → ℕ) (g : ℕ) (s : ℕ → B
     itself = ap (λ o. option_eq bytes_eq o (Some v)) has ∙ nat_list_eq_equiv.refl v
 
     -- what stands in the part stands together below
-    pub part-can : (below : ℕ → ℕ) (present : sets.contains rest p ≡ true) (count : ℕ) → CanToggle processes at g s those comes → Halfway processes at g s key tree those comes (sets.contains rest) count
+    pub part-can : (below : ℕ → ℕ) (present : sets.contains rest p ≡ true) (count : ℕ) → CanToggle processes at g s those joins → Halfway processes at g s key tree those joins (sets.contains rest) count
         → ((q : ℕ) → q < length processes → eqb (below q) (below p) ≡ (eqb (at q) (at p) && has_value processes key v q))
-        → CanToggle processes below (below p) s (sets.contains part) comes
+        → CanToggle processes below (below p) s (sets.contains part) joins
     part-can below present count can half same = record {
       known = λ q e. can.known q (of q e);
       here = λ q e. equal (below q) (below p) (same q (can.known q (of q e)) ∙ together q (can.here q (of q e)) (can.here p (half.of_those p present)) (and-second _ _ (sym (in-part q) ∙ e)));
@@ -267,12 +267,12 @@ module _ (processes : List Locality) (at : ℕ → ℕ) (g : ℕ) (s : ℕ → B
         together : (q : ℕ) → at q ≡ g → at p ≡ g → has_value processes key v q ≡ true → (eqb (at q) (at p) && has_value processes key v q) ≡ true
         together q e f is = both (at q) (at p) _ e f is
 
-    module _ (count : ℕ) (half : Halfway processes at g s key tree those comes (sets.contains rest) count) (present : sets.contains rest p ≡ true) where
+    module _ (count : ℕ) (half : Halfway processes at g s key tree those joins (sets.contains rest) count) (present : sets.contains rest p ≡ true) where
       abbrev before : ℕ → Bool
-      before = toggled_by s (done those (sets.contains rest)) comes
+      before = toggled_by s (done those (sets.contains rest)) joins
 
       abbrev pub after : ℕ → Bool
-      after = toggled_by s (done those (sets.contains rest')) comes
+      after = toggled_by s (done those (sets.contains rest')) joins
 
       -- of the value's own processes none was looked at before, and all are after
       own-before : group processes key v (within processes at g before) ≡ group processes key v (within processes at g s)
@@ -288,10 +288,10 @@ module _ (processes : List Locality) (at : ℕ → ℕ) (g : ℕ) (s : ℕ → B
           none false r c d h = refl
 
           each : (x : ℕ) (b : Bool) → has_value processes key v x ≡ b → (within processes at g before x && has_value processes key v x) ≡ (within processes at g s x && has_value processes key v x)
-          each x true e = ap (λ b. (ltb x (length processes) && (eqb (at x) g && b)) && has_value processes key v x) (none (those x) (sets.contains rest x) comes (s x) (λ t r. true≢false (sym e ∙ half.whole x p v t r present has)))
+          each x true e = ap (λ b. (ltb x (length processes) && (eqb (at x) g && b)) && has_value processes key v x) (none (those x) (sets.contains rest x) joins (s x) (λ t r. true≢false (sym e ∙ half.whole x p v t r present has)))
           each x false e = ap (λ b. within processes at g before x && b) e ∙ nothing _ ∙ sym (nothing _) ∙ ap (λ b. within processes at g s x && b) (sym e)
 
-      own-after : group processes key v (within processes at g after) ≡ group processes key v (within processes at g (toggled_by s (sets.contains part) comes))
+      own-after : group processes key v (within processes at g after) ≡ group processes key v (within processes at g (toggled_by s (sets.contains part) joins))
       own-after = λ i x. each x (has_value processes key v x) refl i
         where
           nothing : (a : Bool) → (a && false) ≡ false
@@ -304,15 +304,15 @@ module _ (processes : List Locality) (at : ℕ → ℕ) (g : ℕ) (s : ℕ → B
           all false true h k = absurd (true≢false (sym (k refl)))
           all false false h k = refl
 
-          each : (x : ℕ) (b : Bool) → has_value processes key v x ≡ b → (within processes at g after x && has_value processes key v x) ≡ (within processes at g (toggled_by s (sets.contains part) comes) x && has_value processes key v x)
-          each x true e = ap (λ b. (ltb x (length processes) && (eqb (at x) g && cond b comes (s x))) && has_value processes key v x)
+          each : (x : ℕ) (b : Bool) → has_value processes key v x ≡ b → (within processes at g after x && has_value processes key v x) ≡ (within processes at g (toggled_by s (sets.contains part) joins) x && has_value processes key v x)
+          each x true e = ap (λ b. (ltb x (length processes) && (eqb (at x) g && cond b joins (s x))) && has_value processes key v x)
               (ap (λ b. those x && not b) (in-rest x) ∙ ap (λ b. those x && not (sets.contains rest x && not b)) e
               ∙ all (those x) (sets.contains rest x) (λ t r. true≢false (sym e ∙ half.whole x p v t r present has)) (half.of_those x)
               ∙ ap (λ b. sets.contains rest x && b) (sym e) ∙ sym (in-part x))
-          each x false e = ap (λ b. within processes at g after x && b) e ∙ nothing _ ∙ sym (nothing _) ∙ ap (λ b. within processes at g (toggled_by s (sets.contains part) comes) x && b) (sym e)
+          each x false e = ap (λ b. within processes at g after x && b) e ∙ nothing _ ∙ sym (nothing _) ∙ ap (λ b. within processes at g (toggled_by s (sets.contains part) joins) x && b) (sym e)
 
       others : (x : ℕ) → has_value processes key v x ≡ false → within processes at g before x ≡ within processes at g after x
-      others x lacks = ap (λ b. ltb x (length processes) && (eqb (at x) g && cond (those x && not b) comes (s x))) (sym (in-rest x ∙ ap (λ b. sets.contains rest x && not b) lacks ∙ same (sets.contains rest x)))
+      others x lacks = ap (λ b. ltb x (length processes) && (eqb (at x) g && cond (those x && not b) joins (s x))) (sym (in-rest x ∙ ap (λ b. sets.contains rest x && not b) lacks ∙ same (sets.contains rest x)))
         where
           same : (b : Bool) → (b && true) ≡ b
           same true = refl
@@ -320,7 +320,7 @@ module _ (processes : List Locality) (at : ℕ → ℕ) (g : ℕ) (s : ℕ → B
 
       pub exchanged : ValuesDiffer → ValuesOccur → IsWellFormed tree → (was is : Bool)
           → was ≡ satisfies processes tree (group processes key v (within processes at g s))
-          → is ≡ satisfies processes tree (group processes key v (within processes at g (toggled_by s (sets.contains part) comes)))
+          → is ≡ satisfies processes tree (group processes key v (within processes at g (toggled_by s (sets.contains part) joins)))
           → passing processes key tree (within processes at g after) + cond was 1 0 ≡ count + cond is 1 0
       exchanged differ occur formed was is e f =
           ap (λ b. passing processes key tree (within processes at g after) + cond b 1 0) (e ∙ ap (satisfies processes tree) (sym own-before))
@@ -331,7 +331,7 @@ module _ (processes : List Locality) (at : ℕ → ℕ) (g : ℕ) (s : ℕ → B
       pub halfway-next : (count' : ℕ) (was is : Bool) → length processes ≤ 1024
           → (count < 2147483648 → cond was 1 0 ≤ count + cond is 1 0 → count' + cond was 1 0 ≡ count + cond is 1 0)
           → passing processes key tree (within processes at g after) + cond was 1 0 ≡ count + cond is 1 0
-          → Halfway processes at g s key tree those comes (sets.contains rest') count'
+          → Halfway processes at g s key tree those joins (sets.contains rest') count'
       halfway-next count' was is few change sum = record {
         of_those = λ q e. half.of_those q (and-first _ _ (sym (in-rest q) ∙ e));
         whole = λ q x w there gone now at-x. keep q x w there (sets.contains rest q) refl (has_value processes key v q) refl gone (and-first _ _ (sym (in-rest x) ∙ now)) (not-true _ (and-second _ _ (sym (in-rest x) ∙ now))) at-x;
@@ -379,9 +379,9 @@ module _ (processes : List Locality) (at : ℕ → ℕ) (s : ℕ → Bool) (g : 
       read ∙ r.0.each g inside
 
   module _ (few : length processes ≤ 1024) (inside : g ≤ length processes) (node : Node) (wanted : ℕ) (key : Key) (places counts : Vec ℕ Global) (inner : Box Node Global) (is : node ≡ Across wanted key places counts inner) (right : AreCountersOf processes at s node)
-      (those : sets.FinSet nat_cmp) (comes : Bool) (rest peers part rest' : sets.FinSet nat_cmp) (p : ℕ) (v : List ℕ) (has : value_of processes key p ≡ Some v)
-      (are : (x : ℕ) → sets.contains peers x ≡ has_value processes key v x) (split_by_key : part ≡ sets.intersection rest peers) (left : rest' ≡ sets.difference rest part)
-      (can : CanToggle processes at g s (sets.contains those) comes) (count : ℕ) (half : Halfway processes at g s key (tree_of_node inner.value) (sets.contains those) comes (sets.contains rest) count) (present : sets.contains rest p ≡ true) where
+      (those : sets.FinSet nat_cmp) (joins : Bool) (rest peers part rest' : sets.FinSet nat_cmp) (p : ℕ) (v : List ℕ) (has : value_of processes key p ≡ Some v)
+      (are : (x : ℕ) → sets.contains peers x ≡ has_value processes key v x) (representatives_by_key : part ≡ sets.intersection rest peers) (left : rest' ≡ sets.difference rest part)
+      (can : CanToggle processes at g s (sets.contains those) joins) (count : ℕ) (half : Halfway processes at g s key (tree_of_node inner.value) (sets.contains those) joins (sets.contains rest) count) (present : sets.contains rest p ≡ true) where
     r : AreCountersOf processes at s (Across wanted key places counts inner)
     r = subst (AreCountersOf processes at s) is right
 
@@ -392,11 +392,11 @@ module _ (processes : List Locality) (at : ℕ → ℕ) (s : ℕ → Bool) (g : 
     small = can.known p one-of
 
     its-group : (t : ℕ → Bool) → group processes key v (within processes at g t) ≡ within processes (group_at places.items) (group_at places.items p) t
-    its-group t = regroup processes at s p comes g few small (can.here p one-of) inside (can.were p one-of) node wanted key places counts inner is right v has t
+    its-group t = regroup processes at s p joins g few small (can.here p one-of) inside (can.were p one-of) node wanted key places counts inner is right v has t
 
-    below-can : CanToggle processes (group_at places.items) (group_at places.items p) s (sets.contains part) comes
+    below-can : CanToggle processes (group_at places.items) (group_at places.items p) s (sets.contains part) joins
     unfolding AreCountersOf
-    below-can = part-can processes at g s key (tree_of_node inner.value) (sets.contains those) comes rest peers part rest' p v has are split_by_key left (group_at places.items) present count can half (λ q low. r.2.same p q v small low has)
+    below-can = part-can processes at g s key (tree_of_node inner.value) (sets.contains those) joins rest peers part rest' p v has are representatives_by_key left (group_at places.items) present count can half (λ q low. r.2.same p q v small low has)
 
     fits : group_at places.items p ≤ length processes
     unfolding AreCountersOf
@@ -412,34 +412,34 @@ module _ (processes : List Locality) (at : ℕ → ℕ) (s : ℕ → Bool) (g : 
 
     pub across-next : ValuesDiffer → ValuesOccur → (below : ℕ) → below ≡ group_at places.items p
         → (a : Node) → a ≡ inner.value → (was : Bool) → ((processes : List Locality) (at : ℕ → ℕ) (s : ℕ → Bool) → AreCountersOf processes at s a → below ≤ length processes → was ≡ satisfies processes (tree_of_node a) (within processes at below s))
-        → (b : Node) → b ≡ inner.value → (now : Bool) → ((at : ℕ → ℕ) (s : ℕ → Bool) → AreCountersAt processes at s below b → CanToggle processes at below s (sets.contains part) comes
-        → now ≡ satisfies processes (tree_of_node b) (within processes at below (toggled_by s (sets.contains part) comes)))
+        → (b : Node) → b ≡ inner.value → (now : Bool) → ((at : ℕ → ℕ) (s : ℕ → Bool) → AreCountersAt processes at s below b → CanToggle processes at below s (sets.contains part) joins
+        → now ≡ satisfies processes (tree_of_node b) (within processes at below (toggled_by s (sets.contains part) joins)))
         → (count' : ℕ) → (count < 2147483648 → cond was 1 0 ≤ count + cond now 1 0 → count' + cond was 1 0 ≡ count + cond now 1 0)
-        → Halfway processes at g s key (tree_of_node inner.value) (sets.contains those) comes (sets.contains rest') count'
+        → Halfway processes at g s key (tree_of_node inner.value) (sets.contains those) joins (sets.contains rest') count'
     across-next differ occur below place a a-is was reads b b-is now asks count' change =
-        halfway-next processes at g s key (tree_of_node inner.value) (sets.contains those) comes rest peers part rest' p v has are split_by_key left count half present count' was now few change
-        (exchanged processes at g s key (tree_of_node inner.value) (sets.contains those) comes rest peers part rest' p v has are split_by_key left count half present differ occur formed was now
+        halfway-next processes at g s key (tree_of_node inner.value) (sets.contains those) joins rest peers part rest' p v has are representatives_by_key left count half present count' was now few change
+        (exchanged processes at g s key (tree_of_node inner.value) (sets.contains those) joins rest peers part rest' p v has are representatives_by_key left count half present differ occur formed was now
         (reads processes (group_at places.items) s (subst (AreCountersOf processes (group_at places.items) s) (sym a-is) inner-right) low
         ∙ (λ i. satisfies processes (tree_of_node (a-is i)) (within processes (group_at places.items) (place i) s))
         ∙ ap (satisfies processes (tree_of_node inner.value)) (sym (its-group s)))
-        (asks (group_at places.items) s (record { few = few; right = subst (AreCountersOf processes (group_at places.items) s) (sym b-is) inner-right; inside = low }) (subst (λ k. CanToggle processes (group_at places.items) k s (sets.contains part) comes) (sym place) below-can)
-        ∙ (λ i. satisfies processes (tree_of_node (b-is i)) (within processes (group_at places.items) (place i) (toggled_by s (sets.contains part) comes)))
-        ∙ ap (satisfies processes (tree_of_node inner.value)) (sym (its-group (toggled_by s (sets.contains part) comes)))))
+        (asks (group_at places.items) s (record { few = few; right = subst (AreCountersOf processes (group_at places.items) s) (sym b-is) inner-right; inside = low }) (subst (λ k. CanToggle processes (group_at places.items) k s (sets.contains part) joins) (sym place) below-can)
+        ∙ (λ i. satisfies processes (tree_of_node (b-is i)) (within processes (group_at places.items) (place i) (toggled_by s (sets.contains part) joins)))
+        ∙ ap (satisfies processes (tree_of_node inner.value)) (sym (its-group (toggled_by s (sets.contains part) joins)))))
       where
         low : below ≤ length processes
         low = subst (λ k. k ≤ length processes) (sym place) fits
 
 -- ---- each process changes a count by one at most
-module _ (processes : List Locality) (at : ℕ → ℕ) (g : ℕ) (s : ℕ → Bool) (key : Key) (tree : Tree) (differ : ValuesDiffer) (occur : ValuesOccur) (formed : IsWellFormed tree) (f : ℕ → Bool) (comes : Bool) where
+module _ (processes : List Locality) (at : ℕ → ℕ) (g : ℕ) (s : ℕ → Bool) (key : Key) (tree : Tree) (differ : ValuesDiffer) (occur : ValuesOccur) (formed : IsWellFormed tree) (f : ℕ → Bool) (joins : Bool) where
   -- those below m came or went
   abbrev some : ℕ → ℕ → Bool
-  some m = toggled_by s (λ q. f q && ltb q m) comes
+  some m = toggled_by s (λ q. f q && ltb q m) joins
 
   abbrev all : (ℕ → Bool) → ℕ
   all t = passing processes key tree (within processes at g t)
 
   none-yet : all (some 0) ≡ all s
-  none-yet = λ i. all (λ q. cond (nobody q (f q) i) comes (s q))
+  none-yet = λ i. all (λ q. cond (nobody q (f q) i) joins (s q))
     where
       nobody : (q : ℕ) (b : Bool) → (b && ltb q 0) ≡ false
       nobody q b = grind (arith, nat_tests)
@@ -463,7 +463,7 @@ module _ (processes : List Locality) (at : ℕ → ℕ) (g : ℕ) (s : ℕ → B
       kept q m b ne = grind (arith, nat_tests)
 
       apart : (q : ℕ) → q ≢ m → within processes at g (some m) q ≡ within processes at g (some (suc m)) q
-      apart q other = ap (λ b. ltb q (length processes) && (eqb (at q) g && cond b comes (s q))) (sym (kept q m (f q) other))
+      apart q other = ap (λ b. ltb q (length processes) && (eqb (at q) g && cond b joins (s q))) (sym (kept q m (f q) other))
 
       lacks : (q : ℕ) (b : Bool) → b ≡ false → (b && ltb q (suc m)) ≡ (b && ltb q m)
       lacks q b e = grind arith
@@ -477,7 +477,7 @@ module _ (processes : List Locality) (at : ℕ → ℕ) (g : ℕ) (s : ℕ → B
 
       go : (b : Bool) → f m ≡ b → (all (some (suc m)) ≤ all (some m) + cond b 1 0) × (all (some m) ≤ all (some (suc m)) + cond b 1 0)
       go true e = keyed (value_of processes key m) refl
-      go false e = level _ _ (λ i. all (λ q. cond (same q i) comes (s q)))
+      go false e = level _ _ (λ i. all (λ q. cond (same q i) joins (s q)))
         where
           same : (q : ℕ) → (f q && ltb q (suc m)) ≡ (f q && ltb q m)
           same q = elim (cases_eq q m) [ inl here ↦ lacks q (f q) (ap f here ∙ e) | inr other ↦ kept q m (f q) other ]
@@ -492,10 +492,10 @@ module _ (processes : List Locality) (at : ℕ → ℕ) (g : ℕ) (s : ℕ → B
       sums : (a b c d e : ℕ) → (a ≤ b + d) × (b ≤ a + d) → (b ≤ c + e) × (c ≤ b + e) → (a ≤ c + (d + e)) × (c ≤ a + (d + e))
       sums a b c d e h k = (let x : a ≤ b + d = h.0 in let y : b ≤ c + e = k.0 in omega arith, let x : b ≤ a + d = h.1 in let y : c ≤ b + e = k.1 in omega arith)
 
-  pub near-all : ((q : ℕ) → f q ≡ true → q < length processes) → (all (toggled_by s f comes) ≤ all s + number_of f (length processes)) × (all s ≤ all (toggled_by s f comes) + number_of f (length processes))
+  pub near-all : ((q : ℕ) → f q ≡ true → q < length processes) → (all (toggled_by s f joins) ≤ all s + number_of f (length processes)) × (all s ≤ all (toggled_by s f joins) + number_of f (length processes))
   near-all known =
       subst (λ n. (n ≤ all s + number_of f (length processes)) × (all s ≤ n + number_of f (length processes)))
-      (λ i. all (λ q. cond (each q (f q) (known q) i) comes (s q))) (near-some (length processes))
+      (λ i. all (λ q. cond (each q (f q) (known q) i) joins (s q))) (near-some (length processes))
     where
       each : (q : ℕ) (b : Bool) → (b ≡ true → q < length processes) → (b && ltb q (length processes)) ≡ b
       each q true h = let low : q < length processes = h refl in grind (arith, nat_tests)
@@ -503,17 +503,17 @@ module _ (processes : List Locality) (at : ℕ → ℕ) (g : ℕ) (s : ℕ → B
 
 -- a count that so few can't change enough
 module _ (processes : List Locality) (at : ℕ → ℕ) (s : ℕ → Bool) (g : ℕ) (node : Node) (wanted : ℕ) (key : Key) (places counts : Vec ℕ Global) (inner : Box Node Global) (is : node ≡ Across wanted key places counts inner) (right : AreCountersOf processes at s node) where
-  pub out-of-reach : ValuesDiffer → ValuesOccur → g ≤ length processes → (those : sets.FinSet nat_cmp) (comes : Bool) → CanToggle processes at g s (sets.contains those) comes
+  pub out-of-reach : ValuesDiffer → ValuesOccur → g ≤ length processes → (those : sets.FinSet nat_cmp) (joins : Bool) → CanToggle processes at g s (sets.contains those) joins
       → (count : ℕ) → count ≡ slice_index_or counts.items g 0
-      → (comes ≡ true → count + sets.len those < wanted) → (comes ≡ false → wanted + sets.len those ≤ count)
-      → not comes ≡ satisfies processes (tree_of_node node) (within processes at g (toggled_by s (sets.contains those) comes))
+      → (joins ≡ true → count + sets.len those < wanted) → (joins ≡ false → wanted + sets.len those ≤ count)
+      → not joins ≡ satisfies processes (tree_of_node node) (within processes at g (toggled_by s (sets.contains those) joins))
   unfolding AreCountersOf
-  out-of-reach differ occur inside those comes can count read more less =
-      go comes (passing processes key (tree_of_node inner.value) (within processes at g (toggled_by s (sets.contains those) comes))) more less
-      (subst (λ k. (passing processes key (tree_of_node inner.value) (within processes at g (toggled_by s (sets.contains those) comes)) ≤ passing processes key (tree_of_node inner.value) (within processes at g s) + k)
-      × (passing processes key (tree_of_node inner.value) (within processes at g s) ≤ passing processes key (tree_of_node inner.value) (within processes at g (toggled_by s (sets.contains those) comes)) + k)) (number-len those (length processes) can.known)
-      (near-all processes at g s key (tree_of_node inner.value) differ occur r.1 (sets.contains those) comes can.known))
-      ∙ across-toggled-by processes at g node wanted key places counts inner is (toggled_by s (sets.contains those) comes) _ refl
+  out-of-reach differ occur inside those joins can count read more less =
+      go joins (passing processes key (tree_of_node inner.value) (within processes at g (toggled_by s (sets.contains those) joins))) more less
+      (subst (λ k. (passing processes key (tree_of_node inner.value) (within processes at g (toggled_by s (sets.contains those) joins)) ≤ passing processes key (tree_of_node inner.value) (within processes at g s) + k)
+      × (passing processes key (tree_of_node inner.value) (within processes at g s) ≤ passing processes key (tree_of_node inner.value) (within processes at g (toggled_by s (sets.contains those) joins)) + k)) (number-len those (length processes) can.known)
+      (near-all processes at g s key (tree_of_node inner.value) differ occur r.1 (sets.contains those) joins can.known))
+      ∙ across-toggled-by processes at g node wanted key places counts inner is (toggled_by s (sets.contains those) joins) _ refl
     where
       r : AreCountersOf processes at s (Across wanted key places counts inner)
       r = subst (AreCountersOf processes at s) is right
@@ -527,25 +527,25 @@ module _ (processes : List Locality) (at : ℕ → ℕ) (s : ℕ → Bool) (g : 
       enough : (c n l m w : ℕ) → c ≡ n → n ≤ m + l → w + l ≤ c → true ≡ leb w m
       enough c n l m w e h k = grind (arith, nat_tests)
 
-      go : (comes : Bool) (after : ℕ) → (comes ≡ true → count + sets.len those < wanted) → (comes ≡ false → wanted + sets.len those ≤ count)
+      go : (joins : Bool) (after : ℕ) → (joins ≡ true → count + sets.len those < wanted) → (joins ≡ false → wanted + sets.len those ≤ count)
           → (after ≤ passing processes key (tree_of_node inner.value) (within processes at g s) + sets.len those) × (passing processes key (tree_of_node inner.value) (within processes at g s) ≤ after + sets.len those)
-          → not comes ≡ leb wanted after
+          → not joins ≡ leb wanted after
       go true after more less near = short count _ (sets.len those) after wanted now near.0 (more refl)
       go false after more less near = enough count _ (sets.len those) after wanted now near.1 (less refl)
 
 -- ---- one process alone
-module _ (processes : List Locality) (at : ℕ → ℕ) (s : ℕ → Bool) (p : ℕ) (comes : Bool) (g : ℕ) (few : length processes ≤ 1024) (small : p < length processes) (here : at p ≡ g) (inside : g ≤ length processes) (was : s p ≡ not comes) (node : Node) where
-  pub one-alone : (counts : Vec ℕ Global) → node ≡ One counts → AreCountersOf processes at s node → (count : ℕ) → count ≡ slice_index_or counts.items g 0 → (answer : Bool) → answer ≡ (comes || ltb 1 count)
-      → answer ≡ satisfies processes (tree_of_node node) (within processes at g (toggled s p comes))
+module _ (processes : List Locality) (at : ℕ → ℕ) (s : ℕ → Bool) (p : ℕ) (joins : Bool) (g : ℕ) (few : length processes ≤ 1024) (small : p < length processes) (here : at p ≡ g) (inside : g ≤ length processes) (was : s p ≡ not joins) (node : Node) where
+  pub one-alone : (counts : Vec ℕ Global) → node ≡ One counts → AreCountersOf processes at s node → (count : ℕ) → count ≡ slice_index_or counts.items g 0 → (answer : Bool) → answer ≡ (joins || ltb 1 count)
+      → answer ≡ satisfies processes (tree_of_node node) (within processes at g (toggled s p joins))
   unfolding AreCountersOf
   one-alone counts is right count read answer told =
       told
-      ∙ beside comes count _ _ (read ∙ r.each g inside)
-      (ap (λ b. number_of (within processes at g (toggled s p comes)) (length processes) + cond b 1 0) (sym (its-own processes at s p comes g few small here inside was s (not comes) was))
-      ∙ number-toggled (within processes at g s) (within processes at g (toggled s p comes)) (length processes) p small (λ q apart. within-apart processes at s p comes g q apart)
-      ∙ ap (λ b. number_of (within processes at g s) (length processes) + cond b 1 0) (its-own processes at s p comes g few small here inside was (toggled s p comes) comes (now-is processes at s p comes g few small here inside was)))
-      ∙ one-number processes (within processes at g (toggled s p comes))
-      ∙ ap (λ n. satisfies processes (tree_of_node n) (within processes at g (toggled s p comes))) (sym is)
+      ∙ beside joins count _ _ (read ∙ r.each g inside)
+      (ap (λ b. number_of (within processes at g (toggled s p joins)) (length processes) + cond b 1 0) (sym (its-own processes at s p joins g few small here inside was s (not joins) was))
+      ∙ number-toggled (within processes at g s) (within processes at g (toggled s p joins)) (length processes) p small (λ q apart. within-apart processes at s p joins g q apart)
+      ∙ ap (λ b. number_of (within processes at g s) (length processes) + cond b 1 0) (its-own processes at s p joins g few small here inside was (toggled s p joins) joins (now-is processes at s p joins g few small here inside was)))
+      ∙ one-number processes (within processes at g (toggled s p joins))
+      ∙ ap (λ n. satisfies processes (tree_of_node n) (within processes at g (toggled s p joins))) (sym is)
     where
       r : AreCountersOf processes at s (One counts)
       r = subst (AreCountersOf processes at s) is right
@@ -556,7 +556,7 @@ module _ (processes : List Locality) (at : ℕ → ℕ) (s : ℕ → Bool) (p : 
       less : (c n m : ℕ) → c ≡ n → m + 1 ≡ n + 0 → ltb 1 c ≡ ltb 0 m
       less c n m e f = grind (arith, nat_tests)
 
-      beside : (comes : Bool) (c n m : ℕ) → c ≡ n → m + cond (not comes) 1 0 ≡ n + cond comes 1 0 → (comes || ltb 1 c) ≡ ltb 0 m
+      beside : (joins : Bool) (c n m : ℕ) → c ≡ n → m + cond (not joins) 1 0 ≡ n + cond joins 1 0 → (joins || ltb 1 c) ≡ ltb 0 m
       beside true c n m e f = more n m f
       beside false c n m e f = less c n m e f
 
@@ -570,10 +570,10 @@ module _ (processes : List Locality) (at : ℕ → ℕ) (s : ℕ → Bool) (p : 
         let r : AreCountersOf processes at s (Across wanted key places counts inner) = subst (AreCountersOf processes at s) is right in
         r.1
 
-    pub keyless-alone : is_some (value_of processes key p) ≡ false → leb wanted count ≡ satisfies processes (tree_of_node node) (within processes at g (toggled s p comes))
+    pub keyless-alone : is_some (value_of processes key p) ≡ false → leb wanted count ≡ satisfies processes (tree_of_node node) (within processes at g (toggled s p joins))
     keyless-alone lacks =
-        across-toggled-by processes at g node wanted key places counts inner is (toggled s p comes) count
-        (now-count ∙ passing-keyless' processes key (tree_of_node inner.value) (within processes at g s) (within processes at g (toggled s p comes)) p (without _ lacks) (λ x apart. within-apart processes at s p comes g x apart))
+        across-toggled-by processes at g node wanted key places counts inner is (toggled s p joins) count
+        (now-count ∙ passing-keyless' processes key (tree_of_node inner.value) (within processes at g s) (within processes at g (toggled s p joins)) p (without _ lacks) (λ x apart. within-apart processes at s p joins g x apart))
       where
         without : (o : Option (List ℕ)) → is_some o ≡ false → o ≡ None
         without None e = refl
@@ -581,9 +581,9 @@ module _ (processes : List Locality) (at : ℕ → ℕ) (s : ℕ → Bool) (p : 
 
     pub keyed-alone : ValuesDiffer → ValuesOccur → is_some (value_of processes key p) ≡ true → (before after : Bool)
         → before ≡ satisfies processes (tree_of_node inner.value) (within processes (group_at places.items) (group_at places.items p) s)
-        → after ≡ satisfies processes (tree_of_node inner.value) (within processes (group_at places.items) (group_at places.items p) (toggled s p comes))
+        → after ≡ satisfies processes (tree_of_node inner.value) (within processes (group_at places.items) (group_at places.items p) (toggled s p joins))
         → (count' : ℕ) → (count < 2147483648 → cond before 1 0 ≤ count + cond after 1 0 → count' + cond before 1 0 ≡ count + cond after 1 0)
-        → leb wanted count' ≡ satisfies processes (tree_of_node node) (within processes at g (toggled s p comes))
+        → leb wanted count' ≡ satisfies processes (tree_of_node node) (within processes at g (toggled s p joins))
     keyed-alone differ occur some before after b a count' change = go (value_of processes key p) refl some
       where
         small-count : (x y m : ℕ) → x ≡ y → y ≤ m → m ≤ 1024 → x < 2147483648
@@ -595,22 +595,22 @@ module _ (processes : List Locality) (at : ℕ → ℕ) (s : ℕ → Bool) (p : 
         same : (x n a b c : ℕ) → x + a ≡ b + c → n + a ≡ b + c → x ≡ n
         same x n a b c e f = omega arith
 
-        go : (o : Option (List ℕ)) → value_of processes key p ≡ o → is_some o ≡ true → leb wanted count' ≡ satisfies processes (tree_of_node node) (within processes at g (toggled s p comes))
+        go : (o : Option (List ℕ)) → value_of processes key p ≡ o → is_some o ≡ true → leb wanted count' ≡ satisfies processes (tree_of_node node) (within processes at g (toggled s p joins))
         go None e h = absurd (true≢false (sym h))
         go (Some v) has h =
             let itself : has_value processes key v p ≡ true = ap (λ o. option_eq bytes_eq o (Some v)) has ∙ nat_list_eq_equiv.refl v in
-            let group-is = λ (t : ℕ → Bool). regroup processes at s p comes g few small here inside was node wanted key places counts inner is right v has t in
-            let sum : passing processes key (tree_of_node inner.value) (within processes at g (toggled s p comes)) + cond before 1 0 ≡ count + cond after 1 0 =
-            ap (λ b. passing processes key (tree_of_node inner.value) (within processes at g (toggled s p comes)) + cond b 1 0) (b ∙ ap (satisfies processes (tree_of_node inner.value)) (sym (group-is s)))
-            ∙ passing-toggled processes key (tree_of_node inner.value) differ occur formed-below (within processes at g s) (within processes at g (toggled s p comes)) p v has (λ x lacks. within-apart processes at s p comes g x (λ e. true≢false (sym itself ∙ ap (has_value processes key v) (sym e) ∙ lacks)))
-            ∙ (λ i. (sym now-count) i + cond (satisfies processes (tree_of_node inner.value) (group-is (toggled s p comes) i)) 1 0)
+            let group-is = λ (t : ℕ → Bool). regroup processes at s p joins g few small here inside was node wanted key places counts inner is right v has t in
+            let sum : passing processes key (tree_of_node inner.value) (within processes at g (toggled s p joins)) + cond before 1 0 ≡ count + cond after 1 0 =
+            ap (λ b. passing processes key (tree_of_node inner.value) (within processes at g (toggled s p joins)) + cond b 1 0) (b ∙ ap (satisfies processes (tree_of_node inner.value)) (sym (group-is s)))
+            ∙ passing-toggled processes key (tree_of_node inner.value) differ occur formed-below (within processes at g s) (within processes at g (toggled s p joins)) p v has (λ x lacks. within-apart processes at s p joins g x (λ e. true≢false (sym itself ∙ ap (has_value processes key v) (sym e) ∙ lacks)))
+            ∙ (λ i. (sym now-count) i + cond (satisfies processes (tree_of_node inner.value) (group-is (toggled s p joins) i)) 1 0)
             ∙ ap (λ b. count + cond b 1 0) (sym a) in
-            across-toggled-by processes at g node wanted key places counts inner is (toggled s p comes) count'
+            across-toggled-by processes at g node wanted key places counts inner is (toggled s p joins) count'
             (same _ _ _ _ _ (change (small-count _ _ _ now-count (passing-le processes key (tree_of_node inner.value) _) few) (room _ _ _ _ sum)) sum)
 
     -- the count changes by one at most
-    pub out-of-reach-alone : ValuesDiffer → ValuesOccur → (comes ≡ true → count + 1 < wanted) → (comes ≡ false → wanted + 1 ≤ count)
-        → not comes ≡ satisfies processes (tree_of_node node) (within processes at g (toggled s p comes))
+    pub out-of-reach-alone : ValuesDiffer → ValuesOccur → (joins ≡ true → count + 1 < wanted) → (joins ≡ false → wanted + 1 ≤ count)
+        → not joins ≡ satisfies processes (tree_of_node node) (within processes at g (toggled s p joins))
     out-of-reach-alone differ occur more less = go (is_some (value_of processes key p)) refl
       where
         tree : Tree
@@ -620,9 +620,9 @@ module _ (processes : List Locality) (at : ℕ → ℕ) (s : ℕ → Bool) (p : 
         before = satisfies processes tree (within processes (group_at places.items) (group_at places.items p) s)
 
         after : Bool
-        after = satisfies processes tree (within processes (group_at places.items) (group_at places.items p) (toggled s p comes))
+        after = satisfies processes tree (within processes (group_at places.items) (group_at places.items p) (toggled s p joins))
 
-        stays : (comes : Bool) (c w : ℕ) (b a : Bool) → (comes ≡ true → c + 1 < w) → (comes ≡ false → w + 1 ≤ c) → not comes ≡ leb w (c + cond a 1 0 - cond b 1 0)
+        stays : (joins : Bool) (c w : ℕ) (b a : Bool) → (joins ≡ true → c + 1 < w) → (joins ≡ false → w + 1 ≤ c) → not joins ≡ leb w (c + cond a 1 0 - cond b 1 0)
         stays true c w b a more less = low c w b a (more refl)
           where
             low : (c w : ℕ) (b a : Bool) → c + 1 < w → false ≡ leb w (c + cond a 1 0 - cond b 1 0)
@@ -638,7 +638,7 @@ module _ (processes : List Locality) (at : ℕ → ℕ) (s : ℕ → Bool) (p : 
             high c w false true h = grind (arith, nat_tests)
             high c w false false h = grind (arith, nat_tests)
 
-        still : (comes : Bool) (c w : ℕ) → (comes ≡ true → c + 1 < w) → (comes ≡ false → w + 1 ≤ c) → not comes ≡ leb w c
+        still : (joins : Bool) (c w : ℕ) → (joins ≡ true → c + 1 < w) → (joins ≡ false → w + 1 ≤ c) → not joins ≡ leb w c
         still true c w more less = low c w (more refl)
           where
             low : (c w : ℕ) → c + 1 < w → false ≡ leb w c
@@ -651,6 +651,6 @@ module _ (processes : List Locality) (at : ℕ → ℕ) (s : ℕ → Bool) (p : 
         back : (c b a : ℕ) → b ≤ c + a → c + a - b + b ≡ c + a
         back c b a h = omega arith
 
-        go : (some : Bool) → is_some (value_of processes key p) ≡ some → not comes ≡ satisfies processes (tree_of_node node) (within processes at g (toggled s p comes))
-        go true some = stays comes count wanted before after more less ∙ keyed-alone differ occur some before after refl refl (count + cond after 1 0 - cond before 1 0) (λ _ room. back count (cond before 1 0) (cond after 1 0) room)
-        go false none = still comes count wanted more less ∙ keyless-alone none
+        go : (some : Bool) → is_some (value_of processes key p) ≡ some → not joins ≡ satisfies processes (tree_of_node node) (within processes at g (toggled s p joins))
+        go true some = stays joins count wanted before after more less ∙ keyed-alone differ occur some before after refl refl (count + cond after 1 0 - cond before 1 0) (λ _ room. back count (cond before 1 0) (cond after 1 0) room)
+        go false none = still joins count wanted more less ∙ keyless-alone none

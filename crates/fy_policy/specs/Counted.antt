@@ -39,27 +39,27 @@ within processes at g s q = nat_lt q (length processes) && (eqb (at q) g && s q)
 
 -- s after process p came or went
 abbrev pub toggled : (ℕ → Bool) → ℕ → Bool → ℕ → Bool
-toggled s p comes q = cond (eqb q p) comes (s q)
+toggled s p joins q = cond (eqb q p) joins (s q)
 
 -- s after those came or went
 abbrev pub toggled_by : (ℕ → Bool) → (ℕ → Bool) → Bool → ℕ → Bool
-toggled_by s those comes q = cond (those q) comes (s q)
+toggled_by s those joins q = cond (those q) joins (s q)
 
 -- those of a group who can come, as none of them is in s, or go, as each of them is
 pub record CanToggle
     (processes : List Locality) (at : ℕ → ℕ) (group : ℕ) (s : ℕ → Bool)
-    (those : ℕ → Bool) (comes : Bool) : Type 0 where
+    (those : ℕ → Bool) (joins : Bool) : Type 0 where
   pub known : (q : ℕ) → those q ≡ true → q < length processes
   pub here : (q : ℕ) → those q ≡ true → at q ≡ group
-  pub were : (q : ℕ) → those q ≡ true → s q ≡ not comes
+  pub were : (q : ℕ) → those q ≡ true → s q ≡ not joins
 
 -- a process of a group that can come, as it isn't in s, or go, as it is
 pub record CanToggleOne
     (processes : List Locality) (at : ℕ → ℕ) (group : ℕ) (s : ℕ → Bool)
-    (p : ℕ) (comes : Bool) : Type 0 where
+    (p : ℕ) (joins : Bool) : Type 0 where
   pub known : p < length processes
   pub here : at p ≡ group
-  pub was : s p ≡ not comes
+  pub was : s p ≡ not joins
 
 -- the group of each process, as listed
 abbrev pub group_at : List ℕ → ℕ → ℕ

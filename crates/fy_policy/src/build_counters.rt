@@ -4,7 +4,7 @@ ghost use Rattle.fy_policy.specs.Counted.{IsBothOf, IsBuiltFrom, group_at};
 ghost use Rattle.fy_policy.specs.Shape.{tree_of};
 ghost use Rattle.fy_policy.specs.Tree.{IsWellFormed};
 
-use crate::node::{Node, split_by_key, zeros};
+use crate::node::{Node, representatives_by_key, zeros};
 use crate::shape::Shape;
 use fy_locality::Map;
 use std::alloc::{AllocError, Global};
@@ -24,7 +24,7 @@ pub(crate) fn build_counters(
     match shape {
         Shape::One => Ok(Some(Node::One(zeros(alloc, map.len() + 1)?))),
         Shape::Across(wanted, key, inner) => {
-            let below = split_by_key(alloc, map, places, *key)?;
+            let below = representatives_by_key(alloc, map, places, *key)?;
             let Some(inner) = build_counters(alloc, inner, map, &below)? else {
                 return Ok(None);
             };

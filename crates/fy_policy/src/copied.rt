@@ -1,4 +1,4 @@
-//! A policy again, in memory of its own.
+//! Copies of policies, in memory of their own.
 ghost use Rattle.std.specs.Prelude.{◌≡◌, IfOk};
 ghost use Rattle.fy_policy.specs.Shape.{tree_of};
 ghost use Rattle.fy_policy.specs.Tree.{IsPolicy};
@@ -47,7 +47,7 @@ impl Policy {
     }
 }
 
-/// The same policies, in memory of their own.
+/// A copy of policies, in memory of its own.
 ///
 /// # Errors
 ///

@@ -5,17 +5,17 @@ use std::alloc::{AllocError, AllocFailed};
 /// memory can take the place of any answer.
 #[derive(Clone, Copy, PartialEq, Eq, Debug)]
 pub enum PolicyFault {
-    /// It has over 4096 bytes.
+    /// The text has over 4096 bytes.
     TooLong,
-    /// It is no text of the grammar.
+    /// The text is none of the grammar.
     Syntax,
     /// A count is outside 1 to 1024.
     Count,
-    /// It is over 8 deep.
+    /// The policy is over 8 deep.
     Depth,
-    /// It has over 64 nodes.
+    /// The policy has over 64 nodes.
     Nodes,
-    /// There was no memory for it.
+    /// There was no memory for the policy.
     NoMemory,
 }
 

@@ -1,4 +1,5 @@
-//! Laws of policies.
+//! Laws of policies, for the crates above: a call brings the law into a proof, and does nothing
+//! when the program runs.
 ghost use Rattle.fy_policy.specs.Laws.{AndIsEach, AQuorumIsLeft, EmptySatisfiesNone, KeylessPassNothing, MoreOfMapSatisfies, MoreSatisfies, NobodyPasses, PartsAreWellFormed, SomeHolderIsLeft, TestIsSatisfaction, ValuesPassApart};
 
 /// The empty set satisfies no policy.
@@ -11,7 +12,7 @@ pub fn more_satisfies()
     ensures { MoreSatisfies }
 {}
 
-/// So does a set that is larger as far as the processes of the map go.
+/// A set that is larger as far as the processes of the map go satisfies what the smaller one does.
 pub fn more_of_map_satisfies()
     ensures { MoreOfMapSatisfies }
 {}

@@ -66,32 +66,32 @@ pub(crate) fn is_satisfied_at(node: &Node, group: u32) -> bool
 }
 
 /// Puts a process of the group into the set, or takes it out.
-pub(crate) fn toggle(node: &mut Node, map: &Map, group: u32, p: ProcId, comes: bool)
+pub(crate) fn toggle(node: &mut Node, map: &Map, group: u32, p: ProcId, joins: bool)
     requires groups { HasGroups (length map.now) node.old }
     requires group { group ≤ length map.now }
     requires process { p.0 < length map.now }
     ensures groups { HasGroups (length map.now) node.new }
     ensures tree { tree_of_node node.new ≡ tree_of_node node.old }
     ensures right { (at : ℕ → ℕ) (s : ℕ → Bool) → AreCountersAt map.now at s group node.old
-        → CanToggleOne map.now at group s p.0 comes
-        → AreCountersOf map.now at (toggled s p.0 comes) node.new }
+        → CanToggleOne map.now at group s p.0 joins
+        → AreCountersOf map.now at (toggled s p.0 joins) node.new }
 {
     match node {
-        Node::One(counts) => recount(counts, group, !comes, comes),
+        Node::One(counts) => recount(counts, group, !joins, joins),
         Node::Across(_, key, places, counts, inner) => {
             laws::values_differ();
             laws::values_occur();
             let below = count_at(places, p.0);
             let before = is_satisfied_at(inner, below);
-            toggle(inner, map, below, p, comes);
+            toggle(inner, map, below, p, joins);
             let after = is_satisfied_at(inner, below);
             if has_key(map, p, *key) {
                 recount(counts, group, before, after);
             }
         }
         Node::Both(first, second) => {
-            toggle(first, map, group, p, comes);
-            toggle(second, map, group, p, comes);
+            toggle(first, map, group, p, joins);
+            toggle(second, map, group, p, joins);
         }
     }
 }
@@ -103,24 +103,24 @@ pub(crate) fn satisfied_after_toggle(
     map: &Map,
     group: u32,
     those: &ProcSet,
-    comes: bool,
+    joins: bool,
 ) -> bool
     requires groups { HasGroups (length map.now) node.now }
     requires group { group ≤ length map.now }
     ensures { (at : ℕ → ℕ) (s : ℕ → Bool) → AreCountersAt map.now at s group node.now
-        → CanToggle map.now at group s (sets.contains those.now) comes
+        → CanToggle map.now at group s (sets.contains those.now) joins
         → result ≡ satisfies map.now (tree_of_node node.now)
-        (within map.now at group (toggled_by s (sets.contains those.now) comes)) }
+        (within map.now at group (toggled_by s (sets.contains those.now) joins)) }
 {
     match node {
-        Node::One(counts) => some_after(count_at(counts, group), those, comes),
+        Node::One(counts) => some_after(count_at(counts, group), those, joins),
         Node::Across(wanted, key, places, counts, inner) => {
             laws::processes_have_values();
             laws::values_differ();
             laws::values_occur();
             let mut count = count_at(counts, group);
-            if is_out_of_reach(count, *wanted, those.len(), comes) {
-                return !comes;
+            if is_out_of_reach(count, *wanted, those.len(), joins) {
+                return !joins;
             }
             let mut rest = *those;
             while let Some(p) = rest.least() {
@@ -132,72 +132,73 @@ pub(crate) fn satisfied_after_toggle(
                 rest = rest.difference(&part);
                 let below = count_at(places, p.0);
                 let before = is_satisfied_at(inner, below);
-                let after = satisfied_after_toggle(inner, map, below, &part, comes);
+                let after = satisfied_after_toggle(inner, map, below, &part, joins);
                 count = recounted(count, before, after);
             }
             count >= *wanted
         }
         Node::Both(first, second) => {
-            satisfied_after_toggle(first, map, group, those, comes)
-                && satisfied_after_toggle(second, map, group, those, comes)
+            satisfied_after_toggle(first, map, group, those, joins)
+                && satisfied_after_toggle(second, map, group, those, joins)
         }
     }
 }
 
-/// The same for one process, of which no set need be made.
+/// Whether the set would satisfy the policy at a group after one process came or went. It is
+/// [`satisfied_after_toggle`] for one process, of which no set need be made.
 pub(crate) fn satisfied_after_one_toggle(
     node: &Node,
     map: &Map,
     group: u32,
     p: ProcId,
-    comes: bool,
+    joins: bool,
 ) -> bool
     requires groups { HasGroups (length map.now) node.now }
     requires group { group ≤ length map.now }
     ensures { (at : ℕ → ℕ) (s : ℕ → Bool) → AreCountersAt map.now at s group node.now
-        → CanToggleOne map.now at group s p.0 comes
+        → CanToggleOne map.now at group s p.0 joins
         → result ≡ satisfies map.now (tree_of_node node.now)
-        (within map.now at group (toggled s p.0 comes)) }
+        (within map.now at group (toggled s p.0 joins)) }
 {
     match node {
-        Node::One(counts) => some_beside(count_at(counts, group), comes),
+        Node::One(counts) => some_after_one(count_at(counts, group), joins),
         Node::Across(wanted, key, places, counts, inner) => {
             laws::processes_have_values();
             laws::values_differ();
             laws::values_occur();
             let count = count_at(counts, group);
-            if is_out_of_reach(count, *wanted, 1, comes) {
-                return !comes;
+            if is_out_of_reach(count, *wanted, 1, joins) {
+                return !joins;
             }
             if has_key(map, p, *key) {
                 let below = count_at(places, p.0);
                 let before = is_satisfied_at(inner, below);
-                let after = satisfied_after_one_toggle(inner, map, below, p, comes);
+                let after = satisfied_after_one_toggle(inner, map, below, p, joins);
                 recounted(count, before, after) >= *wanted
             } else {
                 count >= *wanted
             }
         }
         Node::Both(first, second) => {
-            satisfied_after_one_toggle(first, map, group, p, comes)
-                && satisfied_after_one_toggle(second, map, group, p, comes)
+            satisfied_after_one_toggle(first, map, group, p, joins)
+                && satisfied_after_one_toggle(second, map, group, p, joins)
         }
     }
 }
 
 /// Whether there is somebody after one came to so many, or went from them.
-fn some_beside(count: u32, comes: bool) -> bool
-    ensures { result ≡ (comes || nat_lt 1 count) }
+fn some_after_one(count: u32, joins: bool) -> bool
+    ensures { result ≡ (joins || nat_lt 1 count) }
 {
-    comes || count > 1
+    joins || count > 1
 }
 
 /// Whether there is somebody after these came to so many, or went from them.
-fn some_after(count: u32, those: &ProcSet, comes: bool) -> bool
-    ensures comes { comes ≡ true → result ≡ nat_lt 0 (count + sets.len those.now) }
-    ensures goes { comes ≡ false → result ≡ nat_lt (sets.len those.now) count }
+fn some_after(count: u32, those: &ProcSet, joins: bool) -> bool
+    ensures joins { joins ≡ true → result ≡ nat_lt 0 (count + sets.len those.now) }
+    ensures goes { joins ≡ false → result ≡ nat_lt (sets.len those.now) count }
 {
-    if comes {
+    if joins {
         count > 0 || those.len() > 0
     } else {
         count > those.len()
@@ -206,11 +207,11 @@ fn some_after(count: u32, those: &ProcSet, comes: bool) -> bool
 
 /// Whether a count stays below what is wanted, however so many come, or stays there, however they
 /// go: each of them changes the count by one at most.
-fn is_out_of_reach(count: u32, wanted: u32, many: u32, comes: bool) -> bool
-    ensures comes { IsTrue result → comes ≡ true → count + many < wanted }
-    ensures goes { IsTrue result → comes ≡ false → wanted + many ≤ count }
+fn is_out_of_reach(count: u32, wanted: u32, many: u32, joins: bool) -> bool
+    ensures joins { IsTrue result → joins ≡ true → count + many < wanted }
+    ensures goes { IsTrue result → joins ≡ false → wanted + many ≤ count }
 {
-    if comes {
+    if joins {
         count.saturating_add(many) < wanted
     } else {
         count >= many && count - many >= wanted
@@ -248,8 +249,9 @@ fn representative(map: &Map, places: &[u32], p: ProcId, key: Key) -> u32
     }
 }
 
-/// For each process its group where groups are parted by a key.
-pub(crate) fn split_by_key(
+/// Of each process the number of its group, where groups are parted by a key. That number is the
+/// group's least process, which represents it.
+pub(crate) fn representatives_by_key(
     alloc: Global,
     map: &Map,
     places: &[u32],
@@ -267,7 +269,7 @@ pub(crate) fn split_by_key(
     Ok(below)
 }
 
-/// So many zeros.
+/// As many zeros as are asked for.
 pub(crate) fn zeros(alloc: Global, count: u32) -> Result<Vec<u32>, AllocError>
     ensures wide { IfOk result (λ counts. length counts.items ≡ count) }
     ensures zeros { IfOk result (λ counts. (i : ℕ) → slice_index_or counts.items i 0 ≡ 0) }

@@ -49,7 +49,7 @@ impl Policy {
         let _shape = &self.shape;
     }
 
-    /// Its tree.
+    /// The policy's tree.
     pub fn shape(&self) -> &Shape
         ensures shape { tree_of result.now ≡ self.now }
         ensures policy { IsPolicy self.now }

@@ -16,7 +16,7 @@ use std::marker::Model;
 use std::sync::Arc;
 
 /// A policy, the processes of a map, and a set of processes. Whether the set satisfies the policy
-/// is counted along the policy's tree, for every group of processes, so that a process that comes
+/// is counted along the policy's tree, for every group of processes, so that a process that joins
 /// or goes is counted once a node. Those who share a map share it here too.
 pub struct Tally {
     map: Arc<Map>,
@@ -44,7 +44,7 @@ impl Model for Tally {
     ghost invariant = { λ t. IsTallied t.map.value t.everyone t.policy t.set t.node };
 }
 
-// Written out, so that whoever drops a tally makes one call.
+// Written out and not derived: see `Drop` in docs/DECISIONS.md.
 impl Drop for Tally {
     fn drop(self) {
         let Tally {
@@ -71,7 +71,7 @@ impl Tally {
         Tally::make_shared(alloc, policy, &map)
     }
 
-    /// The same over a map that others share, of which no copy is made.
+    /// A tally of nobody over a map that others share, of which no copy is made.
     ///
     /// # Errors
     ///
@@ -99,8 +99,8 @@ impl Tally {
         requires { p.0 < MOST_PROCESSES }
         ensures { self.new ≡ record self.old { set = sets.insert self.old.set p.0 } }
     {
-        let comes = self.everyone.has(p) & !self.set.has(p);
-        if comes {
+        let joins = self.everyone.has(p) & !self.set.has(p);
+        if joins {
             toggle(&mut self.node, &self.map, 0, p, true);
         }
         self.set.put(p);
@@ -135,7 +135,8 @@ impl Tally {
         satisfied_after_toggle(&self.node, &self.map, 0, &comers, true)
     }
 
-    /// Whether the set with one process would satisfy the policy. Takes no memory, and makes no set.
+    /// Whether the set with one process would satisfy the policy. Takes no memory, and makes no
+    /// set.
     pub fn satisfied_with_one(&self, p: ProcId) -> bool
         requires { p.0 < MOST_PROCESSES }
         ensures { result ≡ satisfies self.now.processes self.now.policy

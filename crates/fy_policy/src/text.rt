@@ -21,6 +21,7 @@ pub fn policy_text(alloc: Global, policy: &Policy) -> Result<String, AllocError>
     Ok(out)
 }
 
+/// Puts the text of a policy's tree behind what is there.
 fn push_text(out: &mut String, shape: &Shape) -> Result<(), AllocError>
     ensures { OnOk result
         (string_bytes out.new ≡ string_bytes out.old ++ text (tree_of shape.now)) }

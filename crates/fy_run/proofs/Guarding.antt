@@ -111,13 +111,18 @@ read_one_more setup (Some bytes) left next execution now command read gives ente
           ∙ ap (after_acts (opened setup)) (sym (asked_one_more commands command)),
     )
 
+-- what a reader of commands gave is the command that it was found to be
+pub gave : {left next : Option (List ℕ)} {found : Option Command} {command : Command} →
+    found ≡ Some command → IfSome found (GivesCommand left next) → GivesCommand left next command
+gave {left} {next} is gives = subst (λ o. IfSome o (GivesCommand left next)) is gives
+
 -- one line more is read and answered
-pub goes_on : (setup : Setup) (old left next before out longer : Option (List ℕ)) (execution now : Execution)
-    (command : Command) → HasAnswered setup old left before out execution →
+pub goes_on : {setup : Setup} {old left next before out longer : Option (List ℕ)} {execution now : Execution}
+    {command : Command} → HasAnswered setup old left before out execution →
     GivesCommand left next command → now ≡ entered execution command.by command.act →
     Legal now.setup now.journal → Appends out longer (entry_line (entry_of execution command)) →
     HasAnswered setup old next before longer now
-goes_on setup old left next before out longer execution now command has gives enters legal written =
+goes_on {setup} {old} {left} {next} {before} {out} {longer} {execution} {now} {command} has gives enters legal written =
     record {
       same = ap (λ (c : Execution). c.setup) enters ∙ has.same;
       legal = legal;
@@ -140,11 +145,12 @@ answered_by setup front commands execution each is legal = record {
 }
 
 -- all lines are answered
-pub answers_all : (setup : Setup) (old left before out : Option (List ℕ)) (execution : Execution)
+pub answers_all : {setup : Setup} (old : Option (List ℕ)) {left before out : Option (List ℕ)}
+    {execution : Execution}
     (P : List ℕ → Type 0) → HasAnswered setup old left before out execution → IsAtEnd left →
     P (audit_text Second execution.journal) → AnswersAll setup old P
-answers_all setup None left before out execution P has ends holds = tt
-answers_all setup (Some bytes) left before out execution P has ends holds =
+answers_all {setup} None {left} {before} {out} {execution} P has ends holds = tt
+answers_all {setup} (Some bytes) {left} {before} {out} {execution} P has ends holds =
     let (front, rest, commands, is, split, each, same) = has.read in
     let none : rest ≡ [] = subst IsAtEnd is ends in
     let whole : lines_of bytes ≡ front =
@@ -156,12 +162,13 @@ answers_all setup (Some bytes) left before out execution P has ends holds =
     )
 
 -- the lines that were read are answered, and of the next no more was read than the line
-pub in_turn : (setup : Setup) (old left next before out : Option (List ℕ)) (execution : Execution)
+pub in_turn : {setup : Setup} (old : Option (List ℕ)) {left next before out : Option (List ℕ)}
+    {execution : Execution}
     (P : List ℕ → Type 0) → HasAnswered setup old left before out execution →
     ReadsWithinLine left next → P (audit_text Second execution.journal) →
     AnswersInTurn setup old next P
-in_turn setup None left next before out execution P has within holds = tt
-in_turn setup (Some bytes) left next before out execution P has within holds =
+in_turn {setup} None {left} {next} {before} {out} {execution} P has within holds = tt
+in_turn {setup} (Some bytes) {left} {next} {before} {out} {execution} P has within holds =
     let (front, rest, commands, is, split, each, same) = has.read in
     record {
       front = front;
@@ -279,17 +286,17 @@ is_faulty setup (Some bytes) answered number fault is (line, more, first, faulty
 )
 
 -- the next line is no command
-pub refused_line : (setup : Setup) (old left before out : Option (List ℕ)) (execution : Execution)
-    (number : ℕ) (stop : Stop) (P : List ℕ → Type 0) → HasAnswered setup old left before out execution →
+pub refused_line : {setup : Setup} {old left before out : Option (List ℕ)} {execution : Execution}
+    {number : ℕ} {stop : Stop} (P : List ℕ → Type 0) → HasAnswered setup old left before out execution →
     number ≡ length execution.journal + 1 → NoCommand left number stop →
     P (audit_text Second execution.journal) → IfRunRefusal stop (AnswersBefore setup old stop P)
-refused_line setup old left before out execution number stop P has is (NoCommand.faulty fault told line) holds =
+refused_line {setup} {old} {left} {before} {out} {execution} {number} {stop} P has is (NoCommand.faulty fault told line) holds =
     subst (λ s. IfRunRefusal s (AnswersBefore setup old s P)) (sym told)
     (stops_before setup old left before out execution (Script (Line number fault)) P has
     (is_faulty setup left (length execution.journal) number fault is line) holds)
-refused_line setup old left before out execution number stop P has is (NoCommand.read told) holds =
+refused_line {setup} {old} {left} {before} {out} {execution} {number} {stop} P has is (NoCommand.read told) holds =
     subst (λ s. IfRunRefusal s (AnswersBefore setup old s P)) (sym told) tt
-refused_line setup old left before out execution number stop P has is (NoCommand.no_memory told) holds =
+refused_line {setup} {old} {left} {before} {out} {execution} {number} {stop} P has is (NoCommand.no_memory told) holds =
     subst (λ s. IfRunRefusal s (AnswersBefore setup old s P)) (sym told) tt
 
 is_full : (setup : Setup) (known next : Option (List ℕ)) (answered : ℕ) (command : Command) →
@@ -301,52 +308,52 @@ is_full setup (Some bytes) next answered command (line, rest, is, first, spelled
     (line, lines_of rest, first, StopsAtLine.full command spelled full)
 
 -- the command of the next line has no answer
-pub refused_command : (setup : Setup) (old left next before out short : Option (List ℕ))
-    (execution now : Execution) (command : Command) (stop : Stop) →
+pub refused_command : {setup : Setup} {old left next before out short : Option (List ℕ)}
+    {execution now : Execution} {command : Command} {stop : Stop} →
     HasAnswered setup old left before out execution → GivesCommand left next command →
     NoAnswer execution command now out short stop →
     IfRunRefusal stop (AnswersBefore setup old stop (Appends before short))
-refused_command setup old left next before out short execution now command stop has gives (NoAnswer.full told full keeps) =
+refused_command {setup} {old} {left} {next} {before} {out} {short} {execution} {now} {command} {stop} has gives (NoAnswer.full told full keeps) =
     let limit : setup.limit ≤ length execution.journal =
     subst (λ (s : Setup). s.limit ≤ length execution.journal) has.same full in
     subst (λ s. IfRunRefusal s (AnswersBefore setup old s (Appends before short))) (sym told)
     (stops_before setup old left before out execution JournalFull (Appends before short) has
     (is_full setup left next (length execution.journal) command gives limit)
     (Appends-kept before out short (audit_text Second execution.journal) has.written keeps))
-refused_command setup old left next before out short execution now command stop has gives (NoAnswer.no_memory told keeps) =
+refused_command {setup} {old} {left} {next} {before} {out} {short} {execution} {now} {command} {stop} has gives (NoAnswer.no_memory told keeps) =
     subst (λ s. IfRunRefusal s (AnswersBefore setup old s (Appends before short))) (sym told) tt
-refused_command setup old left next before out short execution now command stop has gives (NoAnswer.short told enters legal stops) =
+refused_command {setup} {old} {left} {next} {before} {out} {short} {execution} {now} {command} {stop} has gives (NoAnswer.short told enters legal stops) =
     subst (λ s. IfRunRefusal s (AnswersBefore setup old s (Appends before short))) (sym told) tt
 
-pub at_least : (old new : Option (List ℕ)) (text : List ℕ) → Appends old new text →
+pub at_least : {old new : Option (List ℕ)} {text : List ℕ} → Appends old new text →
     AppendsAtLeast old new text
-at_least old new text written = ([], subst (Appends old new) (sym (append-nil text)) written)
+at_least {old} {new} {text} written = ([], subst (Appends old new) (sym (append-nil text)) written)
 
 -- what is out where an answer isn't whole: all answers before it
-pub still_out : (setup : Setup) (old left before out short : Option (List ℕ)) (execution now : Execution)
-    (command : Command) (stop : Stop) → HasAnswered setup old left before out execution →
+pub still_out : {setup : Setup} {old left before out short : Option (List ℕ)} {execution now : Execution}
+    {command : Command} {stop : Stop} → HasAnswered setup old left before out execution →
     NoAnswer execution command now out short stop →
     AppendsAtLeast before short (audit_text Second execution.journal)
-still_out setup old left before out short execution now command stop has (NoAnswer.full told full keeps) =
-    at_least before short (audit_text Second execution.journal)
+still_out {setup} {old} {left} {before} {out} {short} {execution} {now} {command} {stop} has (NoAnswer.full told full keeps) =
+    at_least
     (Appends-kept before out short (audit_text Second execution.journal) has.written keeps)
-still_out setup old left before out short execution now command stop has (NoAnswer.no_memory told keeps) =
-    at_least before short (audit_text Second execution.journal)
+still_out {setup} {old} {left} {before} {out} {short} {execution} {now} {command} {stop} has (NoAnswer.no_memory told keeps) =
+    at_least
     (Appends-kept before out short (audit_text Second execution.journal) has.written keeps)
-still_out setup old left before out short execution now command stop has (NoAnswer.short told enters legal stops) =
+still_out {setup} {old} {left} {before} {out} {short} {execution} {now} {command} {stop} has (NoAnswer.short told enters legal stops) =
     let (front, rest, is, grown, some) = stops in
     (front, Appends-trans before out short (audit_text Second execution.journal) front has.written grown)
 
 -- and where there was no memory, nothing more
-pub none_out : (setup : Setup) (old left before out short : Option (List ℕ)) (execution now : Execution)
-    (command : Command) (stop : Stop) → HasAnswered setup old left before out execution →
+pub none_out : {setup : Setup} {old left before out short : Option (List ℕ)} {execution now : Execution}
+    {command : Command} {stop : Stop} → HasAnswered setup old left before out execution →
     NoAnswer execution command now out short stop → stop ≡ NoMemory →
     Appends before short (audit_text Second execution.journal)
-none_out setup old left before out short execution now command stop has (NoAnswer.full told full keeps) is =
+none_out {setup} {old} {left} {before} {out} {short} {execution} {now} {command} {stop} has (NoAnswer.full told full keeps) is =
     Appends-kept before out short (audit_text Second execution.journal) has.written keeps
-none_out setup old left before out short execution now command stop has (NoAnswer.no_memory told keeps) is =
+none_out {setup} {old} {left} {before} {out} {short} {execution} {now} {command} {stop} has (NoAnswer.no_memory told keeps) is =
     Appends-kept before out short (audit_text Second execution.journal) has.written keeps
-none_out setup old left before out short execution now command stop has (NoAnswer.short told enters legal stops) is =
+none_out {setup} {old} {left} {before} {out} {short} {execution} {now} {command} {stop} has (NoAnswer.short told enters legal stops) is =
     let bad : ⊥ = cc in absurd bad
 
 short_behind : (first second third : Option (List ℕ)) (done piece : List ℕ) →
@@ -384,16 +391,16 @@ header_short setup known before short stops =
     (subst (AppendsProperPrefix before short) (sym (append-nil (header Second))) stops)
 
 -- an answer isn't out whole
-pub answer_short : (setup : Setup) (old left next before out short : Option (List ℕ))
-    (execution now : Execution) (command : Command) (stop : Stop) →
+pub answer_short : {setup : Setup} {old left next before out short : Option (List ℕ)}
+    {execution now : Execution} {command : Command} {stop : Stop} →
     HasAnswered setup old left before out execution → GivesCommand left next command →
     NoAnswer execution command now out short stop → stop ≡ Write →
     AnswersSome setup old (AppendsProperPrefix before short)
-answer_short setup old left next before out short execution now command stop has gives (NoAnswer.full told full keeps) is =
+answer_short {setup} {old} {left} {next} {before} {out} {short} {execution} {now} {command} {stop} has gives (NoAnswer.full told full keeps) is =
     let bad : ⊥ = cc in absurd bad
-answer_short setup old left next before out short execution now command stop has gives (NoAnswer.no_memory told keeps) is =
+answer_short {setup} {old} {left} {next} {before} {out} {short} {execution} {now} {command} {stop} has gives (NoAnswer.no_memory told keeps) is =
     let bad : ⊥ = cc in absurd bad
-answer_short setup old left next before out short execution now command stop has gives (NoAnswer.short told enters legal stops) is =
+answer_short {setup} {old} {left} {next} {before} {out} {short} {execution} {now} {command} {stop} has gives (NoAnswer.short told enters legal stops) is =
     some_answered setup old next now (AppendsProperPrefix before short)
     (read_one_more setup old left next execution now command has.read gives enters) legal
     (subst (AppendsProperPrefix before short)
@@ -402,34 +409,34 @@ answer_short setup old left next before out short execution now command stop has
     (short_behind before out short (audit_text Second execution.journal)
     (entry_line (entry_of execution command)) has.written stops))
 
-pub no_command_write : (known : Option (List ℕ)) (number : ℕ) (stop : Stop) →
+pub no_command_write : {known : Option (List ℕ)} {number : ℕ} {stop : Stop} →
     NoCommand known number stop → stop ≡ Write → ⊥
-no_command_write known number stop (NoCommand.faulty fault told line) is = let bad : ⊥ = cc in bad
-no_command_write known number stop (NoCommand.read told) is = let bad : ⊥ = cc in bad
-no_command_write known number stop (NoCommand.no_memory told) is = let bad : ⊥ = cc in bad
+no_command_write {known} {number} {stop} (NoCommand.faulty fault told line) is = let bad : ⊥ = cc in bad
+no_command_write {known} {number} {stop} (NoCommand.read told) is = let bad : ⊥ = cc in bad
+no_command_write {known} {number} {stop} (NoCommand.no_memory told) is = let bad : ⊥ = cc in bad
 
-pub no_answer_read : (execution now : Execution) (command : Command) (out short : Option (List ℕ))
-    (stop : Stop) → NoAnswer execution command now out short stop → stop ≡ Read → ⊥
-no_answer_read execution now command out short stop (NoAnswer.full told full keeps) is =
+pub no_answer_read : {execution now : Execution} {command : Command} {out short : Option (List ℕ)}
+    {stop : Stop} → NoAnswer execution command now out short stop → stop ≡ Read → ⊥
+no_answer_read {execution} {now} {command} {out} {short} {stop} (NoAnswer.full told full keeps) is =
     let bad : ⊥ = cc in bad
-no_answer_read execution now command out short stop (NoAnswer.no_memory told keeps) is =
+no_answer_read {execution} {now} {command} {out} {short} {stop} (NoAnswer.no_memory told keeps) is =
     let bad : ⊥ = cc in bad
-no_answer_read execution now command out short stop (NoAnswer.short told enters legal stops) is =
+no_answer_read {execution} {now} {command} {out} {short} {stop} (NoAnswer.short told enters legal stops) is =
     let bad : ⊥ = cc in bad
 
-pub no_command_own : (known : Option (List ℕ)) (number : ℕ) (stop : Stop) →
+pub no_command_own : {known : Option (List ℕ)} {number : ℕ} {stop : Stop} →
     NoCommand known number stop → IsRunStop stop
-no_command_own known number stop (NoCommand.faulty fault told line) = subst IsRunStop (sym told) tt
-no_command_own known number stop (NoCommand.read told) = subst IsRunStop (sym told) tt
-no_command_own known number stop (NoCommand.no_memory told) = subst IsRunStop (sym told) tt
+no_command_own {known} {number} {stop} (NoCommand.faulty fault told line) = subst IsRunStop (sym told) tt
+no_command_own {known} {number} {stop} (NoCommand.read told) = subst IsRunStop (sym told) tt
+no_command_own {known} {number} {stop} (NoCommand.no_memory told) = subst IsRunStop (sym told) tt
 
-pub no_answer_own : (execution now : Execution) (command : Command) (out short : Option (List ℕ))
-    (stop : Stop) → NoAnswer execution command now out short stop → IsRunStop stop
-no_answer_own execution now command out short stop (NoAnswer.full told full keeps) =
+pub no_answer_own : {execution now : Execution} {command : Command} {out short : Option (List ℕ)}
+    {stop : Stop} → NoAnswer execution command now out short stop → IsRunStop stop
+no_answer_own {execution} {now} {command} {out} {short} {stop} (NoAnswer.full told full keeps) =
     subst IsRunStop (sym told) tt
-no_answer_own execution now command out short stop (NoAnswer.no_memory told keeps) =
+no_answer_own {execution} {now} {command} {out} {short} {stop} (NoAnswer.no_memory told keeps) =
     subst IsRunStop (sym told) tt
-no_answer_own execution now command out short stop (NoAnswer.short told enters legal stops) =
+no_answer_own {execution} {now} {command} {out} {short} {stop} (NoAnswer.short told enters legal stops) =
     subst IsRunStop (sym told) tt
 
 -- one result has one stop

@@ -16,15 +16,15 @@ use std::alloc::Global;
 use std::io::{Read, Write};
 
 /// Reads an audit from the reader to its end, checks it, and writes one SVG document that shows its
-/// entries under this configuration; where one isn't what the rules give, those before it, and a red
-/// mark in its place. The answer is whether the audit is legal.
+/// entries under this configuration; where one isn't what the rules give, those before it, and a
+/// red mark in its place. The answer is whether the audit is legal.
 ///
 /// All is read, checked and drawn before the first byte is written.
 ///
 /// # Errors
 ///
-/// Those of `run_check`: nothing is written but after `Write`, when a front of the document is out,
-/// and never all of it.
+/// The stops of `run_check`: nothing is written but after `Write`, when a front of the document is
+/// out, and never all of it.
 pub fn run_show<R: Read, W: Write>(
     alloc: Global,
     config: &Config,

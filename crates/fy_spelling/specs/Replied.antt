@@ -56,8 +56,8 @@ refusal_of_processes word =
     else None
 
 -- those, or refusals that speak of teams and records
-abbrev pub refusal_of_teams : List ℕ → Option Refusal
-refusal_of_teams word =
+abbrev pub refusal_up_to_teams : List ℕ → Option Refusal
+refusal_up_to_teams word =
     if bytes_eq word (codes "TooMany") then Some TooMany
     else if bytes_eq word (codes "NoPolicy") then Some NoPolicy
     else if bytes_eq word (codes "NoTeam") then Some NoTeam
@@ -68,15 +68,15 @@ refusal_of_teams word =
     else refusal_of_processes word
 
 -- those, or refusals that speak of actors and the clock
-abbrev pub refusal_of_actors : List ℕ → Option Refusal
-refusal_of_actors word =
+abbrev pub refusal_up_to_actors : List ℕ → Option Refusal
+refusal_up_to_actors word =
     if bytes_eq word (codes "Stranger") then Some Stranger
     else if bytes_eq word (codes "WrongRole") then Some WrongRole
     else if bytes_eq word (codes "ClockEnd") then Some ClockEnd
     else if bytes_eq word (codes "NoActor") then Some NoActor
     else if bytes_eq word (codes "Full") then Some Full
     else if bytes_eq word (codes "NoSuch") then Some NoSuch
-    else refusal_of_teams word
+    else refusal_up_to_teams word
 
 -- any refusal
 abbrev pub refusal_by : List ℕ → Data → Option Refusal
@@ -86,7 +86,7 @@ refusal_by word d =
     else if bytes_eq word (codes "NoCopy") then Some NoCopy
     else if bytes_eq word (codes "IsMember") then Some IsMember
     else if bytes_eq word (codes "NotDestroyed") then Some NotDestroyed
-    else refusal_of_actors word
+    else refusal_up_to_actors word
 
 abbrev pub refusal_from : Data → Option Refusal
 refusal_from d = first_word d >>= λ word. refusal_by word d

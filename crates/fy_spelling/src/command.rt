@@ -15,8 +15,7 @@ pub struct Command {
     pub act: Act,
 }
 
-// By hand: a drop is then one call, and not the whole drop of an act at each place, which the
-// check proves anew there.
+// Written out and not derived: see `Drop` in docs/DECISIONS.md.
 impl Drop for Command {
     fn drop(self) {
         let Command { by: _, act: _ } = self;
@@ -36,12 +35,12 @@ impl Command {
 /// Why a line of a script asks for nothing, the first that holds.
 #[derive(Clone, Copy, PartialEq, Eq, Debug)]
 pub enum LineFault {
-    /// It has more than 65,536 bytes.
+    /// The line has more than 65,536 bytes.
     TooLong,
-    /// It is no JSON object with exactly the members of a command, or one of them isn't as it has
-    /// to be.
+    /// The line is no JSON object with exactly the members of a command, or one of them isn't as it
+    /// has to be.
     Syntax,
-    /// The floor of its kill is above the kind.
+    /// The floor of the line's kill is above the kind.
     Floor,
 }
 
@@ -50,7 +49,7 @@ pub enum LineFault {
 pub enum CommandFault {
     /// The line asks for nothing.
     Line(LineFault),
-    /// There is no memory to read it.
+    /// There is no memory to read the line.
     NoMemory,
 }
 

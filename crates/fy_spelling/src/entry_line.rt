@@ -13,9 +13,9 @@ use std::alloc::{AllocError, Global};
 /// Why no entry is read of a line of an audit.
 #[derive(Clone, Copy, PartialEq, Eq, Debug)]
 pub enum EntryFault {
-    /// It is the text of no entry.
+    /// The line is the text of no entry.
     Syntax,
-    /// There is no memory to read it.
+    /// There is no memory to read the line.
     NoMemory,
 }
 

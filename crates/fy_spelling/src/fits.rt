@@ -1,5 +1,6 @@
-//! The bounds that the types of acts, replies and entries set, shown for the proof, and the one that
-//! is tested. But for that test the functions do nothing, and the compiler leaves nothing of them.
+//! The bounds that the types of acts, replies and entries set, shown for the proof, and the one
+//! that is tested. But for that test the functions do nothing, and the compiler leaves nothing of
+//! them.
 ghost use Rattle.std.specs.Prelude.{◌≡◌, ◌↔◌, IsTrue, true};
 ghost use Rattle.std.specs.List.{AllByRecursion};
 ghost use Rattle.fy_team.specs.Teams.{AreMembers};
@@ -13,26 +14,31 @@ use fy_kinds::{Rule, Target};
 use fy_locality::ProcId;
 use fy_team::Members;
 
+/// Shows that a number is below its bound of 32 bits.
 pub(crate) fn u32_fits(_n: u32)
     ensures { IsU32 _n }
 {}
 
+/// Shows that a number is below its bound of 64 bits.
 fn u64_fits(_n: u64)
     ensures { IsU64 _n }
 {}
 
+/// Shows that a process's number fits.
 fn process_fits(p: ProcId)
     ensures { IsProcess p }
 {
     u32_fits(p.0);
 }
 
+/// Shows that a target's value is a name.
 fn target_fits(target: &Target)
     ensures { FitsTarget target.now }
 {
     let _bytes = target.value.as_bytes();
 }
 
+/// Shows that a scope fits.
 fn scope_fits(scope: &Scope)
     ensures { FitsScope scope.now }
 {
@@ -42,6 +48,7 @@ fn scope_fits(scope: &Scope)
     }
 }
 
+/// Shows that the numbers of processes fit.
 fn processes_fit(processes: &[ProcId])
     ensures { AllByRecursion IsProcess processes.now }
 {
@@ -50,6 +57,7 @@ fn processes_fit(processes: &[ProcId])
     }
 }
 
+/// Shows that members fit.
 fn members_fit(members: &Members)
     ensures { FitsMembers members.now }
 {
@@ -57,6 +65,7 @@ fn members_fit(members: &Members)
     processes_fit(members.as_slice());
 }
 
+/// Shows that bytes are below 256.
 fn bytes_fit(bytes: &[u8])
     ensures { AllByRecursion IsByte bytes.now }
 {
@@ -65,12 +74,14 @@ fn bytes_fit(bytes: &[u8])
     }
 }
 
+/// Shows that the bytes of a payload fit.
 fn payload_fits(payload: &Payload)
     ensures { AllByRecursion IsByte payload.now }
 {
     bytes_fit(payload.bytes());
 }
 
+/// Shows that a target and a number fit.
 fn aim_fits(target: &Target, number: u64)
     ensures { FitsTarget target.now × IsU64 number }
 {
@@ -78,6 +89,7 @@ fn aim_fits(target: &Target, number: u64)
     u64_fits(number);
 }
 
+/// Shows that two numbers of 32 bits fit.
 fn shorts_fit(first: u32, second: u32)
     ensures { IsU32 first × IsU32 second }
 {
@@ -85,6 +97,7 @@ fn shorts_fit(first: u32, second: u32)
     u32_fits(second);
 }
 
+/// Shows that a record and a process fit.
 fn copy_fits(rec: u32, process: ProcId)
     ensures { IsU32 rec × IsProcess process }
 {
@@ -133,6 +146,7 @@ pub fn act_fits(act: &Act)
     }
 }
 
+/// Shows that a rule fits, but for the number of its policy, which may have 64 bits.
 fn rule_is_held(rule: Option<Rule>)
     ensures { IsRepresentableRule rule }
 {
@@ -147,6 +161,7 @@ fn rule_is_held(rule: Option<Rule>)
     }
 }
 
+/// Shows that a refusal fits.
 fn refusal_fits(refusal: Refusal)
     ensures { FitsRefusal refusal }
 {

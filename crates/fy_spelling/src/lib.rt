@@ -8,7 +8,7 @@ pub mod laws;
 mod parts;
 mod reading;
 mod scan;
-mod shortcut;
+mod script_line;
 mod writing;
 
 pub use command::{Command, CommandFault, LineFault, MOST_LINE_BYTES};
@@ -16,5 +16,5 @@ pub use entry_line::{EntryFault, read_entry, read_entry_by_value};
 pub use fits::{act_fits, entry_is_representable, reply_is_representable};
 pub use fy_acts::{Act, Entry, Refusal, Reply};
 pub use reading::read_command_by_value;
-pub use shortcut::read_command;
+pub use script_line::read_command;
 pub use writing::{entry_text, put_command, put_entry};

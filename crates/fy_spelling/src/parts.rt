@@ -203,7 +203,7 @@ pub(crate) fn member_list_of(alloc: Global, value: &Value) -> Result<Option<Memb
 
 // ---- words
 
-/// A kind by its word.
+/// The kind that a JSON value names by its word.
 pub(crate) fn kind_of(value: &Value) -> Option<Kind>
     ensures { result ≡ kind_from (view value.now) }
 {
@@ -224,7 +224,7 @@ fn name_of(value: &Value) -> Option<Name>
     Name::make(value.as_str()?).ok()
 }
 
-/// The target of a key and a value.
+/// The target that two JSON values spell: its key and its value.
 pub(crate) fn target_of(key: &Value, value: &Value) -> Option<Target>
     ensures { result ≡ target_from (view key.now) (view value.now) }
 {
@@ -233,7 +233,7 @@ pub(crate) fn target_of(key: &Value, value: &Value) -> Option<Target>
     Some(Target { key, value })
 }
 
-/// The target of an object of a key and a value.
+/// The target that a JSON object spells, with its key and its value as members.
 pub(crate) fn target_in(value: &Value) -> Option<Target>
     ensures { result ≡ target_in (view value.now) }
 {

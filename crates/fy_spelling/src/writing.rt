@@ -15,6 +15,7 @@ use itoa::Buffer;
 use replies::put_reply;
 use std::alloc::{AllocError, Global};
 
+/// Writes a text.
 #[inline(always)]
 fn put(out: &mut Vec<u8>, text: &str) -> Result<(), AllocError>
     ensures { AppendsOrOom result out.old.items out.new.items text.now }
@@ -22,6 +23,7 @@ fn put(out: &mut Vec<u8>, text: &str) -> Result<(), AllocError>
     out.extend_from_slice(text.as_bytes())
 }
 
+/// Writes a number in decimal.
 #[inline(always)]
 fn put_decimal(out: &mut Vec<u8>, n: u64) -> Result<(), AllocError>
     ensures { AppendsOrOom result out.old.items out.new.items (decimal n) }
@@ -65,6 +67,7 @@ fn put_one(out: &mut Vec<u8>, head: &str, n: u64) -> Result<(), AllocError>
     put_between(out, head, n, "}}")
 }
 
+/// Writes a command; where memory is refused, a part of it may stay.
 fn put_pieces(out: &mut Vec<u8>, command: &Command) -> Result<(), AllocError>
     ensures text { AppendsOrOom result out.old.items out.new.items (asked_text command.now) }
     ensures bare { OnOk result (NeedsNoEscape command.now.act) }
@@ -108,6 +111,7 @@ pub fn put_command(out: &mut Vec<u8>, command: &Command) -> Result<(), AllocErro
     all_or_nothing(out, length, put)
 }
 
+/// Writes an entry up to its reply.
 fn put_front(out: &mut Vec<u8>, entry: &Entry) -> Result<(), AllocError>
     ensures text { AppendsOrOom result out.old.items out.new.items (front_text entry.now) }
     ensures bare { OnOk result (NeedsNoEscape entry.now.act) }
@@ -118,6 +122,7 @@ fn put_front(out: &mut Vec<u8>, entry: &Entry) -> Result<(), AllocError>
     put_number(out, ",\"by\":", entry.by as u64)
 }
 
+/// Writes an entry; where memory is refused, a part of it may stay.
 fn put_entry_pieces(out: &mut Vec<u8>, entry: &Entry) -> Result<(), AllocError>
     ensures text { AppendsOrOom result out.old.items out.new.items (entry_pieces entry.now) }
     ensures bare { OnOk result (NeedsNoEscape entry.now.act) }

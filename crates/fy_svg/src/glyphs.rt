@@ -10,9 +10,9 @@ use std::alloc::{AllocError, Global};
 /// The hardest order of a column that named a process.
 #[derive(Clone, Copy)]
 struct Hit {
-    /// Its place in the journal.
+    /// The order's place in the journal.
     at: usize,
-    /// How hard it is; 0 where there is none.
+    /// How hard the order is; 0 where there is none.
     weight: u32,
     /// How many orders of the column named the process.
     count: u32,

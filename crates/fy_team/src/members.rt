@@ -105,7 +105,7 @@ impl Members {
         prove!(inserted.is_ok());
     }
 
-    /// They rise, and are at most 1024.
+    /// The members rise, and are at most 1024.
     pub(crate) fn invariant(&self)
         ensures { AreMembers self.now }
     {

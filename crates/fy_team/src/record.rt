@@ -1,4 +1,4 @@
-//! A record as it is kept.
+//! A record as it is kept, with how many members have not marked it.
 ghost use Rattle.std.specs.Prelude.{◌≡◌, ◌<◌, ◌&&◌, ◌||◌, not};
 ghost use Rattle.std.specs.FinSet as sets;
 ghost use Rattle.fy_team.specs.Teams.{unmarked, all_marked, healed_record, is_among};
@@ -36,7 +36,7 @@ impl Model for KeptRecord {
     } };
 }
 
-// By hand, for the reason given at the `Drop` of `Teams`.
+// Written out and not derived: see `Drop` in docs/DECISIONS.md.
 impl Drop for KeptRecord {
     fn drop(self) {
         let KeptRecord {
@@ -71,7 +71,7 @@ impl KeptRecord {
         self.team
     }
 
-    /// What it holds.
+    /// The payload that the record holds.
     pub(crate) fn payload(&self) -> &Payload
         ensures { result.now ≡ self.now.held.payload }
     {

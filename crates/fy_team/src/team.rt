@@ -20,7 +20,7 @@ impl Model for KeptTeam {
     ghost view = { λ t. record { members = t.members; policy = t.policy } };
 }
 
-// By hand, for the reason given at the `Drop` of `Teams`.
+// Written out and not derived: see `Drop` in docs/DECISIONS.md.
 impl Drop for KeptTeam {
     fn drop(self) {
         let KeptTeam {

@@ -40,8 +40,7 @@ impl Model for Teams {
     ghost invariant = { λ t. TeamsInvariant t.teams.items t.records.items };
 }
 
-// By hand. A derived `Drop` would release the parts in each function that drops teams, and the
-// prover would show every release there anew. With this `drop` such a function makes one call.
+// Written out and not derived: see `Drop` in docs/DECISIONS.md.
 impl Drop for Teams {
     fn drop(self) {
         let Teams {

@@ -79,6 +79,9 @@ number_left_out l = from_one_or_nought l.1.1.0.right
 marked_or_stored : Marked false ≡ Stored → ⊥
 marked_or_stored e = absurd (cc)
 
+pub stored_or_marked : Stored ≡ Marked true → ⊥
+stored_or_marked e = absurd (cc)
+
 pub marked_unsynced : Legal six wrong.marked_unsynced → ⊥
 unfolding cluster_on_literals
 marked_unsynced l = marked_or_stored l.1.1.1.0.right

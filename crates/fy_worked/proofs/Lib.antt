@@ -1,4 +1,7 @@
 pub mod FromLaws
+pub mod FromWords
 pub mod Illegal
 pub mod MetPolicy
 pub mod Played
+pub mod Turned
+pub mod Unsafe

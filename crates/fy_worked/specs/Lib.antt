@@ -8,3 +8,5 @@ pub mod Healed
 pub mod Replaced
 pub mod Targets
 pub mod Wrong
+pub mod Judged
+pub mod Told

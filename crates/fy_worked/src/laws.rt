@@ -2,12 +2,15 @@
 //! what it comes to; or of a wrong one that it isn't legal.
 pub mod every;
 pub mod healed;
+pub mod judged;
 pub mod messages;
 pub mod permission;
 pub mod records;
 pub mod refused;
 pub mod replaced;
+pub mod safe;
 pub mod strikes;
 pub mod targets;
+pub mod told;
 pub mod versions;
 pub mod wrong;

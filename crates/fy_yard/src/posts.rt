@@ -29,11 +29,11 @@ pub trait Gate: Sync {
 /// How a post ended.
 #[derive(Clone, Copy, PartialEq, Eq, Debug)]
 pub enum End {
-    /// It wasn't run yet.
+    /// The post wasn't run yet.
     NotRun,
-    /// Its actor wants no further turn.
+    /// The post's actor wants no further turn.
     Ended,
-    /// It took as many turns as it might.
+    /// The post took as many turns as it might.
     Limit,
     /// The gate let it take no further turn.
     Shut,

@@ -12,22 +12,22 @@ pub struct View {
     /// How many parts there are, and how many of them this seat has.
     pub all: u64,
     pub parts: u64,
-    /// It makes the other seats, and the next one is this actor's.
+    /// The seat makes the other seats, and the next one is this actor's.
     pub opens: bool,
     pub made: u64,
     /// False of a note.
     pub seated: bool,
     pub actor: u64,
-    /// 1 while it has a ticket, else 0.
+    /// 1 while the seat has a ticket, else 0.
     pub waits: u64,
     pub ticket: u64,
-    /// It has the desk.
+    /// The seat has the desk.
     pub holds: bool,
-    /// The journal as far as it has seen it.
+    /// The journal as far as the seat has seen it.
     pub seen: LinkedList<Entry>,
     /// What a note brought.
     pub told: LinkedList<Entry>,
-    /// Its receipts.
+    /// The seat's receipts.
     pub mine: LinkedList<Entry>,
     /// Of each seat that was joined into it: the actor, its receipts, and what it had seen.
     pub kept: LinkedList<(u64, (LinkedList<Entry>, LinkedList<Entry>))>,

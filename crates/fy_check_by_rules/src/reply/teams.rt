@@ -63,13 +63,13 @@ pub(crate) fn form(before: &Past, members: &Members, policy: u32) -> Result<Repl
     Ok(Reply::Formed { team: count as u32 })
 }
 
-/// Whether the team satisfies its policy once the swap is made in it.
-fn meets_with(before: &Past, kept: &Team, swap: Swap) -> Result<bool, AllocError>
-    ensures { IfOk result (λ met. met ≡ meets before.now.config.now kept.now.policy
-        (is_among (swapped swap.out swap.into kept.now.members.items))) }
+/// Whether a team, as it stands so far, satisfies its policy once the swap is made in it.
+fn meets_after_swap(before: &Past, current: &Team, swap: Swap) -> Result<bool, AllocError>
+    ensures { IfOk result (λ met. met ≡ meets before.now.config.now current.now.policy
+        (is_among (swapped swap.out swap.into current.now.members.items))) }
 {
-    let then = swapped(before.alloc, &kept.members, swap.out, swap.into)?;
-    let met = meets(before.config, kept.policy, &then);
+    let then = swapped(before.alloc, &current.members, swap.out, swap.into)?;
+    let met = meets(before.config, current.policy, &then);
     Ok(met)
 }
 
@@ -80,23 +80,23 @@ pub(crate) fn replace(before: &Past, swap: Swap) -> Result<Reply, AllocError>
         → reply ≡ allowed_reply before.now by (Replace swap.team swap.out swap.into)) }
 {
     let Swap { team, out, into } = swap;
-    let Some(kept) = team_at(before, team)? else {
+    let Some(current) = team_at(before, team)? else {
         return Ok(Reply::No(Refusal::NoTeam));
     };
     if into.0 >= before.config.map().len() {
         return Ok(Reply::No(Refusal::NoProcess));
     }
-    if !is_among(&kept.members, out) {
+    if !is_among(&current.members, out) {
         return Ok(Reply::No(Refusal::NotMember));
     }
-    if is_among(&kept.members, into) {
+    if is_among(&current.members, into) {
         return Ok(Reply::No(Refusal::IsMember));
     }
     if gone(before, into) {
         return Ok(Reply::No(Refusal::Gone));
     }
-    let policy = kept.policy;
-    let met = meets_with(before, &kept, swap)?;
+    let policy = current.policy;
+    let met = meets_after_swap(before, &current, swap)?;
     if !met {
         return Ok(Reply::No(Refusal::TeamShort { policy }));
     }

@@ -1,7 +1,12 @@
-//! Replies from JSON values.
+//! Replies from JSON values. Each function is proved to answer what a definition of
+//! `specs/Replied.antt` says, so the order of the arms is free and the words are not.
+//!
+//! Refusals are matched in a chain, a group of words after another. A function of the chain goes on
+//! with the next group, so it answers more than its name says: `refusal_by` goes on with
+//! `refusal_up_to_actors`, that with `refusal_up_to_teams`, and that with `refusal_of_processes`.
 ghost use Rattle.std.specs.Prelude.{◌≡◌, option_map};
 ghost use Rattle.serde_json.specs.View.{view};
-ghost use Rattle.fy_spelling.specs.Replied.{first_word, second_number, second_process, rule_by, rule_from, refusal_of_processes, refusal_of_teams, refusal_of_actors, refusal_by, refusal_from, verdict_from, begun_from, synced_from, numbers_by, reply_by, reply_from};
+ghost use Rattle.fy_spelling.specs.Replied.{first_word, second_number, second_process, rule_by, rule_from, refusal_of_processes, refusal_up_to_teams, refusal_up_to_actors, refusal_by, refusal_from, verdict_from, begun_from, synced_from, numbers_by, reply_by, reply_from};
 
 use crate::parts::{kind_of, process_of, sole, two, u32_of, u64_of};
 use crate::{Refusal, Reply};
@@ -16,14 +21,14 @@ fn first_word(value: &Value) -> Option<&str>
     value.get(0usize)?.as_str()
 }
 
-/// The number behind it.
+/// The number that is the second item of a list.
 fn second_number(value: &Value) -> Option<u32>
     ensures { result ≡ second_number (view value.now) }
 {
     u32_of(value.get(1usize)?)
 }
 
-/// The process behind it.
+/// The process whose number is the second item of a list.
 fn second_process(value: &Value) -> Option<ProcId>
     ensures { result ≡ second_process (view value.now) }
 {
@@ -67,7 +72,7 @@ fn rule_of(value: &Value) -> Option<Rule>
     rule_by(first_word(value)?, value)
 }
 
-/// Refusals that speak of processes and their messages.
+/// A refusal that speaks of processes and their messages: the end of the chain.
 fn refusal_of_processes(word: &str) -> Option<Refusal>
     ensures { result ≡ refusal_of_processes word.now }
 {
@@ -83,9 +88,9 @@ fn refusal_of_processes(word: &str) -> Option<Refusal>
     }
 }
 
-/// Those, or refusals that speak of teams and records.
-fn refusal_of_teams(word: &str) -> Option<Refusal>
-    ensures { result ≡ refusal_of_teams word.now }
+/// A refusal that speaks of teams and records, or one of processes: the last two of the chain.
+fn refusal_up_to_teams(word: &str) -> Option<Refusal>
+    ensures { result ≡ refusal_up_to_teams word.now }
 {
     match word {
         "TooMany" => Some(Refusal::TooMany),
@@ -99,9 +104,10 @@ fn refusal_of_teams(word: &str) -> Option<Refusal>
     }
 }
 
-/// Those, or refusals that speak of actors and the clock.
-fn refusal_of_actors(word: &str) -> Option<Refusal>
-    ensures { result ≡ refusal_of_actors word.now }
+/// Any refusal but those of copies, healing and with a number: one of actors and the clock, or of
+/// teams, records and processes.
+fn refusal_up_to_actors(word: &str) -> Option<Refusal>
+    ensures { result ≡ refusal_up_to_actors word.now }
 {
     match word {
         "Stranger" => Some(Refusal::Stranger),
@@ -110,7 +116,7 @@ fn refusal_of_actors(word: &str) -> Option<Refusal>
         "NoActor" => Some(Refusal::NoActor),
         "Full" => Some(Refusal::Full),
         "NoSuch" => Some(Refusal::NoSuch),
-        _ => refusal_of_teams(word),
+        _ => refusal_up_to_teams(word),
     }
 }
 
@@ -130,7 +136,7 @@ fn refusal_by(word: &str, value: &Value) -> Option<Refusal>
         "NoCopy" => Some(Refusal::NoCopy),
         "IsMember" => Some(Refusal::IsMember),
         "NotDestroyed" => Some(Refusal::NotDestroyed),
-        _ => refusal_of_actors(word),
+        _ => refusal_up_to_actors(word),
     }
 }
 
@@ -141,7 +147,7 @@ fn refusal_of(value: &Value) -> Option<Refusal>
     refusal_by(first_word(value)?, value)
 }
 
-/// What came of an order.
+/// The verdict on an order to kill.
 fn verdict_of(value: &Value) -> Option<Verdict>
     ensures { result ≡ verdict_from (view value.now) }
 {

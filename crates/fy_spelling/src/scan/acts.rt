@@ -1,4 +1,4 @@
-//! Acts at the front of a line.
+//! Scans an act at the front of a line, and gives what stands behind it too.
 ghost use Rattle.std.specs.Prelude.{◌≡◌, ◌++◌, IfSome, codes, decimal};
 ghost use Rattle.fy_locality.specs.Key.{key_text};
 ghost use Rattle.fy_kinds.specs.Kinds.{kind_text};
@@ -106,8 +106,7 @@ fn kill_words(line: &[u8]) -> Option<(Kind, Key, Kind, &[u8])>
 /// Where an act's name begins, behind `{"`.
 const NAME: usize = 2;
 
-// Each act comes with what is behind its end.
-
+/// Scans a Kill; none where its floor is above its kind.
 fn kill(line: &[u8]) -> Option<(Act, &[u8])>
     ensures { IfSome result (λ p. line.now ≡ act_text p.0 ++ p.1.now) }
 {
@@ -121,6 +120,7 @@ fn kill(line: &[u8]) -> Option<(Act, &[u8])>
     Some((Act::Kill { order }, rest))
 }
 
+/// Scans a Clog.
 fn clog(line: &[u8]) -> Option<(Act, &[u8])>
     ensures { IfSome result (λ p. line.now ≡ act_text p.0 ++ p.1.now) }
 {
@@ -132,6 +132,7 @@ fn clog(line: &[u8]) -> Option<(Act, &[u8])>
     Some((Act::Clog { target, ticks }, rest))
 }
 
+/// Scans an Unclog.
 fn unclog(line: &[u8]) -> Option<(Act, &[u8])>
     ensures { IfSome result (λ p. line.now ≡ act_text p.0 ++ p.1.now) }
 {
@@ -143,6 +144,7 @@ fn unclog(line: &[u8]) -> Option<(Act, &[u8])>
     Some((Act::Unclog { target }, rest))
 }
 
+/// Scans a Form.
 fn form(alloc: Global, line: &[u8]) -> Option<(Act, &[u8])>
     ensures { IfSome result (λ p. line.now ≡ act_text p.0 ++ p.1.now) }
 {
@@ -156,6 +158,7 @@ fn form(alloc: Global, line: &[u8]) -> Option<(Act, &[u8])>
     Some((Act::Form { members, policy }, rest))
 }
 
+/// Scans a Begin.
 fn begin(alloc: Global, line: &[u8]) -> Option<(Act, &[u8])>
     ensures { IfSome result (λ p. line.now ≡ act_text p.0 ++ p.1.now) }
 {
@@ -165,6 +168,7 @@ fn begin(alloc: Global, line: &[u8]) -> Option<(Act, &[u8])>
     Some((Act::Begin { team, payload }, rest))
 }
 
+/// Scans a Deliver.
 fn deliver(line: &[u8]) -> Option<(Act, &[u8])>
     ensures { IfSome result (λ p. line.now ≡ act_text p.0 ++ p.1.now) }
 {
@@ -172,6 +176,7 @@ fn deliver(line: &[u8]) -> Option<(Act, &[u8])>
     Some((Act::Deliver { message }, rest))
 }
 
+/// Scans a Lose.
 fn lose(line: &[u8]) -> Option<(Act, &[u8])>
     ensures { IfSome result (λ p. line.now ≡ act_text p.0 ++ p.1.now) }
 {
@@ -179,6 +184,7 @@ fn lose(line: &[u8]) -> Option<(Act, &[u8])>
     Some((Act::Lose { message }, rest))
 }
 
+/// Scans a Resend.
 fn resend(line: &[u8]) -> Option<(Act, &[u8])>
     ensures { IfSome result (λ p. line.now ≡ act_text p.0 ++ p.1.now) }
 {
@@ -187,6 +193,7 @@ fn resend(line: &[u8]) -> Option<(Act, &[u8])>
     Some((Act::Resend { rec, process }, rest))
 }
 
+/// Scans a Sync.
 fn sync(line: &[u8]) -> Option<(Act, &[u8])>
     ensures { IfSome result (λ p. line.now ≡ act_text p.0 ++ p.1.now) }
 {
@@ -194,6 +201,7 @@ fn sync(line: &[u8]) -> Option<(Act, &[u8])>
     Some((Act::Sync { process }, rest))
 }
 
+/// Scans an Up.
 fn up(line: &[u8]) -> Option<(Act, &[u8])>
     ensures { IfSome result (λ p. line.now ≡ act_text p.0 ++ p.1.now) }
 {
@@ -201,6 +209,7 @@ fn up(line: &[u8]) -> Option<(Act, &[u8])>
     Some((Act::Up { process }, rest))
 }
 
+/// Scans a Heal.
 fn heal(line: &[u8]) -> Option<(Act, &[u8])>
     ensures { IfSome result (λ p. line.now ≡ act_text p.0 ++ p.1.now) }
 {
@@ -208,6 +217,7 @@ fn heal(line: &[u8]) -> Option<(Act, &[u8])>
     Some((Act::Heal { process }, rest))
 }
 
+/// Scans a Tick.
 fn tick(line: &[u8]) -> Option<(Act, &[u8])>
     ensures { IfSome result (λ p. line.now ≡ act_text p.0 ++ p.1.now) }
 {
@@ -230,6 +240,7 @@ fn scope(line: &[u8]) -> Option<(Scope, &[u8])>
     Some((Scope::Where(target), rest))
 }
 
+/// Scans a Give.
 fn give(line: &[u8]) -> Option<(Act, &[u8])>
     ensures { IfSome result (λ p. line.now ≡ act_text p.0 ++ p.1.now) }
 {
@@ -246,6 +257,7 @@ fn give(line: &[u8]) -> Option<(Act, &[u8])>
     Some((Act::Give { grant }, rest))
 }
 
+/// Scans a Take.
 fn take(line: &[u8]) -> Option<(Act, &[u8])>
     ensures { IfSome result (λ p. line.now ≡ act_text p.0 ++ p.1.now) }
 {
@@ -253,6 +265,7 @@ fn take(line: &[u8]) -> Option<(Act, &[u8])>
     Some((Act::Take { actor, index }, rest))
 }
 
+/// Scans a Protect.
 fn protect(line: &[u8]) -> Option<(Act, &[u8])>
     ensures { IfSome result (λ p. line.now ≡ act_text p.0 ++ p.1.now) }
 {
@@ -261,6 +274,7 @@ fn protect(line: &[u8]) -> Option<(Act, &[u8])>
     Some((Act::Protect { process, kinds }, rest))
 }
 
+/// Scans an Unprotect.
 fn unprotect(line: &[u8]) -> Option<(Act, &[u8])>
     ensures { IfSome result (λ p. line.now ≡ act_text p.0 ++ p.1.now) }
 {
@@ -269,6 +283,7 @@ fn unprotect(line: &[u8]) -> Option<(Act, &[u8])>
     Some((Act::Unprotect { process, kinds }, rest))
 }
 
+/// Scans a CopyTo.
 fn copy(line: &[u8]) -> Option<(Act, &[u8])>
     ensures { IfSome result (λ p. line.now ≡ act_text p.0 ++ p.1.now) }
 {
@@ -283,6 +298,7 @@ fn copy(line: &[u8]) -> Option<(Act, &[u8])>
     Some((Act::CopyTo { from, rec, to }, rest))
 }
 
+/// Scans a Replace.
 fn replace(line: &[u8]) -> Option<(Act, &[u8])>
     ensures { IfSome result (λ p. line.now ≡ act_text p.0 ++ p.1.now) }
 {
@@ -318,7 +334,8 @@ fn act_by_third(line: &[u8], first: u8) -> Option<(Act, &[u8])>
 /// An act, told by the first letter of its name.
 ///
 /// Each act's own scan compares its whole name. A letter tells which of the eighteen to try: most
-/// of the time of `run` and `check` goes into lines, and a try of one name after another costs more.
+/// of the time of `run` and `check` goes into lines, and a try of one name after another costs
+/// more.
 pub(super) fn act(alloc: Global, line: &[u8]) -> Option<(Act, &[u8])>
     ensures { IfSome result (λ p. line.now ≡ act_text p.0 ++ p.1.now) }
 {

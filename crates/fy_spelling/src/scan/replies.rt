@@ -1,4 +1,6 @@
-//! Replies, each as the last member of an entry with the entry's end.
+//! Scans a reply, which is the last member of an entry, with the entry's end. The texts are those
+//! that `writing/replies.rt` puts. What a function finds is proved to have this very text, so it
+//! may miss a reply and never mistake one; what is missed is read as a JSON value.
 ghost use Rattle.std.specs.Prelude.{◌≡◌, ◌++◌, IfSome, codes};
 ghost use Rattle.fy_spelling.specs.Fits.{FitsRule, FitsRefusal, FitsReply};
 ghost use Rattle.fy_spelling.specs.Pieces.{between_text, rule_text, struck_text, verdict_text, ruled_text, refusal_text, marked_text, reply_text};
@@ -105,6 +107,7 @@ fn struck(line: &[u8]) -> Option<Option<Kind>>
     }
 }
 
+/// The verdict on a kill.
 fn verdict(line: &[u8]) -> Option<Reply>
     ensures reads { IfSome result (λ reply. line.now ≡ reply_text reply) }
     ensures fits { IfSome result (λ reply. FitsReply reply) }
@@ -114,6 +117,7 @@ fn verdict(line: &[u8]) -> Option<Reply>
     Some(Reply::Verdict(Verdict { struck, rule }))
 }
 
+/// The reply to a clog or to an end of clogs: the rule that bars it, or none.
 fn ruled(line: &[u8]) -> Option<Reply>
     ensures reads { IfSome result (λ reply. line.now ≡ reply_text reply) }
     ensures fits { IfSome result (λ reply. FitsReply reply) }
@@ -126,6 +130,7 @@ fn ruled(line: &[u8]) -> Option<Reply>
     }
 }
 
+/// The reply to a Begin.
 fn begun(line: &[u8]) -> Option<Reply>
     ensures reads { IfSome result (λ reply. line.now ≡ reply_text reply) }
     ensures fits { IfSome result (λ reply. FitsReply reply) }
@@ -135,6 +140,7 @@ fn begun(line: &[u8]) -> Option<Reply>
     Some(Reply::Begun { rec, first })
 }
 
+/// The reply to a Sync.
 fn synced(line: &[u8]) -> Option<Reply>
     ensures reads { IfSome result (λ reply. line.now ≡ reply_text reply) }
     ensures fits { IfSome result (λ reply. FitsReply reply) }
@@ -144,6 +150,7 @@ fn synced(line: &[u8]) -> Option<Reply>
     Some(Reply::Synced { first, count })
 }
 
+/// The reply to a Form.
 fn formed(line: &[u8]) -> Option<Reply>
     ensures reads { IfSome result (λ reply. line.now ≡ reply_text reply) }
     ensures fits { IfSome result (λ reply. FitsReply reply) }
@@ -152,6 +159,7 @@ fn formed(line: &[u8]) -> Option<Reply>
     Some(Reply::Formed { team })
 }
 
+/// The reply to a Resend or a CopyTo.
 fn sent(line: &[u8]) -> Option<Reply>
     ensures reads { IfSome result (λ reply. line.now ≡ reply_text reply) }
     ensures fits { IfSome result (λ reply. FitsReply reply) }
@@ -160,6 +168,7 @@ fn sent(line: &[u8]) -> Option<Reply>
     Some(Reply::Sent { message })
 }
 
+/// The reply to a Tick.
 fn time(line: &[u8]) -> Option<Reply>
     ensures reads { IfSome result (λ reply. line.now ≡ reply_text reply) }
     ensures fits { IfSome result (λ reply. FitsReply reply) }
@@ -168,6 +177,7 @@ fn time(line: &[u8]) -> Option<Reply>
     Some(Reply::Time { now })
 }
 
+/// The reply to the delivery of an acknowledgement.
 fn marked(line: &[u8]) -> Option<Reply>
     ensures reads { IfSome result (λ reply. line.now ≡ reply_text reply) }
     ensures fits { IfSome result (λ reply. FitsReply reply) }
@@ -195,10 +205,13 @@ fn worded(line: &[u8]) -> Option<Reply>
     }
 }
 
-// A refusal that is a word alone is told by that word: the refusal's text is then the word between
-// what stands before and behind each of them.
+// A refusal without a number is told by its word. The words are asked for in a chain of four
+// functions, from processes over teams and actors to healing: each goes on with the next where it
+// hasn't the word, so the first answers for all four. The order of the chain is free.
 
-fn refusal_of_processes(word: &[u8]) -> Option<Refusal>
+/// Any refusal without a number: one of processes and messages, or whatever `refusal_from_teams`
+/// finds.
+fn refusal_from_processes(word: &[u8]) -> Option<Refusal>
     ensures reads { IfSome result (λ refusal.
         refusal_text refusal ≡ codes ",\"reply\":{\"no\":[\"" ++ (word.now ++ codes "\"]}}")) }
     ensures fits { IfSome result (λ refusal. FitsRefusal refusal) }
@@ -218,11 +231,12 @@ fn refusal_of_processes(word: &[u8]) -> Option<Refusal>
     } else if is_exactly(word, "NetFull") {
         Some(Refusal::NetFull)
     } else {
-        refusal_of_teams(word)
+        refusal_from_teams(word)
     }
 }
 
-fn refusal_of_teams(word: &[u8]) -> Option<Refusal>
+/// A refusal of teams and records, or whatever `refusal_from_actors` finds.
+fn refusal_from_teams(word: &[u8]) -> Option<Refusal>
     ensures reads { IfSome result (λ refusal.
         refusal_text refusal ≡ codes ",\"reply\":{\"no\":[\"" ++ (word.now ++ codes "\"]}}")) }
     ensures fits { IfSome result (λ refusal. FitsRefusal refusal) }
@@ -242,11 +256,12 @@ fn refusal_of_teams(word: &[u8]) -> Option<Refusal>
     } else if is_exactly(word, "NoPolicy") {
         Some(Refusal::NoPolicy)
     } else {
-        refusal_of_actors(word)
+        refusal_from_actors(word)
     }
 }
 
-fn refusal_of_actors(word: &[u8]) -> Option<Refusal>
+/// A refusal of actors and the clock, or whatever `refusal_of_healing` finds.
+fn refusal_from_actors(word: &[u8]) -> Option<Refusal>
     ensures reads { IfSome result (λ refusal.
         refusal_text refusal ≡ codes ",\"reply\":{\"no\":[\"" ++ (word.now ++ codes "\"]}}")) }
     ensures fits { IfSome result (λ refusal. FitsRefusal refusal) }
@@ -268,6 +283,7 @@ fn refusal_of_actors(word: &[u8]) -> Option<Refusal>
     }
 }
 
+/// A refusal of copies, replacements and healing: the end of the chain.
 fn refusal_of_healing(word: &[u8]) -> Option<Refusal>
     ensures reads { IfSome result (λ refusal.
         refusal_text refusal ≡ codes ",\"reply\":{\"no\":[\"" ++ (word.now ++ codes "\"]}}")) }
@@ -296,18 +312,20 @@ fn refusal_of_number(line: &[u8]) -> Option<Refusal>
     Some(Refusal::StillNeeds { rec })
 }
 
+/// Any refusal.
 fn refusal(line: &[u8]) -> Option<Refusal>
     ensures reads { IfSome result (λ refusal. line.now ≡ refusal_text refusal) }
     ensures fits { IfSome result (λ refusal. FitsRefusal refusal) }
 {
     let (word, rest) = string_after(line, ",\"reply\":{\"no\":[\"")?;
     if is_exactly(rest, "]}}") {
-        refusal_of_processes(word)
+        refusal_from_processes(word)
     } else {
         refusal_of_number(line)
     }
 }
 
+/// The reply that refuses an act.
 fn no(line: &[u8]) -> Option<Reply>
     ensures reads { IfSome result (λ reply. line.now ≡ reply_text reply) }
     ensures fits { IfSome result (λ reply. FitsReply reply) }

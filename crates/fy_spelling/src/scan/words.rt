@@ -103,6 +103,7 @@ pub(super) fn u32_after<'l>(line: &'l [u8], text: &str) -> Option<(u32, &'l [u8]
     Some((number as u32, rest))
 }
 
+/// The kind that a word is.
 fn kind(word: &[u8]) -> Option<Kind>
     ensures { IfSome result (λ kind. word.now ≡ kind_text kind) }
 {
@@ -119,6 +120,7 @@ fn kind(word: &[u8]) -> Option<Kind>
     }
 }
 
+/// The key that a word is.
 fn key(word: &[u8]) -> Option<Key>
     ensures { IfSome result (λ key. word.now ≡ key_text key) }
 {

@@ -1,4 +1,4 @@
-//! Texts of acts.
+//! Writes the text of an act: promised byte for byte, cut into pieces at will.
 ghost use Rattle.std.specs.Prelude.{◌≡◌, ◌++◌, OnOk, decimal, codes, true, false};
 ghost use Rattle.serde_json.specs.Written.{comma_if};
 ghost use Rattle.std.specs.List.{AllByRecursion};
@@ -58,6 +58,7 @@ fn put_target(out: &mut Vec<u8>, head: &str, target: &Target, tail: &str) -> Res
     put_name(out, "\",\"value\":\"", &target.value, tail)
 }
 
+/// Writes a target's key and the order's kind, within a kill.
 fn put_keys(out: &mut Vec<u8>, key: &str, kind: &str) -> Result<(), AllocError>
     ensures { AppendsOrOom result out.old.items out.new.items (keys_text key.now kind.now) }
 {
@@ -65,6 +66,7 @@ fn put_keys(out: &mut Vec<u8>, key: &str, kind: &str) -> Result<(), AllocError>
     put_word(out, "\",\"kind\":\"", kind)
 }
 
+/// Writes a kill's floor, and then its target's key and its kind.
 fn put_words(out: &mut Vec<u8>, floor: &str, key: &str, kind: &str) -> Result<(), AllocError>
     ensures { AppendsOrOom result out.old.items out.new.items (words_text floor.now key.now kind.now) }
 {
@@ -72,6 +74,7 @@ fn put_words(out: &mut Vec<u8>, floor: &str, key: &str, kind: &str) -> Result<()
     put_keys(out, key, kind)
 }
 
+/// Writes a Kill.
 fn put_kill(out: &mut Vec<u8>, order: &KillOrder) -> Result<(), AllocError>
     ensures text { AppendsOrOom result out.old.items out.new.items (order_text order.now) }
     ensures name { OnOk result (FitsTarget order.now.target) }
@@ -86,6 +89,7 @@ fn put_kill(out: &mut Vec<u8>, order: &KillOrder) -> Result<(), AllocError>
     put_valued(out, "\",\"tear\":", order.tear(), &target.value)
 }
 
+/// Writes a Clog.
 fn put_clog(out: &mut Vec<u8>, target: &Target, ticks: u64) -> Result<(), AllocError>
     ensures text { AppendsOrOom result out.old.items out.new.items (clog_text target.now ticks) }
     ensures name { OnOk result (FitsTarget target.now) }
@@ -94,6 +98,7 @@ fn put_clog(out: &mut Vec<u8>, target: &Target, ticks: u64) -> Result<(), AllocE
     put_valued(out, "\",\"ticks\":", ticks, &target.value)
 }
 
+/// Writes the numbers of processes, with commas between.
 fn put_processes(out: &mut Vec<u8>, processes: &[ProcId]) -> Result<(), AllocError>
     ensures { AppendsOrOom result out.old.items out.new.items (processes_text false processes.now) }
 {
@@ -108,6 +113,7 @@ fn put_processes(out: &mut Vec<u8>, processes: &[ProcId]) -> Result<(), AllocErr
     Ok(())
 }
 
+/// Writes a Form.
 fn put_form(out: &mut Vec<u8>, members: &[ProcId], policy: u32) -> Result<(), AllocError>
     ensures { AppendsOrOom result out.old.items out.new.items (form_text members.now policy) }
 {
@@ -133,6 +139,7 @@ fn put_bytes(out: &mut Vec<u8>, bytes: &[u8]) -> Result<(), AllocError>
     Ok(())
 }
 
+/// Writes a Begin.
 fn put_begin(out: &mut Vec<u8>, team: u32, payload: &Payload) -> Result<(), AllocError>
     ensures text { AppendsOrOom result out.old.items out.new.items (begin_text team payload.now) }
     ensures bytes { OnOk result (AllByRecursion IsByte payload.now) }
@@ -151,6 +158,7 @@ fn put_listed(out: &mut Vec<u8>, later: bool, word: &str) -> Result<(), AllocErr
     put(out, "\"")
 }
 
+/// Writes the words of a set of kinds, the mildest first and clogging last.
 fn put_kinds(out: &mut Vec<u8>, kinds: KindSet) -> Result<(), AllocError>
     ensures { AppendsOrOom result out.old.items out.new.items (deeds_text false (in_order kinds)) }
 {
@@ -167,6 +175,7 @@ fn put_kinds(out: &mut Vec<u8>, kinds: KindSet) -> Result<(), AllocError>
     Ok(())
 }
 
+/// Writes the scope of a grant, and the end of the act.
 fn put_scope(out: &mut Vec<u8>, scope: &Scope) -> Result<(), AllocError>
     ensures text { AppendsOrOom result out.old.items out.new.items (scope_text scope.now) }
     ensures name { OnOk result (FitsScope scope.now) }
@@ -177,6 +186,7 @@ fn put_scope(out: &mut Vec<u8>, scope: &Scope) -> Result<(), AllocError>
     }
 }
 
+/// Writes a Give.
 fn put_give(out: &mut Vec<u8>, grant: &Grant) -> Result<(), AllocError>
     ensures text { AppendsOrOom result out.old.items out.new.items (give_text grant.now) }
     ensures name { OnOk result (FitsScope grant.now.scope) }
@@ -201,6 +211,7 @@ fn put_protection(
     put_one(out, "],\"process\":", process.0 as u64)
 }
 
+/// Writes a Resend.
 #[inline(always)]
 fn put_resend(out: &mut Vec<u8>, rec: u32, process: ProcId) -> Result<(), AllocError>
     ensures { AppendsOrOom result out.old.items out.new.items (act_text (Resend rec process)) }
@@ -209,6 +220,7 @@ fn put_resend(out: &mut Vec<u8>, rec: u32, process: ProcId) -> Result<(), AllocE
     put_two(out, head, process.0 as u64, ",\"record\":", rec as u64)
 }
 
+/// Writes a Take.
 #[inline(always)]
 fn put_take(out: &mut Vec<u8>, actor: u32, index: u32) -> Result<(), AllocError>
     ensures { AppendsOrOom result out.old.items out.new.items (act_text (Take actor index)) }
@@ -217,6 +229,7 @@ fn put_take(out: &mut Vec<u8>, actor: u32, index: u32) -> Result<(), AllocError>
     put_two(out, head, actor as u64, ",\"index\":", index as u64)
 }
 
+/// Writes a CopyTo.
 #[inline(always)]
 fn put_copy(out: &mut Vec<u8>, from: ProcId, rec: u32, to: ProcId) -> Result<(), AllocError>
     ensures { AppendsOrOom result out.old.items out.new.items (act_text (CopyTo from rec to)) }

@@ -1,4 +1,5 @@
-//! Texts of replies, each as the last member of an entry.
+//! Writes the text of a reply, which is the last member of an entry, with the entry's end. The
+//! texts are promised byte for byte (docs/FORMATS.md); how they are cut into pieces is free.
 ghost use Rattle.std.specs.Prelude.{◌≡◌, ◌++◌, OnOk, codes};
 ghost use Rattle.fy_spelling.specs.AppendsOrOom.{AppendsOrOom};
 ghost use Rattle.fy_spelling.specs.Pieces.{rule_text, struck_text, verdict_text, ruled_text, begun_text, synced_text, refusal_word, refusal_end, refusal_text, marked_text, reply_text};
@@ -8,6 +9,7 @@ use crate::{Refusal, Reply};
 use fy_kinds::{Kind, Rule, Verdict};
 use std::alloc::AllocError;
 
+/// Writes a rule as a list, or `null` for none.
 fn put_rule(out: &mut Vec<u8>, rule: Option<Rule>) -> Result<(), AllocError>
     ensures { AppendsOrOom result out.old.items out.new.items (rule_text rule) }
 {
@@ -27,6 +29,7 @@ fn put_rule(out: &mut Vec<u8>, rule: Option<Rule>) -> Result<(), AllocError>
     }
 }
 
+/// Writes the kind that struck, or `null` for none, with the entry's end.
 fn put_struck(out: &mut Vec<u8>, struck: Option<Kind>) -> Result<(), AllocError>
     ensures { AppendsOrOom result out.old.items out.new.items (struck_text struck) }
 {
@@ -36,6 +39,7 @@ fn put_struck(out: &mut Vec<u8>, struck: Option<Kind>) -> Result<(), AllocError>
     }
 }
 
+/// Writes the word of the kind that struck, with the entry's end.
 fn put_kind(out: &mut Vec<u8>, kind: &str) -> Result<(), AllocError>
     ensures { AppendsOrOom result out.old.items out.new.items
         (codes ",\"struck\":\"" ++ (kind.now ++ codes "\"}}}")) }
@@ -44,6 +48,7 @@ fn put_kind(out: &mut Vec<u8>, kind: &str) -> Result<(), AllocError>
     put(out, "\"}}}")
 }
 
+/// Writes the reply to a kill.
 fn put_verdict(out: &mut Vec<u8>, verdict: &Verdict) -> Result<(), AllocError>
     ensures { AppendsOrOom result out.old.items out.new.items (verdict_text verdict.now) }
 {
@@ -52,6 +57,7 @@ fn put_verdict(out: &mut Vec<u8>, verdict: &Verdict) -> Result<(), AllocError>
     put_struck(out, verdict.struck)
 }
 
+/// Writes the reply to a clog or to an end of clogs: the rule that bars it, or none.
 fn put_ruled(out: &mut Vec<u8>, rule: Option<Rule>) -> Result<(), AllocError>
     ensures { AppendsOrOom result out.old.items out.new.items (ruled_text rule) }
 {
@@ -60,6 +66,7 @@ fn put_ruled(out: &mut Vec<u8>, rule: Option<Rule>) -> Result<(), AllocError>
     put(out, "}}")
 }
 
+/// Writes the reply to a Begin.
 fn put_begun(out: &mut Vec<u8>, rec: u32, first: u64) -> Result<(), AllocError>
     ensures { AppendsOrOom result out.old.items out.new.items (begun_text rec first) }
 {
@@ -67,6 +74,7 @@ fn put_begun(out: &mut Vec<u8>, rec: u32, first: u64) -> Result<(), AllocError>
     put_between(out, ",\"record\":", rec as u64, "}}}")
 }
 
+/// Writes the reply to a Sync.
 fn put_synced(out: &mut Vec<u8>, first: u64, count: u32) -> Result<(), AllocError>
     ensures { AppendsOrOom result out.old.items out.new.items (synced_text first count) }
 {
@@ -74,6 +82,7 @@ fn put_synced(out: &mut Vec<u8>, first: u64, count: u32) -> Result<(), AllocErro
     put_between(out, ",\"first\":", first, "}}}")
 }
 
+/// Writes the reply to the delivery of an acknowledgement.
 fn put_marked(out: &mut Vec<u8>, acked: bool) -> Result<(), AllocError>
     ensures { AppendsOrOom result out.old.items out.new.items (marked_text acked) }
 {
@@ -129,6 +138,7 @@ fn put_refusal_end(out: &mut Vec<u8>, refusal: Refusal) -> Result<(), AllocError
     }
 }
 
+/// Writes the reply that refuses an act.
 fn put_refusal(out: &mut Vec<u8>, refusal: Refusal) -> Result<(), AllocError>
     ensures { AppendsOrOom result out.old.items out.new.items (refusal_text refusal) }
 {

@@ -12,7 +12,7 @@ ghost use Rattle.fy_cluster.specs.History.{history, destroyed, left, members_for
 ghost use Rattle.fy_cluster.specs.Rules.{situation};
 ghost use Rattle.fy_cluster.specs.Replies.{Legal};
 ghost use Rattle.fy_cluster.specs.Survival.{by_and_act, Kept};
-ghost use Rattle.fy_worked.specs.Clusters.{six, process};
+ghost use Rattle.fy_worked.specs.Clusters.{six, four, process};
 ghost use Rattle.fy_worked.specs.Strikes.{two_zones, one_zone, second_kill};
 ghost use Rattle.fy_worked.specs.Records.{written_and_synced, first_acknowledged};
 
@@ -21,6 +21,11 @@ use super::{records, strikes};
 /// All processes of the six satisfy their policy, which is within its limits.
 pub fn six_is_met()
     ensures { IsMet six }
+{}
+
+/// The four satisfy the same policy.
+pub fn four_is_met()
+    ensures { IsMet four }
 {}
 
 /// After a legal journal the destroyed are short of the policy, and those left satisfy it.

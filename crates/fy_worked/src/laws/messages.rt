@@ -40,7 +40,7 @@ pub fn clogged_by_zone()
     ensures clogged { members (clogged (history six clogged_by_zone)) ≡ 0 ∷ [] }
 {}
 
-/// A clog holds a process's words back as well as what it is sent.
+/// A clog holds a process's acknowledgements back as well as what it is sent.
 pub fn ack_held_back()
     ensures legal { Legal six ack_held_back }
     ensures marked { members (marked (history six ack_held_back) 0) ≡ 0 ∷ [] }
@@ -96,7 +96,7 @@ pub fn clogged_and_down()
     ensures clogged { members (clogged (history six clogged_and_down)) ≡ [] }
 {}
 
-/// No clog is for a process that is gone, and its word comes.
+/// No clog is for a process that is gone, and its acknowledgement comes.
 pub fn ack_of_the_gone()
     ensures legal { Legal six ack_of_the_gone }
     ensures clogged { members (clogged (history six ack_of_the_gone)) ≡ 1 ∷ [] }

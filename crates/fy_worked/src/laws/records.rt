@@ -6,8 +6,8 @@ ghost use Rattle.fy_cluster.specs.Replies.{Legal};
 ghost use Rattle.fy_worked.specs.Clusters.{six, four_of_one, members, process};
 ghost use Rattle.fy_worked.specs.Records.{written_and_synced, forgotten, and_back, acknowledged, spared, three_written, torn, torn_and_back, torn_once, counted_anew, counted_anew_after_sync, last_bit_kept, emptied_unsynced, weakened_and_torn, restarted, not_synced_while_down, restarted_and_torn, one_ack_each, first_acknowledged, written_again, second_team, item, hi};
 
-/// A record is acknowledged once each member's word of it has come. Its keeper is the member that
-/// isn't destroyed.
+/// A record is acknowledged once each member's acknowledgement of it has come. Its keeper is the
+/// member that isn't destroyed.
 pub fn written_and_synced()
     ensures legal { Legal six written_and_synced }
     ensures keeper { keeper six (history six written_and_synced) 0 ≡ Some (process 2) }
@@ -65,7 +65,7 @@ pub fn torn()
     ensures unsynced { unsynced (history six torn) 0 ≡ [] }
 {}
 
-/// What a reboot kept needs no sync: no word is sent of it.
+/// What a reboot kept needs no sync: no acknowledgement is sent of it.
 pub fn torn_and_back()
     ensures legal { Legal six torn_and_back }
     ensures synced { synced (history six torn_and_back) 0
@@ -86,15 +86,15 @@ pub fn counted_anew()
         ≡ item 0 (10 ∷ []) ∷ item 2 (12 ∷ []) ∷ item 1 (11 ∷ []) ∷ [] }
 {}
 
-/// They count from the last sync, too.
+/// The places of unsynced writes count from the last sync, too.
 pub fn counted_anew_after_sync()
     ensures legal { Legal six counted_anew_after_sync }
     ensures synced { synced (history six counted_anew_after_sync) 0
         ≡ item 0 (10 ∷ []) ∷ item 1 (11 ∷ []) ∷ item 2 (12 ∷ []) ∷ item 1 (11 ∷ []) ∷ [] }
 {}
 
-/// The last of the 64 bits is that of the place 63. The write at the place 64 has no bit, and is torn
-/// off.
+/// The last of the 64 bits is that of the place 63. The write at the place 64 has no bit, and is
+/// torn off.
 pub fn last_bit_kept()
     ensures legal { Legal four_of_one last_bit_kept }
     ensures synced { synced (history four_of_one last_bit_kept) 0

@@ -72,7 +72,8 @@ pub fn all_marked()
     ensures keeper { keeper six (history six all_marked) 0 ≡ None }
 {}
 
-/// So its record is sent again.
+/// A record whose members have all marked it by a replacement isn't acknowledged yet, and is sent
+/// again.
 pub fn not_yet_acknowledged()
     ensures legal { Legal six not_yet_acknowledged }
     ensures acked { acked (history six not_yet_acknowledged) 0 ≡ false }

@@ -28,20 +28,20 @@ loop-p-preserved-in_default-peers t c = λ counted s level within.
 
 pub loop-p-smaller : goal.loop-p-smaller
 loop-p-smaller t c =
-    fewer-members c.args.map.now c.in-Across.key c.loop-p.rest c.in-Some-peers.peers c.intersection-members.result c.difference-rest.result c.in-Some.p.0 c.in-Some-peers.ensures.some.value
-    c.in-Some-peers.ensures.some.had c.in-Some-peers.ensures.some.those c.intersection-members.ensures c.difference-rest.ensures c.in-Some.ensures.some.present c.in-Some.ensures.small
+    fewer-members c.args.map.now c.in-Across.key c.loop-p.rest c.in-Some-peers.peers c.intersection-with_value.result c.difference-rest.result c.in-Some.p.0 c.in-Some-peers.ensures.some.value
+    c.in-Some-peers.ensures.some.had c.in-Some-peers.ensures.some.those c.intersection-with_value.ensures c.difference-rest.ensures c.in-Some.ensures.some.present c.in-Some.ensures.small
 
 pub loop-p-preserved : goal.loop-p-preserved
 loop-p-preserved t c = λ counted s level within.
     let below : IsWellFormed (tree_of c.in-Across.inner.value) = (inner_counted _ _ _ _ c.in-Across.is counted).1 in
-    let found : (x : ℕ) → sets.contains c.intersection-members.result x ≡ _ = contains-members c.args.map.now c.in-Across.key c.loop-p.rest c.in-Some-peers.peers c.intersection-members.result c.difference-rest.result c.in-Some.p.0 c.in-Some-peers.ensures.some.value
-    c.in-Some-peers.ensures.some.had c.in-Some-peers.ensures.some.those c.intersection-members.ensures c.difference-rest.ensures in
-    let left : (x : ℕ) → sets.contains c.difference-rest.result x ≡ _ = contains-others c.args.map.now c.in-Across.key c.loop-p.rest c.in-Some-peers.peers c.intersection-members.result c.difference-rest.result c.in-Some.p.0 c.in-Some-peers.ensures.some.value
-    c.in-Some-peers.ensures.some.had c.in-Some-peers.ensures.some.those c.intersection-members.ensures c.difference-rest.ensures in
-    let inner : NeedsAtLeast c.args.map.now (tree_of c.in-Across.inner.value) (sets.contains c.intersection-members.result) (sets.contains c.args.free.now) c.in_ok-part-in-Across.part.least =
-    subst (λ q. NeedsAtLeast c.args.map.now (tree_of q) (sets.contains c.intersection-members.result) (sets.contains c.args.free.now) c.in_ok-part-in-Across.part.least) c.deref.ensures (c.in_ok-part-in-Across.ensures (subst (λ q. IsWellFormed (tree_of q)) (sym c.deref.ensures) below)) in
+    let found : (x : ℕ) → sets.contains c.intersection-with_value.result x ≡ _ = contains-members c.args.map.now c.in-Across.key c.loop-p.rest c.in-Some-peers.peers c.intersection-with_value.result c.difference-rest.result c.in-Some.p.0 c.in-Some-peers.ensures.some.value
+    c.in-Some-peers.ensures.some.had c.in-Some-peers.ensures.some.those c.intersection-with_value.ensures c.difference-rest.ensures in
+    let left : (x : ℕ) → sets.contains c.difference-rest.result x ≡ _ = contains-others c.args.map.now c.in-Across.key c.loop-p.rest c.in-Some-peers.peers c.intersection-with_value.result c.difference-rest.result c.in-Some.p.0 c.in-Some-peers.ensures.some.value
+    c.in-Some-peers.ensures.some.had c.in-Some-peers.ensures.some.those c.intersection-with_value.ensures c.difference-rest.ensures in
+    let inner : NeedsAtLeast c.args.map.now (tree_of c.in-Across.inner.value) (sets.contains c.intersection-with_value.result) (sets.contains c.args.free.now) c.in_ok-part-in-Across.part.least =
+    subst (λ q. NeedsAtLeast c.args.map.now (tree_of q) (sets.contains c.intersection-with_value.result) (sets.contains c.args.free.now) c.in_ok-part-in-Across.part.least) c.deref.ensures (c.in_ok-part-in-Across.ensures (subst (λ q. IsWellFormed (tree_of q)) (sym c.deref.ensures) below)) in
     subst (λ counts. NeedSoFar c.args.map.now c.in-Across.key (tree_of c.in-Across.inner.value) (sets.contains c.args.free.now) (sets.contains c.difference-rest.result) counts s level) (sym c.in_ok-push-in-Across.ensures.items)
-    (fewest_to_satisfy-goes-on c.args.map.now c.in-Across.key (tree_of c.in-Across.inner.value) (sets.contains c.args.free.now) c.values_pass_apart.ensures below (sets.contains c.loop-p.rest) (sets.contains c.intersection-members.result) (sets.contains c.difference-rest.result)
+    (fewest_to_satisfy-goes-on c.args.map.now c.in-Across.key (tree_of c.in-Across.inner.value) (sets.contains c.args.free.now) c.values_pass_apart.ensures below (sets.contains c.loop-p.rest) (sets.contains c.intersection-with_value.result) (sets.contains c.difference-rest.result)
     c.in-Some-peers.ensures.some.value c.in-Some.p.0 c.in-Some-peers.ensures.some.had found left c.loop-p.counts.items c.in_ok-part-in-Across.part.least inner s level (c.loop-p.invariant counted s level within))
 
 pub returns-in_default : goal.returns-in_default

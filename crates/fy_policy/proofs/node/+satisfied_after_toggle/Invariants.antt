@@ -7,8 +7,8 @@ use Rattle.fy_policy.proofs.node.+satisfied_after_toggle.Given as goal
 
 -- the processes of some values came or went, and those of the others are the rest
 abbrev pub invariant-loop-p : goal.invariant-loop-p
-invariant-loop-p l = (at : ℕ → ℕ) (s : ℕ → Bool) → AreCountersAt l.map at s l.group l.node → CanToggle l.map at l.group s (sets.contains l.those) l.comes
-    → Halfway l.map at l.group s l.key (tree_of_node l.inner.value) (sets.contains l.those) l.comes (sets.contains l.rest) l.count
+invariant-loop-p l = (at : ℕ → ℕ) (s : ℕ → Bool) → AreCountersAt l.map at s l.group l.node → CanToggle l.map at l.group s (sets.contains l.those) l.joins
+    → Halfway l.map at l.group s l.key (tree_of_node l.inner.value) (sets.contains l.those) l.joins (sets.contains l.rest) l.count
 
 abbrev pub decreases-loop-p : goal.decreases-loop-p
 decreases-loop-p l = number_of (sets.contains l.rest) 1024

@@ -9,7 +9,7 @@ use Rattle.fy_journal.specs.declared.version.Version.TheVariants.{Second}
 use Rattle.fy_run.specs.GuardTexts.{AppendsAtLeast, GivesCommand}
 use Rattle.fy_engine.specs.declared.stop.Stop.TheVariants.{Read, Write, NoMemory}
 use Rattle.fy_run.proofs.Acting.{one_longer}
-use Rattle.fy_run.proofs.Guarding.{HasAnswered, opens, goes_on, limit_is_small, answers_all, in_turn, refused_line, refused_command, at_least, still_out, none_out, header_short, answer_short, no_command_write, no_answer_read, no_command_own, no_answer_own, same_stop}
+use Rattle.fy_run.proofs.Guarding.{HasAnswered, opens, goes_on, gave, limit_is_small, answers_all, in_turn, refused_line, refused_command, at_least, still_out, none_out, header_short, answer_short, no_command_write, no_answer_read, no_command_own, no_answer_own, same_stop}
 use Rattle.fy_run.proofs.guard.run_guard.Goals as goal
 
 pub returns-in_default-write_bytes-clause-front_out :
@@ -43,149 +43,73 @@ lines-init g c =
 
 pub returns-in-Ok-None-clause-answered : goal.returns-in-Ok-None-clause-answered
 returns-in-Ok-None-clause-answered g c =
-    let known = g.R.Read.remaining c.args.reader.now in
     let left = g.R.Read.remaining c.lines.reader in
-    let before = g.W.Write.contents c.args.writer.now in
-    let out = g.W.Write.contents c.lines.writer in
-    let has = c.lines.invariant.1 in
     let ends : IsAtEnd left =
-    subst (λ o. IfNone o (IsAtEnd left)) c.in-Ok-None.field-0-is c.in-Ok-None.ensures.none in (
-      refl,
-      answers_all c.args.config.now known left before out c.lines.cluster (Appends before out) has
-          ends has.written,
-    )
+    subst (λ o. IfNone o (IsAtEnd left)) c.in-Ok-None.field-0-is c.in-Ok-None.ensures.none in
+    (refl, answers_all _ _ c.lines.invariant.1 ends c.lines.invariant.1.written)
 
 pub returns-in-Ok-None-clause-in_turn : goal.returns-in-Ok-None-clause-in_turn
 returns-in-Ok-None-clause-in_turn g c =
-    let known = g.R.Read.remaining c.args.reader.now in
-    let left = g.R.Read.remaining c.lines.reader in
-    let next = g.R.Read.remaining c.next_command.new.reader in
-    let before = g.W.Write.contents c.args.writer.now in
-    let out = g.W.Write.contents c.lines.writer in
     let has = c.lines.invariant.1 in
-    inr (in_turn c.args.config.now known left next before out c.lines.cluster (AppendsAtLeast before out)
-    has c.next_command.ensures.no_further (at_least before out _ has.written))
+    inr (in_turn _ _ has c.next_command.ensures.no_further (at_least has.written))
 
 pub returns-in-Err-clause-refused : goal.returns-in-Err-clause-refused
 returns-in-Err-clause-refused g c =
-    let known = g.R.Read.remaining c.args.reader.now in
-    let left = g.R.Read.remaining c.lines.reader in
-    let before = g.W.Write.contents c.args.writer.now in
-    let out = g.W.Write.contents c.lines.writer in
     let has = c.lines.invariant.1 in
-    refused_line c.args.config.now known left before out c.lines.cluster c.lines.number c.in-Err.stop
-    (Appends before out) has c.lines.invariant.0 c.in-Err.ensures.err has.written
+    refused_line _ has c.lines.invariant.0 c.in-Err.ensures.err has.written
 
 pub returns-in-Err-clause-in_turn : goal.returns-in-Err-clause-in_turn
 returns-in-Err-clause-in_turn g c =
-    let known = g.R.Read.remaining c.args.reader.now in
-    let left = g.R.Read.remaining c.lines.reader in
-    let next = g.R.Read.remaining c.next_command.new.reader in
-    let before = g.W.Write.contents c.args.writer.now in
-    let out = g.W.Write.contents c.lines.writer in
     let has = c.lines.invariant.1 in
-    inr (in_turn c.args.config.now known left next before out c.lines.cluster (AppendsAtLeast before out)
-    has c.next_command.ensures.no_further (at_least before out _ has.written))
+    inr (in_turn _ _ has c.next_command.ensures.no_further (at_least has.written))
 
 pub returns-in-Err-clause-read_fault : goal.returns-in-Err-clause-read_fault
 returns-in-Err-clause-read_fault g c _ =
-    let known = g.R.Read.remaining c.args.reader.now in
-    let left = g.R.Read.remaining c.lines.reader in
-    let next = g.R.Read.remaining c.next_command.new.reader in
-    let before = g.W.Write.contents c.args.writer.now in
-    let out = g.W.Write.contents c.lines.writer in
-    let has = c.lines.invariant.1 in
-    in_turn c.args.config.now known left next before out c.lines.cluster (Appends before out) has
-    c.next_command.ensures.no_further has.written
+    let has = c.lines.invariant.1 in in_turn _ _ has c.next_command.ensures.no_further has.written
 
 pub returns-in-Err-clause-no_memory : goal.returns-in-Err-clause-no_memory
 returns-in-Err-clause-no_memory g c _ =
-    let known = g.R.Read.remaining c.args.reader.now in
-    let left = g.R.Read.remaining c.lines.reader in
-    let next = g.R.Read.remaining c.next_command.new.reader in
-    let before = g.W.Write.contents c.args.writer.now in
-    let out = g.W.Write.contents c.lines.writer in
     let has = c.lines.invariant.1 in
-    inr (in_turn c.args.config.now known left next before out c.lines.cluster (Appends before out) has
-    c.next_command.ensures.no_further has.written)
+    inr (in_turn _ _ has c.next_command.ensures.no_further has.written)
 
 pub returns-in-Err-clause-front_out : goal.returns-in-Err-clause-front_out
 returns-in-Err-clause-front_out g c is =
-    absurd (no_command_write (g.R.Read.remaining c.lines.reader) c.lines.number c.in-Err.stop
-    c.in-Err.ensures.err (same_stop (Err c.in-Err.stop) c.in-Err.stop Write refl is))
+    absurd (no_command_write c.in-Err.ensures.err
+    (same_stop (Err c.in-Err.stop) c.in-Err.stop Write refl is))
 
 pub returns-in-Err-clause-no_other : goal.returns-in-Err-clause-no_other
-returns-in-Err-clause-no_other g c =
-    no_command_own (g.R.Read.remaining c.lines.reader) c.lines.number c.in-Err.stop c.in-Err.ensures.err
+returns-in-Err-clause-no_other g c = no_command_own c.in-Err.ensures.err
 
 pub returns-in-Err-answer-clause-refused : goal.returns-in-Err-answer-clause-refused
 returns-in-Err-answer-clause-refused g c =
-    let known = g.R.Read.remaining c.args.reader.now in
-    let left = g.R.Read.remaining c.lines.reader in
-    let next = g.R.Read.remaining c.next_command.new.reader in
-    let before = g.W.Write.contents c.args.writer.now in
-    let out = g.W.Write.contents c.lines.writer in
-    let short = g.W.Write.contents c.answer.new.writer in
-    let gives : GivesCommand left next c.in-Ok-Some.command =
-    subst (λ o. IfSome o (GivesCommand left next)) c.in-Ok-Some.field-0-is c.in-Ok-Some.ensures.some in
-    refused_command c.args.config.now known left next before out short c.lines.cluster
-    c.answer.new.cluster c.in-Ok-Some.command c.in-Err-answer.stop c.lines.invariant.1 gives
+    refused_command c.lines.invariant.1 (gave c.in-Ok-Some.field-0-is c.in-Ok-Some.ensures.some)
     c.in-Err-answer.ensures.err
 
 pub returns-in-Err-answer-clause-in_turn : goal.returns-in-Err-answer-clause-in_turn
 returns-in-Err-answer-clause-in_turn g c =
-    let known = g.R.Read.remaining c.args.reader.now in
-    let left = g.R.Read.remaining c.lines.reader in
-    let next = g.R.Read.remaining c.next_command.new.reader in
-    let before = g.W.Write.contents c.args.writer.now in
-    let out = g.W.Write.contents c.lines.writer in
-    let short = g.W.Write.contents c.answer.new.writer in
     let has = c.lines.invariant.1 in
-    inr (in_turn c.args.config.now known left next before out c.lines.cluster
-    (AppendsAtLeast before short) has c.next_command.ensures.no_further
-    (still_out c.args.config.now known left before out short c.lines.cluster c.answer.new.cluster
-    c.in-Ok-Some.command c.in-Err-answer.stop has c.in-Err-answer.ensures.err))
+    inr (in_turn _ _ has c.next_command.ensures.no_further (still_out has c.in-Err-answer.ensures.err))
 
 pub returns-in-Err-answer-clause-read_fault : goal.returns-in-Err-answer-clause-read_fault
 returns-in-Err-answer-clause-read_fault g c is =
-    absurd (no_answer_read c.lines.cluster c.answer.new.cluster c.in-Ok-Some.command
-    (g.W.Write.contents c.lines.writer) (g.W.Write.contents c.answer.new.writer) c.in-Err-answer.stop
-    c.in-Err-answer.ensures.err (same_stop (Err c.in-Err-answer.stop) c.in-Err-answer.stop Read refl is))
+    absurd (no_answer_read c.in-Err-answer.ensures.err
+    (same_stop (Err c.in-Err-answer.stop) c.in-Err-answer.stop Read refl is))
 
 pub returns-in-Err-answer-clause-no_memory : goal.returns-in-Err-answer-clause-no_memory
 returns-in-Err-answer-clause-no_memory g c is =
-    let known = g.R.Read.remaining c.args.reader.now in
-    let left = g.R.Read.remaining c.lines.reader in
-    let next = g.R.Read.remaining c.next_command.new.reader in
-    let before = g.W.Write.contents c.args.writer.now in
-    let out = g.W.Write.contents c.lines.writer in
-    let short = g.W.Write.contents c.answer.new.writer in
     let has = c.lines.invariant.1 in
-    inr (in_turn c.args.config.now known left next before out c.lines.cluster (Appends before short) has
-    c.next_command.ensures.no_further
-    (none_out c.args.config.now known left before out short c.lines.cluster c.answer.new.cluster
-    c.in-Ok-Some.command c.in-Err-answer.stop has c.in-Err-answer.ensures.err
+    inr (in_turn _ _ has c.next_command.ensures.no_further
+    (none_out has c.in-Err-answer.ensures.err
     (same_stop (Err c.in-Err-answer.stop) c.in-Err-answer.stop NoMemory refl is)))
 
 pub returns-in-Err-answer-clause-front_out : goal.returns-in-Err-answer-clause-front_out
 returns-in-Err-answer-clause-front_out g c is =
-    let known = g.R.Read.remaining c.args.reader.now in
-    let left = g.R.Read.remaining c.lines.reader in
-    let next = g.R.Read.remaining c.next_command.new.reader in
-    let before = g.W.Write.contents c.args.writer.now in
-    let out = g.W.Write.contents c.lines.writer in
-    let short = g.W.Write.contents c.answer.new.writer in
-    let gives : GivesCommand left next c.in-Ok-Some.command =
-    subst (λ o. IfSome o (GivesCommand left next)) c.in-Ok-Some.field-0-is c.in-Ok-Some.ensures.some in
-    answer_short c.args.config.now known left next before out short c.lines.cluster
-    c.answer.new.cluster c.in-Ok-Some.command c.in-Err-answer.stop c.lines.invariant.1 gives
-    c.in-Err-answer.ensures.err (same_stop (Err c.in-Err-answer.stop) c.in-Err-answer.stop Write refl is)
+    answer_short c.lines.invariant.1 (gave c.in-Ok-Some.field-0-is c.in-Ok-Some.ensures.some)
+    c.in-Err-answer.ensures.err
+    (same_stop (Err c.in-Err-answer.stop) c.in-Err-answer.stop Write refl is)
 
 pub returns-in-Err-answer-clause-no_other : goal.returns-in-Err-answer-clause-no_other
-returns-in-Err-answer-clause-no_other g c =
-    no_answer_own c.lines.cluster c.answer.new.cluster c.in-Ok-Some.command
-    (g.W.Write.contents c.lines.writer) (g.W.Write.contents c.answer.new.writer) c.in-Err-answer.stop
-    c.in-Err-answer.ensures.err
+returns-in-Err-answer-clause-no_other g c = no_answer_own c.in-Err-answer.ensures.err
 
 pub overflow_add-number : goal.overflow_add-number
 overflow_add-number g c =
@@ -198,22 +122,14 @@ overflow_add-number g c =
 
 pub lines-preserved : goal.lines-preserved
 lines-preserved g c =
-    let known = g.R.Read.remaining c.args.reader.now in
-    let left = g.R.Read.remaining c.lines.reader in
-    let next = g.R.Read.remaining c.next_command.new.reader in
-    let before = g.W.Write.contents c.args.writer.now in
-    let out = g.W.Write.contents c.lines.writer in
-    let longer = g.W.Write.contents c.answer.new.writer in
     let execution = c.lines.cluster in
     let command = c.in-Ok-Some.command in
-    let gives : GivesCommand left next command =
-    subst (λ o. IfSome o (GivesCommand left next)) c.in-Ok-Some.field-0-is c.in-Ok-Some.ensures.some in
     let number = c.lines.invariant.0 in
     let enters = c.in-Ok-answer.ensures.entered in
     let more : length c.answer.new.cluster.journal ≡ length execution.journal + 1 =
     ap (λ (execution : Execution). length execution.journal) enters
     ∙ one_longer execution command.by command.act in (
       omega arith,
-      goes_on c.args.config.now known left next before out longer execution c.answer.new.cluster command
-          c.lines.invariant.1 gives enters c.in-Ok-answer.ensures.legal c.in-Ok-answer.ensures.out,
+      goes_on c.lines.invariant.1 (gave c.in-Ok-Some.field-0-is c.in-Ok-Some.ensures.some) enters
+          c.in-Ok-answer.ensures.legal c.in-Ok-answer.ensures.out,
     )

@@ -5,6 +5,6 @@ use Rattle.fy_grants.proofs.book.Book.uncovered.Goals as goal
 
 pub returns : goal.returns
 returns c =
-    least_left c.args.set.now c.left_open.result (λ q. not (is_covered c.args.self.now.processes (grants_of c.args.self.now c.args.actor) c.args.kinds q))
-    c.left_open.ensures
+    least_left c.args.set.now c.uncovered_in.result (λ q. not (is_covered c.args.self.now.processes (grants_of c.args.self.now c.args.actor) c.args.kinds q))
+    c.uncovered_in.ensures
     c.least.result c.least.ensures.some c.least.ensures.none
