@@ -1,5 +1,6 @@
 pub mod Aims
 pub mod Bearing
+pub mod Columns
 pub mod Glyphs
 pub mod Keeping
 pub mod IsLife

@@ -1,8 +1,9 @@
 //! The picture of a journal.
-ghost use Rattle.std.specs.Prelude.{◌≡◌, ◌≤◌, ◌<◌, ◌*◌, ◌^◌, IfOk, length};
+ghost use Rattle.std.specs.Prelude.{◌≡◌, ◌≤◌, ◌<◌, ◌*◌, IfOk, length};
 ghost use Rattle.fy_cluster.specs.Setup.{Setup};
 ghost use Rattle.fy_locality.specs.declared.TheConstants.{MOST_PROCESSES};
 ghost use Rattle.fy_picture.specs.declared.TheConstants.{MOST_COLUMNS};
+ghost use Rattle.fy_picture.specs.Columns.{IsWidth, AreColumns};
 ghost use Rattle.fy_picture.specs.Pictures.{IsPicture, AreRows};
 ghost use Rattle.fy_picture.specs.Rows.{IsRow};
 
@@ -61,8 +62,7 @@ fn row_of(
 
 /// How many entries each column stands for, in a picture of so many entries.
 fn width_of(count: usize) -> usize
-    ensures some { 0 < result }
-    ensures room { count ≤ MOST_COLUMNS * result }
+    ensures { IsWidth count result }
 {
     count.saturating_sub(1) / MOST_COLUMNS + 1
 }
@@ -71,8 +71,7 @@ fn width_of(count: usize) -> usize
 fn columns_of(count: usize, width: usize) -> usize
     requires some { 0 < width }
     requires room { count ≤ MOST_COLUMNS * width }
-    ensures few { result ≤ MOST_COLUMNS }
-    ensures room { count ≤ result * width }
+    ensures { AreColumns count width result }
 {
     let whole = count / width;
     if whole * width == count {

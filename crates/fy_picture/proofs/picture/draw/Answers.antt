@@ -12,8 +12,8 @@ returns c =
     let are : AreRows setup c.args.entries.now width columns c.in_ok-rows.rows.items =
     c.in_ok-rows.ensures.rows setup (sym c.map.ensures) in
     record {
-      few = c.columns_of-columns.ensures.few;
-      room = c.columns_of-columns.ensures.room;
+      width = c.width_of-width.ensures;
+      columns = c.columns_of-columns.ensures;
       rows = are;
       lines = are_lines setup c.args.entries.now width columns c.in_ok-rows.rows.items c.in_ok-lines.lines.items are
           (subst (λ processes. AreShownLines processes setup.policies c.in_ok-rows.rows.items columns c.in_ok-lines.lines.items) c.map-2.ensures
