@@ -10,7 +10,7 @@ use Rattle.fy_picture.specs.IsLife.{IsLife}
 use Rattle.std.specs.Prelude.{IsSomeAnd}
 use Rattle.fy_picture.specs.declared.row.Row.{Row}
 use Rattle.fy_policy.specs.Tree.{Tree}
-use Rattle.fy_picture.specs.declared.bearing.Line.{Line}
+use Rattle.fy_picture.specs.declared.policy_lines.Line.{Line}
 use Rattle.fy_picture.specs.Shown.{IsShownLine}
 use Rattle.fy_picture.specs.Rows.{IsRow}
 use Rattle.fy_picture.specs.States.{state_of}

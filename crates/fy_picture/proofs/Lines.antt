@@ -14,10 +14,10 @@ use Rattle.fy_cluster.specs.Setup.{Setup}
 use Rattle.fy_cluster.specs.History.{History, some_is, struck_by, heals_at, destroyed, gone, left, targets_of, step_of, after, history}
 use Rattle.fy_picture.specs.declared.state.State.{State}
 use Rattle.fy_picture.specs.declared.row.Row.{Row}
-use Rattle.fy_picture.specs.declared.bearing.Line.{Line}
+use Rattle.fy_picture.specs.declared.policy_lines.Line.{Line}
 use Rattle.fy_picture.specs.Rows.{IsRow}
 use Rattle.fy_picture.specs.States.{state_of}
-use Rattle.fy_picture.specs.Bearing.{killable_by, killable, IsLine}
+use Rattle.fy_picture.specs.PolicyLines.{killable_by, killable, IsLine}
 use Rattle.fy_picture.specs.Pictures.{AreRows, AreLines}
 use Rattle.fy_picture.specs.Shown.{shows, shown_destroyed, shown_left, IsShownLine, AreShownLines}
 

@@ -14,8 +14,8 @@ use Rattle.fy_decide.specs.Safety.{with_set, without_set}
 use Rattle.fy_cluster.specs.History.{some_is}
 use Rattle.fy_picture.specs.declared.state.State.{State}
 use Rattle.fy_picture.specs.declared.row.Row.{Row}
-use Rattle.fy_picture.specs.declared.bearing.LossCounts.{LossCounts}
-use Rattle.fy_picture.specs.Bearing.{is_killable, killable_by}
+use Rattle.fy_picture.specs.declared.policy_lines.LossCounts.{LossCounts}
+use Rattle.fy_picture.specs.PolicyLines.{is_killable, killable_by}
 use Rattle.fy_picture.specs.Shown.{shows, shown_destroyed, shown_left, AreShown, AreSame, killable_at}
 use Rattle.std.specs.Cmp.{nat_cmp_total, unsigned_tied}
 

@@ -1,5 +1,5 @@
 pub mod Aims
-pub mod Bearing
+pub mod PolicyLines
 pub mod Columns
 pub mod Glyphs
 pub mod Keeping

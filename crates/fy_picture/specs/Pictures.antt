@@ -5,11 +5,11 @@ use Rattle.fy_acts.specs.declared.entry.Entry.{Entry}
 use Rattle.fy_cluster.specs.Setup.{Setup}
 use Rattle.fy_picture.specs.declared.picture.Picture.{Picture}
 use Rattle.fy_picture.specs.declared.row.Row.{Row}
-use Rattle.fy_picture.specs.declared.bearing.Line.{Line}
+use Rattle.fy_picture.specs.declared.policy_lines.Line.{Line}
 use Rattle.fy_picture.specs.Columns.{IsWidth, AreColumns}
 use Rattle.fy_picture.specs.Rows.{IsRow}
 use Rattle.fy_cluster.specs.Replies.{Legal}
-use Rattle.fy_picture.specs.Bearing.{IsLine}
+use Rattle.fy_picture.specs.PolicyLines.{IsLine}
 use Rattle.fy_picture.specs.Keeping.{AreKeepers, AreAckedAt}
 
 -- a row for each process

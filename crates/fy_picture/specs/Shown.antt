@@ -6,9 +6,9 @@ use Rattle.fy_locality.specs.declared.locality.Locality.{Locality}
 use Rattle.fy_policy.specs.Tree.{Tree}
 use Rattle.fy_picture.specs.declared.state.State.{State}
 use Rattle.fy_picture.specs.declared.row.Row.{Row}
-use Rattle.fy_picture.specs.declared.bearing.Line.{Line}
-use Rattle.fy_picture.specs.declared.bearing.LossCounts.{LossCounts}
-use Rattle.fy_picture.specs.Bearing.{killable_by}
+use Rattle.fy_picture.specs.declared.policy_lines.Line.{Line}
+use Rattle.fy_picture.specs.declared.policy_lines.LossCounts.{LossCounts}
+use Rattle.fy_picture.specs.PolicyLines.{killable_by}
 
 -- the state that a row shows at a column passes the test
 abbrev pub shows : (State → Bool) → List Row → (column : ℕ) → ℕ → Bool

@@ -2,19 +2,19 @@
 #![tactic(auto)]
 
 mod aim;
-mod bearing;
 mod glyph;
 mod keeping;
 pub mod laws;
 mod life;
 mod picture;
+mod policy_lines;
 mod row;
 mod state;
 
 pub use aim::Aim;
-pub use bearing::Line;
 pub use glyph::{rule_of, struck_as_ordered};
 pub use picture::{Picture, draw};
+pub use policy_lines::Line;
 pub use row::Row;
 pub use state::State;
 

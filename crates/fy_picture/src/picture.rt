@@ -8,9 +8,9 @@ ghost use Rattle.fy_picture.specs.Pictures.{IsPicture, AreRows};
 ghost use Rattle.fy_picture.specs.Rows.{IsRow};
 
 use crate::MOST_COLUMNS;
-use crate::bearing::{Line, lines_of};
 use crate::keeping::{Kept, kept_of};
 use crate::life::Life;
+use crate::policy_lines::{Line, lines_of};
 use crate::row::Row;
 use fy_cluster::Config;
 use fy_journal::Entry;

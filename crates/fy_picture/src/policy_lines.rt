@@ -4,7 +4,7 @@ ghost use Rattle.std.specs.Prelude.{◌≡◌, ◌≤◌, ◌<◌, ◌==◌, ◌
 ghost use Rattle.std.specs.FinSet as sets;
 ghost use Rattle.fy_cluster.specs.History.{some_is};
 ghost use Rattle.fy_locality.specs.declared.TheConstants.{MOST_PROCESSES};
-ghost use Rattle.fy_picture.specs.Bearing.{is_killable};
+ghost use Rattle.fy_picture.specs.PolicyLines.{is_killable};
 ghost use Rattle.fy_picture.specs.Shown.{AreShown, AreSame, IsShownLine, AreShownLines, killable_at};
 
 use crate::row::Row;

@@ -2,7 +2,7 @@ use Rattle.std.proofs.Common.{◌≡◌, sym, ap, ◌∙◌}
 use Rattle.std.specs.FinSet as sets
 use Rattle.fy_policy.specs.Sat.{satisfies}
 use Rattle.fy_picture.proofs.Losing.{goes_by_left, stays}
-use Rattle.fy_picture.proofs.bearing.is_killable.Goals as goal
+use Rattle.fy_picture.proofs.policy_lines.is_killable.Goals as goal
 
 pub returns-then-not-satisfied : goal.returns-then-not-satisfied
 returns-then-not-satisfied c =

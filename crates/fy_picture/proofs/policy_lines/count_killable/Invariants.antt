@@ -1,8 +1,8 @@
 use Rattle.std.specs.Prelude.{◌≡◌, ◌≤◌, length, filter}
 use Rattle.std.specs.List.{range_with_len}
 use Rattle.std.specs.FinSet as sets
-use Rattle.fy_picture.specs.Bearing.{is_killable}
-use Rattle.fy_picture.proofs.bearing.count_killable.Given as goal
+use Rattle.fy_picture.specs.PolicyLines.{is_killable}
+use Rattle.fy_picture.proofs.policy_lines.count_killable.Given as goal
 
 abbrev pub invariant-loop-p : goal.invariant-loop-p
 invariant-loop-p l =

@@ -1,9 +1,9 @@
 use Rattle.std.proofs.Common.{◌≡◌, ◌∙◌, ◌+◌, ◌++◌, ◌∷◌, [], length, length-append, sym, ap}
-use Rattle.fy_picture.specs.Bearing.{killable_by}
+use Rattle.fy_picture.specs.PolicyLines.{killable_by}
 use Rattle.fy_picture.specs.Shown.{shown_destroyed, shown_left, killable_at}
 use Rattle.fy_picture.proofs.Afters.{values_more}
 use Rattle.fy_picture.proofs.Losing.{borne_shown}
-use Rattle.fy_picture.proofs.bearing.line_of.Goals as goal
+use Rattle.fy_picture.proofs.policy_lines.line_of.Goals as goal
 
 pub loop-column-preserved : goal.loop-column-preserved
 loop-column-preserved c =

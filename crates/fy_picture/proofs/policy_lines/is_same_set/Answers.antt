@@ -1,6 +1,6 @@
 use Rattle.std.proofs.Common.{sym, ◌∙◌}
 use Rattle.fy_picture.proofs.Losing.{same_sets}
-use Rattle.fy_picture.proofs.bearing.is_same_set.Goals as goal
+use Rattle.fy_picture.proofs.policy_lines.is_same_set.Goals as goal
 
 pub returns-then-is_empty : goal.returns-then-is_empty
 returns-then-is_empty c = λ t.

@@ -2,7 +2,7 @@ use Rattle.std.proofs.Common.{◌∙◌, ◌<◌, ◌≤◌, length, not, ap, ar
 use Rattle.std.specs.FinSet as sets
 use Rattle.fy_picture.specs.Shown.{shown_destroyed, shown_left}
 use Rattle.fy_picture.proofs.Losing.{none_yet, cut_more, cut_all, row_shows}
-use Rattle.fy_picture.proofs.bearing.losses_at.Goals as goal
+use Rattle.fy_picture.proofs.policy_lines.losses_at.Goals as goal
 
 pub loop-place-init : goal.loop-place-init
 loop-place-init c = record {

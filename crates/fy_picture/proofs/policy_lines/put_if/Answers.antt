@@ -1,7 +1,7 @@
 use Rattle.std.proofs.Common.{◌==◌, ap, ◌∙◌}
 use Rattle.std.specs.FinSet as sets
 use Rattle.fy_picture.proofs.Losing.{insert_has, put_on}
-use Rattle.fy_picture.proofs.bearing.put_if.Goals as goal
+use Rattle.fy_picture.proofs.policy_lines.put_if.Goals as goal
 
 pub returns-then-belongs : goal.returns-then-belongs
 returns-then-belongs c = λ q.
