@@ -1,9 +1,11 @@
 -- marks after one step more
-use Rattle.std.proofs.Common.{◌≡◌, ℕ, ◌+◌, ◌<◌, Bool, ◌||◌, ◌&&◌, List, [], length, take, get_or, sym, ◌∙◌, ap, ap₂}
+use Rattle.std.proofs.Common.{◌≡◌, ℕ, ◌+◌, ◌<◌, ◌==◌, Bool, true, false, ◌||◌, ◌&&◌, List, [], length, take, get_or, refl, sym, ◌∙◌, ap, ap₂, arith}
 use Rattle.std.specs.List.{list_all}
+use Rattle.std.proofs.lemmas.Bool.Decides.{nat_tests}
 use Rattle.fy_locality.specs.declared.ProcId.{ProcId}
 use Rattle.fy_team.specs.Teams.{is_among}
-use Rattle.fy_cluster.specs.History.{delivers_ack_of, marked_after, marked, acked, members_for}
+use Rattle.fy_cluster.specs.History.{History, delivers_ack_of, marked_after, marked, acked, members_for}
+use Rattle.fy_cluster.specs.Replies.{is_acked_with}
 use Rattle.fy_check_by_rules.specs.declared.step.FoundStep.{FoundStep}
 use Rattle.fy_check_by_rules.specs.Past.{as_step, past}
 use Rattle.fy_check_by_rules.proofs.Pasts.{past_next}
@@ -22,3 +24,25 @@ acked_next steps i s rec old new members was now l is members_are was_is old_is 
     let h = past (take i steps) in
     let each : (p : ℕ) → is_among new p ≡ marked_after (as_step h s) rec p (acked h rec) (marked h rec p) = λ p. new_is p ∙ ap₂ (marked_after (as_step [] s) rec p) was_is (old_is p) in
     now_is ∙ ap₂ (λ a b. a || delivers_ack_of (as_step [] s) rec && b) was_is (ap₂ list_all (λ j (p : ProcId). each p.0 j) members_are) ∙ sym (ap (λ x. acked x rec) (past_next steps i s l is))
+
+-- ---- what an acknowledgement would make of its record
+
+eq_self : (a : ℕ) → (a == a) ≡ true
+eq_self a = grind (arith, nat_tests)
+
+eq_swap : (a b : ℕ) → (a == b) ≡ (b == a)
+eq_swap a b = grind (arith, nat_tests)
+
+or_swap : (a b : Bool) → (a || b) ≡ (b || a)
+or_swap true true = refl
+or_swap true false = refl
+or_swap false true = refl
+or_swap false false = refl
+
+-- a record is acknowledged with a process's acknowledgement where it was, or where every member has
+-- a mark or is the process
+pub acked_with : (h : History) (r p : ℕ) → (acked h r || list_all (λ q. marked h r q.0 || q.0 == p) (members_for h r)) ≡ is_acked_with h r p
+acked_with h r p =
+    let own : (q : ProcId) → (marked h r q.0 || q.0 == p) ≡ (r == r && p == q.0 || marked h r q.0) =
+    λ q. or_swap (marked h r q.0) (q.0 == p) ∙ ap₂ (λ a b. a && b || marked h r q.0) (sym (eq_self r)) (eq_swap q.0 p) in
+    ap₂ (λ (a : Bool) (f : ProcId → Bool). acked h r || a && list_all f (members_for h r)) (sym (eq_self r)) (λ j q. own q j)

@@ -179,12 +179,6 @@ pub all_same : (f g : ProcId → Bool) → ((p : ProcId) → f p ≡ g p) → (p
 all_same f g w [] = refl
 all_same f g w (p ∷ ps) = ap₂ (λ a b. a && b) (w p) (all_same f g w ps)
 
-pub or_swap : (a b : Bool) → (a || b) ≡ (b || a)
-or_swap true true = refl
-or_swap true false = refl
-or_swap false true = refl
-or_swap false false = refl
-
 -- the machine once a process's word is delivered
 pub marks_now : Tested → MarkLeavesTeams → MarkIsOneMore → AckedByMark
     → (point : Point) (n rec : ℕ) (from : ProcId) (machine : Machine) (done : Bool) (net : NetState) (roster : Roster) → Refines point.setup point.before machine → IsReachable point.setup point.before
@@ -224,9 +218,6 @@ marks_now tested same_teams more by_mark point n rec from machine done net roste
     eq_swap : (a b : ℕ) → (a == b) ≡ (b == a)
     eq_swap a b = swap_eq b a
 
-    eq_self : (a : ℕ) → (a == a) ≡ true
-    eq_self a = grind (arith, nat_tests)
-
     marks_is : (r p : ℕ) → marks m r p ≡ (r == rec && p == from.0)
     marks_is r p = ap (λ o. some_is (λ w. w.0 == r && w.1 == p) (option_and_then ack_of o)) f.1 ∙ ap₂ (λ a b. a && b) (eq_swap rec r) (eq_swap from.0 p)
 
@@ -241,9 +232,7 @@ marks_now tested same_teams more by_mark point n rec from machine done net roste
     all_then r = list_all (λ p. marked_after m r p.0 (acked h r) (marked h r p.0)) (members_for h r)
 
     acked_is : (acked h rec || delivers_ack_of m rec && all_then rec) ≡ is_acked_with h rec from.0
-    acked_is = ap (λ b. acked h rec || b)
-        (ap (λ b. b && all_then rec) (tells_is rec ∙ eq_self rec)
-        ∙ all_same _ _ (λ q. ap (λ b. b || marked h rec q.0) (marks_is rec q.0 ∙ ap (λ b. b && q.0 == from.0) (eq_self rec)) ∙ or_swap (q.0 == from.0) (marked h rec q.0)) (members_for h rec))
+    acked_is = ap (λ o. acked (record m { message = o } ∷ h) rec) f.1
 
     acked_now : (r : ℕ) → is_acked marked_now r ≡ acked (m ∷ h) r
     acked_now r =

@@ -1,48 +1,19 @@
 -- clients are told which records are acknowledged
-use Rattle.std.proofs.Common.{◌≡◌, ◌∙◌, ◌==◌, ◌&&◌, ◌||◌, ℕ, Bool, true, false, Some, is_some, List, [], ◌∷◌, ◌++◌, slice_get, refl, sym, subst, ap, ap₂, arith}
-use Rattle.std.specs.Prelude.{option_and_then, IsTrue, IsFalse}
-use Rattle.std.specs.List.{list_all}
+use Rattle.std.proofs.Common.{◌≡◌, ◌∙◌, ℕ, Bool, true, false, Some, is_some, [], ◌∷◌, ◌++◌, slice_get, refl, sym, subst, ap}
 use Rattle.std.proofs.lemmas.Bool.{true≢false, and_parts, or_left}
-use Rattle.std.proofs.lemmas.Bool.Decides.{nat_tests}
 use Rattle.fy_locality.specs.declared.ProcId.{ProcId}
-use Rattle.fy_net.specs.declared.message.Body.{Body}
 use Rattle.fy_net.specs.declared.message.Body.TheVariants.{Synced}
 use Rattle.fy_acts.specs.declared.act.Act.TheVariants.{Deliver}
 use Rattle.fy_acts.specs.declared.reply.Reply.TheVariants.{Marked}
 use Rattle.fy_acts.specs.declared.entry.Entry.{Entry}
 use Rattle.fy_cluster.specs.Setup.{Setup}
-use Rattle.fy_cluster.specs.History.{History, Step, step_of, history, some_is, is_accepted, delivers, message_of, ack_of, sent, marks, delivers_ack_of, marked, marked_after, acked, members_for}
+use Rattle.fy_cluster.specs.History.{History, step_of, history, is_accepted, delivers, message_of, sent, delivers_ack_of, acked}
 use Rattle.fy_cluster.specs.Replies.{IsNext, Legal, answer, is_acked_with}
 use Rattle.fy_cluster.specs.Survival.{IsTold, ClientsTold}
-use Rattle.fy_cluster.proofs.Acknowledging.{delivers_is, ack_is, answered, acked_as_it_was}
-use Rattle.fy_cluster.proofs.Delivered.{all_same, or_swap}
+use Rattle.fy_cluster.proofs.Acknowledging.{delivers_is, ack_is, answered, acked_now, acked_as_it_was}
 use Rattle.fy_cluster.proofs.Journals.{legal_parts}
-use Rattle.fy_cluster.proofs.Losing.{swap_eq}
 use Rattle.fy_cluster.proofs.Still.{acked_kept}
 use Rattle.fy_cluster.proofs.Strikes.{accepted}
-
-eq_self : (a : ℕ) → (a == a) ≡ true
-eq_self a = grind (arith, nat_tests)
-
--- an acknowledgement that is delivered acknowledges its record where the answer says so
-acked_now : (c : Setup) (h : History) (at by n r : ℕ) (from : ProcId) (told : Bool) → slice_get (sent h) n ≡ Some (Synced r from)
-    → acked (step_of c h (record { at = at; by = by; act = Deliver n; reply = Marked told }) ∷ h) r ≡ is_acked_with h r from.0
-acked_now c h at by n r from told s = ap (λ b. acked h r || b) (ap (λ b. b && all_then) (tells_is ∙ eq_self r) ∙ all_same _ _ marked_then (members_for h r))
-  where
-    m : Step
-    m = step_of c h (record { at = at; by = by; act = Deliver n; reply = Marked told })
-
-    all_then : Bool
-    all_then = list_all (λ q. marked_after m r q.0 (acked h r) (marked h r q.0)) (members_for h r)
-
-    tells_is : delivers_ack_of m r ≡ (r == r)
-    tells_is = ap (λ o. some_is (λ w. w.0 == r) (option_and_then ack_of o)) s
-
-    marks_is : (p : ℕ) → marks m r p ≡ (p == from.0)
-    marks_is p = ap (λ o. some_is (λ w. w.0 == r && w.1 == p) (option_and_then ack_of o)) s ∙ ap₂ (λ a b. a && b) (eq_self r) (swap_eq p from.0)
-
-    marked_then : (q : ProcId) → marked_after m r q.0 (acked h r) (marked h r q.0) ≡ (marked h r q.0 || q.0 == from.0)
-    marked_then q = ap (λ b. b || marked h r q.0) (marks_is q.0) ∙ or_swap (q.0 == from.0) (marked h r q.0)
 
 same_told : (a b : Bool) → Marked a ≡ Marked b → a ≡ b
 same_told a b e = cc

@@ -1,6 +1,6 @@
 -- the reply to each act, and which journals are legal
-use Rattle.std.specs.Prelude.{◌≡◌, ℕ, ◌+◌, ◌≤◌, ◌<◌, Bool, true, false, ◌&&◌, ◌||◌, not, List, [], ◌∷◌, length, find, nat_lt, nat_le, ◌==◌, slice_get, sum_by, Option, is_some, unwrap_or}
-use Rattle.std.specs.List.{list_any, list_all, range_with_len}
+use Rattle.std.specs.Prelude.{◌≡◌, ℕ, ◌+◌, ◌≤◌, ◌<◌, Bool, true, false, ◌&&◌, ◌||◌, not, List, [], ◌∷◌, length, find, nat_lt, nat_le, ◌==◌, slice_get, sum_by, Option, Some, is_some, unwrap_or}
+use Rattle.std.specs.List.{list_any, range_with_len}
 use Rattle.std.specs.Option.{option_map_or}
 use Rattle.fy_grants.specs.declared.book.TheConstants.{MOST_GRANTS}
 use Rattle.fy_policy.specs.Sat.{satisfies}
@@ -10,6 +10,7 @@ use Rattle.fy_team.specs.declared.limits.TheConstants.{MOST_TEAMS, MOST_RECORDS,
 use Rattle.fy_net.specs.declared.limits.TheConstants.{MOST_IN_FLIGHT, LAST_TICK}
 use Rattle.fy_decide.specs.Verdicts.{targets, bar, verdict}
 use Rattle.fy_net.specs.declared.message.Body.{Body}
+use Rattle.fy_net.specs.declared.message.Body.TheVariants.{Synced as SyncedOf}
 use Rattle.fy_net.specs.Net.{process_of}
 use Rattle.fy_acts.specs.declared.act.Act.{Act}
 use Rattle.fy_acts.specs.declared.act.Act.TheVariants.{Kill, Clog, Unclog, Form, Begin, Deliver, Lose, Resend, Sync, Up, Tick, Give, Take, Protect, Unprotect, CopyTo, Replace, Heal}
@@ -21,7 +22,7 @@ use Rattle.fy_acts.specs.declared.entry.Entry.{Entry}
 use Rattle.fy_cluster.specs.declared.role.Role.{Role}
 use Rattle.fy_cluster.specs.declared.role.Role.TheVariants.{Fault, Storage, Operator}
 use Rattle.fy_cluster.specs.Setup.{Setup}
-use Rattle.fy_cluster.specs.History.{History, ProcessSet, some_is, destroyed, gone, left, up, teams, records, members_of, members_for, unsynced, sent, in_flight, in_flight_count, now, clogged, marked, acked, has_synced, ack_of, stores_at, step_of, history}
+use Rattle.fy_cluster.specs.History.{History, Step, ProcessSet, some_is, destroyed, gone, left, up, teams, records, members_of, members_for, unsynced, sent, in_flight, in_flight_count, now, clogged, acked, has_synced, ack_of, stores_at, step_of, history}
 use Rattle.fy_cluster.specs.Rules.{grants, situation}
 
 -- the first refusal that holds, or else the answer
@@ -67,10 +68,19 @@ may role (Heal process) = is_storage role
 abbrev pub is_down_store : History → Body → Bool
 is_down_store h body = some_is (λ p. not (up h p)) (stores_at body)
 
--- the record is acknowledged, or every member of its team has a mark once the process has one
+-- a step that delivers the process's Synced of the record
+abbrev pub ack_delivered : (r p : ℕ) → Step
+ack_delivered r p = record {
+  entry = record { at = 0; by = 0; act = Deliver 0; reply = Marked true };
+  targets = λ q. false;
+  message = Some (SyncedOf r (record { 0 = p }));
+  sends = [];
+  removes = λ n. false;
+}
+
+-- the record is acknowledged once the process's Synced of it is delivered
 abbrev pub is_acked_with : History → ℕ → ℕ → Bool
-is_acked_with h r p =
-    acked h r || list_all (λ q. marked h r q.0 || q.0 == p) (members_for h r)
+is_acked_with h r p = acked (ack_delivered r p ∷ h) r
 
 -- a Store is stored, a Synced is a mark
 abbrev pub on_delivery : History → Body → Reply
