@@ -218,9 +218,6 @@ marks_now tested same_teams more by_mark point n rec from machine done net roste
     eq_swap : (a b : ℕ) → (a == b) ≡ (b == a)
     eq_swap a b = swap_eq b a
 
-    eq_self : (a : ℕ) → (a == a) ≡ true
-    eq_self a = grind (arith, nat_tests)
-
     marks_is : (r p : ℕ) → marks m r p ≡ (r == rec && p == from.0)
     marks_is r p = ap (λ o. some_is (λ w. w.0 == r && w.1 == p) (option_and_then ack_of o)) f.1 ∙ ap₂ (λ a b. a && b) (eq_swap rec r) (eq_swap from.0 p)
 
