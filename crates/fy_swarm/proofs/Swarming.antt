@@ -1,8 +1,8 @@
 -- seats of a swarm: whose they are, and whose come back as they were
-use Rattle.std.proofs.Common.{rules, arith, ◌≡◌, ◌∙◌, ◌⊎◌, inl, inr, ◌<◌, ◌≤◌, ◌+◌, ℕ, zero, suc, true, false, List, [], ◌∷◌, ◌++◌, length, take, drop, get_or, map, ◌==◌, ◌≢◌, length-append, refl, sym, ap, subst}
-use Rattle.std.specs.Prelude.{slice_get, Option, Some, None}
+use Rattle.std.proofs.Common.{rules, arith, ◌≡◌, ◌∙◌, ◌⊎◌, inl, inr, ◌<◌, ◌≤◌, ◌+◌, ℕ, zero, suc, true, false, List, [], ◌∷◌, ◌++◌, Bool, length, take, drop, get_or, map, ◌==◌, ◌≢◌, length-append, refl, sym, ap, subst}
+use Rattle.std.specs.Prelude.{slice_get, Option, Some, None, Result, Ok, Err, IsOk, IfErr}
 use Rattle.std.specs.List.{All, AllZip, Contains}
-use Rattle.std.proofs.lemmas.Bool.{cases_lt}
+use Rattle.std.proofs.lemmas.Bool.{cases_lt, false≢true}
 use Rattle.std.proofs.lemmas.List.{append-nil, drop_all, take_all, get_or_append_left, get_or_push}
 use Rattle.std.proofs.lemmas.List.Elements.{AllZip-get_or, length_all_zip, All-contains, Contains-append_left, Contains-append_right, Contains-push, filter-append}
 use Rattle.fy_cluster.specs.Setup.{Setup}
@@ -10,7 +10,7 @@ use Rattle.fy_cluster.specs.Execution.{Execution}
 use Rattle.fy_cluster.specs.Survival.{Survives}
 use Rattle.fy_cluster.specs.declared.role.Role.{Role}
 use Rattle.fy_actors.specs.Desk.{entries_by}
-use Rattle.fy_yard.specs.Yard.{Yard, SeatState, new_seat, new_seats, IsJournalOf, Settled}
+use Rattle.fy_yard.specs.Yard.{Yard, SeatState, new_seat, new_seats, IsJournalOf, Settled, Missing}
 use Rattle.fy_swarm.specs.declared.player.Player.{Player}
 use Rattle.fy_yard.specs.Posts.{Ran, EndsSo}
 use Rattle.fy_yard.specs.Parts.{KeepsPart}
@@ -242,6 +242,23 @@ all_finished {A} seat part end c seed y before after back cast same ran remember
 
 -- ---- the close
 
+-- no actor's seat is missing: who rests has its seat as it was, and who is let loose the one at which it has played
+pub none_missing : (c : Setup) (seed : ℕ) (y : Yard) (seats : List SeatState) → AreBack c.roles y (length c.roles) seats → AllFinished c seed y seats
+    → Missing (length c.roles) seats → ⊥
+none_missing c seed y seats back done missing =
+    let a = missing.0 in
+    let below = missing.1 in
+    let found : (s : SeatState) → Contains seats s → s.actor ≡ a → ⊥ =
+    λ s has. All-contains (λ (t : SeatState). t.actor ≢ a) seats s missing.2 has in
+    elim (two (is_active (slice_get c.roles a))) [
+      | inl loose ↦ let had = done a below loose in found had.2 had.3 had.4.number
+      | inr rests ↦ found (new_seat y a) (back a below rests) refl
+    ]
+  where
+    two : (b : Bool) → (b ≡ true) ⊎ (b ≡ false)
+    two true = inl refl
+    two false = inr refl
+
 no_entries : (xs : List Entry) → length xs ≡ 0 → xs ≡ []
 no_entries [] e = refl
 no_entries (x ∷ xs) e = absurd (let none : ⊥ = omega arith in none)
@@ -271,6 +288,11 @@ has_played others y a player s journal done is =
         | inr (inr full) ↦ inr (inr (omega (arith, grown, full)))
       ];
     }
+
+-- what has an answer has no fault
+pub no_fault : {A E : Type 0} (result : Result A E) (P : E → Type 0) → IsOk result → IfErr result P
+no_fault (Ok answer) P is = tt
+no_fault (Err fault) P is = absurd (false≢true is)
 
 -- what a swarm leaves, once all seats are handed in
 pub is_swarm : OthersChangeNoPart → (y : Yard) (c : Setup) (seed : ℕ) (seats : List SeatState) (execution : Execution) (left : List SeatState) → y.setup ≡ c → AreBack c.roles y (length c.roles) seats

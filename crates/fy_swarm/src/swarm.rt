@@ -1,15 +1,15 @@
 //! The engine behind `faultyard swarm`: every actor of a cluster is let loose on a thread of its
 //! own, and the audit of what came of it goes out.
-ghost use Rattle.std.specs.Prelude.{◌≡◌, ◌≢◌, ◌<◌, ◌⊎◌, ◌++◌, ℕ, List, length, map, true, false, All, Contains, IfOk, IfErr, OnOk, Some, Err, slice_get};
+ghost use Rattle.std.specs.Prelude.{◌≡◌, ◌≢◌, ◌<◌, ◌⊎◌, ◌++◌, ℕ, List, length, map, true, false, All, Contains, IfOk, IfErr, IsOk, OnOk, Some, Err, slice_get};
 ghost use Rattle.std.specs.List.{AllZip};
 ghost use Rattle.std.specs.Io.KnownBytes.{Appends};
 ghost use Rattle.fy_lines.specs.Prefixes.{AppendsProperPrefix};
-ghost use Rattle.fy_yard.specs.Yard.{SeatState, new_seat, new_seats, Settled};
+ghost use Rattle.fy_yard.specs.Yard.{SeatState, new_seat, new_seats, Settled, Missing};
 ghost use Rattle.fy_yard.specs.Posts.{Ran};
 ghost use Rattle.fy_yard.specs.declared.posts.End.TheVariants.{Failed};
 ghost use Rattle.fy_cluster.specs.declared.fault.Fault.TheVariants.{NoMemory};
 ghost use Rattle.fy_swarm.specs.Swarm.{IsSwarm, HasSwarmAudit, AllFinished, is_active, most_turns};
-ghost use Rattle.fy_engine.specs.Stops.{IsSwarmStop};
+ghost use Rattle.fy_engine.specs.Outputs.{IsOutputStop};
 
 use crate::cast::player_of;
 use fy_actors::FaultActor;
@@ -127,13 +127,13 @@ fn run_players<R: Threads + Wait + Sync>(
     collect_seats(posts, back)
 }
 
-/// Closes the cluster that the actors shared.
+/// Closes the cluster that the actors shared. It is always closed, since every seat is handed in.
 fn close(shared: Shared, seats: Vec<Seat>) -> Result<Cluster, Stop>
-    requires { All (λ seat. seat.of ≡ Some shared) seats.items }
+    requires theirs { All (λ seat. seat.of ≡ Some shared) seats.items }
+    requires whole { ¬ Missing (length shared.setup.roles) seats.items }
+    ensures closes { IsOk result }
     ensures settled { IfOk result (λ cluster. (left : List SeatState)
         × Settled shared seats.items cluster left) }
-    ensures no_other { IfErr result (λ stop.
-        (stop ≡ Stop.SwarmClose) ⊎ (stop ≡ Stop.NoMemory)) }
 {
     match shared.close(seats) {
         Ok(Closed { cluster, seats: _ }) => Ok(cluster),
@@ -150,8 +150,7 @@ fn run_all_actors<R: Threads + Wait + Sync>(
     seed: u64,
 ) -> Result<Cluster, Stop>
     ensures swarm { IfOk result (λ cluster. IsSwarm config.now seed cluster.journal) }
-    ensures no_other { IfErr result (λ stop.
-        (stop ≡ Stop.SwarmClose) ⊎ (stop ≡ Stop.NoMemory)) }
+    ensures no_other { IfErr result (λ stop. stop ≡ Stop.NoMemory) }
 {
     let Ok((shared, seats)) = open(alloc, config) else {
         return Err(Stop::NoMemory);
@@ -178,8 +177,8 @@ fn run_all_actors<R: Threads + Wait + Sync>(
 /// # Errors
 ///
 /// `NoMemory` where memory is refused, to an actor too: nothing is out, or a front of the audit and
-/// never all of it. `SwarmClose` where the cluster can't be closed: nothing is out. `Write` where
-/// the writer fails or takes no byte: a front of the audit is out, and never all of it.
+/// never all of it. `Write` where the writer fails or takes no byte: a front of the audit is out,
+/// and never all of it. It is never `SwarmClose`: every seat is handed in, so the cluster is closed.
 pub fn run_swarm<R: Threads + Wait + Sync, W: Write>(
     rt: &R,
     alloc: Global,
@@ -189,15 +188,13 @@ pub fn run_swarm<R: Threads + Wait + Sync, W: Write>(
 ) -> Result<bool, Stop>
     ensures done { IfOk result (λ done. (done ≡ true) × HasSwarmAudit config.now seed
         (Appends (W.contents writer.old) (W.contents writer.new))) }
-    ensures nothing_out { IfErr result (λ stop. stop ≢ Stop.Write → stop ≢ Stop.NoMemory →
-        W.contents writer.new ≡ W.contents writer.old) }
     ensures front_out { result ≡ Err Stop.Write → HasSwarmAudit config.now seed
         (AppendsProperPrefix (W.contents writer.old) (W.contents writer.new)) }
     ensures no_memory { result ≡ Err Stop.NoMemory →
         (W.contents writer.new ≡ W.contents writer.old)
         ⊎ HasSwarmAudit config.now seed
         (AppendsProperPrefix (W.contents writer.old) (W.contents writer.new)) }
-    ensures no_other { IfErr result IsSwarmStop }
+    ensures no_other { IfErr result IsOutputStop }
 {
     let cluster = match run_all_actors(rt, alloc, config, seed) {
         Ok(cluster) => cluster,

@@ -1,6 +1,15 @@
+use Rattle.std.proofs.Common.{length, sym, subst}
 use Rattle.std.proofs.lemmas.Result.{IfOk-weaker}
-use Rattle.fy_swarm.proofs.Swarming.{is_swarm}
+use Rattle.fy_cluster.specs.Setup.{Setup}
+use Rattle.fy_yard.specs.Yard.{Missing}
+use Rattle.fy_swarm.proofs.Swarming.{is_swarm, none_missing, no_fault}
 use Rattle.fy_swarm.proofs.swarm.run_all_actors.Goals as goal
+
+pub close-requires-clause-whole : goal.close-requires-clause-whole
+close-requires-clause-whole g c =
+    let seats = c.in-Ok-run_players.seats.items in
+    subst (λ (setup : Setup). Missing (length setup.roles) seats → ⊥) (sym c.in-Ok.ensures.setup)
+    (none_missing c.args.config.now c.args.seed c.in-Ok.shared seats c.in-Ok-run_players.ensures.rested c.in-Ok-run_players.ensures.played)
 
 pub returns-clause-swarm : goal.returns-clause-swarm
 returns-clause-swarm g c =
@@ -9,3 +18,6 @@ returns-clause-swarm g c =
     cluster settled.0 c.in-Ok.ensures.setup c.in-Ok-run_players.ensures.rested
     c.in-Ok-run_players.ensures.played settled.1)
     c.close.ensures.settled
+
+pub returns-clause-no_other : goal.returns-clause-no_other
+returns-clause-no_other g c = no_fault c.close.result _ c.close.ensures.closes
