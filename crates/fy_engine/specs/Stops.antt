@@ -170,13 +170,6 @@ IsCheckStop Write = Unit {0}
 IsCheckStop NoMemory = Unit {0}
 IsCheckStop _ = ⊥
 
--- a stop of swarm's own once its cluster file is read, or of any command that writes
-abbrev pub IsSwarmStop : Stop → Type 0
-IsSwarmStop SwarmClose = Unit {0}
-IsSwarmStop Write = Unit {0}
-IsSwarmStop NoMemory = Unit {0}
-IsSwarmStop _ = ⊥
-
 -- a stop of a cluster file that is read
 abbrev pub IsConfigStop : Stop → Type 0
 IsConfigStop (Config fault) = Unit {0}
