@@ -17,7 +17,7 @@ use Rattle.fy_cluster.specs.History.{history}
 use Rattle.fy_cluster.specs.Rules.{situation}
 use Rattle.fy_cluster.specs.Survival.{IsJudged}
 use Rattle.fy_worked.specs.Clusters.{six_under, in_two_zones, entry, process, zone_named, process_named, order, kill_order, empty, struck}
-use Rattle.fy_worked.specs.Leave.{destroying}
+use Rattle.fy_worked.specs.Permission.{destroying}
 
 -- ---- an order that an actor gives after a journal
 

@@ -1,6 +1,6 @@
 pub mod Clusters
 pub mod Strikes
-pub mod Leave
+pub mod Permission
 pub mod Records
 pub mod Messages
 pub mod Refused

@@ -11,7 +11,7 @@ use Rattle.fy_acts.specs.declared.reply.Reply.TheVariants.{Done}
 use Rattle.fy_acts.specs.declared.entry.Entry.{Entry}
 use Rattle.fy_cluster.specs.Setup.{Setup}
 use Rattle.fy_worked.specs.Clusters.{cluster, in_two_zones, entry, process, zone_named, kill, reboot, struck, weakened, barred}
-use Rattle.fy_worked.specs.Leave.{permission, rebooting}
+use Rattle.fy_worked.specs.Permission.{permission, rebooting}
 
 -- a process in no data hall
 abbrev pub placed : (process machine zone : List ℕ) → Option (List ℕ) → Locality

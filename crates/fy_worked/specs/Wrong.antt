@@ -9,7 +9,7 @@ use Rattle.fy_acts.specs.declared.reply.Reply.TheVariants.{Formed, Begun, Stored
 use Rattle.fy_acts.specs.declared.entry.Entry.{Entry}
 use Rattle.fy_cluster.specs.Setup.{Setup}
 use Rattle.fy_worked.specs.Clusters.{entry, process, zone_named, process_named, kill, empty, reboot, copy, replace, heal, struck, weakened, barred, cluster, six_processes, in_two_zones}
-use Rattle.fy_worked.specs.Leave.{permission, destroying, rebooting}
+use Rattle.fy_worked.specs.Permission.{permission, destroying, rebooting}
 use Rattle.fy_worked.specs.Targets.{center_named}
 use Rattle.fy_worked.specs.Records.{pair, hi, written_and_synced, forgotten}
 use Rattle.fy_worked.specs.Messages.{begun}

@@ -7,7 +7,7 @@ ghost use Rattle.fy_cluster.specs.History.{history, destroyed, up, clogged};
 ghost use Rattle.fy_cluster.specs.Rules.{grants, is_protected};
 ghost use Rattle.fy_cluster.specs.Replies.{Legal};
 ghost use Rattle.fy_worked.specs.Clusters.{six, members, kill_and_reboot};
-ghost use Rattle.fy_worked.specs.Leave.{protected, first_of_the_rules, given_and_taken, closed_up, one_zone_granted, half_unprotected, protected_from_the_start, full_of_grants, permission, rebooting, guarded, granted};
+ghost use Rattle.fy_worked.specs.Permission.{protected, first_of_the_rules, given_and_taken, closed_up, one_zone_granted, half_unprotected, protected_from_the_start, full_of_grants, permission, rebooting, guarded, granted};
 
 /// A protection bars its kinds for the whole target. Whoever has no grant is told of that first,
 /// also of a process that is protected.

@@ -7,7 +7,7 @@ ghost use Rattle.fy_cluster.specs.Rules.{grants, is_protected};
 ghost use Rattle.fy_cluster.specs.Replies.{Legal};
 ghost use Rattle.fy_worked.specs.Clusters.{six, members, process};
 ghost use Rattle.fy_worked.specs.Strikes.{three_and_two};
-ghost use Rattle.fy_worked.specs.Leave.{protected};
+ghost use Rattle.fy_worked.specs.Permission.{protected};
 ghost use Rattle.fy_worked.specs.Refused.{nobody_formed, gone_protected, refused_before_anything, refused_of_the_gone, refused_in_order, roles_apart, operator_moves_nothing, team_by_policy, no_member_of_acknowledged};
 
 /// An act that names what isn't there is refused and changes nothing. The clock stops at its last

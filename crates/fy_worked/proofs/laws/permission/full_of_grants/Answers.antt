@@ -1,5 +1,5 @@
 use Rattle.std.proofs.Common.{refl}
-use Rattle.fy_worked.specs.Leave.{granted, full_of_grants}
+use Rattle.fy_worked.specs.Permission.{granted, full_of_grants}
 use Rattle.fy_worked.proofs.Played.{legal_by_acts, cluster_on_literals}
 use Rattle.fy_worked.proofs.laws.permission.full_of_grants.Goals as goal
 

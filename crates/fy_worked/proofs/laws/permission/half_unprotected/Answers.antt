@@ -1,6 +1,6 @@
 use Rattle.std.proofs.Common.{refl}
 use Rattle.fy_worked.specs.Clusters.{six}
-use Rattle.fy_worked.specs.Leave.{half_unprotected}
+use Rattle.fy_worked.specs.Permission.{half_unprotected}
 use Rattle.fy_worked.proofs.Played.{legal_by_acts, cluster_on_literals}
 use Rattle.fy_worked.proofs.laws.permission.half_unprotected.Goals as goal
 

@@ -31,7 +31,7 @@ restarting = only (Striking RebootProcess)
 abbrev pub clogging : KindSet
 clogging = only Clogging
 
--- leave of the actor without grants
+-- permission of the actor without grants
 abbrev pub permission : KindSet → Scope → Grant
 permission kinds scope = record { actor = 3; kinds = kinds; scope = scope }
 
