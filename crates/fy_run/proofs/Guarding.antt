@@ -112,17 +112,17 @@ read_one_more setup (Some bytes) left next execution now command read gives ente
     )
 
 -- what a reader of commands gave is the command that it was found to be
-pub gave : {left next : Option (List ℕ)} {found : Option Command} {command : Command} →
+pub gave : (left next : Option (List ℕ)) {found : Option Command} {command : Command} →
     found ≡ Some command → IfSome found (GivesCommand left next) → GivesCommand left next command
-gave {left} {next} is gives = subst (λ o. IfSome o (GivesCommand left next)) is gives
+gave left next is gives = subst (λ o. IfSome o (GivesCommand left next)) is gives
 
 -- one line more is read and answered
-pub goes_on : {setup : Setup} {old left next before out longer : Option (List ℕ)} {execution now : Execution}
-    {command : Command} → HasAnswered setup old left before out execution →
+pub goes_on : (command : Command) {setup : Setup} {old left next before out longer : Option (List ℕ)}
+    {execution now : Execution} → HasAnswered setup old left before out execution →
     GivesCommand left next command → now ≡ entered execution command.by command.act →
     Legal now.setup now.journal → Appends out longer (entry_line (entry_of execution command)) →
     HasAnswered setup old next before longer now
-goes_on {setup} {old} {left} {next} {before} {out} {longer} {execution} {now} {command} has gives enters legal written =
+goes_on command {setup} {old} {left} {next} {before} {out} {longer} {execution} {now} has gives enters legal written =
     record {
       same = ap (λ (c : Execution). c.setup) enters ∙ has.same;
       legal = legal;
@@ -308,26 +308,26 @@ is_full setup (Some bytes) next answered command (line, rest, is, first, spelled
     (line, lines_of rest, first, StopsAtLine.full command spelled full)
 
 -- the command of the next line has no answer
-pub refused_command : {setup : Setup} {old left next before out short : Option (List ℕ)}
+pub refused_command : (next : Option (List ℕ)) {setup : Setup} {old left before out short : Option (List ℕ)}
     {execution now : Execution} {command : Command} {stop : Stop} →
     HasAnswered setup old left before out execution → GivesCommand left next command →
     NoAnswer execution command now out short stop →
     IfRunRefusal stop (AnswersBefore setup old stop (Appends before short))
-refused_command {setup} {old} {left} {next} {before} {out} {short} {execution} {now} {command} {stop} has gives (NoAnswer.full told full keeps) =
+refused_command next {setup} {old} {left} {before} {out} {short} {execution} {now} {command} {stop} has gives (NoAnswer.full told full keeps) =
     let limit : setup.limit ≤ length execution.journal =
     subst (λ (s : Setup). s.limit ≤ length execution.journal) has.same full in
     subst (λ s. IfRunRefusal s (AnswersBefore setup old s (Appends before short))) (sym told)
     (stops_before setup old left before out execution JournalFull (Appends before short) has
     (is_full setup left next (length execution.journal) command gives limit)
     (Appends-kept before out short (audit_text Second execution.journal) has.written keeps))
-refused_command {setup} {old} {left} {next} {before} {out} {short} {execution} {now} {command} {stop} has gives (NoAnswer.no_memory told keeps) =
+refused_command next {setup} {old} {left} {before} {out} {short} {execution} {now} {command} {stop} has gives (NoAnswer.no_memory told keeps) =
     subst (λ s. IfRunRefusal s (AnswersBefore setup old s (Appends before short))) (sym told) tt
-refused_command {setup} {old} {left} {next} {before} {out} {short} {execution} {now} {command} {stop} has gives (NoAnswer.short told enters legal stops) =
+refused_command next {setup} {old} {left} {before} {out} {short} {execution} {now} {command} {stop} has gives (NoAnswer.short told enters legal stops) =
     subst (λ s. IfRunRefusal s (AnswersBefore setup old s (Appends before short))) (sym told) tt
 
-pub at_least : {old new : Option (List ℕ)} {text : List ℕ} → Appends old new text →
+pub at_least : (old new : Option (List ℕ)) (text : List ℕ) → Appends old new text →
     AppendsAtLeast old new text
-at_least {old} {new} {text} written = ([], subst (Appends old new) (sym (append-nil text)) written)
+at_least old new text written = ([], subst (Appends old new) (sym (append-nil text)) written)
 
 -- what is out where an answer isn't whole: all answers before it
 pub still_out : {setup : Setup} {old left before out short : Option (List ℕ)} {execution now : Execution}
@@ -335,10 +335,10 @@ pub still_out : {setup : Setup} {old left before out short : Option (List ℕ)} 
     NoAnswer execution command now out short stop →
     AppendsAtLeast before short (audit_text Second execution.journal)
 still_out {setup} {old} {left} {before} {out} {short} {execution} {now} {command} {stop} has (NoAnswer.full told full keeps) =
-    at_least
+    at_least before short (audit_text Second execution.journal)
     (Appends-kept before out short (audit_text Second execution.journal) has.written keeps)
 still_out {setup} {old} {left} {before} {out} {short} {execution} {now} {command} {stop} has (NoAnswer.no_memory told keeps) =
-    at_least
+    at_least before short (audit_text Second execution.journal)
     (Appends-kept before out short (audit_text Second execution.journal) has.written keeps)
 still_out {setup} {old} {left} {before} {out} {short} {execution} {now} {command} {stop} has (NoAnswer.short told enters legal stops) =
     let (front, rest, is, grown, some) = stops in
@@ -391,16 +391,16 @@ header_short setup known before short stops =
     (subst (AppendsProperPrefix before short) (sym (append-nil (header Second))) stops)
 
 -- an answer isn't out whole
-pub answer_short : {setup : Setup} {old left next before out short : Option (List ℕ)}
+pub answer_short : (next : Option (List ℕ)) {setup : Setup} {old left before out short : Option (List ℕ)}
     {execution now : Execution} {command : Command} {stop : Stop} →
     HasAnswered setup old left before out execution → GivesCommand left next command →
     NoAnswer execution command now out short stop → stop ≡ Write →
     AnswersSome setup old (AppendsProperPrefix before short)
-answer_short {setup} {old} {left} {next} {before} {out} {short} {execution} {now} {command} {stop} has gives (NoAnswer.full told full keeps) is =
+answer_short next {setup} {old} {left} {before} {out} {short} {execution} {now} {command} {stop} has gives (NoAnswer.full told full keeps) is =
     let bad : ⊥ = cc in absurd bad
-answer_short {setup} {old} {left} {next} {before} {out} {short} {execution} {now} {command} {stop} has gives (NoAnswer.no_memory told keeps) is =
+answer_short next {setup} {old} {left} {before} {out} {short} {execution} {now} {command} {stop} has gives (NoAnswer.no_memory told keeps) is =
     let bad : ⊥ = cc in absurd bad
-answer_short {setup} {old} {left} {next} {before} {out} {short} {execution} {now} {command} {stop} has gives (NoAnswer.short told enters legal stops) is =
+answer_short next {setup} {old} {left} {before} {out} {short} {execution} {now} {command} {stop} has gives (NoAnswer.short told enters legal stops) is =
     some_answered setup old next now (AppendsProperPrefix before short)
     (read_one_more setup old left next execution now command has.read gives enters) legal
     (subst (AppendsProperPrefix before short)

@@ -53,7 +53,8 @@ returns-in-Ok-None-clause-answered g c =
 pub returns-in-Ok-None-clause-in_turn : goal.returns-in-Ok-None-clause-in_turn
 returns-in-Ok-None-clause-in_turn g c =
     let has = c.lines.invariant.1 in
-    inr (in_turn ReadsWithinLine _ _ has c.next_command.ensures.no_further (at_least has.written))
+    inr (in_turn ReadsWithinLine _ _ has c.next_command.ensures.no_further (at_least (g.W.Write.contents c.args.writer.now)
+    (g.W.Write.contents c.lines.writer) _ has.written))
 
 pub returns-in-Err-clause-refused : goal.returns-in-Err-clause-refused
 returns-in-Err-clause-refused g c =
@@ -63,7 +64,8 @@ returns-in-Err-clause-refused g c =
 pub returns-in-Err-clause-in_turn : goal.returns-in-Err-clause-in_turn
 returns-in-Err-clause-in_turn g c =
     let has = c.lines.invariant.1 in
-    inr (in_turn ReadsWithinLine _ _ has c.next_command.ensures.no_further (at_least has.written))
+    inr (in_turn ReadsWithinLine _ _ has c.next_command.ensures.no_further (at_least (g.W.Write.contents c.args.writer.now)
+    (g.W.Write.contents c.lines.writer) _ has.written))
 
 pub returns-in-Err-clause-read_fault : goal.returns-in-Err-clause-read_fault
 returns-in-Err-clause-read_fault g c is =
@@ -86,7 +88,10 @@ returns-in-Err-clause-no_other g c = no_command_own c.in-Err.ensures.err
 
 pub returns-in-Err-answer-clause-refused : goal.returns-in-Err-answer-clause-refused
 returns-in-Err-answer-clause-refused g c =
-    refused_command c.lines.invariant.1 (gave c.in-Ok-Some.field-0-is c.in-Ok-Some.ensures.some)
+    let left = g.R.Read.remaining c.lines.reader in
+    let next = g.R.Read.remaining c.next_command.new.reader in
+    refused_command next c.lines.invariant.1
+    (gave left next c.in-Ok-Some.field-0-is c.in-Ok-Some.ensures.some)
     c.in-Err-answer.ensures.err
 
 pub returns-in-Err-answer-clause-in_turn : goal.returns-in-Err-answer-clause-in_turn
@@ -108,7 +113,10 @@ returns-in-Err-answer-clause-no_memory g c is =
 
 pub returns-in-Err-answer-clause-front_out : goal.returns-in-Err-answer-clause-front_out
 returns-in-Err-answer-clause-front_out g c is =
-    answer_short c.lines.invariant.1 (gave c.in-Ok-Some.field-0-is c.in-Ok-Some.ensures.some)
+    let left = g.R.Read.remaining c.lines.reader in
+    let next = g.R.Read.remaining c.next_command.new.reader in
+    answer_short next c.lines.invariant.1
+    (gave left next c.in-Ok-Some.field-0-is c.in-Ok-Some.ensures.some)
     c.in-Err-answer.ensures.err
     (same_stop (Err c.in-Err-answer.stop) c.in-Err-answer.stop Write refl is)
 
@@ -126,6 +134,8 @@ overflow_add-number g c =
 
 pub lines-preserved : goal.lines-preserved
 lines-preserved g c =
+    let left = g.R.Read.remaining c.lines.reader in
+    let next = g.R.Read.remaining c.next_command.new.reader in
     let execution = c.lines.cluster in
     let command = c.in-Ok-Some.command in
     let number = c.lines.invariant.0 in
@@ -134,6 +144,7 @@ lines-preserved g c =
     ap (λ (execution : Execution). length execution.journal) enters
     ∙ one_longer execution command.by command.act in (
       omega arith,
-      goes_on c.lines.invariant.1 (gave c.in-Ok-Some.field-0-is c.in-Ok-Some.ensures.some) enters
+      goes_on command c.lines.invariant.1
+          (gave left next c.in-Ok-Some.field-0-is c.in-Ok-Some.ensures.some) enters
           c.in-Ok-answer.ensures.legal c.in-Ok-answer.ensures.out,
     )
