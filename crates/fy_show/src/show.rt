@@ -1,10 +1,13 @@
 //! The engine behind `faultyard show`: an audit in, a picture of it out.
-ghost use Rattle.std.specs.Prelude.{◌≡◌, ◌≢◌, ◌+◌, IfOk, IfErr, IfSome, Err};
+ghost use Rattle.std.specs.Prelude.{◌≡◌, ◌≢◌, ◌+◌, Bool, IfOk, IfErr, IfSome, Err, string_bytes};
+ghost use Rattle.std.specs.Io.KnownBytes.{Appends};
+ghost use Rattle.fy_lines.specs.Prefixes.{AppendsProperPrefix};
 ghost use Rattle.fy_lines.specs.Readings.{ReadsAtMost};
 ghost use Rattle.fy_audit.specs.Audit.{AuditOf};
 ghost use Rattle.fy_audit.specs.declared.audit.TheConstants.{MOST_AUDIT_BYTES};
-ghost use Rattle.fy_check_audit.specs.Checked.{IsChecked};
 ghost use Rattle.fy_engine.specs.Stops.{IfAuditFault, IsCheckStop};
+ghost use Rattle.fy_show.specs.Shows.{HasDocument};
+ghost use Rattle.fy_svg.specs.Documents.{EndsDocument};
 
 use fy_audit::{MOST_AUDIT_BYTES, read_audit};
 use fy_check_audit::{Finding, audit_stop, find_first_bad, load_audit};
@@ -24,19 +27,22 @@ use std::io::{Read, Write};
 /// # Errors
 ///
 /// The stops of `run_check`: nothing is written but after `Write`, when a front of the document is
-/// out, and never all of it.
+/// out, and never all of it. The audit was read and checked then.
 pub fn run_show<R: Read, W: Write>(
     alloc: Global,
     config: &Config,
     reader: &mut R,
     writer: &mut W,
 ) -> Result<bool, Stop>
-    ensures done { IfOk result (λ legal. IfSome (R.remaining reader.old)
-        (λ bytes. IsChecked config.now bytes legal)) }
+    ensures done { IfOk result (λ legal. HasDocument config.now (R.remaining reader.old) legal
+        (Appends (W.contents writer.old) (W.contents writer.new))) }
     ensures refused { IfErr result (λ stop. IfAuditFault stop
         (λ fault. IfSome (R.remaining reader.old) (λ bytes. AuditOf bytes (Err fault)))) }
     ensures nothing_out { IfErr result (λ stop. stop ≢ Stop.Write →
         W.contents writer.new ≡ W.contents writer.old) }
+    ensures front_out { result ≡ Err Stop.Write → (legal : Bool)
+        × HasDocument config.now (R.remaining reader.old) legal
+        (AppendsProperPrefix (W.contents writer.old) (W.contents writer.new)) }
     ensures no_other { IfErr result IsCheckStop }
     ensures read_fault { result ≡ Err Stop.Read →
         ReadsAtMost (R.remaining reader.old) (R.remaining reader.new) MOST_AUDIT_BYTES }
@@ -71,6 +77,7 @@ fn draw(
     bytes: &[u8],
     first_bad: Option<u32>,
 ) -> Result<String, Stop>
+    ensures drawn { IfOk result (λ text. EndsDocument (string_bytes text)) }
     ensures refused { IfErr result (λ stop. IfAuditFault stop
         (λ fault. AuditOf bytes.now (Err fault))) }
     ensures own { IfErr result IsCheckStop }

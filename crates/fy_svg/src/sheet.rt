@@ -1,4 +1,7 @@
 //! The whole sheet.
+ghost use Rattle.std.specs.Prelude.{IfOk, string_bytes};
+ghost use Rattle.fy_svg.specs.Documents.{EndsDocument};
+
 use crate::bands::write_bands;
 use crate::frame::{
     lines_of, write_axis, write_bad, write_head, write_last_names, write_legend, write_names,
@@ -48,7 +51,9 @@ pub fn svg(
     config: &Config,
     entries: &[Entry],
     bad: Option<u32>,
-) -> Result<String, AllocError> {
+) -> Result<String, AllocError>
+    ensures { IfOk result (λ text. EndsDocument (string_bytes text)) }
+{
     let picture = draw(alloc, config, entries)?;
     let lanes = lanes_of(alloc, config.map())?;
     let rows = rows_of(alloc, &lanes)?;
