@@ -28,9 +28,9 @@ by_reply law version c journal e answered same l k room place right d = (
   λ more. d.1 (right ∙ sym ((law version c journal e l).0 more).0.right),
 )
 
--- who got a reply had a place in the journal
-pub had_place : (n limit : ℕ) (answered : Reply) → ((limit ≤ n) ↔ (let result : Result Reply Fault = Ok answered in result ≡ Err JournalFull)) → n < limit
-had_place n limit answered full = elim (cases_lt n limit) [ inl room ↦ room | inr none ↦ absurd (let wrong = full.0 none in let no : ⊥ = cc in no) ]
+-- where an entry was made, the journal had a place for it
+pub had_place : (n limit : ℕ) (made : Entry) → ((limit ≤ n) ↔ (let result : Result Entry Fault = Ok made in result ≡ Err JournalFull)) → n < limit
+had_place n limit made full = elim (cases_lt n limit) [ inl room ↦ room | inr none ↦ absurd (let wrong = full.0 none in let no : ⊥ = cc in no) ]
 
 -- the entry of these parts
 pub of_parts : (e : Entry) (at : ℕ) (act : Act) (reply : Reply) → e.at ≡ at → e.act ≡ act → e.reply ≡ reply → record { at = at; by = e.by; act = act; reply = reply } ≡ e

@@ -7,7 +7,7 @@ use Rattle.fy_cluster.specs.Setup.{Setup}
 use Rattle.fy_cluster.specs.Versions.{LegalUnder}
 use Rattle.fy_check.specs.Check.{IsFirstBad}
 
--- what was replayed: the journal's version, the cluster, and the first bad entry
+-- what was replayed: the journal's version, the state of the cluster, and the first bad entry
 pub record Replayed : Type 0 where
   pub version : Version
   pub execution : Execution

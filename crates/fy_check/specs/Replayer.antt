@@ -8,12 +8,12 @@ use Rattle.fy_check.specs.declared.replaying.Replayer.TheInside.{Inside}
 abbrev pub replayed : Inside → Replayed
 replayed replayer = record {
   version = replayer.version;
-  execution = replayer.cluster;
+  execution = replayer.state;
   first_bad = replayer.first_bad;
 }
 
--- while no entry is bad, the cluster's journal is legal under the version
+-- while no entry is bad, the state's journal is legal under the version
 abbrev pub IsSound : Inside → Type 0
 IsSound replayer =
     replayer.first_bad ≡ None →
-    LegalUnder replayer.version replayer.cluster.setup replayer.cluster.journal
+    LegalUnder replayer.version replayer.state.setup replayer.state.journal

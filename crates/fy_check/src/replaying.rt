@@ -1,4 +1,5 @@
-//! Checks a journal by replaying it: its acts are made once more, and the replies compared.
+//! Checks a journal by replaying it: its acts are made once more, and the replies compared. No
+//! entry is kept.
 ghost use Rattle.std.specs.Prelude.{◌≡◌, ◌↔◌, List, [], ◌∷◌, ◌++◌, length, None, IfOk, OnOk, OnErr, IsTrue};
 ghost use Rattle.fy_acts.specs.declared.entry.Entry.{Entry};
 ghost use Rattle.fy_cluster.specs.Setup.{Setup};
@@ -7,21 +8,21 @@ ghost use Rattle.fy_check.specs.Check.{ChecksOrOom};
 ghost use Rattle.fy_check.specs.Replayed.{HasReplayed};
 
 use crate::CheckFault;
-use fy_cluster::{Cluster, Config, Fault, laws};
+use fy_cluster::{ClusterState, Config, Fault, laws};
 use fy_journal::{Entry, Journal, Version};
 use std::alloc::{AllocError, Global};
 use std::marker::Model;
 
-/// Whether the entry may come next in the cluster's journal, which is a legal one of the version.
-/// Where it may, that journal then ends with it.
-fn comes_next(cluster: &mut Cluster, version: Version, entry: Entry) -> Result<bool, AllocError>
-    requires legal { LegalUnder version cluster.old.setup cluster.old.journal }
-    requires place { entry.at ≡ length cluster.old.journal }
+/// Whether the entry may come next in the journal of the state, which is a legal one of the
+/// version. Where it may, that journal then ends with it.
+fn comes_next(state: &mut ClusterState, version: Version, entry: Entry) -> Result<bool, AllocError>
+    requires legal { LegalUnder version state.old.setup state.old.journal }
+    requires place { entry.at ≡ length state.old.journal }
     ensures next { IfOk result (λ next. IsTrue next
-        ↔ LegalUnder version cluster.old.setup (cluster.old.journal ++ entry ∷ [])) }
-    ensures entered { IfOk result (λ next. IsTrue next → cluster.new
-        ≡ record cluster.old { journal = cluster.old.journal ++ entry ∷ [] }) }
-    ensures none { OnErr result (cluster.new ≡ cluster.old) }
+        ↔ LegalUnder version state.old.setup (state.old.journal ++ entry ∷ [])) }
+    ensures entered { IfOk result (λ next. IsTrue next → state.new
+        ≡ record state.old { journal = state.old.journal ++ entry ∷ [] }) }
+    ensures none { OnErr result (state.new ≡ state.old) }
 {
     laws::versions();
     fy_acts::laws::equal_is_the_same();
@@ -29,18 +30,18 @@ fn comes_next(cluster: &mut Cluster, version: Version, entry: Entry) -> Result<b
         return Ok(false);
     }
     let (_, by, act, told) = entry.into_parts();
-    match cluster.apply(by, act) {
-        Ok(reply) => Ok(reply == told),
+    match state.enter(by, act) {
+        Ok(made) => Ok(made.reply == told),
         Err(Fault::JournalFull) => Ok(false),
         Err(Fault::NoMemory) => Err(AllocError),
     }
 }
 
-/// Checks a journal entry by entry: a cluster makes each act once more, and the reply is compared.
-/// The entry is dropped then.
+/// Checks a journal entry by entry: each act is made once more, and the reply is compared. The entry
+/// is dropped then, so memory doesn't grow with their number.
 #[derive(Drop)]
 pub struct Replayer {
-    cluster: Cluster,
+    state: ClusterState,
     version: Version,
     first_bad: Option<u32>,
 }
@@ -75,22 +76,10 @@ impl Replayer {
     {
         laws::versions();
         Ok(Replayer {
-            cluster: Cluster::make(alloc, config)?,
+            state: ClusterState::make(alloc, config)?,
             version,
             first_bad: None,
         })
-    }
-
-    /// Reserves room for so many more entries, up to the journal's limit, and changes nothing else.
-    /// `enter` grows the journal step by step.
-    ///
-    /// # Errors
-    ///
-    /// `AllocError` where there is no memory for it.
-    pub fn make_room(&mut self, count: usize) -> Result<(), AllocError>
-        ensures { self.new ≡ self.old }
-    {
-        self.cluster.make_room(count)
     }
 
     /// The place of the first bad entry so far; `None` where the entries are a legal journal.
@@ -117,7 +106,7 @@ impl Replayer {
             return Ok(());
         }
         let at = entry.at;
-        if !comes_next(&mut self.cluster, self.version, entry)? {
+        if !comes_next(&mut self.state, self.version, entry)? {
             self.first_bad = Some(at);
         }
         Ok(())
@@ -125,7 +114,7 @@ impl Replayer {
 }
 
 /// Whether the journal is legal for the configuration, under its own version of the rules. The acts
-/// are made once more by a cluster of this configuration, so the time is that of the run.
+/// are made once more under this configuration, so the time is that of the run.
 ///
 /// # Errors
 ///
@@ -137,7 +126,6 @@ pub fn replay(alloc: Global, config: &Config, journal: &Journal) -> Result<(), C
 {
     journal.invariant();
     let mut replayer = Replayer::begin(alloc, config.try_copy(alloc)?, journal.version())?;
-    replayer.make_room(journal.len())?;
     for entry in journal.entries() {
         replayer.enter(Entry {
             at: entry.at,

@@ -1,5 +1,5 @@
 -- one entry more in a legal journal
-use Rattle.std.proofs.Common.{IsTrue, ◌↔◌, ◌≤◌, inl, inr, ◌≡◌, ℕ, zero, suc, ◌+◌, ◌<◌, true, false, List, [], ◌∷◌, ◌++◌, length, Some, None, Result, Ok, Err, IfOk, OnErr, refl, sym, ◌∙◌, ap, subst, arith, nat_le, slice_get, length-append}
+use Rattle.std.proofs.Common.{IsTrue, ◌↔◌, ◌≤◌, inl, inr, ◌≡◌, ℕ, zero, suc, ◌+◌, ◌<◌, true, false, List, [], ◌∷◌, ◌++◌, length, Some, None, Result, Ok, Err, IfOk, OnOk, OnErr, refl, sym, ◌∙◌, ap, subst, arith, nat_le, slice_get, length-append}
 use Rattle.std.proofs.lemmas.Bool.{cases_lt, false≢true}
 use Rattle.std.proofs.lemmas.Bool.Decides.{nat_tests}
 use Rattle.std.proofs.lemmas.Option.{slice_get_within}
@@ -14,8 +14,8 @@ use Rattle.fy_cluster.specs.declared.machine.Machine.{Machine}
 use Rattle.fy_cluster.specs.Setup.{Setup}
 use Rattle.fy_cluster.specs.History.{History, step_of, history}
 use Rattle.fy_cluster.specs.Replies.{first_refusal_or, refusals, reasons, answer, reply, no_actor, may}
-use Rattle.fy_cluster.specs.Execution.{Execution}
-use Rattle.fy_cluster.specs.Standing.{Refines, Point, StepsToOrOom, RepliesOrOom, entry_of, RefinesJournal, IsReachable}
+use Rattle.fy_cluster.specs.Execution.{Execution, next_entry}
+use Rattle.fy_cluster.specs.Standing.{Refines, Point, StepsToOrOom, RepliesOrOom, EntersOrOom, entry_of, RefinesJournal, IsReachable}
 use Rattle.fy_cluster.proofs.Journals.{after-append, length-history, legal-push}
 use Rattle.fy_cluster.proofs.Refusals.{unmoved_by}
 
@@ -77,7 +77,23 @@ pub reachable : (c : Setup) (journal : List Entry) (m : Machine) → RefinesJour
 reachable c journal m k room = record { journal = journal; same = refl; setup = k.setup; legal = k.legal; room = room }
 
 -- whether or not an entry was made, the journal is kept
-pub kept_after_act : (c : Setup) (journal entries : List Entry) (by : ℕ) (act : Act) (result : Result Reply Fault) (m old : Machine) → RefinesJournal c journal old → length journal < c.limit → RepliesOrOom (point_after c journal by) act result m
-    → IfOk result (λ answered. entries ≡ journal ++ record { at = length journal; by = by; act = act; reply = answered } ∷ []) → OnErr result (entries ≡ journal) → RefinesJournal c entries m
-kept_after_act c journal entries by act (Ok answered) m old k room a entered err = rw entered (kept_on c journal by act answered m old k room a)
+pub kept_after_act : (c : Setup) (journal entries : List Entry) (by : ℕ) (act : Act) (result : Result Entry Fault) (m old : Machine) → RefinesJournal c journal old → length journal < c.limit → EntersOrOom (point_after c journal by) (length journal) by act result m
+    → IfOk result (λ entry. entries ≡ journal ++ entry ∷ []) → OnErr result (entries ≡ journal) → RefinesJournal c entries m
+kept_after_act c journal entries by act (Ok entry) m old k room a entered err =
+    let e : Entry = record { at = length journal; by = by; act = act; reply = entry.reply } in
+    let right : entry.reply ≡ reply c (history c journal) by act = ap (λ (x : Entry). x.reply) a.0 in
+    let same : e ≡ entry = ap (λ answered. record { at = length journal; by = by; act = act; reply = answered }) right ∙ sym a.0 in
+    rw entered (subst (λ (x : Entry). RefinesJournal c (journal ++ x ∷ []) m) same (kept_on c journal by act entry.reply m old k room (right, a.1)))
 kept_after_act c journal entries by act (Err fault) m old k room a entered err = rw err (record { setup = k.setup; legal = k.legal; stands = a.1 })
+
+-- the entry that was made is the next
+pub entry_is_next : (execution : Execution) (by : ℕ) (act : Act) (result : Result Entry Fault) (m : Machine) → EntersOrOom (point_after execution.setup execution.journal by) (length execution.journal) by act result m
+    → IfOk result (λ entry. entry ≡ next_entry execution by act)
+entry_is_next execution by act (Ok entry) m a = a.0
+entry_is_next execution by act (Err fault) m a = tt
+
+-- and the journal ends with it
+pub ends_with_next : (execution : Execution) (entries : List Entry) (by : ℕ) (act : Act) (result : Result Entry Fault) (m : Machine) → EntersOrOom (point_after execution.setup execution.journal by) (length execution.journal) by act result m
+    → IfOk result (λ entry. entries ≡ execution.journal ++ entry ∷ []) → OnOk result (entries ≡ execution.journal ++ next_entry execution by act ∷ [])
+ends_with_next execution entries by act (Ok entry) m a entered = entered ∙ ap (λ (x : Entry). execution.journal ++ x ∷ []) a.0
+ends_with_next execution entries by act (Err fault) m a entered = tt

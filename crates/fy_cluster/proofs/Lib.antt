@@ -1,4 +1,5 @@
 pub mod Acknowledging
+pub mod Copied
 pub mod CopyTo
 pub mod Deliverable
 pub mod Delivered

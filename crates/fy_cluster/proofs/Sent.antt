@@ -11,6 +11,10 @@ use Rattle.fy_team.proofs.teams.Teams.TheSendSync as teams
 use Rattle.fy_journal.proofs.journal.Journal.TheSendSync as journal
 use Rattle.fy_cluster.specs.contracts.config.Config as config
 use Rattle.fy_cluster.specs.contracts.machine.Machine as machine
+use Rattle.fy_cluster.specs.contracts.trail.Trail as trail
+use Rattle.fy_cluster.specs.contracts.trail.Trail.TheInside as in_trail
+use Rattle.fy_cluster.specs.contracts.cluster_state.ClusterState as state
+use Rattle.fy_cluster.specs.contracts.cluster_state.ClusterState.TheInside as in_state
 use Rattle.fy_cluster.specs.contracts.cluster.Cluster as cluster
 use Rattle.fy_cluster.specs.contracts.cluster.Cluster.TheInside as in_cluster
 use Rattle.fy_policy.proofs.Sent.{policy_send}
@@ -31,11 +35,26 @@ machine_send =
       crosses,
     ) depth 20
 
+trail_send : IsSend trail.the_row
+trail_send =
+    let inner : IsSend in_trail.the_row =
+    declared_send in_trail.the_type ((search (sendable, crosses) depth 20), tt) in
+    search (inner, view_send)
+
+state_send : IsSend state.the_row
+state_send =
+    let inner : IsSend in_state.the_row =
+    declared_send in_state.the_type (
+      (search (sendable, crosses) depth 20),
+      (config_send, (trail_send, (machine_send, tt))),
+    ) in
+    search (inner, view_send)
+
 pub cluster_send : IsSend cluster.the_row
 cluster_send =
     let inner : IsSend in_cluster.the_row =
     declared_send in_cluster.the_type (
       (search (sendable, crosses) depth 20),
-      (config_send, (journal.the_send, (machine_send, tt))),
+      (state_send, (journal.the_send, tt)),
     ) in
     search (inner, view_send)

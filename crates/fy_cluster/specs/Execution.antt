@@ -26,14 +26,19 @@ opened c = record { setup = c; journal = [] }
 abbrev pub replied : Execution → ℕ → Act → Reply
 replied execution by act = reply execution.setup (history_of execution) by act
 
+-- the entry that an act makes next
+abbrev pub next_entry : Execution → ℕ → Act → Entry
+next_entry execution by act = record {
+  at = length execution.journal;
+  by = by;
+  act = act;
+  reply = replied execution by act;
+}
+
 -- the execution once the act is entered with its reply
 abbrev pub entered : Execution → ℕ → Act → Execution
-entered execution by act = record execution {
-  journal =
-      execution.journal
-      ++ record { at = length execution.journal; by = by; act = act; reply = replied execution by act }
-      ∷ [];
-}
+entered execution by act =
+    record execution { journal = execution.journal ++ next_entry execution by act ∷ [] }
 
 -- the execution once these acts are entered, one after another
 abbrev pub after_acts : Execution → List (ℕ × Act) → Execution

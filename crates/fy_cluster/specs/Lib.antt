@@ -10,3 +10,4 @@ pub mod Standing
 pub mod Sights
 pub use Rattle.fy_locality.specs.Locality
 pub mod Needs
+pub mod Trail

@@ -35,6 +35,7 @@ use Rattle.fy_cluster.specs.declared.fault.Fault.{Fault}
 use Rattle.fy_cluster.specs.declared.fault.Fault.TheVariants.{NoMemory}
 use Rattle.fy_cluster.specs.declared.machine.Machine.{Machine}
 use Rattle.fy_cluster.specs.Setup.{Setup, IsSetup}
+use Rattle.fy_cluster.specs.Execution.{Execution}
 use Rattle.fy_cluster.specs.History.{History, Step, BegunRecord, destroyed, left, up, synced, unsynced, sent, is_removed, now, clog_ends, teams, records, marked, acked, step_of, history}
 use Rattle.fy_cluster.specs.Rules.{grants, is_protected}
 use Rattle.fy_cluster.specs.Replies.{refusals, answer, reply, first_refusal_or, Legal}
@@ -195,6 +196,18 @@ RepliesOrOom point act (Ok answered) m =
     × Refines point.setup (following point act answered) m
 RepliesOrOom point act (Err fault) m = (fault ≡ NoMemory) × Refines point.setup point.before m
 
+-- the act's entry, made at this place with its reply, or there was no memory
+abbrev pub EntersOrOom : Point → (at by : ℕ) → Act → Result Entry Fault → Machine → Type 0
+EntersOrOom point at by act (Ok entry) m =
+    (entry ≡ record {
+      at = at;
+      by = by;
+      act = act;
+      reply = reply point.setup point.before point.by act;
+    })
+    × Refines point.setup (following point act entry.reply) m
+EntersOrOom point at by act (Err fault) m = (fault ≡ NoMemory) × Refines point.setup point.before m
+
 -- what a fault of the book means to whoever acts
 abbrev pub reply_to_fault : BookFault → Result Reply Fault
 reply_to_fault NoActor = Ok (No Nobody)
@@ -237,7 +250,7 @@ pub record RefinesJournal (c : Setup) (journal : List Entry) (m : Machine) : Typ
   pub legal : Legal c journal
   pub stands : Refines c (history c journal) m
 
--- so it is of a cluster's journal, which is of the second version
-pub record ClusterInvariant (c : Setup) (log : Log) (m : Machine) : Type 0 where
-  pub kept : RefinesJournal c log.entries m
+-- the kept journal is the state's, and of the second version
+pub record KeepsJournal (state : Execution) (log : Log) : Type 0 where
+  pub same : log.entries ≡ state.journal
   pub second : log.version ≡ Second

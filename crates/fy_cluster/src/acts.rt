@@ -1,39 +1,39 @@
 //! One act of an actor that may make it.
 ghost use Rattle.std.specs.Prelude.{◌≡◌, ◌<◌, ◌++◌, ◌∷◌, [], length, IfOk, OnErr};
-ghost use Rattle.fy_journal.specs.Journal.{entered};
-ghost use Rattle.fy_cluster.specs.Standing.{Point, Refines, StepsToOrOom, RepliesOrOom, IsReachable};
+ghost use Rattle.fy_cluster.specs.declared.config.TheConstants.{MOST_JOURNAL_ENTRIES};
+ghost use Rattle.fy_cluster.specs.Standing.{Point, Refines, StepsToOrOom, RepliesOrOom, EntersOrOom, IsReachable};
 
 use crate::machine::Machine;
+use crate::trail::Trail;
 use crate::{Config, Fault};
-use fy_journal::{Act, Journal, MOST_ENTRIES, Refusal, Reply};
+use fy_journal::{Act, Entry, Refusal, Reply};
 use std::alloc::Global;
 
 impl Machine {
-    /// Replies to an act and enters both into the journal.
+    /// Replies to an act, and appends both to the trail.
     pub(crate) fn enter(
         &mut self,
-        journal: &mut Journal,
+        trail: &mut Trail,
         alloc: Global,
         config: &Config,
         by: u32,
         act: Act,
-    ) -> Result<Reply, Fault>
+    ) -> Result<Entry, Fault>
         ghost point: { Point }
         requires stands { Refines point.setup point.before self.old }
         requires config { config.now ≡ point.setup }
         requires by { by ≡ point.by }
         requires reachable { IsReachable point.setup point.before }
-        requires room { length journal.old.entries < MOST_ENTRIES }
-        ensures answered { RepliesOrOom point act result self.new }
-        ensures entered { IfOk result
-            (λ reply. journal.new.entries ≡ (entered by act reply journal.old).entries) }
-        ensures err { OnErr result (journal.new.entries ≡ journal.old.entries) }
-        ensures version { journal.new.version ≡ journal.old.version }
+        requires room { length trail.old < MOST_JOURNAL_ENTRIES }
+        ensures answered { EntersOrOom point (length trail.old) by act result self.new }
+        ensures entered { IfOk result (λ entry. trail.new ≡ trail.old ++ entry ∷ []) }
+        ensures err { OnErr result (trail.new ≡ trail.old) }
     {
-        journal.reserve(1)?;
         let reply = self.reply(alloc, config, by, &act)?;
-        journal.push(by, act, reply);
-        Ok(reply)
+        let at = trail.len() as u32;
+        let entry = Entry { at, by, act, reply };
+        trail.push(&entry);
+        Ok(entry)
     }
 
     /// Replies to an act, and does it where no rule refuses it. An unknown actor, or one whose role
@@ -99,7 +99,7 @@ impl Machine {
             Act::Take { actor, index } => self.take(*actor, *index),
             Act::Protect { process, kinds } => Ok(self.protect(*process, *kinds)),
             Act::Unprotect { process, kinds } => Ok(self.unprotect(*process, *kinds)),
-            Act::CopyTo { from, rec, to } => self.copy(map, *from, *rec, *to),
+            Act::CopyTo { from, rec, to } => self.copy_record(map, *from, *rec, *to),
             Act::Replace { team, out, into } => Ok(self.replace(config, *team, *out, *into)),
             Act::Heal { process } => Ok(self.heal(map, *process)),
         }

@@ -1,5 +1,5 @@
 //! A cluster: it replies to acts, and keeps them all in its journal.
-ghost use Rattle.std.specs.Prelude.{◌≡◌, ◌↔◌, ◌<◌, ◌≤◌, ℕ, length, IfOk, IfErr, IsTrue, OnOk, OnErr, Err, IsSome, IfSome};
+ghost use Rattle.std.specs.Prelude.{◌≡◌, ◌↔◌, ◌≤◌, ℕ, length, IfOk, IfErr, IsTrue, OnOk, OnErr, Err, IsSome, IfSome};
 ghost use Rattle.std.specs.FinSet as sets;
 ghost use Rattle.fy_journal.specs.declared.version.Version.TheVariants.{Second};
 ghost use Rattle.fy_cluster.specs.History.{destroyed, left, acked, keeper};
@@ -9,8 +9,7 @@ ghost use Rattle.fy_cluster.specs.Execution.{history_of, opened, replied, entere
 ghost use Rattle.fy_acts.specs.declared.act.Act.TheVariants.{Kill};
 ghost use Rattle.fy_cluster.specs.Sights.{IsLeastKeeper, Sees, status_of, needed_of, up_in};
 
-use crate::machine::Machine;
-use crate::{Config, Fault, Sight, Status, laws};
+use crate::{ClusterState, Config, Fault, Sight, Status, laws};
 use fy_journal::{Act, Journal, Reply};
 use fy_kinds::KillOrder;
 use fy_locality::{ProcId, ProcSet};
@@ -18,13 +17,12 @@ use std::alloc::{AllocError, Global};
 use std::marker::Model;
 
 /// A simulated cluster: processes that store records for teams, the faults that strike them, and
-/// the journal of every act with its reply. Replies are computed from the machine; the journal is
+/// the journal of every act with its reply. Replies are computed from the state; the journal is
 /// only written.
 pub struct Cluster {
     alloc: Global,
-    config: Config,
+    state: ClusterState,
     journal: Journal,
-    machine: Machine,
 }
 
 impl Model for Cluster {
@@ -32,15 +30,15 @@ impl Model for Cluster {
     ghost use Rattle.fy_locality.specs.contracts.locality.Locality as e;
     ghost use Rattle.fy_policy.specs.TreeCode.{tree_code};
     ghost use Rattle.fy_cluster.specs.Execution.{Execution};
-    ghost use Rattle.fy_cluster.specs.Standing.{ClusterInvariant};
+    ghost use Rattle.fy_cluster.specs.Standing.{KeepsJournal};
 
     ghost Value = { Execution };
 
     ghost coded = { Prim.hlevel (codes, tree_code, e.the_row.coded) };
 
-    ghost view = { λ x. record { setup = x.config; journal = x.journal.entries } };
+    ghost view = { λ x. x.state };
 
-    ghost invariant = { λ x. ClusterInvariant x.config x.journal x.machine };
+    ghost invariant = { λ x. KeepsJournal x.state x.journal };
 }
 
 // Written out and not derived: see `Drop` in docs/DECISIONS.md.
@@ -48,9 +46,8 @@ impl Drop for Cluster {
     fn drop(self) {
         let Cluster {
             alloc: _,
-            config: _,
+            state: _,
             journal: _,
-            machine: _,
         } = self;
     }
 }
@@ -64,14 +61,36 @@ impl Cluster {
     pub fn make(alloc: Global, config: Config) -> Result<Cluster, AllocError>
         ensures { IfOk result (λ cluster. cluster ≡ opened config) }
     {
-        config.invariant();
-        let machine = Machine::make(alloc, &config)?;
         Ok(Cluster {
             alloc,
-            config,
+            state: ClusterState::make(alloc, config)?,
             journal: Journal::make(alloc),
-            machine,
         })
+    }
+
+    /// A copy with the same journal, to look ahead. Its acts are made once more, so it takes as long
+    /// as they took.
+    ///
+    /// # Errors
+    ///
+    /// `AllocError` where there is no memory for it.
+    pub fn try_copy(&self, alloc: Global) -> Result<Cluster, AllocError>
+        ensures { IfOk result (λ copy. copy ≡ self.now) }
+    {
+        laws::one_entry_more();
+        let journal = self.journal();
+        let mut copy = Cluster::make(alloc, self.config().try_copy(alloc)?)?;
+        copy.make_room(journal.len())?;
+        for entry in journal.entries() {
+            let act = entry.act.try_copy(alloc)?;
+            match copy.apply(entry.by, act) {
+                Ok(_) => {}
+                Err(Fault::NoMemory) => return Err(AllocError),
+                // The acts of a journal find room in one of the same limit.
+                Err(Fault::JournalFull) => unreachable!(),
+            }
+        }
+        Ok(copy)
     }
 
     /// Does an act of the actor with this number, where no rule refuses it, and enters act and
@@ -89,12 +108,17 @@ impl Cluster {
         ensures err { OnErr result (self.new ≡ self.old) }
         ensures survives { Survives self.new.setup self.new.journal }
     {
-        laws::journals_survive();
-        if self.is_full() {
+        self.state.survives();
+        if self.state.is_full() {
             return Err(Fault::JournalFull);
         }
-        self.machine
-            .enter(&mut self.journal, self.alloc, &self.config, by, act)
+        // Want of memory, since a cluster's limit is far below that of the type.
+        let Ok(()) = self.journal.reserve(1) else {
+            return Err(Fault::NoMemory);
+        };
+        let (_, by, act, reply) = self.state.enter(by, act)?.into_parts();
+        self.journal.push(by, act, reply);
+        Ok(reply)
     }
 
     /// Reserves room in the journal for so many more entries, up to its limit, and changes nothing
@@ -107,11 +131,11 @@ impl Cluster {
     pub fn make_room(&mut self, count: usize) -> Result<(), AllocError>
         ensures { self.new ≡ self.old }
     {
-        let limit = self.config.journal_limit() as usize;
+        let limit = self.state.config().journal_limit() as usize;
         let most = limit.saturating_sub(self.journal.len());
         match self.journal.reserve(count.min(most)) {
             Ok(()) => Ok(()),
-            // Want of memory, since a cluster's limit is far below that of the type.
+            // Want of memory, as in `apply`.
             Err(_) => Err(AllocError),
         }
     }
@@ -152,32 +176,28 @@ impl Cluster {
     pub fn destroyed(&self) -> ProcSet
         ensures { (p : ℕ) → sets.contains result p ≡ destroyed (history_of self.now) p }
     {
-        self.machine.dead.destroyed()
+        self.state.destroyed()
     }
 
     /// The processes that are left: all but those killed for good. Emptied ones are left too.
     pub fn left(&self) -> ProcSet
         ensures { (p : ℕ) → sets.contains result p ≡ left self.now.setup (history_of self.now) p }
     {
-        self.machine.dead.left()
+        self.state.left()
     }
 
     /// The processes that are up.
     pub fn up(&self) -> ProcSet
         ensures { (p : ℕ) → sets.contains result p ≡ up_in self.now.setup (history_of self.now) p }
     {
-        self.config.map().everyone().intersection(&self.machine.up)
+        self.state.up()
     }
 
     /// The state of the process with this number; `None` where there is no such process.
     pub fn status(&self, process: ProcId) -> Option<Status>
         ensures { result ≡ status_of self.now.setup (history_of self.now) process.0 }
     {
-        if process.0 < self.config.map().len() {
-            Some(self.machine.status(process))
-        } else {
-            None
-        }
+        self.state.status(process)
     }
 
     /// The record that a process still needs before it may be healed: of its teams' records, the
@@ -185,11 +205,7 @@ impl Cluster {
     pub fn needed(&self, process: ProcId) -> Option<u32>
         ensures { result ≡ needed_of self.now.setup (history_of self.now) process.0 }
     {
-        if process.0 < self.config.map().len() {
-            self.machine.needed(process)
-        } else {
-            None
-        }
+        self.state.needed(process)
     }
 
     /// The reply that a kill by the actor with this number would get now. It enters nothing, and
@@ -197,21 +213,21 @@ impl Cluster {
     pub fn judge(&self, by: u32, order: &KillOrder) -> Reply
         ensures { result ≡ replied self.now by (Kill order.now) }
     {
-        self.machine.judge(&self.config, by, order)
+        self.state.judge(by, order)
     }
 
     /// Whether the journal is at its limit.
     pub fn is_full(&self) -> bool
         ensures { IsTrue result ↔ (self.now.setup.limit ≤ length self.now.journal) }
     {
-        self.journal.len() >= self.config.journal_limit() as usize
+        self.state.is_full()
     }
 
     /// The configuration that it was made of.
     pub fn config(&self) -> &Config
         ensures { result.now ≡ self.now.setup }
     {
-        &self.config
+        self.state.config()
     }
 
     /// Of an acknowledged record, the least member of its team that isn't destroyed and has the
@@ -221,8 +237,7 @@ impl Cluster {
         ensures acked { IsSome result ↔ IsTrue (acked (history_of self.now) rec) }
         ensures least { IfSome result (IsLeastKeeper (history_of self.now) rec) }
     {
-        laws::keepers_found();
-        self.machine.keeper(rec)
+        self.state.keeper(rec)
     }
 
     /// The time, and what there is to do next: the least message to deliver, the least process to
@@ -230,7 +245,7 @@ impl Cluster {
     pub fn sight(&self) -> Sight
         ensures { Sees self.now.setup (history_of self.now) result }
     {
-        self.machine.sight()
+        self.state.sight()
     }
 
     /// Whatever acts were made so far, every acknowledged record has a synced copy on an
@@ -238,7 +253,6 @@ impl Cluster {
     pub fn survives(&self)
         ensures { Survives self.now.setup self.now.journal }
     {
-        laws::journals_survive();
-        let _machine = &self.machine;
+        self.state.survives();
     }
 }

@@ -15,7 +15,7 @@ use fy_net::Body;
 impl Machine {
     /// Carries out a CopyTo: sends a record from a process that has it synced to another, member of
     /// its team or not. The network's room is made before the send.
-    pub(crate) fn copy(
+    pub(crate) fn copy_record(
         &mut self,
         map: &Map,
         from: ProcId,

@@ -1,5 +1,4 @@
 //! Why a cluster makes no entry.
-use fy_journal::JournalFault;
 use std::alloc::AllocError;
 
 /// Why an act made no entry. The cluster is then as it was before the act.
@@ -19,21 +18,5 @@ impl From<AllocError> for Fault {
 
     fn from(_: AllocError) -> Fault {
         Fault::NoMemory
-    }
-}
-
-impl From<JournalFault> for Fault {
-    ghost use Rattle.fy_cluster.specs.declared.fault.Fault.TheVariants.{JournalFull, NoMemory};
-    ghost use Rattle.fy_journal.specs.declared.fault.JournalFault.TheVariants as why;
-    ghost use Rattle.std.specs.Prelude.{◌≡◌};
-
-    ghost from_gives = { λ refused fault. (refused ≡ why.TooMany → fault ≡ JournalFull)
-        × (refused ≡ why.NoMemory → fault ≡ NoMemory) };
-
-    fn from(refused: JournalFault) -> Fault {
-        match refused {
-            JournalFault::TooMany => Fault::JournalFull,
-            JournalFault::NoMemory => Fault::NoMemory,
-        }
     }
 }

@@ -5,6 +5,7 @@ mod acts;
 mod clock;
 mod clogs;
 mod cluster;
+mod cluster_state;
 mod config;
 mod copying;
 pub mod effects;
@@ -24,8 +25,10 @@ mod role;
 mod sight;
 mod status;
 mod teams;
+mod trail;
 
 pub use cluster::Cluster;
+pub use cluster_state::ClusterState;
 pub use config::{Config, MOST_ACTORS, MOST_JOURNAL_ENTRIES, MakeFault, Protection};
 pub use fault::Fault;
 pub use role::Role;

@@ -1,19 +1,16 @@
 use Rattle.std.proofs.Common.{rules, ◌+◌, ◌∙◌, [], refl, sym, ap, subst, length}
 use Rattle.fy_cluster.specs.Execution.{Execution}
-use Rattle.fy_check.specs.Replayed.{Replayed, HasReplayed}
+use Rattle.fy_check.specs.Replayed.{HasReplayed}
 use Rattle.fy_check.proofs.Nexts.{place_is, of_parts}
 use Rattle.fy_check.proofs.Entering.{one_more_entered, all_are_legal, bad_of_all}
 use Rattle.fy_check.proofs.replaying.replay.Goals as goal
 
 pub loop-entry-init : goal.loop-entry-init
 loop-entry-init c = (
-  subst (HasReplayed c.args.config.now []) (sym c.make_room.ensures)
-      (subst (λ setup. HasReplayed setup [] c.in_ok-replayer.replayer) c.in_ok-try_copy.ensures
-      c.in_ok-replayer.ensures.begun),
-  ap (λ (replayed : Replayed). replayed.first_bad) c.make_room.ensures
-      ∙ c.in_ok-replayer.ensures.none,
-  ap (λ (replayed : Replayed). replayed.version) c.make_room.ensures
-      ∙ c.in_ok-replayer.ensures.version ∙ c.version.ensures,
+  subst (λ setup. HasReplayed setup [] c.in_ok-replayer.replayer) c.in_ok-try_copy.ensures
+      c.in_ok-replayer.ensures.begun,
+  c.in_ok-replayer.ensures.none,
+  c.in_ok-replayer.ensures.version ∙ c.version.ensures,
 )
 
 pub enter-requires : goal.enter-requires

@@ -45,8 +45,8 @@ ghost-protect g a = g.point
 abbrev pub ghost-unprotect : goal.ghost-unprotect
 ghost-unprotect g a = g.point
 
-abbrev pub ghost-copy : goal.ghost-copy
-ghost-copy g a = g.point
+abbrev pub ghost-copy_record : goal.ghost-copy_record
+ghost-copy_record g a = g.point
 
 abbrev pub ghost-replace : goal.ghost-replace
 ghost-replace g a = g.point

@@ -6,7 +6,7 @@ use Rattle.fy_cluster.proofs.Room.{few_sent, no_room_left, reserved_is}
 use Rattle.fy_cluster.proofs.Starts.{left_tells, up_tells}
 use Rattle.fy_cluster.proofs.Needed.{has_is}
 use Rattle.fy_cluster.proofs.CopyTo.{Between, MayCopy, not_begun, is_begun, past_one, within_both, no_record_to_copy, one_missing, to_gone, from_down, no_copy, copy_full, copies}
-use Rattle.fy_cluster.proofs.machine.Machine.copy.Goals as goal
+use Rattle.fy_cluster.proofs.machine.Machine.copy_record.Goals as goal
 
 pub returns-in_default : goal.returns-in_default
 returns-in_default g c = no_record_to_copy g.point c.args.rec c.args.from c.args.to _ c.requires.0 (not_begun g.point.before c.args.self.now c.requires.0.teams c.args.rec c.in_default.ensures)

@@ -1,5 +1,0 @@
-use Rattle.fy_cluster.proofs.Entering.{point_after}
-use Rattle.fy_cluster.proofs.cluster.Cluster.apply.Given as goal
-
-abbrev pub ghost-enter : goal.ghost-enter
-ghost-enter a = point_after a.config.now a.journal.now.entries a.by

@@ -1,0 +1,194 @@
+//! The state of a cluster: it replies to acts, and keeps no journal.
+ghost use Rattle.std.specs.Prelude.{◌≡◌, ◌↔◌, ◌<◌, ◌≤◌, ℕ, length, IfOk, IsTrue, OnOk, OnErr, Err, IsSome, IfSome};
+ghost use Rattle.std.specs.FinSet as sets;
+ghost use Rattle.fy_cluster.specs.History.{destroyed, left, acked, keeper};
+ghost use Rattle.fy_cluster.specs.declared.fault.Fault.TheVariants.{JournalFull};
+ghost use Rattle.fy_cluster.specs.Survival.{Survives};
+ghost use Rattle.fy_cluster.specs.Execution.{history_of, opened, replied, entered, next_entry};
+ghost use Rattle.fy_acts.specs.declared.act.Act.TheVariants.{Kill};
+ghost use Rattle.fy_cluster.specs.Sights.{IsLeastKeeper, Sees, status_of, needed_of, up_in};
+
+use crate::machine::Machine;
+use crate::trail::Trail;
+use crate::{Config, Fault, Sight, Status, laws};
+use fy_journal::{Act, Entry, Reply};
+use fy_kinds::KillOrder;
+use fy_locality::{ProcId, ProcSet};
+use std::alloc::{AllocError, Global};
+use std::marker::Model;
+
+/// The state of a simulated cluster, which replies to acts as a `Cluster` does and keeps no
+/// journal: each entry is handed to the caller. So its memory doesn't grow with the acts that are
+/// refused, or that leave nothing behind.
+pub struct ClusterState {
+    alloc: Global,
+    config: Config,
+    trail: Trail,
+    machine: Machine,
+}
+
+impl Model for ClusterState {
+    ghost use Rattle.std.specs.Coded.{codes};
+    ghost use Rattle.fy_locality.specs.contracts.locality.Locality as e;
+    ghost use Rattle.fy_policy.specs.TreeCode.{tree_code};
+    ghost use Rattle.fy_cluster.specs.Execution.{Execution};
+    ghost use Rattle.fy_cluster.specs.Standing.{RefinesJournal};
+
+    ghost Value = { Execution };
+
+    ghost coded = { Prim.hlevel (codes, tree_code, e.the_row.coded) };
+
+    ghost view = { λ x. record { setup = x.config; journal = x.trail } };
+
+    ghost invariant = { λ x. RefinesJournal x.config x.trail x.machine };
+}
+
+// Written out and not derived: see `Drop` in docs/DECISIONS.md.
+impl Drop for ClusterState {
+    fn drop(self) {
+        let ClusterState {
+            alloc: _,
+            config: _,
+            trail: _,
+            machine: _,
+        } = self;
+    }
+}
+
+impl ClusterState {
+    /// The state of a new cluster, in which nothing has happened. On an error the configuration is
+    /// dropped.
+    ///
+    /// # Errors
+    ///
+    /// `AllocError` where there is no memory for it.
+    pub fn make(alloc: Global, config: Config) -> Result<ClusterState, AllocError>
+        ensures { IfOk result (λ state. state ≡ opened config) }
+    {
+        config.invariant();
+        let machine = Machine::make(alloc, &config)?;
+        Ok(ClusterState {
+            alloc,
+            config,
+            trail: Trail::make(alloc)?,
+            machine,
+        })
+    }
+
+    /// Does an act of the actor with this number, where no rule refuses it, and answers the entry
+    /// that comes next in the journal: the act with its reply.
+    ///
+    /// # Errors
+    ///
+    /// In this order: `JournalFull` where so many acts were entered as the configuration allows;
+    /// `NoMemory`. The state is unchanged then.
+    pub fn enter(&mut self, by: u32, act: Act) -> Result<Entry, Fault>
+        ensures full { (self.old.setup.limit ≤ length self.old.journal)
+            ↔ (result ≡ Err JournalFull) }
+        ensures entry { IfOk result (λ entry. entry ≡ next_entry self.old by act) }
+        ensures entered { OnOk result (self.new ≡ entered self.old by act) }
+        ensures err { OnErr result (self.new ≡ self.old) }
+        ensures survives { Survives self.new.setup self.new.journal }
+    {
+        laws::journals_survive();
+        if self.is_full() {
+            return Err(Fault::JournalFull);
+        }
+        self.machine
+            .enter(&mut self.trail, self.alloc, &self.config, by, act)
+    }
+
+    /// Whether so many acts were entered as the configuration allows.
+    pub fn is_full(&self) -> bool
+        ensures { IsTrue result ↔ (self.now.setup.limit ≤ length self.now.journal) }
+    {
+        self.trail.len() >= self.config.journal_limit() as usize
+    }
+
+    /// The configuration that it was made of.
+    pub fn config(&self) -> &Config
+        ensures { result.now ≡ self.now.setup }
+    {
+        &self.config
+    }
+
+    /// The destroyed processes: struck by a kind that destroys, and not healed since.
+    pub fn destroyed(&self) -> ProcSet
+        ensures { (p : ℕ) → sets.contains result p ≡ destroyed (history_of self.now) p }
+    {
+        self.machine.dead.destroyed()
+    }
+
+    /// The processes that are left: all but those killed for good. Emptied ones are left too.
+    pub fn left(&self) -> ProcSet
+        ensures { (p : ℕ) → sets.contains result p ≡ left self.now.setup (history_of self.now) p }
+    {
+        self.machine.dead.left()
+    }
+
+    /// The processes that are up.
+    pub fn up(&self) -> ProcSet
+        ensures { (p : ℕ) → sets.contains result p ≡ up_in self.now.setup (history_of self.now) p }
+    {
+        self.config.map().everyone().intersection(&self.machine.up)
+    }
+
+    /// The state of the process with this number; `None` where there is no such process.
+    pub fn status(&self, process: ProcId) -> Option<Status>
+        ensures { result ≡ status_of self.now.setup (history_of self.now) process.0 }
+    {
+        if process.0 < self.config.map().len() {
+            Some(self.machine.status(process))
+        } else {
+            None
+        }
+    }
+
+    /// The record that a process still needs before it may be healed: of its teams' records, the
+    /// least acknowledged one that it hasn't synced. Takes no memory.
+    pub fn needed(&self, process: ProcId) -> Option<u32>
+        ensures { result ≡ needed_of self.now.setup (history_of self.now) process.0 }
+    {
+        if process.0 < self.config.map().len() {
+            self.machine.needed(process)
+        } else {
+            None
+        }
+    }
+
+    /// The reply that a kill by the actor with this number would get now. It enters nothing, and
+    /// takes no memory.
+    pub fn judge(&self, by: u32, order: &KillOrder) -> Reply
+        ensures { result ≡ replied self.now by (Kill order.now) }
+    {
+        self.machine.judge(&self.config, by, order)
+    }
+
+    /// Of an acknowledged record, the least member of its team that isn't destroyed and has the
+    /// record synced; none of any other record. Takes no memory.
+    pub fn keeper(&self, rec: u32) -> Option<ProcId>
+        ensures keeper { result ≡ keeper self.now.setup (history_of self.now) rec }
+        ensures acked { IsSome result ↔ IsTrue (acked (history_of self.now) rec) }
+        ensures least { IfSome result (IsLeastKeeper (history_of self.now) rec) }
+    {
+        laws::keepers_found();
+        self.machine.keeper(rec)
+    }
+
+    /// The time, and what there is to do next: the least message to deliver, the least process to
+    /// sync and the least one to start. Takes no memory.
+    pub fn sight(&self) -> Sight
+        ensures { Sees self.now.setup (history_of self.now) result }
+    {
+        self.machine.sight()
+    }
+
+    /// Whatever acts were made so far, every acknowledged record has a synced copy on an
+    /// undestroyed member, and all else holds that legal journals keep.
+    pub fn survives(&self)
+        ensures { Survives self.now.setup self.now.journal }
+    {
+        laws::journals_survive();
+        let _machine = &self.machine;
+    }
+}
