@@ -5,3 +5,4 @@ pub mod Audit
 pub mod One
 pub mod Reading
 pub mod Reader
+pub mod Ahead

@@ -1,6 +1,7 @@
 //! Scripts of acts to come; audits, which are journals written out.
 #![tactic(auto)]
 
+mod ahead;
 mod audit;
 pub mod laws;
 mod reader;
