@@ -17,6 +17,7 @@ use fy_lines::{OutputFault, write_bytes};
 use fy_svg::svg;
 use std::alloc::Global;
 use std::io::{Read, Write};
+use std::thread::Threads;
 
 /// Reads an audit from the reader to its end, checks it, and writes one SVG document that shows its
 /// entries under this configuration; where one isn't what the rules give, those before it, and a
@@ -29,6 +30,7 @@ use std::io::{Read, Write};
 /// The stops of `run_check`: nothing is written but after `Write`, when a front of the document is
 /// out, and never all of it. The audit was read and checked then.
 pub fn run_show<R: Read, W: Write>(
+    rt: &(impl Threads + Sync),
     alloc: Global,
     config: &Config,
     reader: &mut R,
@@ -56,7 +58,7 @@ pub fn run_show<R: Read, W: Write>(
     let Finding {
         count: _,
         first_bad,
-    } = match find_first_bad(alloc, config, &bytes) {
+    } = match find_first_bad(rt, alloc, config, &bytes) {
         Ok(finding) => finding,
         Err(stop) => return Err(stop),
     };
