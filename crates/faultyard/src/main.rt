@@ -68,11 +68,7 @@ fn run_file(rt: &HostRuntime, path: &str) -> Result<bool, Stop> {
 }
 
 /// Checks the audit on standard input against the cluster of a file.
-fn check_file(
-    rt: &HostRuntime,
-    threads: &(impl Threads + Sync),
-    path: &str,
-) -> Result<bool, Stop> {
+fn check_file(rt: &HostRuntime, threads: &(impl Threads + Sync), path: &str) -> Result<bool, Stop> {
     match open_config(rt, path) {
         Ok(config) => run_check(
             threads,
@@ -86,11 +82,7 @@ fn check_file(
 }
 
 /// Draws the audit on standard input on the cluster of a file.
-fn show_file(
-    rt: &HostRuntime,
-    threads: &(impl Threads + Sync),
-    path: &str,
-) -> Result<bool, Stop> {
+fn show_file(rt: &HostRuntime, threads: &(impl Threads + Sync), path: &str) -> Result<bool, Stop> {
     match open_config(rt, path) {
         Ok(config) => run_show(
             threads,
