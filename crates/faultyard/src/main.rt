@@ -32,8 +32,8 @@ fn main(rt: HostRuntime) -> ExitCode {
     };
     let done = match read_task(rt.alloc(), words.as_slice()) {
         Ok(Task::Judge) => judge_input(&rt),
-        Ok(Task::Run(path)) => run_file(&rt, path),
         // Threads are main's to give.
+        Ok(Task::Run(path)) => run_file(&rt, &rt, path),
         Ok(Task::Check(path)) => check_file(&rt, &rt, path),
         Ok(Task::Guard(path)) => guard_file(&rt, path),
         Ok(Task::Show(path)) => show_file(&rt, &rt, path),
@@ -60,9 +60,19 @@ fn judge_input(rt: &HostRuntime) -> Result<bool, Stop> {
 }
 
 /// Runs the script on standard input on the cluster of a file.
-fn run_file(rt: &HostRuntime, path: &str) -> Result<bool, Stop> {
+fn run_file(
+    rt: &HostRuntime,
+    threads: &(impl Threads + Sync),
+    path: &str,
+) -> Result<bool, Stop> {
     match open_config(rt, path) {
-        Ok(config) => run_script(rt.alloc(), &config, &mut rt.stdin(), &mut rt.stdout()),
+        Ok(config) => run_script(
+            threads,
+            rt.alloc(),
+            &config,
+            &mut rt.stdin(),
+            &mut rt.stdout(),
+        ),
         Err(stop) => Err(stop),
     }
 }

@@ -4,3 +4,4 @@ pub mod Steps
 pub mod OneAudit
 pub mod Reading
 pub mod LinesAhead
+pub mod Batches

@@ -11,11 +11,11 @@ one_line_further text [] rest line after begins more = let same : text ≡ rest 
 one_line_further text (first ∷ lines) rest line after begins more = (begins.0, begins.1, one_line_further begins.0 lines rest line after begins.2 more)
 
 -- of lines that are lent
-pub of_each_line : (lines : List (Bor (List ℕ))) (read : List ReadAhead) → AllZip (λ (line : Bor (List ℕ)) (of_it : ReadAhead). IsReadOf line.now of_it) lines read → AllZip IsReadOf (map (λ (line : Bor (List ℕ)). line.now) lines) read
-of_each_line [] [] zip = zip
-of_each_line [] (of_it ∷ read) zip = zip
-of_each_line (line ∷ lines) [] zip = zip
-of_each_line (line ∷ lines) (of_it ∷ read) zip = (zip.0, of_each_line lines read zip.1)
+pub of_each_lent : {Y : Type 0} (R : List ℕ → Y → Type 0) (lines : List (Bor (List ℕ))) (read : List Y) → AllZip (λ (line : Bor (List ℕ)) y. R line.now y) lines read → AllZip R (map (λ (line : Bor (List ℕ)). line.now) lines) read
+of_each_lent R [] [] zip = zip
+of_each_lent R [] (y ∷ read) zip = zip
+of_each_lent R (line ∷ lines) [] zip = zip
+of_each_lent R (line ∷ lines) (y ∷ read) zip = (zip.0, of_each_lent R lines read zip.1)
 
 -- what was read of each
 pub are_ahead : (text : List ℕ) (lines : List (List ℕ)) (after : List ℕ) (read : List ReadAhead) → BeginsWithWholeLines text lines after → AllZip IsReadOf lines read → AreAheadOf text read

@@ -1,9 +1,10 @@
 //! Lines of an audit that are read ahead, on all processors.
-ghost use Rattle.std.specs.Prelude.{List, ℕ, map, IfOk};
+ghost use Rattle.std.specs.Prelude.{◌≡◌, ◌<◌, ◌≤◌, ◌+◌, ◌++◌, List, ℕ, length, map, IfOk};
+ghost use Rattle.fy_lines.specs.Lines.{lines_of};
 ghost use Rattle.fy_audit.specs.Ahead.{BeginsWithWholeLines, AreAheadOf, IsReadOf};
 
 use crate::{Entry, MOST_LINE_BYTES};
-use fy_lines::split_at_newline;
+use fy_lines::{first_line, split_at_newline};
 use fy_spelling::{EntryFault, read_entry};
 use rayon::prelude::*;
 use std::alloc::{AllocError, Global};
@@ -43,6 +44,32 @@ fn lines_ahead<'b>(alloc: Global, text: &'b [u8]) -> Result<Vec<&'b [u8]>, Alloc
         rest = after;
     }
     Ok(lines)
+}
+
+/// The first lines of a text, as many as are read at once, and all that follows them. The last line
+/// may lack its line feed.
+///
+/// # Errors
+///
+/// `AllocError` where there is no memory for it.
+pub(crate) fn first_lines<'b>(
+    alloc: Global,
+    text: &'b [u8],
+) -> Result<(Vec<&'b [u8]>, &'b [u8]), AllocError>
+    ensures split { IfOk result (λ found. lines_of text.now
+        ≡ map (λ line. line.now) found.0.items ++ lines_of found.1.now) }
+    ensures fewer { IfOk result (λ found.
+        length found.0.items + length found.1.now ≤ length text.now) }
+    ensures some { IfOk result (λ found. 0 < length text.now → 0 < length found.0.items) }
+{
+    let mut lines = Vec::new(alloc);
+    let mut rest = text;
+    while !rest.is_empty() && lines.len() < MOST_AHEAD {
+        let (line, next) = first_line(rest);
+        lines.push(line)?;
+        rest = next;
+    }
+    Ok((lines, rest))
 }
 
 /// Reads a line.

@@ -13,4 +13,4 @@ pub use fy_spelling::{
     Act, Command, Entry, LineFault, MOST_LINE_BYTES, Refusal, Reply, entry_text,
 };
 pub use reader::AuditReader;
-pub use script::{MOST_SCRIPT_BYTES, ScriptFault, read_script};
+pub use script::{MOST_SCRIPT_BYTES, ScriptFault, par_read_script, read_script};
