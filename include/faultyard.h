@@ -58,7 +58,8 @@ typedef enum fy_status {
                                written: fy_guard_audit reads it. No test has met it, since the memory
                                for a line is asked for before its act is made. */
     FY_NO_ENTRY = 6,        /* The journal has no entry at this place. */
-    FY_ARGUMENT = 7,        /* A number for a key, a kind or a floor is that of none. */
+    FY_ARGUMENT = 7,        /* A number for a key, a kind or a floor is that of none, or a bit of a set of
+                               kinds is; members don't rise, or are too many; a payload is too long. */
     FY_NAME = 8,            /* The value of the target is no name: 1 to 32 of A-Z a-z 0-9 _ -, the
                                first not -. */
     FY_FLOOR = 9,           /* The floor of the kill is above its kind. */
@@ -89,6 +90,7 @@ typedef enum fy_part {
 
 /* By which part of its place a process is meant. */
 typedef enum fy_key {
+    FY_EVERYONE = 0,    /* No part: every process, in a grant. No order may be of this key. */
     FY_PROCESS = 1,     /* processid */
     FY_MACHINE = 2,     /* machineid */
     FY_ZONE = 3,        /* zoneid */
@@ -104,6 +106,14 @@ typedef enum fy_kind {
     FY_REBOOT_AND_DELETE = 3, /* Down, and its disk is emptied. */
     FY_KILL_INSTANTLY = 4,    /* Gone for good, and its disk is emptied. */
 } fy_kind;
+
+/* A set of kinds: the sum of those that are in it. */
+#define FY_KINDS_REBOOT_PROCESS 1u
+#define FY_KINDS_REBOOT 2u
+#define FY_KINDS_REBOOT_AND_DELETE 4u
+#define FY_KINDS_KILL_INSTANTLY 8u
+#define FY_KINDS_CLOG 16u /* Clogging, which is no kill. */
+#define FY_KINDS_ALL 31u
 
 /* Why the kind that was ordered is barred, the first that holds. */
 typedef enum fy_rule {
@@ -151,6 +161,11 @@ typedef enum fy_refusal {
 /* How many bytes more than the line a buffer for fy_guard_act has room for. */
 #define FY_MOST_REPLY 128
 
+/* The most members of a team, and the most bytes of a payload that fy_guard_begin takes: the line of
+ * its entry would else be too long for an audit. One of more than 256 bytes is refused. */
+#define FY_MOST_MEMBERS 1024
+#define FY_MOST_PAYLOAD 32000
+
 /* How many words of 64 bits have a bit for each process, the first process lowest in the first. */
 #define FY_SET_WORDS 16
 
@@ -173,6 +188,22 @@ typedef struct fy_seen {
     uint32_t sleeping;    /* The least process that is neither up nor gone, or FY_NOBODY. */
 } fy_seen;
 
+/* What became of an act that is made by numbers. The call says which fields it sets; all others are
+ * 0. */
+typedef struct fy_reply {
+    uint32_t refusal; /* The fy_refusal; FY_NOT_REFUSED where the act isn't refused. */
+    uint32_t rule;    /* The fy_rule that bars a clog or its end; FY_NO_RULE where none does. */
+    uint64_t named;   /* The process that the rule names (FY_NO_GRANT, FY_PROTECTED); the policy
+                         (FY_TEAM_SHORT) or the record (FY_STILL_NEEDS) that the refusal names. */
+    uint32_t team;    /* The team that was formed. */
+    uint32_t record;  /* The record that was begun. */
+    uint64_t message; /* The first message that was sent. */
+    uint64_t synced;  /* How many writes were synced. */
+    uint64_t now;     /* The time, in ticks. */
+    uint32_t marked;  /* 1 where an acknowledgement was delivered. */
+    uint32_t acked;   /* 1 where the record of that acknowledgement is acknowledged now. */
+} fy_reply;
+
 /* ---- The library's own calls, for other languages and for the calls below
  *
  * Nothing in them asks whether a guard is open or a pointer null: whoever calls them sees to it.
@@ -193,6 +224,28 @@ uint32_t fy_judge(const fy_guard *guard, uint32_t actor, uint32_t key, const uin
                   uint64_t *named);
 uint32_t fy_up(fy_guard *guard, uint32_t actor, uint32_t process, uint32_t *refusal);
 uint32_t fy_heal(fy_guard *guard, uint32_t actor, uint32_t process, uint32_t *refusal);
+uint32_t fy_clog(fy_guard *guard, uint32_t actor, uint32_t key, const uint8_t *value, size_t value_length,
+                 uint64_t ticks, fy_reply *reply);
+uint32_t fy_unclog(fy_guard *guard, uint32_t actor, uint32_t key, const uint8_t *value,
+                   size_t value_length, fy_reply *reply);
+uint32_t fy_form(fy_guard *guard, uint32_t actor, const uint32_t *members, size_t count, uint32_t policy,
+                 fy_reply *reply);
+uint32_t fy_begin(fy_guard *guard, uint32_t actor, uint32_t team, const uint8_t *payload,
+                  size_t payload_length, fy_reply *reply);
+uint32_t fy_deliver(fy_guard *guard, uint32_t actor, uint64_t message, fy_reply *reply);
+uint32_t fy_lose(fy_guard *guard, uint32_t actor, uint64_t message, fy_reply *reply);
+uint32_t fy_resend(fy_guard *guard, uint32_t actor, uint32_t record, uint32_t process, fy_reply *reply);
+uint32_t fy_sync(fy_guard *guard, uint32_t actor, uint32_t process, fy_reply *reply);
+uint32_t fy_tick(fy_guard *guard, uint32_t actor, uint64_t ticks, fy_reply *reply);
+uint32_t fy_give(fy_guard *guard, uint32_t actor, uint32_t to, uint32_t kinds, uint32_t key,
+                 const uint8_t *value, size_t value_length, fy_reply *reply);
+uint32_t fy_take(fy_guard *guard, uint32_t actor, uint32_t from, uint32_t index, fy_reply *reply);
+uint32_t fy_protect(fy_guard *guard, uint32_t actor, uint32_t process, uint32_t kinds, fy_reply *reply);
+uint32_t fy_unprotect(fy_guard *guard, uint32_t actor, uint32_t process, uint32_t kinds, fy_reply *reply);
+uint32_t fy_copy(fy_guard *guard, uint32_t actor, uint32_t from, uint32_t record, uint32_t to,
+                 fy_reply *reply);
+uint32_t fy_replace(fy_guard *guard, uint32_t actor, uint32_t team, uint32_t out, uint32_t into,
+                    fy_reply *reply);
 uint32_t fy_act(fy_guard *guard, const uint8_t *line, size_t line_length, uint8_t *buffer,
                 size_t buffer_length, size_t *told);
 uint32_t fy_process(const fy_guard *guard, const uint8_t *name, size_t name_length);
@@ -329,6 +382,203 @@ static inline fy_status fy_guard_heal(fy_guard *guard, uint32_t actor, uint32_t 
     if (!fy_guard_is_open(guard) || refusal == NULL)
         return FY_CLOSED;
     return (fy_status)fy_heal(guard, actor, process, refusal);
+}
+
+/* ---- Acts by numbers
+ *
+ * Each of these fifteen makes one act by an actor, enters it into the journal, and writes all of
+ * `*reply`. No text is made and read again. docs/FORMATS.md says what each act does.
+ *
+ * FY_DONE       The fields that the call names are set, and all others are 0.
+ * FY_REFUSED    The act stands in the journal all the same. `refusal` is the first of FY_STRANGER,
+ *               FY_WRONG_ROLE and those that the call names that holds. `named` is the policy after
+ *               FY_TEAM_SHORT, and the record after FY_STILL_NEEDS. All other fields are 0.
+ * any other     Nothing changed, and all fields are 0. But after FY_CLOSED nothing is written.
+ *
+ * In this order: FY_CLOSED, those that the call names, FY_JOURNAL_FULL, FY_NO_MEMORY. FY_CLOSED is
+ * answered where a pointer is null, too.
+ */
+
+/* Holds back the messages of each process whose key has the value (a text that ends with a zero) for
+ * so many ticks, at most up to the clock's end. By any actor.
+ *
+ * Sets `rule` and `named`: FY_NO_RULE where it is done, else the rule that bars it. Rules are no
+ * refusals: the status is FY_DONE. FY_ARGUMENT, FY_NAME. Refusals: FY_STRANGER alone. */
+static inline fy_status fy_guard_clog(fy_guard *guard, uint32_t actor, fy_key key, const char *value,
+                                      uint64_t ticks, fy_reply *reply)
+{
+    if (!fy_guard_is_open(guard) || value == NULL || reply == NULL)
+        return FY_CLOSED;
+    return (fy_status)fy_clog(guard, actor, (uint32_t)key, (const uint8_t *)value, strlen(value), ticks,
+                              reply);
+}
+
+/* Ends the clogs of each process whose key has the value. All else is as of fy_guard_clog. */
+static inline fy_status fy_guard_unclog(fy_guard *guard, uint32_t actor, fy_key key, const char *value,
+                                        fy_reply *reply)
+{
+    if (!fy_guard_is_open(guard) || value == NULL || reply == NULL)
+        return FY_CLOSED;
+    return (fy_status)fy_unclog(guard, actor, (uint32_t)key, (const uint8_t *)value, strlen(value), reply);
+}
+
+/* Forms a team of so many processes, each number above the one before it, under a policy. By an actor
+ * whose role is storage.
+ *
+ * Sets `team`. FY_ARGUMENT where the numbers don't rise, or are more than FY_MOST_MEMBERS. Refusals:
+ * FY_TOO_MANY, FY_NO_POLICY, FY_NO_PROCESS, FY_GONE, FY_TEAM_SHORT. */
+static inline fy_status fy_guard_form(fy_guard *guard, uint32_t actor, const uint32_t *members,
+                                      size_t count, uint32_t policy, fy_reply *reply)
+{
+    if (!fy_guard_is_open(guard) || members == NULL || reply == NULL)
+        return FY_CLOSED;
+    return (fy_status)fy_form(guard, actor, members, count, policy, reply);
+}
+
+/* Begins a record for a team, and sends each member a store message. By an actor whose role is
+ * storage.
+ *
+ * Sets `record`, and `message`: that of the first member. The messages of the others have the numbers
+ * behind it. FY_ARGUMENT where the payload has more than FY_MOST_PAYLOAD bytes. Refusals: FY_NO_TEAM,
+ * FY_PAYLOAD, FY_TOO_MANY, FY_NET_FULL. */
+static inline fy_status fy_guard_begin(fy_guard *guard, uint32_t actor, uint32_t team,
+                                       const void *payload, size_t length, fy_reply *reply)
+{
+    if (!fy_guard_is_open(guard) || payload == NULL || reply == NULL)
+        return FY_CLOSED;
+    return (fy_status)fy_begin(guard, actor, team, (const uint8_t *)payload, length, reply);
+}
+
+/* Delivers a message in flight. By an actor whose role is storage.
+ *
+ * Sets `marked` and `acked`: after a store message both are 0. Refusals: FY_NO_MESSAGE, FY_CLOGGED,
+ * FY_NOT_UP. */
+static inline fy_status fy_guard_deliver(fy_guard *guard, uint32_t actor, uint64_t message,
+                                         fy_reply *reply)
+{
+    if (!fy_guard_is_open(guard) || reply == NULL)
+        return FY_CLOSED;
+    return (fy_status)fy_deliver(guard, actor, message, reply);
+}
+
+/* Drops a message in flight. By an actor whose role is storage.
+ *
+ * Sets no field. Refusal: FY_NO_MESSAGE. */
+static inline fy_status fy_guard_lose(fy_guard *guard, uint32_t actor, uint64_t message, fy_reply *reply)
+{
+    if (!fy_guard_is_open(guard) || reply == NULL)
+        return FY_CLOSED;
+    return (fy_status)fy_lose(guard, actor, message, reply);
+}
+
+/* Sends a member of a record's team the store message of the record again. By an actor whose role is
+ * storage.
+ *
+ * Sets `message`. Refusals: FY_NO_RECORD, FY_NOT_MEMBER, FY_ACKED, FY_NET_FULL. */
+static inline fy_status fy_guard_resend(fy_guard *guard, uint32_t actor, uint32_t record,
+                                        uint32_t process, fy_reply *reply)
+{
+    if (!fy_guard_is_open(guard) || reply == NULL)
+        return FY_CLOSED;
+    return (fy_status)fy_resend(guard, actor, record, process, reply);
+}
+
+/* Syncs what a process has written, and sends an acknowledgement of each write. By an actor whose
+ * role is storage.
+ *
+ * Sets `synced`, and `message`: that of the first write. The messages of the others have the numbers
+ * behind it. Where nothing was synced it is the number that the next message gets. Refusals:
+ * FY_NO_PROCESS, FY_NOT_UP, FY_NET_FULL. */
+static inline fy_status fy_guard_sync(fy_guard *guard, uint32_t actor, uint32_t process, fy_reply *reply)
+{
+    if (!fy_guard_is_open(guard) || reply == NULL)
+        return FY_CLOSED;
+    return (fy_status)fy_sync(guard, actor, process, reply);
+}
+
+/* Lets time pass. By an actor whose role is storage.
+ *
+ * Sets `now`. Refusal: FY_CLOCK_END. */
+static inline fy_status fy_guard_tick(fy_guard *guard, uint32_t actor, uint64_t ticks, fy_reply *reply)
+{
+    if (!fy_guard_is_open(guard) || reply == NULL)
+        return FY_CLOSED;
+    return (fy_status)fy_tick(guard, actor, ticks, reply);
+}
+
+/* Gives the actor `to` a grant of a set of kinds: on the processes whose key has the value, or on
+ * every process where the key is FY_EVERYONE; the value may be null then, and isn't looked at. By an
+ * actor whose role is operator.
+ *
+ * Sets no field. FY_ARGUMENT where a bit is that of no kind, or the key none; FY_NAME. Refusals:
+ * FY_NO_ACTOR, FY_FULL. */
+static inline fy_status fy_guard_give(fy_guard *guard, uint32_t actor, uint32_t to, uint32_t kinds,
+                                      fy_key key, const char *value, fy_reply *reply)
+{
+    if (key == FY_EVERYONE)
+        value = "";
+    if (!fy_guard_is_open(guard) || value == NULL || reply == NULL)
+        return FY_CLOSED;
+    return (fy_status)fy_give(guard, actor, to, kinds, (uint32_t)key, (const uint8_t *)value,
+                              strlen(value), reply);
+}
+
+/* Takes away the grant at a place, from 0, of the list of the actor `from`. By an actor whose role is
+ * operator.
+ *
+ * Sets no field. Refusals: FY_NO_ACTOR, FY_NO_SUCH. */
+static inline fy_status fy_guard_take(fy_guard *guard, uint32_t actor, uint32_t from, uint32_t index,
+                                      fy_reply *reply)
+{
+    if (!fy_guard_is_open(guard) || reply == NULL)
+        return FY_CLOSED;
+    return (fy_status)fy_take(guard, actor, from, index, reply);
+}
+
+/* Bars a set of kinds on a process, for every actor. By an actor whose role is operator.
+ *
+ * Sets no field. FY_ARGUMENT where a bit is that of no kind. Refusal: FY_NO_PROCESS. */
+static inline fy_status fy_guard_protect(fy_guard *guard, uint32_t actor, uint32_t process,
+                                         uint32_t kinds, fy_reply *reply)
+{
+    if (!fy_guard_is_open(guard) || reply == NULL)
+        return FY_CLOSED;
+    return (fy_status)fy_protect(guard, actor, process, kinds, reply);
+}
+
+/* Bars a set of kinds on a process no longer. All else is as of fy_guard_protect. */
+static inline fy_status fy_guard_unprotect(fy_guard *guard, uint32_t actor, uint32_t process,
+                                           uint32_t kinds, fy_reply *reply)
+{
+    if (!fy_guard_is_open(guard) || reply == NULL)
+        return FY_CLOSED;
+    return (fy_status)fy_unprotect(guard, actor, process, kinds, reply);
+}
+
+/* Sends the store message of a record from a process that has it synced to another, a member of its
+ * team or not. By an actor whose role is storage.
+ *
+ * Sets `message`. Refusals: FY_NO_RECORD, FY_NO_PROCESS, FY_GONE (of `to`), FY_NOT_UP and FY_NO_COPY
+ * (of `from`), FY_NET_FULL. */
+static inline fy_status fy_guard_copy(fy_guard *guard, uint32_t actor, uint32_t from, uint32_t record,
+                                      uint32_t to, fy_reply *reply)
+{
+    if (!fy_guard_is_open(guard) || reply == NULL)
+        return FY_CLOSED;
+    return (fy_status)fy_copy(guard, actor, from, record, to, reply);
+}
+
+/* Puts the process `into` into a team in place of the member `out`. By an actor whose role is
+ * storage.
+ *
+ * Sets no field. Refusals: FY_NO_TEAM, FY_NO_PROCESS (of `into`), FY_NOT_MEMBER (of `out`),
+ * FY_IS_MEMBER, FY_GONE, FY_TEAM_SHORT, FY_STILL_NEEDS (of `into`). */
+static inline fy_status fy_guard_replace(fy_guard *guard, uint32_t actor, uint32_t team, uint32_t out,
+                                         uint32_t into, fy_reply *reply)
+{
+    if (!fy_guard_is_open(guard) || reply == NULL)
+        return FY_CLOSED;
+    return (fy_status)fy_replace(guard, actor, team, out, into, reply);
 }
 
 /* Makes any act: `line` is a line of a script (docs/FORMATS.md). The line of its entry, which ends

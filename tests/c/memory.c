@@ -95,6 +95,84 @@ static fy_status call(int which, fy_guard *guard, size_t line)
     }
 }
 
+/* Each act by numbers, behind the acts of LINES. */
+enum { NUMBERED = 15 };
+
+static fy_status numbered(int which, fy_guard *guard, fy_reply *reply)
+{
+    static const uint32_t members[] = {1, 4};
+    switch (which) {
+    case 0:
+        return fy_guard_clog(guard, 1, FY_ZONE, "z2", 3, reply);
+    case 1:
+        return fy_guard_unclog(guard, 1, FY_ZONE, "z2", reply);
+    case 2:
+        return fy_guard_form(guard, 0, members, 2, 0, reply);
+    case 3:
+        return fy_guard_begin(guard, 0, 0, "hi", 2, reply);
+    case 4:
+        return fy_guard_deliver(guard, 0, 2, reply);
+    case 5:
+        return fy_guard_lose(guard, 0, 2, reply);
+    case 6:
+        return fy_guard_resend(guard, 0, 0, 2, reply);
+    case 7:
+        return fy_guard_sync(guard, 0, 0, reply);
+    case 8:
+        return fy_guard_tick(guard, 0, 1, reply);
+    case 9:
+        return fy_guard_give(guard, 4, 3, FY_KINDS_ALL, FY_ZONE, "z1", reply);
+    case 10:
+        return fy_guard_take(guard, 4, 3, 0, reply);
+    case 11:
+        return fy_guard_protect(guard, 4, 0, FY_KINDS_ALL, reply);
+    case 12:
+        return fy_guard_unprotect(guard, 4, 0, FY_KINDS_ALL, reply);
+    case 13:
+        return fy_guard_copy(guard, 0, 0, 0, 4, reply);
+    default:
+        return fy_guard_replace(guard, 0, 0, 0, 1, reply);
+    }
+}
+
+/* Each request for memory of each of them refused in turn: it answers FY_NO_MEMORY, tells nothing, and nothing changed. There are
+ * eight entries before, so that each needs room for its own. */
+static void refuse_numbered(void)
+{
+    static const fy_reply nothing;
+    long held = live, unmade = 0;
+    for (int which = 0; which < NUMBERED; which++) {
+        for (long request = 0;; request++) {
+            fy_guard guard = open_guard(SIX);
+            fy_reply reply;
+            for (size_t i = 0; i < sizeof LINES / sizeof *LINES; i++)
+                EQUAL(call(ACT, &guard, i), FY_DONE);
+            EQUAL(fy_guard_tick(&guard, 0, 1, &reply), FY_DONE);
+            memset(&reply, 0x55, sizeof reply);
+            size_t length = audit_of(&guard, before);
+            answered = request;
+            fy_status status = numbered(which, &guard, &reply);
+            int met = answered < 0;
+            answered = -1;
+            size_t now = audit_of(&guard, after);
+            if (met && status == FY_NO_MEMORY) {
+                unmade++;
+                EQUAL(memcmp(&reply, &nothing, sizeof reply), 0);
+                EQUAL(now == length && memcmp(before, after, length) == 0, 1);
+            } else {
+                EQUAL(status, FY_DONE);
+                EQUAL(now > length, 1);
+            }
+            fy_guard_close(&guard);
+            EQUAL(live, held);
+            if (!met)
+                break;
+        }
+    }
+    EQUAL(unmade >= NUMBERED, 1);
+    printf("memory: %ld acts by numbers undone by a request refused\n", unmade);
+}
+
 /* These ask for no memory. */
 static void ask(void)
 {
@@ -114,6 +192,7 @@ static void ask(void)
 int main(void)
 {
     ask();
+    refuse_numbered();
     long held = live, refused = 0, unmade = 0;
     size_t lines = sizeof LINES / sizeof *LINES;
     for (int which = 0; which < CALLS; which++) {

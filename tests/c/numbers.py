@@ -5,7 +5,7 @@ import subprocess
 from pathlib import Path
 
 # What only the header answers, and 'none'.
-OWN = {"FY_CLOSED": 19, "FY_NONE": 0, "FY_NO_RULE": 0, "FY_NOT_REFUSED": 0, "FY_WHOLE_FILE": 0}
+OWN = {"FY_CLOSED": 19, "FY_EVERYONE": 0, "FY_NONE": 0, "FY_NO_RULE": 0, "FY_NOT_REFUSED": 0, "FY_WHOLE_FILE": 0}
 
 top = Path(__file__).resolve().parents[2]
 header = dict(re.findall(r"^    (FY_\w+) = (\d+),", (top / "include/faultyard.h").read_text(), re.M))
@@ -26,4 +26,26 @@ assert defined == {"FAULTYARD_VERSION": str(number), "FAULTYARD_VERSION_TEXT": f
 
 limit = re.search(r"MOST_REPLY_BYTES: usize = (\d+);", (top / "crates/fy_c/src/acting.rt").read_text())[1]
 assert f"#define FY_MOST_REPLY {limit}\n" in (top / "include/faultyard.h").read_text()
+
+def source(file):
+    return (top / "crates" / file).read_text()
+
+
+def limit_of(file, name):
+    """The value of a constant of a crate."""
+    return int(re.search(rf"pub const {name}: \w+ = ([\d_]+);", source(file))[1].replace("_", ""))
+
+
+# Acts by numbers: limits, the number for every process, the bits of kinds and the fields of a reply.
+text = (top / "include/faultyard.h").read_text()
+bits = {name: int(bit) for name, bit in re.findall(r"^#define FY_KINDS_(\w+) (\d+)u\b", text, re.M)}
+known = {name: int(bit) for name, bit in re.findall(r"const (\w+): MemberBits = MemberBits\((\d+)\);", source("fy_kinds/src/kind_set.rt"))}
+assert bits == known | {"ALL": sum(known.values())}, (bits, known)
+assert limit_of("fy_c/src/rights.rt", "EVERYONE") == found["FY_EVERYONE"]
+assert f"#define FY_MOST_PAYLOAD {limit_of('fy_c/src/storing.rt', 'MOST_PAYLOAD')}\n" in text
+assert f"#define FY_MOST_MEMBERS {limit_of('fy_team/src/limits.rt', 'MOST_MEMBERS')}\n" in text
+struct = re.search(r"pub struct FyReply \{(.*?)\n\}", source("fy_c/src/making.rt"), re.S)[1]
+fields = [("record" if name == "rec" else name, bits) for name, bits in re.findall(r"pub (\w+): u(\d+),", struct)]
+struct = re.search(r"typedef struct fy_reply \{(.*?)\n\}", text, re.S)[1]
+assert [(name, bits) for bits, name in re.findall(r"^    uint(\d+)_t (\w+);", struct, re.M)] == fields, fields
 print(f"numbers.py: {len(found)} numbers")

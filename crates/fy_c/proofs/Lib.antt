@@ -1,7 +1,9 @@
 mod Begun
 mod Bits
 mod Finding
+mod KindBits
 mod Lines
+mod Made
 mod Orders
 mod Sent
 mod Values

@@ -4,6 +4,7 @@ pub mod Entering
 pub mod Faults
 pub mod Handles
 pub mod Killing
+pub mod Making
 pub mod Numbers
 pub mod Opening
 pub mod Sets

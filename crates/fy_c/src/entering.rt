@@ -37,7 +37,7 @@ pub(crate) fn status_of(answer: Result<Reply, Fault>) -> Status
 }
 
 /// The number by which C knows a refusal.
-fn refusal_number(refusal: Refusal) -> u32
+pub(crate) fn refusal_number(refusal: Refusal) -> u32
     ensures { result ≡ refusal_number refusal }
 {
     match refusal {

@@ -4,13 +4,18 @@
 
 mod acting;
 mod asking;
+mod clogging;
 mod entering;
 mod faults;
 mod handle;
 mod killing;
 pub mod laws;
 mod loose;
+mod making;
 mod numbers;
 mod opening;
+mod rights;
 mod sets;
 mod status;
+mod storing;
+mod traffic;

@@ -124,7 +124,7 @@ pub(crate) fn record_number(rec: Option<u32>) -> u32
 }
 
 /// The value where something is so, and else 0.
-fn bit(is: bool, value: u32) -> u32
+pub(crate) fn bit(is: bool, value: u32) -> u32
     ensures { result ≡ (if is then value else 0) }
 {
     if is { value } else { 0 }

@@ -103,7 +103,7 @@ pub extern "C" fn fy_gone_set(guard: &mut FyGuard, set: &mut [u64])
 /// # Errors
 ///
 /// In order: `Argument` where the number is that of no key; `Name` where the bytes are no name.
-fn target_of(key: u32, value: &[u8]) -> Result<Target, Status>
+pub(crate) fn target_of(key: u32, value: &[u8]) -> Result<Target, Status>
     ensures target { IfOk result (IsTargetOf key value.now) }
     ensures none { IfErr result (NoTarget key value.now) }
 {

@@ -1,0 +1,19 @@
+use Rattle.std.proofs.Common.{refl}
+use Rattle.std.proofs.lemmas.Bool.{false≢true}
+use Rattle.fy_c.specs.Making.{NoBegin}
+use Rattle.fy_c.proofs.Lines.{has_room}
+use Rattle.fy_c.proofs.storing.begin_of.Goals as goal
+
+pub returns-then-payload-gt-MOST_PAYLOAD-clause-not_given :
+    goal.returns-then-payload-gt-MOST_PAYLOAD-clause-not_given
+returns-then-payload-gt-MOST_PAYLOAD-clause-not_given c =
+    NoBegin.too_long c.if-payload-gt-MOST_PAYLOAD.true
+
+pub returns-then-is_full-clause-not_given : goal.returns-then-is_full-clause-not_given
+returns-then-is_full-clause-not_given c =
+    NoBegin.full c.if-payload-gt-MOST_PAYLOAD.false (c.if-is_full.ensures.0 refl)
+
+pub returns-in-Err-clause-not_given : goal.returns-in-Err-clause-not_given
+returns-in-Err-clause-not_given c =
+    NoBegin.no_memory c.if-payload-gt-MOST_PAYLOAD.false
+    (has_room c.args.cluster.now (λ full. absurd (false≢true (c.if-is_full.ensures.1 full))))

@@ -1,0 +1,19 @@
+use Rattle.std.proofs.Common.{refl}
+use Rattle.std.proofs.lemmas.Bool.{false≢true}
+use Rattle.fy_c.specs.Making.{NoForm}
+use Rattle.fy_c.proofs.Lines.{has_room}
+use Rattle.fy_c.proofs.storing.form_of.Goals as goal
+
+pub returns-then-not-are_members-clause-not_given :
+    goal.returns-then-not-are_members-clause-not_given
+returns-then-not-are_members-clause-not_given c =
+    NoForm.no_members (λ are. absurd (false≢true (c.if-not-are_members.ensures.1 are)))
+
+pub returns-then-is_full-clause-not_given : goal.returns-then-is_full-clause-not_given
+returns-then-is_full-clause-not_given c =
+    NoForm.full (c.if-not-are_members.ensures.0 refl) (c.if-is_full.ensures.0 refl)
+
+pub returns-in_default-clause-not_given : goal.returns-in_default-clause-not_given
+returns-in_default-clause-not_given c =
+    NoForm.no_memory (c.if-not-are_members.ensures.0 refl)
+    (has_room c.args.cluster.now (λ full. absurd (false≢true (c.if-is_full.ensures.1 full))))
