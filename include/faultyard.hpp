@@ -30,6 +30,7 @@
 #include <string>
 #include <string_view>
 #include <utility>
+#include <vector>
 
 namespace faultyard {
 
@@ -151,6 +152,22 @@ enum class Status : std::uint32_t {
     Closed = FY_CLOSED,
 };
 
+/* A set of kinds of kill and of clogging, as Kinds::Reboot | Kinds::Clog. */
+enum class Kinds : std::uint32_t {
+    None = 0,
+    RebootProcess = FY_KINDS_REBOOT_PROCESS,
+    Reboot = FY_KINDS_REBOOT,
+    RebootAndDelete = FY_KINDS_REBOOT_AND_DELETE,
+    KillInstantly = FY_KINDS_KILL_INSTANTLY,
+    Clog = FY_KINDS_CLOG,
+    All = FY_KINDS_ALL,
+};
+
+constexpr Kinds operator|(Kinds one, Kinds other) noexcept
+{
+    return static_cast<Kinds>(static_cast<std::uint32_t>(one) | static_cast<std::uint32_t>(other));
+}
+
 /* Whether the data of the process goes. */
 constexpr bool empties_disk(Kind kind) noexcept
 {
@@ -229,7 +246,7 @@ inline constexpr Text STATUSES[] = {
     {"Short", "the buffer is too short"},
     {"Unwritten", "the act is made and stands in the journal, but its line could not be written"},
     {"NoEntry", "the journal has no entry at this place"},
-    {"Argument", "there is no such key, kind or floor"},
+    {"Argument", "there is no such key, kind or floor, members don't rise, or a payload is too long"},
     {"Name", "the value of the target is no name"},
     {"Floor", "the floor of the kill is above its kind"},
     {"LineTooLong", "the line has more than 65,536 bytes"},
@@ -304,6 +321,12 @@ public:
     {
     }
 
+    /* Of a refused act, with what the refusal names. */
+    Error(Status status, Refusal refusal, std::optional<std::uint64_t> named) noexcept
+        : status_(status), refusal_(refusal), named_(named)
+    {
+    }
+
     /* Of a cluster file, with where its fault is. */
     Error(Status status, std::optional<Part> part, std::optional<std::uint64_t> place) noexcept
         : status_(status), part_(part), place_(place)
@@ -315,6 +338,10 @@ public:
 
     /* Why the act is refused, where the status is Refused. */
     std::optional<Refusal> refusal() const noexcept { return refusal_; }
+
+    /* The policy of TeamShort and the record of StillNeeds, where `replace` or `form` is refused by
+     * it; `needed` has that of `heal`. */
+    std::optional<std::uint64_t> named() const noexcept { return named_; }
 
     /* The part of the cluster file that the fault is in, where the status is ConfigField to
      * ConfigUnmet. */
@@ -351,6 +378,7 @@ private:
 
     Status status_;
     std::optional<Refusal> refusal_;
+    std::optional<std::uint64_t> named_;
     std::optional<Part> part_;
     std::optional<std::uint64_t> place_;
     /* It has room for each word and text above, and for a place of 20 digits. */
@@ -375,6 +403,66 @@ struct Verdict {
     {
         return !(one == other);
     }
+};
+
+/* The answer to a clog, or to the end of one. */
+struct Ruling {
+    /* What bars it; empty where it is done. */
+    std::optional<Rule> rule;
+    /* The process (NoGrant, Protected) that the rule names. */
+    std::optional<std::uint64_t> named;
+
+    friend constexpr bool operator==(const Ruling &one, const Ruling &other) noexcept
+    {
+        return one.rule == other.rule && one.named == other.named;
+    }
+
+    friend constexpr bool operator!=(const Ruling &one, const Ruling &other) noexcept
+    {
+        return !(one == other);
+    }
+};
+
+/* A record that was begun. */
+struct Begun {
+    std::uint32_t record = 0;
+    /* The store message of the first member. Those of the others have the numbers behind it. */
+    std::uint64_t first = 0;
+
+    friend constexpr bool operator==(const Begun &one, const Begun &other) noexcept
+    {
+        return one.record == other.record && one.first == other.first;
+    }
+
+    friend constexpr bool operator!=(const Begun &one, const Begun &other) noexcept
+    {
+        return !(one == other);
+    }
+};
+
+/* Writes that were synced. */
+struct Synced {
+    /* How many. */
+    std::uint64_t count = 0;
+    /* The acknowledgement of the first. Those of the others have the numbers behind it. */
+    std::uint64_t first = 0;
+
+    friend constexpr bool operator==(const Synced &one, const Synced &other) noexcept
+    {
+        return one.count == other.count && one.first == other.first;
+    }
+
+    friend constexpr bool operator!=(const Synced &one, const Synced &other) noexcept
+    {
+        return !(one == other);
+    }
+};
+
+/* What a deliver delivered. */
+enum class Delivered {
+    Store, /* A store message. */
+    Mark,  /* An acknowledgement of a record that isn't acknowledged yet. */
+    Acked, /* An acknowledgement of a record that is acknowledged now. */
 };
 
 /* A set of processes by their numbers. */
@@ -517,6 +605,160 @@ public:
         std::uint32_t refusal = 0;
         const std::uint32_t status = fy_heal(opened(), actor, process, &refusal);
         require(status, refusal);
+    }
+
+    /* Holds back the messages of each process whose key has the value for so many ticks. A rule
+     * that bars it is answered.
+     * Throws in order Closed, Argument, Name, JournalFull, NoMemory; Refused where there is no such
+     * actor. */
+    [[nodiscard]] Ruling clog(std::uint32_t actor, Key key, std::string_view value, std::uint64_t ticks)
+    {
+        return ruling_of(made([&](fy_guard *guard, fy_reply *reply) {
+            return fy_clog(guard, actor, static_cast<std::uint32_t>(key), detail::bytes(value),
+                           value.size(), ticks, reply);
+        }));
+    }
+
+    /* Ends the clogs of each process whose key has the value. Throws as `clog` does. */
+    [[nodiscard]] Ruling unclog(std::uint32_t actor, Key key, std::string_view value)
+    {
+        return ruling_of(made([&](fy_guard *guard, fy_reply *reply) {
+            return fy_unclog(guard, actor, static_cast<std::uint32_t>(key), detail::bytes(value),
+                             value.size(), reply);
+        }));
+    }
+
+    /* The acts below throw in order Closed, what else they name, JournalFull, NoMemory, and Refused
+     * with its reason, which `fy_guard_form` and those behind it in faultyard.h list. */
+
+    /* Forms a team of these processes, by rising number, and answers its number. By an actor whose
+     * role is storage. Argument where they don't rise, or are more than FY_MOST_MEMBERS. */
+    std::uint32_t form(std::uint32_t actor, const std::vector<std::uint32_t> &members,
+                       std::uint32_t policy)
+    {
+        const std::uint32_t nobody = 0;
+        return made([&](fy_guard *guard, fy_reply *reply) {
+                   return fy_form(guard, actor, members.empty() ? &nobody : members.data(),
+                                  members.size(), policy, reply);
+               })
+            .team;
+    }
+
+    /* Begins a record for a team, and sends each member a store message. By an actor whose role is
+     * storage. Argument where the payload has more than FY_MOST_PAYLOAD bytes. */
+    Begun begin(std::uint32_t actor, std::uint32_t team, std::string_view payload)
+    {
+        const fy_reply reply = made([&](fy_guard *guard, fy_reply *told) {
+            return fy_begin(guard, actor, team, detail::bytes(payload), payload.size(), told);
+        });
+        return {reply.record, reply.message};
+    }
+
+    /* Delivers a message in flight. By an actor whose role is storage. */
+    Delivered deliver(std::uint32_t actor, std::uint64_t message)
+    {
+        const fy_reply reply = made([&](fy_guard *guard, fy_reply *told) {
+            return fy_deliver(guard, actor, message, told);
+        });
+        return reply.acked != 0    ? Delivered::Acked
+               : reply.marked != 0 ? Delivered::Mark
+                                   : Delivered::Store;
+    }
+
+    /* Drops a message in flight. By an actor whose role is storage. */
+    void lose(std::uint32_t actor, std::uint64_t message)
+    {
+        made([&](fy_guard *guard, fy_reply *reply) {
+            return fy_lose(guard, actor, message, reply);
+        });
+    }
+
+    /* Sends a member the store message of a record again, and answers the message's number. By an
+     * actor whose role is storage. */
+    std::uint64_t resend(std::uint32_t actor, std::uint32_t record, std::uint32_t process)
+    {
+        return made([&](fy_guard *guard, fy_reply *reply) {
+                   return fy_resend(guard, actor, record, process, reply);
+               })
+            .message;
+    }
+
+    /* Syncs what a process has written, and sends an acknowledgement of each write. By an actor
+     * whose role is storage. */
+    Synced sync(std::uint32_t actor, std::uint32_t process)
+    {
+        const fy_reply reply = made([&](fy_guard *guard, fy_reply *told) {
+            return fy_sync(guard, actor, process, told);
+        });
+        return {reply.synced, reply.message};
+    }
+
+    /* Lets time pass, and answers the time. By an actor whose role is storage. */
+    std::uint64_t tick(std::uint32_t actor, std::uint64_t ticks)
+    {
+        return made([&](fy_guard *guard, fy_reply *reply) {
+                   return fy_tick(guard, actor, ticks, reply);
+               })
+            .now;
+    }
+
+    /* Sends the store message of a record from a process that has it synced to another, and answers
+     * the message's number. By an actor whose role is storage. */
+    std::uint64_t copy(std::uint32_t actor, std::uint32_t from, std::uint32_t record,
+                       std::uint32_t to)
+    {
+        return made([&](fy_guard *guard, fy_reply *reply) {
+                   return fy_copy(guard, actor, from, record, to, reply);
+               })
+            .message;
+    }
+
+    /* Puts a process into a team in place of a member. By an actor whose role is storage. */
+    void replace(std::uint32_t actor, std::uint32_t team, std::uint32_t out, std::uint32_t into)
+    {
+        made([&](fy_guard *guard, fy_reply *reply) {
+            return fy_replace(guard, actor, team, out, into, reply);
+        });
+    }
+
+    /* Gives another actor a grant of these kinds on every process. By an actor whose role is
+     * operator. */
+    void give(std::uint32_t actor, std::uint32_t to, Kinds kinds)
+    {
+        give_by(actor, to, kinds, FY_EVERYONE, std::string_view());
+    }
+
+    /* The same, on the processes whose key has the value. Argument, Name. */
+    void give(std::uint32_t actor, std::uint32_t to, Kinds kinds, Key key, std::string_view value)
+    {
+        /* The number of every process is that of no key. */
+        const auto number = static_cast<std::uint32_t>(key);
+        give_by(actor, to, kinds, number == FY_EVERYONE ? UINT32_MAX : number, value);
+    }
+
+    /* Takes away the grant at a place, from 0, of another actor's list. By an actor whose role is
+     * operator. */
+    void take(std::uint32_t actor, std::uint32_t from, std::uint32_t index)
+    {
+        made([&](fy_guard *guard, fy_reply *reply) {
+            return fy_take(guard, actor, from, index, reply);
+        });
+    }
+
+    /* Bars kinds on a process, for every actor. By an actor whose role is operator. */
+    void protect(std::uint32_t actor, std::uint32_t process, Kinds kinds)
+    {
+        made([&](fy_guard *guard, fy_reply *reply) {
+            return fy_protect(guard, actor, process, static_cast<std::uint32_t>(kinds), reply);
+        });
+    }
+
+    /* Bars kinds on a process no longer. By an actor whose role is operator. */
+    void unprotect(std::uint32_t actor, std::uint32_t process, Kinds kinds)
+    {
+        made([&](fy_guard *guard, fy_reply *reply) {
+            return fy_unprotect(guard, actor, process, static_cast<std::uint32_t>(kinds), reply);
+        });
     }
 
     /* Makes any act, given as its line of a script, and answers the line of its entry, which ends
@@ -703,6 +945,40 @@ private:
         if (rule != FY_NO_RULE && rule != FY_NO_TARGET)
             verdict.named = named;
         return verdict;
+    }
+
+    /* Makes an act by numbers, and answers what the library tells of it. */
+    template <typename Call>
+    fy_reply made(Call call)
+    {
+        fy_reply reply = {};
+        const std::uint32_t status = call(opened(), &reply);
+        if (status != FY_REFUSED) {
+            require(status);
+            return reply;
+        }
+        const bool is_named = reply.refusal == FY_TEAM_SHORT || reply.refusal == FY_STILL_NEEDS;
+        throw Error(Status::Refused, static_cast<Refusal>(reply.refusal),
+                    is_named ? std::optional(reply.named) : std::nullopt);
+    }
+
+    void give_by(std::uint32_t actor, std::uint32_t to, Kinds kinds, std::uint32_t key,
+                 std::string_view value)
+    {
+        made([&](fy_guard *guard, fy_reply *reply) {
+            return fy_give(guard, actor, to, static_cast<std::uint32_t>(kinds), key,
+                           detail::bytes(value), value.size(), reply);
+        });
+    }
+
+    static Ruling ruling_of(const fy_reply &reply) noexcept
+    {
+        Ruling ruling;
+        if (reply.rule != FY_NO_RULE)
+            ruling.rule = static_cast<Rule>(reply.rule);
+        if (reply.rule != FY_NO_RULE && reply.rule != FY_NO_TARGET)
+            ruling.named = reply.named;
+        return ruling;
     }
 
     static std::optional<std::uint32_t> somebody(std::uint32_t process) noexcept

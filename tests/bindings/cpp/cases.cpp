@@ -309,6 +309,161 @@ static void names_and_records()
     HOLDS(asked.sight() == wanted);
 }
 
+/* The last entry has this act and this reply. */
+static bool is_entered(const Guard &guard, const std::string &act, const std::string &reply)
+{
+    const std::string entry = guard.entry(guard.journal_len() - 1);
+    const std::string front = "{\"act\":" + act + ",\"at\":";
+    const std::string end = ",\"reply\":" + reply + "}\n";
+    return entry.compare(0, front.size(), front) == 0 && entry.size() > end.size() &&
+           entry.compare(entry.size() - end.size(), end.size(), end) == 0;
+}
+
+/* A record is stored, copied and moved, each act by its call by numbers. */
+static void numbered_records()
+{
+    Guard guard(SIX);
+    EQUAL(guard.form(0, {0, 2}, 0), 0);
+    HOLDS(is_entered(guard, "{\"form\":{\"members\":[0,2],\"policy\":0}}", "{\"formed\":0}"));
+    EQUAL(guard.form(0, {0, 2}, 0), 1);
+    Begun begun;
+    HOLDS(guard.begin(0, 0, "hi") == begun);
+    HOLDS(is_entered(guard, "{\"begin\":{\"payload\":\"6869\",\"team\":0}}",
+                     "{\"begun\":{\"first\":0,\"record\":0}}"));
+    begun = {1, 2};
+    HOLDS(guard.begin(0, 1, std::string_view()) == begun);
+    HOLDS(begun != Begun());
+    guard.lose(0, 1);
+    HOLDS(is_entered(guard, "{\"lose\":{\"message\":1}}", "\"done\""));
+    EQUAL(guard.resend(0, 0, 2), 4);
+    HOLDS(is_entered(guard, "{\"resend\":{\"process\":2,\"record\":0}}", "{\"sent\":4}"));
+    HOLDS(guard.deliver(0, 0) == Delivered::Store);
+    HOLDS(guard.deliver(0, 4) == Delivered::Store);
+    Synced synced;
+    synced.first = 5;
+    HOLDS(guard.sync(0, 1) == synced);
+    synced.count = 1;
+    HOLDS(guard.sync(0, 0) == synced && synced != Synced());
+    HOLDS(is_entered(guard, "{\"sync\":{\"process\":0}}",
+                     "{\"synced\":{\"count\":1,\"first\":5}}"));
+    synced.first = 6;
+    HOLDS(guard.sync(0, 2) == synced);
+    EQUAL(guard.tick(0, 9), 9);
+    HOLDS(is_entered(guard, "{\"tick\":{\"ticks\":9}}", "{\"time\":9}"));
+    HOLDS(guard.deliver(0, 5) == Delivered::Mark);
+    HOLDS(guard.deliver(0, 6) == Delivered::Acked);
+    HOLDS(is_entered(guard, "{\"deliver\":{\"message\":6}}", "{\"marked\":true}"));
+    REFUSES(Acked, guard.resend(0, 0, 2));
+    EQUAL(guard.copy(0, 2, 0, 1), 7);
+    HOLDS(is_entered(guard, "{\"copy\":{\"from\":2,\"record\":0,\"to\":1}}", "{\"sent\":7}"));
+    HOLDS(guard.deliver(0, 7) == Delivered::Store);
+    guard.sync(0, 1);
+    guard.replace(0, 0, 0, 1);
+    HOLDS(is_entered(guard, "{\"replace\":{\"into\":1,\"out\":0,\"team\":0}}", "\"done\""));
+}
+
+/* Clogs, grants and protections by numbers. */
+static void numbered_rights()
+{
+    Guard guard(SIX);
+    HOLDS(guard.clog(1, Key::Zone, "z1", 3) == Ruling());
+    HOLDS(is_entered(guard, "{\"clog\":{\"key\":\"zoneid\",\"ticks\":3,\"value\":\"z1\"}}",
+                     "{\"ruled\":null}"));
+    HOLDS(guard.state(2)->clogged && guard.state(3)->clogged && !guard.state(4)->clogged);
+    HOLDS(guard.unclog(1, Key::Process, "p2") == Ruling());
+    HOLDS(!guard.state(2)->clogged && guard.state(3)->clogged);
+    Ruling barred;
+    barred.rule = Rule::NoTarget;
+    HOLDS(guard.unclog(1, Key::Zone, "z9") == barred);
+    barred.rule = Rule::NoGrant;
+    barred.named = 4;
+    HOLDS(guard.clog(3, Key::Zone, "z2", 1) == barred && barred != Ruling());
+    guard.give(4, 3, Kinds::Reboot | Kinds::Clog, Key::Zone, "z2");
+    HOLDS(is_entered(guard,
+                     "{\"give\":{\"actor\":3,\"kinds\":[\"Reboot\",\"Clog\"],"
+                     "\"scope\":{\"key\":\"zoneid\",\"value\":\"z2\"}}}",
+                     "\"done\""));
+    HOLDS(guard.clog(3, Key::Zone, "z2", 1) == Ruling());
+    guard.give(4, 3, Kinds::All);
+    HOLDS(guard.entry(guard.journal_len() - 1).find("\"scope\":\"all\"") != std::string::npos);
+    guard.take(4, 3, 1);
+    HOLDS(is_entered(guard, "{\"take\":{\"actor\":3,\"index\":1}}", "\"done\""));
+    guard.protect(4, 5, Kinds::RebootProcess | Kinds::KillInstantly);
+    HOLDS(is_entered(guard,
+                     "{\"protect\":{\"kinds\":[\"RebootProcess\",\"KillInstantly\"],"
+                     "\"process\":5}}",
+                     "\"done\""));
+    guard.unprotect(4, 5, Kinds::RebootAndDelete);
+    HOLDS(is_entered(guard, "{\"unprotect\":{\"kinds\":[\"RebootAndDelete\"],\"process\":5}}",
+                     "\"done\""));
+}
+
+/* What an act by numbers throws: what a refusal names, and what enters nothing. */
+static void numbered_errors()
+{
+    Guard guard(SIX);
+    const auto named_by = [&](Refusal refusal, auto call) {
+        try {
+            call();
+        } catch (const Error &error) {
+            HOLDS(error.status() == Status::Refused && error.refusal() == refusal);
+            return error.named();
+        }
+        return std::optional<uint64_t>();
+    };
+    HOLDS(named_by(Refusal::TeamShort, [&] { guard.form(0, {0, 1}, 0); }) == 0U);
+    HOLDS(named_by(Refusal::TeamShort, [&] { guard.form(0, {}, 0); }) == 0U);
+    HOLDS(named_by(Refusal::NoPolicy, [&] { guard.form(0, {0, 2}, 1); }) == std::nullopt);
+    make(guard, 0, std::size(ACKED));
+    HOLDS(named_by(Refusal::StillNeeds, [&] { guard.replace(0, 0, 0, 1); }) == 0U);
+    REFUSES(Stranger, (void)guard.clog(9, Key::Zone, "z0", 1));
+    REFUSES(WrongRole, guard.tick(4, 1));
+    REFUSES(ClockEnd, guard.tick(0, UINT64_MAX));
+    REFUSES(Payload, guard.begin(0, 0, std::string(257, 'a')));
+    REFUSES(NoMessage, guard.deliver(0, 9));
+    REFUSES(NoMessage, guard.lose(0, 9));
+    REFUSES(NoProcess, guard.sync(0, 6));
+    REFUSES(NoProcess, guard.protect(4, 6, Kinds::All));
+    REFUSES(NoProcess, guard.unprotect(4, 6, Kinds::None));
+    REFUSES(NoActor, guard.give(4, 5, Kinds::All));
+    REFUSES(NoSuch, guard.take(4, 3, 0));
+    REFUSES(NoCopy, guard.copy(0, 1, 0, 3));
+    const std::size_t entries = guard.journal_len();
+    THROWS(Argument, guard.form(0, {2, 0}, 0));
+    THROWS(Argument, guard.begin(0, 0, std::string(FY_MOST_PAYLOAD + 1, 'a')));
+    THROWS(Argument, guard.protect(4, 0, static_cast<Kinds>(32)));
+    THROWS(Argument, guard.give(4, 3, Kinds::All, static_cast<Key>(0), "z0"));
+    THROWS(Name, guard.give(4, 3, Kinds::All, Key::Zone, std::string_view()));
+    THROWS(Name, (void)guard.clog(1, Key::Zone, "", 1));
+    EQUAL(guard.journal_len(), entries);
+    granted = 0;
+    THROWS(NoMemory, guard.form(0, {0, 2}, 0));
+    THROWS(NoMemory, guard.begin(0, 0, "a"));
+    granted = ALL;
+    EQUAL(guard.journal_len(), entries);
+    Guard full(TWO_PLACES);
+    full.tick(0, 1);
+    full.tick(0, 1);
+    THROWS(JournalFull, full.form(0, {0, 2}, 0));
+    THROWS(JournalFull, full.take(4, 3, 0));
+    guard.close();
+    THROWS(Closed, (void)guard.clog(1, Key::Zone, "z0", 1));
+    THROWS(Closed, (void)guard.unclog(1, Key::Zone, "z0"));
+    THROWS(Closed, guard.form(0, {0, 2}, 0));
+    THROWS(Closed, guard.begin(0, 0, "a"));
+    THROWS(Closed, guard.deliver(0, 0));
+    THROWS(Closed, guard.lose(0, 0));
+    THROWS(Closed, guard.resend(0, 0, 0));
+    THROWS(Closed, guard.sync(0, 0));
+    THROWS(Closed, guard.tick(0, 1));
+    THROWS(Closed, guard.give(4, 3, Kinds::All));
+    THROWS(Closed, guard.take(4, 3, 0));
+    THROWS(Closed, guard.protect(4, 0, Kinds::All));
+    THROWS(Closed, guard.unprotect(4, 0, Kinds::All));
+    THROWS(Closed, guard.copy(0, 0, 0, 1));
+    THROWS(Closed, guard.replace(0, 0, 0, 1));
+}
+
 /* Each error that enters nothing. */
 static void errors()
 {
@@ -613,6 +768,9 @@ int main()
     judged();
     resets();
     names_and_records();
+    numbered_records();
+    numbered_rights();
+    numbered_errors();
     errors();
     want_of_memory();
     cluster_files();

@@ -5,9 +5,24 @@ A line of acts is one of these, its words parted by tabs:
     kill ACTOR KEY VALUE KIND FLOOR TEAR
     up ACTOR PROCESS
     heal ACTOR PROCESS
+    clog ACTOR KEY VALUE TICKS
+    unclog ACTOR KEY VALUE
+    form ACTOR MEMBERS POLICY        members parted by commas
+    begin ACTOR TEAM PAYLOAD         two digits a byte
+    deliver ACTOR MESSAGE
+    lose ACTOR MESSAGE
+    resend ACTOR RECORD PROCESS
+    sync ACTOR PROCESS
+    tick ACTOR TICKS
+    give ACTOR TO KINDS KEY VALUE    kinds by their bits; - and - for every process
+    take ACTOR FROM INDEX
+    protect ACTOR PROCESS KINDS
+    unprotect ACTOR PROCESS KINDS
+    copy ACTOR FROM RECORD TO
+    replace ACTOR TEAM OUT INTO
     act LINE
 
-The first three are made by the binding's call of that name, and LINE, which is a line of a script,
+All but the last are made by the binding's call of that name, and LINE, which is a line of a script,
 by its general call. A line of answers has three parts, parted by tabs:
 
 1. what the call answered;
@@ -17,8 +32,16 @@ by its general call. A line of answers has three parts, parted by tabs:
 A call answers one of these:
 
     verdict STRUCK RULE NAMED    with - for each that isn't there
+    ruled RULE NAMED
+    formed TEAM
+    begun RECORD FIRST
+    stored
+    marked ACKED                 true or false
+    sent MESSAGE
+    synced COUNT FIRST
+    time NOW
     done
-    refused REFUSAL
+    refused REFUSAL              and what it names, but of up and heal
     an entry of the audit        of the general call
 """
 
@@ -31,7 +54,41 @@ TYPED = {
     "kill": ("key", "value", "kind", "floor", "tear"),
     "up": ("process",),
     "heal": ("process",),
+    "clog": ("key", "value", "ticks"),
+    "unclog": ("key", "value"),
+    "form": ("members", "policy"),
+    "begin": ("team", "payload"),
+    "deliver": ("message",),
+    "lose": ("message",),
+    "resend": ("record", "process"),
+    "sync": ("process",),
+    "tick": ("ticks",),
+    "give": ("actor", "kinds", "scope"),
+    "take": ("actor", "index"),
+    "protect": ("process", "kinds"),
+    "unprotect": ("process", "kinds"),
+    "copy": ("from", "record", "to"),
+    "replace": ("team", "out", "into"),
 }
+BITS = {kind.value: 1 << number for number, kind in enumerate(faultyard.Kind)}
+
+
+def word(member, value):
+    """A member of an act as a word, or of a scope as two."""
+    if member == "members":
+        return ",".join(map(str, value))
+    if member == "kinds":
+        return sum(BITS[kind] for kind in value)
+    if member == "scope":
+        return "-\t-" if value == "all" else "\t".join((value["key"], value["value"]))
+    return value
+
+
+def typed(by, act):
+    """The line of an act that is made by a call of its own."""
+    ((name, members),) = act.items()
+    words = [name, by, *(word(it, members[it]) for it in TYPED[name])]
+    return "\t".join(map(str, words)) + "\n"
 
 
 def is_typed(number, act):
@@ -44,23 +101,31 @@ def lines(acts):
     text = []
     for number, (by, act) in enumerate(acts):
         if is_typed(number, act):
-            ((name, members),) = act.items()
-            words = [name, by, *(members[it] for it in TYPED[name])]
+            text.append(typed(by, act))
         else:
-            words = ["act", json.dumps({"by": by, "act": act})]
-        text.append("\t".join(map(str, words)) + "\n")
+            text.append("act\t" + json.dumps({"by": by, "act": act}) + "\n")
     return "".join(text)
 
 
-def told(reply):
-    """What a call answers for a reply of an audit."""
-    if reply == "done":
+def told(act, reply):
+    """What the call of an act answers for its reply of an audit."""
+    if isinstance(reply, str):
         return reply
-    if "no" in reply:
-        return "refused " + reply["no"][0]
-    verdict = reply["verdict"]
-    rule, *named = verdict["rule"] or ["-"]
-    return " ".join(map(str, ["verdict", verdict["struck"] or "-", rule, *(named or "-")]))
+    ((shape, value),) = reply.items()
+    if shape == "no":
+        # The calls of up and heal don't tell the record.
+        words = ["refused", *(value[:1] if next(iter(act)) in ("up", "heal") else value)]
+    elif shape in ("verdict", "ruled"):
+        struck = [value["struck"] or "-"] if shape == "verdict" else []
+        rule, *named = (value["rule"] if shape == "verdict" else value) or ["-"]
+        words = [shape, *struck, rule, *(named or "-")]
+    elif shape == "begun":
+        words = [shape, value["record"], value["first"]]
+    elif shape == "synced":
+        words = [shape, value["count"], value["first"]]
+    else:
+        words = [shape, json.dumps(value)]
+    return " ".join(map(str, words))
 
 
 def answers(config, acts, audit):
@@ -69,7 +134,7 @@ def answers(config, acts, audit):
     with faultyard.Guard(config) as guard:
         for number, ((by, act), line) in enumerate(zip(acts, audit.splitlines()[1:])):
             guard.act(by, act)
-            answer = told(json.loads(line)["reply"]) if is_typed(number, act) else line
+            answer = told(act, json.loads(line)["reply"]) if is_typed(number, act) else line
             destroyed = "".join(str(int(guard.is_destroyed(process))) for process in range(7))
             left = sum(1 << process for process in guard.left())
             text.append(f"{answer}\t{destroyed}\t{left}\n")

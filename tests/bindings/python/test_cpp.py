@@ -45,6 +45,7 @@ class Header(unittest.TestCase):
     def test_each_value_is_the_c_headers(self):
         text, declared = HEADER.read_text(), C_HEADER.read_text()
         none = {"Kind": "FY_NONE", "Rule": "FY_NO_RULE", "Refusal": "FY_NOT_REFUSED"}
+        none["Key"] = "FY_EVERYONE"
         none["Part"] = "FY_WHOLE_FILE"
         for enum in ("Key", "Kind", "Rule", "Refusal", "Part", "Status"):
             body = re.search(rf"enum class {enum} : .*?{{(.*?)^}};", text, re.M | re.S)[1]
@@ -56,6 +57,15 @@ class Header(unittest.TestCase):
             for name, constant in values:
                 spelled = re.sub(r"(?<=.)([A-Z])", r"_\1", name).upper()
                 self.assertEqual(f"FY_{'PART_' * (enum == 'Part')}{spelled}", constant)
+
+    def test_each_kind_of_a_set_is_the_c_headers(self):
+        body = re.search(r"enum class Kinds : .*?{(.*?)^};", HEADER.read_text(), re.M | re.S)[1]
+        found = re.findall(r"^    (\w+) = (FY_\w+),", body, re.M)
+        wanted = re.findall(r"^#define (FY_KINDS_\w+) \d+u\b", C_HEADER.read_text(), re.M)
+        self.assertEqual([constant for _, constant in found], wanted)
+        for name, constant in found:
+            spelled = re.sub(r"(?<=.)([A-Z])", r"_\1", name).upper()
+            self.assertEqual(f"FY_KINDS_{spelled}", constant)
 
     def test_each_call_is_made(self):
         declared = re.findall(r"^\w+ fy_(\w+)\(", C_HEADER.read_text(), re.M)
