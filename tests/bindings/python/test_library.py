@@ -12,7 +12,7 @@ from unittest import mock
 
 import common
 import faultyard
-from faultyard import Guard, library
+from faultyard import Guard, acts, library
 from native import poor_library
 
 HEADER = (common.ROOT / "include/faultyard.h").read_text()
@@ -31,6 +31,8 @@ TYPES = {
     "fy_guard *": ctypes.POINTER(library._Guard),
     "const fy_guard *": ctypes.POINTER(library._Guard),
     "fy_seen *": ctypes.POINTER(library._Seen),
+    "fy_reply *": ctypes.POINTER(library._Reply),
+    "const uint32_t *": ctypes.POINTER(ctypes.c_uint32),
 }
 
 
@@ -70,10 +72,18 @@ class Table(unittest.TestCase):
             self.assertEqual(call, there[name], name)
 
     def test_each_field_is_the_headers(self):
-        body = re.search(r"^typedef struct fy_seen {(.*?)^}", HEADER, re.M | re.S)[1]
-        found = re.findall(r"^    (\w+) (\w+);", body, re.M)
-        self.assertEqual(library._Seen._fields_, [(name, TYPES[its]) for its, name in found])
-        self.assertEqual(len(found), 4)
+        for name, struct, count in (
+            ("fy_seen", library._Seen, 4),
+            ("fy_reply", library._Reply, 10),
+        ):
+            body = re.search(rf"^typedef struct {name} {{(.*?)^}}", HEADER, re.M | re.S)[1]
+            found = re.findall(r"^    (\w+) (\w+);", body, re.M)
+            self.assertEqual(struct._fields_, [(field, TYPES[its]) for its, field in found])
+            self.assertEqual(len(found), count)
+
+    def test_each_act_by_numbers_has_its_call(self):
+        self.assertEqual(set(library.NUMBERED) | {"kill", "up", "heal"}, set(acts.ACTS))
+        self.assertEqual(set(library.TOLD) - set(library.NUMBERED), set())
 
     def test_each_number_is_the_headers(self):
         statuses = dict(re.findall(r"^    FY_(\w+) = (\d+),", HEADER, re.M))
@@ -95,6 +105,12 @@ class Table(unittest.TestCase):
         defined = dict(re.findall(r"^#define FY_(\w+) (\d+)$", HEADER, re.M))
         self.assertEqual(library.MOST_REPLY, int(defined["MOST_REPLY"]))
         self.assertEqual(library.SET_WORDS, int(defined["SET_WORDS"]))
+        self.assertEqual(library.MOST_PAYLOAD, int(defined["MOST_PAYLOAD"]))
+        everyone = re.search(r"^    FY_EVERYONE = (\d+),", HEADER, re.M)[1]
+        self.assertEqual(library.EVERYONE, int(everyone))
+        kinds = dict(re.findall(r"^#define FY_KINDS_(\w+) (\d+)u", HEADER, re.M))
+        named = {kind.name: str(library.KIND_BITS[kind.value]) for kind in faultyard.Kind}
+        self.assertEqual(kinds, {**named, "ALL": str(sum(library.KIND_BITS.values()))})
         greatest = dict(re.findall(r"^#define FY_(\w+) UINT(\d+)_MAX$", HEADER, re.M))
         self.assertEqual(library.NOBODY, 2 ** int(greatest["NOBODY"]) - 1)
         self.assertEqual(library.NO_SUCH_RECORD, 2 ** int(greatest["NO_SUCH_RECORD"]) - 1)

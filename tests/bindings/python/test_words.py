@@ -23,7 +23,7 @@ def numbers(names):
 class Words(unittest.TestCase):
     def test_each_name_and_its_place_is_the_headers(self):
         self.assertEqual({0: "NONE", **numbers(list(Kind)[:-1])}, numbered("fy_kind"))
-        self.assertEqual(numbers(Key), numbered("fy_key"))
+        self.assertEqual({0: "EVERYONE", **numbers(Key)}, numbered("fy_key"))
         self.assertEqual({0: "NO_RULE", **numbers(Rule)}, numbered("fy_rule"))
         self.assertEqual({0: "NOT_REFUSED", **numbers(Refusal)}, numbered("fy_refusal"))
         parts = {number: f"PART_{name}" for number, name in numbers(Part).items()}

@@ -5,14 +5,16 @@ from __future__ import annotations
 import ctypes as c
 import os
 import weakref
-from typing import Any, Dict, FrozenSet, Iterable, List, Mapping, NamedTuple, Optional, Tuple
+from typing import Any, Callable, Dict, FrozenSet, Iterable, List, Mapping, NamedTuple, Optional
+from typing import Tuple
 
 from .acts import line
 from .enums import Key, Kind, Part, Refusal, Rule
 from .errors import ConfigRefused, FaultyardError, GuardClosed, JournalFull, NotFound
 from .errors import OutOfMemory, ProtocolError
 from .programs import StrPath
-from .replies import Done, Refused, Reply, Verdict, read_entry
+from .replies import Begun, Done, Formed, Marked, Refused, Reply, Ruling, Sent, Stored, Synced
+from .replies import Time, Verdict, read_entry
 from .transport import HEADER, Sight, State, Transport
 
 NAMES = ("libfaultyard.so.1", "libfaultyard.so")
@@ -36,7 +38,24 @@ class _Seen(c.Structure):
     ]
 
 
-_guard, _seen = c.POINTER(_Guard), c.POINTER(_Seen)
+class _Reply(c.Structure):
+    """`fy_reply`."""
+
+    _fields_ = [
+        ("refusal", c.c_uint32),
+        ("rule", c.c_uint32),
+        ("named", c.c_uint64),
+        ("team", c.c_uint32),
+        ("record", c.c_uint32),
+        ("message", c.c_uint64),
+        ("synced", c.c_uint64),
+        ("now", c.c_uint64),
+        ("marked", c.c_uint32),
+        ("acked", c.c_uint32),
+    ]
+
+
+_guard, _seen, _reply = c.POINTER(_Guard), c.POINTER(_Seen), c.POINTER(_Reply)
 _u32, _u32_out = c.c_uint32, c.POINTER(c.c_uint32)
 _u64, _u64_out = c.c_uint64, c.POINTER(c.c_uint64)
 _size, _size_out = c.c_size_t, c.POINTER(c.c_size_t)
@@ -58,6 +77,21 @@ CALLS: Dict[str, Tuple[Any, List[Any]]] = {
     ),
     "fy_up": (_u32, [_guard, _u32, _u32, _u32_out]),
     "fy_heal": (_u32, [_guard, _u32, _u32, _u32_out]),
+    "fy_clog": (_u32, [_guard, _u32, _u32, _bytes, _size, _u64, _reply]),
+    "fy_unclog": (_u32, [_guard, _u32, _u32, _bytes, _size, _reply]),
+    "fy_form": (_u32, [_guard, _u32, _u32_out, _size, _u32, _reply]),
+    "fy_begin": (_u32, [_guard, _u32, _u32, _bytes, _size, _reply]),
+    "fy_deliver": (_u32, [_guard, _u32, _u64, _reply]),
+    "fy_lose": (_u32, [_guard, _u32, _u64, _reply]),
+    "fy_resend": (_u32, [_guard, _u32, _u32, _u32, _reply]),
+    "fy_sync": (_u32, [_guard, _u32, _u32, _reply]),
+    "fy_tick": (_u32, [_guard, _u32, _u64, _reply]),
+    "fy_give": (_u32, [_guard, _u32, _u32, _u32, _u32, _bytes, _size, _reply]),
+    "fy_take": (_u32, [_guard, _u32, _u32, _u32, _reply]),
+    "fy_protect": (_u32, [_guard, _u32, _u32, _u32, _reply]),
+    "fy_unprotect": (_u32, [_guard, _u32, _u32, _u32, _reply]),
+    "fy_copy": (_u32, [_guard, _u32, _u32, _u32, _u32, _reply]),
+    "fy_replace": (_u32, [_guard, _u32, _u32, _u32, _u32, _reply]),
     "fy_act": (_u32, [_guard, _bytes, _size, _bytes, _size, _size_out]),
     "fy_process": (_u32, [_guard, _bytes, _size]),
     "fy_process_count": (_u32, [_guard]),
@@ -81,6 +115,8 @@ CALLS: Dict[str, Tuple[Any, List[Any]]] = {
 MAJOR = 1
 DONE, NO_MEMORY, JOURNAL_FULL, REFUSED, SHORT, UNWRITTEN = range(6)
 MOST_REPLY = 128
+MOST_PAYLOAD = 32_000
+EVERYONE = 0
 SET_WORDS = 16
 NOBODY = 2**32 - 1
 NO_SUCH_RECORD = 2**32 - 1
@@ -99,8 +135,76 @@ CONFIG_FAULTS = {
 PARTS = ["", *(part.value for part in Part)]
 KEYS = {key.value: number for number, key in enumerate(Key, 1)}
 KINDS = {kind.value: number for number, kind in enumerate(Kind, 1)}
+KIND_BITS = {kind.value: 1 << number for number, kind in enumerate(Kind)}
 STRUCK: List[Optional[Kind]] = [None, *Kind]
 RULES: List[Optional[Rule]] = [None, *Rule]
+REFUSALS: List[Optional[Refusal]] = [None, *Refusal]
+
+
+def _target(members: Mapping[str, Any]) -> List[Any]:
+    value = members["value"].encode()
+    return [KEYS[members["key"]], value, len(value)]
+
+
+def _kinds(words: Iterable[str]) -> int:
+    return sum(KIND_BITS[word] for word in words)
+
+
+def _scope(scope: Any) -> List[Any]:
+    return [EVERYONE, b"", 0] if scope == "all" else _target(scope)
+
+
+def _members(numbers: List[int]) -> List[Any]:
+    # An array of no numbers has no place to point to.
+    return [(_u32 * (len(numbers) or 1))(*numbers), len(numbers)]
+
+
+def _payload(digits: str) -> List[Any]:
+    payload = bytes.fromhex(digits)
+    return [payload, len(payload)]
+
+
+NUMBERED: Dict[str, Callable[[Mapping[str, Any]], List[Any]]] = {
+    "clog": lambda act: [*_target(act), act["ticks"]],
+    "unclog": _target,
+    "form": lambda act: [*_members(act["members"]), act["policy"]],
+    "begin": lambda act: [act["team"], *_payload(act["payload"])],
+    "deliver": lambda act: [act["message"]],
+    "lose": lambda act: [act["message"]],
+    "resend": lambda act: [act["record"], act["process"]],
+    "sync": lambda act: [act["process"]],
+    "tick": lambda act: [act["ticks"]],
+    "give": lambda act: [act["actor"], _kinds(act["kinds"]), *_scope(act["scope"])],
+    "take": lambda act: [act["actor"], act["index"]],
+    "protect": lambda act: [act["process"], _kinds(act["kinds"])],
+    "unprotect": lambda act: [act["process"], _kinds(act["kinds"])],
+    "copy": lambda act: [act["from"], act["record"], act["to"]],
+    "replace": lambda act: [act["team"], act["out"], act["into"]],
+}
+"""The acts that a call makes by numbers: what it takes behind the actor."""
+
+
+def _ruling(told: _Reply) -> Ruling:
+    rule = RULES[told.rule]
+    return Ruling(rule, None if rule in (None, Rule.NO_TARGET) else int(told.named))
+
+
+def _delivered(told: _Reply) -> Reply:
+    return Marked(told.acked != 0) if told.marked else Stored()
+
+
+TOLD: Dict[str, Callable[[_Reply], Reply]] = {
+    "clog": _ruling,
+    "unclog": _ruling,
+    "form": lambda told: Formed(int(told.team)),
+    "begin": lambda told: Begun(int(told.record), int(told.message)),
+    "deliver": _delivered,
+    "resend": lambda told: Sent(int(told.message)),
+    "sync": lambda told: Synced(count=int(told.synced), first=int(told.message)),
+    "tick": lambda told: Time(int(told.now)),
+    "copy": lambda told: Sent(int(told.message)),
+}
+"""What each of them tells, where it isn't `Done` alone."""
 
 
 class Version(NamedTuple):
@@ -235,7 +339,10 @@ class Library(Transport):
             return self._kill(by, members)
         if name in ("up", "heal"):
             return self._report(f"fy_{name}", by, members["process"])
-        return read_entry(self.exchange(line(by, name, members))).reply
+        if len(members.get("payload", "")) > 2 * MOST_PAYLOAD:
+            # A line has room for some bytes more than the call takes.
+            return read_entry(self.exchange(line(by, name, members))).reply
+        return self._numbered(by, name, members)
 
     def judge(self, by: int, order: Mapping[str, Any]) -> Reply:
         status, verdict = self._verdict(self._library.fy_judge, by, order)
@@ -353,6 +460,19 @@ class Library(Transport):
         barred = RULES[rule.value]
         number = None if barred in (None, Rule.NO_TARGET) else named.value
         return status, Verdict(STRUCK[struck.value], barred, number)
+
+    def _numbered(self, by: int, name: str, members: Mapping[str, Any]) -> Reply:
+        told = _Reply()
+        numbers = NUMBERED[name](members)
+        status = getattr(self._library, f"fy_{name}")(self._opened(), by, *numbers, told)
+        if status == REFUSED:
+            refusal = REFUSALS[told.refusal]
+            if refusal is None:
+                raise _error(status)
+            is_named = refusal in (Refusal.TEAM_SHORT, Refusal.STILL_NEEDS)
+            return Refused(refusal, int(told.named) if is_named else None)
+        _require(status)
+        return TOLD[name](told) if name in TOLD else Done()
 
     def _report(self, call: str, by: int, process: int) -> Reply:
         status = getattr(self._library, call)(self._opened(), by, process, _u32())

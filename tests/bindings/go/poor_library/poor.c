@@ -91,6 +91,98 @@ uint32_t fy_heal(fy_guard *guard, uint32_t actor, uint32_t process, uint32_t *re
     return fy_up(guard, actor, process, refusal);
 }
 
+static uint32_t no_memory(fy_reply *reply)
+{
+    require_turn();
+    memset(reply, 0, sizeof *reply);
+    return FY_NO_MEMORY;
+}
+
+uint32_t fy_clog(fy_guard *guard, uint32_t actor, uint32_t key, const uint8_t *value,
+                 size_t value_length, uint64_t ticks, fy_reply *reply)
+{
+    return no_memory(reply);
+}
+
+uint32_t fy_unclog(fy_guard *guard, uint32_t actor, uint32_t key, const uint8_t *value,
+                   size_t value_length, fy_reply *reply)
+{
+    return no_memory(reply);
+}
+
+uint32_t fy_form(fy_guard *guard, uint32_t actor, const uint32_t *members, size_t count,
+                 uint32_t policy, fy_reply *reply)
+{
+    return no_memory(reply);
+}
+
+uint32_t fy_begin(fy_guard *guard, uint32_t actor, uint32_t team, const uint8_t *payload,
+                  size_t payload_length, fy_reply *reply)
+{
+    return no_memory(reply);
+}
+
+uint32_t fy_deliver(fy_guard *guard, uint32_t actor, uint64_t message, fy_reply *reply)
+{
+    return no_memory(reply);
+}
+
+uint32_t fy_lose(fy_guard *guard, uint32_t actor, uint64_t message, fy_reply *reply)
+{
+    return no_memory(reply);
+}
+
+uint32_t fy_resend(fy_guard *guard, uint32_t actor, uint32_t record, uint32_t process,
+                   fy_reply *reply)
+{
+    return no_memory(reply);
+}
+
+uint32_t fy_sync(fy_guard *guard, uint32_t actor, uint32_t process, fy_reply *reply)
+{
+    return no_memory(reply);
+}
+
+uint32_t fy_tick(fy_guard *guard, uint32_t actor, uint64_t ticks, fy_reply *reply)
+{
+    return no_memory(reply);
+}
+
+uint32_t fy_give(fy_guard *guard, uint32_t actor, uint32_t to, uint32_t kinds, uint32_t key,
+                 const uint8_t *value, size_t value_length, fy_reply *reply)
+{
+    return no_memory(reply);
+}
+
+uint32_t fy_take(fy_guard *guard, uint32_t actor, uint32_t from, uint32_t index, fy_reply *reply)
+{
+    return no_memory(reply);
+}
+
+uint32_t fy_protect(fy_guard *guard, uint32_t actor, uint32_t process, uint32_t kinds,
+                    fy_reply *reply)
+{
+    return no_memory(reply);
+}
+
+uint32_t fy_unprotect(fy_guard *guard, uint32_t actor, uint32_t process, uint32_t kinds,
+                      fy_reply *reply)
+{
+    return no_memory(reply);
+}
+
+uint32_t fy_copy(fy_guard *guard, uint32_t actor, uint32_t from, uint32_t record, uint32_t to,
+                 fy_reply *reply)
+{
+    return no_memory(reply);
+}
+
+uint32_t fy_replace(fy_guard *guard, uint32_t actor, uint32_t team, uint32_t out, uint32_t into,
+                    fy_reply *reply)
+{
+    return no_memory(reply);
+}
+
 uint32_t fy_act(fy_guard *guard, const uint8_t *line, size_t line_length, uint8_t *buffer,
                 size_t buffer_length, size_t *told)
 {
