@@ -7,8 +7,8 @@ use std::{fmt, io};
 
 /// Why a call failed.
 ///
-/// After [`Refused`](Error::Refused) and [`Unwritten`](Error::Unwritten) the act stands in the
-/// journal. After any other nothing changed.
+/// After [`Refused`](Error::Refused), [`RefusedBy`](Error::RefusedBy) and
+/// [`Unwritten`](Error::Unwritten) the act stands in the journal. After any other nothing changed.
 #[derive(Clone, Copy, Debug, PartialEq, Eq, Hash)]
 #[non_exhaustive]
 pub enum Error {
@@ -18,10 +18,19 @@ pub enum Error {
     JournalFull,
     /// The act is refused.
     Refused(Refusal),
+    /// An act by numbers is refused by a policy or a record.
+    RefusedBy {
+        /// [`Refusal::TeamShort`] or [`Refusal::StillNeeds`].
+        refusal: Refusal,
+        /// The policy that the members don't satisfy, or the record that the process lacks.
+        named: u32,
+    },
     /// The act is made, but its line could not be written. No test has met it.
     Unwritten,
     /// The journal has no entry at this place.
     NoEntry,
+    /// The members don't rise or are more than 1024, or the payload has more than 32,000 bytes.
+    Argument,
     /// The value of the target is no name: 1 to 32 of `A-Z a-z 0-9 _ -`, the first not `-`.
     Name,
     /// The floor of the kill is above its kind.
@@ -126,12 +135,13 @@ impl Error {
             2 => Error::JournalFull,
             5 => Error::Unwritten,
             6 => Error::NoEntry,
+            7 => Error::Argument,
             8 => Error::Name,
             9 => Error::Floor,
             10 => Error::LineTooLong,
             11 => Error::LineSyntax,
-            // ConfigFault::of has those of a cluster file. No call of this crate meets FY_SHORT,
-            // FY_ARGUMENT or FY_CLOSED.
+            // ConfigFault::of has those of a cluster file. No call of this crate meets FY_SHORT or
+            // FY_CLOSED.
             _ => Error::Protocol("a status"),
         }
     }
@@ -156,14 +166,29 @@ pub(crate) fn accepted(status: u32, refusal: u32) -> Result<(), Error> {
     }
 }
 
+/// The same, of a call that also tells what its refusal names.
+pub(crate) fn refused_by(status: u32, refusal: u32, named: u64) -> Result<(), Error> {
+    match accepted(status, refusal) {
+        Err(Error::Refused(refusal @ (Refusal::TeamShort | Refusal::StillNeeds))) => {
+            let named = u32::try_from(named).map_err(|_| Error::Protocol("a number"))?;
+            Err(Error::RefusedBy { refusal, named })
+        }
+        answer => answer,
+    }
+}
+
 impl fmt::Display for Error {
     fn fmt(&self, f: &mut fmt::Formatter<'_>) -> fmt::Result {
         match self {
             Error::NoMemory => write!(f, "there was no memory"),
             Error::JournalFull => write!(f, "the journal is full: see journal_limit"),
             Error::Refused(refusal) => write!(f, "the act is refused: {refusal}"),
+            Error::RefusedBy { refusal, named } => {
+                write!(f, "the act is refused: {refusal} {named}")
+            }
             Error::Unwritten => write!(f, "the act is made, but its line could not be written"),
             Error::NoEntry => write!(f, "the journal has no entry at this place"),
+            Error::Argument => write!(f, "members don't rise, or a payload is too long"),
             Error::Name => write!(f, "the value of the target is no name"),
             Error::Floor => write!(f, "the floor of the kill is above its kind"),
             Error::LineTooLong => write!(f, "the line has more than 65,536 bytes"),
@@ -228,7 +253,7 @@ mod tests {
     fn statuses_that_no_call_meets() {
         assert_eq!(done(5), Err(Error::Unwritten));
         let unknown = Err(Error::Protocol("a status"));
-        for status in [4, 7, 19, u32::MAX] {
+        for status in [4, 19, u32::MAX] {
             assert_eq!(done(status), unknown);
         }
         assert_eq!(done(3), unknown);
@@ -242,6 +267,21 @@ mod tests {
         }
         assert_eq!(accepted(0, 0), Ok(()));
         assert_eq!(accepted(2, 0), Err(Error::JournalFull));
+    }
+
+    #[test]
+    fn a_refusal_with_what_it_names() {
+        let by = |refusal, named| Err(Error::RefusedBy { refusal, named });
+        assert_eq!(refused_by(3, 7, 5), by(Refusal::TeamShort, 5));
+        assert_eq!(refused_by(3, 25, 0), by(Refusal::StillNeeds, 0));
+        assert_eq!(refused_by(3, 6, 0), Err(Error::Refused(Refusal::Gone)));
+        assert_eq!(refused_by(3, 7, 1 << 32), Err(Error::Protocol("a number")));
+        assert_eq!(refused_by(0, 0, 0), Ok(()));
+        let told = Error::RefusedBy {
+            refusal: Refusal::TeamShort,
+            named: 5,
+        };
+        assert_eq!(told.to_string(), "the act is refused: TeamShort 5");
     }
 
     #[test]

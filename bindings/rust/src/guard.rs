@@ -412,6 +412,13 @@ fn text(bytes: Vec<u8>) -> Result<String, Error> {
     String::from_utf8(bytes).map_err(|_| Error::Protocol("a line that is no text"))
 }
 
+impl Guard {
+    /// The open guard, for the calls of acts.rs: by `&mut self` no other call is made meanwhile.
+    pub(crate) fn raw(&mut self) -> &mut FyGuard {
+        &mut self.raw
+    }
+}
+
 impl Drop for Guard {
     fn drop(&mut self) {
         let open = FyGuard { at: self.raw.at };

@@ -91,6 +91,7 @@
 #![deny(unsafe_op_in_unsafe_fn)]
 #![deny(clippy::undocumented_unsafe_blocks)]
 
+mod acts;
 mod error;
 mod guard;
 mod set;
@@ -101,6 +102,7 @@ mod verdict;
 mod version;
 mod words;
 
+pub use acts::{Begun, Delivered, Kinds, Scope, Synced};
 pub use error::{ConfigFault, Error};
 pub use guard::{Guard, AUDIT_HEADER};
 pub use set::ProcessSet;

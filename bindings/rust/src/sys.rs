@@ -2,7 +2,7 @@
 //!
 //! Every pointer is non-null, also where a length is 0, and a guard is open but for `fy_open`.
 //!
-//! A new call of the header is declared here, and made in guard.rs.
+//! A new call of the header is declared here, and made in guard.rs or acts.rs.
 
 use std::ffi::c_void;
 
@@ -19,6 +19,22 @@ pub struct FySeen {
     pub deliverable: u64,
     pub unsynced: u32,
     pub sleeping: u32,
+}
+
+/// `fy_reply`.
+#[repr(C)]
+#[derive(Default)]
+pub struct FyReply {
+    pub refusal: u32,
+    pub rule: u32,
+    pub named: u64,
+    pub team: u32,
+    pub record: u32,
+    pub message: u64,
+    pub synced: u64,
+    pub now: u64,
+    pub marked: u32,
+    pub acked: u32,
 }
 
 /// `FY_SHORT`.
@@ -41,6 +57,20 @@ pub const STATE_CLOGGED: u32 = 2;
 pub const STATE_DESTROYED: u32 = 4;
 /// `FY_STATE_GONE`.
 pub const STATE_GONE: u32 = 8;
+/// `FY_EVERYONE`.
+pub const EVERYONE: u32 = 0;
+/// `FY_KINDS_REBOOT_PROCESS`.
+pub const KINDS_REBOOT_PROCESS: u32 = 1;
+/// `FY_KINDS_REBOOT`.
+pub const KINDS_REBOOT: u32 = 2;
+/// `FY_KINDS_REBOOT_AND_DELETE`.
+pub const KINDS_REBOOT_AND_DELETE: u32 = 4;
+/// `FY_KINDS_KILL_INSTANTLY`.
+pub const KINDS_KILL_INSTANTLY: u32 = 8;
+/// `FY_KINDS_CLOG`.
+pub const KINDS_CLOG: u32 = 16;
+/// `FY_KINDS_ALL`.
+pub const KINDS_ALL: u32 = 31;
 
 extern "C" {
     pub fn fy_version() -> u32;
@@ -80,6 +110,97 @@ extern "C" {
     ) -> u32;
     pub fn fy_up(guard: *mut FyGuard, actor: u32, process: u32, refusal: *mut u32) -> u32;
     pub fn fy_heal(guard: *mut FyGuard, actor: u32, process: u32, refusal: *mut u32) -> u32;
+    pub fn fy_clog(
+        guard: *mut FyGuard,
+        actor: u32,
+        key: u32,
+        value: *const u8,
+        value_length: usize,
+        ticks: u64,
+        reply: *mut FyReply,
+    ) -> u32;
+    pub fn fy_unclog(
+        guard: *mut FyGuard,
+        actor: u32,
+        key: u32,
+        value: *const u8,
+        value_length: usize,
+        reply: *mut FyReply,
+    ) -> u32;
+    pub fn fy_form(
+        guard: *mut FyGuard,
+        actor: u32,
+        members: *const u32,
+        count: usize,
+        policy: u32,
+        reply: *mut FyReply,
+    ) -> u32;
+    pub fn fy_begin(
+        guard: *mut FyGuard,
+        actor: u32,
+        team: u32,
+        payload: *const u8,
+        payload_length: usize,
+        reply: *mut FyReply,
+    ) -> u32;
+    pub fn fy_deliver(guard: *mut FyGuard, actor: u32, message: u64, reply: *mut FyReply) -> u32;
+    pub fn fy_lose(guard: *mut FyGuard, actor: u32, message: u64, reply: *mut FyReply) -> u32;
+    pub fn fy_resend(
+        guard: *mut FyGuard,
+        actor: u32,
+        record: u32,
+        process: u32,
+        reply: *mut FyReply,
+    ) -> u32;
+    pub fn fy_sync(guard: *mut FyGuard, actor: u32, process: u32, reply: *mut FyReply) -> u32;
+    pub fn fy_tick(guard: *mut FyGuard, actor: u32, ticks: u64, reply: *mut FyReply) -> u32;
+    pub fn fy_give(
+        guard: *mut FyGuard,
+        actor: u32,
+        to: u32,
+        kinds: u32,
+        key: u32,
+        value: *const u8,
+        value_length: usize,
+        reply: *mut FyReply,
+    ) -> u32;
+    pub fn fy_take(
+        guard: *mut FyGuard,
+        actor: u32,
+        from: u32,
+        index: u32,
+        reply: *mut FyReply,
+    ) -> u32;
+    pub fn fy_protect(
+        guard: *mut FyGuard,
+        actor: u32,
+        process: u32,
+        kinds: u32,
+        reply: *mut FyReply,
+    ) -> u32;
+    pub fn fy_unprotect(
+        guard: *mut FyGuard,
+        actor: u32,
+        process: u32,
+        kinds: u32,
+        reply: *mut FyReply,
+    ) -> u32;
+    pub fn fy_copy(
+        guard: *mut FyGuard,
+        actor: u32,
+        from: u32,
+        record: u32,
+        to: u32,
+        reply: *mut FyReply,
+    ) -> u32;
+    pub fn fy_replace(
+        guard: *mut FyGuard,
+        actor: u32,
+        team: u32,
+        out: u32,
+        into: u32,
+        reply: *mut FyReply,
+    ) -> u32;
     pub fn fy_act(
         guard: *mut FyGuard,
         line: *const u8,

@@ -62,7 +62,7 @@ pub enum Rule {
 }
 
 impl Rule {
-    fn of(rule: u32, named: u64) -> Result<Option<Rule>, Error> {
+    pub(crate) fn of(rule: u32, named: u64) -> Result<Option<Rule>, Error> {
         let number = u32::try_from(named).map_err(|_| Error::Protocol("a number"))?;
         match rule {
             0 => Ok(None),

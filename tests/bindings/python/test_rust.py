@@ -11,6 +11,7 @@ from pathlib import Path
 
 import common
 import faultyard
+import played
 from native import run
 
 HEADER = (common.ROOT / "include/faultyard.h").read_text()
@@ -28,12 +29,14 @@ TYPES = {
     "uint8_t *": "*mut u8",
     "const uint8_t *": "*const u8",
     "fy_seen *": "*mut FySeen",
+    "fy_reply *": "*mut FyReply",
+    "const uint32_t *": "*const u32",
     "fy_guard": "FyGuard",
     "fy_guard *": "*mut FyGuard",
     "const fy_guard *": "*const FyGuard",
 }
 # Statuses that no error of the crate tells; `accepted` tells REFUSED with its refusal.
-UNTOLD = {"Done": 0, "Refused": 3, "Short": 4, "Argument": 7, "Closed": 19}
+UNTOLD = {"Done": 0, "Refused": 3, "Short": 4, "Closed": 19}
 # Seeds in which the simulator has to find something.
 SEEDS = 60
 
@@ -102,18 +105,21 @@ class Table(unittest.TestCase):
     def test_each_constant_is_the_headers(self):
         wanted = dict(re.findall(r"^#define FY_(\w+) (\w+?)u?(?: +/\*.*)?$", HEADER, re.M))
         wanted["SHORT"] = str(header_numbers("fy_status")["Short"])
+        wanted["EVERYONE"] = str(header_numbers("fy_key")["Everyone"])
         greatest = {"u32::MAX": "UINT32_MAX", "u64::MAX": "UINT64_MAX"}
         found = re.findall(r"^pub const (\w+): \w+ = (.*);$", source("sys.rs"), re.M)
         told = [(name, greatest.get(value, value)) for name, value in found]
         self.assertEqual(told, [(name, wanted[name]) for name, _ in found])
-        self.assertEqual(len(found), 10)
+        self.assertEqual(len(found), 17)
 
     def test_each_field_is_the_headers(self):
-        body = re.search(r"^typedef struct fy_seen {(.*?)^}", HEADER, re.M | re.S)[1]
-        wanted = [(name, TYPES[its]) for its, name in re.findall(r"^    (\w+) (\w+);", body, re.M)]
-        body = re.search(r"^pub struct FySeen {(.*?)^}", source("sys.rs"), re.M | re.S)[1]
-        self.assertEqual(re.findall(r"^    pub (\w+): (\w+),$", body, re.M), wanted)
-        self.assertEqual(len(wanted), 4)
+        for struct, its, count in (("fy_seen", "FySeen", 4), ("fy_reply", "FyReply", 10)):
+            body = re.search(rf"^typedef struct {struct} {{(.*?)^}}", HEADER, re.M | re.S)[1]
+            fields = re.findall(r"^    (\w+) (\w+);", body, re.M)
+            wanted = [(name, TYPES[kind]) for kind, name in fields]
+            body = re.search(rf"^pub struct {its} {{(.*?)^}}", source("sys.rs"), re.M | re.S)[1]
+            self.assertEqual(re.findall(r"^    pub (\w+): (\w+),$", body, re.M), wanted)
+            self.assertEqual(len(wanted), count)
 
     def test_each_status_is_the_headers(self):
         found = re.findall(r"^ +(\d+) => Error::(\w+),$", source("error.rs"), re.M)
@@ -181,8 +187,8 @@ class Crate(Cargo):
     def test_its_own_tests(self):
         ran = self.cargo("test")
         counts = re.findall(r"^test result: ok\. (\d+) passed; 0 failed", ran.stdout, re.M)
-        # The unit tests, three files of tests, and the examples of the pages.
-        self.assertEqual(sum(int(it) > 0 for it in counts), 5, ran.stdout)
+        # The unit tests, four files of tests, and the examples of the pages.
+        self.assertEqual(sum(int(it) > 0 for it in counts), 6, ran.stdout)
         refused = re.findall(r"^test .* - compile fail \.\.\. ok$", ran.stdout, re.M)
         self.assertEqual(len(refused), 3, ran.stdout)
 
@@ -300,14 +306,8 @@ class Played(Cargo):
 
 
 def asked(at, by, act):
-    """A line for the player: every other act for which the binding has a call is made by it."""
-    ((name, members),) = act.items()
-    if at % 2 == 0 and name == "kill":
-        words = [members[it] for it in ("key", "value", "kind", "floor", "tear")]
-        return "\t".join(map(str, (name, by, *words))) + "\n"
-    if at % 2 == 0 and name in ("up", "heal"):
-        return f"{name}\t{by}\t{members['process']}\n"
-    return json.dumps({"by": by, "act": act}) + "\n"
+    """A line for the player: every other act is made by the binding's call for it."""
+    return played.typed(by, act) if at % 2 == 0 else json.dumps({"by": by, "act": act}) + "\n"
 
 
 class Simulator(Cargo):

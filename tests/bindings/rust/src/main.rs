@@ -6,10 +6,10 @@
 //!     play shared CONFIG < ACTS    on one guard behind a mutex, by eight threads in any order
 //!     play refused CONFIG ..       tells on a line why each cluster file is refused
 //!
-//! A line of ACTS is a line of a script, or `kill`, `up` or `heal` with its numbers behind tabs. Each
-//! answer is held against its entry in the journal.
+//! A line of ACTS is a line of a script, or the name of an act with its numbers behind tabs, as
+//! tests/bindings/python/played.py says. Each answer is held against its entry in the journal.
 
-use faultyard::{Error, Guard, Key, Kind, Verdict};
+use faultyard::{Delivered, Error, Guard, Key, Kind, Kinds, Rule, Scope, Verdict};
 use std::io::Read;
 use std::sync::Mutex;
 use std::{env, fs, io, thread};
@@ -41,6 +41,8 @@ enum Asked {
     Kill(u32, Order),
     Up(u32, u32),
     Heal(u32, u32),
+    /// Any other act by numbers: its words.
+    Numbered(Vec<String>),
     Line(String),
 }
 
@@ -61,8 +63,96 @@ fn asked(line: &str) -> Asked {
         }
         "up" => Asked::Up(number(1), number(2)),
         "heal" => Asked::Heal(number(1), number(2)),
+        _ if words.len() > 1 => Asked::Numbered(words.into_iter().map(str::to_owned).collect()),
         _ => Asked::Line(line.to_owned()),
     }
+}
+
+/// The kinds of these bits.
+fn kinds(word: &str) -> Kinds {
+    let bits: u32 = word.parse().expect("bits");
+    let each = [
+        Kinds::REBOOT_PROCESS,
+        Kinds::REBOOT,
+        Kinds::REBOOT_AND_DELETE,
+        Kinds::KILL_INSTANTLY,
+        Kinds::CLOG,
+    ];
+    (0..)
+        .zip(each)
+        .filter(|(at, _)| bits >> at & 1 == 1)
+        .fold(Kinds::NONE, |set, (_, kind)| set | kind)
+}
+
+/// The bytes of two digits each.
+fn bytes(word: &str) -> Vec<u8> {
+    let byte = |at| u8::from_str_radix(&word[at..at + 2], 16).expect("two digits");
+    (0..word.len()).step_by(2).map(byte).collect()
+}
+
+/// Makes an act by numbers, and answers what an entry has as its reply.
+fn numbered(guard: &mut Guard, words: &[String]) -> Result<String, Error> {
+    let word = |at: usize| words[at].as_str();
+    let number = |at: usize| word(at).parse::<u32>().expect("a number");
+    let large = |at: usize| word(at).parse::<u64>().expect("64 bits");
+    let key = |at: usize| Key::from_word(word(at)).expect("a key");
+    let by = number(1);
+    let done = |()| "\"done\"".to_owned();
+    match word(0) {
+        "clog" => guard.clog(by, key(2), word(3), large(4)).map(ruled),
+        "unclog" => guard.unclog(by, key(2), word(3)).map(ruled),
+        "form" => {
+            let members = word(2).split(',').filter(|it| !it.is_empty());
+            let members: Vec<u32> = members.map(|it| it.parse().expect("a number")).collect();
+            let team = guard.form(by, &members, number(3))?;
+            Ok(format!("{{\"formed\":{team}}}"))
+        }
+        "begin" => {
+            let begun = guard.begin(by, number(2), bytes(word(3)))?;
+            let (record, first) = (begun.record, begun.first);
+            Ok(format!(
+                "{{\"begun\":{{\"first\":{first},\"record\":{record}}}}}"
+            ))
+        }
+        "deliver" => Ok(match guard.deliver(by, large(2))? {
+            Delivered::Stored => "\"stored\"".to_owned(),
+            Delivered::Marked { acked } => format!("{{\"marked\":{acked}}}"),
+        }),
+        "lose" => guard.lose(by, large(2)).map(done),
+        "resend" => guard.resend(by, number(2), number(3)).map(sent),
+        "sync" => {
+            let synced = guard.sync(by, number(2))?;
+            let (count, first) = (synced.count, synced.first);
+            Ok(format!(
+                "{{\"synced\":{{\"count\":{count},\"first\":{first}}}}}"
+            ))
+        }
+        "tick" => {
+            let now = guard.tick(by, large(2))?;
+            Ok(format!("{{\"time\":{now}}}"))
+        }
+        "give" => {
+            let scope = match word(4) {
+                "-" => Scope::All,
+                _ => Scope::Where(key(4), word(5)),
+            };
+            guard.give(by, number(2), kinds(word(3)), scope).map(done)
+        }
+        "take" => guard.take(by, number(2), number(3)).map(done),
+        "protect" => guard.protect(by, number(2), kinds(word(3))).map(done),
+        "unprotect" => guard.unprotect(by, number(2), kinds(word(3))).map(done),
+        "copy" => guard.copy(by, number(2), number(3), number(4)).map(sent),
+        "replace" => guard.replace(by, number(2), number(3), number(4)).map(done),
+        other => panic!("there is no act {other}"),
+    }
+}
+
+fn ruled(rule: Option<Rule>) -> String {
+    format!("{{\"ruled\":{}}}", rule_text(rule))
+}
+
+fn sent(message: u64) -> String {
+    format!("{{\"sent\":{message}}}")
 }
 
 /// Makes an act, and holds what the guard answers against the entry.
@@ -71,6 +161,7 @@ fn play(guard: &mut Guard, asked: &Asked) {
         Asked::Kill(actor, order) => reply_of_kill(order.give(guard, *actor)),
         Asked::Up(actor, process) => reply_of_report(guard.up(*actor, *process)),
         Asked::Heal(actor, process) => reply_of_report(guard.heal(*actor, *process)),
+        Asked::Numbered(words) => numbered(guard, words).map_or_else(refusal, whole),
         Asked::Line(line) => {
             let entry = guard.act(line).expect(line);
             assert_eq!(entry, last(guard));
@@ -92,16 +183,28 @@ fn reply_of_kill(answer: Result<Verdict, Error>) -> String {
         Ok(verdict) => verdict,
         Err(error) => return refusal(error),
     };
-    let rule = match verdict.rule.map(|rule| (rule.word(), rule.named())) {
-        None => "null".to_owned(),
-        Some((word, None)) => format!("[\"{word}\"]"),
-        Some((word, Some(number))) => format!("[\"{word}\",{number}]"),
-    };
+    let rule = rule_text(verdict.rule);
     let struck = match verdict.struck {
         None => "null".to_owned(),
         Some(kind) => format!("\"{kind}\""),
     };
-    format!("{{\"verdict\":{{\"rule\":{rule},\"struck\":{struck}}}}}}}\n")
+    whole(format!(
+        "{{\"verdict\":{{\"rule\":{rule},\"struck\":{struck}}}}}"
+    ))
+}
+
+/// A reply with the end of its entry.
+fn whole(reply: String) -> String {
+    reply + "}\n"
+}
+
+/// What an entry has for a rule.
+fn rule_text(rule: Option<Rule>) -> String {
+    match rule.map(|rule| (rule.word(), rule.named())) {
+        None => "null".to_owned(),
+        Some((word, None)) => format!("[\"{word}\"]"),
+        Some((word, Some(number))) => format!("[\"{word}\",{number}]"),
+    }
 }
 
 fn reply_of_report(answer: Result<(), Error>) -> String {
@@ -115,6 +218,7 @@ fn reply_of_report(answer: Result<(), Error>) -> String {
 fn refusal(error: Error) -> String {
     match error {
         Error::Refused(refusal) => format!("{{\"no\":[\"{refusal}\""),
+        Error::RefusedBy { refusal, named } => whole(format!("{{\"no\":[\"{refusal}\",{named}]}}")),
         other => panic!("{other}"),
     }
 }
