@@ -26,7 +26,8 @@ const (
 	ErrUnwritten Status = C.FY_UNWRITTEN
 	// ErrNoEntry is: the journal has no entry at this place.
 	ErrNoEntry Status = C.FY_NO_ENTRY
-	// ErrArgument is: there is no such key, kind or floor.
+	// ErrArgument is: there is no such key, kind or floor, the members don't rise or are too many,
+	// or the payload is too long.
 	ErrArgument Status = C.FY_ARGUMENT
 	// ErrName is: the value of the target is no name.
 	ErrName Status = C.FY_NAME
@@ -64,7 +65,7 @@ var statusTexts = []string{
 	ErrRefused:       "the act is refused",
 	ErrUnwritten:     "the act is made, but its line could not be written",
 	ErrNoEntry:       "the journal has no entry at this place",
-	ErrArgument:      "there is no such key, kind or floor",
+	ErrArgument:      "there is no such key, kind or floor, members don't rise, or a payload is too long",
 	ErrName:          "the value of the target is no name",
 	ErrFloor:         "the floor of the kill is above its kind",
 	ErrLineTooLong:   "the line has more than 65,536 bytes",

@@ -10,6 +10,8 @@ type Key uint32
 
 // The keys.
 const (
+	// Everyone is no part: every process, in a Scope. No order may be of it.
+	Everyone   Key = C.FY_EVERYONE
 	Process    Key = C.FY_PROCESS
 	Machine    Key = C.FY_MACHINE
 	Zone       Key = C.FY_ZONE

@@ -64,8 +64,17 @@ class Sources(unittest.TestCase):
 
     def test_each_call_is_made(self):
         declared = re.findall(r"^\w+ (fy_\w+)\(", C_HEADER.read_text(), re.M)
-        made = re.findall(r"\bC\.(fy_\w+)\(", (PACKAGE / "guard.go").read_text())
-        self.assertEqual(set(made), set(declared))
+        text = "".join((PACKAGE / it).read_text() for it in ("guard.go", "acts.go"))
+        self.assertEqual(set(re.findall(r"\bC\.(fy_\w+)\(", text)), set(declared))
+
+    def test_each_kind_of_a_set_is_the_c_headers(self):
+        text = (PACKAGE / "acts.go").read_text()
+        found = re.findall(r"^\t(Kinds\w+) +Kinds = C\.(FY_\w+)$", text, re.M)
+        wanted = re.findall(r"^#define (FY_KINDS_\w+) \d+u\b", C_HEADER.read_text(), re.M)
+        self.assertEqual([constant for _, constant in found], wanted)
+        for name, constant in found:
+            spelled = re.sub(r"(?<=.)([A-Z])", r"_\1", name).upper()
+            self.assertEqual(f"FY_{spelled}", constant)
 
     def test_each_word_is_that_of_audits_and_fault_lines(self):
         words, errors = ((PACKAGE / it).read_text() for it in ("words.go", "errors.go"))
@@ -89,7 +98,8 @@ class Go(common.Folder, unittest.TestCase):
     def test_the_tests_of_the_package_under_the_race_detector(self):
         audit = Path(self.folder, "audit")
         told = go("test", "-race", "-count=1", "-v", ".", FAULTYARD_SHARED_AUDIT=str(audit))
-        wanted = re.findall(r"^func (Test\w+)\(", (TESTS / "guard_test.go").read_text(), re.M)
+        tests = "".join((TESTS / f"{it}_test.go").read_text() for it in ("guard", "numbered"))
+        wanted = re.findall(r"^func (Test\w+)\(", tests, re.M)
         self.assertEqual(re.findall(r"^--- PASS: (\w+) ", told, re.M), wanted)
         self.assertNotIn("--- SKIP", told)
         config = common.six_with(self.folder, 100_000)
@@ -120,10 +130,11 @@ class Go(common.Folder, unittest.TestCase):
         poor_library(library)
         told = run(program, env={**ENVIRONMENT, "LD_LIBRARY_PATH": self.folder})
         calls = ("Open", "Open, to say where the fault is")
-        calls += ("Kill", "Reset", "Up", "Heal", "Act", "Entry", "Audit")
+        calls += ("Kill", "Reset", "Up", "Heal", "Form", "Take", "Act", "Entry", "Audit")
         wanted = dict.fromkeys(calls, "faultyard: there was no memory")
         wanted["Act"] = "faultyard: the act is made, but its line could not be written"
-        no_key = "faultyard: there is no such key, kind or floor"
+        no_key = "faultyard: there is no such key, kind or floor, members don't rise, "
+        no_key += "or a payload is too long"
         wanted |= dict.fromkeys(["Judge", "Targets"], no_key)
         asked = ["IsDestroyed", "Left", "UpSet", "State", "Needed", "Destroyed", "Gone"]
         asked += ["Process", "ProcessCount", "IsAcked", "Keeper", "Sight", "Close"]

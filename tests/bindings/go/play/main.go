@@ -8,6 +8,7 @@ package main
 import (
 	"bufio"
 	"bytes"
+	"encoding/hex"
 	"errors"
 	"fmt"
 	"io"
@@ -48,7 +49,10 @@ func play(guard *faultyard.Guard, acts io.Reader, answers io.Writer) error {
 	for lines.Scan() {
 		answer, err := answered(guard, lines.Text())
 		var refusal faultyard.Refusal
-		if errors.As(err, &refusal) {
+		var refused faultyard.Refused
+		if errors.As(err, &refused) {
+			answer = fmt.Sprintf("refused %s %d", refused.Refusal.String(), refused.Named)
+		} else if errors.As(err, &refusal) {
 			answer = "refused " + refusal.String()
 		} else if err != nil {
 			return err
@@ -81,8 +85,84 @@ func answered(guard *faultyard.Guard, line string) (string, error) {
 		return "done", guard.Up(actor, number(words[1]))
 	case "heal":
 		return "done", guard.Heal(actor, number(words[1]))
+	case "clog":
+		ruling, err := guard.Clog(actor, keys[words[1]], words[2], large(words[3]))
+		return ruled(ruling), err
+	case "unclog":
+		ruling, err := guard.Unclog(actor, keys[words[1]], words[2])
+		return ruled(ruling), err
+	case "give", "take", "protect", "unprotect":
+		return "done", allow(guard, name, actor, words[1:])
+	}
+	return stored(guard, name, actor, words[1:])
+}
+
+// stored makes an act of a storage actor by numbers, and answers what its call did.
+func stored(
+	guard *faultyard.Guard, name string, actor uint32, words []string,
+) (string, error) {
+	switch name {
+	case "form":
+		team, err := guard.Form(actor, numbers(words[0]), number(words[1]))
+		return fmt.Sprintf("formed %d", team), err
+	case "begin":
+		payload, err := hex.DecodeString(words[1])
+		must(err)
+		begun, err := guard.Begin(actor, number(words[0]), payload)
+		return fmt.Sprintf("begun %d %d", begun.Record, begun.First), err
+	case "deliver":
+		delivered, err := guard.Deliver(actor, large(words[0]))
+		if !delivered.Marked {
+			return "stored", err
+		}
+		return fmt.Sprintf("marked %v", delivered.Acked), err
+	case "lose":
+		return "done", guard.Lose(actor, large(words[0]))
+	case "resend":
+		message, err := guard.Resend(actor, number(words[0]), number(words[1]))
+		return fmt.Sprintf("sent %d", message), err
+	case "sync":
+		synced, err := guard.Sync(actor, number(words[0]))
+		return fmt.Sprintf("synced %d %d", synced.Count, synced.First), err
+	case "tick":
+		now, err := guard.Tick(actor, large(words[0]))
+		return fmt.Sprintf("time %d", now), err
+	case "copy":
+		message, err := guard.Copy(actor, number(words[0]), number(words[1]), number(words[2]))
+		return fmt.Sprintf("sent %d", message), err
+	case "replace":
+		return "done", guard.Replace(actor, number(words[0]), number(words[1]), number(words[2]))
 	}
 	return "", fmt.Errorf("there is no act %s", name)
+}
+
+// allow makes an act on rights by numbers.
+func allow(guard *faultyard.Guard, name string, actor uint32, words []string) error {
+	whom, second := number(words[0]), number(words[1])
+	switch name {
+	case "take":
+		return guard.Take(actor, whom, second)
+	case "protect":
+		return guard.Protect(actor, whom, faultyard.Kinds(second))
+	case "unprotect":
+		return guard.Unprotect(actor, whom, faultyard.Kinds(second))
+	}
+	scope := faultyard.Scope{Key: faultyard.Everyone}
+	if words[2] != "-" {
+		scope = faultyard.Scope{Key: keys[words[2]], Value: words[3]}
+	}
+	return guard.Give(actor, whom, faultyard.Kinds(second), scope)
+}
+
+// ruled tells a ruling.
+func ruled(ruling faultyard.Ruling) string {
+	switch ruling.Rule {
+	case faultyard.NoRule:
+		return "ruled - -"
+	case faultyard.NoTarget:
+		return "ruled NoTarget -"
+	}
+	return fmt.Sprintf("ruled %v %d", ruling.Rule, ruling.Named)
 }
 
 func killed(guard *faultyard.Guard, actor uint32, words []string) (string, error) {
@@ -146,6 +226,23 @@ var kinds = map[string]faultyard.Kind{
 	"Reboot":          faultyard.Reboot,
 	"RebootAndDelete": faultyard.RebootAndDelete,
 	"KillInstantly":   faultyard.KillInstantly,
+}
+
+// numbers are those that commas part.
+func numbers(words string) []uint32 {
+	var found []uint32
+	for _, word := range strings.Split(words, ",") {
+		if word != "" {
+			found = append(found, number(word))
+		}
+	}
+	return found
+}
+
+func large(word string) uint64 {
+	found, err := strconv.ParseUint(word, 10, 64)
+	must(err)
+	return found
 }
 
 func number(word string) uint32 {
