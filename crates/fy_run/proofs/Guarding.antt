@@ -1,5 +1,5 @@
 -- the lines of a script that is still being written, and what was answered to them
-use Rattle.std.proofs.Common.{arith, Bool, true, ◌&&◌, nat_le, ◌≡◌, ◌∙◌, ◌≤◌, ◌+◌, ℕ, List, [], ◌∷◌, ◌++◌, map, length, refl, sym, ap, ap₂, subst, suc, ◌-◌, length-append, slice_get, append_assoc, append-nil, Option, Some, None}
+use Rattle.std.proofs.Common.{arith, Bool, true, ◌&&◌, nat_le, ◌≡◌, ◌∙◌, ◌≤◌, ◌+◌, ℕ, List, [], ◌∷◌, ◌++◌, map, length, refl, sym, ap, subst, suc, append_assoc, append-nil, Option, Some, None}
 use Rattle.std.proofs.lemmas.Bool.{and_parts}
 use Rattle.std.proofs.lemmas.Bool.Decides.{nat_tests}
 use Rattle.std.specs.Prelude.{IfSome, Result, Ok, Err}
@@ -179,22 +179,6 @@ in_turn {setup} Reads (Some bytes) {left} {next} {before} {out} {execution} P ha
       answered = answered_by setup front commands execution each same has.legal;
       out = holds;
     }
-
-slice_get_last : (xs : List Entry) (x : Entry) → slice_get (xs ++ x ∷ []) (length xs) ≡ Some x
-slice_get_last [] x = refl
-slice_get_last (y ∷ ys) x = slice_get_last ys x
-
-same_some : (x y : Entry) → Some x ≡ Some y → x ≡ y
-same_some x y is = cc
-
--- the last entry of a journal with one entry more
-pub last_is : (entries journal : List Entry) (e entry : Entry) → entries ≡ journal ++ e ∷ [] →
-    Some entry ≡ slice_get entries (length entries - 1) → entry ≡ e
-last_is entries journal e entry is found =
-    let longer : length entries ≡ length journal + 1 =
-    ap length is ∙ length-append journal (e ∷ []) in
-    let count : length entries - 1 ≡ length journal = omega (arith, longer) in
-    same_some entry e (found ∙ ap₂ slice_get is count ∙ slice_get_last journal e)
 
 -- ---- how long all of it is
 

@@ -14,7 +14,7 @@ ghost use Rattle.fy_run.specs.RunTexts.{IfRunRefusal};
 ghost use Rattle.fy_engine.specs.Stops.{command_stop, IsRunStop};
 
 use fy_audit::{Command, LineFault, MOST_LINE_BYTES, ScriptFault, Version};
-use fy_cluster::{Cluster, Config, Fault};
+use fy_cluster::{ClusterState, Config, Fault};
 use fy_engine::{Stop, header_text, push_entry_line};
 use fy_lines::{InputFault, next_line, write_bytes};
 use fy_spelling::{CommandFault, read_command};
@@ -77,7 +77,7 @@ fn next_command<R: BufRead>(
 /// written then. `Write` where the writer fails or takes no byte: a front of the line is out, and
 /// never all of it.
 fn answer<W: Write>(
-    cluster: &mut Cluster,
+    cluster: &mut ClusterState,
     command: Command,
     text: &mut Vec<u8>,
     writer: &mut W,
@@ -91,16 +91,13 @@ fn answer<W: Write>(
         (W.contents writer.old) (W.contents writer.new)) }
 {
     let (by, act) = command.into_parts();
-    match cluster.apply(by, act) {
-        Ok(_) => {}
+    let entry = match cluster.enter(by, act) {
+        Ok(entry) => entry,
         Err(Fault::JournalFull) => return Err(Stop::JournalFull),
         Err(Fault::NoMemory) => return Err(Stop::NoMemory),
-    }
-    let Some(entry) = cluster.journal().entries().last() else {
-        unreachable!();
     };
     text.clear();
-    let Ok(()) = push_entry_line(text, entry) else {
+    let Ok(()) = push_entry_line(text, &entry) else {
         return Err(Stop::NoMemory);
     };
     let Ok(()) = write_bytes(writer, text) else {
@@ -151,7 +148,7 @@ pub fn run_guard<R: BufRead, W: Write>(
     let Ok(config) = config.try_copy(alloc) else {
         return Err(Stop::NoMemory);
     };
-    let Ok(mut cluster) = Cluster::make(alloc, config) else {
+    let Ok(mut cluster) = ClusterState::make(alloc, config) else {
         return Err(Stop::NoMemory);
     };
     let Ok(()) = write_bytes(writer, header_text(Version::Second).as_bytes()) else {

@@ -1,10 +1,9 @@
-use Rattle.std.proofs.Common.{rules, ◌≡◌, ◌∙◌, [], ◌∷◌, ◌++◌, refl, ap, subst}
+use Rattle.std.proofs.Common.{rules, ◌≡◌, ◌∙◌, ◌++◌, refl, ap, subst}
 use Rattle.std.proofs.KnownBytes.{Keeps-refl}
 use Rattle.fy_lines.specs.Prefixes.{AppendsProperPrefix}
 use Rattle.fy_audit.specs.AuditText.{entry_line}
-use Rattle.fy_cluster.specs.Execution.{Execution, entered}
+use Rattle.fy_cluster.specs.Execution.{entered, next_entry}
 use Rattle.fy_run.specs.GuardTexts.{NoAnswer, entry_of}
-use Rattle.fy_run.proofs.Guarding.{last_is}
 use Rattle.fy_run.proofs.guard.answer.Goals as goal
 
 pub returns-in-Err-JournalFull-clause-err : goal.returns-in-Err-JournalFull-clause-err
@@ -16,27 +15,19 @@ pub returns-in-Err-NoMemory-clause-err : goal.returns-in-Err-NoMemory-clause-err
 returns-in-Err-NoMemory-clause-err g c =
     NoAnswer.no_memory refl (Keeps-refl (g.W.Write.contents c.args.writer.now))
 
-pub returns-in_default-push_entry_line-clause-err : goal.returns-in_default-push_entry_line-clause-err
-returns-in_default-push_entry_line-clause-err g c =
-    NoAnswer.no_memory refl (Keeps-refl (g.W.Write.contents c.args.writer.now))
-
 pub returns-in_default-write_bytes-clause-err : goal.returns-in_default-write_bytes-clause-err
 returns-in_default-write_bytes-clause-err g c =
     let execution = c.args.cluster.now in
     let command = c.args.command in
     let before = g.W.Write.contents c.args.writer.now in
     let after = g.W.Write.contents c.write_bytes.new.writer in
-    let entry = entry_of execution command in
-    let enters : c.apply.new.self ≡ entered execution command.by command.act =
+    let enters : c.enter.new.self ≡ entered execution command.by command.act =
     c.in-Ok.ensures.entered ∙ ap (λ parts. entered execution parts.0 parts.1) c.into_parts-by.ensures in
-    let entries : c.entries.result.now ≡ execution.journal ++ entry ∷ [] =
-    c.entries.ensures ∙ c.journal.ensures.journal ∙ ap (λ (now : Execution). now.journal) enters in
-    let last : c.in-Some.entry.now ≡ entry =
-    last_is c.entries.result.now execution.journal entry c.in-Some.entry.now entries
-    c.in-Some.ensures.value in
-    let line : c.deref.result.now ≡ entry_line entry =
+    let made : c.in-Ok.entry ≡ entry_of execution command =
+    c.in-Ok.ensures.entry ∙ ap (λ parts. next_entry execution parts.0 parts.1) c.into_parts-by.ensures in
+    let line : c.deref.result.now ≡ entry_line (entry_of execution command) =
     c.deref.ensures.value ∙ c.in-Ok-push_entry_line.ensures
-    ∙ ap (λ text. text ++ entry_line c.in-Some.entry.now) c.clear.ensures.items
-    ∙ ap entry_line last in
-    NoAnswer.short refl enters c.journal.ensures.survives.legal
+    ∙ ap (λ text. text ++ entry_line c.in-Ok.entry) c.clear.ensures.items
+    ∙ ap entry_line made in
+    NoAnswer.short refl enters c.enter.ensures.survives.legal
     (subst (AppendsProperPrefix before after) line c.in_default-write_bytes.ensures.short)

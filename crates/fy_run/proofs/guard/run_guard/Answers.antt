@@ -1,5 +1,5 @@
 use Rattle.std.proofs.Common.{arith, inr, ◌≡◌, ◌+◌, ◌∙◌, length, refl, sym, ap, subst}
-use Rattle.std.specs.Prelude.{IfSome, IfNone, Err}
+use Rattle.std.specs.Prelude.{IfNone, Err}
 use Rattle.std.specs.Io.KnownBytes.{Appends, IsAtEnd}
 use Rattle.fy_lines.specs.Prefixes.{AppendsProperPrefix}
 use Rattle.fy_lines.specs.Readings.{ReadsWithinLine, ReadsInsideLine}
@@ -8,7 +8,6 @@ use Rattle.fy_cluster.specs.Setup.{Setup}
 use Rattle.fy_cluster.specs.Execution.{Execution, opened}
 use Rattle.fy_audit.specs.AuditText.{header}
 use Rattle.fy_journal.specs.declared.version.Version.TheVariants.{Second}
-use Rattle.fy_run.specs.GuardTexts.{AppendsAtLeast, GivesCommand}
 use Rattle.fy_engine.specs.declared.stop.Stop.TheVariants.{Read, Write, NoMemory}
 use Rattle.fy_run.proofs.Acting.{one_longer}
 use Rattle.fy_run.proofs.Guarding.{HasAnswered, opens, goes_on, gave, limit_is_small, answers_all, in_turn, refused_line, refused_command, at_least, still_out, none_out, header_short, answer_short, no_command_write, no_answer_read, no_command_own, no_answer_own, same_stop}
