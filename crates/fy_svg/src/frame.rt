@@ -39,8 +39,15 @@ const STATES: [(&str, u64, &str); 5] = [
     ("clogged", 470, "clogged (above)"),
 ];
 
-/// What the legend says: the class of a glyph, its outline, how far from the left, and its word.
-const SHAPES: [(&str, &str, u64, &str); 8] = [
+/// What the first line of the legend says behind the states: the class of a mark, its outline, how
+/// far from the left, and its word.
+const MARKS: [(&str, &str, u64, &str); 2] = [
+    ("acked", "m-4 0l3 4 6-8", 626, "a record is acknowledged"),
+    ("tick", "m0-4v8", 806, "time passed"),
+];
+
+/// What the second line of the legend says, likewise of orders.
+const ORDERS: [(&str, &str, u64, &str); 7] = [
     (
         "order filled",
         "m-3 0a3 3 0 1 0 6 0a3 3 0 1 0-6 0z",
@@ -63,7 +70,6 @@ const SHAPES: [(&str, &str, u64, &str); 8] = [
         580,
         "struck with less, or nobody",
     ),
-    ("acked", "m-4 0l3 4 6-8", 770, "a record is acknowledged"),
 ];
 
 /// The head of the document, with the size of the sheet.
@@ -92,7 +98,22 @@ pub(crate) fn write_head(
     )
 }
 
-/// The legend, in two lines at the head.
+/// Shapes of the legend, whose words stand on one line.
+fn write_shapes(
+    text: &mut String,
+    shapes: &[(&str, &str, u64, &str)],
+    foot: u64,
+) -> Result<(), AllocError> {
+    let y = foot.saturating_sub(4);
+    for (class, shape, x, word) in shapes.iter().copied() {
+        let beside = x.saturating_add(10);
+        write!(text, "<path class=\"{class}\" d=\"M{x} {y}{shape}\"/>")?;
+        writeln!(text, "<text x=\"{beside}\" y=\"{foot}\">{word}</text>")?;
+    }
+    Ok(())
+}
+
+/// The legend, in two lines at the head: states and marks, then orders.
 pub(crate) fn write_legend(text: &mut String) -> Result<(), AllocError> {
     text.push_str("<g class=\"legend\">\n")?;
     for (class, x, word) in STATES.iter().copied() {
@@ -103,11 +124,8 @@ pub(crate) fn write_legend(text: &mut String) -> Result<(), AllocError> {
         )?;
         writeln!(text, "<text x=\"{beside}\" y=\"16\">{word}</text>")?;
     }
-    for (class, shape, x, word) in SHAPES.iter().copied() {
-        let beside = x.saturating_add(10);
-        write!(text, "<path class=\"{class}\" d=\"M{x} 30{shape}\"/>")?;
-        writeln!(text, "<text x=\"{beside}\" y=\"34\">{word}</text>")?;
-    }
+    write_shapes(text, &MARKS, 16)?;
+    write_shapes(text, &ORDERS, 34)?;
     text.push_str("</g>\n")
 }
 
