@@ -15,6 +15,8 @@ pub(crate) const ROW: u64 = 18;
 pub(crate) const LINE: u64 = 15;
 /// How high the stepped line of a policy is where every process could be killed next.
 pub(crate) const STEPS: u64 = 26;
+/// How high a policy's line has to be for a number to fit below it.
+pub(crate) const CLEAR: u64 = 12;
 /// How wide the words at the right of the rows are.
 pub(crate) const ASIDE: u64 = 260;
 /// The most lines of text below the rows.

@@ -1,5 +1,5 @@
 //! Below the rows: how many processes each policy lets be killed next.
-use crate::layout::{STEPS, foot_of_policy, x_of};
+use crate::layout::{CLEAR, STEPS, foot_of_policy, x_of};
 use fy_cluster::Config;
 use fy_picture::{Line, Picture};
 use fy_policy::{Policy, policy_text};
@@ -8,6 +8,12 @@ use std::alloc::{AllocError, Global};
 /// How many bytes of a policy's text fit left of its line; a longer text is squeezed.
 const FITTING: usize = 38;
 
+/// How high a policy's line is at a count.
+fn height_of(count: u32, processes: u32) -> u64 {
+    let most = u64::from(processes.max(1));
+    u64::from(count).min(most) * STEPS / most
+}
+
 /// The stepped line of a policy: as high as all processes where each could be killed next.
 fn write_steps(
     text: &mut String,
@@ -15,12 +21,11 @@ fn write_steps(
     processes: u32,
     foot: u64,
 ) -> Result<(), AllocError> {
-    let most = u64::from(processes.max(1));
     let mut last = None;
     for (column, count) in line.counts.iter().copied().enumerate() {
         if last != Some(count) {
             let x = x_of(column);
-            let y = foot.saturating_sub(u64::from(count).min(most) * STEPS / most);
+            let y = foot.saturating_sub(height_of(count, processes));
             if last.is_none() {
                 write!(text, "M{x} {y}")?;
             } else {
@@ -32,6 +37,70 @@ fn write_steps(
     let end = x_of(line.counts.len());
     if last.is_some() {
         write!(text, "H{end}")?;
+    }
+    Ok(())
+}
+
+/// How many columns a number at a step takes, at 7 pixels a digit, 3 in front and 1 behind.
+fn columns_of(count: u32) -> usize {
+    if count < 10 {
+        1
+    } else if count < 100 {
+        2
+    } else {
+        3
+    }
+}
+
+/// A number at a step, below a line that is high enough for it and else above.
+fn write_number(
+    text: &mut String,
+    place: usize,
+    from: usize,
+    count: u32,
+    foot: u64,
+    height: u64,
+) -> Result<(), AllocError> {
+    let x = x_of(from).saturating_add(3);
+    let line = foot.saturating_sub(height);
+    let y = if height < CLEAR {
+        line.saturating_sub(3)
+    } else {
+        line.saturating_add(CLEAR - 1)
+    };
+    write!(
+        text,
+        "<text class=\"policy-number\" data-policy=\"{place}\" "
+    )?;
+    writeln!(
+        text,
+        "data-from=\"{from}\" x=\"{x}\" y=\"{y}\">{count}</text>"
+    )
+}
+
+/// The numbers of a policy's line: one for the columns that follow one another with the same count,
+/// unless they are too few for it.
+fn write_numbers(
+    text: &mut String,
+    line: &Line,
+    place: usize,
+    processes: u32,
+    foot: u64,
+) -> Result<(), AllocError> {
+    let mut from = 0;
+    for (at, count) in line.counts.iter().copied().enumerate() {
+        let ends = match line.counts.get(at + 1) {
+            Some(next) => *next != count,
+            None => true,
+        };
+        if ends {
+            let to = at + 1;
+            if to.saturating_sub(from) >= columns_of(count) {
+                let height = height_of(count, processes);
+                write_number(text, place, from, count, foot, height)?;
+            }
+            from = to;
+        }
     }
     Ok(())
 }
@@ -58,7 +127,7 @@ fn write_label(
 }
 
 /// For each policy a stepped line: how many processes could each be killed for good next, as far as
-/// that policy goes. The number at the end stands at its right.
+/// that policy goes. Numbers stand at its steps, and the number at the end at its right.
 pub(crate) fn write_policies(
     alloc: Global,
     text: &mut String,
@@ -76,6 +145,7 @@ pub(crate) fn write_policies(
         write!(text, "<path class=\"policy\" data-policy=\"{place}\" d=\"")?;
         write_steps(text, line, config.map().len(), foot)?;
         text.push_str("\"/>\n")?;
+        write_numbers(text, line, place, config.map().len(), foot)?;
         if let Some(count) = line.counts.last() {
             writeln!(text, "<text x=\"{x}\" y=\"{foot}\">{count}</text>")?;
         }
