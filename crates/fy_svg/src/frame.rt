@@ -2,7 +2,7 @@
 //! words.
 use crate::lanes::Lane;
 use crate::layout::{ASIDE, LINE, MOST_LINES, ROW, TOP, foot_of, middle_of, x_of, y_of};
-use crate::words::write_order;
+use crate::words::{write_floor, write_order};
 use fy_journal::{Entry, Reply};
 use fy_locality::{Key, Map, ProcId};
 use fy_picture::{Picture, rule_of};
@@ -229,6 +229,7 @@ pub(crate) fn write_orders(
             let y = foot_of(rows, policies, line);
             write!(text, "<text class=\"order-in-words\" x=\"10\" y=\"{y}\">")?;
             write_order(text, entry)?;
+            write_floor(text, entry)?;
             text.push_str("</text>\n")?;
             line += 1;
         }

@@ -1,6 +1,6 @@
 //! The glyphs of orders, at the processes that they name.
 use crate::layout::{ROW, middle_of, y_of};
-use crate::words::write_order;
+use crate::words::{write_floor, write_order};
 use fy_cluster::Config;
 use fy_journal::{Act, Entry, Reply};
 use fy_kinds::Kind;
@@ -90,6 +90,7 @@ fn write_glyph(
     if count > 1 {
         write!(text, "; the hardest of {count} orders here")?;
     }
+    write_floor(text, entry)?;
     text.push_str("</title></path>\n")
 }
 

@@ -113,3 +113,18 @@ pub(crate) fn write_order(text: &mut String, entry: &Entry) -> Result<(), AllocE
         None => Ok(()),
     }
 }
+
+/// The floor of a kill where a rule stood against the ordered kind at a process: milder kinds were
+/// tried down to it. Nothing is written of another entry.
+pub(crate) fn write_floor(text: &mut String, entry: &Entry) -> Result<(), AllocError> {
+    let Act::Kill { order } = entry.act else {
+        return Ok(());
+    };
+    match rule_of(entry) {
+        None | Some(Rule::NoTarget) => Ok(()),
+        Some(_) => {
+            let floor = order.floor().text();
+            write!(text, "; the floor is {floor}")
+        }
+    }
+}
