@@ -8,15 +8,17 @@ use fy_locality::{Key, Map, ProcId};
 use fy_picture::{Picture, rule_of};
 use std::alloc::AllocError;
 
-/// Colours that the colour-blind can tell apart (Okabe and Ito), on light paper and, where the
-/// viewer asks for it, on dark.
+/// Hues that the colour-blind can tell apart (Okabe and Ito), in steps of lightness: the states and
+/// the paper differ in grey, every two of them, by a contrast of 1.6 (WCAG). The paper is light and,
+/// where the viewer asks for it, dark; a filled glyph has a rim of its colour.
 const STYLE: &str = "<style>
 .paper { fill: #ffffff; }
 text { font: 11px sans-serif; fill: #1a1a1a; }
-.up { fill: #009e73; } .down { fill: #e69f00; } .gone { fill: #9a9a9a; }
-.emptied { fill: #cc79a7; } .clogged { fill: #56b4e9; }
+.up { fill: #81ddb8; } .down { fill: #d99100; } .gone { fill: #7b7b7b; }
+.emptied { fill: #71104e; } .clogged { fill: #005d9f; }
 .order { stroke: #1a1a1a; stroke-width: 1.3; }
-.filled { fill: #1a1a1a; } .hollow { fill: #ffffff; }
+.filled { fill: #1a1a1a; stroke: #ffffff; stroke-width: 2.6; paint-order: stroke; }
+.hollow { fill: #ffffff; }
 .acked { fill: none; stroke: #0072b2; stroke-width: 2; }
 .tick { stroke: #1a1a1a; } .axis { stroke: #c8c8c8; }
 .policy { fill: none; stroke: #1a1a1a; stroke-width: 1.5; }
@@ -25,7 +27,9 @@ text { font: 11px sans-serif; fill: #1a1a1a; }
   .paper, .hollow { fill: #161616; }
   text, .filled { fill: #e8e8e8; }
   .order, .tick, .policy { stroke: #e8e8e8; }
-  .gone { fill: #6a6a6a; } .axis { stroke: #484848; } .acked { stroke: #7cc4ee; }
+  .filled { stroke: #161616; }
+  .gone { fill: #3b3b3b; } .emptied { fill: #c44f9a; }
+  .axis { stroke: #484848; } .acked { stroke: #7cc4ee; }
 }
 </style>
 ";
