@@ -1,5 +1,5 @@
 //! Audits read entry by entry.
-ghost use Rattle.std.specs.Prelude.{◌≡◌, ◌↔◌, ◌<◌, ◌+◌, ◌++◌, drop, [], ℕ, List, length, IsTrue, IfSome, IfNone, IfOk, IfErr, Err};
+ghost use Rattle.std.specs.Prelude.{◌≡◌, ◌↔◌, ◌<◌, ◌≤◌, ◌+◌, ◌++◌, drop, [], ℕ, List, length, IsTrue, IfSome, IfNone, IfOk, IfErr, Err};
 ghost use Rattle.fy_audit.specs.Audit.{AuditOf, HasNoHeader, BeginsWith, EndsBefore, StandsAt, StandsNot};
 ghost use Rattle.fy_audit.specs.Ahead.{IsAheadOf};
 ghost use Rattle.fy_audit.specs.AuditText.{header};
@@ -247,18 +247,28 @@ impl<'b> AuditReader<'b> {
             return Err(AuditFault::TooLong);
         }
         match after_header(bytes) {
-            Some((version, rest)) => Ok(AuditReader {
-                alloc,
-                version,
-                place: 0,
-                rest,
-                ahead: VecDeque::new(alloc),
-                room: Vec::new(alloc),
-            }),
+            Some((version, rest)) => Ok(AuditReader::resume(alloc, version, 0, rest)),
             None => Err(AuditFault::Line {
                 number: 1,
                 fault: AuditLineFault::Header,
             }),
+        }
+    }
+
+    /// Goes on with the rest of an audit of this version, of which so many entries were read.
+    ///
+    /// Asks that there are no more of both, entries and bytes, than an audit may have bytes.
+    pub fn resume(alloc: Global, version: Version, place: u32, rest: &'b [u8]) -> AuditReader<'b>
+        requires { place + length rest.now ≤ MOST_AUDIT_BYTES }
+        ensures { result ≡ record { version = version; place = place; rest = rest.now } }
+    {
+        AuditReader {
+            alloc,
+            version,
+            place,
+            rest,
+            ahead: VecDeque::new(alloc),
+            room: Vec::new(alloc),
         }
     }
 

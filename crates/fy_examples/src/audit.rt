@@ -1,6 +1,6 @@
 //! A script of one act, and its audit.
 use fy_acts::Reply;
-use fy_audit::{AuditReader, read_audit, read_script};
+use fy_audit::{AuditReader, Version, read_audit, read_script};
 use std::test::Fail;
 
 #[test]
@@ -31,5 +31,19 @@ fn an_audit_is_read_entry_by_entry(rt: HostRuntime) -> Result<(), Fail> {
     let entry = reader.next_entry()?;
     assert_eq!(rt; entry.reply, Reply::Time { now: 1 });
     assert!(rt; reader.is_at_end() && reader.place() == 1);
+    Ok(())
+}
+
+#[test]
+fn an_audit_is_read_on_from_an_entry(rt: HostRuntime) -> Result<(), Fail> {
+    let line: &[u8] =
+        b"{\"act\":{\"tick\":{\"ticks\":1}},\"at\":7,\"by\":0,\"reply\":{\"time\":8}}\n";
+    let mut reader = AuditReader::resume(rt.alloc(), Version::Second, 7, line);
+    if reader.is_at_end() {
+        return Err(Fail::from("no entry"));
+    }
+    let entry = reader.next_entry()?;
+    assert_eq!(rt; entry.reply, Reply::Time { now: 8 });
+    assert!(rt; reader.is_at_end() && reader.place() == 8);
     Ok(())
 }
