@@ -64,7 +64,7 @@ typedef enum fy_status {
                                first not -. */
     FY_FLOOR = 9,           /* The floor of the kill is above its kind. */
     FY_LINE_TOO_LONG = 10,  /* The line has more than 65,536 bytes. */
-    FY_LINE_SYNTAX = 11,    /* The line is no command of a script. */
+    FY_LINE_SYNTAX = 11,    /* The line is no command of a script, or no entry of an audit. */
     FY_CONFIG_TOO_LONG = 12, /* The cluster file has more than 1,048,576 bytes. */
     FY_CONFIG_TOML = 13,    /* The cluster file is no TOML document in UTF-8. */
     FY_CONFIG_FIELD = 14,   /* A key of it is missing, unknown or of another type, or a word is none of
@@ -75,6 +75,8 @@ typedef enum fy_status {
     FY_CONFIG_UNMET = 18,   /* All its processes together don't satisfy one of its policies. */
     FY_CLOSED = 19,         /* The guard is closed, or a pointer is null. Only the inline calls of this
                                header answer it: the library itself asks for an open guard. */
+    FY_NO_HEADER = 20,      /* The first line of the audit is no header of a version. */
+    FY_AUDIT_TOO_LONG = 21, /* The lines of the audit have more than 268,435,456 bytes together. */
 } fy_status;
 
 /* The parts of a cluster file, in the order in which they are looked at. */
@@ -204,12 +206,48 @@ typedef struct fy_reply {
     uint32_t acked;   /* 1 where the record of that acknowledgement is acknowledged now. */
 } fy_reply;
 
+/* ---- Plans and checks: their types */
+
+/* What an order of a plan asks for. */
+typedef enum fy_order_act {
+    FY_ORDER_KILL = 1,   /* fy_guard_kill */
+    FY_ORDER_CLOG = 2,   /* the act clog */
+    FY_ORDER_UNCLOG = 3, /* the act unclog */
+} fy_order_act;
+
+/* How many bytes the value of an order has: a name of 32 characters, and a zero behind it. */
+#define FY_VALUE_BYTES 33
+
+/* An order of a plan. A number that its act has no use for is 0. */
+typedef struct fy_order {
+    uint64_t ticks;             /* For how many ticks a clog lasts. */
+    uint64_t tear;              /* Which unsynced writes a reboot keeps, as fy_guard_kill has it. */
+    uint32_t act;               /* The fy_order_act. */
+    uint32_t key;               /* The fy_key of the target: FY_PROCESS, or FY_MACHINE of a kill. */
+    uint32_t kind;              /* The fy_kind of a kill. */
+    uint32_t floor;             /* The fy_kind of its floor. */
+    char value[FY_VALUE_BYTES]; /* The value of the target, a text that ends with a zero. */
+} fy_order;
+
+/* No plan has more orders. */
+#define FY_MOST_ORDERS 2048
+
+/* An audit that is being checked. Only the calls below write it; all zeros, it is closed. The struct
+ * may be moved in memory. Of a check there is one copy that is used, by one thread. */
+typedef struct fy_check {
+    void *at;
+} fy_check;
+
+/* What stands for an entry, where none is bad. */
+#define FY_NO_BAD_ENTRY UINT32_MAX
+
 /* ---- The library's own calls, for other languages and for the calls below
  *
  * Nothing in them asks whether a guard is open or a pointer null: whoever calls them sees to it.
  * Pointers are never null, also where a length is 0. fy_open takes a closed guard, all zeros. The
  * guard that fy_close took is not used again. A `set` has FY_SET_WORDS words. What each answers
- * stands at the call of the same name below.
+ * stands at the call of the same name below. The same goes for a check, fy_begin_check and
+ * fy_end_check; their calls below are fy_check_begin, fy_check_line, fy_check_finding, fy_check_end.
  */
 uint32_t fy_version(void);
 uint32_t fy_config_fault(const uint8_t *config, size_t config_length, uint32_t *part, uint64_t *place);
@@ -264,6 +302,16 @@ uint32_t fy_keeper(const fy_guard *guard, uint32_t record);
 void fy_sight(const fy_guard *guard, fy_seen *seen);
 size_t fy_journal_len(const fy_guard *guard);
 uint32_t fy_audit(const fy_guard *guard, size_t at, uint8_t *buffer, size_t buffer_length, size_t *told);
+uint32_t fy_words(uint64_t seed, uint64_t stream, uint32_t *words, size_t count);
+uint32_t fy_swizzle_plan(const fy_guard *guard, uint64_t seed, uint64_t stream, uint64_t ticks,
+                         fy_order *orders, size_t room, size_t *told);
+uint32_t fy_attrition_plan(const fy_guard *guard, uint64_t seed, uint64_t stream, uint32_t to_kill,
+                           uint32_t to_leave, uint32_t kind, uint32_t floor, uint64_t tear,
+                           fy_order *orders, size_t room, size_t *told);
+uint32_t fy_begin_check(const uint8_t *config, size_t config_length, fy_check *check);
+void fy_end_check(fy_check check);
+uint32_t fy_read_line(fy_check *check, const uint8_t *line, size_t line_length, uint32_t *first_bad);
+uint32_t fy_finding(const fy_check *check, uint32_t *count, uint32_t *first_bad);
 
 /* ---- The calls of a C program */
 
@@ -750,6 +798,112 @@ static inline fy_status fy_guard_audit(const fy_guard *guard, size_t at, char *b
     if (!fy_guard_is_open(guard) || buffer == NULL || told == NULL)
         return FY_CLOSED;
     return (fy_status)fy_audit(guard, at, (uint8_t *)buffer, buffer_length, told);
+}
+
+/* ---- Plans that are drawn from a seed */
+
+/* Writes `count` words: the first of a stream of the seed, pseudo-random words of ChaCha with eight
+ * rounds (docs/FORMATS.md). A swarm's actor a draws from the stream a.
+ *
+ * In this order: FY_CLOSED; FY_NO_MEMORY: nothing is written then. */
+static inline fy_status fy_guard_words(uint64_t seed, uint64_t stream, uint32_t *words, size_t count)
+{
+    if (words == NULL)
+        return FY_CLOSED;
+    return (fy_status)fy_words(seed, stream, words, count);
+}
+
+/* Writes a swizzle to the front of a buffer with room for so many orders: clogs, each for so many
+ * ticks, of processes that are drawn from a stream of the seed, and then the end of each clog, in
+ * another order. `*told` is how many orders it has. What is behind them in the buffer stays as it
+ * was. `faultyard swarm` gives it to the first, third, .. of its fault actors, for 10 ticks; the
+ * stream is the actor's number. Nothing is entered.
+ *
+ * In this order: FY_CLOSED; FY_NO_MEMORY: `*told` is 0; FY_SHORT where there is room for fewer
+ * orders, and `*told` is how many there are. Nothing is written to the buffer then. */
+static inline fy_status fy_guard_swizzle_plan(const fy_guard *guard, uint64_t seed, uint64_t stream,
+                                              uint64_t ticks, fy_order *orders, size_t room,
+                                              size_t *told)
+{
+    if (!fy_guard_is_open(guard) || orders == NULL || told == NULL)
+        return FY_CLOSED;
+    return (fy_status)fy_swizzle_plan(guard, seed, stream, ticks, orders, room, told);
+}
+
+/* Writes an attrition to the front of a buffer, as fy_guard_swizzle_plan does: kills of `to_kill`
+ * machines that are drawn from a stream of the seed, or of fewer, so that `to_leave` machines are
+ * spared. Each is by the kind, with the floor and the tear. `faultyard swarm` gives it to the second,
+ * fourth, .. of its fault actors, with 2, 1, FY_KILL_INSTANTLY, FY_REBOOT and 0.
+ *
+ * In this order: FY_CLOSED; FY_ARGUMENT; FY_FLOOR; FY_NO_MEMORY; FY_SHORT. `*told` and the buffer are
+ * as fy_guard_swizzle_plan has them. */
+static inline fy_status fy_guard_attrition_plan(const fy_guard *guard, uint64_t seed, uint64_t stream,
+                                                uint32_t to_kill, uint32_t to_leave, fy_kind kind,
+                                                fy_kind floor, uint64_t tear, fy_order *orders,
+                                                size_t room, size_t *told)
+{
+    if (!fy_guard_is_open(guard) || orders == NULL || told == NULL)
+        return FY_CLOSED;
+    return (fy_status)fy_attrition_plan(guard, seed, stream, to_kill, to_leave, (uint32_t)kind,
+                                        (uint32_t)floor, tear, orders, room, told);
+}
+
+/* ---- Audits that are checked line by line */
+
+/* Begins to check an audit of a cluster that began with this cluster file, as `faultyard check` does.
+ * What the struct was is written over; where the check isn't begun, it is closed. Statuses as of
+ * fy_guard_open. */
+static inline fy_status fy_check_begin(const char *config, size_t length, fy_check *check)
+{
+    if (check == NULL)
+        return FY_CLOSED;
+    check->at = NULL;
+    if (config == NULL)
+        return FY_CLOSED;
+    return (fy_status)fy_begin_check((const uint8_t *)config, length, check);
+}
+
+/* Frees what a check holds, and closes it; of a check that is closed, or of null, nothing. */
+static inline void fy_check_end(fy_check *check)
+{
+    fy_check held;
+    if (check == NULL || check->at == NULL)
+        return;
+    held = *check;
+    check->at = NULL;
+    fy_end_check(held);
+}
+
+static inline int fy_check_is_open(const fy_check *check)
+{
+    return check != NULL && check->at != NULL;
+}
+
+/* Reads the next line of the audit with its line feed: its header, and then an entry each time.
+ * `*first_bad` is the place of the first entry so far, from 0, that isn't what the rules give, or
+ * FY_NO_BAD_ENTRY. A bad entry is FY_DONE: behind it lines are read for their faults alone.
+ *
+ * In this order: FY_CLOSED; FY_AUDIT_TOO_LONG; FY_NO_HEADER; FY_LINE_TOO_LONG; FY_LINE_SYNTAX, where
+ * the line isn't the one text of an entry that may come next, lacks its line feed, is empty, or has
+ * more behind its line feed. FY_NO_MEMORY may take the place of FY_LINE_SYNTAX. But for FY_DONE the
+ * line counts as not read. */
+static inline fy_status fy_check_line(fy_check *check, const char *line, size_t length,
+                                      uint32_t *first_bad)
+{
+    if (!fy_check_is_open(check) || line == NULL || first_bad == NULL)
+        return FY_CLOSED;
+    return (fy_status)fy_read_line(check, (const uint8_t *)line, length, first_bad);
+}
+
+/* What `faultyard check` finds of the lines that were read: `*count` is how many entries there are,
+ * and `*first_bad` as fy_check_line tells it. The check goes on.
+ *
+ * In this order: FY_CLOSED; FY_NO_HEADER where no line was read, and `*count` is 0. */
+static inline fy_status fy_check_finding(const fy_check *check, uint32_t *count, uint32_t *first_bad)
+{
+    if (!fy_check_is_open(check) || count == NULL || first_bad == NULL)
+        return FY_CLOSED;
+    return (fy_status)fy_finding(check, count, first_bad);
 }
 
 #ifdef __cplusplus

@@ -13,8 +13,9 @@ sources = "".join((top / "crates/fy_c/src" / f"{it}.rt").read_text() for it in (
 known = re.findall(r"(?:Status|Refusal|Kind|Rule)::(\w+)(?: \{ \.\. \})?\)? => (\d+),", sources)
 known += [(name, number) for number, name in re.findall(r"(\d+) => Some\((?:Key|Kind)::(\w+)\)", sources)]
 known += [(f"Part{name}", number) for name, number in re.findall(r" Part::(\w+) => (\d+),", sources)]
+known += re.findall(r"const (ORDER_\w+): u32 = (\d+);", (top / "crates/fy_c/src/planning.rt").read_text())
 # A rule that names nothing is 0 in that sense alone.
-wanted = {"FY_" + re.sub(r"(?<=.)([A-Z])", r"_\1", it).upper(): int(n) for it, n in known if (it, n) != ("NoTarget", "0")}
+wanted = {"FY_" + re.sub(r"(?<=[a-z])([A-Z])", r"_\1", it).upper(): int(n) for it, n in known if (it, n) != ("NoTarget", "0")}
 found = {name: int(number) for name, number in header.items()}
 assert found == wanted | OWN, sorted(set(found.items()) ^ set((wanted | OWN).items()))
 

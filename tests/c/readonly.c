@@ -63,6 +63,16 @@ static void freeze(fy_guard *guard)
     EQUAL(mprotect(guard, (size_t)sysconf(_SC_PAGESIZE), PROT_READ), 0);
 }
 
+static void ask_for_plans(const fy_guard *guard)
+{
+    fy_order orders[12];
+    size_t told = 77;
+    EQUAL(fy_guard_swizzle_plan(guard, 7, 1, 10, orders, 12, &told), FY_DONE);
+    EQUAL(told <= 12, 1);
+    EQUAL(fy_guard_attrition_plan(guard, 7, 1, 2, 1, FY_KILL_INSTANTLY, FY_REBOOT, 0, orders, 12, &told), FY_DONE);
+    EQUAL(told, 2);
+}
+
 /* Each call that only asks. */
 static void ask(const fy_guard *guard)
 {
@@ -106,6 +116,7 @@ static void ask(const fy_guard *guard)
     EQUAL(told, 1);
     EQUAL(fy_guard_audit(guard, 0, buffer, sizeof buffer, &told), FY_DONE);
     EQUAL(told > 0, 1);
+    ask_for_plans(guard);
 }
 
 int main(void)

@@ -1,7 +1,10 @@
 mod Begun
 mod Bits
+mod CheckValues
+mod Drawn
 mod Finding
 mod KindBits
+mod Lined
 mod Lines
 mod Made
 mod Orders

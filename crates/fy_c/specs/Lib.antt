@@ -1,11 +1,16 @@
 pub mod Acting
 pub mod Asking
+pub mod CheckHandles
+pub mod Checking
 pub mod Entering
 pub mod Faults
 pub mod Handles
+pub mod InStep
 pub mod Killing
 pub mod Making
 pub mod Numbers
 pub mod Opening
+pub mod Planning
+pub mod Progress
 pub mod Sets
 pub mod Statuses

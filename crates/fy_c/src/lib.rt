@@ -4,6 +4,9 @@
 
 mod acting;
 mod asking;
+mod check_calls;
+mod check_handle;
+mod checking;
 mod clogging;
 mod entering;
 mod faults;
@@ -14,6 +17,7 @@ mod loose;
 mod making;
 mod numbers;
 mod opening;
+mod planning;
 mod rights;
 mod sets;
 mod status;

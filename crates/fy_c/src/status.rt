@@ -29,7 +29,7 @@ pub enum Status {
     Floor,
     /// The line has more than 65,536 bytes.
     LineTooLong,
-    /// The line is no command.
+    /// The line is no command, or no entry of an audit.
     LineSyntax,
     /// The cluster file has more than 1,048,576 bytes.
     ConfigTooLong,
@@ -45,6 +45,10 @@ pub enum Status {
     ConfigPolicy,
     /// All processes of the cluster file together don't satisfy a policy.
     ConfigUnmet,
+    /// The first line of an audit is no header.
+    NoHeader,
+    /// The lines of an audit have more than 268,435,456 bytes together.
+    AuditTooLong,
 }
 
 impl Status {
@@ -72,6 +76,8 @@ impl Status {
             Status::ConfigName => 16,
             Status::ConfigPolicy => 17,
             Status::ConfigUnmet => 18,
+            Status::NoHeader => 20,
+            Status::AuditTooLong => 21,
         }
     }
 }

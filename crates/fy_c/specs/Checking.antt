@@ -1,0 +1,107 @@
+-- an audit that is checked line by line
+use Rattle.std.specs.Prelude.{◌≡◌, ◌≢◌, ◌+◌, ℕ, List, [], ◌∷◌, ◌++◌, length, Option, Some, None, Ok, Err}
+use Rattle.std.specs.Ptr.{null_ptr}
+use Rattle.fy_acts.specs.declared.entry.Entry.{Entry}
+use Rattle.fy_audit.specs.Audit.{AuditOf}
+use Rattle.fy_audit.specs.declared.audit.AuditFault.{AuditFault}
+use Rattle.fy_audit.specs.declared.audit.AuditFault.TheVariants as audit
+use Rattle.fy_audit.specs.declared.audit.AuditLineFault.{AuditLineFault}
+use Rattle.fy_audit.specs.declared.audit.AuditLineFault.TheVariants as of_line
+use Rattle.fy_cluster.specs.Setup.{Setup}
+use Rattle.fy_config.specs.Config.{ConfigOf}
+use Rattle.fy_check.specs.Replayed.{HasReplayed}
+use Rattle.fy_c.specs.Opening.{NotOpened}
+use Rattle.fy_c.specs.Progress.{Progress}
+use Rattle.fy_c.specs.declared.check_handle.FyCheck.{FyCheck}
+use Rattle.fy_c.specs.declared.checking.Check.{Check}
+use Rattle.fy_c.specs.declared.status.Status.{Status}
+use Rattle.fy_c.specs.declared.status.Status.TheVariants.{Done, NoMemory, LineTooLong, LineSyntax, NoHeader, AuditTooLong}
+
+-- these bytes are an audit, whose entries were replayed
+pub record HasProgress (setup : Setup) (bytes : List ℕ) (progress : Progress) : Type 0 where
+  pub entries : List Entry
+  pub audit : AuditOf bytes (Ok (record { version = progress.replayed.version; entries = entries }))
+  pub replayed : HasReplayed setup entries progress.replayed
+  pub count : progress.count ≡ length entries
+  pub long : progress.bytes ≡ length bytes
+
+-- so they are; or there are none yet
+abbrev pub HasBegun : Setup → List ℕ → Option Progress → Type 0
+HasBegun setup bytes None = bytes ≡ []
+HasBegun setup bytes (Some progress) = HasProgress setup bytes progress
+
+-- these bytes were read line by line
+abbrev pub HasChecked : List ℕ → Check → Type 0
+HasChecked bytes check = HasBegun check.config bytes check.begun
+
+-- ---- what is told
+
+-- the first bad entry, 2 ^ 32 - 1 where there is none
+abbrev pub bad_number : Option ℕ → ℕ
+bad_number None = 4294967295
+bad_number (Some at) = at
+
+-- how many entries were read
+abbrev pub count_of : Option Progress → ℕ
+count_of None = 0
+count_of (Some progress) = progress.count
+
+-- the first bad one of them
+abbrev pub bad_of : Option Progress → ℕ
+bad_of None = 4294967295
+bad_of (Some progress) = bad_number progress.replayed.first_bad
+
+-- ---- a line
+
+-- the status for a faulty line of an audit
+abbrev pub line_fault_status : AuditLineFault → Status
+line_fault_status of_line.Header = NoHeader
+line_fault_status of_line.TooLong = LineTooLong
+line_fault_status of_line.Syntax = LineSyntax
+
+-- the status for an audit that is refused
+abbrev pub audit_status : AuditFault → Status
+audit_status audit.TooLong = AuditTooLong
+audit_status (audit.Line number fault) = line_fault_status fault
+audit_status audit.NoMemory = NoMemory
+
+-- what is given is no one line: it is empty, or more follows its first line feed
+pub data NotOneLine (line : List ℕ) : Type 0 where
+  empty : line ≡ [] → NotOneLine line
+  more : (front after : List ℕ) → line ≡ front ++ 10 ∷ after → (after ≡ [] → ⊥) → NotOneLine line
+
+-- why a line isn't read behind bytes that were read: with it they are no audit, by this first fault;
+-- it is no one line; or there was no memory
+pub data Refuses (WasRead : List ℕ → Type 0) (line : List ℕ) : Status → Type 0 where
+  faulty : (fault : AuditFault) →
+      ((bytes : List ℕ) → WasRead bytes → AuditOf (bytes ++ line) (Err fault)) →
+      Refuses WasRead line (audit_status fault)
+  not_one : NotOneLine line → Refuses WasRead line LineSyntax
+  no_memory : Refuses WasRead line NoMemory
+
+-- the line was read: whatever was read before, it was read behind that
+pub record ReadsOn (old new : Check) (line : List ℕ) : Type 0 where
+  pub config : new.config ≡ old.config
+  pub more : (bytes : List ℕ) → HasChecked bytes old → HasChecked (bytes ++ line) new
+
+-- what a line comes to. The first bad entry so far is told
+pub data ReadsLine (old new : Check) (line : List ℕ) (told : ℕ) (status : Status) : Type 0 where
+  read : status ≡ Done → ReadsOn old new line → told ≡ bad_of new.begun →
+      ReadsLine old new line told status
+  refused : Refuses (λ bytes. HasChecked bytes old) line status → new ≡ old →
+      told ≡ bad_of old.begun → ReadsLine old new line told status
+
+-- ---- the calls
+
+-- the check is open and nothing was read, or it is what it was
+pub data BeginsCheck (config : List ℕ) (old new : FyCheck) : Status → Type 0 where
+  begins : new.at ≢ null_ptr → ConfigOf config (Ok new.value.config) → new.value.begun ≡ None →
+      BeginsCheck config old new Done
+  refused : (status : Status) → NotOpened config status → new ≡ old →
+      BeginsCheck config old new status
+
+-- what was found of what was read: how many entries, and the first bad one
+pub data Finding (check : Check) (count bad : ℕ) : Status → Type 0 where
+  found : (progress : Progress) → check.begun ≡ Some progress → count ≡ progress.count →
+      bad ≡ bad_number progress.replayed.first_bad → Finding check count bad Done
+  no_header : check.begun ≡ None → count ≡ 0 → bad ≡ 4294967295 → Finding check count bad NoHeader

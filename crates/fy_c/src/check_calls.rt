@@ -1,0 +1,112 @@
+//! Checks of audits: begun, given lines, asked and ended.
+ghost use Rattle.std.specs.Prelude.{◌≡◌, ◌≢◌, IfOk, IfErr, None, Ok};
+ghost use Rattle.std.specs.Ptr.{null_ptr};
+ghost use Rattle.fy_config.specs.Config.{ConfigOf};
+ghost use Rattle.fy_c.specs.Checking.{ReadsLine, BeginsCheck, Finding};
+ghost use Rattle.fy_c.specs.Opening.{NotOpened};
+ghost use Rattle.fy_c.specs.Statuses.{Answers};
+
+use crate::check_handle::{FyCheck, closed_up, opened_up};
+use crate::checking::{Check, bad_of, count_of, read_line};
+use crate::status::{Status, config_status};
+use fy_config::read_config;
+use std::alloc::Global;
+
+/// A check for the audits of a cluster file, of which nothing was read.
+fn begun(alloc: Global, config: &[u8]) -> Result<Box<Check>, Status>
+    ensures config { IfOk result (λ check. ConfigOf config.now (Ok check.value.config)) }
+    ensures none { IfOk result (λ check. check.value.begun ≡ None) }
+    ensures refused { IfErr result (NotOpened config.now) }
+{
+    let config = match read_config(alloc, config) {
+        Ok(config) => config,
+        Err(fault) => return Err(config_status(fault)),
+    };
+    let check = Check {
+        config,
+        begun: None,
+    };
+    match Box::new(alloc, check) {
+        Ok(check) => Ok(check),
+        Err(_) => Err(Status::NoMemory),
+    }
+}
+
+/// Begins to check an audit of a cluster that began with this cluster file. What the check was
+/// before is forgotten.
+///
+/// # Errors
+///
+/// `NoMemory`, and the statuses for a cluster file that is refused. The check is then what it was.
+#[unsafe(no_mangle)]
+pub extern "C" fn fy_begin_check(alloc: Global, config: &[u8], check: &mut FyCheck) -> u32
+    ensures { Answers result (BeginsCheck config.now check.old check.new) }
+{
+    match begun(alloc, config) {
+        Ok(begun) => {
+            *check = closed_up(begun);
+            Status::Done.number()
+        }
+        Err(status) => status.number(),
+    }
+}
+
+/// Frees all that an open check holds.
+#[unsafe(no_mangle)]
+pub extern "C" fn fy_end_check(alloc: Global, check: FyCheck)
+    requires { check.at ≢ null_ptr }
+{
+    drop(opened_up(alloc, check));
+}
+
+/// Reads the next line of an audit with its line feed: its header, and then an entry each time. The
+/// first bad entry so far goes to `first_bad`, from 0, and 4,294,967,295 where there is none.
+///
+/// # Errors
+///
+/// In order: `AuditTooLong` where the lines so far have more than 268,435,456 bytes; `NoHeader` where
+/// the first line is no header; `LineTooLong`; `LineSyntax` for a line that is not the one text of an
+/// entry that may come next, or that is no one line. `NoMemory` can take the place of the last two.
+/// Nothing changes.
+#[unsafe(no_mangle)]
+pub extern "C" fn fy_read_line(
+    alloc: Global,
+    check: &mut FyCheck,
+    line: &[u8],
+    first_bad: &mut u32,
+) -> u32
+    requires { check.old.at ≢ null_ptr }
+    ensures open { check.new.at ≢ null_ptr }
+    ensures read { Answers result
+        (ReadsLine check.old.value check.new.value line.now first_bad.new) }
+{
+    let held = check.held();
+    let status = match read_line(alloc, held, line) {
+        Ok(()) => Status::Done,
+        Err(status) => status,
+    };
+    *first_bad = bad_of(&held.begun);
+    status.number()
+}
+
+/// What `check` finds of the lines so far: how many entries there are, and the first bad one, as
+/// `fy_read_line` tells it.
+///
+/// # Errors
+///
+/// `NoHeader` where no line was read: 0 goes to `count`.
+#[unsafe(no_mangle)]
+pub extern "C" fn fy_finding(check: &mut FyCheck, count: &mut u32, first_bad: &mut u32) -> u32
+    requires { check.old.at ≢ null_ptr }
+    ensures kept { check.new.value ≡ check.old.value }
+    ensures place { check.new.at ≡ check.old.at }
+    ensures found { Answers result (Finding check.old.value count.new first_bad.new) }
+{
+    let held = check.held();
+    *count = count_of(&held.begun);
+    *first_bad = bad_of(&held.begun);
+    match held.begun {
+        Some(_) => Status::Done.number(),
+        None => Status::NoHeader.number(),
+    }
+}

@@ -1,0 +1,391 @@
+//! Words of a seed, and the orders of plans that are drawn from them.
+ghost use Rattle.std.specs.Prelude.{◌≡◌, ◌≢◌, ◌<◌, ◌≤◌, length, All, IfOk, IfErr, Some};
+ghost use Rattle.std.specs.Ptr.{null_ptr};
+ghost use Rattle.fy_kinds.specs.Kinds.{rank};
+ghost use Rattle.fy_actors.specs.Plans.{IsSwizzle};
+ghost use Rattle.fy_actors.specs.Schedules.{process_target, swizzle_acts, attrition_acts};
+ghost use Rattle.fy_c.specs.Numbers.{key_number};
+ghost use Rattle.fy_c.specs.Planning.{Draws, with_zeros, orders_of, clog_of, unclog_of, kill_of, everyone, plan_words, IsSwizzleOf, AreKinds, NoKinds, machines_of, IsAttritionOf, Gives, Plans, PlansAttrition};
+ghost use Rattle.fy_c.specs.Statuses.{Answers};
+
+use crate::handle::FyGuard;
+use crate::numbers::{kind_number, kind_of};
+use crate::status::Status;
+use fy_actors::{AttritionPlan, PlanFault, SwizzlePlan, attrition_plan, swizzle_plan, words};
+use fy_kinds::{Kind, Target};
+use fy_locality::{Key, Map, Name, ProcId};
+use std::alloc::{AllocError, Global};
+
+/// How many bytes the value of an order has: a name of the most characters, and a zero behind it.
+pub const VALUE_BYTES: usize = 33;
+
+/// Writes as many words as there is room for: the first of a stream of the seed.
+///
+/// # Errors
+///
+/// `NoMemory`: nothing is written then.
+#[tactic(auto, using(crate::proofs::Drawn::word_count))]
+#[unsafe(no_mangle)]
+pub extern "C" fn fy_words(alloc: Global, seed: u64, stream: u64, room: &mut [u32]) -> u32
+    ensures { Answers result (Draws seed stream room.old room.new) }
+{
+    let Ok(drawn) = words(alloc, seed, stream, room.len()) else {
+        return Status::NoMemory.number();
+    };
+    room.copy_from_slice(&drawn);
+    Status::Done.number()
+}
+
+/// An order of a plan. A number that its act has no use for is 0.
+#[repr(C)]
+#[derive(Clone, Copy)]
+pub struct FyOrder {
+    /// For how many ticks a clog lasts.
+    pub ticks: u64,
+    /// Which unsynced writes a reboot keeps.
+    pub tear: u64,
+    /// What is ordered: 1 is a kill, 2 a clog, 3 the end of one.
+    pub act: u32,
+    /// The number of the target's key.
+    pub key: u32,
+    /// The number of a kill's kind.
+    pub kind: u32,
+    /// The number of a kill's floor.
+    pub floor: u32,
+    /// The target's value, with zeros behind it.
+    pub value: [u8; VALUE_BYTES],
+}
+
+/// The number of a kill, a clog and the end of a clog.
+const ORDER_KILL: u32 = 1;
+
+const ORDER_CLOG: u32 = 2;
+
+const ORDER_UNCLOG: u32 = 3;
+
+/// The number of a key.
+fn key_number(key: Key) -> u32
+    ensures { result ≡ key_number key }
+{
+    match key {
+        Key::Process => 1,
+        Key::Machine => 2,
+        Key::Zone => 3,
+        Key::DataHall => 4,
+        Key::DataCenter => 5,
+    }
+}
+
+/// A name's bytes, with zeros behind them.
+fn with_zeros(name: &Name) -> [u8; VALUE_BYTES]
+    ensures { result ≡ with_zeros name.now }
+{
+    let text = name.as_bytes();
+    let mut value = [0; VALUE_BYTES];
+    value[..text.len()].copy_from_slice(text);
+    value
+}
+
+/// A process by its name.
+fn process_target(map: &Map, p: ProcId) -> Target
+    requires { p.0 < length map.now }
+    ensures { result ≡ process_target map.now p }
+{
+    let Some(value) = map.value(p, Key::Process) else {
+        unreachable!();
+    };
+    Target {
+        key: Key::Process,
+        value,
+    }
+}
+
+/// The order to clog a process.
+fn clog(map: &Map, p: ProcId, ticks: u64) -> FyOrder
+    requires { p.0 < length map.now }
+    ensures { result ≡ clog_of map.now ticks p }
+{
+    let target = process_target(map, p);
+    FyOrder {
+        ticks,
+        tear: 0,
+        act: ORDER_CLOG,
+        key: key_number(target.key),
+        kind: 0,
+        floor: 0,
+        value: with_zeros(&target.value),
+    }
+}
+
+/// The order to end the clogs of a process.
+fn unclog(map: &Map, p: ProcId) -> FyOrder
+    requires { p.0 < length map.now }
+    ensures { result ≡ unclog_of map.now p }
+{
+    let target = process_target(map, p);
+    FyOrder {
+        ticks: 0,
+        tear: 0,
+        act: ORDER_UNCLOG,
+        key: key_number(target.key),
+        kind: 0,
+        floor: 0,
+        value: with_zeros(&target.value),
+    }
+}
+
+/// The order to kill a machine.
+fn kill(machine: &Name, kind: Kind, floor: Kind, tear: u64) -> FyOrder
+    ensures { result ≡ kill_of kind floor tear machine.now }
+{
+    FyOrder {
+        ticks: 0,
+        tear,
+        act: ORDER_KILL,
+        key: key_number(Key::Machine),
+        kind: kind_number(kind),
+        floor: kind_number(floor),
+        value: with_zeros(machine),
+    }
+}
+
+/// Every process, by number.
+#[tactic(auto, using(crate::proofs::Drawn::one_process_more))]
+fn everyone(alloc: Global, map: &Map) -> Result<Vec<ProcId>, AllocError>
+    ensures { IfOk result (λ all. all.items ≡ everyone map.now) }
+{
+    let mut all = Vec::new(alloc);
+    for p in 0..map.len() {
+        all.push(ProcId(p))?;
+    }
+    Ok(all)
+}
+
+/// A swizzle of all processes, drawn from a stream of the seed.
+fn draw_swizzle(alloc: Global, map: &Map, seed: u64, stream: u64) -> Result<SwizzlePlan, AllocError>
+    ensures { IfOk result (IsSwizzle (plan_words map.now seed stream) (everyone map.now)) }
+{
+    let words = words(alloc, seed, stream, 2 * map.len() as usize)?;
+    let all = everyone(alloc, map)?;
+    match swizzle_plan(alloc, &words, &all) {
+        Ok(plan) => Ok(plan),
+        Err(PlanFault::NoMemory) => Err(AllocError),
+        Err(PlanFault::WordsShort { .. }) => unreachable!(),
+    }
+}
+
+/// The orders to clog each process of a plan and then to end the clog of each.
+fn swizzle_orders(
+    alloc: Global,
+    map: &Map,
+    plan: &SwizzlePlan,
+    ticks: u64,
+) -> Result<Vec<FyOrder>, AllocError>
+    requires clogs { All (λ p. p.0 < length map.now) plan.now.clogs.items }
+    requires frees { All (λ p. p.0 < length map.now) plan.now.frees.items }
+    ensures { IfOk result (λ orders.
+        orders.items ≡ orders_of (swizzle_acts map.now plan.now ticks)) }
+{
+    let mut orders = Vec::new(alloc);
+    for p in plan.clogs.iter() {
+        orders.push(clog(map, *p, ticks))?;
+    }
+    for p in plan.frees.iter() {
+        orders.push(unclog(map, *p))?;
+    }
+    Ok(orders)
+}
+
+/// The orders of a swizzle that is drawn.
+fn swizzle(
+    alloc: Global,
+    map: &Map,
+    seed: u64,
+    stream: u64,
+    ticks: u64,
+) -> Result<Vec<FyOrder>, AllocError>
+    ensures { IfOk result (λ orders. IsSwizzleOf map.now seed stream ticks orders.items) }
+{
+    let plan = draw_swizzle(alloc, map, seed, stream)?;
+    swizzle_orders(alloc, map, &plan, ticks)
+}
+
+/// Writes orders to the front of a buffer where they fit; tells how many there are.
+fn give(orders: &[FyOrder], buffer: &mut [FyOrder], told: &mut usize) -> Status
+    ensures { Gives orders.now buffer.old buffer.new told.new result }
+{
+    *told = orders.len();
+    if buffer.len() < orders.len() {
+        return Status::Short;
+    }
+    buffer[..orders.len()].copy_from_slice(orders);
+    Status::Done
+}
+
+/// Writes the orders of a swizzle to the front of a buffer: those of the first, third, .. fault actor
+/// of a swarm whose number is the stream, where they clog for 10 ticks. How many there are goes to
+/// `told`.
+///
+/// # Errors
+///
+/// In order: `NoMemory`, and 0 goes to `told`; `Short` where the buffer has room for fewer. Nothing
+/// is written to the buffer then.
+#[unsafe(no_mangle)]
+pub extern "C" fn fy_swizzle_plan(
+    alloc: Global,
+    guard: &mut FyGuard,
+    seed: u64,
+    stream: u64,
+    ticks: u64,
+    orders: &mut [FyOrder],
+    told: &mut usize,
+) -> u32
+    requires { guard.old.at ≢ null_ptr }
+    ensures kept { guard.new.value ≡ guard.old.value }
+    ensures place { guard.new.at ≡ guard.old.at }
+    ensures planned { Answers result (Plans
+        (IsSwizzleOf guard.old.value.setup.processes seed stream ticks)
+        orders.old orders.new told.new) }
+{
+    *told = 0;
+    let map = guard.cluster().config().map();
+    match swizzle(alloc, map, seed, stream, ticks) {
+        Ok(plan) => give(&plan, orders, told).number(),
+        Err(_) => Status::NoMemory.number(),
+    }
+}
+
+/// Which machines are killed, and how, as C asks for it.
+#[derive(Clone, Copy)]
+struct Asked {
+    seed: u64,
+    stream: u64,
+    to_kill: u32,
+    to_leave: u32,
+    kind: u32,
+    floor: u32,
+    tear: u64,
+}
+
+/// The kind and the floor that are asked for.
+///
+/// # Errors
+///
+/// In order: `Argument` where a number is that of no kind; `Floor` where the floor is above the kind.
+fn kinds_of(asked: Asked) -> Result<(Kind, Kind), Status>
+    ensures kinds { IfOk result (λ kinds. AreKinds asked kinds.0 kinds.1) }
+    ensures none { IfErr result (NoKinds asked) }
+{
+    let Some(kind) = kind_of(asked.kind) else {
+        return Err(Status::Argument);
+    };
+    let Some(floor) = kind_of(asked.floor) else {
+        return Err(Status::Argument);
+    };
+    if floor.is_above(kind) {
+        return Err(Status::Floor);
+    }
+    Ok((kind, floor))
+}
+
+/// The machines that are asked for, drawn from a stream of the seed.
+fn draw_attrition(alloc: Global, map: &Map, asked: Asked) -> Result<AttritionPlan, AllocError>
+    ensures { IfOk result (λ plan. plan.machines.items ≡ machines_of map.now asked) }
+{
+    let words = words(alloc, asked.seed, asked.stream, 2 * map.len() as usize)?;
+    match attrition_plan(alloc, &words, map, asked.to_kill, asked.to_leave) {
+        Ok(plan) => Ok(plan),
+        Err(PlanFault::NoMemory) => Err(AllocError),
+        Err(PlanFault::WordsShort { .. }) => unreachable!(),
+    }
+}
+
+/// The order to kill each machine.
+fn kill_orders(
+    alloc: Global,
+    machines: &[Name],
+    kind: Kind,
+    floor: Kind,
+    tear: u64,
+) -> Result<Vec<FyOrder>, AllocError>
+    ensures { (ordered : rank floor ≤ rank kind) → IfOk result (λ orders.
+        orders.items ≡ orders_of (attrition_acts kind floor tear ordered machines.now)) }
+{
+    let mut orders = Vec::new(alloc);
+    for machine in machines {
+        orders.push(kill(machine, kind, floor, tear))?;
+    }
+    Ok(orders)
+}
+
+/// The orders of an attrition that is drawn.
+fn attrition(
+    alloc: Global,
+    map: &Map,
+    asked: Asked,
+    kind: Kind,
+    floor: Kind,
+) -> Result<Vec<FyOrder>, AllocError>
+    ensures { (ordered : rank floor ≤ rank kind) → IfOk result (λ orders.
+        IsAttritionOf map.now asked kind floor ordered orders.items) }
+{
+    let plan = draw_attrition(alloc, map, asked)?;
+    kill_orders(alloc, &plan.machines, kind, floor, asked.tear)
+}
+
+/// Writes the orders of an attrition to the front of a buffer: those of the second, fourth, .. fault
+/// actor of a swarm whose number is the stream, where they kill 2 machines and leave 1, by
+/// `KillInstantly` with the floor `Reboot` and the tear 0. How many there are goes to `told`.
+///
+/// # Errors
+///
+/// In order: `Argument` where a number is that of no kind; `Floor` where the floor is above the kind;
+/// `NoMemory`: 0 goes to `told`. `Short` where the buffer has room for fewer. Nothing is written to
+/// the buffer then.
+#[unsafe(no_mangle)]
+pub extern "C" fn fy_attrition_plan(
+    alloc: Global,
+    guard: &mut FyGuard,
+    seed: u64,
+    stream: u64,
+    to_kill: u32,
+    to_leave: u32,
+    kind: u32,
+    floor: u32,
+    tear: u64,
+    orders: &mut [FyOrder],
+    told: &mut usize,
+) -> u32
+    requires { guard.old.at ≢ null_ptr }
+    ensures kept { guard.new.value ≡ guard.old.value }
+    ensures place { guard.new.at ≡ guard.old.at }
+    ensures planned { Answers result (PlansAttrition guard.old.value.setup.processes
+        (record {
+          seed = seed;
+          stream = stream;
+          to_kill = to_kill;
+          to_leave = to_leave;
+          kind = kind;
+          floor = floor;
+          tear = tear;
+        }) orders.old orders.new told.new) }
+{
+    *told = 0;
+    let asked = Asked {
+        seed,
+        stream,
+        to_kill,
+        to_leave,
+        kind,
+        floor,
+        tear,
+    };
+    let (kind, floor) = match kinds_of(asked) {
+        Ok(kinds) => kinds,
+        Err(status) => return status.number(),
+    };
+    match attrition(alloc, guard.cluster().config().map(), asked, kind, floor) {
+        Ok(plan) => give(&plan, orders, told).number(),
+        Err(_) => Status::NoMemory.number(),
+    }
+}
