@@ -93,7 +93,8 @@ static void versions(void)
 static void faults(void)
 {
     static const char *const HEADERS[] = {
-        "", "\n", "{\"audit\":2}", "{\"audit\":3}\n", "{\"audit\": 2}\n", "{\"audit\":2}\r\n", "\xef\xbb\xbf{\"audit\":2}\n", TICK("0", "1"),
+        "", "\n", "{\"audit\":2}", "{\"audit\":3}\n", "{\"audit\": 2}\n", "{\"audit\":2}\r\n",
+        "\xef\xbb\xbf{\"audit\":2}\n", TICK("0", "1"),
     };
     static const char *const LINES[] = {
         "", "\n", "{}\n", TICK("1", "1"), TICK("0", "01"), FY_AUDIT_HEADER, TICK("0", "1") "\n", TICK("0", "1") TICK("1", "2"),
