@@ -27,6 +27,7 @@
 #include <exception>
 #include <new>
 #include <optional>
+#include <stdexcept>
 #include <string>
 #include <string_view>
 #include <utility>
@@ -150,6 +151,15 @@ enum class Status : std::uint32_t {
     ConfigPolicy = FY_CONFIG_POLICY,
     ConfigUnmet = FY_CONFIG_UNMET,
     Closed = FY_CLOSED,
+    NoHeader = FY_NO_HEADER,
+    AuditTooLong = FY_AUDIT_TOO_LONG,
+};
+
+/* What an order of a plan asks for. */
+enum class OrderAct : std::uint32_t {
+    Kill = FY_ORDER_KILL,
+    Clog = FY_ORDER_CLOG,
+    Unclog = FY_ORDER_UNCLOG,
 };
 
 /* A set of kinds of kill and of clogging, as Kinds::Reboot | Kinds::Clog. */
@@ -250,7 +260,7 @@ inline constexpr Text STATUSES[] = {
     {"Name", "the value of the target is no name"},
     {"Floor", "the floor of the kill is above its kind"},
     {"LineTooLong", "the line has more than 65,536 bytes"},
-    {"LineSyntax", "the line is no command of a script"},
+    {"LineSyntax", "the line is no command of a script, or no entry of an audit"},
     {"ConfigTooLong", "the cluster file has more than 1,048,576 bytes"},
     {"ConfigToml", "the cluster file is no TOML document in UTF-8"},
     {"ConfigField", "a key of the cluster file is missing, unknown or of another type, or a word "
@@ -260,6 +270,8 @@ inline constexpr Text STATUSES[] = {
     {"ConfigPolicy", "a text of the cluster file is no policy"},
     {"ConfigUnmet", "all processes of the cluster file together don't satisfy one of its policies"},
     {"Closed", "the guard is closed"},
+    {"NoHeader", "the first line of the audit is no header of a version"},
+    {"AuditTooLong", "the lines of the audit have more than 268,435,456 bytes together"},
 };
 
 /* The row of a number, or the other row where it has none, as a number by a cast may. */
@@ -513,6 +525,54 @@ struct State {
         return !(one == other);
     }
 };
+
+/* An order of a plan that is drawn from a seed. */
+struct Order {
+    OrderAct act = OrderAct::Kill;
+    /* The target: a process by its processid of a clog and its end, a machine of a kill. */
+    Key key = Key::Process;
+    std::string value;
+    /* The kind and the floor of a kill; empty for the other acts. */
+    std::optional<Kind> kind;
+    std::optional<Kind> floor;
+    /* Which unsynced writes a reboot keeps. */
+    std::uint64_t tear = 0;
+    /* For how many ticks a clog lasts. */
+    std::uint64_t ticks = 0;
+
+    friend bool operator==(const Order &one, const Order &other) noexcept
+    {
+        return one.act == other.act && one.key == other.key && one.value == other.value &&
+               one.kind == other.kind && one.floor == other.floor && one.tear == other.tear &&
+               one.ticks == other.ticks;
+    }
+
+    friend bool operator!=(const Order &one, const Order &other) noexcept
+    {
+        return !(one == other);
+    }
+};
+
+/* The first words of a stream of a seed: pseudo-random words of ChaCha with eight rounds. A swarm's
+ * actor draws from the stream of its number. Throws NoMemory. */
+inline std::vector<std::uint32_t> words(std::uint64_t seed, std::uint64_t stream, std::size_t count)
+{
+    try {
+        /* The library takes no null pointer, also for no words. */
+        std::vector<std::uint32_t> drawn(count == 0 ? 1 : count);
+        const std::uint32_t status = fy_words(seed, stream, drawn.data(), count);
+        if (status != FY_DONE)
+            throw Error(static_cast<Status>(status));
+        drawn.resize(count);
+        return drawn;
+    } catch (const std::bad_alloc &) {
+        throw Error(Status::NoMemory);
+    } catch (const std::length_error &) {
+        throw Error(Status::NoMemory);
+    }
+}
+
+class Check;
 
 /* A guard. It is moved and never copied. After `close`, and after it was moved from, each call
  * throws Closed.
@@ -897,9 +957,79 @@ public:
         }
     }
 
+    /* The swizzle that is drawn from a stream of a seed: clogs, and then the end of each, in
+     * another order. A swarm's first, third, .. fault actor makes it; the stream is its number.
+     * Nothing is entered. Throws in order Closed, NoMemory. */
+    std::vector<Order> swizzle_plan(std::uint64_t seed, std::uint64_t stream,
+                                    std::uint64_t ticks = 10) const
+    {
+        const fy_guard *const guard = opened();
+        return plan([=](fy_order *orders, std::size_t room, std::size_t *told) {
+            return fy_swizzle_plan(guard, seed, stream, ticks, orders, room, told);
+        });
+    }
+
+    /* The attrition that is drawn from a stream of a seed: kills of so many machines, but so many
+     * are spared. A swarm's second, fourth, .. fault actor makes that of the values left out; the
+     * stream is its number. Nothing is entered.
+     * Throws in order Closed, Argument, Floor, NoMemory. */
+    std::vector<Order> attrition_plan(std::uint64_t seed, std::uint64_t stream,
+                                      std::uint32_t to_kill = 2, std::uint32_t to_leave = 1,
+                                      Kind kind = Kind::KillInstantly, Kind floor = Kind::Reboot,
+                                      std::uint64_t tear = 0) const
+    {
+        const fy_guard *const guard = opened();
+        return plan([=](fy_order *orders, std::size_t room, std::size_t *told) {
+            return fy_attrition_plan(guard, seed, stream, to_kill, to_leave,
+                                     static_cast<std::uint32_t>(kind),
+                                     static_cast<std::uint32_t>(floor), tear, orders, room, told);
+        });
+    }
+
 private:
+    friend class Check;
+
     /* Most lines have fewer bytes; a longer one is read again. */
     static constexpr std::size_t USUAL_LINE = 512;
+
+    /* Most plans have fewer orders; a longer one is drawn again. */
+    static constexpr std::size_t USUAL_PLAN = 64;
+
+    /* The orders that a call of the library writes. */
+    template <typename Call> static std::vector<Order> plan(Call call)
+    {
+        try {
+            std::vector<fy_order> drawn(USUAL_PLAN);
+            std::size_t told = 0;
+            std::uint32_t status = call(drawn.data(), drawn.size(), &told);
+            if (status == FY_SHORT) {
+                drawn.resize(told);
+                status = call(drawn.data(), drawn.size(), &told);
+            }
+            require(status);
+            std::vector<Order> orders(told);
+            for (std::size_t at = 0; at < told; at++)
+                orders[at] = order_of(drawn[at]);
+            return orders;
+        } catch (const std::bad_alloc &) {
+            throw Error(Status::NoMemory);
+        }
+    }
+
+    static Order order_of(const fy_order &drawn)
+    {
+        Order order;
+        order.act = static_cast<OrderAct>(drawn.act);
+        order.key = static_cast<Key>(drawn.key);
+        order.value = drawn.value;
+        if (drawn.kind != FY_NONE)
+            order.kind = static_cast<Kind>(drawn.kind);
+        if (drawn.floor != FY_NONE)
+            order.floor = static_cast<Kind>(drawn.floor);
+        order.tear = drawn.tear;
+        order.ticks = drawn.ticks;
+        return order;
+    }
 
     fy_guard *opened()
     {
@@ -1025,6 +1155,101 @@ private:
     }
 
     fy_guard guard_ = {nullptr};
+};
+
+/* What is found of an audit. */
+struct Finding {
+    /* How many entries were read. */
+    std::uint32_t count = 0;
+    /* The first of them that isn't what the rules give. */
+    std::optional<std::uint32_t> first_bad;
+
+    friend constexpr bool operator==(const Finding &one, const Finding &other) noexcept
+    {
+        return one.count == other.count && one.first_bad == other.first_bad;
+    }
+
+    friend constexpr bool operator!=(const Finding &one, const Finding &other) noexcept
+    {
+        return !(one == other);
+    }
+};
+
+/* An audit that is checked line by line, as `faultyard check` does. It is moved and never copied,
+ * and used by one thread. After `close`, and after it was moved from, each call throws Closed. */
+class Check {
+public:
+    /* Begins to check an audit of a cluster that began with this cluster file. Throws as the
+     * constructor of a guard does. */
+    explicit Check(std::string_view config)
+    {
+        const std::uint32_t status = fy_begin_check(detail::bytes(config), config.size(), &check_);
+        if (status >= FY_CONFIG_TOO_LONG && status <= FY_CONFIG_UNMET)
+            throw Guard::fault_of(config, status);
+        Guard::require(status);
+    }
+
+    Check(Check &&other) noexcept : check_(std::exchange(other.check_, fy_check{nullptr})) {}
+
+    Check &operator=(Check &&other) noexcept
+    {
+        if (this != &other) {
+            close();
+            check_ = std::exchange(other.check_, fy_check{nullptr});
+        }
+        return *this;
+    }
+
+    Check(const Check &) = delete;
+    Check &operator=(const Check &) = delete;
+    ~Check() { close(); }
+
+    /* Frees what it holds. A closed check stays closed. */
+    void close() noexcept
+    {
+        if (is_open())
+            fy_end_check(std::exchange(check_, fy_check{nullptr}));
+    }
+
+    bool is_open() const noexcept { return fy_check_is_open(&check_) != 0; }
+
+    /* Reads the next line, which ends with a line feed: the header, and then an entry each time.
+     * Answers the first entry so far that isn't what the rules give.
+     * Throws in order Closed, AuditTooLong, NoHeader, LineTooLong, LineSyntax; NoMemory in place of
+     * LineSyntax. The line counts as not read then. */
+    std::optional<std::uint32_t> line(std::string_view text)
+    {
+        require_open();
+        std::uint32_t bad = FY_NO_BAD_ENTRY;
+        Guard::require(fy_read_line(&check_, detail::bytes(text), text.size(), &bad));
+        return entry_of(bad);
+    }
+
+    /* What is found of the lines that were read; the check goes on. Throws in order Closed,
+     * NoHeader. */
+    Finding finding() const
+    {
+        require_open();
+        Finding finding;
+        std::uint32_t bad = FY_NO_BAD_ENTRY;
+        Guard::require(fy_finding(&check_, &finding.count, &bad));
+        finding.first_bad = entry_of(bad);
+        return finding;
+    }
+
+private:
+    void require_open() const
+    {
+        if (!is_open())
+            throw Error(Status::Closed);
+    }
+
+    static std::optional<std::uint32_t> entry_of(std::uint32_t bad) noexcept
+    {
+        return bad == FY_NO_BAD_ENTRY ? std::nullopt : std::optional(bad);
+    }
+
+    fy_check check_ = {nullptr};
 };
 
 } // namespace faultyard

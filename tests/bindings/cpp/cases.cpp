@@ -748,7 +748,7 @@ static void texts()
           "the journal has as many entries as the cluster file allows");
     HOLDS(std::string_view(Error(Status::Refused, Refusal::IsUp).what()) ==
           "refused: the process is up already");
-    HOLDS(std::string_view(Error(static_cast<Status>(20)).what()) == "unknown to this header");
+    HOLDS(std::string_view(Error(static_cast<Status>(22)).what()) == "unknown to this header");
     const Error longest(Status::ConfigName, Part::JournalLimit, UINT64_MAX);
     HOLDS(std::string_view(longest.what()) ==
           "config: Name JournalLimit 18446744073709551615: a text of the cluster file is no name, "
@@ -756,6 +756,162 @@ static void texts()
     HOLDS(to_string(static_cast<Part>(0)).empty() && to_string(static_cast<Part>(7)) == "unknown");
     HOLDS(to_string(static_cast<Refusal>(26)) == "unknown");
     HOLDS(to_string(static_cast<Key>(UINT32_MAX)) == "unknown");
+}
+
+/* The list, of which each place from the last down to the second is swapped with the one that the
+ * next word gives. */
+static std::vector<uint32_t> shuffled(std::vector<uint32_t> list, std::vector<uint32_t> drawn)
+{
+    for (size_t last = list.size(); last-- > 1;)
+        std::swap(list[last], list[drawn[list.size() - 1 - last] % (last + 1)]);
+    return list;
+}
+
+static Order order_of(OrderAct act, uint32_t process, uint64_t ticks)
+{
+    return {act, Key::Process, "p" + std::to_string(process), {}, {}, 0, ticks};
+}
+
+/* The first of the published words, and plans that are drawn from words by the rules. */
+static void plans()
+{
+    HOLDS(words(1, 0, 2) == std::vector<uint32_t>({0xa0e95ecf, 0x61a94a49}));
+    HOLDS(words(0, 1, 1) == std::vector<uint32_t>({0xb34b8f2b}));
+    HOLDS(words(0, 0, 0).empty());
+    Guard guard(SIX);
+    const Guard &asked = guard;
+    for (uint64_t seed = 0; seed < 50; seed++) {
+        const std::vector<uint32_t> drawn = words(seed, 1, 12);
+        std::vector<uint32_t> chosen;
+        for (uint32_t process = 0; process < 6; process++)
+            if (drawn[process] % 2 == 1)
+                chosen.push_back(process);
+        std::vector<Order> wanted;
+        for (uint32_t process : chosen)
+            wanted.push_back(order_of(OrderAct::Clog, process, 10));
+        for (uint32_t process : shuffled(chosen, {drawn.begin() + 6, drawn.end()}))
+            wanted.push_back(order_of(OrderAct::Unclog, process, 0));
+        HOLDS(asked.swizzle_plan(seed, 1) == wanted);
+        wanted.clear();
+        for (uint32_t machine : shuffled({0, 1, 2, 3, 4, 5}, drawn))
+            wanted.push_back({OrderAct::Kill, Key::Machine, "m" + std::to_string(machine),
+                              Kind::RebootAndDelete, Kind::RebootProcess, 5, 0});
+        HOLDS(asked.attrition_plan(seed, 1, 9, 0, Kind::RebootAndDelete, Kind::RebootProcess, 5) ==
+              wanted);
+        wanted.resize(2);
+        for (Order &order : wanted) {
+            order.kind = Kind::KillInstantly;
+            order.floor = Kind::Reboot;
+            order.tear = 0;
+        }
+        const std::vector<Order> two = asked.attrition_plan(seed, 1);
+        HOLDS(two == wanted);
+        HOLDS(two.front() != two.back());
+    }
+    THROWS(Argument, (void)asked.attrition_plan(0, 1, 2, 1, static_cast<Kind>(5)));
+    THROWS(Floor, (void)asked.attrition_plan(0, 1, 2, 1, Kind::Reboot, Kind::KillInstantly));
+    EQUAL(asked.journal_len(), 0);
+    granted = 0;
+    THROWS(NoMemory, (void)words(0, 0, 9));
+    THROWS(NoMemory, (void)asked.swizzle_plan(0, 1));
+    THROWS(NoMemory, (void)asked.attrition_plan(0, 1));
+    granted = ALL;
+    THROWS(NoMemory, (void)words(0, 0, SIZE_MAX));
+    guard.close();
+    THROWS(Closed, (void)asked.swizzle_plan(0, 1));
+    THROWS(Closed, (void)asked.attrition_plan(0, 1));
+}
+
+/* A plan of more orders than the first buffer has room for. */
+static void long_plans()
+{
+    std::string config = "journal_limit = 9\npolicies = [\"One()\"]\nprocess = [";
+    for (int process = 0; process < 200; process++) {
+        const std::string number = std::to_string(process);
+        config += "{processid = \"p" + number + "\", machineid = \"m" + number +
+                  "\", zoneid = \"z\"},";
+    }
+    config += "]\nactor = [{role = \"fault\"}]\n";
+    const Guard guard{config};
+    const std::vector<Order> orders = guard.attrition_plan(3, 0, 150, 0);
+    EQUAL(orders.size(), 150);
+    std::set<std::string> machines;
+    for (const Order &order : orders)
+        machines.insert(order.value);
+    EQUAL(machines.size(), 150);
+}
+
+static_assert(!std::is_copy_constructible_v<Check> && !std::is_copy_assignable_v<Check>);
+static_assert(std::is_nothrow_move_constructible_v<Check> &&
+              std::is_nothrow_move_assignable_v<Check>);
+
+static const std::string HEADER = FY_AUDIT_HEADER;
+
+/* The audit of a guard is legal; with a reply that goes too far, its entry is the first bad one. */
+static void checks()
+{
+    Guard guard(SIX);
+    Check check(SIX);
+    HOLDS(check.is_open());
+    THROWS(NoHeader, (void)check.finding());
+    THROWS(NoHeader, (void)check.line("{\"audit\":3}\n"));
+    HOLDS(check.line(HEADER) == std::nullopt);
+    HOLDS(check.finding() == Finding());
+    HOLDS(guard.kill(1, Key::Zone, "z0", Kind::KillInstantly, Kind::Reboot).struck ==
+          Kind::KillInstantly);
+    HOLDS(guard.kill(1, Key::Zone, "z1", Kind::KillInstantly, Kind::Reboot).struck == Kind::Reboot);
+    HOLDS(check.line(guard.entry(0)) == std::nullopt);
+    HOLDS(check.finding().count == 1);
+    THROWS(LineSyntax, (void)check.line(guard.entry(0)));
+    THROWS(LineSyntax, (void)check.line(std::string_view()));
+    THROWS(LineTooLong, (void)check.line(std::string(65537, ' ')));
+    std::string bad = guard.entry(1);
+    const std::string struck = "\"struck\":\"Reboot\"";
+    bad.replace(bad.find(struck), struck.size(), "\"struck\":\"KillInstantly\"");
+    HOLDS(check.line(bad) == 1U);
+    HOLDS(check.finding().first_bad == 1U && check.finding().count == 2);
+    HOLDS(check.finding() != Finding());
+    Check moved(std::move(check));
+    EQUAL(check.is_open(), false);
+    THROWS(Closed, (void)check.line(HEADER));
+    THROWS(Closed, (void)check.finding());
+    HOLDS(moved.finding().count == 2);
+    Check other(SIX);
+    other = std::move(moved);
+    HOLDS(other.finding().count == 2 && !moved.is_open());
+    granted = 0;
+    THROWS(NoMemory, Check{SIX});
+    granted = ALL;
+    try {
+        Check none(NO_NAME);
+    } catch (const Error &error) {
+        HOLDS(error.status() == Status::ConfigName && error.part() == Part::Process);
+        HOLDS(error.place() == 1U);
+    }
+    other.close();
+    other.close();
+    EQUAL(other.is_open(), false);
+}
+
+/* Lines of nearly 65,536 bytes, of a stranger's that isn't told so, until they are too many. */
+static void long_audit()
+{
+    Check check(SIX);
+    check.line(HEADER);
+    const std::string front = "{\"act\":{\"begin\":{\"payload\":\"" + std::string(65000, 'a');
+    size_t bytes = HEADER.size();
+    for (uint32_t at = 0;; at++) {
+        const std::string line = front + "\",\"team\":0}},\"at\":" + std::to_string(at) +
+                                 ",\"by\":9,\"reply\":{\"no\":[\"NoTeam\"]}}\n";
+        bytes += line.size();
+        if (bytes > 268435456) {
+            THROWS(AuditTooLong, (void)check.line(line));
+            EQUAL(check.finding().count, at);
+            break;
+        }
+        if (check.line(line) != 0U)
+            HOLDS(false);
+    }
 }
 
 int main()
@@ -780,8 +936,12 @@ int main()
     long_lines();
     threads();
     texts();
+    plans();
+    long_plans();
+    checks();
+    long_audit();
     /* Each status but Done, Short, which no call answers, and Unwritten, which nothing brings
      * about. */
-    EQUAL(met.size(), static_cast<size_t>(Status::Closed) - 2);
+    EQUAL(met.size(), static_cast<size_t>(Status::AuditTooLong) - 2);
     return ended("cases");
 }
