@@ -37,8 +37,12 @@ pub enum Error {
     Floor,
     /// The line has more than 65,536 bytes.
     LineTooLong,
-    /// The line is no command of a script.
+    /// The line is no command of a script, or no entry of an audit.
     LineSyntax,
+    /// The first line of the audit is no header of a version.
+    NoHeader,
+    /// The lines of the audit have more than 268,435,456 bytes together.
+    AuditTooLong,
     /// The text is no cluster file.
     Config(ConfigFault),
     /// The library answered what this crate doesn't know, so it is of another version.
@@ -140,6 +144,8 @@ impl Error {
             9 => Error::Floor,
             10 => Error::LineTooLong,
             11 => Error::LineSyntax,
+            20 => Error::NoHeader,
+            21 => Error::AuditTooLong,
             // ConfigFault::of has those of a cluster file. No call of this crate meets FY_SHORT or
             // FY_CLOSED.
             _ => Error::Protocol("a status"),
@@ -192,7 +198,18 @@ impl fmt::Display for Error {
             Error::Name => write!(f, "the value of the target is no name"),
             Error::Floor => write!(f, "the floor of the kill is above its kind"),
             Error::LineTooLong => write!(f, "the line has more than 65,536 bytes"),
-            Error::LineSyntax => write!(f, "the line is no command of a script"),
+            Error::LineSyntax => {
+                write!(
+                    f,
+                    "the line is no command of a script, or no entry of an audit"
+                )
+            }
+            Error::NoHeader => {
+                write!(f, "the first line of the audit is no header of a version")
+            }
+            Error::AuditTooLong => {
+                write!(f, "the lines of the audit have more than 268,435,456 bytes")
+            }
             Error::Config(fault) => write!(f, "config: {fault}"),
             Error::Protocol(what) => {
                 write!(

@@ -368,6 +368,11 @@ impl Guard {
         to.flush()
     }
 
+    /// The struct of the library, for a call that only asks.
+    pub(crate) fn raw(&self) -> &FyGuard {
+        &self.raw
+    }
+
     /// Puts the lines of some entries behind what is there.
     fn append_entries(&self, range: Range<usize>, bytes: &mut Vec<u8>) -> Result<(), Error> {
         for at in range {
@@ -396,7 +401,7 @@ impl Guard {
 }
 
 /// The error of a text that is no cluster file. It is read again to say where its fault is.
-fn fault_of(config: &[u8]) -> Error {
+pub(crate) fn fault_of(config: &[u8]) -> Error {
     let (mut part, mut place) = (0, 0);
     // SAFETY: as in `open`. Each answer goes to a variable of its own.
     let status =

@@ -92,8 +92,10 @@
 #![deny(clippy::undocumented_unsafe_blocks)]
 
 mod acts;
+mod check;
 mod error;
 mod guard;
+mod plan;
 mod set;
 mod sight;
 mod state;
@@ -103,8 +105,10 @@ mod version;
 mod words;
 
 pub use acts::{Begun, Delivered, Kinds, Scope, Synced};
+pub use check::{Check, Finding};
 pub use error::{ConfigFault, Error};
 pub use guard::{Guard, AUDIT_HEADER};
+pub use plan::{words, Attrition, Order};
 pub use set::ProcessSet;
 pub use sight::Sight;
 pub use state::State;

@@ -2,7 +2,7 @@
 //!
 //! Every pointer is non-null, also where a length is 0, and a guard is open but for `fy_open`.
 //!
-//! A new call of the header is declared here, and made in guard.rs or acts.rs.
+//! A new call of the header is declared here, and made in guard.rs, acts.rs, plan.rs or check.rs.
 
 use std::ffi::c_void;
 
@@ -37,6 +37,39 @@ pub struct FyReply {
     pub acked: u32,
 }
 
+/// `fy_order`.
+#[repr(C)]
+#[derive(Clone, Copy)]
+pub struct FyOrder {
+    pub ticks: u64,
+    pub tear: u64,
+    pub act: u32,
+    pub key: u32,
+    pub kind: u32,
+    pub floor: u32,
+    pub value: [u8; VALUE_BYTES],
+}
+
+impl Default for FyOrder {
+    fn default() -> FyOrder {
+        FyOrder {
+            ticks: 0,
+            tear: 0,
+            act: 0,
+            key: 0,
+            kind: 0,
+            floor: 0,
+            value: [0; VALUE_BYTES],
+        }
+    }
+}
+
+/// `fy_check`: closed where `at` is null.
+#[repr(C)]
+pub struct FyCheck {
+    pub at: *mut c_void,
+}
+
 /// `FY_SHORT`.
 pub const SHORT: u32 = 4;
 /// `FY_MOST_REPLY`.
@@ -49,6 +82,10 @@ pub const NOBODY: u32 = u32::MAX;
 pub const NO_SUCH_RECORD: u32 = u32::MAX;
 /// `FY_NOTHING`.
 pub const NOTHING: u64 = u64::MAX;
+/// `FY_VALUE_BYTES`.
+pub const VALUE_BYTES: usize = 33;
+/// `FY_NO_BAD_ENTRY`.
+pub const NO_BAD_ENTRY: u32 = u32::MAX;
 /// `FY_STATE_UP`.
 pub const STATE_UP: u32 = 1;
 /// `FY_STATE_CLOGGED`.
@@ -237,4 +274,36 @@ extern "C" {
         buffer_length: usize,
         told: *mut usize,
     ) -> u32;
+    pub fn fy_words(seed: u64, stream: u64, words: *mut u32, count: usize) -> u32;
+    pub fn fy_swizzle_plan(
+        guard: *const FyGuard,
+        seed: u64,
+        stream: u64,
+        ticks: u64,
+        orders: *mut FyOrder,
+        room: usize,
+        told: *mut usize,
+    ) -> u32;
+    pub fn fy_attrition_plan(
+        guard: *const FyGuard,
+        seed: u64,
+        stream: u64,
+        to_kill: u32,
+        to_leave: u32,
+        kind: u32,
+        floor: u32,
+        tear: u64,
+        orders: *mut FyOrder,
+        room: usize,
+        told: *mut usize,
+    ) -> u32;
+    pub fn fy_begin_check(config: *const u8, config_length: usize, check: *mut FyCheck) -> u32;
+    pub fn fy_end_check(check: FyCheck);
+    pub fn fy_read_line(
+        check: *mut FyCheck,
+        line: *const u8,
+        line_length: usize,
+        first_bad: *mut u32,
+    ) -> u32;
+    pub fn fy_finding(check: *const FyCheck, count: *mut u32, first_bad: *mut u32) -> u32;
 }

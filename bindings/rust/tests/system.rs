@@ -4,7 +4,9 @@
 
 #![deny(unsafe_op_in_unsafe_fn)]
 
-use faultyard::{ConfigFault, Error, Guard, Key, Kind, Part, Refusal};
+use faultyard::{
+    words, Attrition, Check, ConfigFault, Error, Guard, Key, Kind, Part, Refusal, AUDIT_HEADER,
+};
 use std::alloc::{GlobalAlloc, Layout};
 use std::ffi::c_void;
 use std::sync::atomic::{AtomicBool, AtomicIsize, AtomicUsize, Ordering::SeqCst};
@@ -157,6 +159,22 @@ fn no_memory() {
     assert_eq!(guard.audit().unwrap().lines().count(), made + 2);
 }
 
+fn no_memory_for_plans_and_checks() {
+    let guard = Guard::open(CONFIG).unwrap();
+    assert_eq!(without_memory(|| words(0, 0, 9)), Err(Error::NoMemory));
+    let plan = without_memory(|| guard.swizzle_plan(0, 0, 1));
+    assert_eq!(plan, Err(Error::NoMemory));
+    let plan = without_memory(|| guard.attrition_plan(0, 0, Attrition::default()));
+    assert_eq!(plan, Err(Error::NoMemory));
+    let begun = without_memory(|| Check::begin(CONFIG));
+    assert_eq!(begun.err(), Some(Error::NoMemory));
+    let mut check = Check::begin(CONFIG).unwrap();
+    let header = without_memory(|| check.line(AUDIT_HEADER));
+    assert_eq!(header, Err(Error::NoMemory));
+    assert_eq!(check.finding(), Err(Error::NoHeader));
+    assert_eq!(check.line(AUDIT_HEADER), Ok(None));
+}
+
 /// A cluster file that is refused is read once more, to say where its fault is.
 fn no_memory_to_say_where_a_fault_is() {
     let config = CONFIG.replace("\"p1\"", "\"p0\"");
@@ -221,6 +239,7 @@ fn memory_is_given_back() {
 fn what_the_system_refuses() {
     memory_is_given_back();
     no_memory();
+    no_memory_for_plans_and_checks();
     no_memory_to_say_where_a_fault_is();
     no_memory_is_asked_for();
 }

@@ -31,9 +31,13 @@ TYPES = {
     "fy_seen *": "*mut FySeen",
     "fy_reply *": "*mut FyReply",
     "const uint32_t *": "*const u32",
+    "fy_order *": "*mut FyOrder",
     "fy_guard": "FyGuard",
     "fy_guard *": "*mut FyGuard",
     "const fy_guard *": "*const FyGuard",
+    "fy_check": "FyCheck",
+    "fy_check *": "*mut FyCheck",
+    "const fy_check *": "*const FyCheck",
 }
 # Statuses that no error of the crate tells; `accepted` tells REFUSED with its refusal.
 UNTOLD = {"Done": 0, "Refused": 3, "Short": 4, "Closed": 19}
@@ -110,16 +114,25 @@ class Table(unittest.TestCase):
         found = re.findall(r"^pub const (\w+): \w+ = (.*);$", source("sys.rs"), re.M)
         told = [(name, greatest.get(value, value)) for name, value in found]
         self.assertEqual(told, [(name, wanted[name]) for name, _ in found])
-        self.assertEqual(len(found), 17)
+        self.assertEqual(len(found), 19)
 
     def test_each_field_is_the_headers(self):
-        for struct, its, count in (("fy_seen", "FySeen", 4), ("fy_reply", "FyReply", 10)):
+        for struct, its, count in (
+            ("fy_seen", "FySeen", 4),
+            ("fy_reply", "FyReply", 10),
+            ("fy_order", "FyOrder", 7),
+        ):
             body = re.search(rf"^typedef struct {struct} {{(.*?)^}}", HEADER, re.M | re.S)[1]
-            fields = re.findall(r"^    (\w+) (\w+);", body, re.M)
-            wanted = [(name, TYPES[kind]) for kind, name in fields]
+            fields = re.findall(r"^    (\w+) (\w+)(?:\[FY_(\w+)\])?;", body, re.M)
+            wanted = [(name, f"[u8; {room}]" if room else TYPES[kind]) for kind, name, room in fields]
             body = re.search(rf"^pub struct {its} {{(.*?)^}}", source("sys.rs"), re.M | re.S)[1]
-            self.assertEqual(re.findall(r"^    pub (\w+): (\w+),$", body, re.M), wanted)
+            self.assertEqual(re.findall(r"^    pub (\w+): (.*),$", body, re.M), wanted)
             self.assertEqual(len(wanted), count)
+
+    def test_each_order_is_the_headers(self):
+        found = re.findall(r"^ +(\d+) => Ok\(Order::(\w+) {", source("plan.rs"), re.M)
+        orders = {f"Order{name}": int(number) for number, name in found}
+        self.assertEqual(orders, header_numbers("fy_order_act"))
 
     def test_each_status_is_the_headers(self):
         found = re.findall(r"^ +(\d+) => Error::(\w+),$", source("error.rs"), re.M)
@@ -187,8 +200,8 @@ class Crate(Cargo):
     def test_its_own_tests(self):
         ran = self.cargo("test")
         counts = re.findall(r"^test result: ok\. (\d+) passed; 0 failed", ran.stdout, re.M)
-        # The unit tests, four files of tests, and the examples of the pages.
-        self.assertEqual(sum(int(it) > 0 for it in counts), 6, ran.stdout)
+        # The unit tests, six files of tests, and the examples of the pages.
+        self.assertEqual(sum(int(it) > 0 for it in counts), 8, ran.stdout)
         refused = re.findall(r"^test .* - compile fail \.\.\. ok$", ran.stdout, re.M)
         self.assertEqual(len(refused), 3, ran.stdout)
 
