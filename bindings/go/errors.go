@@ -35,7 +35,7 @@ const (
 	ErrFloor Status = C.FY_FLOOR
 	// ErrLineTooLong is: the line has more than 65,536 bytes.
 	ErrLineTooLong Status = C.FY_LINE_TOO_LONG
-	// ErrLineSyntax is: the line is no command of a script.
+	// ErrLineSyntax is: the line is no command of a script, or no entry of an audit.
 	ErrLineSyntax Status = C.FY_LINE_SYNTAX
 	// ErrConfigTooLong is: the cluster file has more than 1,048,576 bytes. It and the next six are
 	// answered by no call; each ConfigFault is its Status by errors.Is.
@@ -57,6 +57,10 @@ const (
 	ErrConfigUnmet Status = C.FY_CONFIG_UNMET
 	// ErrClosed is: the guard is closed.
 	ErrClosed Status = C.FY_CLOSED
+	// ErrNoHeader is: the first line of the audit is no header of a version.
+	ErrNoHeader Status = C.FY_NO_HEADER
+	// ErrAuditTooLong is: the lines of the audit have more than 268,435,456 bytes together.
+	ErrAuditTooLong Status = C.FY_AUDIT_TOO_LONG
 )
 
 var statusTexts = []string{
@@ -69,7 +73,7 @@ var statusTexts = []string{
 	ErrName:          "the value of the target is no name",
 	ErrFloor:         "the floor of the kill is above its kind",
 	ErrLineTooLong:   "the line has more than 65,536 bytes",
-	ErrLineSyntax:    "the line is no command of a script",
+	ErrLineSyntax:    "the line is no command of a script, or no entry of an audit",
 	ErrConfigTooLong: "the cluster file has more than 1,048,576 bytes",
 	ErrConfigToml:    "the cluster file is no TOML document in UTF-8",
 	ErrConfigField:   "a key of the cluster file is missing, unknown or wrong, or a word is unknown",
@@ -78,6 +82,8 @@ var statusTexts = []string{
 	ErrConfigPolicy:  "a text of the cluster file is no policy",
 	ErrConfigUnmet:   "all processes of the cluster file together don't satisfy one of its policies",
 	ErrClosed:        "the guard is closed",
+	ErrNoHeader:      "the first line of the audit is no header of a version",
+	ErrAuditTooLong:  "the lines of the audit have more than 268,435,456 bytes together",
 }
 
 // Error says what the status means.

@@ -46,6 +46,19 @@ func (kind Kind) IsFinal() bool {
 	return kind == KillInstantly
 }
 
+// OrderAct is what an order of a plan asks for.
+type OrderAct uint32
+
+// What it may be.
+const (
+	// OrderKill is a kill.
+	OrderKill OrderAct = C.FY_ORDER_KILL
+	// OrderClog is the act clog.
+	OrderClog OrderAct = C.FY_ORDER_CLOG
+	// OrderUnclog is the act unclog.
+	OrderUnclog OrderAct = C.FY_ORDER_UNCLOG
+)
+
 // Rule is why the kind that was ordered is barred: the first rule that holds.
 type Rule uint32
 
@@ -89,6 +102,7 @@ const (
 var (
 	keyWords  = []string{"", "processid", "machineid", "zoneid", "data_hall", "dcid"}
 	kindWords = []string{"None", "RebootProcess", "Reboot", "RebootAndDelete", "KillInstantly"}
+	orderActs = []string{"", "kill", "clog", "unclog"}
 	ruleWords = []string{
 		"NoRule", "NoTarget", "NoGrant", "Protected", "TooManyDestroyed", "TooFewLeft",
 	}
@@ -105,6 +119,11 @@ func (key Key) String() string {
 // String is the word of scripts and audits.
 func (kind Kind) String() string {
 	return wordOf("Kind", kindWords, uint32(kind))
+}
+
+// String is the name of the act in scripts and audits.
+func (act OrderAct) String() string {
+	return wordOf("OrderAct", orderActs, uint32(act))
 }
 
 // String is the word of audits.

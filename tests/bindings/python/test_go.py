@@ -64,7 +64,7 @@ class Sources(unittest.TestCase):
 
     def test_each_call_is_made(self):
         declared = re.findall(r"^\w+ (fy_\w+)\(", C_HEADER.read_text(), re.M)
-        text = "".join((PACKAGE / it).read_text() for it in ("guard.go", "acts.go"))
+        text = "".join(it.read_text() for it in PACKAGE.glob("*.go"))
         self.assertEqual(set(re.findall(r"\bC\.(fy_\w+)\(", text)), set(declared))
 
     def test_each_kind_of_a_set_is_the_c_headers(self):
@@ -98,7 +98,7 @@ class Go(common.Folder, unittest.TestCase):
     def test_the_tests_of_the_package_under_the_race_detector(self):
         audit = Path(self.folder, "audit")
         told = go("test", "-race", "-count=1", "-v", ".", FAULTYARD_SHARED_AUDIT=str(audit))
-        tests = "".join((TESTS / f"{it}_test.go").read_text() for it in ("guard", "numbered"))
+        tests = "".join(it.read_text() for it in sorted(TESTS.glob("*_test.go")))
         wanted = re.findall(r"^func (Test\w+)\(", tests, re.M)
         self.assertEqual(re.findall(r"^--- PASS: (\w+) ", told, re.M), wanted)
         self.assertNotIn("--- SKIP", told)
@@ -131,6 +131,7 @@ class Go(common.Folder, unittest.TestCase):
         told = run(program, env={**ENVIRONMENT, "LD_LIBRARY_PATH": self.folder})
         calls = ("Open", "Open, to say where the fault is")
         calls += ("Kill", "Reset", "Up", "Heal", "Form", "Take", "Act", "Entry", "Audit")
+        calls += ("Words", "SwizzlePlan", "AttritionPlan", "BeginCheck", "Line")
         wanted = dict.fromkeys(calls, "faultyard: there was no memory")
         wanted["Act"] = "faultyard: the act is made, but its line could not be written"
         no_key = "faultyard: there is no such key, kind or floor, members don't rise, "

@@ -62,6 +62,20 @@ func main() {
 	fmt.Println("Keeper:", err)
 	_, err = guard.Sight()
 	fmt.Println("Sight:", err)
+	_, err = faultyard.Words(0, 0, 1)
+	fmt.Println("Words:", err)
+	_, err = guard.SwizzlePlan(0, 0, 1)
+	fmt.Println("SwizzlePlan:", err)
+	_, err = guard.AttritionPlan(0, 0, faultyard.SwarmAttrition())
+	fmt.Println("AttritionPlan:", err)
+	_, err = faultyard.BeginCheck([]byte("="))
+	fmt.Println("BeginCheck:", err)
+	check, err := faultyard.BeginCheck(nil)
+	if err != nil {
+		log.Fatal(err)
+	}
+	_, err = check.Line(nil)
+	fmt.Println("Line:", err)
 	var group sync.WaitGroup
 	for i := 0; i < 1000; i++ {
 		group.Add(1)

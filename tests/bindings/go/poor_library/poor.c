@@ -276,3 +276,49 @@ uint32_t fy_audit(const fy_guard *guard, size_t at, uint8_t *buffer, size_t buff
     require_turn();
     return FY_NO_MEMORY;
 }
+
+uint32_t fy_words(uint64_t seed, uint64_t stream, uint32_t *words, size_t count)
+{
+    return FY_NO_MEMORY;
+}
+
+uint32_t fy_swizzle_plan(const fy_guard *guard, uint64_t seed, uint64_t stream, uint64_t ticks,
+                         fy_order *orders, size_t room, size_t *told)
+{
+    require_turn();
+    *told = 0;
+    return FY_NO_MEMORY;
+}
+
+uint32_t fy_attrition_plan(const fy_guard *guard, uint64_t seed, uint64_t stream, uint32_t to_kill,
+                           uint32_t to_leave, uint32_t kind, uint32_t floor, uint64_t tear,
+                           fy_order *orders, size_t room, size_t *told)
+{
+    return fy_swizzle_plan(guard, seed, stream, 0, orders, room, told);
+}
+
+/* It has memory for a check, and none for its lines. */
+uint32_t fy_begin_check(const uint8_t *config, size_t config_length, fy_check *check)
+{
+    if (config_length > 0)
+        return FY_NO_MEMORY;
+    check->at = &opened;
+    return FY_DONE;
+}
+
+void fy_end_check(fy_check check)
+{
+}
+
+uint32_t fy_read_line(fy_check *check, const uint8_t *line, size_t line_length, uint32_t *first_bad)
+{
+    *first_bad = FY_NO_BAD_ENTRY;
+    return FY_NO_MEMORY;
+}
+
+uint32_t fy_finding(const fy_check *check, uint32_t *count, uint32_t *first_bad)
+{
+    *count = 0;
+    *first_bad = FY_NO_BAD_ENTRY;
+    return FY_NO_HEADER;
+}
