@@ -33,6 +33,10 @@ TYPES = {
     "fy_seen *": ctypes.POINTER(library._Seen),
     "fy_reply *": ctypes.POINTER(library._Reply),
     "const uint32_t *": ctypes.POINTER(ctypes.c_uint32),
+    "fy_order *": ctypes.POINTER(library._Order),
+    "fy_check": library._Check,
+    "fy_check *": ctypes.POINTER(library._Check),
+    "const fy_check *": ctypes.POINTER(library._Check),
 }
 
 
@@ -80,6 +84,12 @@ class Table(unittest.TestCase):
             found = re.findall(r"^    (\w+) (\w+);", body, re.M)
             self.assertEqual(struct._fields_, [(field, TYPES[its]) for its, field in found])
             self.assertEqual(len(found), count)
+        body = re.search(r"^typedef struct fy_order {(.*?)^}", HEADER, re.M | re.S)[1]
+        found = re.findall(r"^    (\w+) (\w+)(\[FY_VALUE_BYTES\])?;", body, re.M)
+        value = ctypes.c_char * library.VALUE_BYTES
+        wanted = [(name, value if room else TYPES[its]) for its, name, room in found]
+        self.assertEqual(library._Order._fields_, wanted)
+        self.assertEqual(len(found), 7)
 
     def test_each_act_by_numbers_has_its_call(self):
         self.assertEqual(set(library.NUMBERED) | {"kill", "up", "heal"}, set(acts.ACTS))
@@ -87,7 +97,10 @@ class Table(unittest.TestCase):
 
     def test_each_number_is_the_headers(self):
         statuses = dict(re.findall(r"^    FY_(\w+) = (\d+),", HEADER, re.M))
-        for name in ("DONE", "NO_MEMORY", "JOURNAL_FULL", "REFUSED", "SHORT", "UNWRITTEN"):
+        names = ["DONE", "NO_MEMORY", "JOURNAL_FULL", "REFUSED", "SHORT", "UNWRITTEN"]
+        names += ["LINE_TOO_LONG", "LINE_SYNTAX", "NO_HEADER", "AUDIT_TOO_LONG"]
+        names += ["ORDER_KILL", "ORDER_CLOG", "ORDER_UNCLOG"]
+        for name in names:
             self.assertEqual(getattr(library, name), int(statuses[name]))
         faults = {
             "TOO_LONG": "TooLong",
@@ -111,9 +124,11 @@ class Table(unittest.TestCase):
         kinds = dict(re.findall(r"^#define FY_KINDS_(\w+) (\d+)u", HEADER, re.M))
         named = {kind.name: str(library.KIND_BITS[kind.value]) for kind in faultyard.Kind}
         self.assertEqual(kinds, {**named, "ALL": str(sum(library.KIND_BITS.values()))})
+        self.assertEqual(library.VALUE_BYTES, int(defined["VALUE_BYTES"]))
         greatest = dict(re.findall(r"^#define FY_(\w+) UINT(\d+)_MAX$", HEADER, re.M))
         self.assertEqual(library.NOBODY, 2 ** int(greatest["NOBODY"]) - 1)
         self.assertEqual(library.NO_SUCH_RECORD, 2 ** int(greatest["NO_SUCH_RECORD"]) - 1)
+        self.assertEqual(library.NO_BAD_ENTRY, 2 ** int(greatest["NO_BAD_ENTRY"]) - 1)
         self.assertEqual(library.NOTHING, 2 ** int(greatest["NOTHING"]) - 1)
         bits = dict(re.findall(r"^#define FY_(STATE_\w+) (\d+)u", HEADER, re.M))
         self.assertEqual(len(bits), 4)
@@ -157,6 +172,17 @@ class Poor(common.Folder, unittest.TestCase):
     def test_want_of_memory_to_say_where_the_fault_is(self):
         with self.assertRaises(faultyard.OutOfMemory):
             self.guard(library=self.library())
+
+    def test_want_of_memory_for_words_and_for_a_check(self):
+        poor = self.library()
+        with self.assertRaises(faultyard.OutOfMemory):
+            library.words(0, 0, 9, library=poor)
+        with self.assertRaises(faultyard.OutOfMemory):
+            faultyard.Check(common.SIX, library=poor)
+        nothing = common.written(self.folder, "nothing.toml", "")
+        with faultyard.Check(nothing, library=poor) as check:
+            with self.assertRaises(faultyard.OutOfMemory):
+                check.line(common.HEADER)
 
 
 @unittest.skipUnless(common.LIBRARY, common.WITHOUT)

@@ -9,6 +9,7 @@
             guard.up(0, by=0)
 """
 
+from .checking import Check, Finding
 from .cluster_file import Actor, ClusterFile
 from .enums import Key, Kind, Part, Refusal, Role, Rule
 from .errors import (
@@ -49,11 +50,13 @@ __all__ = [
     "Actor",
     "AuditRefused",
     "Begun",
+    "Check",
     "ClusterFile",
     "ConfigRefused",
     "Done",
     "Entry",
     "FaultyardError",
+    "Finding",
     "Formed",
     "Guard",
     "GuardClosed",

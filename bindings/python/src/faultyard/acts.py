@@ -41,7 +41,8 @@ def _whole(bits: int) -> Callable[[Any], int]:
 
 number = _whole(32)
 """The number of an actor, process, team, record, policy or grant."""
-_large = _whole(64)
+large = _whole(64)
+"""A number of 64 bits: of ticks, of a message, of a seed."""
 
 
 def _word(kind: Type[_Word]) -> Callable[[Any], str]:
@@ -115,12 +116,12 @@ def _scope(value: Any) -> Union[str, Dict[str, str]]:
 
 _TARGET: Dict[str, Callable[[Any], Any]] = {"key": _key, "value": _name}
 _PROCESS: Dict[str, Callable[[Any], Any]] = {"process": number}
-_MESSAGE: Dict[str, Callable[[Any], Any]] = {"message": _large}
+_MESSAGE: Dict[str, Callable[[Any], Any]] = {"message": large}
 _GUARDED: Dict[str, Callable[[Any], Any]] = {"kinds": _kinds, "process": number}
 
 ACTS: Dict[str, Dict[str, Callable[[Any], Any]]] = {
-    "kill": {"floor": _ordered, "key": _key, "kind": _ordered, "tear": _large, "value": _name},
-    "clog": {"ticks": _large, **_TARGET},
+    "kill": {"floor": _ordered, "key": _key, "kind": _ordered, "tear": large, "value": _name},
+    "clog": {"ticks": large, **_TARGET},
     "unclog": _TARGET,
     "form": {"members": _members, "policy": number},
     "begin": {"payload": _payload, "team": number},
@@ -130,7 +131,7 @@ ACTS: Dict[str, Dict[str, Callable[[Any], Any]]] = {
     "sync": _PROCESS,
     "up": _PROCESS,
     "heal": _PROCESS,
-    "tick": {"ticks": _large},
+    "tick": {"ticks": large},
     "give": {"actor": number, "kinds": _kinds, "scope": _scope},
     "take": {"actor": number, "index": number},
     "protect": _GUARDED,

@@ -5,7 +5,8 @@ from __future__ import annotations
 import os
 import threading
 from types import TracebackType
-from typing import Any, FrozenSet, Iterable, Literal, Mapping, Optional, Tuple, Type, TypeVar, Union
+from typing import Any, Dict, FrozenSet, Iterable, List, Literal, Mapping, Optional, Tuple, Type
+from typing import TypeVar, Union
 
 from . import acts
 from .enums import Key, Kind
@@ -341,6 +342,45 @@ class Guard:
         """The time, and what there is to do next. Over the pipe it raises `NotOffered`."""
         with self._lock:
             return self._at_work().sight()
+
+    # Plans that are drawn from a seed.
+
+    def swizzle_plan(
+        self, seed: int, stream: int, ticks: int = 10
+    ) -> List[Dict[str, Dict[str, Any]]]:
+        """The swizzle of a stream of a seed: acts `clog` and `unclog`, each for `act`.
+
+        A swarm's first, third, .. fault actor makes it; the stream is its number. Nothing is
+        entered. Over the pipe it raises `NotOffered`.
+        """
+        seed, stream, ticks = acts.large(seed), acts.large(stream), acts.large(ticks)
+        with self._lock:
+            return self._at_work().swizzle_plan(seed, stream, ticks)
+
+    def attrition_plan(
+        self,
+        seed: int,
+        stream: int,
+        *,
+        to_kill: int = 2,
+        to_leave: int = 1,
+        kind: Kind = Kind.KILL_INSTANTLY,
+        floor: Kind = Kind.REBOOT,
+        tear: int = 0,
+    ) -> List[Dict[str, Dict[str, Any]]]:
+        """The attrition of a stream of a seed: an act `kill` for each machine, each for `act`.
+
+        At most `to_kill` machines are killed, and at least `to_leave` are spared. A swarm's second,
+        fourth, .. fault actor makes that of the values left out; the stream is its number. Nothing
+        is entered. Over the pipe it raises `NotOffered`.
+        """
+        order = {"key": Key.MACHINE, "value": "m", "kind": kind, "floor": floor, "tear": tear}
+        seed, stream, order = acts.large(seed), acts.large(stream), acts.checked("kill", order)
+        to_kill, to_leave = acts.number(to_kill), acts.number(to_leave)
+        with self._lock:
+            return self._at_work().attrition_plan(seed, stream, to_kill, to_leave, order)
+
+    # The journal.
 
     def journal_len(self) -> int:
         """How many entries the journal has."""

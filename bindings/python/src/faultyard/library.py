@@ -8,7 +8,7 @@ import weakref
 from typing import Any, Callable, Dict, FrozenSet, Iterable, List, Mapping, NamedTuple, Optional
 from typing import Tuple
 
-from .acts import line
+from .acts import large, line, number
 from .enums import Key, Kind, Part, Refusal, Rule
 from .errors import ConfigRefused, FaultyardError, GuardClosed, JournalFull, NotFound
 from .errors import OutOfMemory, ProtocolError
@@ -55,7 +55,32 @@ class _Reply(c.Structure):
     ]
 
 
+VALUE_BYTES = 33
+"""How many bytes the value of an order has."""
+
+
+class _Order(c.Structure):
+    """`fy_order`."""
+
+    _fields_ = [
+        ("ticks", c.c_uint64),
+        ("tear", c.c_uint64),
+        ("act", c.c_uint32),
+        ("key", c.c_uint32),
+        ("kind", c.c_uint32),
+        ("floor", c.c_uint32),
+        ("value", c.c_char * VALUE_BYTES),
+    ]
+
+
+class _Check(c.Structure):
+    """`fy_check`."""
+
+    _fields_ = [("at", c.c_void_p)]
+
+
 _guard, _seen, _reply = c.POINTER(_Guard), c.POINTER(_Seen), c.POINTER(_Reply)
+_order, _check = c.POINTER(_Order), c.POINTER(_Check)
 _u32, _u32_out = c.c_uint32, c.POINTER(c.c_uint32)
 _u64, _u64_out = c.c_uint64, c.POINTER(c.c_uint64)
 _size, _size_out = c.c_size_t, c.POINTER(c.c_size_t)
@@ -108,12 +133,25 @@ CALLS: Dict[str, Tuple[Any, List[Any]]] = {
     "fy_sight": (None, [_guard, _seen]),
     "fy_journal_len": (_size, [_guard]),
     "fy_audit": (_u32, [_guard, _size, _bytes, _size, _size_out]),
+    "fy_words": (_u32, [_u64, _u64, _u32_out, _size]),
+    "fy_swizzle_plan": (_u32, [_guard, _u64, _u64, _u64, _order, _size, _size_out]),
+    "fy_attrition_plan": (
+        _u32,
+        [_guard, _u64, _u64, _u32, _u32, _u32, _u32, _u64, _order, _size, _size_out],
+    ),
+    "fy_begin_check": (_u32, [_bytes, _size, _check]),
+    "fy_end_check": (None, [_Check]),
+    "fy_read_line": (_u32, [_check, _bytes, _size, _u32_out]),
+    "fy_finding": (_u32, [_check, _u32_out, _u32_out]),
 }
 """The library's own calls of include/faultyard.h: what each answers and takes."""
 
 # From include/faultyard.h.
 MAJOR = 1
 DONE, NO_MEMORY, JOURNAL_FULL, REFUSED, SHORT, UNWRITTEN = range(6)
+LINE_TOO_LONG, LINE_SYNTAX, NO_HEADER, AUDIT_TOO_LONG = 10, 11, 20, 21
+ORDER_KILL, ORDER_CLOG, ORDER_UNCLOG = 1, 2, 3
+NO_BAD_ENTRY = 2**32 - 1
 MOST_REPLY = 128
 MOST_PAYLOAD = 32_000
 EVERYONE = 0
@@ -205,6 +243,8 @@ TOLD: Dict[str, Callable[[_Reply], Reply]] = {
     "copy": lambda told: Sent(int(told.message)),
 }
 """What each of them tells, where it isn't `Done` alone."""
+USUAL_PLAN = 64
+"""How many orders most plans have at most; a longer one is drawn again."""
 
 
 class Version(NamedTuple):
@@ -257,6 +297,30 @@ def load(library: Optional[StrPath] = None) -> c.CDLL:
     except AttributeError as fault:
         raise ProtocolError(f"{name} is no faultyard of this version: {fault}") from None
     return found
+
+
+def words(seed: int, stream: int, count: int, library: Optional[StrPath] = None) -> List[int]:
+    """The first words of a stream of a seed: pseudo-random words of ChaCha with eight rounds.
+
+    A swarm's actor draws from the stream of its number. The library is the one that `load` finds.
+    """
+    seed, stream, count = large(seed), large(stream), number(count)
+    drawn = (_u32 * max(count, 1))()
+    _require(load(library).fy_words(seed, stream, drawn, count))
+    return list(drawn)[:count]
+
+
+def _act_of(order: _Order) -> Dict[str, Dict[str, Any]]:
+    """The act of an order, for `Guard.act`."""
+    target = {"key": list(KEYS)[order.key - 1], "value": order.value.decode()}
+    if order.act == ORDER_CLOG:
+        return {"clog": {**target, "ticks": order.ticks}}
+    if order.act == ORDER_UNCLOG:
+        return {"unclog": target}
+    if order.act != ORDER_KILL:
+        raise ProtocolError(f"the library planned the act {order.act}")
+    kind, floor = (list(KINDS)[it - 1] for it in (order.kind, order.floor))
+    return {"kill": {**target, "kind": kind, "floor": floor, "tear": order.tear}}
 
 
 def _error(status: int) -> FaultyardError:
@@ -406,6 +470,16 @@ class Library(Transport):
         message = None if seen.deliverable == NOTHING else seen.deliverable
         return Sight(seen.now, message, _somebody(seen.unsynced), _somebody(seen.sleeping))
 
+    def swizzle_plan(self, seed: int, stream: int, ticks: int) -> List[Dict[str, Dict[str, Any]]]:
+        return self._plan(self._library.fy_swizzle_plan, seed, stream, ticks)
+
+    def attrition_plan(
+        self, seed: int, stream: int, to_kill: int, to_leave: int, order: Mapping[str, Any]
+    ) -> List[Dict[str, Dict[str, Any]]]:
+        kind, floor = KINDS[order["kind"]], KINDS[order["floor"]]
+        asked = (seed, stream, to_kill, to_leave, kind, floor, order["tear"])
+        return self._plan(self._library.fy_attrition_plan, *asked)
+
     def journal_len(self) -> int:
         if self._closed_with is not None:
             return self._closed_with.count(b"\n") - 1
@@ -429,6 +503,16 @@ class Library(Transport):
         words = (_u64 * SET_WORDS)()
         call(self._opened(), words, SET_WORDS)
         return _processes(words)
+
+    def _plan(self, call: Any, *asked: int) -> List[Dict[str, Dict[str, Any]]]:
+        """The acts of the orders that a call of the library writes."""
+        orders, told = (_Order * USUAL_PLAN)(), _size()
+        status = call(self._opened(), *asked, orders, len(orders), told)
+        if status == SHORT:
+            orders = (_Order * told.value)()
+            status = call(self._opened(), *asked, orders, len(orders), told)
+        _require(status)
+        return [_act_of(order) for order in orders[: told.value]]
 
     def _entry(self, at: int) -> bytes:
         """The line of an entry."""

@@ -9,7 +9,7 @@ import tempfile
 import time
 import weakref
 from contextlib import ExitStack
-from typing import IO, Any, FrozenSet, List, Mapping, Optional
+from typing import IO, Any, Dict, FrozenSet, List, Mapping, Optional
 
 from .errors import ConfigRefused, FaultyardError, GuardEnded, JournalFull, OutOfMemory
 from .errors import NotOffered, ProtocolError
@@ -162,6 +162,14 @@ class Pipe(Transport):
 
     def sight(self) -> Sight:
         raise NotOffered("sight asks for the transport 'library'")
+
+    def swizzle_plan(self, seed: int, stream: int, ticks: int) -> List[Dict[str, Dict[str, Any]]]:
+        raise NotOffered("swizzle_plan asks for the transport 'library'")
+
+    def attrition_plan(
+        self, seed: int, stream: int, to_kill: int, to_leave: int, order: Mapping[str, Any]
+    ) -> List[Dict[str, Dict[str, Any]]]:
+        raise NotOffered("attrition_plan asks for the transport 'library'")
 
     def _follow(self) -> Losses:
         """Reads the entries since the last question."""

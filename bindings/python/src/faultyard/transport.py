@@ -4,7 +4,7 @@ from __future__ import annotations
 
 from abc import ABC, abstractmethod
 from dataclasses import dataclass
-from typing import Any, FrozenSet, Mapping, Optional
+from typing import Any, Dict, FrozenSet, List, Mapping, Optional
 
 from .acts import line
 from .replies import Reply, read_entry
@@ -111,6 +111,16 @@ class Transport(ABC):
     @abstractmethod
     def sight(self) -> Sight:
         """The time, and what there is to do next."""
+
+    @abstractmethod
+    def swizzle_plan(self, seed: int, stream: int, ticks: int) -> List[Dict[str, Dict[str, Any]]]:
+        """The acts of a swizzle that is drawn from a stream of a seed."""
+
+    @abstractmethod
+    def attrition_plan(
+        self, seed: int, stream: int, to_kill: int, to_leave: int, order: Mapping[str, Any]
+    ) -> List[Dict[str, Dict[str, Any]]]:
+        """The acts of an attrition that is drawn from a stream of a seed."""
 
     @abstractmethod
     def journal_len(self) -> int:

@@ -1,0 +1,156 @@
+"""Words, plans and checks of the library through ctypes; tests/swarm/run has other words."""
+
+import importlib.util
+import sys
+import unittest
+from importlib.machinery import SourceFileLoader
+
+import common
+import faultyard
+from faultyard import Check, Guard, Key, Kind, library
+
+
+OLDER = "SKIPPED words and plans of a swarm: this Python is older than 3.11"
+
+
+def swarm():
+    """tests/swarm/run, which draws words and plans by a ChaCha of its own."""
+    loader = SourceFileLoader("swarm", str(common.ROOT / "tests/swarm/run"))
+    module = importlib.util.module_from_spec(importlib.util.spec_from_loader("swarm", loader))
+    loader.exec_module(module)
+    return module
+
+
+@unittest.skipUnless(common.LIBRARY, common.WITHOUT)
+class Plans(common.Folder, unittest.TestCase):
+    def guard(self):
+        return Guard(common.SIX, transport="library")
+
+    @unittest.skipIf(sys.version_info < (3, 11), OLDER)
+    def test_words_and_plans_are_those_of_a_swarm(self):
+        import tomllib
+
+        its = swarm()
+        processes = tomllib.loads(common.SIX.read_text())["process"]
+        with self.guard() as guard:
+            for seed in (*range(20), 2**64 - 1):
+                drawn = library.words(seed, 2, 12)
+                self.assertEqual(drawn, its.words(seed, 2, 12))
+                self.assertEqual(guard.swizzle_plan(seed, 2), its.swizzle(drawn, processes))
+                self.assertEqual(guard.attrition_plan(seed, 2), its.attrition(drawn, processes))
+            self.assertEqual(guard.journal_len(), 0)
+        self.assertEqual(library.words(0, 0, 0), [])
+
+    def test_a_plan_is_made_by_its_acts(self):
+        with self.guard() as guard:
+            asked = {"kind": Kind.REBOOT_AND_DELETE, "floor": Kind.REBOOT_PROCESS, "tear": 5}
+            plan = guard.attrition_plan(7, 1, to_kill=6, to_leave=0, **asked)
+            for act in [*guard.swizzle_plan(7, 1, 3), *plan]:
+                self.assertEqual(guard.act(1, act).act, act)
+            self.assertEqual(len(plan), 6)
+        count = guard.journal_len()
+        self.assertGreater(count, 6)
+        self.assertEqual(faultyard.check(common.SIX, guard.audit()), count)
+
+    def test_a_plan_of_many_orders(self):
+        processes = "".join(
+            f'{{processid = "p{at}", machineid = "m{at}", zoneid = "z"}},' for at in range(200)
+        )
+        text = f'journal_limit = 9\npolicies = ["One()"]\nprocess = [{processes}]\n'
+        text += 'actor = [{role = "fault"}]\n'
+        config = common.written(self.folder, "many.toml", text)
+        with Guard(config, transport="library") as guard:
+            plan = guard.attrition_plan(1, 0, to_kill=150)
+        self.assertEqual(len({act["kill"]["value"] for act in plan}), 150)
+
+    def test_what_is_no_plan(self):
+        with self.guard() as guard:
+            asks = [
+                lambda: guard.swizzle_plan(-1, 0),
+                lambda: guard.swizzle_plan(0, 2**64),
+                lambda: guard.swizzle_plan(0, 0, "1"),
+                lambda: guard.attrition_plan(0, 0, to_kill=2**32),
+                lambda: guard.attrition_plan(0, 0, kind=Kind.CLOG),
+                lambda: guard.attrition_plan(0, 0, floor=Kind.KILL_INSTANTLY, kind=Kind.REBOOT),
+                lambda: library.words(0, 0, -1),
+            ]
+            for ask in asks:
+                self.assertRaises(faultyard.InvalidAct, ask)
+        self.assertRaises(faultyard.GuardClosed, guard.swizzle_plan, 0, 0)
+        self.assertRaises(faultyard.GuardClosed, guard.attrition_plan, 0, 0)
+
+    def test_the_pipe_has_no_plans(self):
+        with Guard(common.SIX) as guard:
+            self.assertRaises(faultyard.NotOffered, guard.swizzle_plan, 0, 0)
+            self.assertRaises(faultyard.NotOffered, guard.attrition_plan, 0, 0)
+
+
+@unittest.skipUnless(common.LIBRARY, common.WITHOUT)
+class Checks(common.Folder, unittest.TestCase):
+    def lines(self):
+        """The lines of an audit whose second kill is lessened to a reboot."""
+        with Guard(common.SIX) as guard:
+            for zone in ("z0", "z1"):
+                guard.kill(Key.ZONE, zone, Kind.KILL_INSTANTLY, by=1, floor=Kind.REBOOT)
+        return guard.audit().splitlines(keepends=True)
+
+    def fault(self, check, line):
+        with self.assertRaises(faultyard.AuditRefused) as caught:
+            check.line(line)
+        return caught.exception.fault
+
+    def test_the_audit_of_a_guard_is_legal(self):
+        with Check(common.SIX) as check:
+            for line in self.lines():
+                self.assertIsNone(check.line(line))
+            self.assertEqual(check.finding(), faultyard.Finding(2, None))
+        self.assertRaises(faultyard.GuardClosed, check.line, common.HEADER)
+        self.assertRaises(faultyard.GuardClosed, check.finding)
+        check.close()
+
+    def test_a_reply_that_goes_too_far_is_the_first_bad_one(self):
+        header, first, second = self.lines()
+        with Check(common.SIX) as check:
+            self.assertIsNone(check.line(header.encode()))
+            self.assertIsNone(check.line(first))
+            bad = second.replace('"struck":"Reboot"', '"struck":"KillInstantly"')
+            self.assertNotEqual(bad, second)
+            self.assertEqual(check.line(bad), 1)
+            self.assertEqual(check.finding(), faultyard.Finding(2, 1))
+
+    def test_a_faulty_line_is_told_by_the_fault_line_of_check(self):
+        header, first, second = self.lines()
+        with Check(common.SIX) as check:
+            self.assertEqual(self.fault(check, '{"audit":3}\n'), "audit: line 1: Header")
+            with self.assertRaises(faultyard.AuditRefused) as caught:
+                check.finding()
+            self.assertEqual(caught.exception.fault, "audit: line 1: Header")
+            self.assertIsNone(check.line(header))
+            self.assertEqual(self.fault(check, second), "audit: line 2: Syntax")
+            self.assertEqual(self.fault(check, b" " * 65_537), "audit: line 2: TooLong")
+            self.assertIsNone(check.line(first))
+            for line in ("", "\n", first, second.rstrip("\n"), second + first):
+                self.assertEqual(self.fault(check, line), "audit: line 3: Syntax")
+            self.assertIsNone(check.line(second))
+
+    def test_too_many_bytes(self):
+        front = '{"act":{"begin":{"payload":"' + "a" * 65_000
+        with Check(common.SIX) as check:
+            check.line(common.HEADER)
+            length = len(common.HEADER)
+            for at in range(5000):
+                back = f'","team":0}}}},"at":{at},"by":9,"reply":{{"no":["NoTeam"]}}}}\n'
+                line = (front + back).encode()
+                length += len(line)
+                if length > 268_435_456:
+                    self.assertEqual(self.fault(check, line), "audit: TooLong")
+                    self.assertEqual(check.finding(), faultyard.Finding(at, 0))
+                    return
+                self.assertEqual(check.line(line), 0)
+            self.fail("there was no end")
+
+    def test_a_refused_cluster_file_has_its_fault_line(self):
+        for line, path in common.refused_files(self.folder).items():
+            with self.assertRaises(faultyard.ConfigRefused) as caught:
+                Check(path)
+            self.assertEqual(caught.exception.fault, line)
