@@ -1,12 +1,27 @@
-/* Times a kill by the C library: kills CONFIG KILLS PROCESSES. The first kill strikes p0, and each of the others names the
- * next of the rest and is barred: two machines lost are too many. The best of ROUNDS rounds is told. */
+/* Times kills and judgements by the C library: kills CONFIG KILLS PROCESSES. The first kill strikes p0, and two machines lost
+ * are too many. So each kill of the rest is barred where its floor is its kind, and lessened to a reboot where its floor is a
+ * reboot; a reboot of a process strikes. The best of ROUNDS rounds is told, in nanoseconds a call. */
 #define _POSIX_C_SOURCE 199309L
 #include "faultyard.h"
 #include <stdio.h>
 #include <stdlib.h>
 #include <time.h>
 
-enum { ROUNDS = 10 };
+enum { ROUNDS = 10, CASES = 3, WAYS = 3 };
+
+/* A case of the table: what is ordered of each process but p0. */
+static const struct {
+    const char *name;
+    fy_kind kind, floor;
+    const char *kind_word, *floor_word;
+} cases[CASES] = {
+    {"strikes", FY_REBOOT_PROCESS, FY_REBOOT_PROCESS, "RebootProcess", "RebootProcess"},
+    {"lessened", FY_KILL_INSTANTLY, FY_REBOOT_PROCESS, "KillInstantly", "RebootProcess"},
+    {"barred", FY_KILL_INSTANTLY, FY_KILL_INSTANTLY, "KillInstantly", "KillInstantly"},
+};
+
+/* How a kill is asked for. */
+typedef enum way { JUDGED, KILLED, BY_LINE } way;
 
 static char config[1048576], names[1024][24], lines[1024][256];
 
@@ -17,15 +32,35 @@ static double now(void)
     return (double)t.tv_sec + (double)t.tv_nsec * 1e-9;
 }
 
-static fy_status kill(fy_guard *guard, long process, int by_line)
+static fy_status ask(fy_guard *guard, int at, long process, way by)
 {
     uint32_t struck, rule;
     uint64_t named;
     char buffer[512];
     size_t told;
-    if (by_line)
+    switch (by) {
+    case JUDGED:
+        return fy_guard_judge(guard, 1, FY_PROCESS, names[process], cases[at].kind, cases[at].floor, &struck, &rule, &named);
+    case KILLED:
+        return fy_guard_kill(guard, 1, FY_PROCESS, names[process], cases[at].kind, cases[at].floor, 0, &struck, &rule, &named);
+    default:
         return fy_guard_act(guard, lines[process], strlen(lines[process]), buffer, sizeof buffer, &told);
-    return fy_guard_kill(guard, 1, FY_PROCESS, names[process], FY_KILL_INSTANTLY, FY_KILL_INSTANTLY, 0, &struck, &rule, &named);
+    }
+}
+
+/* The seconds that so many calls took, or less than 0 where one wasn't answered. */
+static double round_of(fy_guard *guard, int at, long kills, long processes, way by)
+{
+    uint32_t struck, rule;
+    uint64_t named;
+    if (fy_guard_reset(guard) != FY_DONE
+        || fy_guard_kill(guard, 1, FY_PROCESS, "p0", FY_KILL_INSTANTLY, FY_KILL_INSTANTLY, 0, &struck, &rule, &named) != FY_DONE)
+        return -1;
+    double began = now();
+    for (long i = 0; i < kills; i++)
+        if (ask(guard, at, 1 + i % (processes - 1), by) != FY_DONE)
+            return -1;
+    return now() - began;
 }
 
 int main(int count, char **words)
@@ -36,27 +71,27 @@ int main(int count, char **words)
     size_t length = fread(config, 1, sizeof config, file);
     fclose(file);
     long kills = atol(words[2]), processes = atol(words[3]);
-    for (long p = 0; p < processes; p++) {
-        snprintf(names[p], sizeof names[p], "p%ld", p);
-        snprintf(lines[p], sizeof lines[p],
-                 "{\"by\":1,\"act\":{\"kill\":{\"floor\":\"KillInstantly\",\"key\":\"processid\",\"kind\":\"KillInstantly\",\"tear\":0,\"value\":\"p%ld\"}}}",
-                 p);
-    }
-    double best[2] = {1e9, 1e9};
-    for (int round = 0; round < 2 * ROUNDS; round++) {
-        fy_guard guard;
-        if (fy_guard_open(config, length, &guard) != FY_DONE)
-            return 1;
-        double began = now();
-        for (long i = 0; i < kills; i++)
-            if (kill(&guard, i == 0 ? 0 : 1 + i % (processes - 1), round % 2) != FY_DONE)
+    fy_guard guard;
+    if (fy_guard_open(config, length, &guard) != FY_DONE)
+        return 1;
+    for (int at = 0; at < CASES; at++) {
+        double best[WAYS] = {1e9, 1e9, 1e9};
+        for (long p = 0; p < processes; p++) {
+            snprintf(names[p], sizeof names[p], "p%ld", p);
+            snprintf(lines[p], sizeof lines[p],
+                     "{\"by\":1,\"act\":{\"kill\":{\"floor\":\"%s\",\"key\":\"processid\",\"kind\":\"%s\",\"tear\":0,\"value\":\"p%ld\"}}}",
+                     cases[at].floor_word, cases[at].kind_word, p);
+        }
+        for (int round = 0; round < WAYS * ROUNDS; round++) {
+            double took = round_of(&guard, at, kills, processes, (way)(round % WAYS));
+            if (took < 0)
                 return 1;
-        double took = now() - began;
-        if (took < best[round % 2])
-            best[round % 2] = took;
-        fy_guard_close(&guard);
+            if (took < best[round % WAYS])
+                best[round % WAYS] = took;
+        }
+        printf("%ld processes, %s: %.0f ns a judgement, %.0f ns a kill, %.0f ns by a line\n", processes, cases[at].name,
+               best[JUDGED] / (double)kills * 1e9, best[KILLED] / (double)kills * 1e9, best[BY_LINE] / (double)kills * 1e9);
     }
-    printf("%ld processes: %.0f ns a kill, %.0f ns by a line\n", processes, best[0] / (double)kills * 1e9,
-           best[1] / (double)kills * 1e9);
+    fy_guard_close(&guard);
     return 0;
 }

@@ -1,6 +1,7 @@
 #!/usr/bin/env bash
-# Times a kill by the C library, in a cluster of 6, 100 and 1,000 processes, and where BESIDE is the path of another program of
-# this command line that tells with FY_TIMES=1 what its decisions took, the same kills by that.
+# Times judgements and kills by the C library, in a cluster of 6, 100 and 1,000 processes, where the kill strikes, is lessened
+# and is barred; and where BESIDE is the path of another program of this command line that tells with FY_TIMES=1 what its
+# decisions took, the same kills by that.
 #
 #     bench/kills.sh [BESIDE]
 set -euo pipefail
@@ -14,19 +15,35 @@ for processes in 6 100 1000; do
 import json
 import sys
 
+CASES = {
+    "strikes": ("RebootProcess", "RebootProcess"),
+    "lessened": ("KillInstantly", "RebootProcess"),
+    "barred": ("KillInstantly", "KillInstantly"),
+}
+KINDS = '["RebootProcess", "Reboot", "RebootAndDelete", "KillInstantly"]'
+
+
+def line(kind, floor, process):
+    order = {"floor": floor, "key": "processid", "kind": kind, "tear": 0, "value": f"p{process}"}
+    return json.dumps({"by": 1, "act": {"kill": order}}, separators=(",", ":"))
+
+
 processes, kills, work = int(sys.argv[1]), int(sys.argv[2]), sys.argv[3]
 with open(f"{work}/cluster.toml", "w") as file:
     print('journal_limit = 1000000\npolicies = ["Across(2,machineid,One())"]\nprocess = [', file=file)
     for p in range(processes):
         print(f'  {{processid = "p{p}", machineid = "m{p}", zoneid = "z{p % 3}"}},', file=file)
-    print(']\nactor = [\n  {role = "storage"},\n  {role = "fault", grants = [{kinds = ["KillInstantly"]}]},\n]', file=file)
-with open(f"{work}/script", "w") as file:
-    for i in range(kills):
-        order = {"floor": "KillInstantly", "key": "processid", "kind": "KillInstantly", "tear": 0, "value": f"p{0 if i == 0 else 1 + i % (processes - 1)}"}
-        print(json.dumps({"by": 1, "act": {"kill": order}}, separators=(",", ":")), file=file)
+    print(f']\nactor = [\n  {{role = "storage"}},\n  {{role = "fault", grants = [{{kinds = {KINDS}}}]}},\n]', file=file)
+for case, (kind, floor) in CASES.items():
+    with open(f"{work}/{case}", "w") as file:
+        print(line("KillInstantly", "KillInstantly", 0), file=file)
+        for i in range(kills):
+            print(line(kind, floor, 1 + i % (processes - 1)), file=file)
 EOF
     "$work/kills" "$work/cluster.toml" "$kills" "$processes"
     if [ $# -gt 0 ]; then
-        FY_TIMES=1 "$1" run "$work/cluster.toml" < "$work/script" 2>&1 > /dev/null | sed "s|^|  beside, $kills kills: |"
+        for case in strikes lessened barred; do
+            FY_TIMES=1 "$1" run "$work/cluster.toml" < "$work/$case" 2>&1 > /dev/null | sed "s|^|  beside, $case, $kills kills: |"
+        done
     fi
 done
