@@ -7,17 +7,27 @@ use fy_acts::{Act, Reply};
 use fy_cluster::Cluster;
 use fy_locality::ProcId;
 use fy_team::Members;
+use fy_yard::laws::new_seats_are_its_own;
 use fy_yard::{End, Gate, Post, Receipt, Seat, Shared, run_actors};
 use std::alloc::Global;
 use std::boxed::Box;
 use std::test::Fail;
 
+/// A cluster of one process that is shared, with the seat of its one actor.
+fn opened(alloc: Global) -> Result<(Shared, Vec<Seat>), Fail>
+    ensures { IfOk result (λ made. All (λ seat. seat.of ≡ Some made.0) made.1.items) }
+{
+    new_seats_are_its_own();
+    let cluster = Cluster::make(alloc, config_of_one(alloc)?)?;
+    match Shared::open(alloc, cluster) {
+        Ok(open) => Ok(open),
+        Err(_) => Err(Fail::from("no memory")),
+    }
+}
+
 #[test]
 fn an_order_is_made_from_a_seat(rt: HostRuntime) -> Result<(), Fail> {
-    let cluster = Cluster::make(rt.alloc(), config_of_one(rt.alloc())?)?;
-    let Ok((shared, mut seats)) = Shared::open(rt.alloc(), cluster) else {
-        return Err(Fail::from("no memory"));
-    };
+    let (shared, mut seats) = opened(rt.alloc())?;
     let Some(seat) = seats.get_mut(0) else {
         return Err(Fail::from("no seat"));
     };
@@ -56,10 +66,7 @@ fn posted(alloc: Global, shared: &Shared, seat: Seat) -> Result<Vec<Post>, Fail>
 
 #[test]
 fn a_post_is_run_to_its_end(rt: HostRuntime) -> Result<(), Fail> {
-    let cluster = Cluster::make(rt.alloc(), config_of_one(rt.alloc())?)?;
-    let Ok((shared, mut seats)) = Shared::open(rt.alloc(), cluster) else {
-        return Err(Fail::from("no memory"));
-    };
+    let (shared, mut seats) = opened(rt.alloc())?;
     let Some(seat) = seats.pop() else {
         return Err(Fail::from("no seat"));
     };

@@ -5,6 +5,7 @@ use Rattle.std.specs.List.{All, AllZip, Contains}
 use Rattle.std.proofs.lemmas.Bool.{cases_lt, false≢true}
 use Rattle.std.proofs.lemmas.List.{append-nil, drop_all, take_all, get_or_append_left, get_or_push}
 use Rattle.std.proofs.lemmas.List.Elements.{AllZip-get_or, length_all_zip, All-contains, Contains-append_left, Contains-append_right, Contains-push, filter-append}
+use Rattle.std.proofs.lemmas.List.FromFn.{length-map-range_with_len}
 use Rattle.fy_cluster.specs.Setup.{Setup}
 use Rattle.fy_cluster.specs.Execution.{Execution}
 use Rattle.fy_cluster.specs.Survival.{Survives}
@@ -28,10 +29,6 @@ use Rattle.fy_swarm.specs.Swarm.{IsSwarm, HasSwarmAudit, HasPlayed, Finished, Al
 
 -- ---- new seats
 
-pub seat_count : (y : Yard) (a n : ℕ) → length (new_seats y a n) ≡ n
-seat_count y a zero = refl
-seat_count y a (suc n) = ap suc (seat_count y (a + 1) n)
-
 abbrev first_of : List SeatState → SeatState → SeatState
 first_of [] d = d
 first_of (x ∷ xs) d = x
@@ -48,7 +45,7 @@ next_seat y i (suc fewer) seat rest is =
     (fewer, refl, ap (λ xs. first_of xs seat) is, ap rest_of is)
 
 pub none_left : (y : Yard) (i left : ℕ) (rest : List SeatState) → length rest ≡ 0 → rest ≡ new_seats y i left → left ≡ 0
-none_left y i left rest none is = sym (seat_count y i left) ∙ sym (ap length is) ∙ none
+none_left y i left rest none is = sym (length-map-range_with_len (new_seat y) i left) ∙ sym (ap length is) ∙ none
 
 -- ---- who rests
 

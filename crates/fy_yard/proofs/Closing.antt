@@ -11,26 +11,12 @@ use Rattle.fy_cluster.specs.Setup.{Setup}
 use Rattle.fy_cluster.specs.Replies.{Legal}
 use Rattle.fy_actors.specs.Desk.{DeskState, entries_by}
 use Rattle.fy_yard.specs.declared.view.View.{View}
-use Rattle.fy_yard.specs.Yard.{StartsWith, Yard, SeatState, actor_count, actors, closed_seat, IsJournalOf, Missing, new_seat, new_seats}
+use Rattle.fy_yard.specs.Yard.{StartsWith, Yard, SeatState, actor_count, actors, closed_seat, IsJournalOf, Missing}
 use Rattle.fy_yard.specs.Turnstile.{SeatView, Joined, keys, NotAmong, Distinct, KeepsTurns, key_of, joined_by}
 use Rattle.fy_yard.specs.Places.{seat_state, key_of_seat, Gathered, IsPlaceOf}
 use Rattle.fy_yard.proofs.Moves.{ends, Over}
 use Rattle.fy_yard.proofs.Turning.{of_yard}
 use Rattle.fy_yard.proofs.Counting.{most_below, all_there, missing_one, contained, sizes, sizes_all}
-
-pub new_seats_more : (y : Yard) (a n : ℕ)
-    → new_seats y a (suc n) ≡ new_seats y a n ++ new_seat y (a + n) ∷ []
-new_seats_more y a zero = ap (λ (k : ℕ). new_seat y k ∷ []) (omega arith)
-new_seats_more y a (suc n) =
-    ap (λ (l : List SeatState). new_seat y a ∷ l)
-    (new_seats_more y (a + 1) n
-    ∙ ap (λ (k : ℕ). new_seats y (a + 1) n ++ new_seat y k ∷ []) (omega arith))
-
--- new seats are seats of their cluster
-pub all_new : (y : Yard) (a n : ℕ) → All (λ (s : SeatState). s.of ≡ Some y) (new_seats y a n)
-all_new y a zero k d l = absurd (omega arith)
-all_new y a (suc n) zero d l = refl
-all_new y a (suc n) (suc k) d l = all_new y (a + 1) n k d (omega arith)
 
 -- the first of the seats and those done were joined, and the others are still to be
 pub record Joining (y : Yard) (ss : List SeatState) (i : ℕ) (now : List SeatState) (m : SeatView)

@@ -1,5 +1,6 @@
 -- what callers see of a shared cluster and its seats
-use Rattle.std.specs.Prelude.{◌≡◌, ◌≢◌, ◌⊎◌, ℕ, zero, suc, ◌+◌, ◌<◌, ◌≤◌, List, [], ◌∷◌, ◌++◌, length, map, sum_by, All, Contains, Option, Some, None}
+use Rattle.std.specs.Prelude.{◌≡◌, ◌≢◌, ◌⊎◌, ℕ, ◌<◌, ◌≤◌, List, [], ◌∷◌, ◌++◌, length, map, sum_by, All, Contains, Option, Some, None}
+use Rattle.std.specs.List.{range_with_len}
 use Rattle.atomic_table.specs.Seated.{TableId}
 use Rattle.fy_acts.specs.declared.act.Act.{Act}
 use Rattle.fy_acts.specs.declared.reply.Reply.{Reply}
@@ -80,8 +81,7 @@ new_seat y actor = record { of = Some y; actor = actor; receipts = []; seen = []
 
 -- so many new seats, by number, from this actor's on
 abbrev pub new_seats : Yard → ℕ → ℕ → List SeatState
-new_seats y actor zero = []
-new_seats y actor (suc n) = new_seat y actor ∷ new_seats y (actor + 1) n
+new_seats y actor n = map (new_seat y) (range_with_len actor n)
 
 -- whose seats these are
 abbrev pub actors : List SeatState → List ℕ

@@ -1,6 +1,7 @@
 //! A cluster that many actors share, each in a thread of its own: seats, turns and the close.
 #![tactic(auto)]
 
+pub mod laws;
 mod places;
 mod posts;
 mod turns;

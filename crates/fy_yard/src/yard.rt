@@ -262,8 +262,6 @@ impl Shared {
         ensures setup { IfOk result (λ made. made.0.setup ≡ cluster.setup) }
         ensures seats { IfOk result
             (λ made. made.1.items ≡ new_seats made.0 0 (actor_count cluster.setup)) }
-        ensures theirs { IfOk result
-            (λ made. All (λ seat. seat.of ≡ Some made.0) made.1.items) }
         ensures err { IfErr result (λ back. back ≡ cluster) }
     {
         let actors = count_actors(&cluster);

@@ -1,7 +1,7 @@
-use Rattle.std.proofs.Common.{rules, ◌≡◌, ◌∙◌, ◌++◌, ◌∷◌, [], ◌+◌, ◌-◌, suc, ℕ, sym, ap, arith, Some}
+use Rattle.std.proofs.Common.{rules, ◌≡◌, ◌∙◌, ◌++◌, ◌∷◌, [], ◌+◌, ◌-◌, ℕ, sym, ap, arith, Some}
+use Rattle.std.proofs.lemmas.List.FromFn.{map-range_with_len_more}
 use Rattle.fy_yard.specs.Turnstile.{SeatView}
 use Rattle.fy_yard.specs.Yard.{Yard, new_seat, new_seats}
-use Rattle.fy_yard.proofs.Closing.{new_seats_more}
 use Rattle.fy_yard.proofs.yard.seat_all.Goals as goal
 
 pub loop-actor-preserved : goal.loop-actor-preserved
@@ -24,12 +24,11 @@ loop-actor-preserved c =
     }) in
     let low = i.2 in
     let items = c.push_reserved.ensures.items ∙ (λ k. i.6 k ++ same k ∷ []) in
-    let next : a ≡ 1 + (a - 1) = omega arith in
-    let more : suc (a - 1) ≡ (a + 1) - 1 = omega arith in
+    let next : 1 + (a - 1) ≡ a = omega arith in
+    let more : (a - 1) + 1 ≡ (a + 1) - 1 = omega arith in
     let last =
     items
-    ∙ (ap (λ (k : ℕ). new_seats y 1 (a - 1) ++ new_seat y k ∷ []) next
-    ∙ (sym (new_seats_more y 1 (a - 1)) ∙ ap (new_seats y 1) more)) in (
+    ∙ (sym (map-range_with_len_more (new_seat y) 1 (a - 1) a next) ∙ ap (new_seats y 1) more) in (
       search rules,
       search rules,
       search rules,
