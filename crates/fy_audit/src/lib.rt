@@ -4,6 +4,7 @@
 mod ahead;
 mod audit;
 pub mod laws;
+mod par_script;
 mod reader;
 mod script;
 
@@ -12,5 +13,6 @@ pub use fy_journal::{Journal, JournalFault, MOST_ENTRIES, Version};
 pub use fy_spelling::{
     Act, Command, Entry, LineFault, MOST_LINE_BYTES, Refusal, Reply, entry_text,
 };
+pub use par_script::par_read_script;
 pub use reader::AuditReader;
-pub use script::{MOST_SCRIPT_BYTES, ScriptFault, par_read_script, read_script};
+pub use script::{MOST_SCRIPT_BYTES, ScriptFault, read_script};

@@ -1,15 +1,10 @@
 //! Scripts: what many actors ask for, a command a line.
-ghost use Rattle.std.specs.Prelude.{◌≡◌, IfOk, IfErr, Ok, Err, map};
-ghost use Rattle.std.specs.List.{AllZip};
-ghost use Rattle.fy_spelling.specs.Command.{LineAnswers};
+ghost use Rattle.std.specs.Prelude.{◌≡◌, IfOk, IfErr, Ok, Err};
 ghost use Rattle.fy_audit.specs.Script.{ScriptOf, ScriptAnswers};
 
-use crate::ahead::first_lines;
 use fy_lines::first_line;
 use fy_spelling::{Command, CommandFault, LineFault, read_command};
-use rayon::prelude::*;
-use std::alloc::{AllocError, AllocFailed, Global};
-use std::thread::Threads;
+use std::alloc::{AllocFailed, Global};
 
 /// How many bytes a script may have: 16,777,216.
 pub const MOST_SCRIPT_BYTES: usize = 16_777_216;
@@ -62,65 +57,6 @@ pub fn read_script(alloc: Global, bytes: &[u8]) -> Result<Vec<Command>, ScriptFa
             Err(CommandFault::NoMemory) => return Err(ScriptFault::NoMemory),
         }
         rest = next;
-    }
-    Ok(commands)
-}
-
-/// What is read of lines, in order, on as many threads as there are processors.
-fn read_commands(
-    rt: &(impl Threads + Sync),
-    alloc: Global,
-    lines: &[&[u8]],
-) -> Result<Vec<Result<Command, CommandFault>>, AllocError>
-    ensures { IfOk result (λ answers.
-        AllZip LineAnswers (map (λ line. line.now) lines.now) answers.items) }
-{
-    lines
-        .par_iter()
-        .map(
-            |line: &&[u8]| -> Result<Command, CommandFault>
-                ensures { LineAnswers line.now.now result }
-            { read_command(alloc, line) },
-        )
-        .collect(rt, alloc)
-}
-
-/// The commands of a script, as `read_script` reads them, on as many threads as there are
-/// processors. A script of few lines is read by one.
-///
-/// # Errors
-///
-/// Those of `read_script`.
-pub fn par_read_script(
-    rt: &(impl Threads + Sync),
-    alloc: Global,
-    bytes: &[u8],
-) -> Result<Vec<Command>, ScriptFault>
-    ensures read { IfOk result (λ commands. ScriptOf bytes.now (Ok commands.items)) }
-    ensures refused { IfErr result (λ fault. ScriptAnswers bytes.now (Err fault)) }
-{
-    if bytes.len() > MOST_SCRIPT_BYTES {
-        return Err(ScriptFault::TooLong);
-    }
-    let mut commands = Vec::new(alloc);
-    let mut rest = bytes;
-    let mut number = 0;
-    while !rest.is_empty() {
-        let Ok((lines, after)) = first_lines(alloc, rest) else {
-            return Err(ScriptFault::NoMemory);
-        };
-        let Ok(answers) = read_commands(rt, alloc, &lines) else {
-            return Err(ScriptFault::NoMemory);
-        };
-        for answer in answers {
-            number += 1;
-            match answer {
-                Ok(command) => commands.push(command)?,
-                Err(CommandFault::Line(fault)) => return Err(ScriptFault::Line { number, fault }),
-                Err(CommandFault::NoMemory) => return Err(ScriptFault::NoMemory),
-            }
-        }
-        rest = after;
     }
     Ok(commands)
 }

@@ -3,7 +3,7 @@ use Rattle.std.specs.Vec.Iter.{into_iter_items}
 use Rattle.fy_spelling.specs.declared.command.CommandFault.{CommandFault}
 use Rattle.fy_spelling.specs.declared.command.CommandFault.TheVariants.{Line}
 use Rattle.fy_audit.proofs.Batches.{IsReading, batch_begins, batch_ends, is_first_faulty, reads_on}
-use Rattle.fy_audit.proofs.script.par_read_script.Goals as goal
+use Rattle.fy_audit.proofs.par_script.par_read_script.Goals as goal
 
 pub loop-answer-preserved : goal.loop-answer-preserved
 loop-answer-preserved g c =

@@ -3,7 +3,7 @@ use Rattle.std.specs.Vec.Iter.{into_iter_items}
 use Rattle.fy_lines.specs.Lines.{lines_of}
 use Rattle.fy_audit.specs.Script.{AreCommands}
 use Rattle.fy_audit.proofs.Batches.{IsReading}
-use Rattle.fy_audit.proofs.script.par_read_script.Given as goal
+use Rattle.fy_audit.proofs.par_script.par_read_script.Given as goal
 
 -- the commands so far are those of the first lines
 abbrev pub invariant-loop-rest : goal.invariant-loop-rest

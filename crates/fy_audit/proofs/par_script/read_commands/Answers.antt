@@ -7,7 +7,7 @@ use Rattle.fy_spelling.specs.Command.{LineAnswers}
 use Rattle.fy_spelling.specs.declared.command.Command.{Command}
 use Rattle.fy_spelling.specs.declared.command.CommandFault.{CommandFault}
 use Rattle.fy_audit.proofs.LinesAhead.{of_each_lent}
-use Rattle.fy_audit.proofs.script.read_commands.Goals as goal
+use Rattle.fy_audit.proofs.par_script.read_commands.Goals as goal
 
 pub returns : goal.returns
 returns g c =
