@@ -206,9 +206,9 @@ pub(crate) fn write_last_names(text: &mut String, rows: usize) -> Result<(), All
     let records = y_of(rows.saturating_add(1)).saturating_add(ROW - 6);
     writeln!(
         text,
-        "<text x=\"116\" y=\"{nobody}\">orders that name nobody</text>"
+        "<text x=\"96\" y=\"{nobody}\">orders that name nobody</text>"
     )?;
-    writeln!(text, "<text x=\"116\" y=\"{records}\">acknowledged</text>")
+    writeln!(text, "<text x=\"96\" y=\"{records}\">acknowledged</text>")
 }
 
 /// How many lines `write_orders` writes.
