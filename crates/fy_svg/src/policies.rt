@@ -5,7 +5,7 @@ use fy_picture::{Line, Picture};
 use fy_policy::{Policy, policy_text};
 use std::alloc::{AllocError, Global};
 
-/// How many bytes of a policy's text fit left of its line; a longer text is squeezed.
+/// How many bytes of a policy's text fit left of its line; a longer text is smaller.
 const FITTING: usize = 38;
 
 /// How high a policy's line is at a count.
@@ -117,6 +117,10 @@ fn write_label(
     let y = foot.saturating_sub(STEPS / 2);
     write!(text, "<text class=\"policy-text\" x=\"6\" y=\"{y}\"")?;
     if words.len() > FITTING {
+        // not every viewer knows textLength
+        let tenths = (FITTING * 110).checked_div(words.len()).unwrap_or(0);
+        let (whole, tenth) = (tenths / 10, tenths % 10);
+        write!(text, " style=\"font-size: {whole}.{tenth}px\"")?;
         text.push_str(" textLength=\"236\" lengthAdjust=\"spacingAndGlyphs\"")?;
     }
     writeln!(text, ">{words}</text>")?;
