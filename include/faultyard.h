@@ -24,7 +24,7 @@
  * with threads forked.
  *
  * The struct may be moved in memory. Of a guard there is one copy that is used: a copy of the struct
- * is no second guard.
+ * is no second guard, which fy_guard_try_copy opens.
  */
 #ifndef FAULTYARD_H
 #define FAULTYARD_H
@@ -244,16 +244,18 @@ typedef struct fy_check {
 /* ---- The library's own calls, for other languages and for the calls below
  *
  * Nothing in them asks whether a guard is open or a pointer null: whoever calls them sees to it.
- * Pointers are never null, also where a length is 0. fy_open takes a closed guard, all zeros. The
- * guard that fy_close took is not used again. A `set` has FY_SET_WORDS words. What each answers
- * stands at the call of the same name below. The same goes for a check, fy_begin_check and
- * fy_end_check; their calls below are fy_check_begin, fy_check_line, fy_check_finding, fy_check_end.
+ * Pointers are never null, also where a length is 0. fy_open takes a closed guard, all zeros, and so
+ * does fy_try_copy as its `other`. The guard that fy_close took is not used again. A `set` has
+ * FY_SET_WORDS words. What each answers stands at the call of the same name below. The same goes for
+ * a check, fy_begin_check and fy_end_check; their calls below are fy_check_begin, fy_check_line,
+ * fy_check_finding, fy_check_end.
  */
 uint32_t fy_version(void);
 uint32_t fy_config_fault(const uint8_t *config, size_t config_length, uint32_t *part, uint64_t *place);
 uint32_t fy_open(const uint8_t *config, size_t config_length, fy_guard *guard);
 void fy_close(fy_guard guard);
 uint32_t fy_reset(fy_guard *guard);
+uint32_t fy_try_copy(const fy_guard *guard, fy_guard *other);
 uint32_t fy_kill(fy_guard *guard, uint32_t actor, uint32_t key, const uint8_t *value, size_t value_length,
                  uint32_t kind, uint32_t floor, uint64_t tear, uint32_t *struck, uint32_t *rule,
                  uint64_t *named);
@@ -370,6 +372,22 @@ static inline fy_status fy_guard_reset(fy_guard *guard)
     if (!fy_guard_is_open(guard))
         return FY_CLOSED;
     return (fy_status)fy_reset(guard);
+}
+
+/* Opens a second guard with the journal of an open one, to look ahead: what is done with one changes
+ * nothing of the other, and each is closed. The acts of the journal are made once more, so the call
+ * takes as long as they took. What `*other` was is written over; where it isn't opened, it is closed.
+ *
+ * FY_CLOSED where the guard isn't open, or a pointer is null; and where both pointers are the same,
+ * whose guard stays open. FY_NO_MEMORY. */
+static inline fy_status fy_guard_try_copy(const fy_guard *guard, fy_guard *other)
+{
+    if (other == NULL || other == guard)
+        return FY_CLOSED;
+    other->at = NULL;
+    if (!fy_guard_is_open(guard))
+        return FY_CLOSED;
+    return (fy_status)fy_try_copy(guard, other);
 }
 
 /* Orders a kill: by this actor, of the processes whose key has the value (a text that ends with a

@@ -266,6 +266,106 @@ static void reset(void)
     fy_guard_close(&guard);
 }
 
+/* The lines of a guard's journal. */
+static size_t journal_of(const fy_guard *guard, char *text, size_t room)
+{
+    size_t count = 0, told = 0, length = 0;
+    EQUAL(fy_guard_journal_len(guard, &count), FY_DONE);
+    for (size_t at = 0; at < count; at++) {
+        EQUAL(fy_guard_audit(guard, at, text + length, room - length, &told), FY_DONE);
+        length += told;
+    }
+    return length;
+}
+
+/* Two guards have this many entries, and the same journal to the byte. */
+static void same_journal(const fy_guard *guard, const fy_guard *other, size_t wanted)
+{
+    char its[4096], others[4096];
+    size_t count = 77, length = journal_of(guard, its, sizeof its);
+    EQUAL(fy_guard_journal_len(guard, &count), FY_DONE);
+    EQUAL(count, wanted);
+    EQUAL(journal_of(other, others, sizeof others), length);
+    EQUAL(memcmp(its, others, length), 0);
+}
+
+static void now_is(const fy_guard *guard, uint64_t wanted)
+{
+    fy_seen seen;
+    EQUAL(fy_guard_sight(guard, &seen), FY_DONE);
+    EQUAL(seen.now, wanted);
+}
+
+/* A copy has the journal of its guard. What is done with one changes nothing of the other, and each is closed alone. */
+static void copies(void)
+{
+    fy_guard guard = open_guard(SIX), other = {&guard}, third = {&guard};
+    fy_reply reply;
+    EQUAL(fy_guard_try_copy(&guard, &other), FY_DONE);
+    same_journal(&guard, &other, 0);
+    fy_guard_close(&other);
+    act(&guard, "{\"by\":0,\"act\":{\"form\":{\"members\":[0,2],\"policy\":0}}}");
+    act(&guard, "{\"by\":0,\"act\":{\"begin\":{\"payload\":\"6869\",\"team\":0}}}");
+    act(&guard, "{\"by\":0,\"act\":{\"deliver\":{\"message\":1}}}");
+    EQUAL(fy_guard_sync(&guard, 3, 0, &reply), FY_REFUSED);
+    EQUAL(kill(&guard, 1, FY_ZONE, "z0", FY_KILL_INSTANTLY, FY_REBOOT), FY_DONE);
+    EQUAL(fy_guard_try_copy(&guard, &other), FY_DONE);
+    EQUAL(other.at != guard.at, 1);
+    same_journal(&guard, &other, 5);
+    sets_are(&other, 0x3c, 0x3c, 0x03, 0x03);
+    /* The copy looks ahead: zone z1 is only rebooted. Nothing of it is in the guard, nor of what the guard does in the copy. */
+    EQUAL(kill(&other, 1, FY_ZONE, "z1", FY_KILL_INSTANTLY, FY_REBOOT), FY_DONE);
+    EQUAL(struck, FY_REBOOT);
+    sets_are(&other, 0x30, 0x3c, 0x03, 0x03);
+    sets_are(&guard, 0x3c, 0x3c, 0x03, 0x03);
+    act(&guard, "{\"by\":0,\"act\":{\"tick\":{\"ticks\":7}}}");
+    now_is(&guard, 7);
+    now_is(&other, 0);
+    /* A copy of the copy has what the copy did, and outlives both. */
+    EQUAL(fy_guard_try_copy(&other, &third), FY_DONE);
+    same_journal(&other, &third, 6);
+    EQUAL(fy_guard_reset(&guard), FY_DONE);
+    fy_guard_close(&other);
+    sets_are(&guard, 0x3f, 0x3f, 0, 0);
+    fy_guard_close(&guard);
+    sets_are(&third, 0x30, 0x3c, 0x03, 0x03);
+    act(&third, "{\"by\":0,\"act\":{\"up\":{\"process\":3}}}");
+    sets_are(&third, 0x38, 0x3c, 0x03, 0x03);
+    fy_guard_close(&third);
+}
+
+/* A full journal is copied too, and the copy's is full. */
+static void full_copies(void)
+{
+    fy_guard guard = open_guard(TWO_PLACES), other;
+    fy_reply reply;
+    act(&guard, "{\"by\":0,\"act\":{\"tick\":{\"ticks\":1}}}");
+    act(&guard, "{\"by\":0,\"act\":{\"tick\":{\"ticks\":1}}}");
+    EQUAL(fy_guard_try_copy(&guard, &other), FY_DONE);
+    same_journal(&guard, &other, 2);
+    EQUAL(fy_guard_tick(&other, 0, 1, &reply), FY_JOURNAL_FULL);
+    same_journal(&guard, &other, 2);
+    fy_guard_close(&other);
+    fy_guard_close(&guard);
+}
+
+/* A guard that isn't opened is closed, whatever it was. One that is to be its own copy stays as it is. */
+static void no_copies(void)
+{
+    fy_guard guard = {0}, other = {&guard};
+    EQUAL(fy_guard_try_copy(&guard, &other), FY_CLOSED);
+    EQUAL(fy_guard_is_open(&other), 0);
+    other.at = &guard;
+    EQUAL(fy_guard_try_copy(NULL, &other), FY_CLOSED);
+    EQUAL(fy_guard_is_open(&other), 0);
+    EQUAL(fy_guard_try_copy(NULL, NULL), FY_CLOSED);
+    guard = open_guard(SIX);
+    EQUAL(fy_guard_try_copy(&guard, NULL), FY_CLOSED);
+    EQUAL(fy_guard_try_copy(&guard, &guard), FY_CLOSED);
+    now_is(&guard, 0);
+    fy_guard_close(&guard);
+}
+
 /* Processes by their names. */
 static void names(void)
 {
@@ -553,6 +653,9 @@ int main(void)
     refusals();
     sets();
     reset();
+    copies();
+    full_copies();
+    no_copies();
     names();
     records();
     errors();

@@ -27,6 +27,7 @@ SHAPES = {
     "fy_version": (number, []),
     "fy_open": (number, [c.c_char_p, size, at]),
     "fy_close": (None, [Guard]),
+    "fy_try_copy": (number, [at, at]),
     "fy_kill": (number, [at, number, number, c.c_char_p, size, number, number, c.c_uint64, numbers, numbers, c.POINTER(c.c_uint64)]),
     "fy_up": (number, [at, number, number, numbers]),
     "fy_heal": (number, [at, number, number, numbers]),
@@ -94,5 +95,10 @@ assert library.fy_heal(guard, 0, 2, reason) == REFUSED and reason.value == NOT_D
 assert library.fy_journal_len(guard) == 5
 buffer, told = c.create_string_buffer(512), size()
 assert library.fy_audit(guard, 2, buffer, 512, told) == 0 and buffer.raw[: told.value] == line
+other = Guard()
+assert library.fy_try_copy(guard, other) == 0 and other.at not in (None, guard.at)
 library.fy_close(guard)
+assert library.fy_journal_len(other) == 5
+assert library.fy_audit(other, 2, buffer, 512, told) == 0 and buffer.raw[: told.value] == line
+library.fy_close(other)
 print("guard.py: done")

@@ -28,7 +28,7 @@ static size_t audit_of(fy_guard *guard, char *text)
     return length;
 }
 
-enum { OPEN, FAULT, RESET, KILL, UP, HEAL, ACT, AUDIT, CALLS };
+enum { OPEN, FAULT, RESET, COPY, KILL, UP, HEAL, ACT, AUDIT, CALLS };
 
 static fy_status call(int which, fy_guard *guard, size_t line)
 {
@@ -49,6 +49,14 @@ static fy_status call(int which, fy_guard *guard, size_t line)
         return status;
     case RESET:
         return fy_guard_reset(guard);
+    case COPY:
+        other.at = guard;
+        status = fy_guard_try_copy(guard, &other);
+        /* Each request is needed, and what was made for a copy that isn't opened is freed. */
+        EQUAL(status, answered < 0 ? FY_NO_MEMORY : FY_DONE);
+        EQUAL(fy_guard_is_open(&other), status == FY_DONE);
+        fy_guard_close(&other);
+        return status;
     case KILL:
         return fy_guard_kill(guard, 1, FY_PROCESS, "p4", FY_REBOOT, FY_REBOOT, 0, &struck, &rule, &named);
     case UP:

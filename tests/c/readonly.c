@@ -73,6 +73,18 @@ static void ask_for_plans(const fy_guard *guard)
     EQUAL(told, 2);
 }
 
+/* The copy lies elsewhere, and may be written. */
+static void ask_for_a_copy(const fy_guard *guard)
+{
+    fy_guard other;
+    size_t told = 77;
+    EQUAL(fy_guard_try_copy(guard, &other), FY_DONE);
+    EQUAL(fy_guard_kill(&other, 1, FY_ZONE, "z1", FY_REBOOT, FY_REBOOT, 0, &struck, &rule, &named), FY_DONE);
+    EQUAL(fy_guard_journal_len(&other, &told), FY_DONE);
+    EQUAL(told, 2);
+    fy_guard_close(&other);
+}
+
 /* Each call that only asks. */
 static void ask(const fy_guard *guard)
 {
@@ -117,6 +129,7 @@ static void ask(const fy_guard *guard)
     EQUAL(fy_guard_audit(guard, 0, buffer, sizeof buffer, &told), FY_DONE);
     EQUAL(told > 0, 1);
     ask_for_plans(guard);
+    ask_for_a_copy(guard);
 }
 
 int main(void)

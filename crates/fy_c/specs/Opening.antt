@@ -31,3 +31,8 @@ pub data Opens (bytes : List ℕ) (old new : FyGuard) : Status → Type 0 where
 pub data Resets (old new : Execution) : Status → Type 0 where
   reset : new ≡ opened old.setup → Resets old new Done
   no_memory : new ≡ old → Resets old new NoMemory
+
+-- the guard is open and its cluster has this setup and journal, or it is what it was
+pub data Copies (value : Execution) (old new : FyGuard) : Status → Type 0 where
+  copied : new.at ≢ null_ptr → new.value ≡ value → Copies value old new Done
+  no_memory : new ≡ old → Copies value old new NoMemory

@@ -2,7 +2,7 @@
 ghost use Rattle.std.specs.Prelude.{◌≡◌, ◌≢◌, IfOk, IfErr};
 ghost use Rattle.std.specs.Ptr.{null_ptr};
 ghost use Rattle.fy_cluster.specs.Execution.{opened};
-ghost use Rattle.fy_c.specs.Opening.{Begins, NotOpened, Opens, Resets};
+ghost use Rattle.fy_c.specs.Opening.{Begins, Copies, NotOpened, Opens, Resets};
 ghost use Rattle.fy_c.specs.Statuses.{Answers};
 
 use crate::handle::{FyGuard, closed_up, opened_up};
@@ -78,6 +78,37 @@ pub extern "C" fn fy_reset(alloc: Global, guard: &mut FyGuard) -> u32
     match fresh(alloc, cluster) {
         Ok(begun) => {
             *cluster = begun;
+            Status::Done.number()
+        }
+        Err(_) => Status::NoMemory.number(),
+    }
+}
+
+/// A cluster with the journal of another.
+fn copied(alloc: Global, cluster: &Cluster) -> Result<Box<Cluster>, AllocError>
+    ensures { IfOk result (λ copy. copy.value ≡ cluster.now) }
+{
+    let copy = cluster.try_copy(alloc)?;
+    Ok(Box::new(alloc, copy)?)
+}
+
+/// Opens a second guard with the journal of an open one, to look ahead. The acts of the journal are
+/// made once more, so the call takes as long as they took. What the other guard was before is
+/// forgotten.
+///
+/// # Errors
+///
+/// `NoMemory`: the other guard is then what it was.
+#[unsafe(no_mangle)]
+pub extern "C" fn fy_try_copy(alloc: Global, guard: &mut FyGuard, other: &mut FyGuard) -> u32
+    requires { guard.old.at ≢ null_ptr }
+    ensures kept { guard.new.value ≡ guard.old.value }
+    ensures place { guard.new.at ≡ guard.old.at }
+    ensures copied { Answers result (Copies guard.old.value other.old other.new) }
+{
+    match copied(alloc, guard.cluster()) {
+        Ok(copy) => {
+            *other = closed_up(copy);
             Status::Done.number()
         }
         Err(_) => Status::NoMemory.number(),
