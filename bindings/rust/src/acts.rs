@@ -286,7 +286,7 @@ impl Guard {
         call: impl FnOnce(&mut FyGuard, &mut FyReply) -> u32,
     ) -> Result<FyReply, Error> {
         let mut reply = FyReply::default();
-        let status = call(self.raw(), &mut reply);
+        let status = call(self.raw_mut(), &mut reply);
         refused_by(status, reply.refusal, reply.named)?;
         Ok(reply)
     }

@@ -419,7 +419,7 @@ fn text(bytes: Vec<u8>) -> Result<String, Error> {
 
 impl Guard {
     /// The open guard, for the calls of acts.rs: by `&mut self` no other call is made meanwhile.
-    pub(crate) fn raw(&mut self) -> &mut FyGuard {
+    pub(crate) fn raw_mut(&mut self) -> &mut FyGuard {
         &mut self.raw
     }
 }
