@@ -615,6 +615,16 @@ public:
      * Throws Closed, NoMemory. */
     void reset() { require(fy_reset(opened())); }
 
+    /* A second guard with the same journal, to look ahead: what is done with one changes nothing of
+     * the other. The acts of the journal are made once more, so the call takes as long as they took.
+     * Throws Closed, NoMemory. */
+    [[nodiscard]] Guard try_copy() const
+    {
+        Guard other;
+        require(fy_try_copy(opened(), &other.guard_));
+        return other;
+    }
+
     /* Orders a kill of the processes whose key has the value: by the kind, or where that is barred
      * by a milder one down to the floor. Bit i of `tear` is 1 where a reboot keeps the unsynced
      * write i.
@@ -1030,6 +1040,9 @@ private:
         order.ticks = drawn.ticks;
         return order;
     }
+
+    /* A closed guard. */
+    Guard() noexcept = default;
 
     fy_guard *opened()
     {

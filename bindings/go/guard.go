@@ -47,9 +47,13 @@ func Open(config []byte) (*Guard, error) {
 	if err := errorOf(status); err != nil {
 		return nil, err
 	}
-	// A guard that nobody closed and nobody can reach is freed too.
+	return freed(guard), nil
+}
+
+// freed is an open guard, which is freed too where nobody closed it and nobody can reach it.
+func freed(guard *Guard) *Guard {
 	runtime.SetFinalizer(guard, func(guard *Guard) { C.fy_close(guard.library) })
-	return guard, nil
+	return guard
 }
 
 // do makes a call of the library in its turn. Threads may take turns with a guard.
@@ -83,6 +87,24 @@ func (guard *Guard) Reset() error {
 		return err
 	}
 	return errorOf(status)
+}
+
+// TryCopy opens a second guard with the same journal, to look ahead: what is done with one changes
+// nothing of the other. The acts of the journal are made once more, so the call takes as long as
+// they took. Its error is the first of ErrClosed, ErrNoMemory.
+func (guard *Guard) TryCopy() (*Guard, error) {
+	other := new(Guard)
+	var status C.uint32_t
+	err := guard.do(func(its *C.fy_guard) {
+		status = C.fy_try_copy(its, &other.library)
+	})
+	if err != nil {
+		return nil, err
+	}
+	if err := errorOf(status); err != nil {
+		return nil, err
+	}
+	return freed(other), nil
 }
 
 // Order is an order to kill the processes whose Key has the Value.

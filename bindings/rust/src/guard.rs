@@ -67,6 +67,23 @@ impl Guard {
         done(unsafe { sys::fy_reset(&mut self.raw) })
     }
 
+    /// Opens a second guard with the same journal, to look ahead: what is done with one changes
+    /// nothing of the other. The acts of the journal are made once more, so the call takes as long
+    /// as they took.
+    ///
+    /// # Errors
+    ///
+    /// [`Error::NoMemory`].
+    pub fn try_copy(&self) -> Result<Guard, Error> {
+        let mut raw = FyGuard {
+            at: ptr::null_mut(),
+        };
+        // SAFETY: as in `process`. The other guard is closed. If it isn't opened, it stays closed,
+        // and there is nothing to free.
+        done(unsafe { sys::fy_try_copy(&self.raw, &mut raw) })?;
+        Ok(Guard { raw })
+    }
+
     /// Orders a kill of the processes whose `key` has this value: by `kind`, or where that is
     /// barred by a milder kind, down to `floor`. Bit i of `tear` is 1 where a reboot keeps the
     /// unsynced write i.

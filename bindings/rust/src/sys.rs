@@ -120,6 +120,7 @@ extern "C" {
     pub fn fy_open(config: *const u8, config_length: usize, guard: *mut FyGuard) -> u32;
     pub fn fy_close(guard: FyGuard);
     pub fn fy_reset(guard: *mut FyGuard) -> u32;
+    pub fn fy_try_copy(guard: *const FyGuard, other: *mut FyGuard) -> u32;
     pub fn fy_kill(
         guard: *mut FyGuard,
         actor: u32,

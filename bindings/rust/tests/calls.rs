@@ -307,6 +307,30 @@ fn a_guard_that_is_reset_does_the_same_again() {
 }
 
 #[test]
+fn a_copy_has_the_journal_and_goes_its_own_way() {
+    let mut guard = opened();
+    make(&mut guard, &ACKED);
+    let killed = strictly(&mut guard, Key::Zone, "z0", Kind::KillInstantly);
+    assert_eq!(killed.rule, None);
+    let before = guard.audit().unwrap();
+    let mut other = guard.try_copy().unwrap();
+    assert_eq!(other.audit().unwrap(), before);
+    assert_eq!(
+        (other.keeper(0), numbers(other.left())),
+        (Some(2), vec![2, 3, 4, 5])
+    );
+    let rebooted = strictly(&mut other, Key::Process, "p4", Kind::Reboot);
+    assert_eq!(rebooted.rule, None);
+    assert_eq!(numbers(other.up_set()), [2, 3, 5]);
+    assert_eq!(numbers(guard.up_set()), [2, 3, 4, 5]);
+    assert_eq!(guard.audit().unwrap(), before);
+    let ahead = other.audit().unwrap();
+    guard.reset().unwrap();
+    drop(guard);
+    assert_eq!(other.audit().unwrap(), ahead);
+}
+
+#[test]
 fn processes_by_their_names() {
     let guard = opened();
     assert_eq!(guard.process_count(), 6);

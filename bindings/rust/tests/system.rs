@@ -150,6 +150,8 @@ fn no_memory() {
     assert_eq!(guard.journal_len(), made);
     assert_eq!(without_memory(|| guard.entry(0)), Err(Error::NoMemory));
     assert_eq!(without_memory(|| guard.audit()), Err(Error::NoMemory));
+    let copied = without_memory(|| guard.try_copy());
+    assert_eq!(copied.err(), Some(Error::NoMemory));
     let line = without_memory(|| guard.journal().next());
     assert_eq!(line, Some(Err(Error::NoMemory)));
     let written = without_memory(|| guard.write_audit(io::sink())).unwrap_err();

@@ -273,6 +273,29 @@ static void resets()
     HOLDS(audits[0] == audits[1]);
 }
 
+/* A copy has the journal of its guard; what is done with one changes nothing of the other, and it
+ * outlives its guard. */
+static void copies()
+{
+    std::optional<Guard> guard(std::in_place, SIX);
+    make(*guard, 0, std::size(ACKED));
+    HOLDS(guard->kill(1, Key::Zone, "z0", Kind::KillInstantly) == verdict(Kind::KillInstantly));
+    const std::string before = guard->audit();
+    const Guard &asked = *guard;
+    Guard other = asked.try_copy();
+    HOLDS(other.audit() == before);
+    HOLDS(other.left() == Processes(0x3c) && other.keeper(0) == 2U);
+    HOLDS(other.kill(1, Key::Process, "p4", Kind::Reboot) == verdict(Kind::Reboot));
+    HOLDS(other.up_set() == Processes(0x2c) && guard->up_set() == Processes(0x3c));
+    HOLDS(guard->audit() == before);
+    const std::string ahead = other.audit();
+    guard->reset();
+    guard = std::nullopt;
+    HOLDS(other.audit() == ahead);
+    other = other.try_copy();
+    HOLDS(other.audit() == ahead);
+}
+
 /* The processes by their names, and what there is to do until a record is acknowledged. */
 static void names_and_records()
 {
@@ -511,6 +534,7 @@ static void want_of_memory()
     THROWS(NoMemory, first.heal(0, 0));
     THROWS(NoMemory, guard.act("{\"by\":0,\"act\":{\"tick\":{\"ticks\":5}}}"));
     THROWS(NoMemory, guard.reset());
+    THROWS(NoMemory, (void)guard.try_copy());
     THROWS(NoMemory, guard.entry(0));
     THROWS(NoMemory, guard.audit());
     granted = ALL;
@@ -645,6 +669,7 @@ static void assert_closed(Guard &guard)
     THROWS(Closed, (void)guard.kill(1, Key::Process, "p0", Kind::Reboot));
     THROWS(Closed, (void)guard.judge(1, Key::Process, "p0", Kind::Reboot));
     THROWS(Closed, guard.reset());
+    THROWS(Closed, (void)guard.try_copy());
     THROWS(Closed, guard.up(0, 0));
     THROWS(Closed, guard.heal(0, 0));
     THROWS(Closed, guard.act("{}"));
@@ -923,6 +948,7 @@ int main()
     states();
     judged();
     resets();
+    copies();
     names_and_records();
     numbered_records();
     numbered_rights();

@@ -357,6 +357,30 @@ func TestAGuardThatIsResetDoesTheSameAgain(t *testing.T) {
 	equal(t, audits[0], audits[1])
 }
 
+func TestACopyHasTheJournalAndGoesItsOwnWay(t *testing.T) {
+	guard := opened(t, six(t))
+	act(t, guard, 0, `{"tick":{"ticks":5}}`)
+	kill(t, guard, 1, faultyard.Order{
+		Key: faultyard.Zone, Value: "z0", Kind: faultyard.KillInstantly,
+	})
+	before := audit(t, guard)
+	other, err := guard.TryCopy()
+	equal(t, err, nil)
+	equal(t, audit(t, other), before)
+	equal(t, set(t, other.Left), []uint32{2, 3, 4, 5})
+	kill(t, other, 1, faultyard.Order{
+		Key: faultyard.Process, Value: "p4", Kind: faultyard.Reboot,
+	})
+	equal(t, set(t, other.UpSet), []uint32{2, 3, 5})
+	equal(t, set(t, guard.UpSet), []uint32{2, 3, 4, 5})
+	equal(t, audit(t, guard), before)
+	ahead := audit(t, other)
+	equal(t, guard.Close(), nil)
+	equal(t, audit(t, other), ahead)
+	equal(t, other.Close(), nil)
+	assertClosed(t, other)
+}
+
 func TestProcessesByTheirNames(t *testing.T) {
 	guard := opened(t, six(t))
 	count, err := guard.ProcessCount()
@@ -559,6 +583,8 @@ func assertClosed(t *testing.T, guard *faultyard.Guard) {
 	_, err = guard.Judge(1, faultyard.Order{})
 	fails(t, err, faultyard.ErrClosed)
 	fails(t, guard.Reset(), faultyard.ErrClosed)
+	_, err = guard.TryCopy()
+	fails(t, err, faultyard.ErrClosed)
 	fails(t, guard.Up(0, 0), faultyard.ErrClosed)
 	fails(t, guard.Heal(0, 0), faultyard.ErrClosed)
 	_, err = guard.Act(nil)

@@ -130,7 +130,8 @@ class Go(common.Folder, unittest.TestCase):
         poor_library(library)
         told = run(program, env={**ENVIRONMENT, "LD_LIBRARY_PATH": self.folder})
         calls = ("Open", "Open, to say where the fault is")
-        calls += ("Kill", "Reset", "Up", "Heal", "Form", "Take", "Act", "Entry", "Audit")
+        calls += ("Kill", "Reset", "TryCopy", "Up", "Heal", "Form", "Take", "Act", "Entry")
+        calls += ("Audit",)
         calls += ("Words", "SwizzlePlan", "AttritionPlan", "BeginCheck", "Line")
         wanted = dict.fromkeys(calls, "faultyard: there was no memory")
         wanted["Act"] = "faultyard: the act is made, but its line could not be written"

@@ -313,7 +313,7 @@ class InThisProcess(common.Folder, unittest.TestCase):
                 with self.assertRaises(faultyard.InvalidAct):
                     ask(-1)
         asked = [guard.sight, lambda: guard.is_acked(0), lambda: guard.keeper(0), guard.up_set]
-        asked += [lambda: guard.state(0), lambda: guard.needed(0), guard.reset]
+        asked += [lambda: guard.state(0), lambda: guard.needed(0), guard.reset, guard.try_copy]
         for ask in asked:
             with self.assertRaises(faultyard.GuardClosed):
                 ask()
@@ -366,6 +366,26 @@ class InThisProcess(common.Folder, unittest.TestCase):
                 guard.reset()
                 self.assertEqual(guard.audit(), common.HEADER)
             self.assertEqual(audits[0], audits[1])
+
+    def test_a_copy_has_the_journal_and_goes_its_own_way(self):
+        key, kinds = faultyard.Key, faultyard.Kind
+        with self.guard() as guard:
+            guard.tick(5, by=0)
+            guard.kill(key.ZONE, "z0", kinds.KILL_INSTANTLY, by=1)
+            before = guard.audit()
+            other = guard.try_copy()
+            self.assertEqual(other.audit(), before)
+            self.assertEqual((other.left(), other.sight().now), ({2, 3, 4, 5}, 5))
+            other.kill(key.PROCESS, "p4", kinds.REBOOT, by=1)
+            self.assertEqual((other.up_set(), guard.up_set()), ({2, 3, 5}, {2, 3, 4, 5}))
+            self.assertEqual(guard.audit(), before)
+            ahead = other.audit()
+        self.assertEqual(other.audit(), ahead)
+        other.close()
+        self.assertEqual((other.audit(), other.journal_len()), (ahead, 3))
+        with self.assertRaises(faultyard.GuardClosed):
+            other.try_copy()
+        self.assertEqual(faultyard.check(common.SIX, ahead), 3)
 
     def test_two_guards_have_nothing_in_common(self):
         with self.guard() as one, self.guard() as other:

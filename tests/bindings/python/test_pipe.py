@@ -219,6 +219,7 @@ class PipeTest(common.Folder, unittest.TestCase):
         with Guard(common.SIX) as guard:
             asked = [lambda: guard.is_acked(0), lambda: guard.keeper(0), guard.sight]
             asked += [guard.up_set, lambda: guard.state(0), lambda: guard.needed(0), guard.reset]
+            asked.append(guard.try_copy)
             key, kind = faultyard.Key.PROCESS, faultyard.Kind.REBOOT
             asked.append(lambda: guard.judge(key, "p0", kind, by=1))
             for ask in asked:

@@ -34,7 +34,7 @@ def _open(
     if transport == "library":
         if folder is not None:
             raise NotOffered("folder asks for the transport 'pipe'")
-        return Library(config, library)
+        return Library.open(config, library)
     raise ValueError(f"transport is neither 'pipe' nor 'library': {transport!r}")
 
 
@@ -70,10 +70,7 @@ class Guard:
         so that both are there whatever ends the test. Over `"library"`, `library` is the path of
         libfaultyard.so (else FAULTYARD_LIB, else what the system's loader finds).
         """
-        self._lock = threading.Lock()
-        self._opener = os.getpid()
-        self._closed = False
-        self._transport = _open(config, transport, program, library, timeout, folder)
+        self._hold(_open(config, transport, program, library, timeout, folder))
 
     # The end.
 
@@ -252,6 +249,18 @@ class Guard:
         with self._lock:
             self._at_work().reset()
 
+    def try_copy(self) -> Guard:
+        """A second guard with the same journal, to look ahead; each is closed.
+
+        What is done with one changes nothing of the other. The acts of the journal are made once
+        more, so the call takes as long as they took. Over the pipe it raises `NotOffered`.
+        """
+        with self._lock:
+            transport = self._at_work().try_copy()
+        other = Guard.__new__(Guard)
+        other._hold(transport)
+        return other
+
     # Questions.
 
     def process(self, name: str) -> Optional[int]:
@@ -393,6 +402,12 @@ class Guard:
             return self._transport.audit().decode()
 
     # Below: how a call goes.
+
+    def _hold(self, transport: Transport) -> None:
+        self._lock = threading.Lock()
+        self._opener = os.getpid()
+        self._closed = False
+        self._transport = transport
 
     def _at_work(self) -> Transport:
         if self._closed:

@@ -92,6 +92,7 @@ CALLS: Dict[str, Tuple[Any, List[Any]]] = {
     "fy_open": (_u32, [_bytes, _size, _guard]),
     "fy_close": (None, [_Guard]),
     "fy_reset": (_u32, [_guard]),
+    "fy_try_copy": (_u32, [_guard, _guard]),
     "fy_kill": (
         _u32,
         [_guard, _u32, _u32, _bytes, _size, _u32, _u32, _u64, _u32_out, _u32_out, _u64_out],
@@ -368,19 +369,26 @@ def _free(library: c.CDLL, guard: _Guard, opener: int) -> None:
 class Library(Transport):
     """A guard of libfaultyard, called by whichever thread has its turn."""
 
-    def __init__(self, config: StrPath, library: Optional[StrPath]) -> None:
-        with open(config, "rb") as file:
-            text = file.read()
-        self._library = load(library)
+    def __init__(self, library: c.CDLL) -> None:
+        """A guard that isn't opened yet."""
+        self._library = library
         self._guard = _Guard()
         self._closed_with: Optional[bytes] = None
-        self._finalizer = weakref.finalize(self, _free, self._library, self._guard, os.getpid())
+        self._finalizer = weakref.finalize(self, _free, library, self._guard, os.getpid())
         # At the end of the interpreter the memory goes with the process.
         self._finalizer.atexit = False
-        status = self._library.fy_open(text, len(text), self._guard)
+
+    @classmethod
+    def open(cls, config: StrPath, library: Optional[StrPath]) -> Library:
+        """A guard of a cluster in which nothing happened yet."""
+        with open(config, "rb") as file:
+            text = file.read()
+        opened = cls(load(library))
+        status = opened._library.fy_open(text, len(text), opened._guard)
         if status in CONFIG_FAULTS:
-            raise _config_error(self._library, text, status)
+            raise _config_error(opened._library, text, status)
         _require(status)
+        return opened
 
     def _opened(self) -> _Guard:
         """The guard, which the library asks to be open."""
@@ -418,6 +426,11 @@ class Library(Transport):
 
     def reset(self) -> None:
         _require(self._library.fy_reset(self._opened()))
+
+    def try_copy(self) -> Library:
+        other = Library(self._library)
+        _require(self._library.fy_try_copy(self._opened(), other._guard))
+        return other
 
     def up_set(self) -> FrozenSet[int]:
         return self._set(self._library.fy_up_set)

@@ -145,6 +145,9 @@ class Pipe(Transport):
     def reset(self) -> None:
         raise NotOffered("reset asks for the transport 'library'")
 
+    def try_copy(self) -> Transport:
+        raise NotOffered("try_copy asks for the transport 'library'")
+
     def up_set(self) -> FrozenSet[int]:
         raise NotOffered("up_set asks for the transport 'library'")
 

@@ -61,6 +61,10 @@ class Transport(ABC):
         """Puts the guard back to where nothing happened yet."""
 
     @abstractmethod
+    def try_copy(self) -> Transport:
+        """A second guard with the same journal."""
+
+    @abstractmethod
     def process(self, name: str) -> Optional[int]:
         """The number of the process with a name."""
 

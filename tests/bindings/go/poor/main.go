@@ -23,6 +23,8 @@ func main() {
 	_, err = guard.Kill(1, faultyard.Order{})
 	fmt.Println("Kill:", err)
 	fmt.Println("Reset:", guard.Reset())
+	_, err = guard.TryCopy()
+	fmt.Println("TryCopy:", err)
 	_, err = guard.Judge(1, faultyard.Order{})
 	fmt.Println("Judge:", err)
 	fmt.Println("Up:", guard.Up(0, 0))

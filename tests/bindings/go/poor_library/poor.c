@@ -69,6 +69,12 @@ uint32_t fy_reset(fy_guard *guard)
     return FY_NO_MEMORY;
 }
 
+uint32_t fy_try_copy(const fy_guard *guard, fy_guard *other)
+{
+    require_turn();
+    return FY_NO_MEMORY;
+}
+
 uint32_t fy_judge(const fy_guard *guard, uint32_t actor, uint32_t key, const uint8_t *value,
                   size_t value_length, uint32_t kind, uint32_t floor, uint32_t *struck,
                   uint32_t *rule, uint64_t *named)
