@@ -15,7 +15,6 @@ use fy_swarm::run_swarm;
 use std::fs::File;
 use std::io::{BufReader, ErrorKind};
 use std::process::ExitCode;
-use std::thread::Threads;
 use std::{env, fs};
 use task::{Task, read_task};
 
@@ -32,12 +31,12 @@ fn main(rt: HostRuntime) -> ExitCode {
     };
     let done = match read_task(rt.alloc(), words.as_slice()) {
         Ok(Task::Judge) => judge_input(&rt),
-        // Threads are main's to give.
-        Ok(Task::Run(path)) => run_file(&rt, &rt, path),
-        Ok(Task::Check(path)) => check_file(&rt, &rt, path),
+        Ok(Task::Run(path)) => run_file(&rt, path),
+        Ok(Task::Check(path)) => check_file(&rt, path),
         Ok(Task::Guard(path)) => guard_file(&rt, path),
-        Ok(Task::Show(path)) => show_file(&rt, &rt, path),
-        Ok(Task::Bears(path, form, after)) => bears_file(&rt, &rt, path, form, after),
+        Ok(Task::Show(path)) => show_file(&rt, path),
+        Ok(Task::Bears(path, form, after)) => bears_file(&rt, path, form, after),
+        // Threads are main's to give.
         Ok(Task::Swarm(path, seed)) => match open_config(&rt, path) {
             Ok(config) => run_swarm(&rt, rt.alloc(), &config, seed, &mut rt.stdout()),
             Err(stop) => Err(stop),
@@ -60,59 +59,31 @@ fn judge_input(rt: &HostRuntime) -> Result<bool, Stop> {
 }
 
 /// Runs the script on standard input on the cluster of a file.
-fn run_file(
-    rt: &HostRuntime,
-    threads: &(impl Threads + Sync),
-    path: &str,
-) -> Result<bool, Stop> {
+fn run_file(rt: &HostRuntime, path: &str) -> Result<bool, Stop> {
     match open_config(rt, path) {
-        Ok(config) => run_script(
-            threads,
-            rt.alloc(),
-            &config,
-            &mut rt.stdin(),
-            &mut rt.stdout(),
-        ),
+        Ok(config) => run_script(rt.alloc(), &config, &mut rt.stdin(), &mut rt.stdout()),
         Err(stop) => Err(stop),
     }
 }
 
 /// Checks the audit on standard input against the cluster of a file.
-fn check_file(rt: &HostRuntime, threads: &(impl Threads + Sync), path: &str) -> Result<bool, Stop> {
+fn check_file(rt: &HostRuntime, path: &str) -> Result<bool, Stop> {
     match open_config(rt, path) {
-        Ok(config) => run_check(
-            threads,
-            rt.alloc(),
-            &config,
-            &mut rt.stdin(),
-            &mut rt.stdout(),
-        ),
+        Ok(config) => run_check(rt.alloc(), &config, &mut rt.stdin(), &mut rt.stdout()),
         Err(stop) => Err(stop),
     }
 }
 
 /// Draws the audit on standard input on the cluster of a file.
-fn show_file(rt: &HostRuntime, threads: &(impl Threads + Sync), path: &str) -> Result<bool, Stop> {
+fn show_file(rt: &HostRuntime, path: &str) -> Result<bool, Stop> {
     match open_config(rt, path) {
-        Ok(config) => run_show(
-            threads,
-            rt.alloc(),
-            &config,
-            &mut rt.stdin(),
-            &mut rt.stdout(),
-        ),
+        Ok(config) => run_show(rt.alloc(), &config, &mut rt.stdin(), &mut rt.stdout()),
         Err(stop) => Err(stop),
     }
 }
 
 /// Says what the cluster of a file bears, after an audit where one is named.
-fn bears_file(
-    rt: &HostRuntime,
-    threads: &(impl Threads + Sync),
-    path: &str,
-    form: Form,
-    after: Option<&str>,
-) -> Result<bool, Stop> {
+fn bears_file(rt: &HostRuntime, path: &str, form: Form, after: Option<&str>) -> Result<bool, Stop> {
     let config = match open_config(rt, path) {
         Ok(config) => config,
         Err(stop) => return Err(stop),
@@ -121,14 +92,7 @@ fn bears_file(
         return run_bears(rt.alloc(), &config, form, &mut rt.stdout());
     };
     match open_file(rt, after) {
-        Ok(mut audit) => run_bears_after(
-            threads,
-            rt.alloc(),
-            &config,
-            form,
-            &mut audit,
-            &mut rt.stdout(),
-        ),
+        Ok(mut audit) => run_bears_after(rt.alloc(), &config, form, &mut audit, &mut rt.stdout()),
         Err(stop) => Err(stop),
     }
 }

@@ -3,5 +3,3 @@ pub mod Ones
 pub mod Steps
 pub mod OneAudit
 pub mod Reading
-pub mod LinesAhead
-pub mod Batches

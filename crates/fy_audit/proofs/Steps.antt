@@ -1,18 +1,13 @@
 -- lines of an audit, entry by entry
-use Rattle.std.proofs.Common.{Result, Ok, Err, IsTrue, subst, ◌≡◌, ◌∙◌, ℕ, suc, ◌+◌, ◌<◌, ◌≤◌, List, [], ◌∷◌, ◌++◌, length, refl, sym, ap, arith, append_assoc, append-nil, length-append, ne_eqb}
+use Rattle.std.proofs.Common.{◌≡◌, ◌∙◌, ℕ, suc, ◌+◌, ◌<◌, ◌≤◌, List, [], ◌∷◌, ◌++◌, length, refl, sym, ap, arith, append_assoc, append-nil, length-append, ne_eqb}
 use Rattle.std.specs.List.{flat_map}
 use Rattle.std.proofs.lemmas.Grind.{flat_map-append}
 use Rattle.fy_lines.specs.Lines.{onto_first, lines_of}
-use Rattle.fy_spelling.specs.OneText.{TextsAreLines, OneEntryPerText, HasNoFeed}
-use Rattle.fy_spelling.specs.EntryLine.{IsTextOf, EntryAnswers}
-use Rattle.fy_spelling.specs.declared.entry_line.EntryFault.{EntryFault}
-use Rattle.fy_spelling.specs.declared.entry_line.EntryFault.TheVariants as entry_fault
-use Rattle.fy_audit.specs.declared.reader.NoEntry.{NoEntry}
-use Rattle.fy_audit.specs.Versions.{has_entry}
+use Rattle.fy_spelling.specs.OneText.{TextsAreLines, HasNoFeed}
 use Rattle.fy_spelling.specs.Values.{text_of}
 use Rattle.fy_acts.specs.declared.entry.Entry.{Entry}
 use Rattle.fy_spelling.specs.declared.command.TheConstants.{MOST_LINE_BYTES}
-use Rattle.fy_audit.specs.Audit.{MayStand, MayStandFrom, HasNoHeader, BeginsWith, BeginsFaulty, EndsBefore, StandsAt, StandsNot}
+use Rattle.fy_audit.specs.Audit.{MayStand, MayStandFrom, HasNoHeader, BeginsWith, BeginsFaulty}
 use Rattle.fy_audit.specs.declared.audit.AuditLineFault.TheVariants.{Syntax}
 use Rattle.fy_audit.specs.AuditText.{header, entry_line, audit_text}
 use Rattle.fy_journal.specs.declared.version.Version.{Version}
@@ -108,43 +103,3 @@ shorter_after rest after e is =
     let whole = ap length (is ∙ spread e after) in
     let parts = length-append (text_of e) (10 ∷ after) in
     omega arith
-
--- what was read of the first line is the entry at the front
-pub begins_by_answer :
-    (version : Version) (place : ℕ) (rest line after : List ℕ) (answer : Result Entry EntryFault) (e : Entry)
-    → rest ≡ line ++ 10 ∷ after → length line ≤ MOST_LINE_BYTES → EntryAnswers line answer
-    → StandsAt version place answer e → BeginsWith version place rest e after
-begins_by_answer version place rest line after answer e split short answers stands =
-    let text : IsTextOf line e = subst (EntryAnswers line) stands.is answers in
-    record {
-      split = split ∙ ap (λ l. l ++ 10 ∷ after) text.text ∙ sym (spread e after);
-      may = record {
-        at = stands.at;
-        fits = text.fits;
-        short = subst (λ l. length l ≤ MOST_LINE_BYTES) text.text short;
-        known = stands.known;
-      };
-    }
-
--- or why there is none
-pub ends_by_answer :
-    TextsAreLines → OneEntryPerText → (version : Version) (place : ℕ) (rest line : List ℕ)
-    (after : List (List ℕ)) (answer : Result Entry EntryFault) (fault : NoEntry)
-    → lines_of rest ≡ line ∷ after → length line ≤ MOST_LINE_BYTES → EntryAnswers line answer
-    → StandsNot version place answer fault → EndsBefore version place rest fault
-ends_by_answer lines one version place rest line after (Ok e) fault first short answers none =
-    rw (none.0)
-    (no_entry lines version place rest line after first short (λ other may same longer.
-    let is : e ≡ other = one e other answers.fits may.fits (sym answers.text ∙ same) in
-    none.1 (ap (λ (x : Entry). x.at) is ∙ may.at)
-    (subst (λ (x : Entry). IsTrue (has_entry version x)) (sym is) may.known)))
-ends_by_answer lines one version place rest line after (Err entry_fault.Syntax) fault first short answers none =
-    rw none
-    (no_entry lines version place rest line after first short (λ other may same longer.
-    answers other (record { text = same; fits = may.fits })))
-ends_by_answer lines one version place rest line after (Err entry_fault.NoMemory) fault first short answers none =
-    rw none tt
-
--- a line with its line feed is the first
-pub first_of_lines : (rest line after : List ℕ) → rest ≡ line ++ 10 ∷ after → HasNoFeed line → lines_of rest ≡ line ∷ lines_of after
-first_of_lines rest line after split whole = ap lines_of split ∙ ended line after whole

@@ -5,8 +5,6 @@ use Rattle.fy_spelling.specs.Fits.{FitsEntry}
 use Rattle.fy_spelling.specs.Values.{text_of}
 use Rattle.fy_spelling.specs.declared.command.TheConstants.{MOST_LINE_BYTES}
 use Rattle.fy_acts.specs.declared.entry.Entry.{Entry}
-use Rattle.fy_spelling.specs.declared.entry_line.EntryFault.{EntryFault}
-use Rattle.fy_spelling.specs.declared.entry_line.EntryFault.TheVariants as entry_fault
 use Rattle.fy_audit.specs.AuditText.{header, entry_line, audit_text}
 use Rattle.fy_journal.specs.Journal.{Log}
 use Rattle.fy_audit.specs.Versions.{has_entry}
@@ -110,18 +108,3 @@ AuditAnswers bytes answer = AuditOf bytes answer
 abbrev pub EndsBefore : Version → ℕ → List ℕ → NoEntry → Type 0
 EndsBefore version place rest (Faulty fault) = BeginsFaulty version place rest fault
 EndsBefore version place rest no_entry.NoMemory = ⊤
-
--- what was read of a line is this entry, and it may stand at this place
-pub record StandsAt (version : Version) (place : ℕ) (answer : Result Entry EntryFault)
-    (entry : Entry) : Type 0 where
-  pub is : answer ≡ Ok entry
-  pub at : entry.at ≡ place
-  pub known : IsTrue (has_entry version entry)
-
--- why what was read of a line gives no entry that may stand at this place
-abbrev pub StandsNot : Version → ℕ → Result Entry EntryFault → NoEntry → Type 0
-StandsNot version place (Ok entry) fault =
-    (fault ≡ Faulty of_line.Syntax)
-    × (entry.at ≡ place → IsTrue (has_entry version entry) → ⊥)
-StandsNot version place (Err entry_fault.Syntax) fault = fault ≡ Faulty of_line.Syntax
-StandsNot version place (Err entry_fault.NoMemory) fault = fault ≡ no_entry.NoMemory

@@ -5,4 +5,3 @@ pub mod Audit
 pub mod One
 pub mod Reading
 pub mod Reader
-pub mod Ahead

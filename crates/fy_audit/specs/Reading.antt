@@ -6,9 +6,6 @@ use Rattle.fy_audit.specs.AuditText.{audit_text}
 use Rattle.fy_audit.specs.declared.audit.TheConstants.{MOST_AUDIT_BYTES}
 use Rattle.fy_audit.specs.declared.audit.AuditFault.{AuditFault}
 use Rattle.fy_audit.specs.declared.audit.AuditFault.TheVariants.{TooLong, Line, NoMemory}
-use Rattle.fy_audit.specs.declared.reader.NoEntry.{NoEntry}
-use Rattle.fy_audit.specs.declared.reader.NoEntry.TheVariants as no_entry
-use Rattle.fy_audit.specs.declared.reader.NoEntry.TheVariants.{Faulty}
 use Rattle.fy_journal.specs.declared.version.Version.{Version}
 
 -- an audit that is being read: its version, the place of the next entry, from 0, and what is left
@@ -37,11 +34,6 @@ Stops reader_state TooLong = ⊥
 Stops reader_state (Line number fault) =
     (number ≡ reader_state.place + 2) × BeginsFaulty reader_state.version reader_state.place reader_state.rest fault
 Stops reader_state NoMemory = ⊤
-
--- the fault of the audit at the line of the entry with this place
-abbrev pub fault_at : ℕ → NoEntry → AuditFault
-fault_at place (Faulty fault) = Line (place + 2) fault
-fault_at place no_entry.NoMemory = NoMemory
 
 -- the entries that were read, and one more
 abbrev pub EntryExtendsRead : Type 0

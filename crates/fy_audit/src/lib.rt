@@ -1,10 +1,8 @@
 //! Scripts of acts to come; audits, which are journals written out.
 #![tactic(auto)]
 
-mod ahead;
 mod audit;
 pub mod laws;
-mod par_script;
 mod reader;
 mod script;
 
@@ -13,6 +11,5 @@ pub use fy_journal::{Journal, JournalFault, MOST_ENTRIES, Version};
 pub use fy_spelling::{
     Act, Command, Entry, LineFault, MOST_LINE_BYTES, Refusal, Reply, entry_text,
 };
-pub use par_script::par_read_script;
 pub use reader::AuditReader;
 pub use script::{MOST_SCRIPT_BYTES, ScriptFault, read_script};

@@ -1,25 +1,21 @@
 //! Audits read entry by entry.
-ghost use Rattle.std.specs.Prelude.{◌≡◌, ◌↔◌, ◌<◌, ◌≤◌, ◌+◌, ◌++◌, drop, [], ℕ, List, length, IsTrue, IfSome, IfNone, IfOk, IfErr, Err};
-ghost use Rattle.fy_audit.specs.Audit.{AuditOf, HasNoHeader, BeginsWith, EndsBefore, StandsAt, StandsNot};
-ghost use Rattle.fy_audit.specs.Ahead.{IsAheadOf};
+ghost use Rattle.std.specs.Prelude.{◌≡◌, ◌↔◌, ◌<◌, ◌≤◌, ◌+◌, ◌++◌, [], ℕ, List, length, IsTrue, IfSome, IfNone, IfOk, IfErr, Err};
+ghost use Rattle.fy_audit.specs.Audit.{AuditOf, HasNoHeader, BeginsWith, EndsBefore};
 ghost use Rattle.fy_audit.specs.AuditText.{header};
-ghost use Rattle.fy_audit.specs.Reading.{HasRead, ReadsEntry, Stops, fault_at};
+ghost use Rattle.fy_audit.specs.Reading.{HasRead, ReadsEntry, Stops};
 ghost use Rattle.fy_audit.specs.declared.audit.TheConstants.{MOST_AUDIT_BYTES};
 ghost use Rattle.fy_audit.specs.declared.audit.AuditFault.TheVariants.{TooLong};
 ghost use Rattle.fy_audit.specs.Versions.{knows_refusal, knows_reply, has_entry};
 ghost use Rattle.fy_journal.specs.declared.version.Version.TheVariants.{First, Second};
 
-use crate::ahead::{FEWEST_BYTES_AHEAD, ReadAhead, read_lines_ahead};
 use crate::{
     AuditFault, AuditLineFault, Entry, MOST_AUDIT_BYTES, MOST_LINE_BYTES, Refusal, Reply, Version,
 };
 use fy_lines::first_line;
 use fy_spelling::laws::{a_text_is_a_line, a_text_is_of_one_entry};
 use fy_spelling::{EntryFault, read_entry};
-use std::alloc::{AllocError, Global};
-use std::collections::VecDeque;
+use std::alloc::Global;
 use std::marker::Model;
-use std::thread::Threads;
 
 /// An audit that is read entry by entry: nothing is kept but what is left of it.
 #[derive(Drop)]
@@ -28,8 +24,6 @@ pub struct AuditReader<'b> {
     version: Version,
     place: u32,
     rest: &'b [u8],
-    /// What was read ahead of the first lines of the rest.
-    ahead: VecDeque<ReadAhead>,
     /// A buffer that each line overwrites, so that it grows only once.
     room: Vec<u8>,
 }
@@ -39,11 +33,11 @@ impl<'b> Model for AuditReader<'b> {
 
     ghost Value = { ReaderState };
 
-    ghost use Rattle.fy_audit.specs.Reader.{reader_state, ReaderInvariant};
+    ghost use Rattle.fy_audit.specs.Reader.{reader_state, IsWithin};
 
     ghost view = { reader_state };
 
-    ghost invariant = { ReaderInvariant };
+    ghost invariant = { IsWithin };
 }
 
 /// Why the rest of an audit gives no entry.
@@ -143,28 +137,6 @@ fn has_entry(version: Version, entry: &Entry) -> bool
     version.knows(&entry.act) && knows_reply(version, entry.reply)
 }
 
-/// The entry that was read of a line, where it may stand at this place.
-fn entry_at(
-    version: Version,
-    place: u32,
-    answer: Result<Entry, EntryFault>,
-) -> Result<Entry, NoEntry>
-    ensures found { IfOk result (λ entry. StandsAt version place answer entry) }
-    ensures fault { IfErr result (λ fault. StandsNot version place answer fault) }
-{
-    match answer {
-        Ok(entry) => {
-            if entry.at == place && has_entry(version, &entry) {
-                Ok(entry)
-            } else {
-                Err(NoEntry::Faulty(AuditLineFault::Syntax))
-            }
-        }
-        Err(EntryFault::Syntax) => Err(NoEntry::Faulty(AuditLineFault::Syntax)),
-        Err(EntryFault::NoMemory) => Err(NoEntry::NoMemory),
-    }
-}
-
 /// The entry at the front of what is left of an audit, which has to stand at this place, and what
 /// follows its line.
 fn first_entry<'b>(
@@ -189,46 +161,16 @@ fn first_entry<'b>(
     if line.len() == rest.len() {
         return Err(NoEntry::Faulty(AuditLineFault::Syntax));
     }
-    let answer = read_entry(alloc, line, room);
-    match entry_at(version, place, answer) {
-        Ok(entry) => Ok((entry, after)),
-        Err(fault) => Err(fault),
-    }
-}
-
-/// The same, where the first line of what is left was read ahead.
-fn first_ahead<'b>(
-    rest: &'b [u8],
-    version: Version,
-    place: u32,
-    read: ReadAhead,
-) -> Result<(Entry, &'b [u8]), NoEntry>
-    requires { IsAheadOf rest.now read }
-    ensures found { IfOk result (λ found. BeginsWith version place rest.now found.0 found.1.now) }
-    ensures after { IfOk result (λ found. found.1.now ≡ drop (read.len + 1) rest.now) }
-    ensures fault { IfErr result (λ fault. EndsBefore version place rest.now fault) }
-{
-    a_text_is_a_line();
-    a_text_is_of_one_entry();
-    let ReadAhead { len, answer } = read;
-    let after = &rest[len + 1..];
-    match entry_at(version, place, answer) {
-        Ok(entry) => Ok((entry, after)),
-        Err(fault) => Err(fault),
-    }
-}
-
-/// The fault of an audit at the line of the entry with this place.
-fn fault_at(place: u32, fault: NoEntry) -> AuditFault
-    requires { place < 4294967294 }
-    ensures { result ≡ fault_at place fault }
-{
-    match fault {
-        NoEntry::Faulty(fault) => AuditFault::Line {
-            number: place + 2,
-            fault,
-        },
-        NoEntry::NoMemory => AuditFault::NoMemory,
+    match read_entry(alloc, line, room) {
+        Ok(entry) => {
+            if entry.at == place && has_entry(version, &entry) {
+                Ok((entry, after))
+            } else {
+                Err(NoEntry::Faulty(AuditLineFault::Syntax))
+            }
+        }
+        Err(EntryFault::Syntax) => Err(NoEntry::Faulty(AuditLineFault::Syntax)),
+        Err(EntryFault::NoMemory) => Err(NoEntry::NoMemory),
     }
 }
 
@@ -267,7 +209,6 @@ impl<'b> AuditReader<'b> {
             version,
             place,
             rest,
-            ahead: VecDeque::new(alloc),
             room: Vec::new(alloc),
         }
     }
@@ -293,21 +234,6 @@ impl<'b> AuditReader<'b> {
         self.rest.is_empty()
     }
 
-    /// Reads lines ahead, on all processors, where many are left and none is read ahead. `next_entry`
-    /// answers the same with it, and sooner. Where little is left no thread is started.
-    ///
-    /// # Errors
-    ///
-    /// `AllocError` where there is no memory for it. Nothing was read ahead then.
-    pub fn read_ahead(&mut self, rt: &(impl Threads + Sync)) -> Result<(), AllocError>
-        ensures { self.new ≡ self.old }
-    {
-        if self.ahead.is_empty() && self.rest.len() >= FEWEST_BYTES_AHEAD {
-            self.ahead = read_lines_ahead(rt, self.alloc, self.rest)?;
-        }
-        Ok(())
-    }
-
     /// Reads the next entry. What is left is the same where there is none.
     ///
     /// # Errors
@@ -319,22 +245,23 @@ impl<'b> AuditReader<'b> {
         ensures stopped { IfErr result (Stops self.old) }
         ensures same { IfErr result (λ _. self.new ≡ self.old) }
     {
-        let (rest, version, place) = (self.rest, self.version, self.place);
-        let found = match self.ahead.pop_front() {
-            Some(read) => first_ahead(rest, version, place, read),
-            None => first_entry(self.alloc, rest, version, place, &mut self.room),
-        };
-        match found {
+        match first_entry(
+            self.alloc,
+            self.rest,
+            self.version,
+            self.place,
+            &mut self.room,
+        ) {
             Ok((entry, after)) => {
                 self.place += 1;
                 self.rest = after;
                 Ok(entry)
             }
-            Err(fault) => {
-                // What was read ahead is of later lines than the first of the rest.
-                self.ahead.clear();
-                Err(fault_at(place, fault))
-            }
+            Err(NoEntry::Faulty(fault)) => Err(AuditFault::Line {
+                number: self.place + 2,
+                fault,
+            }),
+            Err(NoEntry::NoMemory) => Err(AuditFault::NoMemory),
         }
     }
 }

@@ -21,7 +21,6 @@ use fy_lines::{OutputFault, write_bytes};
 use fy_locality::ProcSet;
 use std::alloc::Global;
 use std::io::{Read, Write};
-use std::thread::Threads;
 
 /// What the cluster bears as a text, after losses where there were some.
 fn report_text(
@@ -101,7 +100,6 @@ fn losses_of(alloc: Global, config: &Config, bytes: &[u8]) -> Result<LossesSoFar
 /// The stops of `run_check`: nothing is written but after `Write`, when a front of the text is out,
 /// and never all of it.
 pub fn run_bears_after<R: Read, W: Write>(
-    rt: &(impl Threads + Sync),
     alloc: Global,
     config: &Config,
     form: Form,
@@ -126,7 +124,7 @@ pub fn run_bears_after<R: Read, W: Write>(
         Ok(bytes) => bytes,
         Err(stop) => return Err(stop),
     };
-    let finding = match find_first_bad(rt, alloc, config, &bytes) {
+    let finding = match find_first_bad(alloc, config, &bytes) {
         Ok(finding) => finding,
         Err(stop) => return Err(stop),
     };

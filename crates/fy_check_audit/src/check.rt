@@ -17,7 +17,6 @@ use fy_engine::{Stop, write_numbered};
 use fy_lines::{InputFault, OutputFault, read_limited};
 use std::alloc::Global;
 use std::io::{Read, Write};
-use std::thread::Threads;
 
 /// The stop for an audit that is refused.
 pub fn audit_stop(fault: AuditFault) -> Stop
@@ -63,14 +62,9 @@ pub struct Finding {
     pub first_bad: Option<u32>,
 }
 
-/// Reads an audit entry by entry, on all processors, and has each checked in its turn. Behind a bad
-/// entry the rest is read for its faults.
-pub fn find_first_bad(
-    rt: &(impl Threads + Sync),
-    alloc: Global,
-    config: &Config,
-    bytes: &[u8],
-) -> Result<Finding, Stop>
+/// Reads an audit entry by entry, and has each checked as it is read. Behind a bad entry the rest
+/// is read for its faults.
+pub fn find_first_bad(alloc: Global, config: &Config, bytes: &[u8]) -> Result<Finding, Stop>
     ensures found { IfOk result (IsFound config.now bytes.now) }
     ensures refused { IfErr result (λ stop. IfAuditFault stop
         (λ fault. AuditOf bytes.now (Err fault))) }
@@ -89,9 +83,6 @@ pub fn find_first_bad(
         return Err(Stop::NoMemory);
     };
     while !reader.is_at_end() {
-        let Ok(()) = reader.read_ahead(rt) else {
-            return Err(Stop::NoMemory);
-        };
         let entry = match reader.next_entry() {
             Ok(entry) => entry,
             Err(fault) => return Err(audit_stop(fault)),
@@ -157,7 +148,6 @@ pub fn write_finding<W: Write>(finding: Finding, writer: &mut W) -> Result<bool,
 /// refused: nothing is written then. `Write` where the writer fails or takes no byte: a front of
 /// the line is out, and never all of it.
 pub fn run_check<R: Read, W: Write>(
-    rt: &(impl Threads + Sync),
     alloc: Global,
     config: &Config,
     reader: &mut R,
@@ -182,7 +172,7 @@ pub fn run_check<R: Read, W: Write>(
         Ok(bytes) => bytes,
         Err(stop) => return Err(stop),
     };
-    match find_first_bad(rt, alloc, config, &bytes) {
+    match find_first_bad(alloc, config, &bytes) {
         Ok(finding) => write_finding(finding, writer),
         Err(stop) => Err(stop),
     }

@@ -10,13 +10,12 @@ ghost use Rattle.fy_cluster.specs.declared.fault.Fault.TheVariants.{NoMemory as 
 ghost use Rattle.fy_run.specs.RunTexts.{asked, HasAudit, Runs, IfScriptFault, IfRunRefusal};
 ghost use Rattle.fy_engine.specs.Stops.{script_stop, IsRunStop};
 
-use fy_audit::{Command, MOST_SCRIPT_BYTES, ScriptFault, par_read_script};
+use fy_audit::{Command, MOST_SCRIPT_BYTES, ScriptFault, read_script};
 use fy_cluster::{Cluster, Config, Fault};
 use fy_engine::{Stop, write_audit};
 use fy_lines::{InputFault, read_limited};
 use std::alloc::Global;
 use std::io::{Read, Write};
-use std::thread::Threads;
 
 /// The stop for a script that is refused.
 fn script_stop(fault: ScriptFault) -> Stop
@@ -78,11 +77,7 @@ fn played(alloc: Global, config: &Config, commands: Vec<Command>) -> Result<Clus
 }
 
 /// The commands of all that a reader gives.
-fn load_script<R: Read>(
-    rt: &(impl Threads + Sync),
-    alloc: Global,
-    reader: &mut R,
-) -> Result<Vec<Command>, Stop>
+fn load_script<R: Read>(alloc: Global, reader: &mut R) -> Result<Vec<Command>, Stop>
     ensures read { IfOk result (λ commands. IfSome (R.remaining reader.old)
         (λ bytes. ScriptOf bytes (Ok commands.items))) }
     ensures refused { IfErr result (λ stop. IfScriptFault stop
@@ -105,7 +100,7 @@ fn load_script<R: Read>(
         Err(InputFault::Reader) => return Err(Stop::Read),
         Err(InputFault::NoMemory) => return Err(Stop::NoMemory),
     };
-    match par_read_script(rt, alloc, &bytes) {
+    match read_script(alloc, &bytes) {
         Ok(commands) => Ok(commands),
         Err(fault) => Err(script_stop(fault)),
     }
@@ -124,7 +119,6 @@ fn load_script<R: Read>(
 /// writer fails or takes no byte: a front of the audit is out, and never all of it. `NoMemory`
 /// where memory is refused: nothing is out, or a front of the audit and never all of it.
 pub fn run_script<R: Read, W: Write>(
-    rt: &(impl Threads + Sync),
     alloc: Global,
     config: &Config,
     reader: &mut R,
@@ -149,7 +143,7 @@ pub fn run_script<R: Read, W: Write>(
     ensures no_further { ReadsAtMost (R.remaining reader.old) (R.remaining reader.new)
         (MOST_SCRIPT_BYTES + 1) }
 {
-    let commands = match load_script(rt, alloc, reader) {
+    let commands = match load_script(alloc, reader) {
         Ok(commands) => commands,
         Err(stop) => return Err(stop),
     };

@@ -17,7 +17,6 @@ use fy_lines::{OutputFault, write_bytes};
 use fy_svg::svg;
 use std::alloc::Global;
 use std::io::{Read, Write};
-use std::thread::Threads;
 
 /// Reads an audit from the reader to its end, checks it, and writes one SVG document that shows its
 /// entries under this configuration; where one isn't what the rules give, those before it, and a
@@ -30,7 +29,6 @@ use std::thread::Threads;
 /// The stops of `run_check`: nothing is written but after `Write`, when a front of the document is
 /// out, and never all of it. The audit was read and checked then.
 pub fn run_show<R: Read, W: Write>(
-    rt: &(impl Threads + Sync),
     alloc: Global,
     config: &Config,
     reader: &mut R,
@@ -58,7 +56,7 @@ pub fn run_show<R: Read, W: Write>(
     let Finding {
         count: _,
         first_bad,
-    } = match find_first_bad(rt, alloc, config, &bytes) {
+    } = match find_first_bad(alloc, config, &bytes) {
         Ok(finding) => finding,
         Err(stop) => return Err(stop),
     };

@@ -1,11 +1,10 @@
-use Rattle.std.proofs.Common.{rules, ◌≡◌, ◌∙◌, [], ◌∷◌, ◌++◌, ap, sym, subst}
-use Rattle.fy_audit.specs.Reading.{HasRead, ReaderState}
+use Rattle.std.proofs.Common.{rules, ◌≡◌, ◌∙◌, [], ◌∷◌, ◌++◌, sym, subst}
 use Rattle.fy_check.specs.Replayed.{HasReplayed, HasFirstBad}
 use Rattle.fy_check_audit.proofs.Checking.{stop_is_told}
 use Rattle.fy_check_audit.proofs.check.find_first_bad.Goals as goal
 
 pub loop-reader-init : goal.loop-reader-init
-loop-reader-init g c = (
+loop-reader-init c = (
   [],
   c.in-Ok.ensures.begun,
   subst (λ setup. HasReplayed setup [] c.in-Ok-begin.replayer) c.in-Ok-try_copy.ensures
@@ -13,32 +12,27 @@ loop-reader-init g c = (
   c.in-Ok-begin.ensures.version ∙ c.version.ensures,
 )
 
--- reading ahead changes nothing
 pub returns-in-Err-next_entry-clause-refused : goal.returns-in-Err-next_entry-clause-refused
-returns-in-Err-next_entry-clause-refused g c =
-    let entries = c.loop-reader.invariant.0 in
-    let read = subst (HasRead c.args.bytes.now entries) (sym c.read_ahead.ensures) c.loop-reader.invariant.1 in
+returns-in-Err-next_entry-clause-refused c =
     stop_is_told c.args.bytes.now c.in-Err-next_entry.fault c.audit_stop-in-Err-next_entry.result
-    (c.an_audit_is_read_entry_by_entry.ensures.stopped c.args.bytes.now entries
-    c.read_ahead.new.self c.in-Err-next_entry.fault read c.in-Err-next_entry.ensures.stopped)
-    c.audit_stop-in-Err-next_entry.ensures.stop
+    (c.an_audit_is_read_entry_by_entry.ensures.stopped c.args.bytes.now c.loop-reader.invariant.0
+    c.loop-reader.reader c.in-Err-next_entry.fault c.loop-reader.invariant.1
+    c.in-Err-next_entry.ensures.stopped) c.audit_stop-in-Err-next_entry.ensures.stop
 
 pub loop-reader-preserved : goal.loop-reader-preserved
-loop-reader-preserved g c =
+loop-reader-preserved c =
     let entries = c.loop-reader.invariant.0 in
     let entry = c.in-Ok-next_entry.entry in
-    let step = c.in-Ok-next_entry.ensures.read in
-    let read = subst (HasRead c.args.bytes.now entries) (sym c.read_ahead.ensures) c.loop-reader.invariant.1 in
-    let version = ap (λ (reader : ReaderState). reader.version) c.read_ahead.ensures in (
+    let step = c.in-Ok-next_entry.ensures.read in (
       entries ++ entry ∷ [],
       c.an_audit_is_read_entry_by_entry.ensures.more c.args.bytes.now entries entry
-          c.read_ahead.new.self c.next_entry.new.self read step,
+          c.loop-reader.reader c.next_entry.new.self c.loop-reader.invariant.1 step,
       c.in-Ok-enter.ensures.entered c.args.config.now entries c.loop-reader.invariant.2,
-      c.enter.ensures.version ∙ c.loop-reader.invariant.3 ∙ sym version ∙ sym step.version,
+      c.enter.ensures.version ∙ c.loop-reader.invariant.3 ∙ sym step.version,
     )
 
 pub returns-clause-found : goal.returns-clause-found
-returns-clause-found g c =
+returns-clause-found c =
     let entries = c.loop-reader.invariant.0 in
     let has = c.loop-reader.invariant.2 in
     let none : c.loop-reader.reader.rest ≡ [] = search rules in

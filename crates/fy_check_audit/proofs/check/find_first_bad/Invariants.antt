@@ -6,11 +6,11 @@ use Rattle.fy_check_audit.proofs.check.find_first_bad.Given as goal
 
 -- the entries that were read are those that were replayed
 abbrev pub invariant-loop-reader : goal.invariant-loop-reader
-invariant-loop-reader g l =
+invariant-loop-reader l =
     (entries : List Entry)
     × HasRead l.bytes entries l.reader
     × HasReplayed l.config entries l.replayer
     × (l.replayer.version ≡ l.reader.version)
 
 abbrev pub decreases-loop-reader : goal.decreases-loop-reader
-decreases-loop-reader g l = length l.reader.rest
+decreases-loop-reader l = length l.reader.rest
