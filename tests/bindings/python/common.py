@@ -5,6 +5,7 @@ import os
 import random
 import re
 import subprocess
+import sys
 import tempfile
 import unittest
 from pathlib import Path
@@ -15,7 +16,6 @@ LIBRARY = os.environ.get("FAULTYARD_LIB")
 WITHOUT = (
     "SKIPPED the bindings on the C library: no library was given (make test proves and builds it)"
 )
-WITHOUT_TOML = "SKIPPED a harness that reads cluster files: this Python is older than 3.11"
 SIX = ROOT / "examples/c6.toml"
 HEADER = '{"audit":2}\n'
 KINDS = ["RebootProcess", "Reboot", "RebootAndDelete", "KillInstantly"]
@@ -29,6 +29,12 @@ def need(what, *programs):
         raise unittest.SkipTest(told.stdout.strip())
     if told.returncode != 0:
         raise AssertionError(told.stderr)
+
+
+def needs_toml(what):
+    """Skips a test, or a class of tests, where Python has no reader of cluster files."""
+    is_older = sys.version_info < (3, 11)
+    return unittest.skipIf(is_older, f"SKIPPED {what}: this Python is older than 3.11")
 
 
 def written(folder, name, text):

@@ -25,7 +25,7 @@ THREE = common.ROOT / "tests/nemesis/three.toml"
 EMPTY = Order(Kind.REBOOT_AND_DELETE, Key.PROCESS, "p1")
 
 
-@unittest.skipIf(sys.version_info < (3, 11), common.WITHOUT_TOML)
+@common.needs_toml("a harness that reads cluster files")
 class ClusterFileTest(unittest.TestCase):
     def test_places_and_actors_are_those_of_the_file(self):
         file = ClusterFile.read(THREE)
@@ -82,7 +82,7 @@ class PlansTest(unittest.TestCase):
         self.assertEqual(told, [(kind, "p0"), (kind, "p1"), (kind, "p2"), (Kind.REBOOT, "p0")])
 
 
-@unittest.skipIf(sys.version_info < (3, 11), common.WITHOUT_TOML)
+@common.needs_toml("a harness that reads cluster files")
 class LedgerTest(unittest.TestCase):
     def setUp(self):
         self.guard = Guard(THREE)
@@ -266,7 +266,7 @@ class Mine(Harness):
         self.done.append((processes, is_clogged))
 
 
-@unittest.skipIf(sys.version_info < (3, 11), common.WITHOUT_TOML)
+@common.needs_toml("a harness that reads cluster files")
 class HarnessTest(common.Folder, unittest.TestCase):
     def played(self, play, **more):
         """A harness that played, and its events."""

@@ -1,16 +1,12 @@
 """Words, plans and checks of the library through ctypes; tests/swarm/run has other words."""
 
 import importlib.util
-import sys
 import unittest
 from importlib.machinery import SourceFileLoader
 
 import common
 import faultyard
 from faultyard import Check, Guard, Key, Kind, library
-
-
-OLDER = "SKIPPED words and plans of a swarm: this Python is older than 3.11"
 
 
 def swarm():
@@ -26,7 +22,7 @@ class Plans(common.Folder, unittest.TestCase):
     def guard(self):
         return Guard(common.SIX, transport="library")
 
-    @unittest.skipIf(sys.version_info < (3, 11), OLDER)
+    @common.needs_toml("words and plans of a swarm")
     def test_words_and_plans_are_those_of_a_swarm(self):
         import tomllib
 
