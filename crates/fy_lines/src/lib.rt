@@ -7,8 +7,10 @@ mod input;
 pub mod laws;
 mod output;
 mod split;
+mod windows;
 
 pub use feed::next_line;
 pub use input::{InputFault, read_limited};
 pub use output::{OutputFault, write_bytes, write_parts};
 pub use split::{first_line, split_at_newline};
+pub use windows::{NextLine, WINDOW_BYTES, Window};
