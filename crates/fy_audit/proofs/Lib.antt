@@ -3,3 +3,4 @@ pub mod Ones
 pub mod Steps
 pub mod OneAudit
 pub mod Reading
+pub mod LineFaults

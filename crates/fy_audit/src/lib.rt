@@ -9,7 +9,7 @@ mod script;
 pub use audit::{AuditFault, AuditLineFault, MOST_AUDIT_BYTES, read_audit};
 pub use fy_journal::{Journal, JournalFault, MOST_ENTRIES, Version};
 pub use fy_spelling::{
-    Act, Command, Entry, LineFault, MOST_LINE_BYTES, Refusal, Reply, entry_text,
+    Act, Command, Entry, EntryFault, LineFault, MOST_LINE_BYTES, Refusal, Reply, entry_text,
 };
-pub use reader::AuditReader;
+pub use reader::{AuditReader, after_header, read_entry_at};
 pub use script::{MOST_SCRIPT_BYTES, ScriptFault, read_script};

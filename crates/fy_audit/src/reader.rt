@@ -1,17 +1,20 @@
 //! Audits read entry by entry.
-ghost use Rattle.std.specs.Prelude.{◌≡◌, ◌↔◌, ◌<◌, ◌≤◌, ◌+◌, ◌++◌, [], ℕ, List, length, IsTrue, IfSome, IfNone, IfOk, IfErr, Err};
-ghost use Rattle.fy_audit.specs.Audit.{AuditOf, HasNoHeader, BeginsWith, EndsBefore};
+ghost use Rattle.std.specs.Prelude.{◌≡◌, ◌≢◌, ◌↔◌, ◌<◌, ◌≤◌, ◌+◌, ◌++◌, ◌∷◌, [], ℕ, List, length, IsTrue, IfSome, IfNone, IfOk, IfErr, Err};
+ghost use Rattle.fy_lines.specs.Lines.{IsLine};
+ghost use Rattle.fy_spelling.specs.declared.command.TheConstants.{MOST_LINE_BYTES};
+ghost use Rattle.fy_audit.specs.Audit.{AuditOf, HasNoHeader, BeginsWith, BeginsFaulty, EndsBefore};
 ghost use Rattle.fy_audit.specs.AuditText.{header};
 ghost use Rattle.fy_audit.specs.Reading.{HasRead, ReadsEntry, Stops};
 ghost use Rattle.fy_audit.specs.declared.audit.TheConstants.{MOST_AUDIT_BYTES};
-ghost use Rattle.fy_audit.specs.declared.audit.AuditFault.TheVariants.{TooLong};
+ghost use Rattle.fy_audit.specs.declared.audit.AuditFault.TheVariants.{TooLong, Line};
+ghost use Rattle.fy_audit.specs.declared.audit.AuditLineFault.TheVariants.{Header};
 ghost use Rattle.fy_audit.specs.Versions.{knows_refusal, knows_reply, has_entry};
 ghost use Rattle.fy_journal.specs.declared.version.Version.TheVariants.{First, Second};
 
 use crate::{
     AuditFault, AuditLineFault, Entry, MOST_AUDIT_BYTES, MOST_LINE_BYTES, Refusal, Reply, Version,
 };
-use fy_lines::first_line;
+use fy_lines::split_at_newline;
 use fy_spelling::laws::{a_text_is_a_line, a_text_is_of_one_entry};
 use fy_spelling::{EntryFault, read_entry};
 use std::alloc::Global;
@@ -66,7 +69,7 @@ fn behind_second(bytes: &[u8]) -> Option<&[u8]>
 }
 
 /// The version by whose header an audit begins, and all that follows it.
-fn after_header(bytes: &[u8]) -> Option<(Version, &[u8])>
+pub fn after_header(bytes: &[u8]) -> Option<(Version, &[u8])>
     ensures some { IfSome result (λ found. bytes.now ≡ header found.0 ++ found.1.now) }
     ensures none { IfNone result (HasNoHeader bytes.now) }
 {
@@ -137,6 +140,44 @@ fn has_entry(version: Version, entry: &Entry) -> bool
     version.knows(&entry.act) && knows_reply(version, entry.reply)
 }
 
+/// The entry of a line, which has to stand at this place in an audit of the version. The line has no
+/// line feed: one follows it. `room` is a buffer that is overwritten.
+///
+/// Asks that the line isn't too long.
+///
+/// # Errors
+///
+/// `Syntax` where the line isn't the text of such an entry; `NoMemory` in its place, where memory is
+/// refused.
+pub fn read_entry_at(
+    alloc: Global,
+    line: &[u8],
+    version: Version,
+    place: u32,
+    room: &mut Vec<u8>,
+) -> Result<Entry, EntryFault>
+    requires short { length line.now ≤ MOST_LINE_BYTES }
+    requires whole { IsLine line.now }
+    ensures found { IfOk result (λ entry. (after : List ℕ) →
+        BeginsWith version place (line.now ++ 10 ∷ after) entry after) }
+    ensures none { result ≡ Err EntryFault.Syntax → (after : List ℕ) →
+        BeginsFaulty version place (line.now ++ 10 ∷ after) AuditLineFault.Syntax }
+{
+    // Laws that tell which line an entry has.
+    a_text_is_a_line();
+    a_text_is_of_one_entry();
+    match read_entry(alloc, line, room) {
+        Ok(entry) => {
+            if entry.at == place && has_entry(version, &entry) {
+                Ok(entry)
+            } else {
+                Err(EntryFault::Syntax)
+            }
+        }
+        Err(fault) => Err(fault),
+    }
+}
+
 /// The entry at the front of what is left of an audit, which has to stand at this place, and what
 /// follows its line.
 fn first_entry<'b>(
@@ -150,25 +191,22 @@ fn first_entry<'b>(
     ensures found { IfOk result (λ found. BeginsWith version place rest.now found.0 found.1.now) }
     ensures fault { IfErr result (λ fault. EndsBefore version place rest.now fault) }
 {
-    // Laws that tell which line an entry has.
-    a_text_is_a_line();
-    a_text_is_of_one_entry();
-    let (line, after) = first_line(rest);
+    let (line, after) = match split_at_newline(rest) {
+        Some((line, after)) => (line, after),
+        // A last line without its line feed is all that is left.
+        None => {
+            return if rest.len() > MOST_LINE_BYTES {
+                Err(NoEntry::Faulty(AuditLineFault::TooLong))
+            } else {
+                Err(NoEntry::Faulty(AuditLineFault::Syntax))
+            };
+        }
+    };
     if line.len() > MOST_LINE_BYTES {
         return Err(NoEntry::Faulty(AuditLineFault::TooLong));
     }
-    // A last line without its line feed is all that is left.
-    if line.len() == rest.len() {
-        return Err(NoEntry::Faulty(AuditLineFault::Syntax));
-    }
-    match read_entry(alloc, line, room) {
-        Ok(entry) => {
-            if entry.at == place && has_entry(version, &entry) {
-                Ok((entry, after))
-            } else {
-                Err(NoEntry::Faulty(AuditLineFault::Syntax))
-            }
-        }
+    match read_entry_at(alloc, line, version, place, room) {
+        Ok(entry) => Ok((entry, after)),
         Err(EntryFault::Syntax) => Err(NoEntry::Faulty(AuditLineFault::Syntax)),
         Err(EntryFault::NoMemory) => Err(NoEntry::NoMemory),
     }
@@ -184,6 +222,7 @@ impl<'b> AuditReader<'b> {
         ensures begun { IfOk result (λ reader. HasRead bytes.now [] reader) }
         ensures refused { IfErr result (λ fault. AuditOf bytes.now (Err fault)) }
         ensures too_long { (result ≡ Err TooLong) ↔ (MOST_AUDIT_BYTES < length bytes.now) }
+        ensures first { IfErr result (λ fault. fault ≢ TooLong → fault ≡ Line 1 Header) }
     {
         if bytes.len() > MOST_AUDIT_BYTES {
             return Err(AuditFault::TooLong);
