@@ -10,6 +10,7 @@ use Rattle.std.proofs.lemmas.Bool.Decides.{nat_tests}
 use Rattle.std.proofs.lemmas.Nat.Bits.{bit_at-zero, bit_at-pow_same, bit_at-pow_other, bit_at-trailing_zeros}
 use Rattle.std.proofs.lemmas.Nat.{pow_below}
 use Rattle.fy_locality.specs.declared.ProcId.{ProcId}
+use Rattle.fy_grants.specs.Least.{LeastWith}
 use Rattle.fy_locality.specs.Members.{has_bit, members}
 use Rattle.fy_locality.specs.MembersInverse.{contains-members}
 
@@ -103,7 +104,7 @@ found-alone ws given (Some p) is was = sets.same_set nat_cmp_total sets.nat_cmp-
     outside q n b high low = let ne : q ≢ n = (λ e. let x : ⊥ = omega arith in x) in grind (arith, nat_tests)
 
 -- ---- a set of one process
-in-one : (given : sets.FinSet nat_cmp) (p q : ℕ) → given ≡ sets.insert sets.empty p → sets.contains given q ≡ eqb q p
+pub in-one : (given : sets.FinSet nat_cmp) (p q : ℕ) → given ≡ sets.insert sets.empty p → sets.contains given q ≡ eqb q p
 in-one given p q is = ap (λ t. sets.contains t q) is ∙ sets.contains-insert nat_cmp_total sets.empty p q ∙ (λ i. unsigned_tied q p i || sets.contains-empty nat_cmp q i) ∙ alone (eqb q p)
   where
     alone : (b : Bool) → (b || false) ≡ b
@@ -133,3 +134,30 @@ without-one set given p is = sets.same_set nat_cmp_total sets.nat_cmp-IsAntisymm
     both-ways true false = refl
     both-ways false true = refl
     both-ways false false = refl
+
+-- whether the one passes a test is whether some does
+pub one_passes : (given : sets.FinSet nat_cmp) (p : ProcId) (test : ℕ → Bool) → given ≡ sets.insert sets.empty p.0 → test p.0 ≡ true → LeastWith (sets.contains given) test (Some p)
+one_passes given p test is passes = record {
+  member = in-one given p.0 p.0 is ∙ itself p.0;
+  passes = passes;
+  none_below = λ q below member. absurd (apart q p.0 below (sym (in-one given p.0 q is) ∙ member));
+}
+  where
+    itself : (n : ℕ) → eqb n n ≡ true
+    itself n = grind (arith, nat_tests)
+
+    apart : (q n : ℕ) → q < n → eqb q n ≡ true → ⊥
+    apart q n below e = let same : q ≡ n = grind (arith, nat_tests) in omega arith
+
+pub one_fails : (given : sets.FinSet nat_cmp) (p : ProcId) (test : ℕ → Bool) → given ≡ sets.insert sets.empty p.0 → test p.0 ≡ false → LeastWith (sets.contains given) test None
+one_fails given p test is fails = λ q member. ap test (equal q p.0 (sym (in-one given p.0 q is) ∙ member)) ∙ fails
+  where
+    equal : (a b : ℕ) → eqb a b ≡ true → a ≡ b
+    equal a b e = grind (arith, nat_tests)
+
+-- a set of one isn't empty
+pub one_is_some : (given : sets.FinSet nat_cmp) (p : ℕ) → given ≡ sets.insert sets.empty p → given ≡ sets.empty → ⊥
+one_is_some given p is none = true≢false (sym (itself p) ∙ sym (in-one given p p is) ∙ ap (λ t. sets.contains t p) none ∙ sets.contains-empty nat_cmp p)
+  where
+    itself : (n : ℕ) → eqb n n ≡ true
+    itself n = grind (arith, nat_tests)

@@ -1,32 +1,36 @@
 -- from what the code finds to the first rule, and from the kinds that it walks to the hardest one
 use Rattle.std.proofs.Common.{zero, suc, ◌≡◌, ◌↔◌, ℕ, ◌+◌, ◌<◌, ◌≤◌, Bool, true, false, cond, ◌&&◌, ◌||◌, not, List, [], ◌∷◌, ◌++◌, length, refl, sym, ap, subst, ◌∙◌, arith, true≢false, inl, inr}
-use Rattle.std.specs.Prelude.{Option, None, Some, option_map, is_none, nat_le}
+use Rattle.std.specs.Prelude.{◌≢◌, Option, None, Some, option_map, is_none, nat_le, nat_lt}
 use Rattle.std.specs.Option.{option_or}
 use Rattle.std.specs.List.{find, list_any, position, range_with_len, AllByRecursion}
 use Rattle.std.specs.Ordering.{nat_cmp}
 use Rattle.std.specs.FinSet as sets
 use Rattle.std.specs.Cmp.{nat_cmp_total}
 use Rattle.std.proofs.lemmas.Bool.{cases_lt}
+use Rattle.std.proofs.lemmas.Bool.Decides.{nat_tests}
 use Rattle.fy_locality.specs.declared.ProcId.{ProcId}
 use Rattle.fy_kinds.specs.declared.verdict.Rule.{Rule}
 use Rattle.fy_kinds.specs.declared.verdict.Rule.TheVariants.{NoTarget, NoGrant, Protected, TooManyDestroyed, TooFewLeft}
 use Rattle.fy_grants.specs.Least.{LeastWith, least_with}
 use Rattle.fy_kinds.specs.declared.kind_set.KindSet.{KindSet}
-use Rattle.fy_kinds.specs.Kinds.{Deed, Striking, Clogging, rank, has, has_some, only}
+use Rattle.fy_kinds.specs.Kinds.{Deed, Striking, Clogging, rank, is_destroying, has, has_some, only}
 use Rattle.fy_kinds.specs.declared.kind.Kind.{Kind}
 use Rattle.fy_kinds.specs.declared.kind.Kind.TheVariants.{RebootProcess, Reboot, RebootAndDelete, KillInstantly}
 use Rattle.fy_kinds.specs.Orders.{Order}
 use Rattle.fy_grants.specs.Rights.{Rights, grants_of, protections_of, is_covered, is_protected}
 use Rattle.fy_decide.specs.DeadBook.{Losses}
-use Rattle.fy_decide.specs.Verdicts.{Situation, situation_of, numbers, least, first_rule, permission_rules, loss_rules, bar, verdict, hardest, hardest_first, is_allowed, targets, loss_of}
+use Rattle.fy_decide.specs.Verdicts.{Situation, situation_of, numbers, least, first_rule, permission_rules, loss_rules, bar, verdict, hardest, hardest_first, is_allowed, is_granted_to, too_many_destroyed, too_few_left, targets, loss_of}
 use Rattle.fy_decide.specs.declared.dead_book.Loss.{Loss}
 use Rattle.fy_decide.specs.declared.dead_book.Loss.TheVariants.{Emptied, Gone}
 use Rattle.fy_decide.specs.Safety.{AreShort, AreSatisfied, MayDestroy, with_set, without_set}
 use Rattle.fy_decide.proofs.Deciding.{none_found, each_satisfied}
 use Rattle.fy_policy.specs.Tree.{Tree}
 use Rattle.fy_policy.specs.Laws.{TestIsSatisfaction}
-use Rattle.fy_policy.specs.Sat.{Sat, satisfies}
+use Rattle.fy_policy.specs.Sat.{satisfies}
 use Rattle.fy_locality.specs.declared.locality.Locality.{Locality}
+use Rattle.fy_locality.specs.Locality.{has_value}
+use Rattle.fy_locality.specs.Values.{ProcessesHaveValues}
+use Rattle.fy_kinds.specs.declared.order.Target.{Target}
 use Rattle.std.proofs.lemmas.Iterator.Adapters.{position_from-zero}
 
 pub swapped : (a b : Bool) → (a && b) ≡ (b && a)
@@ -142,6 +146,159 @@ bar_of_leave situation deed s found rule is some = sym (first_of_both (permissio
 pub bar_of_loss : (situation : Situation) (deed : Deed) (s : ℕ → Bool) (found lost : Option Rule) → found ≡ first_rule (permission_rules situation deed s) → found ≡ None → lost ≡ first_rule (loss_rules situation deed s) → lost ≡ bar situation deed s
 unfolding bar
 bar_of_loss situation deed s found lost is none then = sym (first_of_both (permission_rules situation deed s) (loss_rules situation deed s) ∙ ap (λ r. option_or r (first_rule (loss_rules situation deed s))) (sym is ∙ none) ∙ sym then)
+
+-- ---- which rule it was
+
+abbrev five : Bool → (u p : Option ProcId) (m f : Option ℕ) → Option Rule
+five b u p m f = first_rule (cond b None (Some NoTarget) ∷ option_map NoGrant u ∷ option_map Protected p ∷ option_map TooManyDestroyed m ∷ option_map TooFewLeft f ∷ [])
+
+untargeted_by : (b : Bool) (u p : Option ProcId) (m f : Option ℕ) → five b u p m f ≡ Some NoTarget → b ≡ false
+untargeted_by false u p m f e = refl
+untargeted_by true (Some x) p m f e = absurd (let y : ⊥ = cc in y)
+untargeted_by true None (Some x) m f e = absurd (let y : ⊥ = cc in y)
+untargeted_by true None None (Some x) f e = absurd (let y : ⊥ = cc in y)
+untargeted_by true None None None (Some x) e = absurd (let y : ⊥ = cc in y)
+untargeted_by true None None None None e = absurd (let y : ⊥ = cc in y)
+
+many_by : (b : Bool) (u p : Option ProcId) (m f : Option ℕ) (i : ℕ) → five b u p m f ≡ Some (TooManyDestroyed i) → m ≡ Some i
+many_by false u p m f i e = absurd (let y : ⊥ = cc in y)
+many_by true (Some x) p m f i e = absurd (let y : ⊥ = cc in y)
+many_by true None (Some x) m f i e = absurd (let y : ⊥ = cc in y)
+many_by true None None (Some x) f i e = cc
+many_by true None None None (Some x) i e = absurd (let y : ⊥ = cc in y)
+many_by true None None None None i e = absurd (let y : ⊥ = cc in y)
+
+free_by : (b : Bool) (u p : Option ProcId) (m f : Option ℕ) → five b u p m f ≡ None → (b ≡ true) × (m ≡ None)
+free_by false u p m f e = absurd (let y : ⊥ = cc in y)
+free_by true (Some x) p m f e = absurd (let y : ⊥ = cc in y)
+free_by true None (Some x) m f e = absurd (let y : ⊥ = cc in y)
+free_by true None None (Some x) f e = absurd (let y : ⊥ = cc in y)
+free_by true None None None (Some x) e = absurd (let y : ⊥ = cc in y)
+free_by true None None None None e = (refl, refl)
+
+-- what the rules of replication find, where the kind asks for them
+abbrev of_destroying : Kind → Option ℕ → Option ℕ
+of_destroying RebootProcess m = None
+of_destroying Reboot m = None
+of_destroying RebootAndDelete m = m
+of_destroying KillInstantly m = m
+
+abbrev of_killing : Kind → Option ℕ → Option ℕ
+of_killing RebootProcess f = None
+of_killing Reboot f = None
+of_killing RebootAndDelete f = None
+of_killing KillInstantly f = f
+
+module _ (situation : Situation) (s : ℕ → Bool) where
+  abbrev has_target : Bool
+  has_target = list_any s (numbers situation)
+
+  abbrev ungranted : Kind → Option ProcId
+  ungranted kind = least situation s (λ p. not (is_granted_to situation (Striking kind) p))
+
+  abbrev shielded : Kind → Option ProcId
+  shielded kind = least situation s (λ p. situation.is_protected p (Striking kind))
+
+  abbrev many : Option ℕ
+  many = too_many_destroyed situation s
+
+  abbrev few : Option ℕ
+  few = too_few_left situation s
+
+  bar_is : (kind : Kind) → bar situation (Striking kind) s ≡ five has_target (ungranted kind) (shielded kind) (of_destroying kind many) (of_killing kind few)
+  unfolding bar
+  bar_is RebootProcess = refl
+  bar_is Reboot = refl
+  bar_is RebootAndDelete = refl
+  bar_is KillInstantly = refl
+
+  -- without a target there is none for any kind
+  pub aimless_too : (other kind : Kind) (rule : Rule) → rule ≡ NoTarget → bar situation (Striking other) s ≡ Some rule → bar situation (Striking kind) s ≢ None
+  aimless_too other kind rule is barred free = true≢false
+      (sym (free_by has_target (ungranted kind) (shielded kind) (of_destroying kind many) (of_killing kind few) (sym (bar_is kind) ∙ free)).0
+      ∙ untargeted_by has_target (ungranted other) (shielded other) (of_destroying other many) (of_killing other few) (sym (bar_is other) ∙ barred ∙ ap Some is))
+
+  found_many : (kind : Kind) (m : Option ℕ) (i : ℕ) → of_destroying kind m ≡ Some i → m ≡ Some i
+  found_many RebootProcess m i e = absurd (let y : ⊥ = cc in y)
+  found_many Reboot m i e = absurd (let y : ⊥ = cc in y)
+  found_many RebootAndDelete m i e = e
+  found_many KillInstantly m i e = e
+
+  found_none : (kind : Kind) (m : Option ℕ) → is_destroying kind ≡ true → of_destroying kind m ≡ None → m ≡ None
+  found_none RebootProcess m e is = absurd (true≢false (sym e))
+  found_none Reboot m e is = absurd (true≢false (sym e))
+  found_none RebootAndDelete m e is = is
+  found_none KillInstantly m e is = is
+
+  -- where too many would be destroyed, they are for each kind that destroys
+  pub many_too : (other kind : Kind) (rule : Rule) (i : ℕ) → rule ≡ TooManyDestroyed i → is_destroying kind ≡ true → bar situation (Striking other) s ≡ Some rule → bar situation (Striking kind) s ≢ None
+  many_too other kind rule i is destroys barred free =
+      let some : many ≡ Some i = found_many other many i (many_by has_target (ungranted other) (shielded other) (of_destroying other many) (of_killing other few) i (sym (bar_is other) ∙ barred ∙ ap Some is)) in
+      let none : many ≡ None = found_none kind many destroys (free_by has_target (ungranted kind) (shielded kind) (of_destroying kind many) (of_killing kind few) (sym (bar_is kind) ∙ free)).1 in
+      cc
+
+-- ---- a kind in place of the ordered one
+abbrev KindsByRank : Type 0
+KindsByRank = (k l : Kind) → rank k ≡ rank l → k ≡ l
+
+second_off : (a b c : Bool) → b ≡ false → false ≡ ((a && b) && c)
+second_off true b c e = sym (ap (λ x. x && c) e)
+second_off false b c e = refl
+
+first_off : (a b c : Bool) → a ≡ false → false ≡ ((a && b) && c)
+first_off a b c e = sym (ap (λ x. (x && b) && c) e)
+
+last_off : (a c : Bool) → c ≡ false → false ≡ (a && c)
+last_off true c e = sym e
+last_off false c e = refl
+
+some_off : {X : Type 0} (o : Option X) → (o ≡ None → ⊥) → is_none o ≡ false
+some_off None some = absurd (some refl)
+some_off (Some x) some = refl
+
+module _ (situation : Situation) (order : Order) (kind : Kind) (s : ℕ → Bool) where
+  abbrev passes : Bool
+  passes = is_none (bar situation (Striking kind) s)
+
+  pub not_milder : KindsByRank → (rule : Rule) → nat_lt (rank kind) (rank order.kind) ≡ false → bar situation (Striking order.kind) s ≡ Some rule → false ≡ (is_allowed order kind && passes)
+  not_milder law rule off barred = elim (cases_lt (rank order.kind) (rank kind)) [
+    | inl harder ↦ second_off (nat_le (rank order.floor) (rank kind)) (nat_le (rank kind) (rank order.kind)) passes (above (rank kind) (rank order.kind) harder)
+    | inr not ↦
+        let same : kind ≡ order.kind = law kind order.kind (level (rank kind) (rank order.kind) off not) in
+        last_off (is_allowed order kind) passes (ap (λ k. is_none (bar situation (Striking k) s)) same ∙ ap is_none barred)
+  ]
+    where
+      above : (a b : ℕ) → b < a → nat_le a b ≡ false
+      above a b h = grind (arith, nat_tests)
+
+      level : (a b : ℕ) → nat_lt a b ≡ false → a ≤ b → a ≡ b
+      level a b off h = grind (arith, nat_tests)
+
+  pub below_floor : nat_lt (rank kind) (rank order.floor) ≡ true → false ≡ (is_allowed order kind && passes)
+  below_floor under = first_off (nat_le (rank order.floor) (rank kind)) (nat_le (rank kind) (rank order.kind)) passes (above (rank order.floor) (rank kind) under)
+    where
+      above : (a b : ℕ) → nat_lt b a ≡ true → nat_le a b ≡ false
+      above a b h = grind (arith, nat_tests)
+
+  pub barred_too : (bar situation (Striking kind) s ≢ None) → false ≡ (is_allowed order kind && passes)
+  barred_too some = last_off (is_allowed order kind) passes (some_off (bar situation (Striking kind) s) some)
+
+  pub allowed : (found : Option Rule) → nat_lt (rank kind) (rank order.kind) ≡ true → nat_lt (rank kind) (rank order.floor) ≡ false → found ≡ bar situation (Striking kind) s → is_none found ≡ (is_allowed order kind && passes)
+  allowed found milder above is = ap is_none is ∙ sym (ap (λ b. b && passes) (both (rank kind) (rank order.kind) (rank order.floor) milder above))
+    where
+      both : (a b c : ℕ) → nat_lt a b ≡ true → nat_lt a c ≡ false → (nat_le c a && nat_le a b) ≡ true
+      both a b c milder above = grind (arith, nat_tests)
+
+-- only processes are targets
+pub targets_known : ProcessesHaveValues → (processes : List Locality) (left : ℕ → Bool) (target : Target) (q : ℕ) → targets processes left target q ≡ true → q < length processes
+targets_known law processes left target q is = elim (cases_lt q (length processes)) [
+  | inl known ↦ known
+  | inr past ↦ absurd (true≢false (sym (second (left q) (has_value processes target.key target.value q) is) ∙ law processes target.key target.value q past))
+]
+  where
+    second : (a b : Bool) → (a && b) ≡ true → b ≡ true
+    second true b e = e
+    second false b e = absurd (true≢false (sym e))
 
 -- ---- the verdict
 first_of : {X : Type 0} (b : Bool) (x y : X) → b ≡ true → cond b x y ≡ x

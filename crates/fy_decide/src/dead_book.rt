@@ -1,15 +1,17 @@
 //! Who is destroyed, who is left, and whether more may be destroyed.
-ghost use Rattle.std.specs.Prelude.{◌≡◌, ◌↔◌, ℕ, IsTrue, IfOk, IfErr, Some, None};
+ghost use Rattle.std.specs.Prelude.{◌≡◌, ◌↔◌, ◌<◌, ℕ, IsTrue, IfOk, IfErr, IfSome, Some, None, nat_eq};
 ghost use Rattle.std.specs.FinSet as sets;
+ghost use Rattle.fy_locality.specs.declared.TheConstants.{MOST_PROCESSES};
+ghost use Rattle.fy_locality.specs.declared.key.Key.TheVariants.{Process};
 ghost use Rattle.fy_decide.specs.Safety.{AreShort, AreSatisfied, AreMet, everyone, first_satisfied, first_short, first_unmet, with_set, without_set};
 ghost use Rattle.fy_decide.specs.DeadBook.{IsFresh, MayLose, may_lose, struck, MayHeal, healed};
 ghost use Rattle.fy_decide.specs.Verdicts.{targets, loss_of};
 
 use crate::tallies::{
-    drop_from_each, first_satisfied_with, first_short_without, put_in_each, tallies_of,
+    Targets, drop_from_each, first_satisfied_with, first_short_without, put_in_each, tallies_of,
 };
 use fy_kinds::{Kind, Target};
-use fy_locality::{Map, ProcId, ProcSet};
+use fy_locality::{Key, Map, Name, ProcId, ProcSet};
 use fy_policy::{Policy, Tally, laws, satisfied, try_copy_all};
 use std::alloc::{AllocError, AllocFailed, Global};
 use std::marker::Model;
@@ -181,31 +183,32 @@ impl DeadBook {
         ensures test { result ≡ may_lose self.now (sets.contains set.now) loss }
     {
         laws::test_is_satisfaction();
-        if self.too_many_destroyed(set).is_some() {
+        let targets = Targets::of(set);
+        if self.too_many_destroyed(&targets).is_some() {
             return false;
         }
         match loss {
             Loss::Emptied => true,
-            Loss::Gone => self.too_few_left(set).is_none(),
+            Loss::Gone => self.too_few_left(&targets).is_none(),
         }
     }
 
-    /// The place of the first policy that the destroyed with the set would satisfy.
-    pub(crate) fn too_many_destroyed(&self, set: &ProcSet) -> Option<usize>
+    /// The place of the first policy that the destroyed with the targets would satisfy.
+    pub(crate) fn too_many_destroyed(&self, targets: &Targets) -> Option<usize>
         ensures { result
             ≡ first_satisfied self.now.processes self.now.policies
-            (with_set (sets.contains self.now.destroyed) (sets.contains set.now)) }
+            (with_set (sets.contains self.now.destroyed) (sets.contains targets.now.set)) }
     {
-        first_satisfied_with(&self.destroyed_tallies, set)
+        first_satisfied_with(&self.destroyed_tallies, targets)
     }
 
-    /// The place of the first policy that those left without the set would be short of.
-    pub(crate) fn too_few_left(&self, set: &ProcSet) -> Option<usize>
+    /// The place of the first policy that those left without the targets would be short of.
+    pub(crate) fn too_few_left(&self, targets: &Targets) -> Option<usize>
         ensures { result
             ≡ first_short self.now.processes self.now.policies
-            (without_set (sets.contains self.now.left) (sets.contains set.now)) }
+            (without_set (sets.contains self.now.left) (sets.contains targets.now.set)) }
     {
-        first_short_without(&self.left_tallies, set)
+        first_short_without(&self.left_tallies, targets)
     }
 
     /// The processes left that have the target's value of its key; the map is the one that the book
@@ -217,6 +220,38 @@ impl DeadBook {
     {
         map.members(target.key, &target.value)
             .intersection(&self.left)
+    }
+
+    /// The targets of an order, found once for whoever judges it and then strikes them; the map is
+    /// the one that the book was made of. One that is named alone is known to be alone.
+    pub fn aimed_at(&self, map: &Map, target: &Target) -> Targets
+        requires { map.now ≡ self.now.processes }
+        ensures { (p : ℕ) → sets.contains result.set p
+            ≡ targets self.now.processes (sets.contains self.now.left) target.now p }
+    {
+        if target.key == Key::Process {
+            if let Some(p) = self.named(map, &target.value) {
+                return Targets::one(p);
+            }
+        }
+        Targets::of(&self.targets(map, target))
+    }
+
+    /// The process left that has a name, which no other has; the map is the one that the book was
+    /// made of. Makes no set.
+    pub(crate) fn named(&self, map: &Map, name: &Name) -> Option<ProcId>
+        requires { map.now ≡ self.now.processes }
+        ensures small { IfSome result (λ p. p.0 < MOST_PROCESSES) }
+        ensures alone { IfSome result (λ p. (q : ℕ) → nat_eq q p.0
+            ≡ targets self.now.processes (sets.contains self.now.left)
+            (record { key = Process; value = name.now }) q) }
+    {
+        fy_locality::laws::value_is_had();
+        map.names_differ();
+        let left = &self.left;
+        left.invariant();
+        let p = map.find(name)?;
+        if left.contains(p) { Some(p) } else { None }
     }
 
     /// Records the loss of a set. Takes no memory.

@@ -7,4 +7,5 @@ mod tallies;
 mod verdict;
 
 pub use dead_book::{DeadBook, Loss, MakeFault, first_unmet};
-pub use verdict::{judge, judge_at, judge_clog, judge_clog_at};
+pub use tallies::Targets;
+pub use verdict::{judge, judge_aimed, judge_at, judge_clog, judge_clog_at};

@@ -1,5 +1,6 @@
 //! Tallies of one set of processes, one by each policy.
 ghost use Rattle.std.specs.Prelude.{◌≡◌, ◌<◌, not, map, IfOk, IfSome};
+ghost use Rattle.std.specs.Option.{ForSome};
 ghost use Rattle.std.specs.Arc.{arc_value};
 ghost use Rattle.std.specs.FinSet as sets;
 ghost use Rattle.std.specs.List.{position};
@@ -75,6 +76,49 @@ pub(crate) fn drop_from_each(tallies: &mut [Tally], set: &ProcSet)
     }
 }
 
+/// Processes that an order is about, or that may be lost, with the one that is alone among them.
+/// Where none is named, they may be any.
+#[derive(Clone, Copy)]
+pub struct Targets {
+    pub set: ProcSet,
+    pub(crate) sole: Option<ProcId>,
+    ghost small: { ForSome sole (λ p. p.0 < MOST_PROCESSES) },
+    ghost alone: { ForSome sole (λ p. set ≡ sets.insert sets.empty p.0) },
+}
+
+impl Targets {
+    /// The processes of a set. Looks for the one that is alone in it.
+    pub(crate) fn of(set: &ProcSet) -> Targets
+        ensures { result.set ≡ set.now }
+    {
+        Targets {
+            set: *set,
+            sole: sole(set),
+        }
+    }
+
+    /// One process.
+    pub(crate) fn one(p: ProcId) -> Targets
+        requires { p.0 < MOST_PROCESSES }
+        ensures { result.set ≡ sets.insert sets.empty p.0 }
+    {
+        Targets {
+            set: only(p),
+            sole: Some(p),
+        }
+    }
+}
+
+/// The set of one process.
+fn only(p: ProcId) -> ProcSet
+    requires { p.0 < MOST_PROCESSES }
+    ensures { result ≡ sets.insert sets.empty p.0 }
+{
+    let mut set = ProcSet::empty();
+    set.put(p);
+    set
+}
+
 /// The process of a set that has no other. Looks at each word once.
 fn sole(given: &ProcSet) -> Option<ProcId>
     ensures small { IfSome result (λ p. p.0 < MOST_PROCESSES) }
@@ -96,14 +140,16 @@ fn sole(given: &ProcSet) -> Option<ProcId>
 }
 
 /// The place of the first policy that the tallies' set with this one satisfies. Takes no memory.
-pub(crate) fn first_satisfied_with(tallies: &[Tally], set: &ProcSet) -> Option<usize>
+pub(crate) fn first_satisfied_with(tallies: &[Tally], targets: &Targets) -> Option<usize>
     ensures { result ≡ position (λ tally.
-        satisfies tally.processes tally.policy (sets.contains (sets.union tally.set set.now)))
-        tallies.now }
+        satisfies tally.processes tally.policy
+        (sets.contains (sets.union tally.set targets.now.set))) tallies.now }
 {
-    match sole(set) {
+    match targets.sole {
         Some(p) => first_satisfied_with_one(tallies, p),
-        None => tallies.iter().position(|tally| tally.satisfied_with(set)),
+        None => tallies
+            .iter()
+            .position(|tally| tally.satisfied_with(&targets.set)),
     }
 }
 
@@ -119,16 +165,16 @@ fn first_satisfied_with_one(tallies: &[Tally], p: ProcId) -> Option<usize>
 
 /// The place of the first policy that the tallies' set without this one is short of. Takes no
 /// memory.
-pub(crate) fn first_short_without(tallies: &[Tally], set: &ProcSet) -> Option<usize>
+pub(crate) fn first_short_without(tallies: &[Tally], targets: &Targets) -> Option<usize>
     ensures { result ≡ position (λ tally. not
         (satisfies tally.processes tally.policy
-        (sets.contains (sets.difference tally.set set.now)))) tallies.now }
+        (sets.contains (sets.difference tally.set targets.now.set)))) tallies.now }
 {
-    match sole(set) {
+    match targets.sole {
         Some(p) => first_short_without_one(tallies, p),
         None => tallies
             .iter()
-            .position(|tally| !tally.satisfied_without(set)),
+            .position(|tally| !tally.satisfied_without(&targets.set)),
     }
 }
 

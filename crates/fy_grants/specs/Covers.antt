@@ -53,6 +53,12 @@ pub record LeavesOpen (cover : Cover) (kinds : KindSet) (set uncovered : sets.Fi
   pub those : (p : ℕ)
       → sets.contains uncovered p ≡ (sets.contains set p && not (covers cover deed p))
 
+-- the kinds are one deed, and `is` says whether the cover covers process p from it
+pub record Tells (cover : Cover) (kinds : KindSet) (p : ℕ) (is : Bool) : Type 0 where
+  pub deed : Deed
+  pub single : kinds ≡ only deed
+  pub told : is ≡ covers cover deed p
+
 -- what a Book keeps: the grants are counted, and each actor has its cover
 pub record IsGrantBook (processes : List Locality) (grants : List (List Grant)) (given : ℕ)
     (covers : List Cover) : Type 0 where

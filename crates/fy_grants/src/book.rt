@@ -10,7 +10,7 @@ ghost use Rattle.fy_grants.specs.declared.book.BookFault.TheVariants.{NoMemory};
 use crate::Grant;
 use crate::cover::Cover;
 use crate::grant::push_last;
-use crate::scopes::{least_protected, left_uncovered};
+use crate::scopes::{is_covered, is_shielded, least_protected, left_uncovered};
 use fy_kinds::KindSet;
 use fy_locality::{Map, ProcId, ProcSet};
 use std::alloc::{AllocError, Global};
@@ -208,6 +208,29 @@ impl Book {
             Some(open) => open,
             None => left_uncovered(self.grants(actor), kinds, &self.processes, set),
         }
+    }
+
+    /// Whether a grant of the actor with all these kinds covers a process: what
+    /// [`Book::uncovered`] answers of that process alone. Of one kind no grant is looked at.
+    pub fn covers(&self, actor: u32, kinds: KindSet, p: ProcId) -> bool
+        ensures { result
+            ≡ is_covered self.now.processes (grants_of self.now actor) kinds p.0 }
+    {
+        let Some(cover) = self.covers.get(actor as usize) else {
+            return false;
+        };
+        match cover.covers(kinds, p) {
+            Some(is) => is,
+            None => is_covered(self.grants(actor), kinds, &self.processes, p),
+        }
+    }
+
+    /// Whether a process is protected from some of these kinds: what [`Book::barred`] answers of
+    /// that process alone.
+    pub fn protects(&self, kinds: KindSet, p: ProcId) -> bool
+        ensures { result ≡ is_protected self.now kinds p.0 }
+    {
+        is_shielded(&self.protections, kinds, p)
     }
 
     /// The least process of a set that is protected from some of these kinds. A process that isn't

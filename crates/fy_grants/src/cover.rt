@@ -2,12 +2,12 @@
 ghost use Rattle.std.specs.Prelude.{◌≡◌, ◌&&◌, ◌||◌, ℕ, true, IfSome};
 ghost use Rattle.std.specs.FinSet as sets;
 ghost use Rattle.fy_kinds.specs.Kinds.{Deed, has, only};
-ghost use Rattle.fy_grants.specs.Covers.{bare, covers, set_at, IsCoverOf, IsGroupOf, LeavesOpen};
+ghost use Rattle.fy_grants.specs.Covers.{bare, covers, set_at, IsCoverOf, IsGroupOf, LeavesOpen, Tells};
 ghost use Rattle.fy_grants.specs.Rights.{is_granted};
 
 use crate::{Grant, Scope};
 use fy_kinds::{Kind, KindSet};
-use fy_locality::{Map, ProcSet};
+use fy_locality::{Map, ProcId, ProcSet};
 
 /// For each kind of kill, and for clogging, the processes that some grants cover. A grant on every
 /// process is no set: `everyone` has its kinds.
@@ -110,6 +110,16 @@ impl Cover {
             return Some(ProcSet::empty());
         }
         Some(set.difference(covered))
+    }
+
+    /// Whether a grant with this kind covers a process, where one kind is asked about; else nothing,
+    /// as of [`Cover::uncovered_in`]. Makes no set.
+    pub(crate) fn covers(&self, kinds: KindSet, p: ProcId) -> Option<bool>
+        ensures { IfSome result (Tells self.now kinds p.0) }
+    {
+        fy_kinds::laws::one_deed();
+        let covered = self.group(kinds)?;
+        Some(self.everyone.contains(kinds) || covered.contains(p))
     }
 
     /// The set of the one kind that some kinds are.

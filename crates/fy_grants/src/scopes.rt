@@ -21,6 +21,16 @@ fn without_scope(set: ProcSet, scope: Scope, map: &Map) -> ProcSet
     }
 }
 
+/// Whether a process is in a scope.
+fn is_in_scope(scope: Scope, map: &Map, p: ProcId) -> bool
+    ensures { result ≡ is_in_scope map.now scope p.0 }
+{
+    match scope {
+        Scope::All => true,
+        Scope::Where(target) => map.members(target.key, &target.value).contains(p),
+    }
+}
+
 /// The processes of a set without those that a grant covers, where it has all these kinds.
 fn without_granted(set: ProcSet, grant: &Grant, kinds: KindSet, map: &Map) -> ProcSet
     ensures { (q : ℕ) → sets.contains result q
@@ -45,9 +55,16 @@ pub(crate) fn left_uncovered(grants: &[Grant], kinds: KindSet, map: &Map, set: &
     left
 }
 
+/// Whether one of the grants with all these kinds covers a process.
+pub(crate) fn is_covered(grants: &[Grant], kinds: KindSet, map: &Map, p: ProcId) -> bool
+    ensures { result ≡ is_covered map.now grants.now kinds p.0 }
+{
+    grants.iter().any(|grant| grant.kinds.contains(kinds) && is_in_scope(grant.scope, map, p))
+}
+
 /// Whether a process is protected from some of these kinds. A process that isn't there is protected
 /// from none.
-fn is_shielded(protections: &[KindSet], kinds: KindSet, p: ProcId) -> bool
+pub(crate) fn is_shielded(protections: &[KindSet], kinds: KindSet, p: ProcId) -> bool
     ensures { result ≡ has_some (slice_index_or protections.now p.0 no_deed) kinds }
 {
     match protections.get(p.0 as usize) {

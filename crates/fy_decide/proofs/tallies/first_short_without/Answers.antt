@@ -8,4 +8,4 @@ use Rattle.fy_decide.proofs.tallies.first_short_without.Goals as goal
 pub returns-in-Some : goal.returns-in-Some
 returns-in-Some c =
     c.first_short_without_one.ensures
-    ∙ (λ i. position (λ tally. not (satisfies tally.processes tally.policy (sets.contains (without-one tally.set c.args.set.now c.in-Some.p.0 c.in-Some.ensures.alone i)))) c.args.tallies.now)
+    ∙ (λ i. position (λ tally. not (satisfies tally.processes tally.policy (sets.contains (without-one tally.set c.args.targets.now.set c.in-Some.p.0 (c.args.targets.now.alone c.in-Some.p c.in-Some.is) i)))) c.args.tallies.now)

@@ -9,5 +9,5 @@ pub returns : goal.returns
 returns c =
     let inside : Losses = record { processes = c.self.inside.map.value; policies = c.self.inside.policies.items; destroyed = c.self.inside.destroyed; left = c.self.inside.left } in
     c.first_short_without.ensures
-    ∙ first-without inside c.args.set.now c.deref.result.now (c.deref.ensures.value ∙ c.self.invariant.left_agree)
-    ∙ ap (λ dead. first_short dead.processes dead.policies (without_set (sets.contains dead.left) (sets.contains c.args.set.now))) c.self.view_is
+    ∙ first-without inside c.args.targets.now.set c.deref.result.now (c.deref.ensures.value ∙ c.self.invariant.left_agree)
+    ∙ ap (λ dead. first_short dead.processes dead.policies (without_set (sets.contains dead.left) (sets.contains c.args.targets.now.set))) c.self.view_is

@@ -9,5 +9,5 @@ pub returns : goal.returns
 returns c =
     let inside : Losses = record { processes = c.self.inside.map.value; policies = c.self.inside.policies.items; destroyed = c.self.inside.destroyed; left = c.self.inside.left } in
     c.first_satisfied_with.ensures
-    ∙ first-with inside c.args.set.now c.deref.result.now (c.deref.ensures.value ∙ c.self.invariant.destroyed_agree)
-    ∙ ap (λ dead. first_satisfied dead.processes dead.policies (with_set (sets.contains dead.destroyed) (sets.contains c.args.set.now))) c.self.view_is
+    ∙ first-with inside c.args.targets.now.set c.deref.result.now (c.deref.ensures.value ∙ c.self.invariant.destroyed_agree)
+    ∙ ap (λ dead. first_satisfied dead.processes dead.policies (with_set (sets.contains dead.destroyed) (sets.contains c.args.targets.now.set))) c.self.view_is

@@ -4,26 +4,26 @@ use Rattle.fy_decide.specs.Verdicts.{situation_of}
 use Rattle.fy_decide.proofs.Judging.{nobody, leave_untargeted, uncovered_by, barred_by}
 use Rattle.fy_decide.proofs.verdict.Case.permission_bar.Goals as goal
 
-pub returns-then-is_empty : goal.returns-then-is_empty
-returns-then-is_empty c = λ deed only_one.
-    leave_untargeted c.least_is_first_found.ensures (situation_of c.args.self.now.dead.now c.args.self.now.book.now c.args.self.now.actor) deed (sets.contains c.args.targets.now)
-    c.requires.members
-    (nobody c.args.targets.now (length c.args.self.now.dead.now.processes) (c.is_empty.ensures.0 c.if-is_empty.true))
+pub returns-then-is_aimless : goal.returns-then-is_aimless
+returns-then-is_aimless c = λ deed only_one.
+    leave_untargeted c.least_is_first_found.ensures (situation_of c.args.self.now.dead.now c.args.self.now.book.now c.args.self.now.actor) deed (sets.contains c.args.self.now.targets.now.set)
+    c.args.self.now.members
+    (nobody c.args.self.now.targets.now.set (length c.args.self.now.dead.now.processes) (c.is_aimless.ensures.0 c.if-is_aimless.true))
 
 pub returns-in-Some : goal.returns-in-Some
 returns-in-Some c = λ deed only_one.
     uncovered_by c.least_is_first_found.ensures c.one_deed.ensures.some c.args.self.now.dead.now c.args.self.now.book.now c.args.self.now.actor deed c.args.kinds c.args.self.now.same only_one
-    c.args.targets.now c.requires.members _ c.if-is_empty.false c.is_empty.ensures
+    c.args.self.now.targets.now.set c.args.self.now.members _ c.if-is_aimless.false c.is_aimless.ensures
     c.uncovered.result c.in-Some.process c.uncovered.ensures c.in-Some.is
 
 pub returns-in-Some-barred : goal.returns-in-Some-barred
 returns-in-Some-barred c = λ deed only_one.
     barred_by c.least_is_first_found.ensures c.one_deed.ensures.some c.args.self.now.dead.now c.args.self.now.book.now c.args.self.now.actor deed c.args.kinds c.args.self.now.same only_one
-    c.args.targets.now c.requires.members _ c.if-is_empty.false c.is_empty.ensures
+    c.args.self.now.targets.now.set c.args.self.now.members _ c.if-is_aimless.false c.is_aimless.ensures
     c.uncovered.result c.barred.result _ c.uncovered.ensures c.in_default.is c.barred.ensures c.in-Some-barred.is
 
 pub returns-in-None : goal.returns-in-None
 returns-in-None c = λ deed only_one.
     barred_by c.least_is_first_found.ensures c.one_deed.ensures.some c.args.self.now.dead.now c.args.self.now.book.now c.args.self.now.actor deed c.args.kinds c.args.self.now.same only_one
-    c.args.targets.now c.requires.members _ c.if-is_empty.false c.is_empty.ensures
+    c.args.self.now.targets.now.set c.args.self.now.members _ c.if-is_aimless.false c.is_aimless.ensures
     c.uncovered.result c.barred.result _ c.uncovered.ensures c.in_default.is c.barred.ensures c.in-None.is
