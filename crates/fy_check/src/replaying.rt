@@ -1,6 +1,6 @@
 //! Checks a journal by replaying it: its acts are made once more, and the replies compared. No
 //! entry is kept.
-ghost use Rattle.std.specs.Prelude.{◌≡◌, ◌↔◌, List, [], ◌∷◌, ◌++◌, length, None, IfOk, OnOk, OnErr, IsTrue};
+ghost use Rattle.std.specs.Prelude.{◌≡◌, ◌↔◌, List, [], ◌∷◌, ◌++◌, length, None, IfOk, OnOk, OnErr, IsSome, IsTrue};
 ghost use Rattle.fy_acts.specs.declared.entry.Entry.{Entry};
 ghost use Rattle.fy_cluster.specs.Setup.{Setup};
 ghost use Rattle.fy_cluster.specs.Versions.{LegalUnder};
@@ -82,6 +82,14 @@ impl Replayer {
         })
     }
 
+    /// The cluster that makes the acts. While no entry is bad, its journal is the entries so far; a
+    /// bad entry's act may have been made.
+    pub fn cluster(&self) -> &ClusterState
+        ensures { result.now ≡ self.now.execution }
+    {
+        &self.state
+    }
+
     /// The place of the first bad entry so far; `None` where the entries are a legal journal.
     pub fn first_bad(&self) -> Option<u32>
         ensures { result ≡ self.now.first_bad }
@@ -100,6 +108,7 @@ impl Replayer {
             → HasReplayed setup so_far self.old
             → HasReplayed setup (so_far ++ entry ∷ []) self.new) }
         ensures version { self.new.version ≡ self.old.version }
+        ensures stays { IsSome self.old.first_bad → self.new ≡ self.old }
         ensures same { OnErr result (self.new ≡ self.old) }
     {
         if self.first_bad.is_some() {

@@ -41,7 +41,7 @@ trail_send =
     declared_send in_trail.the_type ((search (sendable, crosses) depth 20), tt) in
     search (inner, view_send)
 
-state_send : IsSend state.the_row
+pub state_send : IsSend state.the_row
 state_send =
     let inner : IsSend in_state.the_row =
     declared_send in_state.the_type (

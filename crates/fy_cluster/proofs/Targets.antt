@@ -78,6 +78,17 @@ visits_all {set} {change} {empty_disk} {old} none k = record {
       ∙ and_true (sets.contains set p) (change (get_or old p empty_disk)) (get_or old p empty_disk);
 }
 
+-- what changes nothing changes nothing at a set
+pub unchanged : {X : Type 0} {set : ℕ → Bool} {change : X → X} {empty_disk : X} {old : List X} → ((x : X) → change x ≡ x) → ChangesAt set change empty_disk old old
+unchanged {X} {set} {change} {empty_disk} {old} same = record {
+  count = refl;
+  each = λ p l. either (set p) (get_or old p empty_disk);
+}
+  where
+    either : (b : Bool) (x : X) → x ≡ (if b then change x else x)
+    either true x = sym (same x)
+    either false x = refl
+
 -- ---- clogs
 
 -- the same of the ends of clogs, while nothing else of the network is changed

@@ -13,7 +13,7 @@ ghost use Rattle.fy_cluster.specs.Standing.{Point, Refines, StepsTo, with_losses
 
 use crate::Config;
 use crate::machine::Machine;
-use fy_decide::{DeadBook, Loss, judge, judge_at};
+use fy_decide::{DeadBook, Loss, judge, judge_aimed};
 use fy_disk::Disks;
 use fy_journal::{Refusal, Reply};
 use fy_kinds::{KillOrder, Kind};
@@ -38,6 +38,10 @@ fn strike_disks(disks: &mut Disks, targets: &ProcSet, kind: Kind, tear: u64)
     ensures { ChangesAt (sets.contains targets.now) (disk_after_strike kind tear) empty_disk
         disks.old disks.new }
 {
+    // A reboot of processes leaves the disks as they are.
+    if let Kind::RebootProcess = kind {
+        return;
+    }
     for p in targets.iter() {
         strike_disk(disks, p, kind, tear);
     }
@@ -64,14 +68,15 @@ impl Machine {
         ensures { StepsTo point (Kill order.now) result self.new }
     {
         fy_decide::laws::struck_may_be_destroyed();
-        let targets = self.dead.targets(map, &order.target());
-        let verdict = judge_at(&self.dead, &self.book, by, order, &targets);
+        let found = self.dead.aimed_at(map, &order.target());
+        let verdict = judge_aimed(&self.dead, &self.book, by, order, &found);
         let Some(kind) = verdict.struck else {
             return Reply::Verdict(verdict);
         };
-        strike_disks(&mut self.disks, &targets, kind, order.tear());
-        self.up = self.up.difference(&targets);
-        record_losses(&mut self.dead, &targets, kind);
+        let targets = &found.set;
+        strike_disks(&mut self.disks, targets, kind, order.tear());
+        self.up = self.up.difference(targets);
+        record_losses(&mut self.dead, targets, kind);
         Reply::Verdict(verdict)
     }
     /// The reply that a kill by an actor would get. It changes nothing.
