@@ -1,19 +1,11 @@
 -- who is lost after a journal, as `bears` counts it
-use Rattle.std.specs.Prelude.{◌≡◌, ℕ, ◌&&◌, not, List, nat_lt, length, Ok}
+use Rattle.std.specs.Prelude.{◌≡◌, ℕ, ◌&&◌, List, nat_lt, length, Ok}
 use Rattle.std.specs.FinSet as sets
 use Rattle.fy_audit.specs.Audit.{Audit, AuditOf}
 use Rattle.fy_bears.specs.declared.book.LossesSoFar.{LossesSoFar}
 use Rattle.fy_cluster.specs.Setup.{Setup}
 use Rattle.fy_cluster.specs.History.{History, destroyed, gone, history, up}
 use Rattle.fy_cluster.specs.Sights.{is_asleep}
-use Rattle.fy_picture.specs.Aims.{IsAim}
-use Rattle.fy_bears_after.specs.declared.lost.LossTracker.{LossTracker}
-
--- what is kept of the processes while a journal is followed entry by entry
-pub record TracksLosses (c : Setup) (h : History) (lost : LossTracker) : Type 0 where
-  pub aim : IsAim c h lost.aim
-  pub destroyed : (p : ℕ) → sets.contains lost.destroyed p ≡ destroyed h p
-  pub asleep : (p : ℕ) → sets.contains lost.asleep p ≡ not (up h p)
 
 -- the losses are those of a history: who is destroyed, who is gone, and who is neither up nor gone
 pub record AreLosses (c : Setup) (h : History) (losses : LossesSoFar) : Type 0 where

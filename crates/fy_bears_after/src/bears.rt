@@ -1,6 +1,6 @@
 //! The engine behind `faultyard bears`: what a cluster bears, from its start or from the end of an
 //! audit on.
-ghost use Rattle.std.specs.Prelude.{◌≡◌, ◌≢◌, ◌+◌, IfOk, IfErr, IfSome, Ok, Err, false, true};
+ghost use Rattle.std.specs.Prelude.{◌≡◌, ◌≢◌, ◌+◌, ℕ, List, None, IfOk, IfErr, IfSome, Ok, Err, false, true};
 ghost use Rattle.std.specs.Io.KnownBytes.{Appends};
 ghost use Rattle.fy_lines.specs.Readings.{ReadsAtMost};
 ghost use Rattle.fy_audit.specs.Audit.{AuditOf};
@@ -8,13 +8,14 @@ ghost use Rattle.fy_audit.specs.declared.audit.TheConstants.{MOST_AUDIT_BYTES};
 ghost use Rattle.fy_bears_after.specs.BearsTexts.{HasLosses};
 ghost use Rattle.fy_check_audit.specs.CheckTexts.{HasVerdict};
 ghost use Rattle.fy_engine.specs.Outputs.{IsOutputStop};
-ghost use Rattle.fy_check_audit.specs.Checked.{IsChecked};
+ghost use Rattle.fy_check_audit.specs.Checked.{IsChecked, IsReplayed};
+ghost use Rattle.fy_cluster.specs.Setup.{Setup};
 ghost use Rattle.fy_engine.specs.Stops.{IfAuditFault, IsCheckStop};
 
-use crate::lost::losses_after;
-use fy_audit::{MOST_AUDIT_BYTES, read_audit};
+use crate::lost::losses_in;
+use fy_audit::MOST_AUDIT_BYTES;
 use fy_bears::{Form, LossesSoFar, book_of, report};
-use fy_check_audit::{audit_stop, find_first_bad, load_audit, write_finding};
+use fy_check_audit::{ReplayedAudit, load_audit, replay_audit, write_finding};
 use fy_cluster::Config;
 use fy_engine::Stop;
 use fy_lines::{OutputFault, write_bytes};
@@ -75,18 +76,12 @@ pub fn run_bears<W: Write>(
     }
 }
 
-/// Who is lost after the entries of an audit.
-fn losses_of(alloc: Global, config: &Config, bytes: &[u8]) -> Result<LossesSoFar, Stop>
-    ensures lost { IfOk result (HasLosses config.now bytes.now) }
-    ensures refused { IfErr result (λ stop. IfAuditFault stop
-        (λ fault. AuditOf bytes.now (Err fault))) }
-    ensures own { IfErr result IsCheckStop }
-    ensures no_output { IfErr result (λ stop. stop ≢ Stop.Read × stop ≢ Stop.Write) }
+/// Who is lost after the entries of a legal audit.
+fn losses_after(audit: &ReplayedAudit) -> LossesSoFar
+    ensures { (setup : Setup) (bytes : List ℕ) → IsReplayed setup bytes audit.now
+        → audit.now.replayer.first_bad ≡ None → HasLosses setup bytes result }
 {
-    match read_audit(alloc, bytes) {
-        Ok(journal) => Ok(losses_after(config.map(), journal.entries())),
-        Err(fault) => Err(audit_stop(fault)),
-    }
+    losses_in(audit.replayer.cluster())
 }
 
 /// Reads an audit from the reader to its end, checks it, and writes what the cluster bears from
@@ -124,17 +119,15 @@ pub fn run_bears_after<R: Read, W: Write>(
         Ok(bytes) => bytes,
         Err(stop) => return Err(stop),
     };
-    let finding = match find_first_bad(alloc, config, &bytes) {
-        Ok(finding) => finding,
+    let audit = match replay_audit(alloc, config, &bytes) {
+        Ok(audit) => audit,
         Err(stop) => return Err(stop),
     };
+    let finding = audit.finding();
     if finding.first_bad.is_some() {
         return write_finding(finding, writer);
     }
-    let losses = match losses_of(alloc, config, &bytes) {
-        Ok(losses) => losses,
-        Err(stop) => return Err(stop),
-    };
+    let losses = losses_after(&audit);
     let text = match report_text(alloc, config, Some(&losses), form) {
         Ok(text) => text,
         Err(stop) => return Err(stop),

@@ -5,4 +5,4 @@ mod bears;
 mod lost;
 
 pub use bears::{run_bears, run_bears_after};
-pub use lost::losses_after;
+pub use lost::losses_in;

@@ -4,6 +4,8 @@ use Rattle.std.specs.Prelude.{IfSome}
 use Rattle.fy_audit.specs.Audit.{AuditOf, AuditAnswers}
 use Rattle.fy_audit.specs.declared.audit.AuditFault.{AuditFault}
 use Rattle.fy_audit.specs.declared.audit.AuditFault.TheVariants.{TooLong, Line, NoMemory}
+use Rattle.fy_acts.specs.declared.entry.Entry.{Entry}
+use Rattle.fy_journal.specs.declared.version.Version.{Version}
 use Rattle.fy_cluster.specs.Setup.{Setup}
 use Rattle.fy_check.specs.Replayed.{HasFirstBad}
 use Rattle.fy_check_audit.specs.declared.check.Finding.{Finding}
@@ -27,6 +29,19 @@ pub of_known : (setup : Setup) (known : Option (List ℕ)) (bytes : List ℕ) (f
 of_known setup None bytes finding read found = tt
 of_known setup (Some xs) bytes finding read found =
     subst (λ ys. IsFound setup ys finding) read found
+
+-- what is found of the bytes of a reader
+pub found_known : (setup : Setup) (known : Option (List ℕ)) (version : Version) (entries : List Entry) (finding : Finding) →
+    IfSome known (λ bytes. AuditOf bytes (Ok (record { version = version; entries = entries }))) →
+    finding.count ≡ length entries → HasFirstBad version setup entries finding.first_bad →
+    IfSome known (λ bytes. IsFound setup bytes finding)
+found_known setup None version entries finding read count first = tt
+found_known setup (Some bytes) version entries finding read count first = record {
+  audit = record { version = version; entries = entries };
+  read = read;
+  count = count;
+  first = first;
+}
 
 -- a legal audit is confirmed
 said_legal : (setup : Setup) (known : Option (List ℕ)) (finding : Finding)

@@ -1,2 +1,4 @@
 pub mod Checking
 pub mod OneFinding
+mod Taking
+mod Headers

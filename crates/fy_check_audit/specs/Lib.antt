@@ -1,2 +1,4 @@
 pub mod CheckTexts
 pub mod Checked
+pub mod Inputs
+pub mod InputFields

@@ -7,8 +7,11 @@ ghost use Rattle.fy_audit.specs.Audit.{AuditOf};
 ghost use Rattle.fy_audit.specs.declared.audit.TheConstants.{MOST_AUDIT_BYTES};
 ghost use Rattle.fy_cluster.specs.Setup.{Setup};
 ghost use Rattle.fy_check_audit.specs.CheckTexts.{HasVerdict, IfFound, IsFound};
+ghost use Rattle.fy_check_audit.specs.Checked.{IsReplayed};
+ghost use Rattle.fy_check_audit.specs.Inputs.{IsInputStop};
 ghost use Rattle.fy_engine.specs.Stops.{numbered, audit_stop, IfAuditFault, IsCheckStop};
 
+use crate::input::AuditInput;
 use fy_audit::laws::an_audit_is_read_entry_by_entry;
 use fy_audit::{AuditFault, AuditReader, MOST_AUDIT_BYTES};
 use fy_check::Replayer;
@@ -62,10 +65,34 @@ pub struct Finding {
     pub first_bad: Option<u32>,
 }
 
+/// An audit whose entries were checked one after another.
+#[derive(Drop)]
+pub struct ReplayedAudit {
+    /// How many entries it has.
+    pub count: u32,
+    /// What has checked them. Where none is bad, its cluster has all of them.
+    pub replayer: Replayer,
+}
+
+impl ReplayedAudit {
+    /// What was found of the audit.
+    pub fn finding(&self) -> Finding
+        ensures count { result.count ≡ self.now.count }
+        ensures first_bad { result.first_bad ≡ self.now.replayer.first_bad }
+        ensures found { (setup : Setup) (bytes : List ℕ) → IsReplayed setup bytes self.now
+            → IsFound setup bytes result }
+    {
+        Finding {
+            count: self.count,
+            first_bad: self.replayer.first_bad(),
+        }
+    }
+}
+
 /// Reads an audit entry by entry, and has each checked as it is read. Behind a bad entry the rest
 /// is read for its faults.
-pub fn find_first_bad(alloc: Global, config: &Config, bytes: &[u8]) -> Result<Finding, Stop>
-    ensures found { IfOk result (IsFound config.now bytes.now) }
+pub fn replay_audit(alloc: Global, config: &Config, bytes: &[u8]) -> Result<ReplayedAudit, Stop>
+    ensures replayed { IfOk result (IsReplayed config.now bytes.now) }
     ensures refused { IfErr result (λ stop. IfAuditFault stop
         (λ fault. AuditOf bytes.now (Err fault))) }
     ensures own { IfErr result IsCheckStop }
@@ -91,10 +118,54 @@ pub fn find_first_bad(alloc: Global, config: &Config, bytes: &[u8]) -> Result<Fi
             return Err(Stop::NoMemory);
         };
     }
-    Ok(Finding {
+    Ok(ReplayedAudit {
         count: reader.place(),
-        first_bad: replayer.first_bad(),
+        replayer,
     })
+}
+
+/// Reads an audit piece by piece, entry by entry, and has each checked as it is read. Behind a bad
+/// entry the rest is read for its faults.
+pub fn check_entries<R: Read>(
+    alloc: Global,
+    config: &Config,
+    reader: &mut R,
+) -> Result<Finding, Stop>
+    ensures found { IfOk result (IfFound config.now (R.remaining reader.old)) }
+    ensures refused { IfErr result (λ stop. IfAuditFault stop
+        (λ fault. IfSome (R.remaining reader.old) (λ bytes. AuditOf bytes (Err fault)))) }
+    ensures own { IfErr result IsInputStop }
+    ensures read_fault { result ≡ Err Stop.Read →
+        ReadsAtMost (R.remaining reader.old) (R.remaining reader.new) MOST_AUDIT_BYTES }
+    ensures no_further { ReadsAtMost (R.remaining reader.old) (R.remaining reader.new)
+        (MOST_AUDIT_BYTES + 1) }
+{
+    let mut input = match AuditInput::begin(alloc, reader) {
+        Ok(input) => input,
+        Err(stop) => return Err(stop),
+    };
+    let Ok(config) = config.try_copy(alloc) else {
+        return Err(Stop::NoMemory);
+    };
+    let Ok(mut replayer) = Replayer::begin(alloc, config, input.version()) else {
+        return Err(Stop::NoMemory);
+    };
+    loop {
+        match input.next_entry(reader) {
+            Ok(Some(entry)) => {
+                let Ok(()) = replayer.enter(entry) else {
+                    return Err(Stop::NoMemory);
+                };
+            }
+            Ok(None) => {
+                return Ok(Finding {
+                    count: input.place(),
+                    first_bad: replayer.first_bad(),
+                });
+            }
+            Err(stop) => return Err(stop),
+        }
+    }
 }
 
 /// Writes the line that says whether an audit is legal: its head, and a number.
@@ -138,9 +209,10 @@ pub fn write_finding<W: Write>(finding: Finding, writer: &mut W) -> Result<bool,
 /// entries has the reply that the rules give under this configuration, else `bad entry N` with the
 /// place of the first that hasn't. The answer is whether it is legal.
 ///
-/// All bytes are read before the first entry is checked, and all entries are checked before the
-/// first byte is written. A faulty line is told in place of a bad entry, wherever they stand. At
-/// most one byte past the audit's limit is read.
+/// The audit is read piece by piece, and all of it is read and checked before the first byte is
+/// written. A faulty line is told in place of a bad entry, and a fault of the whole, as that it is
+/// too long or that the reader fails, in place of both, wherever they stand: behind a faulty line
+/// the rest is read for that. At most one byte past the audit's limit is read.
 ///
 /// # Errors
 ///
@@ -168,11 +240,7 @@ pub fn run_check<R: Read, W: Write>(
     ensures no_further { ReadsAtMost (R.remaining reader.old) (R.remaining reader.new)
         (MOST_AUDIT_BYTES + 1) }
 {
-    let bytes = match load_audit(alloc, reader) {
-        Ok(bytes) => bytes,
-        Err(stop) => return Err(stop),
-    };
-    match find_first_bad(alloc, config, &bytes) {
+    match check_entries(alloc, config, reader) {
         Ok(finding) => write_finding(finding, writer),
         Err(stop) => Err(stop),
     }

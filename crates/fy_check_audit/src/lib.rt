@@ -2,6 +2,11 @@
 #![tactic(auto)]
 
 mod check;
+mod input;
 pub mod laws;
 
-pub use check::{Finding, audit_stop, find_first_bad, load_audit, run_check, write_finding};
+pub use check::{
+    Finding, ReplayedAudit, audit_stop, check_entries, load_audit, replay_audit, run_check,
+    write_finding,
+};
+pub use input::AuditInput;

@@ -1,19 +1,24 @@
 -- which entry acknowledged a record
-use Rattle.std.proofs.Common.{◌≡◌, ◌≢◌, ◌∙◌, ◌<◌, ◌≤◌, ◌+◌, ◌==◌, ◌&&◌, ℕ, Bool, true, false, inl, inr, Option, Some, None, option_map, List, [], ◌∷◌, ◌++◌, length, length-append, length-set, take, get_or, slice_get, slice_set, nat_lt, refl, sym, subst, ap, arith, lt-ltb, if◌then◌else◌}
+use Rattle.std.proofs.Common.{◌≡◌, ◌≢◌, ◌∙◌, ◌<◌, ◌≤◌, ◌+◌, ◌==◌, ◌&&◌, ℕ, Bool, true, false, inl, inr, Option, Some, None, option_map, List, [], ◌∷◌, ◌++◌, length, length-append, length-set, take, drop, get_or, slice_get, slice_set, nat_lt, refl, sym, subst, ap, arith, lt-ltb, if◌then◌else◌}
 use Rattle.std.specs.Prelude.{IsSomeAnd}
 use Rattle.std.proofs.lemmas.Bool.{false≢true, cases_lt, le-ltb, eqb-true, eqb-false, and_right, or_left}
-use Rattle.std.proofs.lemmas.List.{take_all, take-append-le, get_or-set_same, get_or-set_other}
+use Rattle.std.proofs.lemmas.List.{take_all, take-append-le, take-append-drop, get_or-set_same, get_or-set_other}
 use Rattle.std.proofs.lemmas.Option.{slice_get_past, slice_get-get_or}
 use Rattle.fy_acts.specs.declared.reply.Reply.{Reply}
 use Rattle.fy_acts.specs.declared.reply.Reply.TheVariants.{Marked}
 use Rattle.fy_acts.specs.declared.entry.Entry.{Entry}
 use Rattle.fy_cluster.specs.Setup.{Setup}
-use Rattle.fy_cluster.specs.History.{History, step_of, history, some_is, acked}
+use Rattle.fy_cluster.specs.History.{History, step_of, after, history, some_is, acked}
 use Rattle.fy_cluster.specs.Replies.{MayFollow, reply}
 use Rattle.fy_picture.specs.Keeping.{IsAckedAt, says_acked, noted}
 use Rattle.fy_picture.proofs.Afters.{after-append}
 
 -- ---- only a reply that says so acknowledges a record
+
+-- an acknowledged record stays acknowledged
+acked_stays : (c : Setup) (h : History) (xs : List Entry) (r : ℕ) → acked h r ≡ true → acked (after c h xs) r ≡ true
+acked_stays c h [] r is = is
+acked_stays c h (x ∷ xs) r is = acked_stays c (step_of c h x ∷ h) xs r (or_left (acked h r) _ is)
 
 abbrev pub ByReply : Type 0
 ByReply = (c : Setup) (h : History) (e : Entry) → e.reply ≡ reply c h e.by e.act → e.reply ≢ Marked true → (r : ℕ) → acked (step_of c h e ∷ h) r ≡ acked h r
@@ -112,11 +117,17 @@ module _ (by_reply : ByReply) (c : Setup) (xs : List Entry) (e : Entry) (r : ℕ
 -- ---- the notes of a list
 
 -- none was acknowledged before any entry
-pub never : (c : Setup) (r : ℕ) → IsAckedAt c [] r None
-never c r = acked_at c [] r None (λ count. ap (λ ys. acked (history c ys) r) (take_all count [] (omega arith)))
+pub never : (c : Setup) (xs : List Entry) (r : ℕ) → acked (history c xs) r ≡ false → IsAckedAt c xs r None
+never c xs r none = acked_at c xs r None (λ count. by count (acked (history c (take count xs)) r) refl)
+  where
+    by : (count : ℕ) (b : Bool) → acked (history c (take count xs)) r ≡ b → acked (history c (take count xs)) r ≡ false
+    by count false is = is
+    by count true is =
+        let all : history c xs ≡ after c (history c (take count xs)) (drop count xs) = ap (history c) (sym (take-append-drop count xs)) ∙ after-append c [] (take count xs) (drop count xs) in
+        absurd (false≢true (sym none ∙ ap (λ h. acked h r) all ∙ acked_stays c (history c (take count xs)) (drop count xs) r is))
 
 -- what a loop over the records keeps: a note for each so far, and the others as they were
-pub record Notes (f : ℕ → Option ℕ → Option ℕ) (old : List (Option ℕ)) (i : ℕ) (new : List (Option ℕ)) : Type 0 where
+pub record NotesSoFar (f : ℕ → Option ℕ → Option ℕ) (old : List (Option ℕ)) (i : ℕ) (new : List (Option ℕ)) : Type 0 where
   pub count : length new ≡ length old
   pub each : (r : ℕ) → slice_get new r ≡ (if nat_lt r i then option_map (f r) (slice_get old r) else slice_get old r)
 
@@ -130,7 +141,7 @@ after_set xs i p x other l w = at (p == i) refl
         let apart : p ≡ i → ⊥ = eqb-false p i e in
         slice_get-get_or (slice_set xs i x) p other (let n = length-set xs i x in omega arith) ∙ ap Some (get_or-set_other xs i p x other apart) ∙ sym (slice_get-get_or xs p other w)
 
-pub notes_more : (f : ℕ → Option ℕ → Option ℕ) (old now : List (Option ℕ)) (i : ℕ) (x : Option ℕ) → i < length now → x ≡ get_or now i x → Notes f old i now → Notes f old (i + 1) (slice_set now i (f i x))
+pub notes_more : (f : ℕ → Option ℕ → Option ℕ) (old now : List (Option ℕ)) (i : ℕ) (x : Option ℕ) → i < length now → x ≡ get_or now i x → NotesSoFar f old i now → NotesSoFar f old (i + 1) (slice_set now i (f i x))
 notes_more f old now i x l is k = record {
   count = length-set now i (f i x) ∙ k.count;
   each = λ r. elim (cases_lt r (length now)) [
@@ -160,7 +171,7 @@ notes_more f old now i x l is k = record {
           | inr w ↦ le-ltb r i w ∙ sym (le-ltb r (i + 1) (omega arith))
         ])
 
-pub notes_all : (f : ℕ → Option ℕ → Option ℕ) (old : List (Option ℕ)) (i : ℕ) (new : List (Option ℕ)) → length old ≤ i → Notes f old i new → (r : ℕ) → slice_get new r ≡ option_map (f r) (slice_get old r)
+pub notes_all : (f : ℕ → Option ℕ → Option ℕ) (old : List (Option ℕ)) (i : ℕ) (new : List (Option ℕ)) → length old ≤ i → NotesSoFar f old i new → (r : ℕ) → slice_get new r ≡ option_map (f r) (slice_get old r)
 notes_all f old i new whole k r = k.each r ∙ elim (cases_lt r i) [
   | inl w ↦ ap (λ b. if b then option_map (f r) (slice_get old r) else slice_get old r) (lt-ltb r i w)
   | inr w ↦

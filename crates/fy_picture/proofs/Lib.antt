@@ -1,7 +1,6 @@
 mod Acking
 mod Afters
-mod Following
-mod Lines
+mod Laying
 mod Losing
-mod Playing
+mod Recordings
 pub mod Sets

@@ -11,12 +11,11 @@ use Rattle.fy_locality.specs.declared.locality.Locality.{Locality}
 use Rattle.fy_policy.specs.Tree.{Tree}
 use Rattle.fy_policy.specs.Sat.{satisfies}
 use Rattle.fy_decide.specs.Safety.{with_set, without_set}
-use Rattle.fy_cluster.specs.History.{some_is}
-use Rattle.fy_picture.specs.declared.state.State.{State}
-use Rattle.fy_picture.specs.declared.row.Row.{Row}
-use Rattle.fy_picture.specs.declared.policy_lines.LossCounts.{LossCounts}
-use Rattle.fy_picture.specs.PolicyLines.{is_killable, killable_by}
-use Rattle.fy_picture.specs.Shown.{shows, shown_destroyed, shown_left, AreShown, AreSame, killable_at}
+use Rattle.fy_cluster.specs.Setup.{Setup}
+use Rattle.fy_cluster.specs.History.{History}
+use Rattle.fy_picture.specs.declared.killable.LossCounts.{LossCounts}
+use Rattle.fy_picture.specs.Columns.{AreCounts}
+use Rattle.fy_picture.specs.Killable.{is_killable, killable_by, killable, killable_at, AreCountsAt, AreLossesOf, AreSame}
 use Rattle.std.specs.Cmp.{nat_cmp_total, unsigned_tied}
 
 -- ---- sets
@@ -46,50 +45,6 @@ same_sets s t e f p =
     same_of (sets.contains s p) (sets.contains t p)
     (sym (sets.contains-difference nat_cmp_total s t p) ∙ ap (λ u. sets.contains u p) e ∙ sets.contains-empty nat_cmp p)
     (sym (sets.contains-difference nat_cmp_total t s p) ∙ ap (λ u. sets.contains u p) f ∙ sets.contains-empty nat_cmp p)
-
-pub put_on : (a b r : Bool) → b ≡ true → (a || r) ≡ (a && b || r)
-put_on true b r e = ap (λ x. x || r) (sym e)
-put_on false b r e = refl
-
--- ---- rows
-
--- one row more
-pub cut_more : (S : ℕ → Bool) (i q : ℕ) (shown old : Bool) → shown ≡ S i → old ≡ (nat_lt q i && S q) → (q == i && shown || old) ≡ (nat_lt q (i + 1) && S q)
-cut_more S i q shown old is was =
-    ap₂ (λ y o. q == i && y || o) is was
-    ∙ elim (cases_lt q i) [
-      | inl less ↦
-          ap₂ (λ e l. e && S i || l && S q) (ne_eqb q i (λ same. absurd (omega arith))) (lt-ltb q i less)
-          ∙ sym (ap (λ l. l && S q) (lt-ltb q (i + 1) (omega arith)))
-      | inr more ↦ elim (cases_lt i q) [
-        | inl less ↦
-            ap₂ (λ e l. e && S i || l && S q) (ne_eqb q i (λ same. absurd (omega arith))) (le-ltb q i more)
-            ∙ sym (ap (λ l. l && S q) (le-ltb q (i + 1) (omega arith)))
-        | inr less ↦
-            let same : q ≡ i = omega arith in
-            ap₂ (λ e l. e && S i || l && S q) (eq-eqb q i same) (le-ltb q i more)
-            ∙ or_false (S i) ∙ ap S (sym same)
-            ∙ sym (ap (λ l. l && S q) (lt-ltb q (i + 1) (omega arith)))
-      ]
-    ]
-
--- all rows
-pub cut_all : (test : State → Bool) (rows : List Row) (column i q : ℕ) → length rows ≤ i → (nat_lt q i && shows test rows column q) ≡ shows test rows column q
-cut_all test rows column i q all =
-    elim (cases_lt q i) [
-      | inl less ↦ ap (λ l. l && shows test rows column q) (lt-ltb q i less)
-      | inr more ↦
-          ap (λ l. l && shows test rows column q) (le-ltb q i more)
-          ∙ sym (ap (λ o. some_is test (option_and_then (λ row. slice_get row.states.items column) o)) (slice_get_past rows q (omega arith)))
-    ]
-
--- what a loop over the rows keeps: the sets of those that the rows so far show
-pub record ShownSoFar (rows : List Row) (column i : ℕ) (lost kept : sets.FinSet nat_cmp) : Type 0 where
-  pub destroyed : (q : ℕ) → sets.contains lost q ≡ (nat_lt q i && shown_destroyed rows column q)
-  pub left : (q : ℕ) → sets.contains kept q ≡ (nat_lt q i && shown_left rows column q)
-
-pub none_yet : (S : ℕ → Bool) (q : ℕ) → sets.contains {R = nat_cmp} sets.empty q ≡ (nat_lt q 0 && S q)
-none_yet S q = sets.contains-empty nat_cmp q ∙ sym (ap (λ l. l && S q) (le-ltb q 0 (omega arith)))
 
 -- ---- counting
 
@@ -157,17 +112,24 @@ module _ (processes : List Locality) (P : Tree) (destroyed left : sets.FinSet na
 pub killable_same : (processes : List Locality) (P : Tree) (one other : LossCounts) → AreSame one other → killable_at processes P one ≡ killable_at processes P other
 killable_same processes P one other same = λ i. killable_by processes P (λ p. same.destroyed p i) (λ p. same.left p i)
 
--- the losses that are shown leave the number that is shown
-pub borne_shown : (processes : List Locality) (P : Tree) (rows : List Row) (column : ℕ) (losses : LossCounts) → AreShown rows column losses
-    → killable_at processes P losses ≡ killable_by processes P (shown_destroyed rows column) (shown_left rows column)
-borne_shown processes P rows column losses shown = λ i. killable_by processes P (λ p. shown.destroyed p i) (λ p. shown.left p i)
+-- the losses of a history leave the number of the history
+pub killable_of : (c : Setup) (h : History) (P : Tree) (losses : LossCounts) → AreLossesOf c h losses → killable_at c.processes P losses ≡ killable c h P
+killable_of c h P losses are = λ i. killable_by c.processes P (λ p. are.destroyed p i) (λ p. are.left p i)
 
--- what a loop over columns keeps: the last number, and the line so far
-pub record DrawsLine (processes : List Locality) (P : Tree) (rows : List Row) (column : ℕ) (losses : LossCounts) (last : ℕ) (counts : List ℕ) : Type 0 where
-  pub last_is : last ≡ killable_at processes P losses
-  pub count : length counts ≡ column
-  pub each : (k : ℕ) → k < column → slice_get counts k ≡ Some (killable_by processes P (shown_destroyed rows k) (shown_left rows k))
+-- counts at losses that are the same
+pub counts_same : (processes : List Locality) (policies : List Tree) (one other : LossCounts) (counts : List ℕ) → AreSame one other → AreCountsAt processes policies one counts → AreCountsAt processes policies other counts
+counts_same processes policies one other counts same are = record {
+  count = are.count;
+  each = λ place P e. are.each place P e ∙ ap Some (killable_same processes P one other same);
+}
 
--- a row shows what it shows at its place
-pub row_shows : (test : State → Bool) (rows : List Row) (column i : ℕ) (row : Row) → i < length rows → row ≡ get_or rows i row → some_is test (slice_get row.states.items column) ≡ shows test rows column i
-row_shows test rows column i row l is = ap (λ o. some_is test (option_and_then (λ (r : Row). slice_get r.states.items column) o)) (sym (slice_get_read rows (length rows) i row refl l is))
+-- counts at the losses of a history
+pub counts_of : (c : Setup) (h : History) (losses : LossCounts) (counts : List ℕ) → AreLossesOf c h losses → AreCountsAt c.processes c.policies losses counts → AreCounts c h counts
+counts_of c h losses counts of are = record {
+  count = are.count;
+  each = λ place P e. are.each place P e ∙ ap Some (killable_of c h P losses of);
+}
+
+-- counts at losses that are those of a history
+pub counts_now : (c : Setup) (h : History) (kept losses : LossCounts) (counts : List ℕ) → AreSame kept losses → AreLossesOf c h losses → AreCountsAt c.processes c.policies kept counts → AreCounts c h counts
+counts_now c h kept losses counts same of are = counts_of c h losses counts of (counts_same c.processes c.policies kept losses counts same are)

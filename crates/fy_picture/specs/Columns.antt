@@ -1,16 +1,27 @@
--- how many entries a column stands for, and how many columns there are
-use Rattle.std.specs.Prelude.{◌*◌, ◌<◌, ◌≤◌, ℕ}
-use Rattle.fy_picture.specs.declared.TheConstants.{MOST_COLUMNS}
+-- what a picture shows at a column
+use Rattle.std.specs.Prelude.{◌≡◌, ◌<◌, ◌≤◌, ℕ, List, length, take, slice_get, Some}
+use Rattle.fy_policy.specs.Tree.{Tree}
+use Rattle.fy_acts.specs.declared.entry.Entry.{Entry}
+use Rattle.fy_cluster.specs.Setup.{Setup}
+use Rattle.fy_cluster.specs.History.{History, history}
+use Rattle.fy_cluster.specs.Sights.{status_at}
+use Rattle.fy_cluster.specs.declared.status.Status.{Status}
+use Rattle.fy_picture.specs.declared.column.Column.{Column}
+use Rattle.fy_picture.specs.Killable.{killable}
 
--- the width of a column, in entries: the least, from 1, with which the most columns have room for so
--- many entries. So it is 1 up to 4,000 entries
-pub record IsWidth (entries width : ℕ) : Type 0 where
-  pub some : 0 < width
-  pub room : entries ≤ MOST_COLUMNS * width
-  pub least : (other : ℕ) → 0 < other → entries ≤ MOST_COLUMNS * other → width ≤ other
+-- the state of each process in a history
+pub record AreStates (c : Setup) (h : History) (states : List Status) : Type 0 where
+  pub count : length states ≡ length c.processes
+  pub each : (p : ℕ) → p < length c.processes → slice_get states p ≡ Some (status_at h p)
 
--- how many columns: the fewest of this width that have room for so many entries
-pub record AreColumns (entries width columns : ℕ) : Type 0 where
-  pub few : columns ≤ MOST_COLUMNS
-  pub room : entries ≤ columns * width
-  pub least : (other : ℕ) → entries ≤ other * width → columns ≤ other
+-- for each policy, how many processes could each be killed for good next
+pub record AreCounts (c : Setup) (h : History) (counts : List ℕ) : Type 0 where
+  pub count : length counts ≡ length c.policies
+  pub each : (place : ℕ) (P : Tree) → slice_get c.policies place ≡ Some P
+      → slice_get counts place ≡ Some (killable c h P)
+
+-- the column shows the cluster in the history of all entries up to its end
+pub record IsColumn (c : Setup) (journal : List Entry) (column : Column) : Type 0 where
+  pub end : column.end ≤ length journal
+  pub states : AreStates c (history c (take column.end journal)) column.states.items
+  pub counts : AreCounts c (history c (take column.end journal)) column.counts.items

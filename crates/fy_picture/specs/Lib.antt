@@ -1,10 +1,7 @@
-pub mod Aims
-pub mod PolicyLines
 pub mod Columns
 pub mod Glyphs
 pub mod Keeping
-pub mod IsLife
+pub mod Killable
+pub mod Layouts
 pub mod Pictures
-pub mod Rows
-pub mod Shown
-pub mod States
+pub mod Recording

@@ -1,25 +1,25 @@
-//! What a picture of a journal shows: a row for each process, with its state column by column.
+//! What a picture of a journal shows: the cluster after so many entries, column by column.
 #![tactic(auto)]
 
-mod aim;
+mod column;
 mod glyph;
 mod keeping;
+mod killable;
 pub mod laws;
-mod life;
+mod layout;
+mod named;
 mod picture;
-mod policy_lines;
-mod row;
-mod state;
+mod recorder;
 
-pub use aim::Aim;
+pub use column::Column;
 pub use glyph::{rule_of, struck_as_ordered};
+pub use layout::{Layout, layout_of};
+pub use named::named_by;
 pub use picture::{Picture, draw};
-pub use policy_lines::Line;
-pub use row::Row;
-pub use state::State;
+pub use recorder::Recorder;
 
-/// The most columns that a picture has. Where a journal has more entries, each column stands for
-/// several.
+/// The most columns that a journal is laid out in. Where it has more entries, each column stands
+/// for several.
 pub const MOST_COLUMNS: usize = 4000;
 
 /// The most records of which a picture tells the keeper.

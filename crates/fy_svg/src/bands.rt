@@ -1,10 +1,11 @@
 //! The bands of a row.
 use crate::layout::{ROW, x_of};
-use fy_picture::State;
+use fy_cluster::Status;
+use fy_picture::Column;
 use std::alloc::AllocError;
 
 /// The class of the broad part of a band.
-fn class_of(state: State) -> &'static str {
+fn class_of(state: Status) -> &'static str {
     if state.gone {
         "gone"
     } else if state.up {
@@ -35,7 +36,7 @@ fn write_stripe(
 /// What a process was like from one column up to another.
 fn write_band(
     text: &mut String,
-    state: State,
+    state: Status,
     from: usize,
     to: usize,
     y: u64,
@@ -57,16 +58,25 @@ fn write_band(
     Ok(())
 }
 
-/// The bands of a row: columns that follow one another in the same state are one.
-pub(crate) fn write_bands(text: &mut String, states: &[State], y: u64) -> Result<(), AllocError> {
+/// The state of a process at a column.
+fn state_at(columns: &[Column], column: usize, process: usize) -> Option<Status> {
+    columns.get(column)?.states.get(process).copied()
+}
+
+/// The bands of a process's row: columns that follow one another in the same state are one.
+pub(crate) fn write_bands(
+    text: &mut String,
+    columns: &[Column],
+    process: usize,
+    y: u64,
+) -> Result<(), AllocError> {
     let mut from = 0;
-    for (at, state) in states.iter().enumerate() {
-        let ends = match states.get(at + 1) {
-            Some(next) => next != state,
-            None => true,
+    for at in 0..columns.len() {
+        let Some(state) = state_at(columns, at, process) else {
+            return Ok(());
         };
-        if ends {
-            write_band(text, *state, from, at + 1, y)?;
+        if state_at(columns, at + 1, process) != Some(state) {
+            write_band(text, state, from, at + 1, y)?;
             from = at + 1;
         }
     }

@@ -1,11 +1,12 @@
 //! What stands round the rows: the head with its colours, the legend, names, the axis, and orders in
 //! words.
+use crate::drawing::Drawn;
 use crate::lanes::Lane;
-use crate::layout::{ASIDE, LINE, MOST_LINES, ROW, TOP, foot_of, middle_of, x_of, y_of};
+use crate::layout::{ASIDE, LINE, ROW, TOP, foot_of, middle_of, x_of, y_of};
 use crate::words::{write_floor, write_order};
-use fy_journal::{Entry, Reply};
+use fy_journal::Entry;
 use fy_locality::{Key, Map, ProcId};
-use fy_picture::{Picture, rule_of};
+use fy_picture::Column;
 use std::alloc::AllocError;
 
 /// Hues that the colour-blind can tell apart (Okabe and Ito), in steps of lightness: the states and
@@ -79,15 +80,14 @@ const ORDERS: [(&str, &str, u64, &str); 7] = [
 /// The head of the document, with the size of the sheet.
 pub(crate) fn write_head(
     text: &mut String,
-    picture: &Picture,
-    rows: usize,
+    drawn: &Drawn,
     policies: usize,
-    lines: usize,
 ) -> Result<(), AllocError> {
-    let wide = x_of(picture.columns).saturating_add(ASIDE).max(980);
-    let high = foot_of(rows, policies, lines).saturating_add(LINE);
-    let width = picture.width;
-    let columns = picture.columns;
+    let width = drawn.width;
+    let columns = drawn.picture.columns.len();
+    let wide = x_of(columns).saturating_add(ASIDE).max(980);
+    let foot = foot_of(drawn.lanes.len(), policies, drawn.orders.len());
+    let high = foot.saturating_add(LINE);
     text.push_str("<svg xmlns=\"http://www.w3.org/2000/svg\" ")?;
     write!(
         text,
@@ -136,17 +136,18 @@ pub(crate) fn write_legend(text: &mut String) -> Result<(), AllocError> {
 /// The numbers of entries along the head, at every tenth column.
 pub(crate) fn write_axis(
     text: &mut String,
-    picture: &Picture,
+    columns: &[Column],
     rows: usize,
 ) -> Result<(), AllocError> {
     let high = y_of(rows.saturating_add(2)).saturating_sub(TOP);
-    for column in 0..picture.columns {
+    let mut entry = 0;
+    for (column, shown) in columns.iter().enumerate() {
         if column % 10 == 0 {
-            let entry = column.saturating_mul(picture.width);
             let x = x_of(column);
             write!(text, "<path class=\"axis\" d=\"M{x} {TOP}v{high}\"/>")?;
             writeln!(text, "<text x=\"{x}\" y=\"54\">{entry}</text>")?;
         }
+        entry = shown.end;
     }
     Ok(())
 }
@@ -211,32 +212,19 @@ pub(crate) fn write_last_names(text: &mut String, rows: usize) -> Result<(), All
     writeln!(text, "<text x=\"96\" y=\"{records}\">acknowledged</text>")
 }
 
-/// How many lines `write_orders` writes.
-pub(crate) fn lines_of(entries: &[Entry]) -> usize {
-    entries
-        .iter()
-        .filter(|entry| rule_of(entry).is_some())
-        .take(MOST_LINES)
-        .count()
-}
-
 /// Below the rows, in words, the first orders that struck with less or were barred.
 pub(crate) fn write_orders(
     text: &mut String,
-    entries: &[Entry],
+    orders: &[Entry],
     rows: usize,
     policies: usize,
 ) -> Result<(), AllocError> {
-    let mut line = 0;
-    for entry in entries {
-        if line < MOST_LINES && rule_of(entry).is_some() {
-            let y = foot_of(rows, policies, line);
-            write!(text, "<text class=\"order-in-words\" x=\"10\" y=\"{y}\">")?;
-            write_order(text, entry)?;
-            write_floor(text, entry)?;
-            text.push_str("</text>\n")?;
-            line += 1;
-        }
+    for (line, order) in orders.iter().enumerate() {
+        let y = foot_of(rows, policies, line);
+        write!(text, "<text class=\"order-in-words\" x=\"10\" y=\"{y}\">")?;
+        write_order(text, order)?;
+        write_floor(text, order)?;
+        text.push_str("</text>\n")?;
     }
     Ok(())
 }
@@ -244,11 +232,11 @@ pub(crate) fn write_orders(
 /// A red mark behind the last column, for the entry that isn't what the rules give.
 pub(crate) fn write_bad(
     text: &mut String,
-    picture: &Picture,
+    columns: usize,
     at: u32,
     rows: usize,
 ) -> Result<(), AllocError> {
-    let x = middle_of(picture.columns);
+    let x = middle_of(columns);
     let high = y_of(rows.saturating_add(2)).saturating_sub(TOP);
     write!(
         text,

@@ -1,17 +1,17 @@
 //! The glyphs of orders, at the processes that they name.
 use crate::layout::{ROW, middle_of, y_of};
 use crate::words::{write_floor, write_order};
-use fy_cluster::Config;
 use fy_journal::{Act, Entry, Reply};
 use fy_kinds::Kind;
-use fy_picture::{Aim, struck_as_ordered};
+use fy_locality::ProcSet;
+use fy_picture::struck_as_ordered;
 use std::alloc::{AllocError, Global};
 
 /// The hardest order of a column that named a process.
 #[derive(Clone, Copy)]
 struct Hit {
-    /// The order's place in the journal.
-    at: usize,
+    /// The order's place among those that are kept of the column.
+    place: usize,
     /// How hard the order is; 0 where there is none.
     weight: u32,
     /// How many orders of the column named the process.
@@ -19,7 +19,7 @@ struct Hit {
 }
 
 const NO_HIT: Hit = Hit {
-    at: 0,
+    place: 0,
     weight: 0,
     count: 0,
 };
@@ -49,6 +49,11 @@ fn hardness(entry: &Entry) -> u32 {
         Act::Unclog { .. } => 1,
         _ => 0,
     }
+}
+
+/// Whether the entry is an order.
+pub(crate) fn is_order(entry: &Entry) -> bool {
+    hardness(entry) > 0
 }
 
 /// The outline of an order's glyph, as an SVG path round the current point.
@@ -94,21 +99,24 @@ fn write_glyph(
     text.push_str("</title></path>\n")
 }
 
-/// Notes an order for a process, or for nobody.
-fn note(hits: &mut [Hit], place: usize, at: usize, weight: u32) {
-    if let Some(hit) = hits.get_mut(place) {
-        hit.count = hit.count.saturating_add(1);
-        if weight > hit.weight {
-            hit.at = at;
-            hit.weight = weight;
-        }
+/// Notes an order for a process, or for nobody. The answer is whether it is the hardest there.
+fn note(hits: &mut [Hit], row: usize, place: usize, weight: u32) -> bool {
+    let Some(hit) = hits.get_mut(row) else {
+        return false;
+    };
+    hit.count = hit.count.saturating_add(1);
+    if weight <= hit.weight {
+        return false;
     }
+    hit.place = place;
+    hit.weight = weight;
+    true
 }
 
 /// The glyphs of one column. The notes are cleared after it.
 fn write_column(
     text: &mut String,
-    entries: &[Entry],
+    orders: &[Entry],
     hits: &mut [Hit],
     rows: &[usize],
     column: usize,
@@ -121,49 +129,78 @@ fn write_column(
             None => rows.len(),
         };
         if hit.weight > 0
-            && let Some(entry) = entries.get(hit.at)
+            && let Some(order) = orders.get(hit.place)
         {
-            write_glyph(text, entry, hit.count, column, row)?;
+            write_glyph(text, order, hit.count, column, row)?;
         }
     }
     Ok(())
 }
 
-/// The glyph of each order at each process that it names, folded by columns of this width: the
-/// hardest stands for all. An order that names nobody stands below the rows.
-pub(crate) fn write_glyphs(
-    alloc: Global,
-    text: &mut String,
-    config: &Config,
-    entries: &[Entry],
-    rows: &[usize],
-    width: usize,
-) -> Result<(), AllocError> {
-    let mut aim = Aim::begin(config.map());
-    let mut hits = Vec::new(alloc);
-    for _ in 0..rows.len() {
+/// The glyph of each order at each process that it names, column by column: the hardest of a column
+/// stands for all. An order that names nobody stands below the rows.
+#[derive(Drop)]
+pub(crate) struct Glyphs {
+    /// At which row each process stands.
+    rows: Vec<usize>,
+    /// What the open column has of each process, and of nobody.
+    hits: Vec<Hit>,
+    /// The orders of the open column that are or were the hardest of a process: at most eight a
+    /// process, whatever the column has.
+    orders: Vec<Entry>,
+    /// The glyphs of the columns that have ended.
+    text: String,
+}
+
+impl Glyphs {
+    pub(crate) fn begin(alloc: Global, rows: Vec<usize>) -> Result<Glyphs, AllocError> {
+        let mut hits = Vec::new(alloc);
+        for _ in 0..rows.len() {
+            hits.push(NO_HIT)?;
+        }
         hits.push(NO_HIT)?;
+        Ok(Glyphs {
+            rows,
+            hits,
+            orders: Vec::new(alloc),
+            text: String::new(alloc),
+        })
     }
-    hits.push(NO_HIT)?;
-    let mut column = 0;
-    let mut left = width;
-    for (at, entry) in entries.iter().enumerate() {
-        let named = aim.next(config.map(), entry);
-        let weight = hardness(entry);
-        if weight > 0 {
-            for p in named.iter() {
-                note(&mut hits, p.0 as usize, at, weight);
-            }
-            if named.is_empty() {
-                note(&mut hits, rows.len(), at, weight);
+
+    /// Notes an order in the open column.
+    pub(crate) fn note(&mut self, named: &ProcSet, order: Entry) -> Result<(), AllocError> {
+        let weight = hardness(&order);
+        let place = self.orders.len();
+        let mut is_hardest = false;
+        for p in named.iter() {
+            if note(&mut self.hits, p.0 as usize, place, weight) {
+                is_hardest = true;
             }
         }
-        left = left.saturating_sub(1);
-        if left == 0 {
-            write_column(text, entries, &mut hits, rows, column)?;
-            column = column.saturating_add(1);
-            left = width;
+        if named.is_empty() && note(&mut self.hits, self.rows.len(), place, weight) {
+            is_hardest = true;
         }
+        if is_hardest {
+            self.orders.push(order)?;
+        }
+        Ok(())
     }
-    write_column(text, entries, &mut hits, rows, column)
+
+    /// Writes the glyphs of the open column, which ends.
+    pub(crate) fn end_column(&mut self, column: usize) -> Result<(), AllocError> {
+        write_column(
+            &mut self.text,
+            &self.orders,
+            &mut self.hits,
+            &self.rows,
+            column,
+        )?;
+        self.orders.clear();
+        Ok(())
+    }
+
+    /// The glyphs of all columns that have ended.
+    pub(crate) fn into_text(self) -> String {
+        self.text
+    }
 }

@@ -50,7 +50,7 @@ pub(crate) fn write_keepers(
     picture: &Picture,
     lanes: &[Lane],
 ) -> Result<(), AllocError> {
-    let x = x_of(picture.columns).saturating_add(6);
+    let x = x_of(picture.columns.len()).saturating_add(6);
     for (row, lane) in lanes.iter().enumerate() {
         let kept = kept_by(alloc, &picture.keepers, lane.process)?;
         let y = y_of(row).saturating_add(ROW - 6);

@@ -3,6 +3,7 @@
 #![tactic(auto)]
 
 mod bands;
+mod drawing;
 mod frame;
 mod glyphs;
 mod keepers;
@@ -13,4 +14,4 @@ mod policies;
 mod sheet;
 mod words;
 
-pub use sheet::svg;
+pub use drawing::{Drawing, svg};

@@ -1,155 +1,175 @@
 //! The marks of columns in which records are acknowledged, and time passes.
+use crate::drawing::Drawn;
 use crate::layout::{ROW, middle_of, y_of};
 use crate::words::write_numbers;
-use fy_journal::{Entry, Reply};
-use fy_picture::Picture;
+use fy_picture::{Column, Picture};
 use std::alloc::{AllocError, Global};
 
-/// What a mark is for.
-#[derive(Clone, Copy)]
-enum MarkKind {
-    /// A record was acknowledged. The marks stand below the rows.
-    Record,
-    /// Time passed. The marks stand at the head.
-    Time,
-}
-
-/// An entry that is marked, with the record that it acknowledged or the time that it made.
+/// An entry that acknowledged a record.
 #[derive(Clone, Copy, PartialEq, Eq, PartialOrd, Ord)]
-struct Mark {
-    at: usize,
-    value: u64,
+struct Ack {
+    at: u32,
+    rec: u64,
 }
 
-/// How the entries are folded into columns.
+/// That time passed in a column.
 #[derive(Clone, Copy)]
-struct Fold {
-    entries: usize,
-    width: usize,
+pub(crate) struct Ticks {
+    column: usize,
+    /// The last entry by which it passed, and the time then.
+    at: u32,
+    now: u64,
+    /// How often it passed.
+    count: u64,
 }
 
-impl Fold {
-    fn column_of(&self, mark: Mark) -> usize {
-        mark.at.checked_div(self.width).unwrap_or(0)
+/// Notes that time passed in a column, which is the last of all so far.
+pub(crate) fn note_time(
+    ticks: &mut Vec<Ticks>,
+    column: usize,
+    at: u32,
+    now: u64,
+) -> Result<(), AllocError> {
+    if let Some(last) = ticks.last_mut()
+        && last.column == column
+    {
+        last.at = at;
+        last.now = now;
+        last.count = last.count.saturating_add(1);
+        return Ok(());
     }
+    ticks.push(Ticks {
+        column,
+        at,
+        now,
+        count: 1,
+    })?;
+    Ok(())
+}
 
-    /// The first and the last entry of a mark's column.
-    fn write_span(&self, text: &mut String, mark: Mark) -> Result<(), AllocError> {
-        let first = self.column_of(mark).saturating_mul(self.width);
-        let behind = first.saturating_add(self.width).min(self.entries);
-        let last = behind.saturating_sub(1);
-        write!(text, "entries {first} to {last}: ")
+/// How many entries come before a column.
+fn before(columns: &[Column], column: usize) -> u32 {
+    match column.checked_sub(1) {
+        Some(last) => match columns.get(last) {
+            Some(last) => last.end,
+            None => 0,
+        },
+        None => 0,
     }
+}
+
+/// The first column from this one on in which an entry is.
+fn column_from(columns: &[Column], from: usize, at: u32) -> usize {
+    let mut column = from;
+    for shown in columns.iter().skip(from) {
+        if shown.end > at {
+            return column;
+        }
+        column = column.saturating_add(1);
+    }
+    column
+}
+
+/// The first and the last entry of a column.
+fn write_span(text: &mut String, columns: &[Column], column: usize) -> Result<(), AllocError> {
+    let first = before(columns, column);
+    let last = before(columns, column.saturating_add(1)).saturating_sub(1);
+    write!(text, "entries {first} to {last}: ")
 }
 
 /// The entries that acknowledged the records of which the picture tells, in order.
-fn acks_of(alloc: Global, picture: &Picture) -> Result<Vec<Mark>, AllocError> {
-    let mut marks = Vec::new(alloc);
+fn acks_of(alloc: Global, picture: &Picture) -> Result<Vec<Ack>, AllocError> {
+    let mut acks = Vec::new(alloc);
     for (rec, place) in picture.acked_at.iter().enumerate() {
         if let Some(at) = place {
-            marks.push(Mark {
-                at: *at as usize,
-                value: rec as u64,
+            acks.push(Ack {
+                at: *at,
+                rec: rec as u64,
             })?;
         }
     }
-    marks.sort()?;
-    Ok(marks)
+    acks.sort()?;
+    Ok(acks)
 }
 
-/// The entries by which time passed, in order.
-fn ticks_of(alloc: Global, entries: &[Entry]) -> Result<Vec<Mark>, AllocError> {
-    let mut marks = Vec::new(alloc);
-    for (at, entry) in entries.iter().enumerate() {
-        if let Reply::Time { now } = entry.reply {
-            marks.push(Mark { at, value: now })?;
-        }
-    }
-    Ok(marks)
-}
-
-/// What the marks of a column say, of which this is the last and these are all values.
-fn write_title(
+/// One mark for the records that a column acknowledges, the last of them at this entry.
+fn write_ack(
     text: &mut String,
-    what: MarkKind,
-    last: Mark,
-    values: &[u64],
-    fold: Fold,
+    columns: &[Column],
+    column: usize,
+    at: u32,
+    recs: &[u64],
+    y: u64,
 ) -> Result<(), AllocError> {
-    let Mark { at, value } = last;
-    let count = values.len();
-    if count == 1 {
-        write!(text, "entry {at}: ")?;
-    } else {
-        fold.write_span(text, last)?;
-    }
-    match what {
-        MarkKind::Record => if count == 1 {
-            write!(text, "record {value} is acknowledged")
-        } else {
-            write!(text, "{count} records are acknowledged: ")?;
-            write_numbers(text, values)
-        },
-        MarkKind::Time => if count == 1 {
-            write!(text, "the time is {value}")
-        } else {
-            write!(
-                text,
-                "the time is {value} at the end; it passed {count} times"
-            )
-        },
-    }
-}
-
-/// One mark for the marks of a column, of which this is the last and these are all values.
-fn write_mark(
-    text: &mut String,
-    what: MarkKind,
-    last: Mark,
-    values: &[u64],
-    fold: Fold,
-    rows: usize,
-) -> Result<(), AllocError> {
-    let (class, y, shape) = match what {
-        MarkKind::Record => (
-            "acked",
-            y_of(rows.saturating_add(1)).saturating_add(ROW / 2),
-            "m-4 0l3 4 6-8",
-        ),
-        MarkKind::Time => ("tick", y_of(0).saturating_sub(12), "v8"),
-    };
-    let x = middle_of(fold.column_of(last));
-    let at = last.at;
+    let x = middle_of(column);
     write!(
         text,
-        "<path class=\"{class}\" data-entry=\"{at}\" d=\"M{x} {y}{shape}\"><title>"
+        "<path class=\"acked\" data-entry=\"{at}\" d=\"M{x} {y}m-4 0l3 4 6-8\"><title>"
     )?;
-    write_title(text, what, last, values, fold)?;
+    if let [rec] = recs {
+        write!(text, "entry {at}: record {rec} is acknowledged")?;
+    } else {
+        let count = recs.len();
+        write_span(text, columns, column)?;
+        write!(text, "{count} records are acknowledged: ")?;
+        write_numbers(text, recs)?;
+    }
     text.push_str("</title></path>\n")
 }
 
-/// The marks of one kind, folded: at most one a column.
-fn write_folded(
+/// The marks of acknowledged records: at most one a column.
+fn write_acks(
     alloc: Global,
     text: &mut String,
-    what: MarkKind,
-    marks: &[Mark],
-    fold: Fold,
-    rows: usize,
+    columns: &[Column],
+    acks: &[Ack],
+    y: u64,
 ) -> Result<(), AllocError> {
-    let mut values = Vec::new(alloc);
-    for (place, mark) in marks.iter().enumerate() {
-        values.push(mark.value)?;
-        let ends = match marks.get(place + 1) {
-            Some(next) => fold.column_of(*next) != fold.column_of(*mark),
+    let mut recs = Vec::new(alloc);
+    let mut column = 0;
+    for (place, ack) in acks.iter().enumerate() {
+        recs.push(ack.rec)?;
+        column = column_from(columns, column, ack.at);
+        let ends = match acks.get(place + 1) {
+            Some(next) => column_from(columns, column, next.at) != column,
             None => true,
         };
         if ends {
-            write_mark(text, what, *mark, &values, fold, rows)?;
-            values.clear();
+            write_ack(text, columns, column, ack.at, &recs, y)?;
+            recs.clear();
         }
     }
     Ok(())
+}
+
+/// The mark of the time that passed in a column.
+fn write_time(
+    text: &mut String,
+    columns: &[Column],
+    ticks: Ticks,
+    y: u64,
+) -> Result<(), AllocError> {
+    let Ticks {
+        column,
+        at,
+        now,
+        count,
+    } = ticks;
+    let x = middle_of(column);
+    write!(
+        text,
+        "<path class=\"tick\" data-entry=\"{at}\" d=\"M{x} {y}v8\"><title>"
+    )?;
+    if count == 1 {
+        write!(text, "entry {at}: the time is {now}")?;
+    } else {
+        write_span(text, columns, column)?;
+        write!(
+            text,
+            "the time is {now} at the end; it passed {count} times"
+        )?;
+    }
+    text.push_str("</title></path>\n")
 }
 
 /// A mark below the rows for each column in which records are acknowledged, and one at the head for
@@ -157,16 +177,15 @@ fn write_folded(
 pub(crate) fn write_marks(
     alloc: Global,
     text: &mut String,
-    picture: &Picture,
-    entries: &[Entry],
-    rows: usize,
+    drawn: &Drawn,
 ) -> Result<(), AllocError> {
-    let fold = Fold {
-        entries: entries.len(),
-        width: picture.width,
-    };
-    let acks = acks_of(alloc, picture)?;
-    write_folded(alloc, text, MarkKind::Record, &acks, fold, rows)?;
-    let ticks = ticks_of(alloc, entries)?;
-    write_folded(alloc, text, MarkKind::Time, &ticks, fold, rows)
+    let columns = drawn.picture.columns.as_slice();
+    let acks = acks_of(alloc, &drawn.picture)?;
+    let below = y_of(drawn.lanes.len().saturating_add(1)).saturating_add(ROW / 2);
+    write_acks(alloc, text, columns, &acks, below)?;
+    let above = y_of(0).saturating_sub(12);
+    for ticks in drawn.ticks.iter().copied() {
+        write_time(text, columns, ticks, above)?;
+    }
+    Ok(())
 }

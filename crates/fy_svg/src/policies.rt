@@ -1,7 +1,7 @@
 //! Below the rows: how many processes each policy lets be killed next.
 use crate::layout::{CLEAR, STEPS, foot_of_policy, x_of};
 use fy_cluster::Config;
-use fy_picture::{Line, Picture};
+use fy_picture::Column;
 use fy_policy::{Policy, policy_text};
 use std::alloc::{AllocError, Global};
 
@@ -14,16 +14,24 @@ fn height_of(count: u32, processes: u32) -> u64 {
     u64::from(count).min(most) * STEPS / most
 }
 
+/// The count of a policy at a column.
+fn count_at(columns: &[Column], column: usize, place: usize) -> Option<u32> {
+    columns.get(column)?.counts.get(place).copied()
+}
+
 /// The stepped line of a policy: as high as all processes where each could be killed next.
 fn write_steps(
     text: &mut String,
-    line: &Line,
+    columns: &[Column],
+    place: usize,
     processes: u32,
     foot: u64,
 ) -> Result<(), AllocError> {
     let mut last = None;
-    for (column, count) in line.counts.iter().copied().enumerate() {
-        if last != Some(count) {
+    for column in 0..columns.len() {
+        if let Some(count) = count_at(columns, column, place)
+            && last != Some(count)
+        {
             let x = x_of(column);
             let y = foot.saturating_sub(height_of(count, processes));
             if last.is_none() {
@@ -34,7 +42,7 @@ fn write_steps(
             last = Some(count);
         }
     }
-    let end = x_of(line.counts.len());
+    let end = x_of(columns.len());
     if last.is_some() {
         write!(text, "H{end}")?;
     }
@@ -82,18 +90,16 @@ fn write_number(
 /// unless they are too few for it.
 fn write_numbers(
     text: &mut String,
-    line: &Line,
+    columns: &[Column],
     place: usize,
     processes: u32,
     foot: u64,
 ) -> Result<(), AllocError> {
     let mut from = 0;
-    for (at, count) in line.counts.iter().copied().enumerate() {
-        let ends = match line.counts.get(at + 1) {
-            Some(next) => *next != count,
-            None => true,
-        };
-        if ends {
+    for at in 0..columns.len() {
+        if let Some(count) = count_at(columns, at, place)
+            && count_at(columns, at + 1, place) != Some(count)
+        {
             let to = at + 1;
             if to.saturating_sub(from) >= columns_of(count) {
                 let height = height_of(count, processes);
@@ -136,21 +142,20 @@ pub(crate) fn write_policies(
     alloc: Global,
     text: &mut String,
     config: &Config,
-    picture: &Picture,
+    columns: &[Column],
 ) -> Result<(), AllocError> {
-    let rows = picture.rows.len();
-    let x = x_of(picture.columns).saturating_add(6);
+    let processes = config.map().len();
+    let x = x_of(columns.len()).saturating_add(6);
     for (place, policy) in config.policies().iter().enumerate() {
-        let Some(line) = picture.lines.get(place) else {
-            return Ok(());
-        };
-        let foot = foot_of_policy(rows, place);
+        let foot = foot_of_policy(processes as usize, place);
         write_label(alloc, text, policy, foot)?;
         write!(text, "<path class=\"policy\" data-policy=\"{place}\" d=\"")?;
-        write_steps(text, line, config.map().len(), foot)?;
+        write_steps(text, columns, place, processes, foot)?;
         text.push_str("\"/>\n")?;
-        write_numbers(text, line, place, config.map().len(), foot)?;
-        if let Some(count) = line.counts.last() {
+        write_numbers(text, columns, place, processes, foot)?;
+        if let Some(last) = columns.last()
+            && let Some(count) = last.counts.get(place)
+        {
             writeln!(text, "<text x=\"{x}\" y=\"{foot}\">{count}</text>")?;
         }
     }

@@ -1,0 +1,10 @@
+use Rattle.std.specs.Prelude.{◌≡◌, ◌≤◌, length, filter}
+use Rattle.std.specs.List.{range_with_len}
+use Rattle.std.specs.FinSet as sets
+use Rattle.fy_picture.specs.Killable.{is_killable}
+use Rattle.fy_picture.proofs.killable.count_killable.Given as goal
+
+abbrev pub invariant-loop-p : goal.invariant-loop-p
+invariant-loop-p l =
+    (l.count ≡ length (filter (is_killable l.map l.policy (sets.contains l.losses.destroyed) (sets.contains l.losses.left)) (range_with_len 0 l.p)))
+    × (l.count ≤ l.p)

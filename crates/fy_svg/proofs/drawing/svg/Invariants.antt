@@ -1,0 +1,9 @@
+use Rattle.std.proofs.Common.{◌≡◌, None, take}
+use Rattle.fy_picture.specs.Recording.{HasRecorded}
+use Rattle.fy_svg.proofs.drawing.svg.Given as goal
+
+-- the entries so far were recorded, and none is bad
+abbrev pub invariant-loop-entry : goal.invariant-loop-entry
+invariant-loop-entry l =
+    HasRecorded l.config (take l.entry-index l.journal.entries) l.drawing.recorder
+    × (l.drawing.recorder.replayer.first_bad ≡ None)
