@@ -11,6 +11,7 @@ use fy_lines::{OutputFault, laws, write_bytes};
 use fy_spelling::put_entry;
 use std::alloc::{AllocError, Global};
 use std::io::Write;
+use std::marker::Model;
 
 /// How many bytes are gathered before they are handed on; the last line may go past them.
 const BUFFER_BYTES: usize = 65_536;
@@ -33,48 +34,85 @@ pub fn push_entry_line(gathered: &mut Vec<u8>, entry: &Entry) -> Result<(), Allo
     gathered.extend_from_slice(b"\n")
 }
 
-/// Writes what is gathered, and empties it.
-fn flush<W: Write>(gathered: &mut Vec<u8>, writer: &mut W) -> Result<(), OutputFault>
-    ensures ok { OnOk result (Appends (W.contents writer.old) (W.contents writer.new)
-        gathered.old.items) }
-    ensures emptied { OnOk result (gathered.new.items ≡ []) }
-    ensures short { OnErr result (AppendsProperPrefix (W.contents writer.old) (W.contents writer.new)
-        gathered.old.items) }
-{
-    write_bytes(writer, gathered)?;
-    gathered.clear();
-    Ok(())
+/// Lines of an audit on their way out: they are gathered, and handed on when they fill the buffer.
+#[derive(Drop)]
+pub struct AuditBuffer {
+    gathered: Vec<u8>,
 }
 
-/// Hands on what is gathered, where it fills the buffer.
-fn flush_if_full<W: Write>(gathered: &mut Vec<u8>, writer: &mut W) -> Result<(), OutputFault>
-    ensures ok { OnOk result (FlushesFront (W.contents writer.old) (W.contents writer.new)
-        gathered.old.items gathered.new.items) }
-    ensures short { OnErr result (AppendsProperPrefix (W.contents writer.old) (W.contents writer.new)
-        gathered.old.items) }
-{
-    if gathered.len() < BUFFER_BYTES {
-        return Ok(());
+impl Model for AuditBuffer {
+    ghost use Rattle.std.specs.Prelude.{ℕ, List};
+
+    ghost Value = { List ℕ };
+
+    ghost view = { λ buffer. buffer.gathered.items };
+}
+
+impl AuditBuffer {
+    /// A buffer with the header of a version.
+    ///
+    /// # Errors
+    ///
+    /// `AllocError` where there is no memory for it.
+    pub fn begin(alloc: Global, version: Version) -> Result<AuditBuffer, AllocError>
+        ensures { IfOk result (λ buffer. buffer ≡ header version) }
+    {
+        let gathered = Vec::from_slice(alloc, header_text(version).as_bytes())?;
+        Ok(AuditBuffer { gathered })
     }
-    flush(gathered, writer)
-}
 
-/// Puts an entry's line behind what is gathered, of which some may be handed on first.
-fn push_entry<W: Write>(gathered: &mut Vec<u8>, writer: &mut W, entry: &Entry) -> Result<(), Stop>
-    ensures ok { OnOk result (FlushesFront (W.contents writer.old) (W.contents writer.new)
-        (gathered.old.items ++ entry_line entry.now) gathered.new.items) }
-    ensures short { OnErr result (AppendsProperPrefix (W.contents writer.old) (W.contents writer.new)
-        (gathered.old.items ++ entry_line entry.now)) }
-    ensures fault { IfErr result IsOutputStop }
-{
-    laws::short_after_whole();
-    let Ok(()) = flush_if_full(gathered, writer) else {
-        return Err(Stop::Write);
-    };
-    let Ok(()) = push_entry_line(gathered, entry) else {
-        return Err(Stop::NoMemory);
-    };
-    Ok(())
+    /// Writes all that is gathered, after which nothing is.
+    ///
+    /// # Errors
+    ///
+    /// `OutputFault` where the writer fails or takes no byte: a front of it is out then, and never
+    /// all of it.
+    pub fn flush<W: Write>(&mut self, writer: &mut W) -> Result<(), OutputFault>
+        ensures ok { OnOk result (Appends (W.contents writer.old) (W.contents writer.new) self.old) }
+        ensures emptied { OnOk result (self.new ≡ []) }
+        ensures short { OnErr result
+            (AppendsProperPrefix (W.contents writer.old) (W.contents writer.new) self.old) }
+    {
+        write_bytes(writer, &self.gathered)?;
+        self.gathered.clear();
+        Ok(())
+    }
+
+    /// Writes what is gathered, where it fills the buffer.
+    fn flush_if_full<W: Write>(&mut self, writer: &mut W) -> Result<(), OutputFault>
+        ensures ok { OnOk result (FlushesFront (W.contents writer.old) (W.contents writer.new)
+            self.old self.new) }
+        ensures short { OnErr result
+            (AppendsProperPrefix (W.contents writer.old) (W.contents writer.new) self.old) }
+    {
+        if self.gathered.len() < BUFFER_BYTES {
+            return Ok(());
+        }
+        self.flush(writer)
+    }
+
+    /// Puts an entry's line behind what is gathered, of which some may be written first.
+    ///
+    /// # Errors
+    ///
+    /// `Write` where the writer fails or takes no byte, `NoMemory` where there is no memory for the
+    /// line: a front of what was gathered and of the line is out then, and never all of both.
+    pub fn push<W: Write>(&mut self, writer: &mut W, entry: &Entry) -> Result<(), Stop>
+        ensures ok { OnOk result (FlushesFront (W.contents writer.old) (W.contents writer.new)
+            (self.old ++ entry_line entry.now) self.new) }
+        ensures short { OnErr result (AppendsProperPrefix (W.contents writer.old)
+            (W.contents writer.new) (self.old ++ entry_line entry.now)) }
+        ensures fault { IfErr result IsOutputStop }
+    {
+        laws::short_after_whole();
+        let Ok(()) = self.flush_if_full(writer) else {
+            return Err(Stop::Write);
+        };
+        let Ok(()) = push_entry_line(&mut self.gathered, entry) else {
+            return Err(Stop::NoMemory);
+        };
+        Ok(())
+    }
 }
 
 /// Writes the audit of a journal: its header, and a line for each entry. It goes out in pieces of
@@ -93,16 +131,15 @@ pub fn write_audit<W: Write>(alloc: Global, journal: &Journal, writer: &mut W) -
     ensures fault { IfErr result IsOutputStop }
 {
     laws::short_after_whole();
-    let header = header_text(journal.version());
-    let Ok(mut gathered) = Vec::from_slice(alloc, header.as_bytes()) else {
+    let Ok(mut buffer) = AuditBuffer::begin(alloc, journal.version()) else {
         return Err(Stop::NoMemory);
     };
     for entry in journal.entries() {
-        if let Err(stop) = push_entry(&mut gathered, writer, entry) {
+        if let Err(stop) = buffer.push(writer, entry) {
             return Err(stop);
         }
     }
-    let Ok(()) = flush(&mut gathered, writer) else {
+    let Ok(()) = buffer.flush(writer) else {
         return Err(Stop::Write);
     };
     Ok(true)

@@ -1,20 +1,18 @@
 -- what is entered for a list of acts
-use Rattle.std.proofs.Common.{◌≡◌, ◌∙◌, ℕ, ◌+◌, List, [], ◌∷◌, ◌++◌, map, length, refl, sym, ap, append_assoc, append-nil, length-append, subst}
+use Rattle.std.proofs.Common.{arith, suc, ◌≡◌, ◌∙◌, ◌≤◌, ℕ, ◌+◌, List, [], ◌∷◌, ◌++◌, map, length, refl, sym, ap, append_assoc, append-nil, length-append, subst}
 use Rattle.std.proofs.lemmas.List.{map-append}
 use Rattle.fy_acts.specs.declared.act.Act.{Act}
-use Rattle.fy_cluster.specs.Execution.{Execution, entered, after_acts}
-use Rattle.fy_cluster.specs.Survival.{by_and_act}
+use Rattle.fy_cluster.specs.Execution.{Execution, next_entry, entered, after_acts}
+use Rattle.fy_cluster.specs.Survival.{by_and_act, NextLegal}
 use Rattle.fy_cluster.specs.Execution.{opened}
 use Rattle.fy_cluster.specs.Setup.{Setup}
-use Rattle.fy_cluster.specs.Replies.{Legal}
+use Rattle.fy_cluster.specs.Replies.{MayFollow, Legal}
 use Rattle.fy_spelling.specs.declared.command.Command.{Command}
-use Rattle.fy_acts.specs.declared.entry.Entry.{Entry}
 use Rattle.fy_audit.specs.AuditText.{audit_text}
 use Rattle.fy_audit.specs.Script.{ScriptOf}
-use Rattle.fy_journal.specs.declared.version.Version.{Version}
 use Rattle.fy_journal.specs.declared.version.Version.TheVariants.{Second}
 use Rattle.std.specs.Prelude.{◌≢◌, ◌<◌, Option, Some, None, IfSome, Ok, Err}
-use Rattle.fy_run.specs.RunTexts.{asked, IsAuditOf, Runs, IfScriptFault, IfRunRefusal, HasAudit}
+use Rattle.fy_run.specs.RunTexts.{asked, made_by, IsAuditOf, Runs, IfScriptFault, IfRunRefusal, HasAudit}
 use Rattle.fy_engine.specs.declared.stop.Stop.{Stop}
 use Rattle.fy_engine.specs.declared.stop.Stop.TheVariants.{JudgeTooLong, JudgeLine, Config, Script, JournalFull, Audit, SwarmClose, Read, Write, NoMemory}
 
@@ -91,20 +89,46 @@ pub is_full : (setup : Setup) (known : Option (List ℕ)) (commands : List Comma
 is_full setup None commands script more = tt
 is_full setup (Some bytes) commands script more = Runs.journal_full commands script more
 
--- the same audit by what a journal is seen as
-same_text : (version : Version) (entries journal : List Entry) → entries ≡ journal →
-    version ≡ Second → audit_text Second journal ≡ audit_text version entries
-same_text version entries journal same second =
-    ap (audit_text Second) (sym same) ∙ ap (λ v. audit_text v entries) (sym second)
+-- the journal is that of before, and behind it the entries that the acts make
+pub journal_after : (execution : Execution) (acts : List (ℕ × Act)) →
+    (after_acts execution acts).journal ≡ execution.journal ++ made_by execution acts
+journal_after execution [] = sym (append-nil execution.journal)
+journal_after execution (a ∷ acts) =
+    journal_after (entered execution a.0 a.1) acts
+    ∙ append_assoc execution.journal (next_entry execution a.0 a.1 ∷ [])
+    (made_by (entered execution a.0 a.1) acts)
 
--- what holds of the audit of a cluster to which the commands were applied
-pub has_written : (setup : Setup) (known : Option (List ℕ)) (commands : List Command)
-    (execution : Execution) (version : Version) (entries : List Entry) (P : List ℕ → Type 0) →
-    IfSome known (λ bytes. ScriptOf bytes (Ok commands)) →
-    execution ≡ after_acts (opened setup) (map asked commands) →
-    Legal execution.setup execution.journal → entries ≡ execution.journal → version ≡ Second →
-    P (audit_text version entries) → HasAudit setup known P
-has_written setup known commands execution version entries P script is legal same second holds =
+-- a legal journal that has room for the acts is legal once they are entered
+legal_after : NextLegal → (execution : Execution) (acts : List (ℕ × Act)) →
+    Legal execution.setup execution.journal →
+    length execution.journal + length acts ≤ execution.setup.limit →
+    Legal execution.setup (after_acts execution acts).journal
+legal_after next execution [] legal room = legal
+legal_after next execution (a ∷ acts) legal room =
+    let longer = one_longer execution a.0 a.1 in
+    let follows : MayFollow execution.setup execution.journal (next_entry execution a.0 a.1) =
+    record { room = omega (arith, room); place = refl; right = refl } in
+    legal_after next (entered execution a.0 a.1) acts
+    ((next execution.setup execution.journal (next_entry execution a.0 a.1) legal).1 follows)
+    (omega (arith, longer, room))
+
+mapped : {A B : Type 0} (f : A → B) (xs : List A) → length (map f xs) ≡ length xs
+mapped f [] = refl
+mapped f (x ∷ xs) = ap suc (mapped f xs)
+
+-- what holds of the audit of the entries that the commands make
+pub has_written : NextLegal → (setup : Setup) (known : Option (List ℕ)) (commands : List Command)
+    (P : List ℕ → Type 0) → IfSome known (λ bytes. ScriptOf bytes (Ok commands)) →
+    length commands ≤ setup.limit →
+    P (audit_text Second (made_by (opened setup) (map asked commands))) → HasAudit setup known P
+has_written next setup known commands P script room holds =
+    let acts = map asked commands in
+    let execution = after_acts (opened setup) acts in
+    let few : length acts ≤ setup.limit =
+    subst (λ n. n ≤ setup.limit) (sym (mapped asked commands)) room in
+    let legal : Legal setup execution.journal =
+    legal_after next (opened setup) acts (omega arith, tt) (omega (arith, few)) in
+    let same = setup_after (opened setup) acts in
     has_audit setup known commands (audit_text Second execution.journal) P script
-    (audit_of setup commands execution is legal)
-    (subst P (sym (same_text version entries execution.journal same second)) holds)
+    (audit_of setup commands execution refl (subst (λ s. Legal s execution.journal) (sym same) legal))
+    (subst P (ap (audit_text Second) (sym (journal_after (opened setup) acts))) holds)

@@ -340,7 +340,7 @@ none_out {setup} {old} {left} {before} {out} {short} {execution} {now} {command}
 none_out {setup} {old} {left} {before} {out} {short} {execution} {now} {command} {stop} has (NoAnswer.short told enters legal stops) is =
     let bad : ⊥ = cc in absurd bad
 
-short_behind : (first second third : Option (List ℕ)) (done piece : List ℕ) →
+pub short_behind : (first second third : Option (List ℕ)) (done piece : List ℕ) →
     Appends first second done → AppendsProperPrefix second third piece →
     AppendsProperPrefix first third (done ++ piece)
 short_behind first second third done piece written (front, rest, is, grown, some) = (

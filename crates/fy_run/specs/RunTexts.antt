@@ -1,14 +1,16 @@
 -- what a script comes to under a configuration
-use Rattle.std.specs.Prelude.{◌≡◌, ◌<◌, ℕ, List, map, length, Option, IfSome, Result, Ok, Err}
+use Rattle.std.specs.Prelude.{◌≡◌, ◌<◌, ℕ, List, [], ◌∷◌, map, length, Option, IfSome, Result, Ok, Err}
+use Rattle.std.specs.List.{flat_map}
 use Rattle.fy_acts.specs.declared.act.Act.{Act}
 use Rattle.fy_spelling.specs.declared.command.Command.{Command}
 use Rattle.fy_acts.specs.declared.entry.Entry.{Entry}
-use Rattle.fy_audit.specs.AuditText.{audit_text}
+use Rattle.fy_audit.specs.AuditText.{entry_line, audit_text}
 use Rattle.fy_audit.specs.Script.{ScriptOf}
 use Rattle.fy_journal.specs.declared.version.Version.TheVariants.{Second}
 use Rattle.fy_audit.specs.declared.script.ScriptFault.{ScriptFault}
 use Rattle.fy_cluster.specs.Setup.{Setup}
 use Rattle.fy_cluster.specs.Replies.{Legal}
+use Rattle.fy_cluster.specs.Execution.{Execution, next_entry, entered}
 use Rattle.fy_cluster.specs.Survival.{by_and_act}
 use Rattle.fy_engine.specs.declared.stop.Stop.{Stop}
 use Rattle.fy_engine.specs.declared.stop.Stop.TheVariants.{Script, JournalFull}
@@ -16,6 +18,16 @@ use Rattle.fy_engine.specs.declared.stop.Stop.TheVariants.{Script, JournalFull}
 -- who asks for what
 abbrev pub asked : Command → ℕ × Act
 asked command = (command.by, command.act)
+
+-- the entries that these acts make, one after another
+abbrev pub made_by : Execution → List (ℕ × Act) → List Entry
+made_by execution [] = []
+made_by execution (asked ∷ rest) =
+    next_entry execution asked.0 asked.1 ∷ made_by (entered execution asked.0 asked.1) rest
+
+-- the lines of these entries
+abbrev pub lines_of_entries : List Entry → List ℕ
+lines_of_entries entries = flat_map entry_line entries
 
 -- the text is the audit of the legal journal whose acts are those of the commands
 pub record IsAuditOf (setup : Setup) (commands : List Command) (text : List ℕ) : Type 0 where

@@ -13,8 +13,9 @@ ghost use Rattle.fy_run.specs.GuardTexts.{AnswersAll, AnswersBefore, AnswersSome
 ghost use Rattle.fy_run.specs.RunTexts.{IfRunRefusal};
 ghost use Rattle.fy_engine.specs.Stops.{command_stop, IsRunStop};
 
+use crate::entering::enter;
 use fy_audit::{Command, LineFault, MOST_LINE_BYTES, ScriptFault, Version};
-use fy_cluster::{ClusterState, Config, Fault};
+use fy_cluster::{ClusterState, Config};
 use fy_engine::{Stop, header_text, push_entry_line};
 use fy_lines::{InputFault, next_line, write_bytes};
 use fy_spelling::{CommandFault, read_command};
@@ -90,11 +91,9 @@ fn answer<W: Write>(
     ensures err { IfErr result (NoAnswer cluster.old command cluster.new
         (W.contents writer.old) (W.contents writer.new)) }
 {
-    let (by, act) = command.into_parts();
-    let entry = match cluster.enter(by, act) {
+    let entry = match enter(cluster, command) {
         Ok(entry) => entry,
-        Err(Fault::JournalFull) => return Err(Stop::JournalFull),
-        Err(Fault::NoMemory) => return Err(Stop::NoMemory),
+        Err(stop) => return Err(stop),
     };
     text.clear();
     let Ok(()) = push_entry_line(text, &entry) else {

@@ -2,6 +2,7 @@
 //! line.
 #![tactic(auto)]
 
+mod entering;
 mod guard;
 mod run;
 

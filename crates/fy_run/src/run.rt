@@ -1,19 +1,22 @@
 //! The engine behind `faultyard run`: a script in, the audit of its acts out.
-ghost use Rattle.std.specs.Prelude.{◌≡◌, ◌≢◌, ◌≤◌, ◌+◌, ◌-◌, ◌⊎◌, ℕ, List, length, map, true, IfOk, IfErr, OnOk, IfSome, Ok, Err};
+ghost use Rattle.std.specs.Prelude.{◌≡◌, ◌≢◌, ◌≤◌, ◌+◌, ◌++◌, ◌⊎◌, length, map, true, IfOk, IfErr, OnOk, OnErr, IfSome, Ok, Err};
 ghost use Rattle.std.specs.Io.KnownBytes.{Appends};
 ghost use Rattle.fy_lines.specs.Prefixes.{AppendsProperPrefix};
 ghost use Rattle.fy_lines.specs.Readings.{ReadsAtMost};
+ghost use Rattle.fy_journal.specs.declared.version.Version.TheVariants.{Second};
+ghost use Rattle.fy_audit.specs.AuditText.{audit_text};
 ghost use Rattle.fy_audit.specs.Script.{ScriptOf};
 ghost use Rattle.fy_audit.specs.declared.script.TheConstants.{MOST_SCRIPT_BYTES};
-ghost use Rattle.fy_cluster.specs.Execution.{after_acts, opened};
-ghost use Rattle.fy_cluster.specs.declared.fault.Fault.TheVariants.{NoMemory as no_memory};
-ghost use Rattle.fy_run.specs.RunTexts.{asked, HasAudit, Runs, IfScriptFault, IfRunRefusal};
+ghost use Rattle.fy_cluster.specs.Execution.{opened};
+ghost use Rattle.fy_run.specs.RunTexts.{asked, made_by, lines_of_entries, HasAudit, Runs, IfScriptFault, IfRunRefusal};
+ghost use Rattle.fy_engine.specs.Outputs.{FlushesFront, IsOutputStop};
 ghost use Rattle.fy_engine.specs.Stops.{script_stop, IsRunStop};
 
-use fy_audit::{Command, MOST_SCRIPT_BYTES, ScriptFault, read_script};
-use fy_cluster::{Cluster, Config, Fault};
-use fy_engine::{Stop, write_audit};
-use fy_lines::{InputFault, read_limited};
+use crate::entering::enter;
+use fy_audit::{Command, MOST_SCRIPT_BYTES, ScriptFault, Version, read_script};
+use fy_cluster::{ClusterState, Config};
+use fy_engine::{AuditBuffer, Stop};
+use fy_lines::{InputFault, laws, read_limited};
 use std::alloc::Global;
 use std::io::{Read, Write};
 
@@ -28,52 +31,80 @@ fn script_stop(fault: ScriptFault) -> Stop
     }
 }
 
-/// Applies the commands one after another.
+/// Enters the commands one after another, and puts the line of each entry into the buffer.
 ///
 /// Asks for a journal that has room for them.
 ///
 /// # Errors
 ///
-/// `NoMemory` at the first command for which there is no memory.
-fn apply_all(cluster: &mut Cluster, commands: Vec<Command>) -> Result<(), Fault>
+/// `NoMemory` at the first command for which there is no memory, `Write` where the writer fails or
+/// takes no byte: a front of what was gathered and of the lines is out then, and never all of it.
+fn answer_all<W: Write>(
+    cluster: &mut ClusterState,
+    commands: Vec<Command>,
+    buffer: &mut AuditBuffer,
+    writer: &mut W,
+) -> Result<(), Stop>
     requires { length cluster.old.journal + length commands.items ≤ cluster.old.setup.limit }
-    ensures applied { OnOk result
-        (cluster.new ≡ after_acts cluster.old (map asked commands.items)) }
-    ensures fault { IfErr result (λ fault. fault ≡ no_memory) }
+    ensures ok { OnOk result (FlushesFront (W.contents writer.old) (W.contents writer.new)
+        (buffer.old ++ lines_of_entries (made_by cluster.old (map asked commands.items))) buffer.new) }
+    ensures short { OnErr result (AppendsProperPrefix (W.contents writer.old) (W.contents writer.new)
+        (buffer.old ++ lines_of_entries (made_by cluster.old (map asked commands.items)))) }
+    ensures fault { IfErr result IsOutputStop }
 {
+    laws::short_after_whole();
     for command in commands {
-        let (by, act) = command.into_parts();
-        cluster.apply(by, act)?;
+        let entry = match enter(cluster, command) {
+            Ok(entry) => entry,
+            Err(stop) => return Err(stop),
+        };
+        match buffer.push(writer, &entry) {
+            Ok(()) => {}
+            Err(stop) => return Err(stop),
+        }
     }
     Ok(())
 }
 
-/// The cluster once all commands are applied.
-fn played(alloc: Global, config: &Config, commands: Vec<Command>) -> Result<Cluster, Stop>
-    ensures played { IfOk result (λ cluster.
-        (cluster ≡ after_acts (opened config.now) (map asked commands.items))
-        × (length commands.items ≤ config.now.limit)) }
-    ensures full { IfErr result (λ stop. stop ≡ Stop.JournalFull →
-        config.now.limit + 1 ≤ length commands.items) }
-    ensures no_other { IfErr result (λ stop.
-        (stop ≡ Stop.JournalFull) ⊎ (stop ≡ Stop.NoMemory)) }
+/// Writes the audit of the commands of a script under a configuration.
+///
+/// Asks for no more commands than its journal may have entries.
+///
+/// # Errors
+///
+/// `NoMemory` where memory is refused, `Write` where the writer fails or takes no byte: a front of
+/// the audit is out then, and never all of it.
+fn write_answers<W: Write>(
+    alloc: Global,
+    config: &Config,
+    commands: Vec<Command>,
+    writer: &mut W,
+) -> Result<(), Stop>
+    requires { length commands.items ≤ config.now.limit }
+    ensures ok { OnOk result (Appends (W.contents writer.old) (W.contents writer.new)
+        (audit_text Second (made_by (opened config.now) (map asked commands.items)))) }
+    ensures short { OnErr result (AppendsProperPrefix (W.contents writer.old) (W.contents writer.new)
+        (audit_text Second (made_by (opened config.now) (map asked commands.items)))) }
+    ensures fault { IfErr result IsOutputStop }
 {
-    if commands.len() > config.journal_limit() as usize {
-        return Err(Stop::JournalFull);
-    }
+    laws::short_after_whole();
     let Ok(config) = config.try_copy(alloc) else {
         return Err(Stop::NoMemory);
     };
-    let Ok(mut cluster) = Cluster::make(alloc, config) else {
+    let Ok(mut cluster) = ClusterState::make(alloc, config) else {
         return Err(Stop::NoMemory);
     };
-    let Ok(()) = cluster.make_room(commands.len()) else {
+    let Ok(mut buffer) = AuditBuffer::begin(alloc, Version::Second) else {
         return Err(Stop::NoMemory);
     };
-    match apply_all(&mut cluster, commands) {
-        Ok(()) => Ok(cluster),
-        Err(_) => Err(Stop::NoMemory),
+    match answer_all(&mut cluster, commands, &mut buffer, writer) {
+        Ok(()) => {}
+        Err(stop) => return Err(stop),
     }
+    let Ok(()) = buffer.flush(writer) else {
+        return Err(Stop::Write);
+    };
+    Ok(())
 }
 
 /// The commands of all that a reader gives.
@@ -109,8 +140,9 @@ fn load_script<R: Read>(alloc: Global, reader: &mut R) -> Result<Vec<Command>, S
 /// Reads a script from the reader to its end, applies its commands to a cluster of this
 /// configuration, one after another, and writes the audit: each command with its reply.
 ///
-/// The whole script is read and refused before the first command is applied, and all of them are
-/// applied before the first byte is written. At most one byte past its limit is read.
+/// The whole script is read and refused before the first command is applied. The audit is written
+/// in pieces while the commands are applied, and no journal is kept. At most one byte past the
+/// script's limit is read.
 ///
 /// # Errors
 ///
@@ -143,16 +175,16 @@ pub fn run_script<R: Read, W: Write>(
     ensures no_further { ReadsAtMost (R.remaining reader.old) (R.remaining reader.new)
         (MOST_SCRIPT_BYTES + 1) }
 {
+    fy_cluster::laws::one_entry_more();
     let commands = match load_script(alloc, reader) {
         Ok(commands) => commands,
         Err(stop) => return Err(stop),
     };
-    let cluster = match played(alloc, config, commands) {
-        Ok(cluster) => cluster,
-        Err(stop) => return Err(stop),
-    };
-    match write_audit(alloc, cluster.journal(), writer) {
-        Ok(done) => Ok(done),
+    if commands.len() > config.journal_limit() as usize {
+        return Err(Stop::JournalFull);
+    }
+    match write_answers(alloc, config, commands, writer) {
+        Ok(()) => Ok(true),
         Err(stop) => Err(stop),
     }
 }

@@ -13,12 +13,12 @@ loop-entry-preserved g c =
     let item = c.entry-item.result in
     let line = entry_line item in
     let next =
-    with_next (audit_text c.args.journal.now.version items) done c.loop-entry.gathered.items
+    with_next (audit_text c.args.journal.now.version items) done c.loop-entry.buffer
     items i item c.loop-entry-test.true c.entry-item.is is in
     moved_on (g.W.Write.contents c.args.writer.now) (g.W.Write.contents c.loop-entry.writer)
-    (g.W.Write.contents c.push_entry.new.writer) done (c.loop-entry.gathered.items ++ line)
-    c.push_entry.new.gathered.items (audit_text c.args.journal.now.version items)
-    (flat_map entry_line (drop (i + 1) items)) appended c.in_default-push_entry.ensures.ok next
+    (g.W.Write.contents c.push.new.writer) done (c.loop-entry.buffer ++ line)
+    c.push.new.self (audit_text c.args.journal.now.version items)
+    (flat_map entry_line (drop (i + 1) items)) appended c.in_default-push.ensures.ok next
 
 pub returns-in-Err-clause-short : goal.returns-in-Err-clause-short
 returns-in-Err-clause-short g c =
@@ -27,15 +27,15 @@ returns-in-Err-clause-short g c =
     let i = c.loop-entry.entry-index in
     let item = c.entry-item.result in
     let next =
-    with_next (audit_text c.args.journal.now.version items) done c.loop-entry.gathered.items
+    with_next (audit_text c.args.journal.now.version items) done c.loop-entry.buffer
     items i item c.loop-entry-test.true c.entry-item.is is in
     let short =
     c.short_after_whole.ensures (g.W.Write.contents c.args.writer.now)
-    (g.W.Write.contents c.loop-entry.writer) (g.W.Write.contents c.push_entry.new.writer) done
-    (c.loop-entry.gathered.items ++ entry_line item) (flat_map entry_line (drop (i + 1) items))
+    (g.W.Write.contents c.loop-entry.writer) (g.W.Write.contents c.push.new.writer) done
+    (c.loop-entry.buffer ++ entry_line item) (flat_map entry_line (drop (i + 1) items))
     appended c.in-Err.ensures.short in
     subst
-    (AppendsProperPrefix (g.W.Write.contents c.args.writer.now) (g.W.Write.contents c.push_entry.new.writer))
+    (AppendsProperPrefix (g.W.Write.contents c.args.writer.now) (g.W.Write.contents c.push.new.writer))
     (sym next ∙ ap (audit_text c.args.journal.now.version) c.entries-entry-items.ensures) short
 
 pub returns-in_default-flush-clause-short : goal.returns-in_default-flush-clause-short
@@ -45,7 +45,7 @@ returns-in_default-flush-clause-short g c =
     let short =
     c.short_after_whole.ensures (g.W.Write.contents c.args.writer.now)
     (g.W.Write.contents c.loop-entry.writer) (g.W.Write.contents c.flush.new.writer) done
-    c.loop-entry.gathered.items (flat_map entry_line (drop c.loop-entry.entry-index items))
+    c.loop-entry.buffer (flat_map entry_line (drop c.loop-entry.entry-index items))
     appended c.in_default-flush.ensures.short in
     subst
     (AppendsProperPrefix (g.W.Write.contents c.args.writer.now) (g.W.Write.contents c.flush.new.writer))

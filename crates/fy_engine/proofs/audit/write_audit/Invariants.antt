@@ -9,4 +9,4 @@ invariant-loop-entry g l =
     (done : List ℕ)
     × Appends (g.W.Write.contents l.fn.writer) (g.W.Write.contents l.writer) done
     × (audit_text l.journal.version l.entry-items
-    ≡ done ++ (l.gathered.items ++ flat_map entry_line (drop l.entry-index l.entry-items)))
+    ≡ done ++ (l.buffer ++ flat_map entry_line (drop l.entry-index l.entry-items)))

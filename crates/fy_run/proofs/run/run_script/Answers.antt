@@ -1,8 +1,6 @@
-use Rattle.std.proofs.Common.{inl, inr, Err, arith, sym, subst}
-use Rattle.std.specs.Prelude.{IfSome}
+use Rattle.std.proofs.Common.{inr, arith, refl}
 use Rattle.std.specs.Io.KnownBytes.{Appends}
 use Rattle.fy_lines.specs.Prefixes.{AppendsProperPrefix}
-use Rattle.fy_run.specs.RunTexts.{Runs, IfRunRefusal}
 use Rattle.fy_run.proofs.Acting.{has_written, is_refused, is_full}
 use Rattle.fy_run.proofs.run.run_script.Goals as goal
 
@@ -11,51 +9,48 @@ returns-in-Err-clause-refused g c =
     is_refused c.args.config.now (g.R.Read.remaining c.args.reader.now) c.in-Err.stop
     c.in-Err.ensures.refused c.in-Err.ensures.no_other.0
 
-pub returns-in-Err-played-clause-refused : goal.returns-in-Err-played-clause-refused
-returns-in-Err-played-clause-refused g c =
-    elim c.in-Err-played.ensures.no_other [
-      | inl full ↦
-          let longer = c.in-Err-played.ensures.full full in
-          let whole = is_full c.args.config.now (g.R.Read.remaining c.args.reader.now)
-          c.in-Ok.commands.items c.in-Ok.ensures.read (omega (arith, longer)) in
-          subst
-          (λ stop. IfRunRefusal stop (IfSome (g.R.Read.remaining c.args.reader.now)
-          (λ bytes. Runs c.args.config.now bytes (Err stop))))
-          (sym full) whole
-      | inr none ↦
-          subst
-          (λ stop. IfRunRefusal stop (IfSome (g.R.Read.remaining c.args.reader.now)
-          (λ bytes. Runs c.args.config.now bytes (Err stop))))
-          (sym none) tt
-    ]
+pub returns-then-len-journal_limit-clause-refused :
+    goal.returns-then-len-journal_limit-clause-refused
+returns-then-len-journal_limit-clause-refused g c =
+    let many = c.len.ensures in
+    let limit = c.journal_limit.ensures in
+    let more = c.if-len-journal_limit.true in
+    is_full c.args.config.now (g.R.Read.remaining c.args.reader.now) c.in-Ok.commands.items
+    c.in-Ok.ensures.read (omega arith)
 
-pub returns-in-Ok-write_audit-clause-done : goal.returns-in-Ok-write_audit-clause-done
-returns-in-Ok-write_audit-clause-done g c =
-    let out =
-    has_written c.args.config.now (g.R.Read.remaining c.args.reader.now) c.in-Ok.commands.items
-    c.in-Ok-played.cluster c.journal.result.now.version c.journal.result.now.entries
-    (Appends (g.W.Write.contents c.args.writer.now)
-    (g.W.Write.contents c.write_audit.new.writer))
-    c.in-Ok.ensures.read c.in-Ok-played.ensures.played.0 c.journal.ensures.survives.legal
-    c.journal.ensures.journal c.journal.ensures.version c.in-Ok-write_audit.ensures.done.1 in
-    (c.in-Ok-write_audit.ensures.done.0, out)
+pub returns-in-Ok-write_answers-clause-done : goal.returns-in-Ok-write_answers-clause-done
+returns-in-Ok-write_answers-clause-done g c =
+    let many = c.len.ensures in
+    let limit = c.journal_limit.ensures in
+    let few = c.if-len-journal_limit.false in (
+      refl,
+      has_written c.one_entry_more.ensures.next c.args.config.now
+          (g.R.Read.remaining c.args.reader.now) c.in-Ok.commands.items
+          (Appends (g.W.Write.contents c.args.writer.now)
+          (g.W.Write.contents c.write_answers.new.writer))
+          c.in-Ok.ensures.read (omega arith) c.in-Ok-write_answers.ensures.ok,
+    )
 
-pub returns-clause-front_out : goal.returns-clause-front_out
-returns-clause-front_out g c _ =
-    has_written c.args.config.now (g.R.Read.remaining c.args.reader.now) c.in-Ok.commands.items
-    c.in-Ok-played.cluster c.journal.result.now.version c.journal.result.now.entries
+pub returns-in-Err-write_answers-clause-front_out :
+    goal.returns-in-Err-write_answers-clause-front_out
+returns-in-Err-write_answers-clause-front_out g c _ =
+    let many = c.len.ensures in
+    let limit = c.journal_limit.ensures in
+    let few = c.if-len-journal_limit.false in
+    has_written c.one_entry_more.ensures.next c.args.config.now
+    (g.R.Read.remaining c.args.reader.now) c.in-Ok.commands.items
     (AppendsProperPrefix (g.W.Write.contents c.args.writer.now)
-    (g.W.Write.contents c.write_audit.new.writer))
-    c.in-Ok.ensures.read c.in-Ok-played.ensures.played.0 c.journal.ensures.survives.legal
-    c.journal.ensures.journal c.journal.ensures.version c.in-Err-write_audit.ensures.short
+    (g.W.Write.contents c.write_answers.new.writer))
+    c.in-Ok.ensures.read (omega arith) c.in-Err-write_answers.ensures.short
 
-pub returns-clause-no_memory : goal.returns-clause-no_memory
-returns-clause-no_memory g c _ =
-    let out =
-    has_written c.args.config.now (g.R.Read.remaining c.args.reader.now) c.in-Ok.commands.items
-    c.in-Ok-played.cluster c.journal.result.now.version c.journal.result.now.entries
+pub returns-in-Err-write_answers-clause-no_memory :
+    goal.returns-in-Err-write_answers-clause-no_memory
+returns-in-Err-write_answers-clause-no_memory g c _ =
+    let many = c.len.ensures in
+    let limit = c.journal_limit.ensures in
+    let few = c.if-len-journal_limit.false in
+    inr (has_written c.one_entry_more.ensures.next c.args.config.now
+    (g.R.Read.remaining c.args.reader.now) c.in-Ok.commands.items
     (AppendsProperPrefix (g.W.Write.contents c.args.writer.now)
-    (g.W.Write.contents c.write_audit.new.writer))
-    c.in-Ok.ensures.read c.in-Ok-played.ensures.played.0 c.journal.ensures.survives.legal
-    c.journal.ensures.journal c.journal.ensures.version c.in-Err-write_audit.ensures.short in
-    inr out
+    (g.W.Write.contents c.write_answers.new.writer))
+    c.in-Ok.ensures.read (omega arith) c.in-Err-write_answers.ensures.short)
