@@ -1,0 +1,5 @@
+pub mod Micros
+pub mod Events
+pub mod Columns
+pub mod Answers
+pub mod Stops
