@@ -233,7 +233,8 @@ typedef struct fy_order {
 #define FY_MOST_ORDERS 2048
 
 /* An audit that is being checked. Only the calls below write it; all zeros, it is closed. The struct
- * may be moved in memory. Of a check there is one copy that is used, by one thread. */
+ * may be moved in memory. Of a check there is one copy that is used. It may be moved to another
+ * thread, and one call at a time is made with it. */
 typedef struct fy_check {
     void *at;
 } fy_check;

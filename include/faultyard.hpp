@@ -1188,8 +1188,9 @@ struct Finding {
     }
 };
 
-/* An audit that is checked line by line, as `faultyard check` does. It is moved and never copied,
- * and used by one thread. After `close`, and after it was moved from, each call throws Closed. */
+/* An audit that is checked line by line, as `faultyard check` does. It is moved and never copied. It
+ * may be used by another thread, one call at a time. After `close`, and after it was moved from, each
+ * call throws Closed. */
 class Check {
 public:
     /* Begins to check an audit of a cluster that began with this cluster file. Throws as the

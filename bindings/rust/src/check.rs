@@ -17,11 +17,15 @@ pub struct Finding {
 
 /// An audit that is checked line by line, as `faultyard check` does.
 ///
-/// One thread uses it. It is closed when it is dropped.
+/// It is `Send`: it may be moved to another thread. It is closed when it is dropped.
 pub struct Check {
     /// Open.
     raw: FyCheck,
 }
+
+// SAFETY: the header: "It may be moved to another thread, and one call at a time is made with it."
+// A `Check` is the only one with its struct: it is no `Clone`, and hands out no pointer of it.
+unsafe impl Send for Check {}
 
 // Each SAFETY comment below that says "as in `line`" means what stands there.
 impl Check {

@@ -1,6 +1,7 @@
 //! Audits that are checked line by line.
 
 use faultyard::{Check, ConfigFault, Error, Finding, Guard, Key, Kind, Part, AUDIT_HEADER};
+use std::thread;
 
 const CONFIG: &str = include_str!("cluster.toml");
 
@@ -44,6 +45,23 @@ fn a_reply_that_goes_too_far_is_the_first_bad_one() {
     assert_eq!(check.line(format!("{tick}\n")), Ok(Some(1)));
     let (count, first_bad) = (3, Some(1));
     assert_eq!(check.finding(), Ok(Finding { count, first_bad }));
+}
+
+#[test]
+fn a_check_may_be_moved_to_another_thread() {
+    let (guard, mut check) = (played(), begun());
+    let audit = guard.audit().unwrap();
+    let (first, rest) = audit.split_at(AUDIT_HEADER.len());
+    assert_eq!(check.line(first), Ok(None));
+    let rest = rest.to_owned();
+    let finding = thread::spawn(move || {
+        for line in rest.split_inclusive('\n') {
+            assert_eq!(check.line(line), Ok(None));
+        }
+        check.finding()
+    });
+    let (count, first_bad) = (2, None);
+    assert_eq!(finding.join().unwrap(), Ok(Finding { count, first_bad }));
 }
 
 #[test]

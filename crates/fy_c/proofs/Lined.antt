@@ -1,14 +1,15 @@
 -- an audit that is read line by line
 use Rattle.std.proofs.Common.{◌≡◌, ◌∙◌, ◌+◌, ◌-◌, ◌<◌, ◌≤◌, ℕ, List, [], ◌∷◌, ◌++◌, length, refl, sym, ap, ap₂, subst, arith, append_assoc, append-nil, length-append}
-use Rattle.std.specs.Prelude.{true, false, ◌==◌, Option, Some, None, Ok, Err, codes}
+use Rattle.std.specs.Prelude.{◌≢◌, true, false, ◌==◌, Option, Some, None, Ok, Err, codes, ⊤}
 use Rattle.std.proofs.lemmas.Bool.Decides.{nat_tests}
 use Rattle.fy_acts.specs.declared.entry.Entry.{Entry}
-use Rattle.fy_audit.specs.Audit.{AuditOf, AuditAnswers, MayStandFrom, BeginsWith}
+use Rattle.fy_audit.specs.Audit.{Audit, AuditOf, AuditAnswers, MayStandFrom, BeginsWith}
 use Rattle.fy_audit.specs.AuditText.{audit_text, entry_line}
-use Rattle.fy_audit.specs.Reading.{ReaderState, HasRead, ReadsEntry, EntryExtendsRead, EndsAsAudit}
+use Rattle.fy_audit.specs.Reading.{ReaderState, HasRead, ReadsEntry, Stops, EntryExtendsRead, EndsAsAudit}
 use Rattle.fy_audit.specs.declared.audit.TheConstants.{MOST_AUDIT_BYTES}
 use Rattle.fy_audit.specs.declared.audit.AuditFault.{AuditFault}
 use Rattle.fy_audit.specs.declared.audit.AuditFault.TheVariants.{TooLong, Line, NoMemory}
+use Rattle.fy_audit.specs.declared.audit.AuditLineFault.TheVariants.{Header}
 use Rattle.fy_check.specs.Replayed.{HasReplayed}
 use Rattle.fy_cluster.specs.Setup.{Setup}
 use Rattle.fy_journal.specs.declared.version.Version.{Version}
@@ -17,28 +18,43 @@ use Rattle.fy_spelling.specs.Values.{text_of}
 use Rattle.fy_c.specs.InStep.{progress}
 use Rattle.fy_c.specs.Progress.{Progress}
 use Rattle.fy_c.specs.declared.checking.Begun.TheInside.{Inside}
-use Rattle.fy_c.specs.Checking.{HasProgress, NotOneLine, Refuses, audit_status}
+use Rattle.fy_c.specs.Checking.{HasProgress, HasBegun, HasChecked, Refuses, audit_status, next_number}
+use Rattle.fy_c.specs.declared.checking.Check.{Check}
 use Rattle.fy_c.specs.declared.status.Status.{Status}
+use Rattle.fy_c.specs.declared.status.Status.TheVariants.{LineSyntax}
 
--- the header of a version and what follows it, split at its line feed
+-- the header of a version, and that with what follows it, split at its line feed
 header_split : (version : Version) (rest : List ℕ) →
-    (front : List ℕ) × (audit_text version [] ++ rest ≡ front ++ 10 ∷ rest)
-header_split First rest = (codes "{\"audit\":1}", refl)
-header_split Second rest = (codes "{\"audit\":2}", refl)
+    (front : List ℕ) × (audit_text version [] ≡ front ++ 10 ∷ [])
+    × (audit_text version [] ++ rest ≡ front ++ 10 ∷ rest)
+header_split First rest = (codes "{\"audit\":1}", refl, refl)
+header_split Second rest = (codes "{\"audit\":2}", refl, refl)
 
 -- more than a header was given
-pub header_and_more : (line : List ℕ) (state : ReaderState) → HasRead line [] state →
-    (state.rest ≡ [] → ⊥) → NotOneLine line
-header_and_more line state read some =
+pub header_and_more : EndsAsAudit → (line : List ℕ) (state : ReaderState) → HasRead line [] state →
+    (state.rest ≡ [] → ⊥) → Refuses (λ bytes. bytes ≡ []) 1 line LineSyntax
+header_and_more ends line state read some =
     let parts = header_split state.version state.rest in
-    NotOneLine.more parts.0 state.rest (read.split ∙ parts.1) some
-
--- more than the line of an entry was given
-pub entry_and_more : (line after : List ℕ) (version : Version) (place : ℕ) (entry : Entry) →
-    BeginsWith version place line entry after → (after ≡ [] → ⊥) → NotOneLine line
-entry_and_more line after version place entry begins some =
-    NotOneLine.more (text_of entry) after
-    (begins.split ∙ append_assoc (text_of entry) (10 ∷ []) after) some
+    let front = parts.0 ++ 10 ∷ [] in
+    let over = length-append (audit_text state.version []) state.rest in
+    let long = ap (λ (it : List ℕ). length it) read.split in
+    let bound = read.bound in
+    let only : ReaderState = record { version = state.version; place = 0; rest = [] } in
+    let read_all : HasRead (audit_text state.version []) [] only = record {
+      bound = omega arith;
+      split = sym (append-nil (audit_text state.version []));
+      faultless = tt;
+      place = refl;
+    } in
+    let whole = ends (audit_text state.version []) [] only read_all refl in
+    let audit : Audit = record { version = state.version; entries = [] } in
+    Refuses.more parts.0 state.rest (read.split ∙ parts.2) some
+    (λ bytes none. subst (λ before. length (before ++ line) ≤ MOST_AUDIT_BYTES) (sym none) bound)
+    (λ bytes none. (
+      audit,
+      subst (λ before. AuditOf (before ++ front) (Ok audit)) (sym none)
+          (subst (λ text. AuditOf text (Ok audit)) parts.1 whole),
+    ))
 
 -- a line without bytes, and one with some
 pub empty_line : (line : List ℕ) → (length line == 0) ≡ true → line ≡ []
@@ -49,21 +65,72 @@ pub some_bytes : (line : List ℕ) → (length line == 0) ≡ false → 0 < leng
 some_bytes line some = grind (arith, nat_tests, some)
 
 -- a reader stopped at the line
-pub stopped : (WasRead : List ℕ → Type 0) (line : List ℕ) (fault : AuditFault) →
+pub stopped : (WasRead : List ℕ → Type 0) (state : ReaderState) (line : List ℕ) (fault : AuditFault) →
+    Stops state fault →
     ((bytes : List ℕ) → WasRead bytes → AuditAnswers (bytes ++ line) (Err fault)) →
-    Refuses WasRead line (audit_status fault)
-stopped WasRead line TooLong told = Refuses.faulty TooLong told
-stopped WasRead line (Line number fault) told = Refuses.faulty (Line number fault) told
-stopped WasRead line NoMemory told = Refuses.no_memory
+    Refuses WasRead (state.place + 2) line (audit_status fault)
+stopped WasRead state line TooLong none told = absurd none
+stopped WasRead state line (Line number fault) stops told =
+    Refuses.faulty fault (λ bytes has. subst (λ n. AuditOf (bytes ++ line) (Err (Line n fault)))
+    stops.0 (told bytes has))
+stopped WasRead state line NoMemory stops told = Refuses.no_memory
+
+-- whether the whole audit is too long
+IsTooLong : AuditFault → Type 0
+IsTooLong TooLong = ⊤
+IsTooLong (Line number fault) = ⊥
+IsTooLong NoMemory = ⊥
+
+-- no header was given
+pub no_header : (line : List ℕ) (fault : AuditFault) → (fault ≢ TooLong → fault ≡ Line 1 Header) →
+    AuditOf line (Err fault) → Refuses (λ bytes. bytes ≡ []) 1 line (audit_status fault)
+unfolding IsTooLong
+no_header line TooLong first told =
+    Refuses.too_long (λ bytes none. subst (λ before. AuditOf (before ++ line) (Err TooLong))
+    (sym none) told)
+no_header line (Line number fault) first told =
+    let is = first (λ same. subst IsTooLong (sym same) tt) in
+    subst (λ f. Refuses (λ bytes. bytes ≡ []) 1 line (audit_status f)) (sym is)
+    (Refuses.faulty Header (λ bytes none.
+    subst (λ before. AuditOf (before ++ line) (Err (Line 1 Header))) (sym none)
+    (subst (λ f. AuditOf line (Err f)) is told)))
+no_header line NoMemory first told = absurd told
 
 -- what is refused behind more is refused behind less
-pub refuses_more : (Less More : List ℕ → Type 0) (line : List ℕ) (status : Status) →
-    ((bytes : List ℕ) → Less bytes → More bytes) → Refuses More line status →
-    Refuses Less line status
-refuses_more Less More line _ is (Refuses.faulty fault told) =
+pub refuses_more : (Less More : List ℕ → Type 0) (number : ℕ) (line : List ℕ) (status : Status) →
+    ((bytes : List ℕ) → Less bytes → More bytes) → Refuses More number line status →
+    Refuses Less number line status
+refuses_more Less More number line _ is (Refuses.too_long told) =
+    Refuses.too_long (λ bytes has. told bytes (is bytes has))
+refuses_more Less More number line _ is (Refuses.faulty fault told) =
     Refuses.faulty fault (λ bytes has. told bytes (is bytes has))
-refuses_more Less More line _ is (Refuses.not_one none) = Refuses.not_one none
-refuses_more Less More line _ is Refuses.no_memory = Refuses.no_memory
+refuses_more Less More number line _ is (Refuses.empty none whole) =
+    Refuses.empty none (λ bytes has. whole bytes (is bytes has))
+refuses_more Less More number line _ is (Refuses.more front after split some fits whole) =
+    Refuses.more front after split some (λ bytes has. fits bytes (is bytes has))
+    (λ bytes has. whole bytes (is bytes has))
+refuses_more Less More number line _ is Refuses.no_memory = Refuses.no_memory
+
+-- so an entry is refused behind what a check has read, and a header where it has read nothing
+pub refuses_entry : (check : Check) (now : Progress) (line : List ℕ) (status : Status) →
+    check.begun ≡ Some now →
+    Refuses (λ bytes. (setup : Setup) × HasProgress setup bytes now) (now.count + 2) line status →
+    Refuses (λ bytes. HasChecked bytes check) (next_number check.begun) line status
+refuses_entry check now line status is refused =
+    subst (λ (it : Option Progress). Refuses (λ bytes. HasChecked bytes check) (next_number it) line
+    status) (sym is)
+    (refuses_more (λ bytes. HasChecked bytes check)
+    (λ bytes. (setup : Setup) × HasProgress setup bytes now) (now.count + 2) line status
+    (λ bytes has. (check.config, subst (HasBegun check.config bytes) is has)) refused)
+
+pub refuses_header : (check : Check) (line : List ℕ) (status : Status) → check.begun ≡ None →
+    Refuses (λ bytes. bytes ≡ []) 1 line status →
+    Refuses (λ bytes. HasChecked bytes check) (next_number check.begun) line status
+refuses_header check line status is refused =
+    subst (λ (it : Option Progress). Refuses (λ bytes. HasChecked bytes check) (next_number it) line
+    status) (sym is)
+    (refuses_more (λ bytes. HasChecked bytes check) (λ bytes. bytes ≡ []) 1 line status
+    (λ bytes has. subst (HasBegun check.config bytes) is has) refused)
 
 -- a line has room behind what was read
 pub has_room : (bytes line : List ℕ) (long : ℕ) → long ≡ length bytes → long ≤ MOST_AUDIT_BYTES →
@@ -89,6 +156,35 @@ goes_on setup bytes line progress state has version place rest fits = record {
   faultless = subst (λ v. MayStandFrom v 0 has.entries) (sym version) has.audit.2;
   place = place ∙ has.count;
 }
+
+-- more than the line of an entry was given
+pub entry_and_more : EntryExtendsRead → EndsAsAudit → (line after : List ℕ) (now : Progress)
+    (state : ReaderState) (entry : Entry) → state.version ≡ now.replayed.version →
+    state.place ≡ now.count → length line ≤ MOST_AUDIT_BYTES - now.bytes →
+    BeginsWith state.version state.place line entry after → (after ≡ [] → ⊥) →
+    Refuses (λ bytes. (setup : Setup) × HasProgress setup bytes now) (now.count + 2) line LineSyntax
+entry_and_more more ends line after now state entry version place fits begins some =
+    let front = entry_line entry in
+    let old : ReaderState = record { version = state.version; place = state.place; rest = front } in
+    let new : ReaderState = record { version = state.version; place = state.place + 1; rest = [] } in
+    let long = ap (λ (it : List ℕ). length it) begins.split in
+    let both = length-append front after in
+    let step : ReadsEntry entry old new = record {
+      front = record { split = sym (append-nil front); may = begins.may };
+      version = refl;
+      place = refl;
+    } in
+    Refuses.more (text_of entry) after
+    (begins.split ∙ append_assoc (text_of entry) (10 ∷ []) after) some
+    (λ bytes has. has_room bytes line now.bytes has.1.long
+    (let few = has.1.audit.0 in let many = has.1.long in omega arith) fits)
+    (λ bytes has.
+    let read = goes_on has.0 bytes front now old has.1 version place refl (omega arith) in
+    let entries = has.1.entries ++ entry ∷ [] in (
+      record { version = state.version; entries = entries },
+      ends (bytes ++ front) entries new
+          (more (bytes ++ front) has.1.entries entry old new read step) refl,
+    ))
 
 -- so does one that begins as the fields say
 pub begun_at : (setup : Setup) (bytes line : List ℕ) (inside : Inside) (now : Progress)

@@ -1,8 +1,9 @@
 -- an audit that is checked line by line
-use Rattle.std.specs.Prelude.{◌≡◌, ◌≢◌, ◌+◌, ℕ, List, [], ◌∷◌, ◌++◌, length, Option, Some, None, Ok, Err}
+use Rattle.std.specs.Prelude.{◌≡◌, ◌≢◌, ◌≤◌, ◌+◌, ℕ, List, [], ◌∷◌, ◌++◌, length, Option, Some, None, Ok, Err}
 use Rattle.std.specs.Ptr.{null_ptr}
 use Rattle.fy_acts.specs.declared.entry.Entry.{Entry}
-use Rattle.fy_audit.specs.Audit.{AuditOf}
+use Rattle.fy_audit.specs.Audit.{Audit, AuditOf}
+use Rattle.fy_audit.specs.declared.audit.TheConstants.{MOST_AUDIT_BYTES}
 use Rattle.fy_audit.specs.declared.audit.AuditFault.{AuditFault}
 use Rattle.fy_audit.specs.declared.audit.AuditFault.TheVariants as audit
 use Rattle.fy_audit.specs.declared.audit.AuditLineFault.{AuditLineFault}
@@ -65,19 +66,29 @@ audit_status audit.TooLong = AuditTooLong
 audit_status (audit.Line number fault) = line_fault_status fault
 audit_status audit.NoMemory = NoMemory
 
--- what is given is no one line: it is empty, or more follows its first line feed
-pub data NotOneLine (line : List ℕ) : Type 0 where
-  empty : line ≡ [] → NotOneLine line
-  more : (front after : List ℕ) → line ≡ front ++ 10 ∷ after → (after ≡ [] → ⊥) → NotOneLine line
+-- what number the next line has, from 1 with the header
+abbrev pub next_number : Option Progress → ℕ
+next_number None = 1
+next_number (Some progress) = progress.count + 2
 
--- why a line isn't read behind bytes that were read: with it they are no audit, by this first fault;
--- it is no one line; or there was no memory
-pub data Refuses (WasRead : List ℕ → Type 0) (line : List ℕ) : Status → Type 0 where
-  faulty : (fault : AuditFault) →
-      ((bytes : List ℕ) → WasRead bytes → AuditOf (bytes ++ line) (Err fault)) →
-      Refuses WasRead line (audit_status fault)
-  not_one : NotOneLine line → Refuses WasRead line LineSyntax
-  no_memory : Refuses WasRead line NoMemory
+-- what was read, and these bytes behind it, are an audit
+abbrev pub IsAuditWith : (List ℕ → Type 0) → List ℕ → Type 0
+IsAuditWith WasRead front =
+    (bytes : List ℕ) → WasRead bytes → (it : Audit) × AuditOf (bytes ++ front) (Ok it)
+
+-- why a line of this number isn't read behind bytes that were read, in order: there are too many
+-- with it; it is faulty; nothing is given; more follows its line feed. Or there was no memory
+pub data Refuses (WasRead : List ℕ → Type 0) (number : ℕ) (line : List ℕ) : Status → Type 0 where
+  too_long : ((bytes : List ℕ) → WasRead bytes → AuditOf (bytes ++ line) (Err audit.TooLong)) →
+      Refuses WasRead number line AuditTooLong
+  faulty : (fault : AuditLineFault) →
+      ((bytes : List ℕ) → WasRead bytes → AuditOf (bytes ++ line) (Err (audit.Line number fault))) →
+      Refuses WasRead number line (line_fault_status fault)
+  empty : line ≡ [] → IsAuditWith WasRead [] → Refuses WasRead number line LineSyntax
+  more : (front after : List ℕ) → line ≡ front ++ 10 ∷ after → after ≢ [] →
+      ((bytes : List ℕ) → WasRead bytes → length (bytes ++ line) ≤ MOST_AUDIT_BYTES) →
+      IsAuditWith WasRead (front ++ 10 ∷ []) → Refuses WasRead number line LineSyntax
+  no_memory : Refuses WasRead number line NoMemory
 
 -- the line was read: whatever was read before, it was read behind that
 pub record ReadsOn (old new : Check) (line : List ℕ) : Type 0 where
@@ -88,8 +99,8 @@ pub record ReadsOn (old new : Check) (line : List ℕ) : Type 0 where
 pub data ReadsLine (old new : Check) (line : List ℕ) (told : ℕ) (status : Status) : Type 0 where
   read : status ≡ Done → ReadsOn old new line → told ≡ bad_of new.begun →
       ReadsLine old new line told status
-  refused : Refuses (λ bytes. HasChecked bytes old) line status → new ≡ old →
-      told ≡ bad_of old.begun → ReadsLine old new line told status
+  refused : Refuses (λ bytes. HasChecked bytes old) (next_number old.begun) line status →
+      new ≡ old → told ≡ bad_of old.begun → ReadsLine old new line told status
 
 -- ---- the calls
 

@@ -120,11 +120,11 @@ pub record AreKinds (asked : Asked) (kind floor : Kind) : Type 0 where
   pub ordered : rank floor ≤ rank kind
 
 -- why they aren't, the first that holds: a number is of no kind, or the floor is above the kind
-pub data NoKinds (asked : Asked) : Status → Type 0 where
-  no_kind : ((it : Kind) → asked.kind ≢ kind_number it) → NoKinds asked Argument
-  no_floor : ((it : Kind) → asked.floor ≢ kind_number it) → NoKinds asked Argument
+pub data NoKindAndFloor (asked : Asked) : Status → Type 0 where
+  no_kind : ((it : Kind) → asked.kind ≢ kind_number it) → NoKindAndFloor asked Argument
+  no_floor : ((it : Kind) → asked.floor ≢ kind_number it) → NoKindAndFloor asked Argument
   above : (kind floor : Kind) → asked.kind ≡ kind_number kind → asked.floor ≡ kind_number floor →
-      rank kind < rank floor → NoKinds asked Floor
+      rank kind < rank floor → NoKindAndFloor asked Floor
 
 -- the machines of such a plan
 abbrev pub machines_of : List Locality → Asked → List (List ℕ)
@@ -162,5 +162,5 @@ pub data PlansAttrition (processes : List Locality) (asked : Asked) (before afte
   asked_for : (kind floor : Kind) → (are : AreKinds asked kind floor) →
       Plans (IsAttritionOf processes asked kind floor are.ordered) before after told status →
       PlansAttrition processes asked before after told status
-  not_asked : NoKinds asked status → told ≡ 0 → after ≡ before →
+  not_asked : NoKindAndFloor asked status → told ≡ 0 → after ≡ before →
       PlansAttrition processes asked before after told status

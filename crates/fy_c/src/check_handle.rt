@@ -9,7 +9,7 @@ ghost use Rattle.fy_c.specs.contracts.checking.Check as held;
 use crate::checking::Check;
 use crate::loose::Loose;
 use std::alloc::Global;
-use std::marker::Model;
+use std::marker::{Model, Send};
 
 /// An audit that is being checked, which another program holds; closed where it is null.
 #[repr(C)]
@@ -30,6 +30,9 @@ impl Model for FyCheck {
     ghost also_owns = { λ check. if_non_null check.at
         (box_owns (ghosts.dealloc_token check.alloc) e.the_row check.at check.value) };
 }
+
+// What a check holds may go to another thread, and any thread may free its block.
+unsafe impl Send for FyCheck {}
 
 impl FyCheck {
     ghost use Rattle.std.specs.Prelude.{◌≡◌, ◌≢◌};

@@ -1,7 +1,7 @@
 //! Audits that are checked line by line.
 ghost use Rattle.std.specs.Prelude.{◌≡◌, ◌≤◌, ◌+◌, ℕ, List, [], ◌++◌, length, IfOk, IfErr, OnOk, OnErr};
 ghost use Rattle.fy_cluster.specs.Setup.{Setup};
-ghost use Rattle.fy_c.specs.Checking.{HasProgress, HasChecked, bad_number, count_of, bad_of, line_fault_status, audit_status, NotOneLine, Refuses, ReadsOn};
+ghost use Rattle.fy_c.specs.Checking.{HasProgress, HasChecked, bad_number, count_of, bad_of, line_fault_status, audit_status, next_number, Refuses, ReadsOn};
 
 use crate::status::Status;
 use fy_audit::laws::an_audit_is_read_entry_by_entry;
@@ -88,7 +88,7 @@ fn bad_number(first_bad: Option<u32>) -> u32
 /// In order: `AuditTooLong`; `NoHeader`; `LineSyntax` where more follows; `NoMemory`.
 fn read_header(alloc: Global, config: &Config, line: &[u8]) -> Result<Begun, Status>
     ensures read { IfOk result (HasProgress config.now line.now) }
-    ensures refused { IfErr result (Refuses (λ bytes. bytes ≡ []) line.now) }
+    ensures refused { IfErr result (Refuses (λ bytes. bytes ≡ []) 1 line.now) }
 {
     an_audit_is_read_entry_by_entry();
     let reader = match AuditReader::begin(alloc, line) {
@@ -123,7 +123,8 @@ fn read_entry(alloc: Global, begun: &mut Begun, line: &[u8]) -> Result<(), Statu
     ensures read { OnOk result ((setup : Setup) (bytes : List ℕ) →
         HasProgress setup bytes begun.old → HasProgress setup (bytes ++ line.now) begun.new) }
     ensures refused { IfErr result
-        (Refuses (λ bytes. (setup : Setup) × HasProgress setup bytes begun.old) line.now) }
+        (Refuses (λ bytes. (setup : Setup) × HasProgress setup bytes begun.old)
+        (begun.old.count + 2) line.now) }
     ensures same { OnErr result (begun.new ≡ begun.old) }
 {
     an_audit_is_read_entry_by_entry();
@@ -156,7 +157,8 @@ fn read_entry(alloc: Global, begun: &mut Begun, line: &[u8]) -> Result<(), Statu
 /// Those of `read_header`, and then of `read_entry`. Nothing changes.
 pub(crate) fn read_line(alloc: Global, check: &mut Check, line: &[u8]) -> Result<(), Status>
     ensures read { OnOk result (ReadsOn check.old check.new line.now) }
-    ensures refused { IfErr result (Refuses (λ bytes. HasChecked bytes check.old) line.now) }
+    ensures refused { IfErr result (Refuses (λ bytes. HasChecked bytes check.old)
+        (next_number check.old.begun) line.now) }
     ensures same { OnErr result (check.new ≡ check.old) }
 {
     match &mut check.begun {

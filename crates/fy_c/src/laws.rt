@@ -1,4 +1,4 @@
-//! What holds of guards, and the numbers that C sees for nobody and nothing.
+//! What holds of guards and checks, and the numbers that C sees for nobody and nothing.
 ghost use Rattle.std.specs.Prelude.{◌≡◌};
 ghost use Rattle.fy_c.specs.declared.numbers.TheConstants.{NOBODY, NO_RECORD, NOTHING};
 ghost use Rattle.fy_c.specs.declared.acting.TheConstants.{MOST_REPLY_BYTES};
@@ -7,11 +7,17 @@ ghost use Rattle.fy_c.specs.declared.planning.TheConstants.{VALUE_BYTES};
 ghost use Rattle.fy_c.specs.declared.rights.TheConstants.{EVERYONE};
 ghost use Rattle.fy_c.specs.declared.storing.TheConstants.{MOST_PAYLOAD};
 ghost use denote.Param.Send.{IsSend};
-ghost use Rattle.fy_c.specs.contracts.handle.FyGuard.{the_row};
+ghost use Rattle.fy_c.specs.contracts.check_handle.FyCheck as check;
+ghost use Rattle.fy_c.specs.contracts.handle.FyGuard as guard;
 
 /// A guard may be moved to another thread.
 pub fn guards_are_sent()
-    ensures { IsSend the_row }
+    ensures { IsSend guard.the_row }
+{}
+
+/// A check of an audit may be moved to another thread.
+pub fn checks_are_sent()
+    ensures { IsSend check.the_row }
 {}
 
 /// The number for no process, no record, no message, no bad entry and every process, the most bytes of

@@ -5,7 +5,7 @@ ghost use Rattle.fy_kinds.specs.Kinds.{rank};
 ghost use Rattle.fy_actors.specs.Plans.{IsSwizzle};
 ghost use Rattle.fy_actors.specs.Schedules.{process_target, swizzle_acts, attrition_acts};
 ghost use Rattle.fy_c.specs.Numbers.{key_number};
-ghost use Rattle.fy_c.specs.Planning.{Draws, with_zeros, orders_of, clog_of, unclog_of, kill_of, everyone, plan_words, IsSwizzleOf, AreKinds, NoKinds, machines_of, IsAttritionOf, Gives, Plans, PlansAttrition};
+ghost use Rattle.fy_c.specs.Planning.{Draws, with_zeros, orders_of, clog_of, unclog_of, kill_of, everyone, plan_words, IsSwizzleOf, AreKinds, NoKindAndFloor, machines_of, IsAttritionOf, Gives, Plans, PlansAttrition};
 ghost use Rattle.fy_c.specs.Statuses.{Answers};
 
 use crate::handle::FyGuard;
@@ -274,7 +274,7 @@ struct Asked {
 /// In order: `Argument` where a number is that of no kind; `Floor` where the floor is above the kind.
 fn kinds_of(asked: Asked) -> Result<(Kind, Kind), Status>
     ensures kinds { IfOk result (λ kinds. AreKinds asked kinds.0 kinds.1) }
-    ensures none { IfErr result (NoKinds asked) }
+    ensures none { IfErr result (NoKindAndFloor asked) }
 {
     let Some(kind) = kind_of(asked.kind) else {
         return Err(Status::Argument);

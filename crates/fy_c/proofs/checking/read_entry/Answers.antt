@@ -1,12 +1,13 @@
-use Rattle.std.proofs.Common.{◌≡◌, ◌∙◌, ◌+◌, ◌-◌, ◌<◌, ◌≤◌, ◌++◌, ◌∷◌, [], ℕ, List, length, sym, ap, subst, arith, length-append}
+use Rattle.std.proofs.Common.{◌≡◌, ◌∙◌, ◌+◌, ◌-◌, ◌<◌, ◌≤◌, ◌++◌, ◌∷◌, [], ℕ, List, length, sym, ap, subst, arith, append-nil, length-append}
+use Rattle.std.specs.Prelude.{Ok}
 use Rattle.std.proofs.lemmas.Bool.{false≢true}
-use Rattle.fy_audit.specs.Audit.{BeginsWith}
+use Rattle.fy_audit.specs.Audit.{Audit, AuditOf, BeginsWith}
 use Rattle.fy_audit.specs.Reading.{ReaderState}
-use Rattle.fy_audit.specs.declared.audit.AuditFault.TheVariants.{TooLong}
+use Rattle.fy_audit.specs.declared.audit.TheConstants.{MOST_AUDIT_BYTES}
 use Rattle.fy_check.specs.Replayed.{HasReplayed}
 use Rattle.fy_cluster.specs.Setup.{Setup}
 use Rattle.fy_c.specs.Progress.{Progress}
-use Rattle.fy_c.specs.Checking.{HasProgress, NotOneLine, Refuses}
+use Rattle.fy_c.specs.Checking.{HasProgress, Refuses, audit_status}
 use Rattle.fy_c.proofs.Lined.{stopped, has_no_room, empty_line, some_bytes, entry_and_more, begun_at, grown}
 use Rattle.fy_c.proofs.checking.read_entry.Goals as goal
 
@@ -14,39 +15,55 @@ pub returns-then-line-saturating_sub-clause-refused :
     goal.returns-then-line-saturating_sub-clause-refused
 returns-then-line-saturating_sub-clause-refused c =
     let line = c.args.line.now in
-    Refuses.faulty TooLong (λ bytes has. has_no_room bytes line c.begun.inside.bytes
+    Refuses.too_long (λ bytes has. has_no_room bytes line c.begun.inside.bytes
     (ap (λ (it : Progress). it.bytes) c.begun.view_is ∙ has.1.long)
     (subst (λ n. n < length line) c.saturating_sub.ensures c.if-line-saturating_sub.true))
 
 pub returns-then-is_empty-clause-refused : goal.returns-then-is_empty-clause-refused
 returns-then-is_empty-clause-refused c =
-    Refuses.not_one
-    (NotOneLine.empty
-    (empty_line c.args.line.now (sym c.is_empty.ensures ∙ c.if-is_empty.true)))
+    Refuses.empty (empty_line c.args.line.now (sym c.is_empty.ensures ∙ c.if-is_empty.true))
+    (λ bytes has.
+    let audit : Audit = record {
+      version = c.args.begun.now.replayed.version;
+      entries = has.1.entries;
+    } in
+    (audit, subst (λ text. AuditOf text (Ok audit)) (sym (append-nil bytes)) has.1.audit))
 
 pub returns-in-Err-clause-refused : goal.returns-in-Err-clause-refused
 returns-in-Err-clause-refused c =
     let line = c.args.line.now in
     let now = c.args.begun.now in
+    let state = c.resume-reader.result in
+    let WasRead : List ℕ → Type 0 = λ bytes. (setup : Setup) × HasProgress setup bytes now in
     let fits = subst (λ n. length line ≤ n) c.saturating_sub.ensures
     c.if-line-saturating_sub.false in
-    subst (Refuses (λ bytes. (setup : Setup) × HasProgress setup bytes now) line)
-    (sym c.audit_status.ensures)
-    (stopped (λ bytes. (setup : Setup) × HasProgress setup bytes now) line c.in-Err.fault
+    subst (Refuses WasRead (now.count + 2) line) (sym c.audit_status.ensures)
+    (subst (λ place. Refuses WasRead (place + 2) line (audit_status c.in-Err.fault))
+    (ap (λ (it : ReaderState). it.place) c.resume-reader.ensures
+    ∙ ap (λ (it : Progress). it.count) c.begun.view_is)
+    (stopped WasRead state line c.in-Err.fault c.in-Err.ensures.stopped
     (λ bytes has. c.an_audit_is_read_entry_by_entry.ensures.stopped (bytes ++ line) has.1.entries
-    c.resume-reader.result c.in-Err.fault
-    (begun_at has.0 bytes line c.begun.inside now c.resume-reader.result c.begun.view_is
-    c.begun.invariant.version c.resume-reader.ensures fits has.1) c.in-Err.ensures.stopped))
+    state c.in-Err.fault
+    (begun_at has.0 bytes line c.begun.inside now state c.begun.view_is c.begun.invariant.version
+    c.resume-reader.ensures fits has.1) c.in-Err.ensures.stopped)))
 
 pub returns-then-not-is_at_end-clause-refused : goal.returns-then-not-is_at_end-clause-refused
 returns-then-not-is_at_end-clause-refused c =
+    let line = c.args.line.now in
     let state = c.resume-reader.result in
     let after = c.next_entry.new.self.rest in
+    let law = c.an_audit_is_read_entry_by_entry.ensures in
     let front = subst (λ rest. BeginsWith state.version state.place rest c.in-Ok.entry after)
     (ap (λ (it : ReaderState). it.rest) c.resume-reader.ensures) c.in-Ok.ensures.read.front in
-    Refuses.not_one
-    (entry_and_more c.args.line.now after state.version state.place c.in-Ok.entry front
-    (λ none. false≢true (sym c.if-not-is_at_end.true ∙ c.is_at_end.ensures.1 none)))
+    entry_and_more law.more law.end line after c.args.begun.now state c.in-Ok.entry
+    (ap (λ (it : ReaderState). it.version) c.resume-reader.ensures ∙ c.begun.invariant.version
+    ∙ ap (λ (it : Progress). it.replayed.version) c.begun.view_is)
+    (ap (λ (it : ReaderState). it.place) c.resume-reader.ensures
+    ∙ ap (λ (it : Progress). it.count) c.begun.view_is)
+    (subst (λ n. length line ≤ MOST_AUDIT_BYTES - n)
+    (ap (λ (it : Progress). it.bytes) c.begun.view_is)
+    (subst (λ n. length line ≤ n) c.saturating_sub.ensures c.if-line-saturating_sub.false))
+    front (λ none. false≢true (sym c.if-not-is_at_end.true ∙ c.is_at_end.ensures.1 none))
 
 pub returns-in_default-clause-refused : goal.returns-in_default-clause-refused
 returns-in_default-clause-refused c = Refuses.no_memory

@@ -1,25 +1,23 @@
 use Rattle.std.proofs.Common.{◌≡◌, ◌∙◌, ◌++◌, ℕ, List, [], refl, sym, subst}
-use Rattle.std.specs.Prelude.{Ok, Err}
+use Rattle.std.specs.Prelude.{Ok}
 use Rattle.std.proofs.lemmas.Bool.{false≢true}
 use Rattle.fy_audit.specs.Audit.{AuditOf}
 use Rattle.fy_check.specs.Replayed.{HasReplayed}
 use Rattle.fy_c.specs.Checking.{Refuses}
-use Rattle.fy_c.proofs.Lined.{header_and_more}
+use Rattle.fy_c.proofs.Lined.{header_and_more, no_header}
 use Rattle.fy_c.proofs.checking.read_header.Goals as goal
 
 pub returns-in-Err-clause-refused : goal.returns-in-Err-clause-refused
 returns-in-Err-clause-refused c =
     let line = c.args.line.now in
-    let fault = c.in-Err.fault in
-    subst (Refuses (λ bytes. bytes ≡ []) line) (sym c.audit_status.ensures)
-    (Refuses.faulty fault (λ bytes none. subst (λ before. AuditOf (before ++ line) (Err fault))
-    (sym none) c.in-Err.ensures.refused))
+    subst (Refuses (λ bytes. bytes ≡ []) 1 line) (sym c.audit_status.ensures)
+    (no_header line c.in-Err.fault c.in-Err.ensures.first c.in-Err.ensures.refused)
 
 pub returns-then-not-is_at_end-clause-refused : goal.returns-then-not-is_at_end-clause-refused
 returns-then-not-is_at_end-clause-refused c =
-    Refuses.not_one
-    (header_and_more c.args.line.now c.in-Ok.reader c.in-Ok.ensures.begun
-    (λ none. false≢true (sym c.if-not-is_at_end.true ∙ c.is_at_end.ensures.1 none)))
+    header_and_more c.an_audit_is_read_entry_by_entry.ensures.end c.args.line.now c.in-Ok.reader
+    c.in-Ok.ensures.begun
+    (λ none. false≢true (sym c.if-not-is_at_end.true ∙ c.is_at_end.ensures.1 none))
 
 pub returns-in_default-clause-refused : goal.returns-in_default-clause-refused
 returns-in_default-clause-refused c = Refuses.no_memory
