@@ -5,6 +5,7 @@ mod audit;
 pub mod laws;
 mod reader;
 mod script;
+mod text;
 
 pub use audit::{AuditFault, AuditLineFault, MOST_AUDIT_BYTES, read_audit};
 pub use fy_journal::{Journal, JournalFault, MOST_ENTRIES, Version};
@@ -13,3 +14,4 @@ pub use fy_spelling::{
 };
 pub use reader::{AuditReader, after_header, read_entry_at};
 pub use script::{MOST_SCRIPT_BYTES, ScriptFault, read_script};
+pub use text::{header_text, push_entry_line};

@@ -9,10 +9,10 @@ ghost use Rattle.fy_audit.specs.declared.audit.TheConstants.{MOST_AUDIT_BYTES};
 ghost use Rattle.fy_audit.specs.declared.audit.AuditFault.TheVariants.{TooLong, Line};
 ghost use Rattle.fy_audit.specs.declared.audit.AuditLineFault.TheVariants.{Header};
 ghost use Rattle.fy_audit.specs.Versions.{knows_refusal, knows_reply, has_entry};
-ghost use Rattle.fy_journal.specs.declared.version.Version.TheVariants.{First, Second};
 
 use crate::{
     AuditFault, AuditLineFault, Entry, MOST_AUDIT_BYTES, MOST_LINE_BYTES, Refusal, Reply, Version,
+    header_text,
 };
 use fy_lines::split_at_newline;
 use fy_spelling::laws::{a_text_is_a_line, a_text_is_of_one_entry};
@@ -52,20 +52,12 @@ enum NoEntry {
     NoMemory,
 }
 
-/// All that follows the header of the first version, where an audit begins with it.
-fn behind_first(bytes: &[u8]) -> Option<&[u8]>
-    ensures some { IfSome result (λ rest. bytes.now ≡ header First ++ rest.now) }
-    ensures none { IfNone result ((rest : List ℕ) → bytes.now ≡ header First ++ rest → ⊥) }
+/// All that follows the header of a version, where an audit begins with it.
+fn behind_header(bytes: &[u8], version: Version) -> Option<&[u8]>
+    ensures some { IfSome result (λ rest. bytes.now ≡ header version ++ rest.now) }
+    ensures none { IfNone result ((rest : List ℕ) → bytes.now ≡ header version ++ rest → ⊥) }
 {
-    bytes.strip_prefix(b"{\"audit\":1}\n")
-}
-
-/// All that follows the header of the second.
-fn behind_second(bytes: &[u8]) -> Option<&[u8]>
-    ensures some { IfSome result (λ rest. bytes.now ≡ header Second ++ rest.now) }
-    ensures none { IfNone result ((rest : List ℕ) → bytes.now ≡ header Second ++ rest → ⊥) }
-{
-    bytes.strip_prefix(b"{\"audit\":2}\n")
+    bytes.strip_prefix(header_text(version).as_bytes())
 }
 
 /// The version by whose header an audit begins, and all that follows it.
@@ -73,10 +65,10 @@ pub fn after_header(bytes: &[u8]) -> Option<(Version, &[u8])>
     ensures some { IfSome result (λ found. bytes.now ≡ header found.0 ++ found.1.now) }
     ensures none { IfNone result (HasNoHeader bytes.now) }
 {
-    if let Some(rest) = behind_second(bytes) {
+    if let Some(rest) = behind_header(bytes, Version::Second) {
         return Some((Version::Second, rest));
     }
-    match behind_first(bytes) {
+    match behind_header(bytes, Version::First) {
         Some(rest) => Some((Version::First, rest)),
         None => None,
     }

@@ -7,9 +7,10 @@ ghost use Rattle.fy_c.specs.Statuses.{Answers};
 
 use crate::handle::FyGuard;
 use crate::status::Status;
+use fy_audit::push_entry_line;
 use fy_cluster::{Cluster, Fault};
 use fy_journal::Journal;
-use fy_spelling::{Command, CommandFault, Entry, LineFault, put_entry, read_command};
+use fy_spelling::{Command, CommandFault, Entry, LineFault, read_command};
 use std::alloc::{AllocError, Global};
 
 /// How many bytes the line of an entry may have beyond those of the line that asked for it: 128.
@@ -41,8 +42,7 @@ fn put_line(text: &mut Vec<u8>, entry: &Entry) -> Result<(), AllocError>
     ensures { OnOk result (text.new.items ≡ entry_line entry.now) }
 {
     text.clear();
-    put_entry(text, entry)?;
-    text.extend_from_slice(b"\n")
+    push_entry_line(text, entry)
 }
 
 /// Applies a command.

@@ -6,33 +6,14 @@ ghost use Rattle.fy_audit.specs.AuditText.{header, entry_line, audit_text};
 ghost use Rattle.fy_engine.specs.Outputs.{FlushesFront, IsOutputStop};
 
 use crate::stop::Stop;
-use fy_audit::{Entry, Journal, Version};
+use fy_audit::{Entry, Journal, Version, header_text, push_entry_line};
 use fy_lines::{OutputFault, laws, write_bytes};
-use fy_spelling::put_entry;
 use std::alloc::{AllocError, Global};
 use std::io::Write;
 use std::marker::Model;
 
 /// How many bytes are gathered before they are handed on; the last line may go past them.
 const BUFFER_BYTES: usize = 65_536;
-
-/// The line that an audit of a version begins with.
-pub fn header_text(version: Version) -> &'static str
-    ensures { result.now ≡ header version }
-{
-    match version {
-        Version::First => "{\"audit\":1}\n",
-        Version::Second => "{\"audit\":2}\n",
-    }
-}
-
-/// Puts an entry's line behind what is gathered.
-pub fn push_entry_line(gathered: &mut Vec<u8>, entry: &Entry) -> Result<(), AllocError>
-    ensures { OnOk result (gathered.new.items ≡ gathered.old.items ++ entry_line entry.now) }
-{
-    put_entry(gathered, entry)?;
-    gathered.extend_from_slice(b"\n")
-}
 
 /// Lines of an audit on their way out: they are gathered, and handed on when they fill the buffer.
 #[derive(Drop)]

@@ -6,6 +6,6 @@ mod audit;
 mod load;
 mod stop;
 
-pub use audit::{AuditBuffer, header_text, push_entry_line, write_audit};
+pub use audit::{AuditBuffer, write_audit};
 pub use load::load_config;
 pub use stop::{Stop, write_numbered, write_stop};

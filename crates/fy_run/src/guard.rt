@@ -14,9 +14,11 @@ ghost use Rattle.fy_run.specs.RunTexts.{IfRunRefusal};
 ghost use Rattle.fy_engine.specs.Stops.{command_stop, IsRunStop};
 
 use crate::entering::enter;
-use fy_audit::{Command, LineFault, MOST_LINE_BYTES, ScriptFault, Version};
+use fy_audit::{
+    Command, LineFault, MOST_LINE_BYTES, ScriptFault, Version, header_text, push_entry_line,
+};
 use fy_cluster::{ClusterState, Config};
-use fy_engine::{Stop, header_text, push_entry_line};
+use fy_engine::Stop;
 use fy_lines::{InputFault, next_line, write_bytes};
 use fy_spelling::{CommandFault, read_command};
 use std::alloc::Global;

@@ -21,7 +21,7 @@ returns-in_default-write_bytes-clause-err g c =
     let after = g.W.Write.contents c.write_bytes.new.writer in
     let made : c.in-Ok.entry ≡ entry_of execution command = c.in-Ok.ensures.entry in
     let line : c.deref.result.now ≡ entry_line (entry_of execution command) =
-    c.deref.ensures.value ∙ c.in-Ok-push_entry_line.ensures
+    c.deref.ensures.value ∙ c.in-Ok-push_entry_line.ensures.ok
     ∙ ap (λ text. text ++ entry_line c.in-Ok.entry) c.clear.ensures.items
     ∙ ap entry_line made in
     NoAnswer.short refl c.in-Ok.ensures.entered c.in-Ok.ensures.legal
