@@ -1,2 +1,1 @@
 pub mod Losing
-pub mod Reading

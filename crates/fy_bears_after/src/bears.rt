@@ -15,7 +15,7 @@ ghost use Rattle.fy_engine.specs.Stops.{IfAuditFault, IsCheckStop};
 use crate::lost::losses_in;
 use fy_audit::MOST_AUDIT_BYTES;
 use fy_bears::{Form, LossesSoFar, book_of, report};
-use fy_check_audit::{ReplayedAudit, load_audit, replay_audit, write_finding};
+use fy_check_audit::{ReplayedAudit, replay_audit, write_finding};
 use fy_cluster::Config;
 use fy_engine::Stop;
 use fy_lines::{OutputFault, write_bytes};
@@ -115,11 +115,7 @@ pub fn run_bears_after<R: Read, W: Write>(
     ensures no_further { ReadsAtMost (R.remaining reader.old) (R.remaining reader.new)
         (MOST_AUDIT_BYTES + 1) }
 {
-    let bytes = match load_audit(alloc, reader) {
-        Ok(bytes) => bytes,
-        Err(stop) => return Err(stop),
-    };
-    let audit = match replay_audit(alloc, config, &bytes) {
+    let audit = match replay_audit(alloc, config, reader) {
         Ok(audit) => audit,
         Err(stop) => return Err(stop),
     };

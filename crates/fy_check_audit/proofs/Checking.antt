@@ -1,47 +1,69 @@
 -- what is said of an audit that was read
-use Rattle.std.proofs.Common.{rules, ◌≡◌, ℕ, List, Option, Some, None, Result, Ok, Err, IfOk, IfErr, Bool, true, false, length, subst, sym}
+use Rattle.std.proofs.Common.{rules, ◌≡◌, ◌∙◌, ℕ, List, Option, Some, None, Result, Ok, Err, IfOk, IfErr, Bool, true, false, length, subst, sym}
 use Rattle.std.specs.Prelude.{IfSome}
-use Rattle.fy_audit.specs.Audit.{AuditOf, AuditAnswers}
-use Rattle.fy_audit.specs.declared.audit.AuditFault.{AuditFault}
-use Rattle.fy_audit.specs.declared.audit.AuditFault.TheVariants.{TooLong, Line, NoMemory}
+use Rattle.std.specs.Option.{option_map_or}
+use Rattle.fy_audit.specs.Audit.{AuditOf}
 use Rattle.fy_acts.specs.declared.entry.Entry.{Entry}
 use Rattle.fy_journal.specs.declared.version.Version.{Version}
 use Rattle.fy_cluster.specs.Setup.{Setup}
-use Rattle.fy_check.specs.Replayed.{HasFirstBad}
+use Rattle.fy_check.specs.Replayed.{HasFirstBad, HasReplayed}
 use Rattle.fy_check_audit.specs.declared.check.Finding.{Finding}
+use Rattle.fy_check_audit.specs.declared.check.ReplayedAudit.{ReplayedAudit}
 use Rattle.fy_engine.specs.declared.stop.Stop.{Stop}
 use Rattle.fy_engine.specs.declared.stop.Stop.TheVariants.{Write}
-use Rattle.fy_engine.specs.Stops.{audit_stop, IfAuditFault}
-use Rattle.fy_check_audit.specs.CheckTexts.{legal_line, bad_line, Finds, HasVerdict, IsFound}
+use Rattle.fy_check_audit.specs.CheckTexts.{legal_line, bad_line, finding_line, Finds, HasVerdict, IsFound}
+use Rattle.fy_check_audit.specs.Checked.{IsReplayed}
 
--- the stop for what a reader of an audit answers
-pub stop_is_told : (bytes : List ℕ) (fault : AuditFault) (stop : Stop) →
-    AuditAnswers bytes (Err fault) → stop ≡ audit_stop fault →
-    IfAuditFault stop (λ told. AuditOf bytes (Err told))
-stop_is_told bytes TooLong stop told is = subst (λ s. IfAuditFault s (λ f. AuditOf bytes (Err f))) (sym is) told
-stop_is_told bytes (Line number fault) stop told is = subst (λ s. IfAuditFault s (λ f. AuditOf bytes (Err f))) (sym is) told
-stop_is_told bytes NoMemory stop told is = subst (λ s. IfAuditFault s (λ f. AuditOf bytes (Err f))) (sym is) tt
-
--- what is found of bytes that are those of a reader
-pub of_known : (setup : Setup) (known : Option (List ℕ)) (bytes : List ℕ) (finding : Finding) →
-    IfSome known (λ xs. bytes ≡ xs) → IsFound setup bytes finding →
-    IfSome known (λ xs. IsFound setup xs finding)
-of_known setup None bytes finding read found = tt
-of_known setup (Some xs) bytes finding read found =
-    subst (λ ys. IsFound setup ys finding) read found
-
--- what is found of the bytes of a reader
-pub found_known : (setup : Setup) (known : Option (List ℕ)) (version : Version) (entries : List Entry) (finding : Finding) →
+-- what was replayed of the bytes of a reader
+pub replayed_known : (setup : Setup) (known : Option (List ℕ)) (version : Version) (entries : List Entry) (replayed : ReplayedAudit) →
     IfSome known (λ bytes. AuditOf bytes (Ok (record { version = version; entries = entries }))) →
-    finding.count ≡ length entries → HasFirstBad version setup entries finding.first_bad →
-    IfSome known (λ bytes. IsFound setup bytes finding)
-found_known setup None version entries finding read count first = tt
-found_known setup (Some bytes) version entries finding read count first = record {
+    replayed.count ≡ length entries → replayed.replayer.version ≡ version → HasReplayed setup entries replayed.replayer →
+    IfSome known (λ bytes. IsReplayed setup bytes replayed)
+replayed_known setup None version entries replayed read count same those = tt
+replayed_known setup (Some bytes) version entries replayed read count same those = record {
   audit = record { version = version; entries = entries };
   read = read;
   count = count;
-  first = first;
+  version = same;
+  those = those;
 }
+
+-- what is found of bytes that were replayed
+pub found_of_replayed : (setup : Setup) (known : Option (List ℕ)) (replayed : ReplayedAudit) (finding : Finding) →
+    finding.count ≡ replayed.count → finding.first_bad ≡ replayed.replayer.first_bad →
+    IfSome known (λ bytes. IsReplayed setup bytes replayed) →
+    IfSome known (λ bytes. IsFound setup bytes finding)
+found_of_replayed setup None replayed finding count first is = tt
+found_of_replayed setup (Some bytes) replayed finding count first is = record {
+  audit = is.audit;
+  read = is.read;
+  count = count ∙ is.count;
+  first =
+      subst (HasFirstBad is.audit.version setup is.audit.entries) (sym first)
+      (subst (λ v. HasFirstBad v setup is.audit.entries replayed.replayer.first_bad) is.version is.those.first);
+}
+
+-- the line of a finding without a bad entry
+pub line_of_none : (finding : Finding) (whole short : List ℕ → Type 0) (result : Result Bool Stop) →
+    finding.first_bad ≡ None →
+    IfOk result (λ said. (said ≡ true) × whole (legal_line finding.count)) →
+    IfErr result (λ stop. (stop ≡ Write) × short (legal_line finding.count)) →
+    IfOk result (λ said. whole (finding_line finding)) × IfErr result (λ stop. short (finding_line finding))
+line_of_none finding whole short (Ok said) none done stopped =
+    (subst (λ at. whole (option_map_or bad_line at (legal_line finding.count))) (sym none) done.1, tt)
+line_of_none finding whole short (Err stop) none done stopped =
+    (tt, subst (λ at. short (option_map_or bad_line at (legal_line finding.count))) (sym none) stopped.1)
+
+-- the line of a finding with a bad entry
+pub line_of_bad : (finding : Finding) (at : ℕ) (whole short : List ℕ → Type 0) (result : Result Bool Stop) →
+    finding.first_bad ≡ Some at →
+    IfOk result (λ said. (said ≡ false) × whole (bad_line at)) →
+    IfErr result (λ stop. (stop ≡ Write) × short (bad_line at)) →
+    IfOk result (λ said. whole (finding_line finding)) × IfErr result (λ stop. short (finding_line finding))
+line_of_bad finding at whole short (Ok said) bad done stopped =
+    (subst (λ found. whole (option_map_or bad_line found (legal_line finding.count))) (sym bad) done.1, tt)
+line_of_bad finding at whole short (Err stop) bad done stopped =
+    (tt, subst (λ found. short (option_map_or bad_line found (legal_line finding.count))) (sym bad) stopped.1)
 
 -- a legal audit is confirmed
 said_legal : (setup : Setup) (known : Option (List ℕ)) (finding : Finding)

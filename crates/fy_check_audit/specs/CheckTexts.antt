@@ -1,5 +1,6 @@
 -- what is said of an audit under a configuration
 use Rattle.std.specs.Prelude.{◌≡◌, ℕ, Bool, true, false, List, length, codes, Option, IfSome, Result, Ok, Err}
+use Rattle.std.specs.Option.{option_map_or}
 use Rattle.fy_audit.specs.Audit.{Audit, AuditOf}
 use Rattle.fy_audit.specs.declared.audit.AuditFault.{AuditFault}
 use Rattle.fy_cluster.specs.Setup.{Setup}
@@ -18,6 +19,10 @@ legal_line count = numbered (codes "legal ") count (codes "\n")
 -- the line that names an entry which isn't what the rules give
 abbrev pub bad_line : ℕ → List ℕ
 bad_line at = numbered (codes "bad entry ") at (codes "\n")
+
+-- the line for what was found of an audit
+abbrev pub finding_line : Finding → List ℕ
+finding_line finding = option_map_or bad_line finding.first_bad (legal_line finding.count)
 
 -- bytes are an audit of so many entries, with this first bad one or none
 pub record IsFound (setup : Setup) (bytes : List ℕ) (finding : Finding) : Type 0 where

@@ -6,14 +6,13 @@ ghost use Rattle.fy_lines.specs.Readings.{ReadsAtMost};
 ghost use Rattle.fy_audit.specs.Audit.{AuditOf};
 ghost use Rattle.fy_audit.specs.declared.audit.TheConstants.{MOST_AUDIT_BYTES};
 ghost use Rattle.fy_cluster.specs.Setup.{Setup};
-ghost use Rattle.fy_check_audit.specs.CheckTexts.{HasVerdict, IfFound, IsFound};
+ghost use Rattle.fy_check_audit.specs.CheckTexts.{HasVerdict, IfFound, finding_line};
 ghost use Rattle.fy_check_audit.specs.Checked.{IsReplayed};
 ghost use Rattle.fy_check_audit.specs.Inputs.{IsInputStop};
 ghost use Rattle.fy_engine.specs.Stops.{numbered, audit_stop, IfAuditFault, IsCheckStop};
 
 use crate::input::AuditInput;
-use fy_audit::laws::an_audit_is_read_entry_by_entry;
-use fy_audit::{AuditFault, AuditReader, MOST_AUDIT_BYTES};
+use fy_audit::{AuditFault, MOST_AUDIT_BYTES};
 use fy_check::Replayer;
 use fy_cluster::Config;
 use fy_engine::{Stop, write_numbered};
@@ -79,8 +78,9 @@ impl ReplayedAudit {
     pub fn finding(&self) -> Finding
         ensures count { result.count ≡ self.now.count }
         ensures first_bad { result.first_bad ≡ self.now.replayer.first_bad }
-        ensures found { (setup : Setup) (bytes : List ℕ) → IsReplayed setup bytes self.now
-            → IsFound setup bytes result }
+        ensures found { (setup : Setup) (known : Option (List ℕ)) →
+            IfSome known (λ bytes. IsReplayed setup bytes self.now) →
+            IfFound setup known result }
     {
         Finding {
             count: self.count,
@@ -89,49 +89,19 @@ impl ReplayedAudit {
     }
 }
 
-/// Reads an audit entry by entry, and has each checked as it is read. Behind a bad entry the rest
-/// is read for its faults.
-pub fn replay_audit(alloc: Global, config: &Config, bytes: &[u8]) -> Result<ReplayedAudit, Stop>
-    ensures replayed { IfOk result (IsReplayed config.now bytes.now) }
-    ensures refused { IfErr result (λ stop. IfAuditFault stop
-        (λ fault. AuditOf bytes.now (Err fault))) }
-    ensures own { IfErr result IsCheckStop }
-    ensures no_output { IfErr result (λ stop. stop ≢ Stop.Read × stop ≢ Stop.Write) }
-{
-    an_audit_is_read_entry_by_entry();
-    let mut reader = match AuditReader::begin(alloc, bytes) {
-        Ok(reader) => reader,
-        Err(fault) => return Err(audit_stop(fault)),
-    };
-    let Ok(config) = config.try_copy(alloc) else {
-        return Err(Stop::NoMemory);
-    };
-    let Ok(mut replayer) = Replayer::begin(alloc, config, reader.version()) else {
-        return Err(Stop::NoMemory);
-    };
-    while !reader.is_at_end() {
-        let entry = match reader.next_entry() {
-            Ok(entry) => entry,
-            Err(fault) => return Err(audit_stop(fault)),
-        };
-        let Ok(()) = replayer.enter(entry) else {
-            return Err(Stop::NoMemory);
-        };
-    }
-    Ok(ReplayedAudit {
-        count: reader.place(),
-        replayer,
-    })
-}
-
 /// Reads an audit piece by piece, entry by entry, and has each checked as it is read. Behind a bad
 /// entry the rest is read for its faults.
-pub fn check_entries<R: Read>(
+///
+/// # Errors
+///
+/// The stops of `run_check`, but `Write`.
+pub fn replay_audit<R: Read>(
     alloc: Global,
     config: &Config,
     reader: &mut R,
-) -> Result<Finding, Stop>
-    ensures found { IfOk result (IfFound config.now (R.remaining reader.old)) }
+) -> Result<ReplayedAudit, Stop>
+    ensures replayed { IfOk result (λ replayed. IfSome (R.remaining reader.old)
+        (λ bytes. IsReplayed config.now bytes replayed)) }
     ensures refused { IfErr result (λ stop. IfAuditFault stop
         (λ fault. IfSome (R.remaining reader.old) (λ bytes. AuditOf bytes (Err fault)))) }
     ensures own { IfErr result IsInputStop }
@@ -158,9 +128,9 @@ pub fn check_entries<R: Read>(
                 };
             }
             Ok(None) => {
-                return Ok(Finding {
+                return Ok(ReplayedAudit {
                     count: input.place(),
-                    first_bad: replayer.first_bad(),
+                    replayer,
                 });
             }
             Err(stop) => return Err(stop),
@@ -191,6 +161,10 @@ fn say<W: Write>(legal: bool, head: &str, number: u64, writer: &mut W) -> Result
 /// `Write` where the writer fails or takes no byte: a front of the line is out, and never all of it.
 pub fn write_finding<W: Write>(finding: Finding, writer: &mut W) -> Result<bool, Stop>
     ensures told { IfOk result (λ legal. legal ≡ is_none finding.first_bad) }
+    ensures line { IfOk result (λ _. Appends (W.contents writer.old) (W.contents writer.new)
+        (finding_line finding)) }
+    ensures short { IfErr result (λ _. AppendsProperPrefix (W.contents writer.old)
+        (W.contents writer.new) (finding_line finding)) }
     ensures out { (setup : Setup) (known : Option (List ℕ)) → IfFound setup known finding →
         IfOk result (λ legal. HasVerdict setup known legal
         (Appends (W.contents writer.old) (W.contents writer.new))) }
@@ -240,8 +214,8 @@ pub fn run_check<R: Read, W: Write>(
     ensures no_further { ReadsAtMost (R.remaining reader.old) (R.remaining reader.new)
         (MOST_AUDIT_BYTES + 1) }
 {
-    match check_entries(alloc, config, reader) {
-        Ok(finding) => write_finding(finding, writer),
+    match replay_audit(alloc, config, reader) {
+        Ok(audit) => write_finding(audit.finding(), writer),
         Err(stop) => Err(stop),
     }
 }

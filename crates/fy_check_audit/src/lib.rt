@@ -6,7 +6,6 @@ mod input;
 pub mod laws;
 
 pub use check::{
-    Finding, ReplayedAudit, audit_stop, check_entries, load_audit, replay_audit, run_check,
-    write_finding,
+    Finding, ReplayedAudit, audit_stop, load_audit, replay_audit, run_check, write_finding,
 };
 pub use input::AuditInput;

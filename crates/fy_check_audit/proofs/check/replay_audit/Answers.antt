@@ -1,44 +1,29 @@
-use Rattle.std.proofs.Common.{rules, ◌≡◌, ◌∙◌, [], ◌∷◌, ◌++◌, sym, subst}
-use Rattle.fy_check.specs.Replayed.{HasReplayed}
-use Rattle.fy_check_audit.proofs.Checking.{stop_is_told}
+use Rattle.std.proofs.Common.{◌∙◌, ◌∷◌, ◌++◌, [], Ok, sym, ap, subst}
+use Rattle.std.specs.Prelude.{IfSome}
+use Rattle.fy_check_audit.specs.Inputs.{HasTakenOne}
+use Rattle.fy_check_audit.proofs.Checking.{replayed_known}
 use Rattle.fy_check_audit.proofs.check.replay_audit.Goals as goal
 
-pub loop-reader-init : goal.loop-reader-init
-loop-reader-init c = (
-  [],
-  c.in-Ok.ensures.begun,
-  subst (λ setup. HasReplayed setup [] c.in-Ok-begin.replayer) c.in-Ok-try_copy.ensures
-      c.in-Ok-begin.ensures.begun,
-  c.in-Ok-begin.ensures.version ∙ c.version.ensures,
-)
-
-pub returns-in-Err-next_entry-clause-refused : goal.returns-in-Err-next_entry-clause-refused
-returns-in-Err-next_entry-clause-refused c =
-    stop_is_told c.args.bytes.now c.in-Err-next_entry.fault c.audit_stop-in-Err-next_entry.result
-    (c.an_audit_is_read_entry_by_entry.ensures.stopped c.args.bytes.now c.loop-reader.invariant.0
-    c.loop-reader.reader c.in-Err-next_entry.fault c.loop-reader.invariant.1
-    c.in-Err-next_entry.ensures.stopped) c.audit_stop-in-Err-next_entry.ensures.stop
-
-pub loop-reader-preserved : goal.loop-reader-preserved
-loop-reader-preserved c =
-    let entries = c.loop-reader.invariant.0 in
-    let entry = c.in-Ok-next_entry.entry in
-    let step = c.in-Ok-next_entry.ensures.read in (
+pub loop-entry-preserved : goal.loop-entry-preserved
+loop-entry-preserved g c =
+    let entries = c.loop-entry.invariant.0 in
+    let entry = c.in-Ok-Some.entry in
+    let one = subst (λ next. IfSome next (HasTakenOne (g.R.Read.remaining c.loop-entry.reader)
+    (g.R.Read.remaining c.next_entry.new.reader) c.loop-entry.input c.next_entry.new.self))
+    c.in-Ok-Some.field-0-is c.in-Ok-Some.ensures.taken in (
       entries ++ entry ∷ [],
-      c.an_audit_is_read_entry_by_entry.ensures.more c.args.bytes.now entries entry
-          c.loop-reader.reader c.next_entry.new.self c.loop-reader.invariant.1 step,
-      c.in-Ok-enter.ensures.entered c.args.config.now entries c.loop-reader.invariant.2,
-      c.enter.ensures.version ∙ c.loop-reader.invariant.3 ∙ sym step.version,
+      one.taken _ entries c.loop-entry.invariant.1,
+      c.in-Ok-enter.ensures.entered c.args.config.now entries c.loop-entry.invariant.2,
+      c.enter.ensures.version ∙ c.loop-entry.invariant.3 ∙ sym one.version,
     )
 
-pub returns-clause-replayed : goal.returns-clause-replayed
-returns-clause-replayed c =
-    let entries = c.loop-reader.invariant.0 in
-    let none : c.loop-reader.reader.rest ≡ [] = search rules in
-    record {
-      audit = record { version = c.loop-reader.reader.version; entries = entries };
-      read = c.an_audit_is_read_entry_by_entry.ensures.end c.args.bytes.now entries c.loop-reader.reader c.loop-reader.invariant.1 none;
-      count = c.place.ensures ∙ c.loop-reader.invariant.1.place;
-      version = c.loop-reader.invariant.3;
-      those = c.loop-reader.invariant.2;
-    }
+pub returns-in-Ok-None-clause-replayed : goal.returns-in-Ok-None-clause-replayed
+returns-in-Ok-None-clause-replayed g c =
+    let entries = c.loop-entry.invariant.0 in
+    let taken = c.loop-entry.invariant.1 in
+    let known = g.R.Read.remaining c.args.reader.now in
+    let ended = ap Ok c.in-Ok-None.field-0-is in
+    replayed_known c.args.config.now known c.loop-entry.input.version entries _
+    (c.in-Ok-None.ensures.ended ended known entries taken)
+    (c.place.ensures ∙ c.in-Ok-None.ensures.count ended ∙ taken.place)
+    c.loop-entry.invariant.3 c.loop-entry.invariant.2
