@@ -1,5 +1,6 @@
 -- one entry more in a legal journal
-use Rattle.std.proofs.Common.{IsTrue, ◌↔◌, ◌≤◌, inl, inr, ◌≡◌, ℕ, zero, suc, ◌+◌, ◌<◌, true, false, List, [], ◌∷◌, ◌++◌, length, Some, None, Result, Ok, Err, IfOk, OnOk, OnErr, refl, sym, ◌∙◌, ap, subst, arith, nat_le, slice_get, length-append}
+use Rattle.std.proofs.Common.{IsTrue, ◌↔◌, ◌≤◌, inl, inr, ◌≡◌, ℕ, zero, suc, ◌+◌, ◌<◌, true, false, List, [], ◌∷◌, ◌++◌, length, Some, None, Result, Ok, Err, IfOk, OnOk, OnErr, Option, Bool, not, refl, sym, ◌∙◌, ap, subst, arith, nat_le, slice_get, length-append}
+use Rattle.std.specs.Prelude.{is_some}
 use Rattle.std.proofs.lemmas.Bool.{cases_lt, false≢true}
 use Rattle.std.proofs.lemmas.Bool.Decides.{nat_tests}
 use Rattle.std.proofs.lemmas.Option.{slice_get_within}
@@ -50,6 +51,15 @@ by_wrong_role point by act role m k same e f = (sym (wrong_role point.setup poin
 pub by_actor : (point : Point) (by : ℕ) (act : Act) (role : Role) (result : Result Reply Fault) (m : Machine) → by ≡ point.by → slice_get point.setup.roles by ≡ Some role → may role act ≡ true → StepsToOrOom point act result m → RepliesOrOom point act result m
 by_actor point by act role (Ok answered) m same e f k = (k.right ∙ sym (may_reply point.setup point.before point.by act role (sym (ap (slice_get point.setup.roles) same) ∙ e) f), k.stands)
 by_actor point by act role (Err fault) m same e f k = k
+
+pub none_when : {X : Type 0} (o : Option X) (b : Bool) → is_some o ≡ not b → b ≡ true → o ≡ None
+none_when None b e none = refl
+none_when (Some x) b e none = absurd (false≢true (sym (e ∙ ap not none)))
+
+-- the same of an act that each role may make
+pub by_someone : (point : Point) (by : ℕ) (act : Act) (role : Option Role) (result : Result Reply Fault) (m : Machine) → by ≡ point.by → slice_get point.setup.roles by ≡ role → is_some role ≡ true → ((some : Role) → may some act ≡ true) → StepsToOrOom point act result m → RepliesOrOom point act result m
+by_someone point by act None result m same e some allowed k = absurd (false≢true some)
+by_someone point by act (Some role) result m same e some allowed k = by_actor point by act role result m same e (allowed role) k
 
 -- ---- the journal
 

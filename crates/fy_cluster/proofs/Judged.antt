@@ -1,11 +1,14 @@
 -- orders and clogs are answered from the books, and what they do
-use Rattle.std.proofs.Common.{◌==◌, ◌≡◌, ℕ, ◌<◌, List, [], ◌∷◌, ◌++◌, Bool, true, false, ◌&&◌, ◌||◌, not, Option, Some, None, is_none, refl, sym, ◌∙◌, ap, ap₂, nat_lt, length, arith, get_or, slice_get, slice_index, append-nil, if◌then◌else◌}
+use Rattle.std.proofs.Common.{◌==◌, ◌≡◌, ℕ, zero, suc, ◌<◌, List, [], ◌∷◌, ◌++◌, Bool, true, false, ◌&&◌, ◌||◌, not, Option, Some, None, is_none, refl, sym, ◌∙◌, ap, ap₂, nat_lt, length, arith, get_or, slice_get, slice_index, append-nil, if◌then◌else◌}
 use Rattle.std.proofs.lemmas.Bool.{or_from, and_parts}
 use Rattle.std.proofs.lemmas.Bool.Decides.{nat_tests}
 use Rattle.std.proofs.lemmas.Option.{slice_get-get_or}
 use Rattle.std.specs.FinSet as sets
 use Rattle.std.specs.Ordering.{nat_cmp}
 use Rattle.std.specs.Cmp.{nat_cmp_total}
+use Rattle.fy_locality.specs.declared.locality.Locality.{Locality}
+use Rattle.fy_locality.specs.declared.key.Key.TheVariants.{Process}
+use Rattle.fy_locality.specs.Locality.{value_of}
 use Rattle.fy_kinds.specs.declared.kind.Kind.{Kind}
 use Rattle.fy_kinds.specs.declared.kind.Kind.TheVariants.{RebootProcess, Reboot, RebootAndDelete, KillInstantly}
 use Rattle.fy_kinds.specs.declared.order.Target.{Target}
@@ -58,6 +61,12 @@ targets_below {c} {h} {m} k target set who p member =
 bar_same : (c : Setup) (h : History) (m : Machine) → Refines c h m → (by actor : ℕ) → by ≡ actor → (target : Target)
     → clog_bar m by target ≡ bar (situation c h actor) Clogging (targets c.processes (left c h) target)
 bar_same c h m k by actor e target = ap₂ (λ s t. bar s Clogging t) (situation_same c h m k by ∙ ap (situation c h) e) (targets_same c h m k target)
+
+-- what has a name is a process
+pub named_within : (processes : List Locality) (p : ℕ) (name : List ℕ) → value_of processes Process p ≡ Some name → p < length processes
+named_within [] p name e = absurd (cc)
+named_within (x ∷ xs) zero name e = omega arith
+named_within (x ∷ xs) (suc p) name e = let l = named_within xs p name e in omega arith
 
 -- ---- clogs
 

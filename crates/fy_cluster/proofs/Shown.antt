@@ -1,5 +1,5 @@
 -- what a cluster shows of its processes is what the machine's parts say
-use Rattle.std.proofs.Common.{◌≡◌, ℕ, ◌<◌, ◌≤◌, Bool, true, false, ◌&&◌, not, Option, Some, None, refl, sym, ◌∙◌, ap, ap₂, arith, nat_lt, length, slice_get, slice_index, if◌then◌else◌}
+use Rattle.std.proofs.Common.{◌≡◌, ℕ, ◌<◌, Bool, true, false, ◌&&◌, Option, Some, None, refl, sym, ◌∙◌, ap, arith, nat_lt, length, slice_get}
 use Rattle.std.proofs.lemmas.Bool.Decides.{nat_tests}
 use Rattle.std.specs.FinSet as sets
 use Rattle.std.specs.Ordering.{nat_cmp}
@@ -7,18 +7,17 @@ use Rattle.std.specs.Cmp.{nat_cmp_total}
 use Rattle.fy_kinds.specs.declared.verdict.Verdict.{Verdict as VerdictOf}
 use Rattle.fy_kinds.specs.Orders.{Order}
 use Rattle.fy_decide.specs.Verdicts.{situation_of, verdict}
-use Rattle.fy_net.specs.Net.{is_clogged}
 use Rattle.fy_acts.specs.declared.act.Act.TheVariants.{Kill}
 use Rattle.fy_acts.specs.declared.reply.Reply.TheVariants.{No, Verdict}
 use Rattle.fy_acts.specs.declared.reply.Refusal.TheVariants.{Stranger}
 use Rattle.fy_cluster.specs.declared.machine.Machine.{Machine}
 use Rattle.fy_cluster.specs.declared.role.Role.{Role}
 use Rattle.fy_cluster.specs.Setup.{Setup}
-use Rattle.fy_cluster.specs.History.{History, members_for, gone, up, now}
+use Rattle.fy_cluster.specs.History.{History, members_for, up}
 use Rattle.fy_cluster.specs.Replies.{reply}
 use Rattle.fy_cluster.specs.Needs.{is_member_on, needed_on}
 use Rattle.fy_team.specs.Teams.{is_among}
-use Rattle.fy_cluster.specs.Sights.{status_at, needed_at, up_in}
+use Rattle.fy_cluster.specs.Sights.{needed_at, up_in}
 use Rattle.fy_cluster.specs.Standing.{Refines}
 use Rattle.fy_cluster.proofs.Entering.{stranger, may_reply}
 use Rattle.fy_cluster.proofs.Judged.{judged}

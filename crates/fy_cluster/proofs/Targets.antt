@@ -1,5 +1,5 @@
 -- the members of a set are visited one after another, and what is at their numbers is changed
-use Rattle.std.proofs.Common.{◌==◌, ◌≡◌, ℕ, ◌<◌, Bool, true, false, ◌&&◌, not, List, length, get_or, slice_set, slice_index, refl, sym, ◌∙◌, ap, ap₂, arith, if◌then◌else◌, length-set, eqb-true}
+use Rattle.std.proofs.Common.{◌==◌, ◌≡◌, ℕ, ◌<◌, Bool, true, false, ◌&&◌, ◌||◌, not, List, length, get_or, slice_set, slice_index, refl, sym, ◌∙◌, ap, ap₂, arith, if◌then◌else◌, length-set, eqb-true}
 use Rattle.std.proofs.lemmas.List.{get_or-set_same, get_or-set_other}
 use Rattle.std.proofs.lemmas.Bool.{true≢false}
 use Rattle.std.proofs.lemmas.Bool.Decides.{nat_tests}
@@ -77,6 +77,39 @@ visits_all {set} {change} {empty_disk} {old} none k = record {
       ∙ ap (λ b. if sets.contains set p && not b then change (get_or old p empty_disk) else get_or old p empty_disk) (ap (λ s. sets.contains s p) none ∙ sets.contains-empty nat_cmp p)
       ∙ and_true (sets.contains set p) (change (get_or old p empty_disk)) (get_or old p empty_disk);
 }
+
+-- a set of one number: what is there is changed
+pub lone_changed : {X : Type 0} {change : X → X} {empty_disk : X} {old new : List X} (set : Set) (p : ℕ) → set ≡ sets.insert sets.empty p → p < length old
+    → new ≡ slice_set old p (change (get_or old p empty_disk)) → ChangesAt (sets.contains set) change empty_disk old new
+lone_changed {X} {change} {empty_disk} {old} {new} set p alone small is = record {
+  count = ap length is ∙ length-set old p _;
+  each = λ q l. ap (λ xs. get_or xs q empty_disk) is ∙ at q (q == p) refl ∙ ap (λ b. if b then change (get_or old q empty_disk) else get_or old q empty_disk) (sym (member q));
+}
+  where
+    member : (q : ℕ) → sets.contains set q ≡ (q == p)
+    member q = ap (λ s. sets.contains s q) alone ∙ sets.contains-insert nat_cmp_total sets.empty p q ∙ (λ i. unsigned_tied q p i || sets.contains-empty nat_cmp q i) ∙ itself (q == p)
+      where
+        itself : (b : Bool) → (b || false) ≡ b
+        itself true = refl
+        itself false = refl
+
+    at : (q : ℕ) → (b : Bool) → (q == p) ≡ b → get_or (slice_set old p (change (get_or old p empty_disk))) q empty_disk ≡ (if q == p then change (get_or old q empty_disk) else get_or old q empty_disk)
+    at q true e =
+        let same : q ≡ p = eqb-true q p e in
+        ap (λ i. get_or (slice_set old p (change (get_or old p empty_disk))) i empty_disk) same
+        ∙ get_or-set_same old p _ empty_disk small
+        ∙ ap (λ i. change (get_or old i empty_disk)) (sym same)
+        ∙ ap (λ b. if b then change (get_or old q empty_disk) else get_or old q empty_disk) (sym e)
+    at q false e =
+        get_or-set_other old p q (change (get_or old p empty_disk)) empty_disk (λ w. (let s : (q == p) ≡ true = grind (arith, nat_tests) in true≢false (sym s ∙ e)))
+        ∙ ap (λ b. if b then change (get_or old q empty_disk) else get_or old q empty_disk) (sym e)
+
+-- the one of a lone set is in it
+pub lone_member : (set : Set) (p : ℕ) → set ≡ sets.insert sets.empty p → sets.contains set p ≡ true
+lone_member set p alone = ap (λ s. sets.contains s p) alone ∙ sets.contains-insert nat_cmp_total sets.empty p p ∙ (λ i. unsigned_tied p p i || sets.contains-empty nat_cmp p i) ∙ itself
+  where
+    itself : ((p == p) || false) ≡ true
+    itself = let e : (p == p) ≡ true = grind (arith, nat_tests) in rw e refl
 
 -- what changes nothing changes nothing at a set
 pub unchanged : {X : Type 0} {set : ℕ → Bool} {change : X → X} {empty_disk : X} {old : List X} → ((x : X) → change x ≡ x) → ChangesAt set change empty_disk old old

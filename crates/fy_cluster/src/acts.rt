@@ -1,5 +1,7 @@
 //! One act of an actor that may make it.
-ghost use Rattle.std.specs.Prelude.{◌≡◌, ◌<◌, ◌++◌, ◌∷◌, [], length, IfOk, OnErr};
+ghost use Rattle.std.specs.Prelude.{◌≡◌, ◌<◌, ◌++◌, ◌∷◌, [], length, Ok, IfOk, OnErr};
+ghost use Rattle.fy_acts.specs.declared.act.Act.TheVariants.{Kill};
+ghost use Rattle.fy_decide.specs.Verdicts.{NamesProcess};
 ghost use Rattle.fy_cluster.specs.declared.config.TheConstants.{MOST_JOURNAL_ENTRIES};
 ghost use Rattle.fy_cluster.specs.Standing.{Point, Refines, StepsToOrOom, RepliesOrOom, EntersOrOom, IsReachable};
 
@@ -7,6 +9,8 @@ use crate::machine::Machine;
 use crate::trail::Trail;
 use crate::{Config, Fault};
 use fy_journal::{Act, Entry, Refusal, Reply};
+use fy_kinds::KillOrder;
+use fy_locality::ProcId;
 use std::alloc::Global;
 
 impl Machine {
@@ -34,6 +38,34 @@ impl Machine {
         let entry = Entry { at, by, act, reply };
         trail.push(&entry);
         Ok(entry)
+    }
+
+    /// Replies to a kill of the process that an order names alone, and appends both to the trail,
+    /// as `enter` does. The name isn't looked up. Takes no memory.
+    pub(crate) fn enter_kill(
+        &mut self,
+        trail: &mut Trail,
+        config: &Config,
+        by: u32,
+        process: ProcId,
+        order: KillOrder,
+    ) -> Entry
+        ghost point: { Point }
+        requires stands { Refines point.setup point.before self.old }
+        requires config { config.now ≡ point.setup }
+        requires by { by ≡ point.by }
+        requires named { NamesProcess point.setup.processes process.0 order }
+        requires room { length trail.old < MOST_JOURNAL_ENTRIES }
+        ensures answered { EntersOrOom point (length trail.old) by (Kill order) (Ok result)
+            self.new }
+        ensures entered { trail.new ≡ trail.old ++ result ∷ [] }
+    {
+        let reply = self.reply_to_kill(config, by, process, &order);
+        let at = trail.len() as u32;
+        let act = Act::Kill { order };
+        let killed = Entry { at, by, act, reply };
+        trail.push(&killed);
+        killed
     }
 
     /// Replies to an act, and does it where no rule refuses it. An unknown actor, or one whose role

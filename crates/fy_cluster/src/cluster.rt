@@ -1,6 +1,9 @@
 //! A cluster: it replies to acts, and keeps them all in its journal.
-ghost use Rattle.std.specs.Prelude.{◌≡◌, ◌↔◌, ◌≤◌, ℕ, length, IfOk, IfErr, IsTrue, OnOk, OnErr, Err, IsSome, IfSome};
+ghost use Rattle.std.specs.Prelude.{◌≡◌, ◌↔◌, ◌≤◌, ℕ, length, IfOk, IfErr, IsTrue, OnOk, OnErr, Err, IsSome, IfSome, None};
 ghost use Rattle.std.specs.FinSet as sets;
+ghost use Rattle.fy_kinds.specs.Kinds.{rank};
+ghost use Rattle.fy_kinds.specs.Orders.{Order};
+ghost use Rattle.fy_decide.specs.Verdicts.{NamesProcess};
 ghost use Rattle.fy_journal.specs.declared.version.Version.TheVariants.{Second};
 ghost use Rattle.fy_cluster.specs.History.{destroyed, left, acked, keeper};
 ghost use Rattle.fy_cluster.specs.declared.fault.Fault.TheVariants.{JournalFull};
@@ -11,7 +14,7 @@ ghost use Rattle.fy_cluster.specs.Sights.{IsLeastKeeper, Sees, status_of, needed
 
 use crate::{ClusterState, Config, Fault, Sight, Status, laws};
 use fy_journal::{Act, Journal, Reply};
-use fy_kinds::KillOrder;
+use fy_kinds::{KillOrder, Kind};
 use fy_locality::{ProcId, ProcSet};
 use std::alloc::{AllocError, Global};
 use std::marker::Model;
@@ -121,6 +124,40 @@ impl Cluster {
         Ok(reply)
     }
 
+    /// Does what `apply` does with an order that names this process alone: the same reply, and the
+    /// same entry. The caller knows the process, so its name isn't looked up.
+    ///
+    /// # Errors
+    ///
+    /// In this order: `JournalFull` where the journal is at its limit; `NoMemory`. The cluster is
+    /// unchanged then.
+    pub fn kill_process(
+        &mut self,
+        by: u32,
+        process: ProcId,
+        order: KillOrder,
+    ) -> Result<Reply, Fault>
+        requires { NamesProcess self.old.setup.processes process.0 order }
+        ensures full { (self.old.setup.limit ≤ length self.old.journal)
+            ↔ (result ≡ Err JournalFull) }
+        ensures replied { IfOk result (λ reply. reply ≡ replied self.old by (Kill order)) }
+        ensures entered { OnOk result (self.new ≡ entered self.old by (Kill order)) }
+        ensures err { OnErr result (self.new ≡ self.old) }
+        ensures survives { Survives self.new.setup self.new.journal }
+    {
+        self.survives();
+        if self.is_full() {
+            return Err(Fault::JournalFull);
+        }
+        // Want of memory, as in `apply`.
+        let Ok(()) = self.journal.reserve(1) else {
+            return Err(Fault::NoMemory);
+        };
+        let (_, by, kill, reply) = self.state.kill_process(by, process, order)?.into_parts();
+        self.journal.push(by, kill, reply);
+        Ok(reply)
+    }
+
     /// Reserves room in the journal for so many more entries, up to its limit, and changes nothing
     /// else. `apply` grows the journal step by step; a caller that knows how many acts come saves
     /// the steps.
@@ -214,6 +251,20 @@ impl Cluster {
         ensures { result ≡ replied self.now by (Kill order.now) }
     {
         self.state.judge(by, order)
+    }
+
+    /// What `judge` answers for an order that names the process with this number alone, by its name:
+    /// by this kind, or where that is barred by a milder one down to the floor. `None` where there
+    /// is no such process. It enters nothing, takes no memory, and looks up no name.
+    pub fn judge_process(&self, by: u32, process: ProcId, kind: Kind, floor: Kind) -> Option<Reply>
+        requires { rank floor ≤ rank kind }
+        ensures none { (length self.now.setup.processes ≤ process.0) ↔ (result ≡ None) }
+        ensures some { IfSome result (λ reply. (order : Order)
+            → order.kind ≡ kind → order.floor ≡ floor
+            → NamesProcess self.now.setup.processes process.0 order
+            → reply ≡ replied self.now by (Kill order)) }
+    {
+        self.state.judge_process(by, process, kind, floor)
     }
 
     /// Whether the journal is at its limit.

@@ -1,6 +1,9 @@
 //! The state of a cluster: it replies to acts, and keeps no journal.
-ghost use Rattle.std.specs.Prelude.{◌≡◌, ◌↔◌, ◌<◌, ◌≤◌, ℕ, length, IfOk, IsTrue, OnOk, OnErr, Err, IsSome, IfSome};
+ghost use Rattle.std.specs.Prelude.{◌≡◌, ◌↔◌, ◌<◌, ◌≤◌, ℕ, length, IfOk, IsTrue, OnOk, OnErr, Err, IfErr, IsSome, IfSome, None};
 ghost use Rattle.std.specs.FinSet as sets;
+ghost use Rattle.fy_kinds.specs.Kinds.{rank};
+ghost use Rattle.fy_kinds.specs.Orders.{Order};
+ghost use Rattle.fy_decide.specs.Verdicts.{NamesProcess};
 ghost use Rattle.fy_cluster.specs.History.{destroyed, left, acked, keeper};
 ghost use Rattle.fy_cluster.specs.declared.fault.Fault.TheVariants.{JournalFull};
 ghost use Rattle.fy_cluster.specs.Survival.{Survives};
@@ -12,7 +15,7 @@ use crate::machine::Machine;
 use crate::trail::Trail;
 use crate::{Config, Fault, Sight, Status, laws};
 use fy_journal::{Act, Entry, Reply};
-use fy_kinds::KillOrder;
+use fy_kinds::{KillOrder, Kind};
 use fy_locality::{ProcId, ProcSet};
 use std::alloc::{AllocError, Global};
 use std::marker::Model;
@@ -98,6 +101,38 @@ impl ClusterState {
             .enter(&mut self.trail, self.alloc, &self.config, by, act)
     }
 
+    /// Does what `enter` does with an order that names this process alone. Its name isn't looked
+    /// up. Takes no memory.
+    ///
+    /// # Errors
+    ///
+    /// `JournalFull` where so many acts were entered as the configuration allows. The state is
+    /// unchanged then.
+    pub fn kill_process(
+        &mut self,
+        by: u32,
+        process: ProcId,
+        order: KillOrder,
+    ) -> Result<Entry, Fault>
+        requires { NamesProcess self.old.setup.processes process.0 order }
+        ensures full { (self.old.setup.limit ≤ length self.old.journal)
+            ↔ (result ≡ Err JournalFull) }
+        ensures only { IfErr result (λ fault. fault ≡ JournalFull) }
+        ensures entry { IfOk result (λ entry. entry ≡ next_entry self.old by (Kill order)) }
+        ensures entered { OnOk result (self.new ≡ entered self.old by (Kill order)) }
+        ensures err { OnErr result (self.new ≡ self.old) }
+        ensures survives { Survives self.new.setup self.new.journal }
+    {
+        laws::journals_survive();
+        if self.is_full() {
+            return Err(Fault::JournalFull);
+        }
+        Ok(
+            self.machine
+                .enter_kill(&mut self.trail, &self.config, by, process, order),
+        )
+    }
+
     /// Whether so many acts were entered as the configuration allows.
     pub fn is_full(&self) -> bool
         ensures { IsTrue result ↔ (self.now.setup.limit ≤ length self.now.journal) }
@@ -162,6 +197,27 @@ impl ClusterState {
         ensures { result ≡ replied self.now by (Kill order.now) }
     {
         self.machine.judge(&self.config, by, order)
+    }
+
+    /// What `judge` answers for an order that names the process with this number alone, by its name:
+    /// by this kind, or where that is barred by a milder one down to the floor. `None` where there
+    /// is no such process. No name is looked up.
+    pub fn judge_process(&self, by: u32, process: ProcId, kind: Kind, floor: Kind) -> Option<Reply>
+        requires { rank floor ≤ rank kind }
+        ensures none { (length self.now.setup.processes ≤ process.0) ↔ (result ≡ None) }
+        ensures some { IfSome result (λ reply. (order : Order)
+            → order.kind ≡ kind → order.floor ≡ floor
+            → NamesProcess self.now.setup.processes process.0 order
+            → reply ≡ replied self.now by (Kill order)) }
+    {
+        if process.0 < self.config.map().len() {
+            Some(
+                self.machine
+                    .judge_process(&self.config, by, process, kind, floor),
+            )
+        } else {
+            None
+        }
     }
 
     /// Of an acknowledged record, the least member of its team that isn't destroyed and has the

@@ -1,19 +1,21 @@
 //! The act Kill: the targets of an order are struck, and recorded as lost where the kind destroys.
-ghost use Rattle.std.specs.Prelude.{◌≡◌, ◌<◌, ℕ, true, [], length, slice_set, Some};
+ghost use Rattle.std.specs.Prelude.{◌≡◌, ◌<◌, ℕ, true, [], length, slice_set, Some, Ok};
 ghost use Rattle.std.specs.FinSet as sets;
 ghost use Rattle.fy_decide.specs.declared.dead_book.Loss.{Loss};
-ghost use Rattle.fy_decide.specs.Verdicts.{loss_of};
+ghost use Rattle.fy_decide.specs.Targets.{targeted};
+ghost use Rattle.fy_decide.specs.Verdicts.{loss_of, NamesProcess};
+ghost use Rattle.fy_kinds.specs.Orders.{Order};
 ghost use Rattle.fy_acts.specs.declared.act.Act.TheVariants.{Kill};
 ghost use Rattle.fy_decide.specs.DeadBook.{MayLose};
 ghost use Rattle.fy_cluster.specs.History.{History};
 ghost use Rattle.fy_cluster.specs.Replies.{reply};
 ghost use Rattle.fy_disk.specs.Disk.{empty_disk};
 ghost use Rattle.fy_disk.specs.Disks.{disk_of};
-ghost use Rattle.fy_cluster.specs.Standing.{Point, Refines, StepsTo, with_losses, ChangesAt, disk_after_strike};
+ghost use Rattle.fy_cluster.specs.Standing.{Point, Refines, StepsTo, RepliesOrOom, targets_by, with_losses, ChangesAt, disk_after_strike};
 
 use crate::Config;
 use crate::machine::Machine;
-use fy_decide::{DeadBook, Loss, judge, judge_aimed};
+use fy_decide::{DeadBook, Loss, Targets, judge, judge_aimed, judge_process};
 use fy_disk::Disks;
 use fy_journal::{Refusal, Reply};
 use fy_kinds::{KillOrder, Kind};
@@ -32,7 +34,7 @@ fn strike_disk(disks: &mut Disks, p: ProcId, kind: Kind, tear: u64)
     }
 }
 
-/// Strikes the disk of each target.
+/// Strikes the disk of each process of a set.
 fn strike_disks(disks: &mut Disks, targets: &ProcSet, kind: Kind, tear: u64)
     requires { (p : ℕ) → sets.contains targets.now p ≡ true → p < length disks.old }
     ensures { ChangesAt (sets.contains targets.now) (disk_after_strike kind tear) empty_disk
@@ -47,18 +49,50 @@ fn strike_disks(disks: &mut Disks, targets: &ProcSet, kind: Kind, tear: u64)
     }
 }
 
+/// Strikes the disk of each target. Of a lone one no set is made.
+fn strike_targets(disks: &mut Disks, targets: &Targets, kind: Kind, tear: u64)
+    requires { (p : ℕ) → sets.contains (targeted targets.now) p ≡ true → p < length disks.old }
+    ensures { ChangesAt (sets.contains (targeted targets.now)) (disk_after_strike kind tear)
+        empty_disk disks.old disks.new }
+{
+    match targets.alone() {
+        Some(p) => strike_disk(disks, p, kind, tear),
+        None => strike_disks(disks, &targets.set(), kind, tear),
+    }
+}
+
 /// Records the targets as lost, where the kind destroys.
-fn record_losses(dead: &mut DeadBook, targets: &ProcSet, kind: Kind)
+fn record_losses(dead: &mut DeadBook, targets: &Targets, kind: Kind)
     requires { (loss : Loss) → loss_of kind ≡ Some loss
-        → MayLose dead.old (sets.contains targets.now) loss }
-    ensures { dead.new ≡ with_losses dead.old targets.now kind }
+        → MayLose dead.old (sets.contains (targeted targets.now)) loss }
+    ensures { dead.new ≡ with_losses dead.old (targeted targets.now) kind }
 {
     if let Some(loss) = Loss::of(kind) {
-        dead.strike(targets, loss);
+        dead.strike(&targets.set(), loss);
     }
 }
 
 impl Machine {
+    /// Strikes these targets of an order by the hardest kind that nothing bars.
+    fn strike(&mut self, by: u32, order: &KillOrder, found: &Targets) -> Reply
+        ghost point: { Point }
+        requires stands { Refines point.setup point.before self.old }
+        requires by { by ≡ point.by }
+        requires found { (p : ℕ) → sets.contains (targeted found.now) p
+            ≡ targets_by self.old order.now.target p }
+        ensures { StepsTo point (Kill order.now) result self.new }
+    {
+        fy_decide::laws::struck_may_be_destroyed();
+        let verdict = judge_aimed(&self.dead, &self.book, by, order, found);
+        let Some(kind) = verdict.struck else {
+            return Reply::Verdict(verdict);
+        };
+        strike_targets(&mut self.disks, found, kind, order.tear());
+        found.drop_from(&mut self.up);
+        record_losses(&mut self.dead, found, kind);
+        Reply::Verdict(verdict)
+    }
+
     /// Strikes the targets of an order by the hardest kind that nothing bars.
     pub(crate) fn kill(&mut self, map: &Map, by: u32, order: &KillOrder) -> Reply
         ghost point: { Point }
@@ -67,18 +101,44 @@ impl Machine {
         requires by { by ≡ point.by }
         ensures { StepsTo point (Kill order.now) result self.new }
     {
-        fy_decide::laws::struck_may_be_destroyed();
         let found = self.dead.aimed_at(map, &order.target());
-        let verdict = judge_aimed(&self.dead, &self.book, by, order, &found);
-        let Some(kind) = verdict.struck else {
-            return Reply::Verdict(verdict);
-        };
-        let targets = &found.set;
-        strike_disks(&mut self.disks, targets, kind, order.tear());
-        self.up = self.up.difference(targets);
-        record_losses(&mut self.dead, targets, kind);
-        Reply::Verdict(verdict)
+        self.strike(by, order, &found)
     }
+
+    /// Strikes the process that an order names alone, as `kill` does. The name isn't looked up.
+    fn kill_process(&mut self, by: u32, process: ProcId, order: &KillOrder) -> Reply
+        ghost point: { Point }
+        requires stands { Refines point.setup point.before self.old }
+        requires by { by ≡ point.by }
+        requires named { NamesProcess point.setup.processes process.0 order.now }
+        ensures { StepsTo point (Kill order.now) result self.new }
+    {
+        let found = self.dead.aimed_at_process(process);
+        self.strike(by, order, &found)
+    }
+
+    /// Replies to a kill of the process that an order names alone, and strikes it where no rule
+    /// refuses it. An unknown actor is refused first. Takes no memory.
+    pub(crate) fn reply_to_kill(
+        &mut self,
+        config: &Config,
+        by: u32,
+        process: ProcId,
+        order: &KillOrder,
+    ) -> Reply
+        ghost point: { Point }
+        requires stands { Refines point.setup point.before self.old }
+        requires config { config.now ≡ point.setup }
+        requires by { by ≡ point.by }
+        requires named { NamesProcess point.setup.processes process.0 order.now }
+        ensures { RepliesOrOom point (Kill order.now) (Ok result) self.new }
+    {
+        if config.role(by).is_none() {
+            return Reply::No(Refusal::Stranger);
+        }
+        self.kill_process(by, process, order)
+    }
+
     /// The reply that a kill by an actor would get. It changes nothing.
     pub(crate) fn judge(&self, config: &Config, by: u32, order: &KillOrder) -> Reply
         requires stands { (h : History) × Refines config.now h self.now }
@@ -92,5 +152,29 @@ impl Machine {
             }
             None => Reply::No(Refusal::Stranger),
         }
+    }
+
+    /// The reply that a kill of one process by an actor would get, by these two kinds. It changes
+    /// nothing. The name isn't looked up.
+    pub(crate) fn judge_process(
+        &self,
+        config: &Config,
+        by: u32,
+        process: ProcId,
+        kind: Kind,
+        floor: Kind,
+    ) -> Reply
+        requires stands { (h : History) × Refines config.now h self.now }
+        requires process { process.0 < length config.now.processes }
+        ensures { (h : History) (order : Order) → Refines config.now h self.now
+            → order.kind ≡ kind → order.floor ≡ floor
+            → NamesProcess config.now.processes process.0 order
+            → result ≡ reply config.now h by (Kill order) }
+    {
+        let Some(_) = config.role(by) else {
+            return Reply::No(Refusal::Stranger);
+        };
+        let verdict = judge_process(&self.dead, &self.book, by, process, kind, floor);
+        Reply::Verdict(verdict)
     }
 }

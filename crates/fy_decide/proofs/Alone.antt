@@ -1,5 +1,5 @@
 -- the one process of a set, found among its words
-use Rattle.std.proofs.Common.{inl, inr, ◌≡◌, ◌≢◌, ℕ, ◌+◌, ◌*◌, ◌/◌, ◌%◌, ◌^◌, ◌<◌, ◌≤◌, Bool, true, false, true≢false, ltb, eqb, ◌&&◌, ◌||◌, not, List, Option, Some, None, get_or, refl, sym, ap, subst, ◌∙◌, arith}
+use Rattle.std.proofs.Common.{inl, inr, ◌≡◌, ◌≢◌, ℕ, ◌+◌, ◌*◌, ◌/◌, ◌%◌, ◌^◌, ◌<◌, ◌≤◌, Bool, true, false, true≢false, ltb, eqb, ◌&&◌, ◌||◌, not, List, Option, Some, None, get_or, refl, sym, ap, ap₂, subst, ◌∙◌, arith}
 use Rattle.std.specs.Prelude.{is_some, IfSome}
 use Rattle.std.specs.Ordering.{nat_cmp}
 use Rattle.std.specs.Int.{bit_at, w64, trailing_zeros}
@@ -10,6 +10,11 @@ use Rattle.std.proofs.lemmas.Bool.Decides.{nat_tests}
 use Rattle.std.proofs.lemmas.Nat.Bits.{bit_at-zero, bit_at-pow_same, bit_at-pow_other, bit_at-trailing_zeros}
 use Rattle.std.proofs.lemmas.Nat.{pow_below}
 use Rattle.fy_locality.specs.declared.ProcId.{ProcId}
+use Rattle.fy_locality.specs.declared.key.Key.TheVariants.{Process}
+use Rattle.fy_locality.specs.declared.locality.Locality.{Locality}
+use Rattle.fy_locality.specs.Locality.{value_of, has_value, NamesDiffer}
+use Rattle.fy_locality.specs.Values.{ValueIsHad}
+use Rattle.fy_decide.specs.Verdicts.{targets}
 use Rattle.fy_grants.specs.Least.{LeastWith}
 use Rattle.fy_locality.specs.Members.{has_bit, members}
 use Rattle.fy_locality.specs.MembersInverse.{contains-members}
@@ -161,3 +166,44 @@ one_is_some given p is none = true≢false (sym (itself p) ∙ sym (in-one given
   where
     itself : (n : ℕ) → eqb n n ≡ true
     itself n = grind (arith, nat_tests)
+
+-- ---- the process that an order names
+open_cases : (a b : Bool) → (b ≡ true → ⊥) → (a && b) ≡ false
+open_cases a true never = absurd (never refl)
+open_cases true false never = refl
+open_cases false false never = refl
+
+-- a name of process p is no other's
+not_other : (processes : List Locality) → NamesDiffer processes → ValueIsHad → (p q : ℕ) (name : List ℕ) → value_of processes Process p ≡ Some name → has_value processes Process name q ≡ true → q ≡ p
+not_other processes differ had p q name is has = differ q p name ((had processes Process name q).0 has) is
+
+-- a process that is left is the one target of an order that names it
+pub one_targeted : (processes : List Locality) (left : sets.FinSet nat_cmp) → NamesDiffer processes → ValueIsHad → (p q : ℕ) (name : List ℕ) → value_of processes Process p ≡ Some name → sets.contains left p ≡ true
+    → eqb q p ≡ targets processes (sets.contains left) (record { key = Process; value = name }) q
+one_targeted processes left differ had p q name is there = elim (cases_eq q p) [
+  | inl same ↦
+      let yes : eqb q p ≡ true = grind (arith, nat_tests) in
+      yes ∙ sym (ap₂ (λ a b. a && b) (ap (sets.contains left) same ∙ there) ((had processes Process name q).1 (ap (value_of processes Process) same ∙ is)))
+  | inr other ↦
+      let apart : eqb q p ≡ false = grind (arith, nat_tests) in
+      apart ∙ sym (open_cases (sets.contains left q) (has_value processes Process name q) (λ has. other (not_other processes differ had p q name is has)))
+]
+
+-- and one that isn't left is none
+pub none_targeted : (processes : List Locality) (left : sets.FinSet nat_cmp) → NamesDiffer processes → ValueIsHad → (p q : ℕ) (name : List ℕ) → value_of processes Process p ≡ Some name → sets.contains left p ≡ false
+    → false ≡ targets processes (sets.contains left) (record { key = Process; value = name }) q
+none_targeted processes left differ had p q name is gone = elim (cases_eq q p) [
+  | inl same ↦ sym (ap (λ a. a && has_value processes Process name q) (ap (sets.contains left) same ∙ gone))
+  | inr other ↦ sym (open_cases (sets.contains left q) (has_value processes Process name q) (λ has. other (not_other processes differ had p q name is has)))
+]
+
+-- the one of a lone set
+pub one_within : (given : sets.FinSet nat_cmp) (p q n : ℕ) → given ≡ sets.insert sets.empty p → p < n → sets.contains given q ≡ true → q < n
+one_within given p q n is small member = subst (λ i. i < n) (sym (equal q p (sym (in-one given p q is) ∙ member))) small
+  where
+    equal : (a b : ℕ) → eqb a b ≡ true → a ≡ b
+    equal a b e = grind (arith, nat_tests)
+
+-- nobody is in the empty set
+pub nobody_in : (given : sets.FinSet nat_cmp) (q : ℕ) → given ≡ sets.empty → sets.contains given q ≡ false
+nobody_in given q is = ap (λ t. sets.contains t q) is ∙ sets.contains-empty nat_cmp q

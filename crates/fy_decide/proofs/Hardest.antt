@@ -1,11 +1,10 @@
 -- the verdict that the code computes answers the order, and no other does
-use Rattle.std.proofs.Common.{zero, suc, ◌≡◌, ◌↔◌, ℕ, ◌+◌, ◌<◌, ◌≤◌, Bool, true, false, cond, ◌&&◌, ◌||◌, not, List, [], ◌∷◌, ◌++◌, length, refl, sym, ap, subst, ◌∙◌, arith, true≢false, inl, inr, ◌⊎◌}
-use Rattle.std.specs.Prelude.{Option, None, Some, option_map, is_none, nat_le, IsTrue, IsFalse, slice_get, MatchOption}
+use Rattle.std.proofs.Common.{zero, suc, ◌≡◌, ℕ, ◌+◌, ◌<◌, ◌≤◌, Bool, true, false, cond, ◌&&◌, ◌||◌, not, List, [], ◌∷◌, length, refl, sym, ap, subst, ◌∙◌, arith, true≢false, inl, inr, ◌⊎◌}
+use Rattle.std.specs.Prelude.{Option, None, Some, option_map, is_none, nat_le, slice_get, MatchOption}
 use Rattle.std.specs.List.{find, list_any, position, position_from, range_with_len, AllByRecursion}
 use Rattle.std.proofs.lemmas.Bool.{cases_lt, leb-true, le-leb}
 use Rattle.std.proofs.lemmas.Iterator.Adapters.{position_from-zero}
 use Rattle.fy_locality.specs.declared.ProcId.{ProcId}
-use Rattle.fy_locality.specs.declared.locality.Locality.{Locality}
 use Rattle.fy_locality.specs.Values.{ProcessesHaveValues}
 use Rattle.fy_policy.specs.Tree.{Tree}
 use Rattle.fy_policy.specs.Laws.{TestIsSatisfaction}
@@ -19,11 +18,11 @@ use Rattle.fy_kinds.specs.declared.verdict.Rule.TheVariants.{NoTarget, NoGrant, 
 use Rattle.fy_kinds.specs.declared.verdict.Verdict.{Verdict}
 use Rattle.fy_grants.specs.Least.{LeastWith, IsLeastWith, least_with}
 use Rattle.fy_grants.specs.Changes.{LeastIsFirst}
-use Rattle.fy_decide.specs.Safety.{AreShort, AreSatisfied, with_set, without_set, first_satisfied, first_short}
-use Rattle.fy_decide.specs.Verdicts.{Situation, is_granted_to, aimed_at, verdict, bar, hardest, hardest_first, is_allowed, first_rule, permission_rules, loss_rules, numbers, least, too_many_destroyed, too_few_left}
+use Rattle.fy_decide.specs.Safety.{with_set, without_set}
+use Rattle.fy_decide.specs.Verdicts.{Situation, is_granted_to, aimed_at, verdict, bar, hardest_first, is_allowed, first_rule, numbers, least, too_many_destroyed, too_few_left}
 use Rattle.fy_decide.proofs.Deciding.{none_found, each_satisfied}
 use Rattle.fy_decide.proofs.Judging.{each_short, both_true, none_of}
-use Rattle.fy_decide.specs.Hardest.{HasTarget, AreGranted, AreUnprotected, StayShort, StaySatisfied, MayStrike, IsAllowed, StrikesHardest, IsFirstPolicy, FirstRule, AnswersOrder, VerdictAnswers, OneVerdictAnswers}
+use Rattle.fy_decide.specs.Hardest.{HasTarget, AreGranted, AreUnprotected, StayShort, StaySatisfied, MayStrike, IsAllowed, StrikesHardest, IsFirstPolicy, FirstRule, AnswersOrder}
 use Rattle.fy_decide.specs.Hardest.StrikesHardest.{strikes, strikes_nobody}
 use Rattle.fy_decide.specs.Hardest.FirstRule.{no_rule, no_target, no_grant, protected, too_many_destroyed as by_destroyed, too_few_left as by_left}
 

@@ -1,5 +1,5 @@
 -- from what the code finds to the first rule, and from the kinds that it walks to the hardest one
-use Rattle.std.proofs.Common.{zero, suc, ◌≡◌, ◌↔◌, ℕ, ◌+◌, ◌<◌, ◌≤◌, Bool, true, false, cond, ◌&&◌, ◌||◌, not, List, [], ◌∷◌, ◌++◌, length, refl, sym, ap, subst, ◌∙◌, arith, true≢false, inl, inr}
+use Rattle.std.proofs.Common.{zero, suc, ◌≡◌, ◌↔◌, ℕ, ◌+◌, ◌<◌, ◌≤◌, Bool, true, false, cond, ◌&&◌, ◌||◌, not, List, [], ◌∷◌, ◌++◌, length, refl, sym, ap, ap₂, subst, ◌∙◌, arith, true≢false, inl, inr}
 use Rattle.std.specs.Prelude.{◌≢◌, Option, None, Some, option_map, is_none, nat_le, nat_lt}
 use Rattle.std.specs.Option.{option_or}
 use Rattle.std.specs.List.{find, list_any, position, range_with_len, AllByRecursion}
@@ -327,6 +327,19 @@ ordered_first RebootProcess RebootProcess f h e = first_of _ _ _ e
 module _ (situation : Situation) (order : Order) where
   pub ordered_strikes : (s : ℕ → Bool) → bar situation (Striking order.kind) s ≡ None → hardest situation order s ≡ Some order.kind
   ordered_strikes s free = ordered_first order.kind order.floor (λ kind. is_none (bar situation (Striking kind) s)) order.ordered (ap is_none free)
+
+-- what strikes rests on the two kinds of an order alone
+pub between : (situation : Situation) (order : Order) (s : ℕ → Bool) (kind floor : Kind) → order.kind ≡ kind → order.floor ≡ floor
+    → find (λ milder. (nat_le (rank floor) (rank milder) && nat_le (rank milder) (rank kind)) && is_none (bar situation (Striking milder) s)) hardest_first ≡ hardest situation order s
+between situation order s kind floor kind_is floor_is =
+    ap₂ (λ k f. find (λ milder. (nat_le (rank f) (rank milder) && nat_le (rank milder) (rank k)) && is_none (bar situation (Striking milder) s)) hardest_first) (sym kind_is) (sym floor_is)
+
+-- where only the ordered kind is allowed and is barred, none strikes
+pub only_ordered : (kind floor : Kind) (f : Kind → Bool) → kind ≡ floor → f kind ≡ false → None ≡ find (λ k. (nat_le (rank floor) (rank k) && nat_le (rank k) (rank kind)) && f k) hardest_first
+only_ordered KillInstantly floor f same barred = subst (λ g. None ≡ find (λ k. (nat_le (rank g) (rank k) && nat_le (rank k) 3) && f k) hardest_first) same (rw barred refl)
+only_ordered RebootAndDelete floor f same barred = subst (λ g. None ≡ find (λ k. (nat_le (rank g) (rank k) && nat_le (rank k) 2) && f k) hardest_first) same (rw barred refl)
+only_ordered Reboot floor f same barred = subst (λ g. None ≡ find (λ k. (nat_le (rank g) (rank k) && nat_le (rank k) 1) && f k) hardest_first) same (rw barred refl)
+only_ordered RebootProcess floor f same barred = subst (λ g. None ≡ find (λ k. (nat_le (rank g) (rank k) && nat_le (rank k) 0) && f k) hardest_first) same (rw barred refl)
 
 -- whom the order is about
 abbrev those : Situation → Order → ℕ → Bool

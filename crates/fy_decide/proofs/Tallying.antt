@@ -13,7 +13,7 @@ use Rattle.fy_locality.specs.declared.locality.Locality.{Locality}
 use Rattle.fy_locality.specs.declared.ProcId.{ProcId}
 use Rattle.fy_policy.specs.Counted.{Tallied}
 use Rattle.fy_policy.specs.Laws.{TestIsSatisfaction}
-use Rattle.fy_policy.specs.Sat.{Sat, satisfies}
+use Rattle.fy_policy.specs.Sat.{satisfies}
 use Rattle.fy_policy.specs.Tree.{Tree}
 use Rattle.fy_decide.specs.declared.dead_book.Loss.{Loss}
 use Rattle.fy_decide.specs.declared.dead_book.Loss.TheVariants.{Emptied, Gone}

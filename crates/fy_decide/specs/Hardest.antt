@@ -1,6 +1,6 @@
 -- the verdict in words: the hardest kind that nothing bars strikes, and the first rule against the
 -- ordered kind is named
-use Rattle.std.specs.Prelude.{◌≡◌, ℕ, ◌<◌, ◌≤◌, Bool, true, not, IsTrue, IsFalse, List, Option, Some, None, slice_get}
+use Rattle.std.specs.Prelude.{◌≡◌, ℕ, ◌<◌, ◌≤◌, Bool, not, IsTrue, IsFalse, List, Option, Some, None, slice_get}
 use Rattle.fy_locality.specs.declared.ProcId.{ProcId}
 use Rattle.fy_policy.specs.Tree.{Tree}
 use Rattle.fy_policy.specs.Sat.{Sat}

@@ -2,6 +2,7 @@ pub mod DeadBook
 pub mod Hardest
 pub mod Safety
 pub mod Tallies
+pub mod Targets
 pub mod Verdicts
 pub use Rattle.fy_locality.specs.Locality
 pub use Rattle.fy_policy.specs.Counted

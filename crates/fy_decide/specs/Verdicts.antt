@@ -4,7 +4,8 @@ use Rattle.std.specs.List.{find, list_any, range_with_len}
 use Rattle.std.specs.FinSet as sets
 use Rattle.fy_locality.specs.declared.ProcId.{ProcId}
 use Rattle.fy_locality.specs.declared.locality.Locality.{Locality}
-use Rattle.fy_locality.specs.Locality.{has_value}
+use Rattle.fy_locality.specs.declared.key.Key.TheVariants.{Process}
+use Rattle.fy_locality.specs.Locality.{value_of, has_value}
 use Rattle.fy_policy.specs.Tree.{Tree}
 use Rattle.fy_kinds.specs.declared.kind.Kind.{Kind}
 use Rattle.fy_kinds.specs.declared.kind.Kind.TheVariants.{RebootProcess, Reboot, RebootAndDelete, KillInstantly}
@@ -114,6 +115,11 @@ hardest situation order s =
 -- those of an order's target that are left
 abbrev pub aimed_at : Situation → Order → ℕ → Bool
 aimed_at situation order = targets situation.processes situation.left order.target
+
+-- an order names process p alone, by its name
+pub record NamesProcess (processes : List Locality) (p : ℕ) (order : Order) : Type 0 where
+  pub key : order.target.key ≡ Process
+  pub name : value_of processes Process p ≡ Some order.target.value
 
 -- the verdict on an order: what strikes its targets, and the bar of the ordered kind
 unfoldable pub verdict : Situation → Order → Verdict

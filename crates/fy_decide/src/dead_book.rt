@@ -1,15 +1,18 @@
 //! Who is destroyed, who is left, and whether more may be destroyed.
-ghost use Rattle.std.specs.Prelude.{◌≡◌, ◌↔◌, ◌<◌, ℕ, IsTrue, IfOk, IfErr, IfSome, Some, None, nat_eq};
+ghost use Rattle.std.specs.Prelude.{◌≡◌, ◌↔◌, ◌<◌, ℕ, List, true, length, IsTrue, IfOk, IfErr, IfSome, Some, None, nat_eq};
 ghost use Rattle.std.specs.FinSet as sets;
 ghost use Rattle.fy_locality.specs.declared.TheConstants.{MOST_PROCESSES};
 ghost use Rattle.fy_locality.specs.declared.key.Key.TheVariants.{Process};
+ghost use Rattle.fy_locality.specs.Locality.{value_of};
 ghost use Rattle.fy_decide.specs.Safety.{AreShort, AreSatisfied, AreMet, everyone, first_satisfied, first_short, first_unmet, with_set, without_set};
 ghost use Rattle.fy_decide.specs.DeadBook.{IsFresh, MayLose, may_lose, struck, MayHeal, healed};
+ghost use Rattle.fy_decide.specs.Targets.{targeted};
 ghost use Rattle.fy_decide.specs.Verdicts.{targets, loss_of};
 
 use crate::tallies::{
-    Targets, drop_from_each, first_satisfied_with, first_short_without, put_in_each, tallies_of,
+    drop_from_each, first_satisfied_with, first_short_without, put_in_each, tallies_of,
 };
+use crate::targets::Targets;
 use fy_kinds::{Kind, Target};
 use fy_locality::{Key, Map, Name, ProcId, ProcSet};
 use fy_policy::{Policy, Tally, laws, satisfied, try_copy_all};
@@ -197,7 +200,7 @@ impl DeadBook {
     pub(crate) fn too_many_destroyed(&self, targets: &Targets) -> Option<usize>
         ensures { result
             ≡ first_satisfied self.now.processes self.now.policies
-            (with_set (sets.contains self.now.destroyed) (sets.contains targets.now.set)) }
+            (with_set (sets.contains self.now.destroyed) (sets.contains (targeted targets.now))) }
     {
         first_satisfied_with(&self.destroyed_tallies, targets)
     }
@@ -206,7 +209,7 @@ impl DeadBook {
     pub(crate) fn too_few_left(&self, targets: &Targets) -> Option<usize>
         ensures { result
             ≡ first_short self.now.processes self.now.policies
-            (without_set (sets.contains self.now.left) (sets.contains targets.now.set)) }
+            (without_set (sets.contains self.now.left) (sets.contains (targeted targets.now))) }
     {
         first_short_without(&self.left_tallies, targets)
     }
@@ -226,7 +229,7 @@ impl DeadBook {
     /// the one that the book was made of. One that is named alone is known to be alone.
     pub fn aimed_at(&self, map: &Map, target: &Target) -> Targets
         requires { map.now ≡ self.now.processes }
-        ensures { (p : ℕ) → sets.contains result.set p
+        ensures { (p : ℕ) → sets.contains (targeted result) p
             ≡ targets self.now.processes (sets.contains self.now.left) target.now p }
     {
         if target.key == Key::Process {
@@ -235,6 +238,28 @@ impl DeadBook {
             }
         }
         Targets::of(&self.targets(map, target))
+    }
+
+    /// The targets of an order that names this process alone: the process where it is left, and
+    /// else nobody. The name isn't looked up.
+    pub fn aimed_at_process(&self, p: ProcId) -> Targets
+        requires { p.0 < length self.now.processes }
+        ensures members { (q : ℕ) → sets.contains (targeted result) q ≡ true
+            → q < length self.now.processes }
+        ensures those { (name : List ℕ) → value_of self.now.processes Process p.0 ≡ Some name
+            → (q : ℕ) → sets.contains (targeted result) q
+            ≡ targets self.now.processes (sets.contains self.now.left)
+            (record { key = Process; value = name }) q }
+    {
+        fy_locality::laws::value_is_had();
+        self.map.names_differ();
+        let left = &self.left;
+        left.invariant();
+        if left.contains(p) {
+            Targets::one(p)
+        } else {
+            Targets::nobody()
+        }
     }
 
     /// The process left that has a name, which no other has; the map is the one that the book was

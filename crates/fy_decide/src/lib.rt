@@ -4,8 +4,9 @@
 mod dead_book;
 pub mod laws;
 mod tallies;
+mod targets;
 mod verdict;
 
 pub use dead_book::{DeadBook, Loss, MakeFault, first_unmet};
-pub use tallies::Targets;
-pub use verdict::{judge, judge_aimed, judge_at, judge_clog, judge_clog_at};
+pub use targets::Targets;
+pub use verdict::{judge, judge_aimed, judge_clog, judge_clog_at, judge_process};

@@ -1,14 +1,15 @@
 //! Tallies of one set of processes, one by each policy.
-ghost use Rattle.std.specs.Prelude.{◌≡◌, ◌<◌, not, map, IfOk, IfSome};
-ghost use Rattle.std.specs.Option.{ForSome};
+ghost use Rattle.std.specs.Prelude.{◌≡◌, ◌<◌, not, map, IfOk};
 ghost use Rattle.std.specs.Arc.{arc_value};
 ghost use Rattle.std.specs.FinSet as sets;
 ghost use Rattle.std.specs.List.{position};
 ghost use Rattle.fy_locality.specs.declared.TheConstants.{MOST_PROCESSES};
 ghost use Rattle.fy_policy.specs.Sat.{satisfies};
 ghost use Rattle.fy_decide.specs.Tallies.{tallied, with_all, without_all};
+ghost use Rattle.fy_decide.specs.Targets.{targeted};
 
-use fy_locality::{Map, ProcId, ProcSet, SET_WORDS};
+use crate::targets::{Aim, Targets};
+use fy_locality::{Map, ProcId, ProcSet};
 use fy_policy::{Policy, Tally};
 use std::alloc::{AllocError, Global};
 use std::sync::Arc;
@@ -76,80 +77,15 @@ pub(crate) fn drop_from_each(tallies: &mut [Tally], set: &ProcSet)
     }
 }
 
-/// Processes that an order is about, or that may be lost, with the one that is alone among them.
-/// Where none is named, they may be any.
-#[derive(Clone, Copy)]
-pub struct Targets {
-    pub set: ProcSet,
-    pub(crate) sole: Option<ProcId>,
-    ghost small: { ForSome sole (λ p. p.0 < MOST_PROCESSES) },
-    ghost alone: { ForSome sole (λ p. set ≡ sets.insert sets.empty p.0) },
-}
-
-impl Targets {
-    /// The processes of a set. Looks for the one that is alone in it.
-    pub(crate) fn of(set: &ProcSet) -> Targets
-        ensures { result.set ≡ set.now }
-    {
-        Targets {
-            set: *set,
-            sole: sole(set),
-        }
-    }
-
-    /// One process.
-    pub(crate) fn one(p: ProcId) -> Targets
-        requires { p.0 < MOST_PROCESSES }
-        ensures { result.set ≡ sets.insert sets.empty p.0 }
-    {
-        Targets {
-            set: only(p),
-            sole: Some(p),
-        }
-    }
-}
-
-/// The set of one process.
-fn only(p: ProcId) -> ProcSet
-    requires { p.0 < MOST_PROCESSES }
-    ensures { result ≡ sets.insert sets.empty p.0 }
-{
-    let mut set = ProcSet::empty();
-    set.put(p);
-    set
-}
-
-/// The process of a set that has no other. Looks at each word once.
-fn sole(given: &ProcSet) -> Option<ProcId>
-    ensures small { IfSome result (λ p. p.0 < MOST_PROCESSES) }
-    ensures alone { IfSome result (λ p. given.now ≡ sets.insert sets.empty p.0) }
-{
-    let words = given.words();
-    let mut found = None;
-    for k in 0..SET_WORDS {
-        let word = words[k];
-        if word != 0 {
-            let bit = word.trailing_zeros();
-            if found.is_some() || word != 1 << bit {
-                return None;
-            }
-            found = Some(ProcId(k as u32 * 64 + bit));
-        }
-    }
-    found
-}
-
 /// The place of the first policy that the tallies' set with this one satisfies. Takes no memory.
 pub(crate) fn first_satisfied_with(tallies: &[Tally], targets: &Targets) -> Option<usize>
     ensures { result ≡ position (λ tally.
         satisfies tally.processes tally.policy
-        (sets.contains (sets.union tally.set targets.now.set))) tallies.now }
+        (sets.contains (sets.union tally.set (targeted targets.now)))) tallies.now }
 {
-    match targets.sole {
-        Some(p) => first_satisfied_with_one(tallies, p),
-        None => tallies
-            .iter()
-            .position(|tally| tally.satisfied_with(&targets.set)),
+    match &targets.aim {
+        Aim::One(p) => first_satisfied_with_one(tallies, *p),
+        Aim::Many(set) => tallies.iter().position(|tally| tally.satisfied_with(set)),
     }
 }
 
@@ -168,13 +104,13 @@ fn first_satisfied_with_one(tallies: &[Tally], p: ProcId) -> Option<usize>
 pub(crate) fn first_short_without(tallies: &[Tally], targets: &Targets) -> Option<usize>
     ensures { result ≡ position (λ tally. not
         (satisfies tally.processes tally.policy
-        (sets.contains (sets.difference tally.set targets.now.set)))) tallies.now }
+        (sets.contains (sets.difference tally.set (targeted targets.now))))) tallies.now }
 {
-    match targets.sole {
-        Some(p) => first_short_without_one(tallies, p),
-        None => tallies
+    match &targets.aim {
+        Aim::One(p) => first_short_without_one(tallies, *p),
+        Aim::Many(set) => tallies
             .iter()
-            .position(|tally| !tally.satisfied_without(&targets.set)),
+            .position(|tally| !tally.satisfied_without(set)),
     }
 }
 

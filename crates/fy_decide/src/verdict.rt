@@ -1,13 +1,16 @@
 //! Verdicts: by which kind an actor's order strikes, and the first rule that bars the ordered kind.
-ghost use Rattle.std.specs.Prelude.{◌≡◌, ◌≢◌, ◌↔◌, ◌<◌, ◌&&◌, ℕ, Bool, true, not, is_none, length, IsTrue, Some, None};
+ghost use Rattle.std.specs.Prelude.{◌≡◌, ◌≢◌, ◌↔◌, ◌<◌, ◌&&◌, ℕ, Bool, true, not, nat_le, is_none, length, IsTrue, Some, None};
+ghost use Rattle.std.specs.List.{find};
 ghost use Rattle.std.specs.FinSet as sets;
-ghost use Rattle.fy_kinds.specs.Kinds.{Deed, Striking, Clogging, only};
+ghost use Rattle.fy_kinds.specs.Kinds.{Deed, Striking, Clogging, only, rank};
+ghost use Rattle.fy_kinds.specs.Orders.{Order};
 ghost use Rattle.fy_grants.specs.Least.{LeastWith};
 ghost use Rattle.fy_grants.specs.Rights.{Rights, grants_of, is_covered, is_protected};
-ghost use Rattle.fy_decide.specs.Verdicts.{Situation, situation_of, targets, bar, hardest, is_allowed, verdict, first_rule, permission_rules, loss_rules};
+ghost use Rattle.fy_decide.specs.Targets.{targeted};
+ghost use Rattle.fy_decide.specs.Verdicts.{Situation, NamesProcess, situation_of, targets, bar, hardest_first, verdict, first_rule, permission_rules, loss_rules};
 
 use crate::DeadBook;
-use crate::tallies::Targets;
+use crate::targets::{Aim, Targets};
 use fy_grants::Book;
 use fy_kinds::{HARDEST_FIRST, KillOrder, Kind, KindSet, Rule, Target, Verdict};
 use fy_locality::{Map, ProcId, ProcSet};
@@ -22,53 +25,53 @@ struct Case<'a> {
     targets: &'a Targets,
     ghost same: { book.now.processes ≡ dead.now.processes },
     ghost members: { (q : ℕ)
-        → sets.contains targets.now.set q ≡ true → q < length dead.now.processes },
+        → sets.contains (targeted targets.now) q ≡ true → q < length dead.now.processes },
 }
 
 impl Case<'_> {
     /// The least target that no grant of the actor with all these kinds covers. Of a lone target no
     /// set is made.
     fn uncovered(&self, kinds: KindSet) -> Option<ProcId>
-        ensures { LeastWith (sets.contains self.now.targets.now.set)
+        ensures { LeastWith (sets.contains (targeted self.now.targets.now))
             (λ q. not (is_covered self.now.book.now.processes
             (grants_of self.now.book.now self.now.actor) kinds q)) result }
     {
-        match self.targets.sole {
-            Some(p) => {
-                if self.book.covers(self.actor, kinds, p) {
+        match &self.targets.aim {
+            Aim::One(p) => {
+                if self.book.covers(self.actor, kinds, *p) {
                     None
                 } else {
-                    Some(p)
+                    Some(*p)
                 }
             }
-            None => self.book.uncovered(self.actor, kinds, &self.targets.set),
+            Aim::Many(set) => self.book.uncovered(self.actor, kinds, set),
         }
     }
 
     /// The least target that is protected from some of these kinds.
     fn barred(&self, kinds: KindSet) -> Option<ProcId>
-        ensures { LeastWith (sets.contains self.now.targets.now.set)
+        ensures { LeastWith (sets.contains (targeted self.now.targets.now))
             (is_protected self.now.book.now kinds) result }
     {
-        match self.targets.sole {
-            Some(p) => {
-                if self.book.protects(kinds, p) {
-                    Some(p)
+        match &self.targets.aim {
+            Aim::One(p) => {
+                if self.book.protects(kinds, *p) {
+                    Some(*p)
                 } else {
                     None
                 }
             }
-            None => self.book.barred(kinds, &self.targets.set),
+            Aim::Many(set) => self.book.barred(kinds, set),
         }
     }
 
     /// Whether there is no target.
     fn is_aimless(&self) -> bool
-        ensures { IsTrue result ↔ (self.now.targets.now.set ≡ sets.empty) }
+        ensures { IsTrue result ↔ (targeted self.now.targets.now ≡ sets.empty) }
     {
-        match self.targets.sole {
-            Some(_) => false,
-            None => self.targets.set.is_empty(),
+        match &self.targets.aim {
+            Aim::One(_) => false,
+            Aim::Many(set) => set.is_empty(),
         }
     }
 
@@ -77,7 +80,7 @@ impl Case<'_> {
         ensures { (deed : Deed) → kinds ≡ only deed → result
             ≡ first_rule (permission_rules
             (situation_of self.now.dead.now self.now.book.now self.now.actor) deed
-            (sets.contains self.now.targets.now.set)) }
+            (sets.contains (targeted self.now.targets.now))) }
     {
         // To be protected from some of one kind is to be protected from it.
         fy_kinds::laws::one_deed();
@@ -98,7 +101,7 @@ impl Case<'_> {
     fn loss_bar(&self, kind: Kind) -> Option<Rule>
         ensures { (rights : Rights) (actor : ℕ) → result
             ≡ first_rule (loss_rules (situation_of self.now.dead.now rights actor) (Striking kind)
-            (sets.contains self.now.targets.now.set)) }
+            (sets.contains (targeted self.now.targets.now))) }
     {
         if !kind.is_destroying() {
             return None;
@@ -119,7 +122,7 @@ impl Case<'_> {
     fn bar(&self, kind: Kind) -> Option<Rule>
         ensures { result
             ≡ bar (situation_of self.now.dead.now self.now.book.now self.now.actor) (Striking kind)
-            (sets.contains self.now.targets.now.set) }
+            (sets.contains (targeted self.now.targets.now)) }
     {
         match self.permission_bar(KindSet::of(kind)) {
             Some(rule) => Some(rule),
@@ -127,46 +130,52 @@ impl Case<'_> {
         }
     }
 
-    /// The hardest kind that an order allows and that has no bar, where a rule bars the ordered one.
-    fn lesser(&self, order: &KillOrder, rule: Rule) -> Option<Kind>
+    /// The hardest kind from an ordered one down to a floor that has no bar, where a rule bars the
+    /// ordered one.
+    fn lesser(&self, kind: Kind, floor: Kind, rule: Rule) -> Option<Kind>
         requires { bar (situation_of self.now.dead.now self.now.book.now self.now.actor)
-            (Striking order.now.kind) (sets.contains self.now.targets.now.set) ≡ Some rule }
-        ensures { result
-            ≡ hardest (situation_of self.now.dead.now self.now.book.now self.now.actor) order.now
-            (sets.contains self.now.targets.now.set) }
+            (Striking kind) (sets.contains (targeted self.now.targets.now)) ≡ Some rule }
+        ensures { result ≡ find (λ milder.
+            (nat_le (rank floor) (rank milder) && nat_le (rank milder) (rank kind))
+            && is_none (bar (situation_of self.now.dead.now self.now.book.now self.now.actor)
+            (Striking milder) (sets.contains (targeted self.now.targets.now)))) hardest_first }
     {
-        for kind in HARDEST_FIRST {
-            if self.strikes_instead(order, rule, kind) {
-                return Some(kind);
+        if kind == floor {
+            return None;
+        }
+        for milder in HARDEST_FIRST {
+            if self.strikes_instead(kind, floor, rule, milder) {
+                return Some(milder);
             }
         }
         None
     }
 
-    /// Whether an order allows a kind and the kind has no bar, where a rule bars the ordered one.
-    fn strikes_instead(&self, order: &KillOrder, rule: Rule, kind: Kind) -> bool
+    /// Whether a kind lies between an ordered one and a floor and has no bar, where a rule bars the
+    /// ordered one.
+    fn strikes_instead(&self, kind: Kind, floor: Kind, rule: Rule, milder: Kind) -> bool
         requires { bar (situation_of self.now.dead.now self.now.book.now self.now.actor)
-            (Striking order.now.kind) (sets.contains self.now.targets.now.set) ≡ Some rule }
-        ensures { result ≡ (is_allowed order.now kind && is_none
-            (bar (situation_of self.now.dead.now self.now.book.now self.now.actor) (Striking kind)
-            (sets.contains self.now.targets.now.set))) }
+            (Striking kind) (sets.contains (targeted self.now.targets.now)) ≡ Some rule }
+        ensures { result ≡ ((nat_le (rank floor) (rank milder) && nat_le (rank milder) (rank kind))
+            && is_none (bar (situation_of self.now.dead.now self.now.book.now self.now.actor)
+            (Striking milder) (sets.contains (targeted self.now.targets.now)))) }
     {
         fy_kinds::laws::kinds_by_rank();
-        if !order.kind().is_above(kind) {
+        if !kind.is_above(milder) {
             return false;
         }
-        if order.floor().is_above(kind) {
+        if floor.is_above(milder) {
             return false;
         }
-        if bars_too(rule, kind) {
+        if bars_too(rule, milder) {
             return false;
         }
-        self.bar(kind).is_none()
+        self.bar(milder).is_none()
     }
 
     /// The bar of a clog of these targets.
     fn clog_bar(&self, target: &Target) -> Option<Rule>
-        requires found { (p : ℕ) → sets.contains self.now.targets.now.set p
+        requires found { (p : ℕ) → sets.contains (targeted self.now.targets.now) p
             ≡ targets self.now.dead.now.processes (sets.contains self.now.dead.now.left)
             target.now p }
         ensures { result
@@ -177,18 +186,19 @@ impl Case<'_> {
         self.permission_bar(KindSet::of_clog())
     }
 
-    /// The verdict on an order of these targets.
-    fn verdict(&self, order: &KillOrder) -> Verdict
-        requires found { (p : ℕ) → sets.contains self.now.targets.now.set p
+    /// The verdict on an order of these targets, of which it needs the two kinds alone.
+    fn verdict(&self, kind: Kind, floor: Kind) -> Verdict
+        ensures { (order : Order) → order.kind ≡ kind → order.floor ≡ floor
+            → ((p : ℕ) → sets.contains (targeted self.now.targets.now) p
             ≡ targets self.now.dead.now.processes (sets.contains self.now.dead.now.left)
-            order.now.target p }
-        ensures { result
-            ≡ verdict (situation_of self.now.dead.now self.now.book.now self.now.actor) order.now }
+            order.target p)
+            → result
+            ≡ verdict (situation_of self.now.dead.now self.now.book.now self.now.actor) order }
     {
-        let rule = self.bar(order.kind());
+        let rule = self.bar(kind);
         let struck = match rule {
-            None => Some(order.kind()),
-            Some(rule) => self.lesser(order, rule),
+            None => Some(kind),
+            Some(rule) => self.lesser(kind, floor, rule),
         };
         Verdict { struck, rule }
     }
@@ -220,23 +230,6 @@ pub fn judge(dead: &DeadBook, book: &Book, map: &Map, actor: u32, order: &KillOr
     judge_aimed(dead, book, actor, order, &targets)
 }
 
-/// The verdict of [`judge`] on an order whose targets were found before, for whoever goes on to
-/// strike them. Takes no memory.
-pub fn judge_at(
-    dead: &DeadBook,
-    book: &Book,
-    actor: u32,
-    order: &KillOrder,
-    found: &ProcSet,
-) -> Verdict
-    requires book { book.now.processes ≡ dead.now.processes }
-    requires found { (p : ℕ) → sets.contains found.now p
-        ≡ targets dead.now.processes (sets.contains dead.now.left) order.now.target p }
-    ensures { result ≡ verdict (situation_of dead.now book.now actor) order.now }
-{
-    judge_aimed(dead, book, actor, order, &Targets::of(found))
-}
-
 /// The verdict of [`judge`] on an order whose targets [`DeadBook::aimed_at`] found before, for
 /// whoever goes on to strike them. Takes no memory.
 pub fn judge_aimed(
@@ -247,7 +240,7 @@ pub fn judge_aimed(
     found: &Targets,
 ) -> Verdict
     requires book { book.now.processes ≡ dead.now.processes }
-    requires found { (p : ℕ) → sets.contains found.now.set p
+    requires found { (p : ℕ) → sets.contains (targeted found.now) p
         ≡ targets dead.now.processes (sets.contains dead.now.left) order.now.target p }
     ensures { result ≡ verdict (situation_of dead.now book.now actor) order.now }
 {
@@ -258,7 +251,33 @@ pub fn judge_aimed(
         actor,
         targets: found,
     };
-    case.verdict(order)
+    case.verdict(order.kind(), order.floor())
+}
+
+/// The verdict of [`judge`] on an order that names this process alone, by these two kinds. No name
+/// is looked up, and no set is made. Takes no memory.
+pub fn judge_process(
+    dead: &DeadBook,
+    book: &Book,
+    actor: u32,
+    process: ProcId,
+    kind: Kind,
+    floor: Kind,
+) -> Verdict
+    requires book { book.now.processes ≡ dead.now.processes }
+    requires process { process.0 < length dead.now.processes }
+    ensures { (order : Order) → order.kind ≡ kind → order.floor ≡ floor
+        → NamesProcess dead.now.processes process.0 order
+        → result ≡ verdict (situation_of dead.now book.now actor) order }
+{
+    fy_locality::laws::processes_have_values();
+    let case = Case {
+        dead,
+        book,
+        actor,
+        targets: &dead.aimed_at_process(process),
+    };
+    case.verdict(kind, floor)
 }
 
 /// Why an actor may not clog a target: the first three rules. The map is the one that both books

@@ -1,7 +1,7 @@
 use Rattle.std.proofs.Common.{◌≡◌, ℕ, ◌+◌, ◌≤◌, refl, sym, subst, ◌∙◌, arith}
 use Rattle.fy_decide.proofs.Alone.{HaveFound, found-none, found-next, found-small, found-alone}
-use Rattle.fy_decide.proofs.tallies.sole.Goals.{then-word-ne0+else-is_some+else-word-bit, else-word-ne0}
-use Rattle.fy_decide.proofs.tallies.sole.Goals as goal
+use Rattle.fy_decide.proofs.targets.sole.Goals.{then-word-ne0+else-is_some+else-word-bit, else-word-ne0}
+use Rattle.fy_decide.proofs.targets.sole.Goals as goal
 
 pub loop-k-preserved : goal.loop-k-preserved
 loop-k-preserved c = elim c.if-word-ne0.branch [
