@@ -2,7 +2,9 @@
 use Rattle.std.proofs.Common.{rules, ◌≡◌, ◌∙◌, ℕ, List, Option, Some, None, Result, Ok, Err, IfOk, IfErr, Bool, true, false, length, subst, sym}
 use Rattle.std.specs.Prelude.{IfSome}
 use Rattle.std.specs.Option.{option_map_or}
-use Rattle.fy_audit.specs.Audit.{AuditOf}
+use Rattle.fy_audit.specs.Audit.{AuditOf, AuditAnswers}
+use Rattle.fy_audit.specs.declared.audit.AuditFault.{AuditFault}
+use Rattle.fy_audit.specs.declared.audit.AuditFault.TheVariants.{TooLong, Line, NoMemory}
 use Rattle.fy_acts.specs.declared.entry.Entry.{Entry}
 use Rattle.fy_journal.specs.declared.version.Version.{Version}
 use Rattle.fy_cluster.specs.Setup.{Setup}
@@ -11,8 +13,17 @@ use Rattle.fy_check_audit.specs.declared.check.Finding.{Finding}
 use Rattle.fy_check_audit.specs.declared.check.ReplayedAudit.{ReplayedAudit}
 use Rattle.fy_engine.specs.declared.stop.Stop.{Stop}
 use Rattle.fy_engine.specs.declared.stop.Stop.TheVariants.{Write}
+use Rattle.fy_engine.specs.Stops.{audit_stop, IfAuditFault}
 use Rattle.fy_check_audit.specs.CheckTexts.{legal_line, bad_line, finding_line, Finds, HasVerdict, IsFound}
 use Rattle.fy_check_audit.specs.Checked.{IsReplayed}
+
+-- the stop for what a reader of an audit answers
+pub stop_is_told : (bytes : List ℕ) (fault : AuditFault) (stop : Stop) →
+    AuditAnswers bytes (Err fault) → stop ≡ audit_stop fault →
+    IfAuditFault stop (λ told. AuditOf bytes (Err told))
+stop_is_told bytes TooLong stop told is = subst (λ s. IfAuditFault s (λ f. AuditOf bytes (Err f))) (sym is) told
+stop_is_told bytes (Line number fault) stop told is = subst (λ s. IfAuditFault s (λ f. AuditOf bytes (Err f))) (sym is) told
+stop_is_told bytes NoMemory stop told is = subst (λ s. IfAuditFault s (λ f. AuditOf bytes (Err f))) (sym is) tt
 
 -- what was replayed of the bytes of a reader
 pub replayed_known : (setup : Setup) (known : Option (List ℕ)) (version : Version) (entries : List Entry) (replayed : ReplayedAudit) →

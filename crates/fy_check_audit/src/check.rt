@@ -12,7 +12,8 @@ ghost use Rattle.fy_check_audit.specs.Inputs.{IsInputStop};
 ghost use Rattle.fy_engine.specs.Stops.{numbered, audit_stop, IfAuditFault, IsCheckStop};
 
 use crate::input::AuditInput;
-use fy_audit::{AuditFault, MOST_AUDIT_BYTES};
+use fy_audit::laws::an_audit_is_read_entry_by_entry;
+use fy_audit::{AuditFault, AuditReader, MOST_AUDIT_BYTES};
 use fy_check::Replayer;
 use fy_cluster::Config;
 use fy_engine::{Stop, write_numbered};
@@ -136,6 +137,44 @@ pub fn replay_audit<R: Read>(
             Err(stop) => return Err(stop),
         }
     }
+}
+
+/// What [`replay_audit`] answers of an audit whose bytes are held, of which no reading can fail.
+///
+/// # Errors
+///
+/// The stops of `run_check`, but `Read` and `Write`.
+pub fn replay_bytes(alloc: Global, config: &Config, bytes: &[u8]) -> Result<ReplayedAudit, Stop>
+    ensures replayed { IfOk result (IsReplayed config.now bytes.now) }
+    ensures refused { IfErr result (λ stop. IfAuditFault stop
+        (λ fault. AuditOf bytes.now (Err fault))) }
+    ensures own { IfErr result IsCheckStop }
+    ensures no_output { IfErr result (λ stop. stop ≢ Stop.Read × stop ≢ Stop.Write) }
+{
+    an_audit_is_read_entry_by_entry();
+    let mut reader = match AuditReader::begin(alloc, bytes) {
+        Ok(reader) => reader,
+        Err(fault) => return Err(audit_stop(fault)),
+    };
+    let Ok(config) = config.try_copy(alloc) else {
+        return Err(Stop::NoMemory);
+    };
+    let Ok(mut replayer) = Replayer::begin(alloc, config, reader.version()) else {
+        return Err(Stop::NoMemory);
+    };
+    while !reader.is_at_end() {
+        let entry = match reader.next_entry() {
+            Ok(entry) => entry,
+            Err(fault) => return Err(audit_stop(fault)),
+        };
+        let Ok(()) = replayer.enter(entry) else {
+            return Err(Stop::NoMemory);
+        };
+    }
+    Ok(ReplayedAudit {
+        count: reader.place(),
+        replayer,
+    })
 }
 
 /// Writes the line that says whether an audit is legal: its head, and a number.

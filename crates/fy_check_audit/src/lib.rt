@@ -6,6 +6,7 @@ mod input;
 pub mod laws;
 
 pub use check::{
-    Finding, ReplayedAudit, audit_stop, load_audit, replay_audit, run_check, write_finding,
+    Finding, ReplayedAudit, audit_stop, load_audit, replay_audit, replay_bytes, run_check,
+    write_finding,
 };
 pub use input::AuditInput;
