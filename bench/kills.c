@@ -7,7 +7,7 @@
 #include <stdlib.h>
 #include <time.h>
 
-enum { ROUNDS = 10, CASES = 3, WAYS = 3 };
+enum { ROUNDS = 10, CASES = 3, WAYS = 5 };
 
 /* A case of the table: what is ordered of each process but p0. */
 static const struct {
@@ -20,8 +20,8 @@ static const struct {
     {"barred", FY_KILL_INSTANTLY, FY_KILL_INSTANTLY, "KillInstantly", "KillInstantly"},
 };
 
-/* How a kill is asked for. */
-typedef enum way { JUDGED, KILLED, BY_LINE } way;
+/* How a kill is asked for: by the process's name, by its number, or by a line. */
+typedef enum way { JUDGED, KILLED, JUDGED_BY_NUMBER, KILLED_BY_NUMBER, BY_LINE } way;
 
 static char config[1048576], names[1024][24], lines[1024][256];
 
@@ -43,6 +43,10 @@ static fy_status ask(fy_guard *guard, int at, long process, way by)
         return fy_guard_judge(guard, 1, FY_PROCESS, names[process], cases[at].kind, cases[at].floor, &struck, &rule, &named);
     case KILLED:
         return fy_guard_kill(guard, 1, FY_PROCESS, names[process], cases[at].kind, cases[at].floor, 0, &struck, &rule, &named);
+    case JUDGED_BY_NUMBER:
+        return fy_guard_judge_process(guard, 1, (uint32_t)process, cases[at].kind, cases[at].floor, &struck, &rule, &named);
+    case KILLED_BY_NUMBER:
+        return fy_guard_kill_process(guard, 1, (uint32_t)process, cases[at].kind, cases[at].floor, 0, &struck, &rule, &named);
     default:
         return fy_guard_act(guard, lines[process], strlen(lines[process]), buffer, sizeof buffer, &told);
     }
@@ -75,7 +79,7 @@ int main(int count, char **words)
     if (fy_guard_open(config, length, &guard) != FY_DONE)
         return 1;
     for (int at = 0; at < CASES; at++) {
-        double best[WAYS] = {1e9, 1e9, 1e9};
+        double best[WAYS] = {1e9, 1e9, 1e9, 1e9, 1e9};
         for (long p = 0; p < processes; p++) {
             snprintf(names[p], sizeof names[p], "p%ld", p);
             snprintf(lines[p], sizeof lines[p],
@@ -89,8 +93,10 @@ int main(int count, char **words)
             if (took < best[round % WAYS])
                 best[round % WAYS] = took;
         }
-        printf("%ld processes, %s: %.0f ns a judgement, %.0f ns a kill, %.0f ns by a line\n", processes, cases[at].name,
-               best[JUDGED] / (double)kills * 1e9, best[KILLED] / (double)kills * 1e9, best[BY_LINE] / (double)kills * 1e9);
+        double each = 1e9 / (double)kills;
+        printf("%ld processes, %s: %.0f ns a judgement, %.0f ns a kill, by number %.0f and %.0f ns, %.0f ns by a line\n", processes,
+               cases[at].name, best[JUDGED] * each, best[KILLED] * each, best[JUDGED_BY_NUMBER] * each,
+               best[KILLED_BY_NUMBER] * each, best[BY_LINE] * each);
     }
     fy_guard_close(&guard);
     return 0;

@@ -1,7 +1,7 @@
 #!/usr/bin/env bash
-# Times judgements and kills by the C library, in a cluster of 6, 100 and 1,000 processes, where the kill strikes, is lessened
-# and is barred; and where BESIDE is the path of another program of this command line that tells with FY_TIMES=1 what its
-# decisions took, the same kills by that.
+# Times judgements and kills by the C library, by a process's name and by its number, in a cluster of 6, 100 and 1,000
+# processes, where the kill strikes, is lessened and is barred; and where BESIDE is the path of another program of this command
+# line that tells with FY_TIMES=1 what its decisions took, the same kills by that.
 #
 #     bench/kills.sh [BESIDE]
 set -euo pipefail

@@ -59,7 +59,8 @@ typedef enum fy_status {
                                for a line is asked for before its act is made. */
     FY_NO_ENTRY = 6,        /* The journal has no entry at this place. */
     FY_ARGUMENT = 7,        /* A number for a key, a kind or a floor is that of none, or a bit of a set of
-                               kinds is; members don't rise, or are too many; a payload is too long. */
+                               kinds is; members don't rise, or are too many; a payload is too long; there
+                               is no such process to kill. */
     FY_NAME = 8,            /* The value of the target is no name: 1 to 32 of A-Z a-z 0-9 _ -, the
                                first not -. */
     FY_FLOOR = 9,           /* The floor of the kill is above its kind. */
@@ -263,6 +264,11 @@ uint32_t fy_kill(fy_guard *guard, uint32_t actor, uint32_t key, const uint8_t *v
 uint32_t fy_judge(const fy_guard *guard, uint32_t actor, uint32_t key, const uint8_t *value,
                   size_t value_length, uint32_t kind, uint32_t floor, uint32_t *struck, uint32_t *rule,
                   uint64_t *named);
+uint32_t fy_kill_process(fy_guard *guard, uint32_t actor, uint32_t process, uint32_t kind,
+                         uint32_t floor, uint64_t tear, uint32_t *struck, uint32_t *rule,
+                         uint64_t *named);
+uint32_t fy_judge_process(const fy_guard *guard, uint32_t actor, uint32_t process, uint32_t kind,
+                          uint32_t floor, uint32_t *struck, uint32_t *rule, uint64_t *named);
 uint32_t fy_up(fy_guard *guard, uint32_t actor, uint32_t process, uint32_t *refusal);
 uint32_t fy_heal(fy_guard *guard, uint32_t actor, uint32_t process, uint32_t *refusal);
 uint32_t fy_clog(fy_guard *guard, uint32_t actor, uint32_t key, const uint8_t *value, size_t value_length,
@@ -427,6 +433,38 @@ static inline fy_status fy_guard_judge(const fy_guard *guard, uint32_t actor, fy
         return FY_CLOSED;
     return (fy_status)fy_judge(guard, actor, (uint32_t)key, (const uint8_t *)value, strlen(value),
                                (uint32_t)kind, (uint32_t)floor, struck, rule, named);
+}
+
+/* Orders a kill of the process with this number: what fy_guard_kill does with FY_PROCESS and the
+ * process's name, and the same entry in the journal. No name is read or looked up, so it is quicker.
+ * `*struck`, `*rule` and `*named` are those of fy_guard_kill.
+ *
+ * In this order: FY_CLOSED, FY_ARGUMENT, FY_FLOOR, FY_JOURNAL_FULL, FY_NO_MEMORY. FY_ARGUMENT also
+ * where no process has this number: there is no name to enter, so nothing is entered. FY_REFUSED
+ * where there is no actor with this number. */
+static inline fy_status fy_guard_kill_process(fy_guard *guard, uint32_t actor, uint32_t process,
+                                              fy_kind kind, fy_kind floor, uint64_t tear,
+                                              uint32_t *struck, uint32_t *rule, uint64_t *named)
+{
+    if (!fy_guard_is_open(guard) || struck == NULL || rule == NULL || named == NULL)
+        return FY_CLOSED;
+    return (fy_status)fy_kill_process(guard, actor, process, (uint32_t)kind, (uint32_t)floor, tear, struck,
+                                      rule, named);
+}
+
+/* What fy_guard_kill_process would answer now to the same order, if the journal had room. It enters
+ * nothing, and asks for no memory. `*struck`, `*rule` and `*named` are those of fy_guard_kill.
+ *
+ * In this order: FY_CLOSED, FY_ARGUMENT, FY_FLOOR; FY_REFUSED where there is no actor with this
+ * number. FY_ARGUMENT also where no process has this number. */
+static inline fy_status fy_guard_judge_process(const fy_guard *guard, uint32_t actor, uint32_t process,
+                                               fy_kind kind, fy_kind floor, uint32_t *struck,
+                                               uint32_t *rule, uint64_t *named)
+{
+    if (!fy_guard_is_open(guard) || struck == NULL || rule == NULL || named == NULL)
+        return FY_CLOSED;
+    return (fy_status)fy_judge_process(guard, actor, process, (uint32_t)kind, (uint32_t)floor, struck,
+                                       rule, named);
 }
 
 /* Says that a process runs again, by an actor whose role is storage. `*refusal` is the fy_refusal.

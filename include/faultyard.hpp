@@ -256,7 +256,7 @@ inline constexpr Text STATUSES[] = {
     {"Short", "the buffer is too short"},
     {"Unwritten", "the act is made and stands in the journal, but its line could not be written"},
     {"NoEntry", "the journal has no entry at this place"},
-    {"Argument", "there is no such key, kind or floor, members don't rise, or a payload is too long"},
+    {"Argument", "there is no such key, kind or floor, or process to kill, members don't rise, or a payload is too long"},
     {"Name", "the value of the target is no name"},
     {"Floor", "the floor of the kill is above its kind"},
     {"LineTooLong", "the line has more than 65,536 bytes"},
@@ -654,6 +654,37 @@ public:
             fy_judge(opened(), actor, static_cast<std::uint32_t>(key), detail::bytes(value),
                      value.size(), static_cast<std::uint32_t>(kind),
                      static_cast<std::uint32_t>(floor), &struck, &rule, &named);
+        require(status, FY_STRANGER);
+        return verdict_of(struck, rule, named);
+    }
+
+    /* What `kill` does with Key::Process and the name of the process with this number. No name is
+     * looked up, so it is quicker.
+     * Throws in order Closed, Argument (also where no process has this number), Floor, JournalFull,
+     * NoMemory; Refused where there is no such actor. */
+    [[nodiscard]] Verdict kill_process(std::uint32_t actor, std::uint32_t process, Kind kind,
+                                       Kind floor = Kind::RebootProcess, std::uint64_t tear = 0)
+    {
+        std::uint32_t struck = 0, rule = 0;
+        std::uint64_t named = 0;
+        const std::uint32_t status = fy_kill_process(
+            opened(), actor, process, static_cast<std::uint32_t>(kind),
+            static_cast<std::uint32_t>(floor), tear, &struck, &rule, &named);
+        require(status, FY_STRANGER);
+        return verdict_of(struck, rule, named);
+    }
+
+    /* What `kill_process` would answer now to the same order, if the journal had room. It enters
+     * nothing.
+     * Throws in order Closed, Argument, Floor; Refused where there is no such actor. */
+    [[nodiscard]] Verdict judge_process(std::uint32_t actor, std::uint32_t process, Kind kind,
+                                        Kind floor = Kind::RebootProcess) const
+    {
+        std::uint32_t struck = 0, rule = 0;
+        std::uint64_t named = 0;
+        const std::uint32_t status = fy_judge_process(
+            opened(), actor, process, static_cast<std::uint32_t>(kind),
+            static_cast<std::uint32_t>(floor), &struck, &rule, &named);
         require(status, FY_STRANGER);
         return verdict_of(struck, rule, named);
     }

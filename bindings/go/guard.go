@@ -141,7 +141,7 @@ func (guard *Guard) Kill(actor uint32, order Order) (Verdict, error) {
 		its *C.fy_guard, struck, rule *C.uint32_t, named *C.uint64_t,
 	) C.uint32_t {
 		return C.fy_kill(its, C.uint32_t(actor), C.uint32_t(order.Key), value, length,
-			C.uint32_t(order.Kind), order.floor(), C.uint64_t(order.Tear), struck, rule, named)
+			C.uint32_t(order.Kind), floorOf(order.Floor), C.uint64_t(order.Tear), struck, rule, named)
 	})
 }
 
@@ -156,16 +156,53 @@ func (guard *Guard) Judge(actor uint32, order Order) (Verdict, error) {
 		its *C.fy_guard, struck, rule *C.uint32_t, named *C.uint64_t,
 	) C.uint32_t {
 		return C.fy_judge(its, C.uint32_t(actor), C.uint32_t(order.Key), value, length,
-			C.uint32_t(order.Kind), order.floor(), struck, rule, named)
+			C.uint32_t(order.Kind), floorOf(order.Floor), struck, rule, named)
 	})
 }
 
-// floor is RebootProcess where the order leaves it out.
-func (order Order) floor() C.uint32_t {
-	if order.Floor == None {
+// ProcessOrder is an order to kill one process, by its number.
+type ProcessOrder struct {
+	Process uint32
+	// Kind, Floor and Tear are those of an Order.
+	Kind  Kind
+	Floor Kind
+	Tear  uint64
+}
+
+// KillProcess does what Kill does with the name of the process. No name is looked up, so it is
+// quicker.
+//
+// Its error is the first of ErrClosed, ErrArgument (also where no process has the number), ErrFloor,
+// ErrJournalFull, ErrNoMemory; or RefusalStranger where there is no such actor.
+func (guard *Guard) KillProcess(actor uint32, order ProcessOrder) (Verdict, error) {
+	return guard.verdict(func(
+		its *C.fy_guard, struck, rule *C.uint32_t, named *C.uint64_t,
+	) C.uint32_t {
+		return C.fy_kill_process(its, C.uint32_t(actor), C.uint32_t(order.Process),
+			C.uint32_t(order.Kind), floorOf(order.Floor), C.uint64_t(order.Tear), struck, rule, named)
+	})
+}
+
+// JudgeProcess answers what KillProcess would answer now to the same order, if the journal had room.
+// It enters nothing.
+//
+// Its error is the first of ErrClosed, ErrArgument, ErrFloor; or RefusalStranger where there is no
+// such actor.
+func (guard *Guard) JudgeProcess(actor uint32, order ProcessOrder) (Verdict, error) {
+	return guard.verdict(func(
+		its *C.fy_guard, struck, rule *C.uint32_t, named *C.uint64_t,
+	) C.uint32_t {
+		return C.fy_judge_process(its, C.uint32_t(actor), C.uint32_t(order.Process),
+			C.uint32_t(order.Kind), floorOf(order.Floor), struck, rule, named)
+	})
+}
+
+// floorOf is RebootProcess where an order leaves its floor out.
+func floorOf(floor Kind) C.uint32_t {
+	if floor == None {
 		return C.FY_REBOOT_PROCESS
 	}
-	return C.uint32_t(order.Floor)
+	return C.uint32_t(floor)
 }
 
 // verdict answers the verdict that a call of the library tells.

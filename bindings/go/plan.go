@@ -66,7 +66,7 @@ func SwarmAttrition() Attrition {
 //
 // Its error is the first of ErrClosed, ErrArgument, ErrFloor, ErrNoMemory.
 func (guard *Guard) AttritionPlan(seed, stream uint64, asked Attrition) ([]Planned, error) {
-	floor := Order{Floor: asked.Floor}.floor()
+	floor := floorOf(asked.Floor)
 	return guard.plan(func(
 		its *C.fy_guard, orders *C.fy_order, room C.size_t, told *C.size_t,
 	) C.uint32_t {

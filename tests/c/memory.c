@@ -28,7 +28,7 @@ static size_t audit_of(fy_guard *guard, char *text)
     return length;
 }
 
-enum { OPEN, FAULT, RESET, COPY, KILL, UP, HEAL, ACT, AUDIT, CALLS };
+enum { OPEN, FAULT, RESET, COPY, KILL, KILL_PROCESS, UP, HEAL, ACT, AUDIT, CALLS };
 
 static fy_status call(int which, fy_guard *guard, size_t line)
 {
@@ -59,6 +59,8 @@ static fy_status call(int which, fy_guard *guard, size_t line)
         return status;
     case KILL:
         return fy_guard_kill(guard, 1, FY_PROCESS, "p4", FY_REBOOT, FY_REBOOT, 0, &struck, &rule, &named);
+    case KILL_PROCESS:
+        return fy_guard_kill_process(guard, 1, 4, FY_REBOOT, FY_REBOOT, 0, &struck, &rule, &named);
     case UP:
         return fy_guard_up(guard, 0, 4, &refusal);
     case HEAL:
@@ -156,6 +158,7 @@ static void ask(void)
     uint32_t told;
     answered = 0;
     EQUAL(fy_guard_judge(&guard, 1, FY_ZONE, "z0", FY_KILL_INSTANTLY, FY_REBOOT, &struck, &rule, &named), FY_DONE);
+    EQUAL(fy_guard_judge_process(&guard, 1, 0, FY_KILL_INSTANTLY, FY_REBOOT, &struck, &rule, &named), FY_DONE);
     EQUAL(fy_guard_up_set(&guard, set), FY_DONE);
     EQUAL(fy_guard_state(&guard, 0, &told), FY_DONE);
     EQUAL(fy_guard_needed(&guard, 0, &told), FY_DONE);
@@ -188,7 +191,8 @@ int main(void)
                     EQUAL(now == length && memcmp(before, after, length) == 0, 1);
                 } else {
                     EQUAL(status == FY_DONE || status == FY_REFUSED, 1);
-                    EQUAL(now > length, which == KILL || which == UP || which == HEAL || which == ACT);
+                    EQUAL(now > length,
+                          which == KILL || which == KILL_PROCESS || which == UP || which == HEAL || which == ACT);
                     EQUAL(now == 0, which == RESET);
                 }
                 fy_guard_close(&guard);

@@ -118,6 +118,9 @@ static void ask(const fy_guard *guard)
     EQUAL(fy_guard_judge(guard, 1, FY_ZONE, "z1", FY_KILL_INSTANTLY, FY_REBOOT, &struck, &rule, &named), FY_DONE);
     EQUAL(struck, FY_REBOOT);
     EQUAL(rule, FY_TOO_MANY_DESTROYED);
+    EQUAL(fy_guard_judge_process(guard, 1, 2, FY_KILL_INSTANTLY, FY_REBOOT, &struck, &rule, &named), FY_DONE);
+    EQUAL(struck, FY_REBOOT);
+    EQUAL(rule, FY_TOO_MANY_DESTROYED);
     EQUAL(fy_guard_is_acked(guard, 0, &is), FY_DONE);
     EQUAL(is, 0);
     EQUAL(fy_guard_keeper(guard, 0, &process), FY_DONE);

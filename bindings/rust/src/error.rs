@@ -29,7 +29,8 @@ pub enum Error {
     Unwritten,
     /// The journal has no entry at this place.
     NoEntry,
-    /// The members don't rise or are more than 1024, or the payload has more than 32,000 bytes.
+    /// The members don't rise or are more than 1024, the payload has more than 32,000 bytes, or no
+    /// process has the number by which it is to be killed.
     Argument,
     /// The value of the target is no name: 1 to 32 of `A-Z a-z 0-9 _ -`, the first not `-`.
     Name,
@@ -194,7 +195,10 @@ impl fmt::Display for Error {
             }
             Error::Unwritten => write!(f, "the act is made, but its line could not be written"),
             Error::NoEntry => write!(f, "the journal has no entry at this place"),
-            Error::Argument => write!(f, "members don't rise, or a payload is too long"),
+            Error::Argument => write!(
+                f,
+                "members don't rise, a payload is too long, or no process has the number"
+            ),
             Error::Name => write!(f, "the value of the target is no name"),
             Error::Floor => write!(f, "the floor of the kill is above its kind"),
             Error::LineTooLong => write!(f, "the line has more than 65,536 bytes"),

@@ -162,6 +162,73 @@ impl Guard {
         Verdict::of(struck, rule, named)
     }
 
+    /// What [`kill`](Guard::kill) does with [`Key::Process`] and the name of the process with this
+    /// number. No name is looked up, so it is quicker.
+    ///
+    /// # Errors
+    ///
+    /// In this order: [`Error::Argument`] where no process has this number, [`Error::Floor`],
+    /// [`Error::JournalFull`], [`Error::NoMemory`]. [`Refusal::Stranger`] where there is no such
+    /// actor.
+    pub fn kill_process(
+        &mut self,
+        actor: u32,
+        process: u32,
+        kind: Kind,
+        floor: Kind,
+        tear: u64,
+    ) -> Result<Verdict, Error> {
+        let (mut struck, mut rule, mut named) = (0, 0, 0);
+        // SAFETY: as in `kill`. Each answer goes to a variable of its own.
+        let status = unsafe {
+            sys::fy_kill_process(
+                &mut self.raw,
+                actor,
+                process,
+                kind.into(),
+                floor.into(),
+                tear,
+                &mut struck,
+                &mut rule,
+                &mut named,
+            )
+        };
+        accepted(status, Refusal::Stranger.into())?;
+        Verdict::of(struck, rule, named)
+    }
+
+    /// What [`kill_process`](Guard::kill_process) would answer now to the same order, if the journal
+    /// had room. It enters nothing.
+    ///
+    /// # Errors
+    ///
+    /// In this order: [`Error::Argument`] where no process has this number, [`Error::Floor`].
+    /// [`Refusal::Stranger`] where there is no such actor.
+    pub fn judge_process(
+        &self,
+        actor: u32,
+        process: u32,
+        kind: Kind,
+        floor: Kind,
+    ) -> Result<Verdict, Error> {
+        let (mut struck, mut rule, mut named) = (0, 0, 0);
+        // SAFETY: as in `process`. Each answer goes to a variable of its own.
+        let status = unsafe {
+            sys::fy_judge_process(
+                &self.raw,
+                actor,
+                process,
+                kind.into(),
+                floor.into(),
+                &mut struck,
+                &mut rule,
+                &mut named,
+            )
+        };
+        accepted(status, Refusal::Stranger.into())?;
+        Verdict::of(struck, rule, named)
+    }
+
     /// Reports that a process runs again, by an actor whose role is storage.
     ///
     /// # Errors

@@ -146,6 +146,27 @@ extern "C" {
         rule: *mut u32,
         named: *mut u64,
     ) -> u32;
+    pub fn fy_kill_process(
+        guard: *mut FyGuard,
+        actor: u32,
+        process: u32,
+        kind: u32,
+        floor: u32,
+        tear: u64,
+        struck: *mut u32,
+        rule: *mut u32,
+        named: *mut u64,
+    ) -> u32;
+    pub fn fy_judge_process(
+        guard: *const FyGuard,
+        actor: u32,
+        process: u32,
+        kind: u32,
+        floor: u32,
+        struck: *mut u32,
+        rule: *mut u32,
+        named: *mut u64,
+    ) -> u32;
     pub fn fy_up(guard: *mut FyGuard, actor: u32, process: u32, refusal: *mut u32) -> u32;
     pub fn fy_heal(guard: *mut FyGuard, actor: u32, process: u32, refusal: *mut u32) -> u32;
     pub fn fy_clog(

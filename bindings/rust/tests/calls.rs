@@ -250,6 +250,46 @@ fn a_verdict_before_the_kill() {
     assert_eq!(stranger, refused(Refusal::Stranger));
 }
 
+/// By a process's number as by its name: the same verdicts, and the same audit.
+#[test]
+fn by_number_as_by_name() {
+    let (mut named, mut numbered) = (opened(), opened());
+    for process in 0..6 {
+        for kind in [Kind::KillInstantly, Kind::RebootAndDelete, Kind::Reboot] {
+            let name = format!("p{process}");
+            let verdict = named.kill(1, Key::Process, &name, kind, Kind::Reboot, 5);
+            let judged = numbered.judge_process(1, process, kind, Kind::Reboot);
+            assert_eq!(judged, verdict);
+            assert_eq!(
+                numbered.kill_process(1, process, kind, Kind::Reboot, 5),
+                verdict
+            );
+        }
+    }
+    let entries = named.journal_len();
+    assert_eq!(numbered.journal_len(), entries);
+    assert!(entries > 0);
+    let audit = named.audit();
+    assert_eq!(numbered.audit(), audit);
+    let (kind, floor) = (Kind::Reboot, Kind::KillInstantly);
+    assert_eq!(
+        numbered.judge_process(1, 6, kind, kind),
+        Err(Error::Argument)
+    );
+    assert_eq!(
+        numbered.kill_process(1, 6, kind, kind, 0),
+        Err(Error::Argument)
+    );
+    assert_eq!(numbered.judge_process(1, 0, kind, floor), Err(Error::Floor));
+    assert_eq!(
+        numbered.kill_process(1, 0, kind, floor, 0),
+        Err(Error::Floor)
+    );
+    let stranger = numbered.judge_process(9, 0, kind, kind);
+    assert_eq!(stranger, refused(Refusal::Stranger));
+    assert_eq!(numbered.journal_len(), entries);
+}
+
 #[test]
 fn who_is_up_and_in_which_state() {
     let mut guard = opened();

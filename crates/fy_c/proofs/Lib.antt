@@ -8,5 +8,6 @@ mod Lined
 mod Lines
 mod Made
 mod Orders
+mod Processes
 mod Sent
 mod Values

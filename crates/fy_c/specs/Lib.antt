@@ -7,6 +7,7 @@ pub mod Faults
 pub mod Handles
 pub mod InStep
 pub mod Killing
+pub mod KillingProcess
 pub mod Making
 pub mod Numbers
 pub mod Opening

@@ -25,14 +25,14 @@ pub(crate) struct Told {
 }
 
 /// Nothing to tell.
-const UNTOLD: Told = Told {
+pub(crate) const UNTOLD: Told = Told {
     struck: 0,
     rule: 0,
     named: 0,
 };
 
 /// What C is told of an answer to a kill.
-fn told_of(answer: Result<Reply, Fault>) -> Told
+pub(crate) fn told_of(answer: Result<Reply, Fault>) -> Told
     ensures { result ≡ told_of answer }
 {
     match answer {

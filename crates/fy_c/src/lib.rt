@@ -12,6 +12,7 @@ mod entering;
 mod faults;
 mod handle;
 mod killing;
+mod killing_process;
 pub mod laws;
 mod loose;
 mod making;

@@ -257,6 +257,30 @@ static void judged()
     EQUAL(asked.journal_len(), entries);
 }
 
+/* By a process's number as by its name: the same verdicts, and the same audit. */
+static void by_number()
+{
+    Guard named(SIX), numbered(SIX);
+    const Guard &asked = numbered;
+    for (std::uint32_t process = 0; process < 6; process++)
+        for (Kind kind : {Kind::KillInstantly, Kind::RebootAndDelete, Kind::Reboot}) {
+            const std::string name = "p" + std::to_string(process);
+            const Verdict verdict = named.kill(1, Key::Process, name, kind, Kind::Reboot, 5);
+            HOLDS(asked.judge_process(1, process, kind, Kind::Reboot) == verdict);
+            HOLDS(numbered.kill_process(1, process, kind, Kind::Reboot, 5) == verdict);
+        }
+    EQUAL(numbered.audit(), named.audit());
+    const std::size_t entries = asked.journal_len();
+    THROWS(Argument, (void)numbered.kill_process(1, 6, Kind::Reboot));
+    THROWS(Argument, (void)asked.judge_process(1, 6, Kind::Reboot));
+    THROWS(Floor, (void)numbered.kill_process(1, 0, Kind::Reboot, Kind::KillInstantly));
+    THROWS(Floor, (void)asked.judge_process(1, 0, Kind::Reboot, Kind::KillInstantly));
+    REFUSES(Stranger, (void)asked.judge_process(9, 0, Kind::Reboot));
+    EQUAL(asked.journal_len(), entries);
+    REFUSES(Stranger, (void)numbered.kill_process(9, 0, Kind::Reboot));
+    EQUAL(asked.journal_len(), entries + 1);
+}
+
 /* A guard that is reset does the same again. */
 static void resets()
 {
@@ -668,6 +692,8 @@ static void assert_closed(Guard &guard)
     EQUAL(guard.is_open(), false);
     THROWS(Closed, (void)guard.kill(1, Key::Process, "p0", Kind::Reboot));
     THROWS(Closed, (void)guard.judge(1, Key::Process, "p0", Kind::Reboot));
+    THROWS(Closed, (void)guard.kill_process(1, 0, Kind::Reboot));
+    THROWS(Closed, (void)guard.judge_process(1, 0, Kind::Reboot));
     THROWS(Closed, guard.reset());
     THROWS(Closed, (void)guard.try_copy());
     THROWS(Closed, guard.up(0, 0));
@@ -947,6 +973,7 @@ int main()
     sets();
     states();
     judged();
+    by_number();
     resets();
     copies();
     names_and_records();

@@ -306,6 +306,43 @@ func TestWhoIsUpAndTheStateOfEachProcess(t *testing.T) {
 	equal(t, state(t, guard, 3), up)
 }
 
+func TestByNumberAsByName(t *testing.T) {
+	named, numbered := opened(t, six(t)), opened(t, six(t))
+	kinds := []faultyard.Kind{
+		faultyard.KillInstantly, faultyard.RebootAndDelete, faultyard.Reboot,
+	}
+	for process := uint32(0); process < 6; process++ {
+		for _, kind := range kinds {
+			verdict := kill(t, named, 1, faultyard.Order{
+				Key: faultyard.Process, Value: fmt.Sprintf("p%d", process), Kind: kind, Tear: 5,
+			})
+			order := faultyard.ProcessOrder{Process: process, Kind: kind, Tear: 5}
+			judged, err := numbered.JudgeProcess(1, order)
+			equal(t, err, nil)
+			equal(t, judged, verdict)
+			killed, err := numbered.KillProcess(1, order)
+			equal(t, err, nil)
+			equal(t, killed, verdict)
+		}
+	}
+	equal(t, audit(t, numbered), audit(t, named))
+	count := journalLen(t, numbered)
+	order := faultyard.ProcessOrder{Process: 5, Kind: faultyard.Reboot}
+	_, err := numbered.JudgeProcess(9, order)
+	fails(t, err, faultyard.RefusalStranger)
+	order.Floor = faultyard.KillInstantly
+	_, err = numbered.JudgeProcess(1, order)
+	fails(t, err, faultyard.ErrFloor)
+	_, err = numbered.KillProcess(1, order)
+	fails(t, err, faultyard.ErrFloor)
+	order.Process = 6
+	_, err = numbered.JudgeProcess(1, order)
+	fails(t, err, faultyard.ErrArgument)
+	_, err = numbered.KillProcess(1, order)
+	fails(t, err, faultyard.ErrArgument)
+	equal(t, journalLen(t, numbered), count)
+}
+
 func TestEachOrderIsJudgedAsTheKillIsThenAnswered(t *testing.T) {
 	guard := opened(t, six(t))
 	kinds := []faultyard.Kind{

@@ -335,6 +335,30 @@ class InThisProcess(common.Folder, unittest.TestCase):
                     guard.judge(key, value, kinds[0], by=1, floor=floor)
             self.assertEqual(guard.journal_len(), 12)
 
+    def test_by_number_as_by_name(self):
+        key, kinds = faultyard.Key.PROCESS, list(faultyard.Kind)[1:4]
+        with self.guard() as named, self.guard() as numbered:
+            for process in range(6):
+                for kind in reversed(kinds):
+                    verdict = named.kill(key, f"p{process}", kind, by=1, floor=kinds[0], tear=5)
+                    judged = numbered.judge_process(process, kind, by=1, floor=kinds[0])
+                    self.assertEqual(judged, verdict)
+                    killed = numbered.kill_process(process, kind, by=1, floor=kinds[0], tear=5)
+                    self.assertEqual(killed, verdict)
+            self.assertEqual(numbered.audit(), named.audit())
+            for call in (numbered.judge_process, numbered.kill_process):
+                with self.assertRaises(faultyard.ActRefused) as caught:
+                    call(0, kinds[0], by=9)
+                self.assertEqual(caught.exception.refusal, faultyard.Refusal.STRANGER)
+                for process, floor in ((6, kinds[0]), (-1, kinds[0]), (0, kinds[1])):
+                    with self.assertRaises(faultyard.InvalidAct):
+                        call(process, kinds[0], by=1, floor=floor)
+            # The kill by a stranger stands in the journal.
+            self.assertEqual(numbered.journal_len(), named.journal_len() + 1)
+        for call in (numbered.judge_process, numbered.kill_process):
+            with self.assertRaises(faultyard.GuardClosed):
+                call(0, kinds[0], by=1)
+
     def test_states_and_what_is_needed_and_a_reset(self):
         up = faultyard.State(up=True, clogged=False, destroyed=False, gone=False)
         with self.guard() as guard:

@@ -222,6 +222,8 @@ class PipeTest(common.Folder, unittest.TestCase):
             asked.append(guard.try_copy)
             key, kind = faultyard.Key.PROCESS, faultyard.Kind.REBOOT
             asked.append(lambda: guard.judge(key, "p0", kind, by=1))
+            asked.append(lambda: guard.kill_process(0, kind, by=1))
+            asked.append(lambda: guard.judge_process(0, kind, by=1))
             for ask in asked:
                 with self.assertRaises(faultyard.NotOffered):
                     ask()

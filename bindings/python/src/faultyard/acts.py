@@ -150,9 +150,20 @@ def checked(name: str, members: Mapping[str, Any]) -> Dict[str, Any]:
     if members.keys() != readers.keys():
         raise InvalidAct(f"{name} has the members {', '.join(sorted(readers))}")
     read = {member: readers[member](value) for member, value in members.items()}
-    if name == "kill" and _ORDERED[read["floor"]] > _ORDERED[read["kind"]]:
-        raise InvalidAct(f"the floor {read['floor']} is above the kind {read['kind']}")
-    return read
+    return _with_floor(read) if name == "kill" else read
+
+
+def _with_floor(order: Dict[str, Any]) -> Dict[str, Any]:
+    """The order, whose floor must not be above its kind."""
+    if _ORDERED[order["floor"]] > _ORDERED[order["kind"]]:
+        raise InvalidAct(f"the floor {order['floor']} is above the kind {order['kind']}")
+    return order
+
+
+def numbered_kill(process: Any, kind: Any, floor: Any, tear: Any) -> Dict[str, Any]:
+    """The members of a kill of one process by its number, or `InvalidAct`."""
+    order = {"process": number(process), "kind": _ordered(kind), "floor": _ordered(floor)}
+    return _with_floor({**order, "tear": large(tear)})
 
 
 def named(act: Any) -> Tuple[str, Mapping[str, Any]]:

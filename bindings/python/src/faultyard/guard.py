@@ -15,7 +15,7 @@ from .library import Library
 from .pipe import Pipe
 from .programs import StrPath
 from .replies import Begun, Done, Entry, Formed, Marked, Refused, Ruling, Sent, Stored, Synced
-from .replies import Time, Verdict, read_entry
+from .replies import Reply, Time, Verdict, read_entry
 from .transport import Sight, State, Transport
 
 _Reply = TypeVar("_Reply")
@@ -138,11 +138,51 @@ class Guard:
         by, order = acts.number(by), acts.checked("kill", order)
         with self._lock:
             reply = self._at_work().judge(by, order)
+        return self._verdict("judge", reply)
+
+    def kill_process(
+        self,
+        process: int,
+        kind: Kind,
+        *,
+        by: int,
+        floor: Kind = Kind.REBOOT_PROCESS,
+        tear: int = 0,
+    ) -> Verdict:
+        """What `kill` does with the name of the process with this number, which isn't looked up.
+
+        Raises `InvalidAct` where no process has the number. Over the pipe it raises `NotOffered`.
+        """
+        by, order = acts.number(by), acts.numbered_kill(process, kind, floor, tear)
+        with self._lock:
+            reply = self._at_work().kill_process(by, order)
+        return self._verdict("kill_process", reply)
+
+    def judge_process(
+        self,
+        process: int,
+        kind: Kind,
+        *,
+        by: int,
+        floor: Kind = Kind.REBOOT_PROCESS,
+    ) -> Verdict:
+        """The verdict that `kill_process` would get now. It enters nothing.
+
+        Raises as `kill_process` does.
+        """
+        by, order = acts.number(by), acts.numbered_kill(process, kind, floor, 0)
+        with self._lock:
+            reply = self._at_work().judge_process(by, order)
+        return self._verdict("judge_process", reply)
+
+    @staticmethod
+    def _verdict(call: str, reply: Reply) -> Verdict:
+        """The verdict that a call was answered, or its refusal."""
         if isinstance(reply, Refused):
             raise ActRefused("kill", reply.refusal, reply.named)
         if isinstance(reply, Verdict):
             return reply
-        raise ProtocolError(f"judge was answered {reply!r}")
+        raise ProtocolError(f"{call} was answered {reply!r}")
 
     def clog(self, key: Key, value: str, ticks: int, *, by: int) -> Ruling:
         """Holds the messages of each process of the target for so many ticks."""

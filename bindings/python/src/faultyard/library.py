@@ -10,7 +10,7 @@ from typing import Tuple
 
 from .acts import large, line, number
 from .enums import Key, Kind, Part, Refusal, Rule
-from .errors import ConfigRefused, FaultyardError, GuardClosed, JournalFull, NotFound
+from .errors import ConfigRefused, FaultyardError, GuardClosed, InvalidAct, JournalFull, NotFound
 from .errors import OutOfMemory, ProtocolError
 from .programs import StrPath
 from .replies import Begun, Done, Formed, Marked, Refused, Reply, Ruling, Sent, Stored, Synced
@@ -101,6 +101,14 @@ CALLS: Dict[str, Tuple[Any, List[Any]]] = {
         _u32,
         [_guard, _u32, _u32, _bytes, _size, _u32, _u32, _u32_out, _u32_out, _u64_out],
     ),
+    "fy_kill_process": (
+        _u32,
+        [_guard, _u32, _u32, _u32, _u32, _u64, _u32_out, _u32_out, _u64_out],
+    ),
+    "fy_judge_process": (
+        _u32,
+        [_guard, _u32, _u32, _u32, _u32, _u32_out, _u32_out, _u64_out],
+    ),
     "fy_up": (_u32, [_guard, _u32, _u32, _u32_out]),
     "fy_heal": (_u32, [_guard, _u32, _u32, _u32_out]),
     "fy_clog": (_u32, [_guard, _u32, _u32, _bytes, _size, _u64, _reply]),
@@ -150,6 +158,7 @@ CALLS: Dict[str, Tuple[Any, List[Any]]] = {
 # From include/faultyard.h.
 MAJOR = 1
 DONE, NO_MEMORY, JOURNAL_FULL, REFUSED, SHORT, UNWRITTEN = range(6)
+ARGUMENT = 7
 LINE_TOO_LONG, LINE_SYNTAX, NO_HEADER, AUDIT_TOO_LONG = 10, 11, 20, 21
 ORDER_KILL, ORDER_CLOG, ORDER_UNCLOG = 1, 2, 3
 NO_BAD_ENTRY = 2**32 - 1
@@ -338,6 +347,15 @@ def _require(status: int) -> None:
         raise _error(status)
 
 
+def _judged(status: int, verdict: Verdict) -> Reply:
+    """The reply that a judgement tells."""
+    if status == REFUSED:
+        # No other refusal of a kill is there.
+        return Refused(Refusal.STRANGER, None)
+    _require(status)
+    return verdict
+
+
 def _config_error(library: c.CDLL, text: bytes, refused: int) -> FaultyardError:
     """What a cluster file tells that is refused with this status: it is read again to say where."""
     part, place = _u32(), _u64()
@@ -417,12 +435,14 @@ class Library(Transport):
         return self._numbered(by, name, members)
 
     def judge(self, by: int, order: Mapping[str, Any]) -> Reply:
-        status, verdict = self._verdict(self._library.fy_judge, by, order)
-        if status == REFUSED:
-            # No other refusal of a kill is there.
-            return Refused(Refusal.STRANGER, None)
-        _require(status)
-        return verdict
+        return _judged(*self._verdict(self._library.fy_judge, by, order))
+
+    def kill_process(self, by: int, order: Mapping[str, Any]) -> Reply:
+        call = self._library.fy_kill_process
+        return self._killed(*self._verdict(call, by, order, order["tear"]))
+
+    def judge_process(self, by: int, order: Mapping[str, Any]) -> Reply:
+        return _judged(*self._verdict(self._library.fy_judge_process, by, order))
 
     def reset(self) -> None:
         _require(self._library.fy_reset(self._opened()))
@@ -538,7 +558,10 @@ class Library(Transport):
         return buffer.raw[: told.value]
 
     def _kill(self, by: int, order: Mapping[str, Any]) -> Reply:
-        status, verdict = self._verdict(self._library.fy_kill, by, order, order["tear"])
+        return self._killed(*self._verdict(self._library.fy_kill, by, order, order["tear"]))
+
+    def _killed(self, status: int, verdict: Verdict) -> Reply:
+        """The reply to a kill that was made."""
         if status == REFUSED:
             return self._last_reply()
         _require(status)
@@ -548,12 +571,19 @@ class Library(Transport):
         self, call: Any, by: int, order: Mapping[str, Any], *tear: int
     ) -> Tuple[int, Verdict]:
         """The status of an order, and the verdict that is told with it."""
-        value = order["value"].encode()
         kind, floor = KINDS[order["kind"]], KINDS[order["floor"]]
-        target = (KEYS[order["key"]], value, len(value))
+        target: Tuple[Any, ...]
+        if "process" in order:
+            target = (order["process"],)
+        else:
+            value = order["value"].encode()
+            target = (KEYS[order["key"]], value, len(value))
         struck, rule, named = _u32(), _u32(), _u64()
         told = (struck, rule, named)
         status = call(self._opened(), by, *target, kind, floor, *tear, *told)
+        if status == ARGUMENT:
+            # The order is checked, but not whether a process has its number.
+            raise InvalidAct(f"no process: {order['process']}")
         barred = RULES[rule.value]
         number = None if barred in (None, Rule.NO_TARGET) else named.value
         return status, Verdict(STRUCK[struck.value], barred, number)

@@ -142,6 +142,12 @@ class Pipe(Transport):
     def judge(self, by: int, order: Mapping[str, Any]) -> Reply:
         raise NotOffered("judge asks for the transport 'library'")
 
+    def kill_process(self, by: int, order: Mapping[str, Any]) -> Reply:
+        raise NotOffered("kill_process asks for the transport 'library'")
+
+    def judge_process(self, by: int, order: Mapping[str, Any]) -> Reply:
+        raise NotOffered("judge_process asks for the transport 'library'")
+
     def reset(self) -> None:
         raise NotOffered("reset asks for the transport 'library'")
 

@@ -57,6 +57,14 @@ class Transport(ABC):
         """The reply that a kill whose members are checked would get now."""
 
     @abstractmethod
+    def kill_process(self, by: int, order: Mapping[str, Any]) -> Reply:
+        """Makes a kill of one process by its number, whose members are checked."""
+
+    @abstractmethod
+    def judge_process(self, by: int, order: Mapping[str, Any]) -> Reply:
+        """The reply that a kill of one process by its number would get now."""
+
+    @abstractmethod
     def reset(self) -> None:
         """Puts the guard back to where nothing happened yet."""
 

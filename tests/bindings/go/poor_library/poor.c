@@ -85,6 +85,25 @@ uint32_t fy_judge(const fy_guard *guard, uint32_t actor, uint32_t key, const uin
     return FY_ARGUMENT;
 }
 
+uint32_t fy_kill_process(fy_guard *guard, uint32_t actor, uint32_t process, uint32_t kind,
+                         uint32_t floor, uint64_t tear, uint32_t *struck, uint32_t *rule,
+                         uint64_t *named)
+{
+    require_turn();
+    *struck = *rule = 0;
+    *named = 0;
+    return FY_NO_MEMORY;
+}
+
+uint32_t fy_judge_process(const fy_guard *guard, uint32_t actor, uint32_t process, uint32_t kind,
+                          uint32_t floor, uint32_t *struck, uint32_t *rule, uint64_t *named)
+{
+    require_turn();
+    *struck = *rule = 0;
+    *named = 0;
+    return FY_ARGUMENT;
+}
+
 uint32_t fy_up(fy_guard *guard, uint32_t actor, uint32_t process, uint32_t *refusal)
 {
     require_turn();

@@ -1,0 +1,69 @@
+-- an order on one process by numbers, and what came of it
+use Rattle.std.proofs.Common.{◌≡◌, ◌<◌, ◌≤◌, zero, suc, List, [], ◌∷◌, length, Some, refl, sym, ap, subst, ◌∙◌, arith}
+use Rattle.std.specs.Prelude.{ℕ, Result, Ok, Err, IfOk, IfErr}
+use Rattle.fy_locality.specs.declared.key.Key.TheVariants.{Process}
+use Rattle.fy_locality.specs.declared.locality.Locality.{Locality}
+use Rattle.fy_locality.specs.Locality.{value_of}
+use Rattle.fy_kinds.specs.declared.kind.Kind.{Kind}
+use Rattle.fy_kinds.specs.Kinds.{rank}
+use Rattle.fy_kinds.specs.Orders.{Order}
+use Rattle.fy_decide.specs.Verdicts.{NamesProcess}
+use Rattle.fy_acts.specs.declared.act.Act.TheVariants.{Kill}
+use Rattle.fy_acts.specs.declared.reply.Reply.{Reply}
+use Rattle.fy_cluster.specs.Execution.{Execution, replied}
+use Rattle.fy_c.specs.Entering.{status_of}
+use Rattle.fy_c.specs.Killing.{IsKilled, told_of, untold}
+use Rattle.fy_c.specs.KillingProcess.{GivenProcess, IsOrderOn, AreKindsOn, NoOrderOn, KillsProcess, JudgesProcess}
+use Rattle.fy_c.specs.declared.killing.Told.{Told}
+use Rattle.fy_c.specs.declared.status.Status.{Status}
+
+-- each process has a name
+pub has_name : (processes : List Locality) (p : ℕ) → p < length processes →
+    (name : List ℕ) × (value_of processes Process p ≡ Some name)
+has_name [] p within = absurd (omega arith)
+has_name (x ∷ xs) zero within = (x.process, refl)
+has_name (x ∷ xs) (suc p) within = has_name xs p (let l : p < length xs = omega arith in l)
+
+-- an order that was made was killed by, and one that wasn't is told of
+pub kills_process : (old new : Execution) (by : ℕ) (given : GivenProcess)
+    (order : Result Order Status) (answer : Status × Told) →
+    IfOk order (IsOrderOn old.setup.processes given) →
+    IfErr order (NoOrderOn old.setup.processes given) →
+    IfOk order (λ it. IsKilled old new by it answer.0 answer.1) →
+    IfErr order (λ status. (new ≡ old) × (answer ≡ (status, untold))) →
+    KillsProcess old new by given answer.1 answer.0
+kills_process old new by given (Ok order) answer is none killed not_given =
+    KillsProcess.killed order is killed
+kills_process old new by given (Err status) answer is none killed not_given =
+    subst (λ (it : Status × Told). KillsProcess old new by given it.1 it.0) (sym not_given.1)
+    (KillsProcess.not_given none not_given.0 refl)
+
+-- what each order on a process by two kinds would get is what the one that they give would get
+pub judges_process : (execution : Execution) (by : ℕ) (given : GivenProcess) (kind floor : Kind)
+    (reply : Reply) (status : Status) (told : Told) →
+    AreKindsOn execution.setup.processes given kind floor → rank floor ≤ rank kind →
+    ((order : Order) → order.kind ≡ kind → order.floor ≡ floor →
+    NamesProcess execution.setup.processes given.process order →
+    reply ≡ replied execution by (Kill order)) →
+    status ≡ status_of (Ok reply) → told ≡ told_of (Ok reply) →
+    JudgesProcess execution by given told status
+judges_process execution by given kind floor reply status told are ordered is status_is told_is =
+    let name = has_name execution.setup.processes given.process are.process in
+    let order : Order = record {
+      target = record { key = Process; value = name.0 };
+      kind = kind;
+      floor = floor;
+      tear = given.tear;
+      ordered = ordered;
+    } in
+    let named : NamesProcess execution.setup.processes given.process order = record {
+      key = refl;
+      name = name.1;
+    } in
+    let same : reply ≡ replied execution by (Kill order) = is order refl refl named in
+    JudgesProcess.judged order
+    (record { named = named; kind = are.kind_is; floor = are.floor_is; tear = refl })
+    (record {
+      status_is = status_is ∙ ap (λ r. status_of (Ok r)) same;
+      told_is = told_is ∙ ap (λ r. told_of (Ok r)) same;
+    })
