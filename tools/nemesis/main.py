@@ -117,7 +117,8 @@ def report(run: Run) -> int:
     words, lost, audit, beyond = run.words, run.losses, run.guard.audit(), run.beyond()
     try:
         checked = f"legal {faultyard.check(words.config, audit)}"
-        picture = faultyard.show(words.config, audit, beyond=beyond["entry"] if beyond else None)
+        first, events = beyond["entry"] if beyond else None, words.out / "events.jsonl"
+        picture = faultyard.show(words.config, audit, beyond=first, times=events)
         (words.out / "picture.svg").write_text(picture, "utf-8")
     except faultyard.AuditRefused as fault:
         checked = fault.fault

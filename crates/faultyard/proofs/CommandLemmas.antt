@@ -123,7 +123,7 @@ known_task s words known other none =
       )
       | inr (inr (inr (inr (inr (inl show))))) ↦ inr (
         inr (inr (inr (inr (inl (ap (λ t. t.name) show))))),
-        config_given s _ words show ((refl, refl, refl), ((refl, refl, refl), tt)) (inl (refl, refl)) refl none,
+        config_given s _ words show ((refl, refl, refl), ((refl, refl, refl), ((refl, refl, refl), tt))) (inl (refl, refl)) refl none,
         λ swarm. absurd (no_show s.name (ap (λ t. t.name) show) swarm),
       )
       | inr (inr (inr (inr (inr (inr (inl bears)))))) ↦ inr (

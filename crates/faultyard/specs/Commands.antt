@@ -54,9 +54,17 @@ swarm_command = with_rule (with_rule (new_app (codes "swarm")) config_rule) seed
 abbrev pub guard_command : App
 guard_command = with_rule (new_app (codes "guard")) config_rule
 
--- the subcommand `show`, which takes a cluster file
+-- the option `--times`, which has the file of events
+abbrev pub times_rule : Rule
+times_rule = record (new_rule (codes "times")) {
+  long = Some (codes "times");
+  action = Some Set;
+  value_names = 1;
+}
+
+-- the subcommand `show`, which takes a cluster file, and may take the other
 abbrev pub show_command : App
-show_command = with_rule (new_app (codes "show")) config_rule
+show_command = with_rule (with_rule (new_app (codes "show")) config_rule) times_rule
 
 -- the flag `--json`
 abbrev pub json_rule : Rule
@@ -117,8 +125,9 @@ StandsFor met (Swarm config seed) =
     × (option_map seed_in (one_of (codes "seed") met.1) ≡ Some seed)
 StandsFor met (Guard config) =
     (met.0 ≡ codes "guard") × (first_of (codes "CONFIG") met.1 ≡ Some config.now)
-StandsFor met (Show config) =
+StandsFor met (Show config times) =
     (met.0 ≡ codes "show") × (first_of (codes "CONFIG") met.1 ≡ Some config.now)
+    × (option_map (λ events. events.now) times ≡ first_of (codes "times") met.1)
 StandsFor met (Bears config form after) =
     (met.0 ≡ codes "bears") × (first_of (codes "CONFIG") met.1 ≡ Some config.now)
     × IsFormOf (first_of (codes "json") met.1) form

@@ -10,7 +10,7 @@ use fy_cluster::Config;
 use fy_engine::{Stop, load_config, write_stop};
 use fy_judge::run_judge;
 use fy_run::{run_guard, run_script};
-use fy_show::run_show;
+use fy_show::{run_show, run_show_by_time};
 use fy_swarm::run_swarm;
 use std::fs::File;
 use std::io::{BufReader, ErrorKind};
@@ -34,7 +34,7 @@ fn main(rt: HostRuntime) -> ExitCode {
         Ok(Task::Run(path)) => run_file(&rt, path),
         Ok(Task::Check(path)) => check_file(&rt, path),
         Ok(Task::Guard(path)) => guard_file(&rt, path),
-        Ok(Task::Show(path)) => show_file(&rt, path),
+        Ok(Task::Show(path, times)) => show_file(&rt, path, times),
         Ok(Task::Bears(path, form, after)) => bears_file(&rt, path, form, after),
         // Threads are main's to give.
         Ok(Task::Swarm(path, seed)) => match open_config(&rt, path) {
@@ -74,10 +74,19 @@ fn check_file(rt: &HostRuntime, path: &str) -> Result<bool, Stop> {
     }
 }
 
-/// Draws the audit on standard input on the cluster of a file.
-fn show_file(rt: &HostRuntime, path: &str) -> Result<bool, Stop> {
-    match open_config(rt, path) {
-        Ok(config) => run_show(rt.alloc(), &config, &mut rt.stdin(), &mut rt.stdout()),
+/// Draws the audit on standard input on the cluster of a file, by the times of a file of events
+/// where one is named.
+fn show_file(rt: &HostRuntime, path: &str, times: Option<&str>) -> Result<bool, Stop> {
+    let config = match open_config(rt, path) {
+        Ok(config) => config,
+        Err(stop) => return Err(stop),
+    };
+    let (alloc, mut input, mut output) = (rt.alloc(), rt.stdin(), rt.stdout());
+    let Some(times) = times else {
+        return run_show(alloc, &config, &mut input, &mut output);
+    };
+    match open_file(rt, times) {
+        Ok(mut events) => run_show_by_time(alloc, &config, &mut input, &mut events, &mut output),
         Err(stop) => Err(stop),
     }
 }

@@ -8,7 +8,7 @@ ghost use Rattle.clap.specs.Walk.{rule_of};
 ghost use Rattle.faultyard.specs.Commands.{IsTaskOf, faultyard_command, bare_command, judge_command};
 ghost use Rattle.faultyard.specs.Commands.{config_rule, run_command, check_command};
 ghost use Rattle.faultyard.specs.Commands.{seed_rule, swarm_command, guard_command, show_command, IsSeed, seed_in};
-ghost use Rattle.faultyard.specs.Commands.{json_rule, after_rule, bears_command, IsFormOf};
+ghost use Rattle.faultyard.specs.Commands.{times_rule, json_rule, after_rule, bears_command, IsFormOf};
 
 use clap::{Arg, ArgAction, ArgMatches, Command, value_parser};
 use fy_bears::Form;
@@ -59,8 +59,9 @@ pub enum Task<'a> {
     /// `faultyard guard CONFIG`: answer each line of the script on standard input at once, on the
     /// cluster of a file.
     Guard(&'a str),
-    /// `faultyard show CONFIG`: draw the audit on standard input on the cluster of a file.
-    Show(&'a str),
+    /// `faultyard show CONFIG`: draw the audit on standard input on the cluster of a file, with
+    /// `--times EVENTS` by the times of a file of events.
+    Show(&'a str, Option<&'a str>),
     /// `faultyard bears CONFIG`: say what the cluster of a file bears, with `--json` in that form,
     /// and with `--after AUDIT` from the end of an audit on.
     Bears(&'a str, Form, Option<&'a str>),
@@ -147,6 +148,18 @@ fn guard<'a>(alloc: Global) -> Result<Command<'a>, AllocError>
         .arg(config(alloc))
 }
 
+/// The option with the file of events.
+fn times<'a>(alloc: Global) -> Arg<'a>
+    ensures rule { rule_of result ≡ times_rule }
+    ensures own { result.global ≡ false }
+{
+    Arg::new(alloc, "times")
+        .long("times")
+        .value_name("EVENTS")
+        .action(ArgAction::Set)
+        .help("The events of the run, a file: columns are laid by their times")
+}
+
 /// The subcommand `show`, with its help.
 fn show<'a>(alloc: Global) -> Result<Command<'a>, AllocError>
     ensures { IfOk result (λ command. app_of command ≡ show_command) }
@@ -156,7 +169,8 @@ fn show<'a>(alloc: Global) -> Result<Command<'a>, AllocError>
         .after_help(with_statuses!(
             "Example:\n  faultyard show examples/c6.toml < examples/bad-day.audit > bad-day.svg"
         ))
-        .arg(config(alloc))
+        .arg(config(alloc))?
+        .arg(times(alloc))
 }
 
 /// The flag for one JSON object.
@@ -247,7 +261,7 @@ pub fn read_task<'a>(alloc: Global, words: &'a [String]) -> Result<Task<'a>, cla
         "check" => Ok(Task::Check(config_of(given))),
         "swarm" => Ok(Task::Swarm(config_of(given), seed_of(given))),
         "guard" => Ok(Task::Guard(config_of(given))),
-        "show" => Ok(Task::Show(config_of(given))),
+        "show" => Ok(Task::Show(config_of(given), times_of(given))),
         "bears" => Ok(Task::Bears(config_of(given), form_of(given), after_of(given))),
         _ => unreachable!(),
     }
@@ -292,4 +306,12 @@ fn after_of<'a>(given: &ArgMatches<'a>) -> Option<&'a str>
         ≡ first_of (codes "after") (rows_of (found_of given.now)) }
 {
     given.get_str("after")
+}
+
+/// The file of events among the words of a subcommand, if one is named.
+fn times_of<'a>(given: &ArgMatches<'a>) -> Option<&'a str>
+    ensures { option_map (λ events. events.now) result
+        ≡ first_of (codes "times") (rows_of (found_of given.now)) }
+{
+    given.get_str("times")
 }

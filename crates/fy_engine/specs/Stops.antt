@@ -10,6 +10,10 @@ use Rattle.fy_audit.specs.declared.audit.AuditLineFault.{AuditLineFault}
 use Rattle.fy_audit.specs.declared.audit.AuditLineFault.TheVariants as audit_line
 use Rattle.fy_audit.specs.declared.audit.AuditFault.{AuditFault}
 use Rattle.fy_audit.specs.declared.audit.AuditFault.TheVariants as audit
+use Rattle.fy_times.specs.declared.event.EventFault.{EventFault}
+use Rattle.fy_times.specs.declared.event.EventFault.TheVariants as event
+use Rattle.fy_times.specs.declared.events.EventsFault.{EventsFault}
+use Rattle.fy_times.specs.declared.events.EventsFault.TheVariants as events
 use Rattle.fy_config.specs.declared.fault.Part.{Part}
 use Rattle.fy_config.specs.declared.fault.Part.TheVariants as part
 use Rattle.fy_config.specs.declared.fault.ConfigFault.{ConfigFault}
@@ -19,7 +23,7 @@ use Rattle.fy_judge.specs.declared.stop.JudgeFault.TheVariants.{Syntax, Policy, 
 use Rattle.fy_judge.specs.declared.stop.JudgeStop.{JudgeStop}
 use Rattle.fy_judge.specs.declared.stop.JudgeStop.TheVariants as judge
 use Rattle.fy_engine.specs.declared.stop.Stop.{Stop}
-use Rattle.fy_engine.specs.declared.stop.Stop.TheVariants.{JudgeTooLong, JudgeLine, Config, Script, JournalFull, Audit, SwarmClose, Read, Write, NoMemory}
+use Rattle.fy_engine.specs.declared.stop.Stop.TheVariants.{JudgeTooLong, JudgeLine, Config, Script, JournalFull, Audit, Events, SwarmClose, Read, Write, NoMemory}
 
 -- the word for a fault of a line of judge's input
 abbrev pub fault_word : JudgeFault → List ℕ
@@ -41,6 +45,14 @@ abbrev pub audit_line_word : AuditLineFault → List ℕ
 audit_line_word audit_line.Header = codes "Header"
 audit_line_word audit_line.TooLong = codes "TooLong"
 audit_line_word audit_line.Syntax = codes "Syntax"
+
+-- the word for a fault of a line of events
+abbrev pub event_word : EventFault → List ℕ
+event_word event.Syntax = codes "Syntax"
+event_word event.Entry = codes "Entry"
+event_word event.Time = codes "Time"
+event_word event.Does = codes "Does"
+event_word event.Order = codes "Order"
 
 -- the word for a part of a cluster file
 abbrev pub part_word : Part → List ℕ
@@ -85,6 +97,13 @@ audit_fault_text (audit.Line number fault) =
     numbered (codes "audit: line ") number (codes ": " ++ audit_line_word fault ++ codes "\n")
 audit_fault_text audit.NoMemory = codes "no memory\n"
 
+-- the line for a file of events that is refused
+abbrev pub events_fault_text : EventsFault → List ℕ
+events_fault_text events.TooLong = codes "events: TooLong\n"
+events_fault_text (events.Line number fault) =
+    numbered (codes "events: line ") number (codes ": " ++ event_word fault ++ codes "\n")
+events_fault_text events.NoMemory = codes "no memory\n"
+
 -- the line that says why a command stops
 abbrev pub stop_text : Stop → List ℕ
 stop_text JudgeTooLong = codes "judge: TooLong\n"
@@ -94,6 +113,7 @@ stop_text (Config fault) = config_text fault
 stop_text (Script fault) = script_text fault
 stop_text JournalFull = codes "script: JournalFull\n"
 stop_text (Audit fault) = audit_fault_text fault
+stop_text (Events fault) = events_fault_text fault
 stop_text SwarmClose = codes "swarm: close\n"
 stop_text Read = codes "read fault\n"
 stop_text Write = codes "write fault\n"
@@ -110,6 +130,8 @@ stop_status (Script fault) = 1
 stop_status JournalFull = 1
 stop_status (Audit audit.NoMemory) = 4
 stop_status (Audit fault) = 1
+stop_status (Events events.NoMemory) = 4
+stop_status (Events fault) = 1
 stop_status SwarmClose = 1
 stop_status Read = 3
 stop_status Write = 3
@@ -153,12 +175,18 @@ abbrev pub IfAuditFault : Stop → (AuditFault → Type 0) → Type 0
 IfAuditFault (Audit fault) P = P fault
 IfAuditFault _ P = Unit {0}
 
+-- a fact for the fault of a file of events; none for other stops
+abbrev pub IfEventsFault : Stop → (EventsFault → Type 0) → Type 0
+IfEventsFault (Events fault) P = P fault
+IfEventsFault _ P = Unit {0}
+
 -- a stop of run's own once its cluster file is read, or of any command
 abbrev pub IsRunStop : Stop → Type 0
 IsRunStop JudgeTooLong = ⊥
 IsRunStop (JudgeLine line fault) = ⊥
 IsRunStop (Config fault) = ⊥
 IsRunStop (Audit fault) = ⊥
+IsRunStop (Events fault) = ⊥
 IsRunStop SwarmClose = ⊥
 IsRunStop _ = Unit {0}
 
@@ -169,6 +197,11 @@ IsCheckStop Read = Unit {0}
 IsCheckStop Write = Unit {0}
 IsCheckStop NoMemory = Unit {0}
 IsCheckStop _ = ⊥
+
+-- a stop of show's own where the times of entries are given
+abbrev pub IsTimesStop : Stop → Type 0
+IsTimesStop (Events fault) = Unit {0}
+IsTimesStop stop = IsCheckStop stop
 
 -- a stop of a cluster file that is read
 abbrev pub IsConfigStop : Stop → Type 0

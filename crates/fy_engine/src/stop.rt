@@ -3,13 +3,14 @@
 ghost use Rattle.std.specs.Prelude.{◌≡◌, ◌++◌, OnOk, OnErr, IfErr, codes};
 ghost use Rattle.std.specs.Io.KnownBytes.{Appends};
 ghost use Rattle.fy_lines.specs.Prefixes.{AppendsProperPrefix};
-ghost use Rattle.fy_engine.specs.Stops.{fault_word, line_word, audit_line_word, part_word, worded, numbered, config_text, script_text, audit_fault_text, stop_text, stop_status};
+ghost use Rattle.fy_engine.specs.Stops.{fault_word, line_word, audit_line_word, event_word, part_word, worded, numbered, config_text, script_text, audit_fault_text, events_fault_text, stop_text, stop_status};
 ghost use Rattle.fy_engine.specs.declared.stop.Stop.TheVariants.{Write as write_fault};
 
 use fy_audit::{AuditFault, AuditLineFault, LineFault, ScriptFault};
 use fy_config::{ConfigFault, Part};
 use fy_judge::{JudgeFault, JudgeStop};
 use fy_lines::{OutputFault, write_bytes, write_parts};
+use fy_times::{EventFault, EventsFault};
 use std::alloc::AllocError;
 use std::io::Write;
 
@@ -28,6 +29,8 @@ pub enum Stop {
     JournalFull,
     /// The audit is refused.
     Audit { fault: AuditFault },
+    /// The file of events is refused.
+    Events { fault: EventsFault },
     /// The cluster that a swarm shared can't be closed: a seat is missing.
     SwarmClose,
     /// A call of `read` failed, or a file can't be opened.
@@ -103,10 +106,13 @@ impl Stop {
             Stop::Audit {
                 fault: AuditFault::NoMemory,
             } => 4,
+            Stop::Events {
+                fault: EventsFault::NoMemory,
+            } => 4,
             Stop::Read | Stop::Write => 3,
             Stop::JudgeTooLong | Stop::JudgeLine { .. } => 1,
             Stop::Config { .. } | Stop::Script { .. } | Stop::JournalFull => 1,
-            Stop::Audit { .. } | Stop::SwarmClose => 1,
+            Stop::Audit { .. } | Stop::Events { .. } | Stop::SwarmClose => 1,
         }
     }
 }
@@ -266,6 +272,40 @@ fn write_audit_fault<W: Write>(fault: AuditFault, writer: &mut W) -> Result<(), 
     }
 }
 
+/// What follows the line's number in the fault line: the fault's word, and the line feed.
+fn events_line_ending(fault: EventFault) -> &'static str
+    ensures { result.now ≡ codes ": " ++ event_word fault ++ codes "\n" }
+{
+    match fault {
+        EventFault::Syntax => ": Syntax\n",
+        EventFault::Entry => ": Entry\n",
+        EventFault::Time => ": Time\n",
+        EventFault::Does => ": Does\n",
+        EventFault::Order => ": Order\n",
+    }
+}
+
+/// Writes the line for a file of events that is refused.
+fn write_events_fault<W: Write>(fault: EventsFault, writer: &mut W) -> Result<(), OutputFault>
+    ensures ok { OnOk result
+        (Appends (W.contents writer.old) (W.contents writer.new) (events_fault_text fault)) }
+    ensures err { OnErr result (AppendsProperPrefix (W.contents writer.old) (W.contents writer.new)
+        (events_fault_text fault)) }
+{
+    match fault {
+        EventsFault::TooLong => write_bytes(writer, b"events: TooLong\n"),
+        EventsFault::Line { number, fault } => {
+            write_numbered(
+                writer,
+                "events: line ",
+                number as u64,
+                events_line_ending(fault),
+            )
+        }
+        EventsFault::NoMemory => write_bytes(writer, b"no memory\n"),
+    }
+}
+
 /// Writes the stop's fault line with its line feed. It takes no memory.
 ///
 /// # Errors
@@ -293,6 +333,7 @@ pub fn write_stop<W: Write>(stop: &Stop, writer: &mut W) -> Result<(), Stop>
         Stop::Script { fault } => write_script_fault(fault, writer)?,
         Stop::JournalFull => write_bytes(writer, b"script: JournalFull\n")?,
         Stop::Audit { fault } => write_audit_fault(fault, writer)?,
+        Stop::Events { fault } => write_events_fault(fault, writer)?,
         Stop::SwarmClose => write_bytes(writer, b"swarm: close\n")?,
         Stop::Read => write_bytes(writer, b"read fault\n")?,
         Stop::Write => write_bytes(writer, b"write fault\n")?,

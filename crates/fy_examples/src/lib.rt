@@ -45,4 +45,6 @@ mod spelling;
 #[cfg(test)]
 mod team;
 #[cfg(test)]
+mod times;
+#[cfg(test)]
 mod yard;

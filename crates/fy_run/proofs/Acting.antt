@@ -14,7 +14,7 @@ use Rattle.fy_journal.specs.declared.version.Version.TheVariants.{Second}
 use Rattle.std.specs.Prelude.{◌≢◌, ◌<◌, Option, Some, None, IfSome, Ok, Err}
 use Rattle.fy_run.specs.RunTexts.{asked, made_by, IsAuditOf, Runs, IfScriptFault, IfRunRefusal, HasAudit}
 use Rattle.fy_engine.specs.declared.stop.Stop.{Stop}
-use Rattle.fy_engine.specs.declared.stop.Stop.TheVariants.{JudgeTooLong, JudgeLine, Config, Script, JournalFull, Audit, SwarmClose, Read, Write, NoMemory}
+use Rattle.fy_engine.specs.declared.stop.Stop.TheVariants.{JudgeTooLong, JudgeLine, Config, Script, JournalFull, Audit, Events, SwarmClose, Read, Write, NoMemory}
 
 entered_acts : (execution : Execution) (by : ℕ) (act : Act) →
     map by_and_act (entered execution by act).journal
@@ -77,6 +77,7 @@ is_refused setup known JudgeTooLong faulty other = tt
 is_refused setup known (JudgeLine line fault) faulty other = tt
 is_refused setup known (Config fault) faulty other = tt
 is_refused setup known (Audit fault) faulty other = tt
+is_refused setup known (Events fault) faulty other = tt
 is_refused setup known SwarmClose faulty other = tt
 is_refused setup known Read faulty other = tt
 is_refused setup known Write faulty other = tt

@@ -1,16 +1,24 @@
 -- what show writes of an audit
-use Rattle.std.specs.Prelude.{◌≡◌, ℕ, Bool, List, Option, IfSome, Ok, length, take, unwrap_or}
+use Rattle.std.specs.Prelude.{◌≡◌, ℕ, Bool, List, Option, IfSome, Ok, Err, is_none, length, take, unwrap_or}
 use Rattle.fy_audit.specs.Audit.{Audit, AuditOf}
 use Rattle.fy_cluster.specs.Setup.{Setup}
 use Rattle.fy_check_audit.specs.CheckTexts.{IsFound}
 use Rattle.fy_check_audit.specs.Checked.{IsChecked}
 use Rattle.fy_check_audit.specs.declared.check.Finding.{Finding}
+use Rattle.fy_times.specs.Columns.{AreTimeColumns, events_before}
+use Rattle.fy_times.specs.Events.{EventsOf}
+use Rattle.fy_times.specs.declared.columns.TimeColumns.{TimeColumns}
+use Rattle.fy_times.specs.declared.event.Event.{Event}
+use Rattle.fy_times.specs.declared.events.EventsFault.{EventsFault}
 use Rattle.fy_picture.specs.Recording.{HasRecorded}
 use Rattle.fy_picture.specs.declared.layout.Layout.{Layout}
+use Rattle.fy_picture.specs.declared.TheConstants.{MOST_COLUMNS}
 use Rattle.fy_picture.specs.Layouts.{IsLayout}
 use Rattle.fy_svg.specs.declared.drawing.Drawing.{Drawing}
 use Rattle.fy_svg.specs.Documents.{EndsDocument}
 use Rattle.fy_show.specs.declared.show.Drawn.{Drawn}
+use Rattle.fy_show.specs.declared.show.Laid.{Laid}
+use Rattle.fy_show.specs.declared.show.Laid.TheVariants.{ByCount, ByTime}
 use Rattle.fy_show.specs.declared.show.Watched.{Watched}
 
 -- SHOW: known bytes of an audit that was read and checked, whether it is legal, and what holds of
@@ -19,6 +27,28 @@ abbrev pub HasDocument : Setup → Option (List ℕ) → Bool → (List ℕ → 
 HasDocument setup known legal P =
     IfSome known (λ bytes. IsChecked setup bytes legal
     × (text : List ℕ) × EndsDocument text × P text)
+
+-- known bytes of an audit that was read and checked, what was found of it, and known bytes of a file
+-- of events
+abbrev pub IfBothKnown : Setup → (audit events : Option (List ℕ)) → (Finding → List ℕ → Type 0)
+    → Type 0
+IfBothKnown setup audit events P =
+    IfSome audit (λ bytes. IfSome events (λ lines. (finding : Finding)
+    × IsFound setup bytes finding × P finding lines))
+
+-- SHOW by time: the audit is said to be legal where it is, the file has events of its entries, and
+-- this holds of the document
+abbrev pub HasTimedDocument : Setup → (audit events : Option (List ℕ)) → Bool → (List ℕ → Type 0)
+    → Type 0
+HasTimedDocument setup audit events legal P =
+    IfBothKnown setup audit events (λ finding lines. (legal ≡ is_none finding.first_bad)
+    × (told : List Event) × EventsOf finding.count lines (Ok told)
+    × (text : List ℕ) × EndsDocument text × P text)
+
+-- the audit was read and checked, and the file of events is refused by this fault
+abbrev pub AreRefused : Setup → (audit events : Option (List ℕ)) → EventsFault → Type 0
+AreRefused setup audit events fault =
+    IfBothKnown setup audit events (λ finding lines. EventsOf finding.count lines (Err fault))
 
 -- how many entries are before the first bad one
 abbrev pub good_of : Finding → ℕ
@@ -29,15 +59,18 @@ abbrev pub IsLaidOut : ℕ → Drawing → Type 0
 IsLaidOut entries drawing =
     (layout : Layout) × IsLayout entries layout × (drawing.recorder.ends.items ≡ layout.ends.items)
 
--- the bytes are an audit, whose first entries were checked and recorded, laid out as so many are
-pub record IsWatched (setup : Setup) (bytes : List ℕ) (laid_out most : ℕ) (watched : Watched) :
-    Type 0 where
+-- where the columns end that are laid out so
+abbrev pub ends_in : Laid → List ℕ
+ends_in (ByCount layout) = layout.ends.items
+ends_in (ByTime columns events) = columns.ends.items
+
+-- the bytes are an audit, whose first entries were checked and recorded
+pub record IsWatched (setup : Setup) (bytes : List ℕ) (most : ℕ) (watched : Watched) : Type 0 where
   pub audit : Audit
   pub read : AuditOf bytes (Ok audit)
   pub count : watched.count ≡ length audit.entries
   pub version : watched.drawing.recorder.replayer.version ≡ audit.version
   pub those : HasRecorded setup (take most audit.entries) watched.drawing.recorder
-  pub laid_out_so : IsLaidOut laid_out watched.drawing
 
 -- this was found of the bytes, which are an audit, and the drawing is that of the entries before
 -- the first bad one, or of all
@@ -48,3 +81,15 @@ pub record IsDrawn (setup : Setup) (bytes : List ℕ) (drawn : Drawn) : Type 0 w
   pub those : HasRecorded setup (take (good_of drawn.finding) audit.entries)
       drawn.drawing.recorder
   pub laid_out_so : IsLaidOut (good_of drawn.finding) drawn.drawing
+
+-- the bytes are an audit, and the drawing is that of its entries before the first bad one, in the
+-- columns that the events of these entries give
+pub record IsDrawnByTime (setup : Setup) (bytes : List ℕ) (finding : Finding) (events : List Event)
+    (drawing : Drawing) : Type 0 where
+  pub audit : Audit
+  pub read : AuditOf bytes (Ok audit)
+  pub those : HasRecorded setup (take (good_of finding) audit.entries) drawing.recorder
+  pub columns : TimeColumns
+  pub are_columns : AreTimeColumns (events_before events (good_of finding)) (good_of finding)
+      MOST_COLUMNS columns
+  pub laid_out_so : drawing.recorder.ends.items ≡ columns.ends.items

@@ -11,25 +11,55 @@ ghost use Rattle.fy_cluster.specs.Setup.{Setup};
 ghost use Rattle.fy_picture.specs.Recording.{HasRecorded};
 ghost use Rattle.fy_check_audit.specs.Checked.{IsChecked};
 ghost use Rattle.fy_svg.specs.Documents.{EndsDocument};
-ghost use Rattle.fy_show.specs.Shows.{HasDocument, IsDrawn, IsWatched};
+ghost use Rattle.fy_show.specs.Shows.{HasDocument, IsDrawn, IsLaidOut, IsWatched, ends_in};
 
 use fy_audit::laws::an_audit_is_read_entry_by_entry;
 use fy_audit::{AuditReader, Entry, MOST_AUDIT_BYTES};
 use fy_check_audit::{Finding, audit_stop, load_audit};
 use fy_cluster::Config;
 use fy_engine::Stop;
+use fy_journal::Version;
 use fy_lines::{OutputFault, write_bytes};
-use fy_picture::layout_of;
+use fy_picture::{Layout, layout_of};
 use fy_svg::Drawing;
+use fy_times::{Event, TimeColumns};
 use std::alloc::{AllocError, Global};
 use std::io::{Read, Write};
 
 /// An audit that was checked while its first entries were drawn.
 #[derive(Drop)]
-struct Watched {
+pub(crate) struct Watched {
     /// How many entries it has.
-    count: u32,
-    drawing: Drawing,
+    pub count: u32,
+    pub drawing: Drawing,
+}
+
+/// How columns are laid out.
+#[derive(Drop)]
+pub(crate) enum Laid {
+    /// Each stands for as many entries.
+    ByCount(Layout),
+    /// Each lasts as long; with the events that say when the entries came.
+    ByTime(TimeColumns, Vec<Event>),
+}
+
+/// Begins a drawing that is laid out so.
+fn begin(
+    alloc: Global,
+    config: &Config,
+    version: Version,
+    laid: Laid,
+) -> Result<Drawing, AllocError>
+    ensures begun { IfOk result (λ drawing. HasRecorded config.now [] drawing.recorder) }
+    ensures ends { IfOk result (λ drawing. drawing.recorder.ends.items ≡ ends_in laid) }
+    ensures version { IfOk result (λ drawing. drawing.recorder.replayer.version ≡ version) }
+{
+    match laid {
+        Laid::ByCount(layout) => Drawing::begin(alloc, config, version, layout),
+        Laid::ByTime(columns, events) => {
+            Drawing::begin_by_time(alloc, config, version, columns, events)
+        }
+    }
 }
 
 /// Has the entry that comes next checked and drawn, where it is one of the first, up to so many.
@@ -51,16 +81,18 @@ fn draw_first(drawing: &mut Drawing, entry: Entry, most: u32) -> Result<(), Allo
     Ok(())
 }
 
-/// Reads an audit entry by entry, and has the first of them, up to so many, checked and drawn. They
-/// are laid out as so many entries are.
-fn watch(
+/// Reads an audit entry by entry, and has the first of them, up to so many, checked and drawn, laid
+/// out so.
+pub(crate) fn watch(
     alloc: Global,
     config: &Config,
     bytes: &[u8],
-    laid_out: u32,
+    laid: Laid,
     most: u32,
 ) -> Result<Watched, Stop>
-    ensures watched { IfOk result (IsWatched config.now bytes.now laid_out most) }
+    ensures watched { IfOk result (IsWatched config.now bytes.now most) }
+    ensures ends { IfOk result (λ watched.
+        watched.drawing.recorder.ends.items ≡ ends_in laid) }
     ensures few { IfOk result (λ watched. watched.count ≤ 4294967295) }
     ensures refused { IfErr result (λ stop. IfAuditFault stop
         (λ fault. AuditOf bytes.now (Err fault))) }
@@ -72,10 +104,7 @@ fn watch(
         Ok(reader) => reader,
         Err(fault) => return Err(audit_stop(fault)),
     };
-    let Ok(layout) = layout_of(alloc, laid_out) else {
-        return Err(Stop::NoMemory);
-    };
-    let Ok(mut drawing) = Drawing::begin(alloc, config, reader.version(), layout) else {
+    let Ok(mut drawing) = begin(alloc, config, reader.version(), laid) else {
         return Err(Stop::NoMemory);
     };
     while !reader.is_at_end() {
@@ -91,6 +120,28 @@ fn watch(
         count: reader.place(),
         drawing,
     })
+}
+
+/// Reads an audit likewise, laid out as so many entries are.
+fn watch_by_count(
+    alloc: Global,
+    config: &Config,
+    bytes: &[u8],
+    laid_out: u32,
+    most: u32,
+) -> Result<Watched, Stop>
+    ensures watched { IfOk result (IsWatched config.now bytes.now most) }
+    ensures laid_out { IfOk result (λ watched. IsLaidOut laid_out watched.drawing) }
+    ensures few { IfOk result (λ watched. watched.count ≤ 4294967295) }
+    ensures refused { IfErr result (λ stop. IfAuditFault stop
+        (λ fault. AuditOf bytes.now (Err fault))) }
+    ensures own { IfErr result IsCheckStop }
+    ensures no_output { IfErr result (λ stop. stop ≢ Stop.Read × stop ≢ Stop.Write) }
+{
+    match layout_of(alloc, laid_out) {
+        Ok(layout) => watch(alloc, config, bytes, Laid::ByCount(layout), most),
+        Err(_) => Err(Stop::NoMemory),
+    }
 }
 
 /// How many entries an audit of these bytes has, if it is one: it has a line for each, and a header.
@@ -122,7 +173,7 @@ fn draw(alloc: Global, config: &Config, bytes: &[u8]) -> Result<Drawn, Stop>
     ensures no_output { IfErr result (λ stop. stop ≢ Stop.Read × stop ≢ Stop.Write) }
 {
     let lines = count_lines(bytes);
-    let Watched { count, drawing } = match watch(alloc, config, bytes, lines, u32::MAX) {
+    let Watched { count, drawing } = match watch_by_count(alloc, config, bytes, lines, u32::MAX) {
         Ok(watched) => watched,
         Err(stop) => return Err(stop),
     };
@@ -132,7 +183,7 @@ fn draw(alloc: Global, config: &Config, bytes: &[u8]) -> Result<Drawn, Stop>
     if first_bad.is_none() && good == lines {
         return Ok(Drawn { finding, drawing });
     }
-    match watch(alloc, config, bytes, good, good) {
+    match watch_by_count(alloc, config, bytes, good, good) {
         Ok(Watched { count: _, drawing }) => Ok(Drawn { finding, drawing }),
         Err(stop) => Err(stop),
     }

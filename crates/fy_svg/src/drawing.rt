@@ -9,23 +9,35 @@ use crate::glyphs::{Glyphs, is_order};
 use crate::lanes::{Lane, lanes_of, rows_of};
 use crate::layout::MOST_LINES;
 use crate::marks::{Ticks, note_time};
+use crate::otherwise::Rings;
 use crate::sheet::document;
 use fy_check::CheckFault;
 use fy_cluster::Config;
 use fy_journal::{Entry, Journal, Reply, Version};
 use fy_locality::ProcSet;
 use fy_picture::{Layout, Picture, Recorder, layout_of, named_by, rule_of};
+use fy_times::{Event, TimeColumns};
 use std::alloc::{AllocError, Global};
+
+/// What a column stands for.
+#[derive(Clone, Copy)]
+pub(crate) enum Width {
+    /// So many entries.
+    Entries(usize),
+    /// So many microseconds.
+    Micros(u64),
+}
 
 /// All that a document shows of a journal.
 #[derive(Drop)]
 pub(crate) struct Drawn {
     pub picture: Picture,
     pub lanes: Vec<Lane>,
-    /// How many entries a column stands for.
-    pub width: usize,
+    pub width: Width,
     /// The glyphs, as a part of the document.
     pub glyphs: String,
+    /// The rings round orders for which something else was done, likewise.
+    pub rings: Option<String>,
     /// When time passed, at most once a column.
     pub ticks: Vec<Ticks>,
     /// The first orders that struck with less or were barred.
@@ -39,8 +51,9 @@ pub struct Drawing {
     alloc: Global,
     recorder: Recorder,
     lanes: Vec<Lane>,
-    width: usize,
+    width: Width,
     glyphs: Glyphs,
+    rings: Option<Rings>,
     ticks: Vec<Ticks>,
     orders: Vec<Entry>,
 }
@@ -82,14 +95,59 @@ impl Drawing {
         ensures version { IfOk result (λ drawing.
             drawing.recorder.replayer.version ≡ version) }
     {
+        let width = Width::Entries(layout.width);
+        Drawing::begin_laid(alloc, config, version, layout.ends, width, None)
+    }
+
+    /// Begins likewise, for a journal whose columns are laid by the times of its events.
+    ///
+    /// # Errors
+    ///
+    /// `AllocError` where there is no memory for it.
+    pub fn begin_by_time(
+        alloc: Global,
+        config: &Config,
+        version: Version,
+        columns: TimeColumns,
+        events: Vec<Event>,
+    ) -> Result<Drawing, AllocError>
+        ensures begun { IfOk result (λ drawing. HasRecorded config.now [] drawing.recorder) }
+        ensures none { IfOk result (λ drawing. drawing.recorder.replayer.first_bad ≡ None) }
+        ensures ends { IfOk result (λ drawing.
+            drawing.recorder.ends.items ≡ columns.ends.items) }
+        ensures version { IfOk result (λ drawing.
+            drawing.recorder.replayer.version ≡ version) }
+    {
+        let rows = rows_of(alloc, &lanes_of(alloc, config.map())?)?;
+        let rings = Rings::begin(alloc, rows, events)?;
+        let width = Width::Micros(columns.width);
+        Drawing::begin_laid(alloc, config, version, columns.ends, width, Some(rings))
+    }
+
+    /// Begins with columns that end so.
+    fn begin_laid(
+        alloc: Global,
+        config: &Config,
+        version: Version,
+        ends: Vec<u32>,
+        width: Width,
+        rings: Option<Rings>,
+    ) -> Result<Drawing, AllocError>
+        ensures begun { IfOk result (λ drawing. HasRecorded config.now [] drawing.recorder) }
+        ensures none { IfOk result (λ drawing. drawing.recorder.replayer.first_bad ≡ None) }
+        ensures ends { IfOk result (λ drawing. drawing.recorder.ends.items ≡ ends.items) }
+        ensures version { IfOk result (λ drawing.
+            drawing.recorder.replayer.version ≡ version) }
+    {
         let lanes = lanes_of(alloc, config.map())?;
         let rows = rows_of(alloc, &lanes)?;
         Ok(Drawing {
             alloc,
-            recorder: Recorder::begin(alloc, config.try_copy(alloc)?, version, layout.ends)?,
+            recorder: Recorder::begin(alloc, config.try_copy(alloc)?, version, ends)?,
             lanes,
-            width: layout.width,
+            width,
             glyphs: Glyphs::begin(alloc, rows)?,
+            rings,
             ticks: Vec::new(alloc),
             orders: Vec::new(alloc),
         })
@@ -123,6 +181,9 @@ impl Drawing {
         if rule_of(&entry).is_some() && self.orders.len() < MOST_LINES {
             self.orders.push(copy_of(self.alloc, &entry)?)?;
         }
+        if let Some(rings) = &mut self.rings {
+            rings.note(self.alloc, &named, &entry)?;
+        }
         self.glyphs.note(&named, entry)?;
         Ok(())
     }
@@ -153,6 +214,9 @@ impl Drawing {
         self.recorder.end_due()?;
         if self.recorder.columns() > open {
             self.glyphs.end_column(open)?;
+            if let Some(rings) = &mut self.rings {
+                rings.end_column(open)?;
+            }
         }
         Ok(())
     }
@@ -202,6 +266,7 @@ impl Drawing {
             lanes,
             width,
             glyphs,
+            rings,
             ticks,
             orders,
         } = self;
@@ -210,6 +275,7 @@ impl Drawing {
             lanes,
             width,
             glyphs: glyphs.into_text(),
+            rings: rings.map(|rings| rings.into_text()),
             ticks,
             orders,
         };

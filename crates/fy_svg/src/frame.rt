@@ -1,8 +1,9 @@
 //! What stands round the rows: the head with its colours, the legend, names, the axis, and orders in
 //! words.
-use crate::drawing::Drawn;
+use crate::drawing::{Drawn, Width};
 use crate::lanes::Lane;
 use crate::layout::{ASIDE, LINE, ROW, TOP, foot_of, middle_of, x_of, y_of};
+use crate::otherwise::RING;
 use crate::words::{write_floor, write_order};
 use fy_journal::Entry;
 use fy_locality::{Key, Map, ProcId};
@@ -31,6 +32,17 @@ text { font: 11px sans-serif; fill: #1a1a1a; }
   .filled { stroke: #161616; }
   .gone { fill: #3b3b3b; } .emptied { fill: #c44f9a; }
   .axis { stroke: #484848; } .acked { stroke: #7cc4ee; }
+}
+</style>
+";
+
+/// What is drawn by the times of events alone. A ring has a rim of the paper, as a filled glyph has.
+const TIMED_STYLE: &str = "<style>
+.otherwise { fill: #1a1a1a; stroke: #ffffff; stroke-width: 1.6; paint-order: stroke; }
+.ups { fill: none; stroke: #1a1a1a; stroke-width: 1.5; }
+@media (prefers-color-scheme: dark) {
+  .otherwise { fill: #e8e8e8; stroke: #161616; }
+  .ups { stroke: #e8e8e8; }
 }
 </style>
 ";
@@ -77,24 +89,33 @@ const ORDERS: [(&str, &str, u64, &str); 7] = [
     ),
 ];
 
+/// What it says behind them where times are drawn.
+const RINGS: [(&str, &str, u64, &str); 1] = [("otherwise", RING, 776, "something else was done")];
+
 /// The head of the document, with the size of the sheet.
 pub(crate) fn write_head(
     text: &mut String,
     drawn: &Drawn,
-    policies: usize,
+    stepped: usize,
 ) -> Result<(), AllocError> {
-    let width = drawn.width;
     let columns = drawn.picture.columns.len();
     let wide = x_of(columns).saturating_add(ASIDE).max(980);
-    let foot = foot_of(drawn.lanes.len(), policies, drawn.orders.len());
+    let foot = foot_of(drawn.lanes.len(), stepped, drawn.orders.len());
     let high = foot.saturating_add(LINE);
     text.push_str("<svg xmlns=\"http://www.w3.org/2000/svg\" ")?;
     write!(
         text,
         "width=\"{wide}\" height=\"{high}\" viewBox=\"0 0 {wide} {high}\" "
     )?;
-    writeln!(text, "data-width=\"{width}\" data-columns=\"{columns}\">")?;
+    match drawn.width {
+        Width::Entries(width) => write!(text, "data-width=\"{width}\" ")?,
+        Width::Micros(micros) => write!(text, "data-micros=\"{micros}\" ")?,
+    }
+    writeln!(text, "data-columns=\"{columns}\">")?;
     text.push_str(STYLE)?;
+    if let Width::Micros(_) = drawn.width {
+        text.push_str(TIMED_STYLE)?;
+    }
     text.push_str("<title>What a journal did to each process</title>\n")?;
     writeln!(
         text,
@@ -118,7 +139,7 @@ fn write_shapes(
 }
 
 /// The legend, in two lines at the head: states and marks, then orders.
-pub(crate) fn write_legend(text: &mut String) -> Result<(), AllocError> {
+pub(crate) fn write_legend(text: &mut String, width: Width) -> Result<(), AllocError> {
     text.push_str("<g class=\"legend\">\n")?;
     for (class, x, word) in STATES.iter().copied() {
         let beside = x.saturating_add(20);
@@ -130,13 +151,17 @@ pub(crate) fn write_legend(text: &mut String) -> Result<(), AllocError> {
     }
     write_shapes(text, &MARKS, 16)?;
     write_shapes(text, &ORDERS, 34)?;
+    if let Width::Micros(_) = width {
+        write_shapes(text, &RINGS, 34)?;
+    }
     text.push_str("</g>\n")
 }
 
-/// The numbers of entries along the head, at every tenth column.
+/// The numbers of entries along the head, or seconds, at every tenth column.
 pub(crate) fn write_axis(
     text: &mut String,
     columns: &[Column],
+    width: Width,
     rows: usize,
 ) -> Result<(), AllocError> {
     let high = y_of(rows.saturating_add(2)).saturating_sub(TOP);
@@ -145,7 +170,15 @@ pub(crate) fn write_axis(
         if column % 10 == 0 {
             let x = x_of(column);
             write!(text, "<path class=\"axis\" d=\"M{x} {TOP}v{high}\"/>")?;
-            writeln!(text, "<text x=\"{x}\" y=\"54\">{entry}</text>")?;
+            write!(text, "<text x=\"{x}\" y=\"54\">")?;
+            match width {
+                Width::Entries(_) => write!(text, "{entry}")?,
+                Width::Micros(micros) => {
+                    let seconds = micros.saturating_mul(column as u64) / 1_000_000;
+                    write!(text, "{seconds} s")?;
+                }
+            }
+            text.push_str("</text>\n")?;
         }
         entry = shown.end;
     }
@@ -217,10 +250,10 @@ pub(crate) fn write_orders(
     text: &mut String,
     orders: &[Entry],
     rows: usize,
-    policies: usize,
+    stepped: usize,
 ) -> Result<(), AllocError> {
     for (line, order) in orders.iter().enumerate() {
-        let y = foot_of(rows, policies, line);
+        let y = foot_of(rows, stepped, line);
         write!(text, "<text class=\"order-in-words\" x=\"10\" y=\"{y}\">")?;
         write_order(text, order)?;
         write_floor(text, order)?;

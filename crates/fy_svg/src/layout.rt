@@ -37,14 +37,15 @@ pub(crate) fn y_of(row: usize) -> u64 {
     TOP + row.min(MOST_PROCESSES as usize + 2) as u64 * ROW
 }
 
-/// The foot of the stepped line of a policy, below so many rows of processes.
-pub(crate) fn foot_of_policy(rows: usize, policy: usize) -> u64 {
-    let above = rows.min(MOST_PROCESSES as usize) as u64 + 2 * policy.min(MOST_POLICIES) as u64;
-    TOP + (above + 4) * ROW
+/// The foot of a stepped line, below so many rows of processes: those of the policies, and behind
+/// them perhaps that of the processes that are up.
+pub(crate) fn foot_of_steps(rows: usize, place: usize) -> u64 {
+    let lines = place.min(MOST_POLICIES + 1) as u64;
+    TOP + (rows.min(MOST_PROCESSES as usize) as u64 + 2 * lines + 4) * ROW
 }
 
-/// The foot of a line of text below so many rows of processes and lines of policies.
-pub(crate) fn foot_of(rows: usize, policies: usize, line: usize) -> u64 {
+/// The foot of a line of text below so many rows of processes and stepped lines.
+pub(crate) fn foot_of(rows: usize, stepped: usize, line: usize) -> u64 {
     let down = line.min(MOST_LINES + 2) as u64 * LINE;
-    foot_of_policy(rows, policies).saturating_add(down)
+    foot_of_steps(rows, stepped).saturating_add(down)
 }

@@ -10,8 +10,10 @@ mod keepers;
 mod lanes;
 mod layout;
 mod marks;
+mod otherwise;
 mod policies;
 mod sheet;
+mod ups;
 mod words;
 
 pub use drawing::{Drawing, svg};

@@ -1,6 +1,6 @@
 //! Below the rows: how many processes each policy lets be killed next.
-use crate::layout::{CLEAR, STEPS, foot_of_policy, x_of};
-use fy_cluster::Config;
+use crate::layout::{CLEAR, STEPS, foot_of_steps, x_of};
+use fy_cluster::{Config, Status};
 use fy_picture::Column;
 use fy_policy::{Policy, policy_text};
 use std::alloc::{AllocError, Global};
@@ -14,22 +14,46 @@ fn height_of(count: u32, processes: u32) -> u64 {
     u64::from(count).min(most) * STEPS / most
 }
 
-/// The count of a policy at a column.
-fn count_at(columns: &[Column], column: usize, place: usize) -> Option<u32> {
-    columns.get(column)?.counts.get(place).copied()
+/// What a stepped line counts.
+#[derive(Clone, Copy)]
+pub(crate) enum Counted {
+    /// How many processes a policy lets be killed next.
+    Killable(usize),
+    /// How many processes are up.
+    Up,
 }
 
-/// The stepped line of a policy: as high as all processes where each could be killed next.
-fn write_steps(
+/// How many processes are up.
+fn count_up(states: &[Status]) -> u32 {
+    let mut count: u32 = 0;
+    for state in states {
+        if state.up && !state.gone {
+            count = count.saturating_add(1);
+        }
+    }
+    count
+}
+
+/// The count of a stepped line at a column.
+pub(crate) fn count_at(columns: &[Column], column: usize, what: Counted) -> Option<u32> {
+    let column = columns.get(column)?;
+    match what {
+        Counted::Killable(place) => column.counts.get(place).copied(),
+        Counted::Up => Some(count_up(&column.states)),
+    }
+}
+
+/// A stepped line: as high as all processes where each counts.
+pub(crate) fn write_steps(
     text: &mut String,
     columns: &[Column],
-    place: usize,
+    what: Counted,
     processes: u32,
     foot: u64,
 ) -> Result<(), AllocError> {
     let mut last = None;
     for column in 0..columns.len() {
-        if let Some(count) = count_at(columns, column, place)
+        if let Some(count) = count_at(columns, column, what)
             && last != Some(count)
         {
             let x = x_of(column);
@@ -63,7 +87,7 @@ fn columns_of(count: u32) -> usize {
 /// A number at a step, below a line that is high enough for it and else above.
 fn write_number(
     text: &mut String,
-    place: usize,
+    what: Counted,
     from: usize,
     count: u32,
     foot: u64,
@@ -76,34 +100,37 @@ fn write_number(
     } else {
         line.saturating_add(CLEAR - 1)
     };
-    write!(
-        text,
-        "<text class=\"policy-number\" data-policy=\"{place}\" "
-    )?;
+    match what {
+        Counted::Killable(place) => write!(
+            text,
+            "<text class=\"policy-number\" data-policy=\"{place}\" "
+        )?,
+        Counted::Up => text.push_str("<text class=\"ups-number\" ")?,
+    }
     writeln!(
         text,
         "data-from=\"{from}\" x=\"{x}\" y=\"{y}\">{count}</text>"
     )
 }
 
-/// The numbers of a policy's line: one for the columns that follow one another with the same count,
+/// The numbers of a stepped line: one for the columns that follow one another with the same count,
 /// unless they are too few for it.
-fn write_numbers(
+pub(crate) fn write_numbers(
     text: &mut String,
     columns: &[Column],
-    place: usize,
+    what: Counted,
     processes: u32,
     foot: u64,
 ) -> Result<(), AllocError> {
     let mut from = 0;
     for at in 0..columns.len() {
-        if let Some(count) = count_at(columns, at, place)
-            && count_at(columns, at + 1, place) != Some(count)
+        if let Some(count) = count_at(columns, at, what)
+            && count_at(columns, at + 1, what) != Some(count)
         {
             let to = at + 1;
             if to.saturating_sub(from) >= columns_of(count) {
                 let height = height_of(count, processes);
-                write_number(text, place, from, count, foot, height)?;
+                write_number(text, what, from, count, foot, height)?;
             }
             from = to;
         }
@@ -147,12 +174,13 @@ pub(crate) fn write_policies(
     let processes = config.map().len();
     let x = x_of(columns.len()).saturating_add(6);
     for (place, policy) in config.policies().iter().enumerate() {
-        let foot = foot_of_policy(processes as usize, place);
+        let foot = foot_of_steps(processes as usize, place);
+        let what = Counted::Killable(place);
         write_label(alloc, text, policy, foot)?;
         write!(text, "<path class=\"policy\" data-policy=\"{place}\" d=\"")?;
-        write_steps(text, columns, place, processes, foot)?;
+        write_steps(text, columns, what, processes, foot)?;
         text.push_str("\"/>\n")?;
-        write_numbers(text, columns, place, processes, foot)?;
+        write_numbers(text, columns, what, processes, foot)?;
         if let Some(last) = columns.last()
             && let Some(count) = last.counts.get(place)
         {

@@ -12,6 +12,7 @@ use crate::lanes::Lane;
 use crate::layout::y_of;
 use crate::marks::write_marks;
 use crate::policies::write_policies;
+use crate::ups::write_ups;
 use fy_cluster::Config;
 use fy_locality::Map;
 use fy_picture::Column;
@@ -49,20 +50,30 @@ pub(crate) fn document(
     let columns = drawn.picture.columns.as_slice();
     let lanes = drawn.lanes.as_slice();
     let policies = config.policies().len();
+    let stepped = match drawn.rings {
+        Some(_) => policies.saturating_add(1),
+        None => policies,
+    };
     let mut text = String::new(alloc);
-    write_head(&mut text, drawn, policies)?;
-    write_legend(&mut text)?;
-    write_axis(&mut text, columns, lanes.len())?;
+    write_head(&mut text, drawn, stepped)?;
+    write_legend(&mut text, drawn.width)?;
+    write_axis(&mut text, columns, drawn.width, lanes.len())?;
     write_rows(&mut text, config.map(), columns, lanes)?;
     write_last_names(&mut text, lanes.len())?;
     text.push_str(drawn.glyphs.as_str())?;
+    if let Some(rings) = &drawn.rings {
+        text.push_str(rings.as_str())?;
+    }
     write_marks(alloc, &mut text, drawn)?;
     write_keepers(alloc, &mut text, &drawn.picture, lanes)?;
     write_policies(alloc, &mut text, config, columns)?;
+    if drawn.rings.is_some() {
+        write_ups(&mut text, columns, config.map().len(), policies)?;
+    }
     if let Some(at) = bad {
         write_bad(&mut text, columns.len(), at, lanes.len())?;
     }
-    write_orders(&mut text, &drawn.orders, lanes.len(), policies)?;
+    write_orders(&mut text, &drawn.orders, lanes.len(), stepped)?;
     text.push_str("</svg>\n")?;
     Ok(text)
 }

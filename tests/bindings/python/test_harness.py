@@ -177,6 +177,23 @@ class EntryTest(common.Folder, unittest.TestCase):
         with self.assertRaises(faultyard.AuditRefused):
             faultyard.show(THREE, audit[:-9])
 
+    def test_a_picture_by_the_times_of_events(self):
+        with Guard(THREE) as guard:
+            for name in ("p0", "p1"):
+                guard.act(1, EMPTY._replace(value=name).act())
+            audit = guard.audit()
+        events = Path(self.folder, "events.jsonl")
+        first = {"t": 0.5, "entry": 0, "does": "RebootAndDelete"}
+        last = {"t": 2.25, "entry": 1, "does": "KillInstantly"}
+        events.write_text(f"{json.dumps(first)}\n{json.dumps(last)}\n")
+        picture = faultyard.show(THREE, audit, beyond=1, times=events)
+        self.assertIn('data-micros="100000" data-columns="23"', picture)
+        self.assertIn('otherwise beyond" data-entry="1"', picture)
+        self.assertNotIn('otherwise" data-entry="0"', picture)
+        events.write_text("{}\n[]\n")
+        with self.assertRaisesRegex(faultyard.AuditRefused, "events: line 2: Syntax"):
+            faultyard.show(THREE, audit, times=events)
+
 
 class ServerTest(common.Folder, unittest.TestCase):
     def talk(self, guard, lines, ask=None):

@@ -6,7 +6,7 @@ import os
 import re
 import shutil
 import subprocess
-from typing import Optional, Union
+from typing import Optional, Sequence, Union
 
 from .errors import AuditRefused, NotFound
 
@@ -32,23 +32,39 @@ def check(config: StrPath, audit: str, program: Optional[StrPath] = None) -> int
 
 
 def show(
-    config: StrPath, audit: str, program: Optional[StrPath] = None, *, beyond: Optional[int] = None
+    config: StrPath,
+    audit: str,
+    program: Optional[StrPath] = None,
+    *,
+    beyond: Optional[int] = None,
+    times: Optional[StrPath] = None,
 ) -> str:
     """Has `faultyard show` draw an audit; the picture as SVG, or `AuditRefused`.
 
     `beyond` is the entry of an order that was done though the guard said less: it is drawn in red.
+    `times` is a file of events, as a harness writes it: the picture is drawn by their times.
     """
-    picture = _told("show", config, audit, program)
+    given = [] if times is None else ["--times", os.fspath(times)]
+    picture = _told("show", config, audit, program, given)
     if beyond is None:
         return picture
-    entry = re.compile(rf'class="(order [a-z]+)" data-entry="{beyond}"')
-    style = ".order.beyond { stroke: #d00000; stroke-width: 4; }\n</style>"
+    entry = re.compile(rf'class="(order [a-z]+|otherwise)" data-entry="{beyond}"')
+    style = (
+        ".order.beyond { stroke: #d00000; stroke-width: 4; }\n"
+        ".otherwise.beyond { fill: #d00000; }\n</style>"
+    )
     red = entry.sub(rf'class="\1 beyond" data-entry="{beyond}"', picture)
     return red.replace("</style>", style, 1)
 
 
-def _told(command: str, config: StrPath, audit: str, program: Optional[StrPath]) -> str:
-    words = [find_program(program), command, os.fspath(config)]
+def _told(
+    command: str,
+    config: StrPath,
+    audit: str,
+    program: Optional[StrPath],
+    given: Sequence[str] = (),
+) -> str:
+    words = [find_program(program), command, os.fspath(config), *given]
     ran = subprocess.run(words, input=audit.encode(), capture_output=True, check=False)
     told = (ran.stdout or ran.stderr).decode(errors="replace").strip()
     if ran.returncode != 0:

@@ -1,0 +1,202 @@
+//! An audit and the events of its run in, a picture by time out.
+ghost use Rattle.std.specs.Prelude.{◌≡◌, ◌≢◌, ◌⊎◌, ◌+◌, ℕ, Bool, List, None, IfOk, IfErr, IfSome, Ok, Err, string_bytes};
+ghost use Rattle.std.specs.Io.KnownBytes.{Appends};
+ghost use Rattle.fy_lines.specs.Prefixes.{AppendsProperPrefix};
+ghost use Rattle.fy_lines.specs.Readings.{ReadsAtMost};
+ghost use Rattle.fy_audit.specs.Audit.{AuditOf};
+ghost use Rattle.fy_audit.specs.declared.audit.TheConstants.{MOST_AUDIT_BYTES};
+ghost use Rattle.fy_times.specs.Events.{EventsOf, Rises};
+ghost use Rattle.fy_times.specs.declared.event.Event.{Event};
+ghost use Rattle.fy_times.specs.declared.TheConstants.{MOST_EVENTS_BYTES};
+ghost use Rattle.fy_engine.specs.Stops.{IfAuditFault, IfEventsFault, IsCheckStop, IsTimesStop};
+ghost use Rattle.fy_check_audit.specs.CheckTexts.{IsFound};
+ghost use Rattle.fy_svg.specs.Documents.{EndsDocument};
+ghost use Rattle.fy_show.specs.Shows.{AreRefused, HasTimedDocument, IsDrawnByTime};
+
+use crate::show::{Laid, watch};
+use fy_audit::MOST_AUDIT_BYTES;
+use fy_check_audit::{Finding, load_audit, replay_audit};
+use fy_cluster::Config;
+use fy_engine::Stop;
+use fy_lines::{InputFault, OutputFault, read_limited, write_bytes};
+use fy_picture::MOST_COLUMNS;
+use fy_svg::Drawing;
+use fy_times::{
+    Event, EventsFault, MOST_EVENTS_BYTES, columns_by_time, events_before, read_events,
+};
+use std::alloc::Global;
+use std::io::{Read, Write};
+
+/// The bytes of the file of events that a reader gives.
+fn load_events<R: Read>(alloc: Global, reader: &mut R) -> Result<Vec<u8>, Stop>
+    ensures read { IfOk result (λ read. IfSome (R.remaining reader.old)
+        (λ lines. read.items ≡ lines)) }
+    ensures refused { IfErr result (λ stop. IfEventsFault stop (λ fault. (count : ℕ)
+        → IfSome (R.remaining reader.old) (λ lines. EventsOf count lines (Err fault)))) }
+    ensures no_audit { IfErr result (λ stop. IfAuditFault stop (λ _. ⊥)) }
+    ensures own { IfErr result IsTimesStop }
+    ensures no_write { IfErr result (λ stop. stop ≢ Stop.Write) }
+    ensures read_fault { result ≡ Err Stop.Read →
+        ReadsAtMost (R.remaining reader.old) (R.remaining reader.new) MOST_EVENTS_BYTES }
+    ensures no_further { ReadsAtMost (R.remaining reader.old) (R.remaining reader.new)
+        (MOST_EVENTS_BYTES + 1) }
+{
+    match read_limited(alloc, reader, MOST_EVENTS_BYTES) {
+        Ok(bytes) => Ok(bytes),
+        Err(InputFault::TooLong) => Err(Stop::Events {
+            fault: EventsFault::TooLong,
+        }),
+        Err(InputFault::Reader) => Err(Stop::Read),
+        Err(InputFault::NoMemory) => Err(Stop::NoMemory),
+    }
+}
+
+/// The events of a file, of so many entries.
+fn events_of(alloc: Global, bytes: &[u8], count: u32) -> Result<Vec<Event>, Stop>
+    ensures read { IfOk result (λ events. EventsOf count bytes.now (Ok events.items)) }
+    ensures rise { IfOk result (λ events. Rises count None events.items) }
+    ensures refused { IfErr result (λ stop. IfEventsFault stop
+        (λ fault. EventsOf count bytes.now (Err fault))) }
+    ensures no_audit { IfErr result (λ stop. IfAuditFault stop (λ _. ⊥)) }
+    ensures own { IfErr result IsTimesStop }
+    ensures no_output { IfErr result (λ stop. stop ≢ Stop.Read × stop ≢ Stop.Write) }
+{
+    match read_events(alloc, bytes, count) {
+        Ok(events) => Ok(events),
+        Err(EventsFault::NoMemory) => Err(Stop::NoMemory),
+        Err(fault) => Err(Stop::Events { fault }),
+    }
+}
+
+/// What is found of an audit that is held whole.
+fn finding_of(alloc: Global, config: &Config, bytes: &[u8]) -> Result<Finding, Stop>
+    ensures found { IfOk result (IsFound config.now bytes.now) }
+    ensures refused { IfErr result (λ stop. IfAuditFault stop
+        (λ fault. AuditOf bytes.now (Err fault))) }
+    ensures own { IfErr result IsCheckStop }
+    ensures no_output { IfErr result (λ stop. stop ≢ Stop.Read × stop ≢ Stop.Write) }
+{
+    match replay_audit(alloc, config, bytes) {
+        Ok(replayed) => Ok(replayed.finding()),
+        Err(stop) => Err(stop),
+    }
+}
+
+/// Draws the entries of an audit up to the first bad one, in columns by the times of events.
+fn draw(
+    alloc: Global,
+    config: &Config,
+    bytes: &[u8],
+    finding: Finding,
+    events: Vec<Event>,
+) -> Result<Drawing, Stop>
+    requires { Rises finding.count None events.items }
+    ensures drawn { IfOk result (IsDrawnByTime config.now bytes.now finding events.items) }
+    ensures refused { IfErr result (λ stop. IfAuditFault stop
+        (λ fault. AuditOf bytes.now (Err fault))) }
+    ensures own { IfErr result IsCheckStop }
+    ensures no_output { IfErr result (λ stop. stop ≢ Stop.Read × stop ≢ Stop.Write) }
+{
+    let good = finding.first_bad.unwrap_or(finding.count);
+    let drawn = events_before(&events, good);
+    let Ok(columns) = columns_by_time(alloc, drawn, good, MOST_COLUMNS) else {
+        return Err(Stop::NoMemory);
+    };
+    match watch(alloc, config, bytes, Laid::ByTime(columns, events), good) {
+        Ok(watched) => Ok(watched.drawing),
+        Err(stop) => Err(stop),
+    }
+}
+
+/// The document of an audit, of which this was found, and a file of events.
+fn document(
+    alloc: Global,
+    config: &Config,
+    bytes: &[u8],
+    finding: Finding,
+    lines: &[u8],
+) -> Result<String, Stop>
+    ensures done { IfOk result (λ text. (told : List Event)
+        × EventsOf finding.count lines.now (Ok told) × EndsDocument (string_bytes text)) }
+    ensures audit_refused { IfErr result (λ stop. IfAuditFault stop
+        (λ fault. AuditOf bytes.now (Err fault))) }
+    ensures events_refused { IfErr result (λ stop. IfEventsFault stop
+        (λ fault. EventsOf finding.count lines.now (Err fault))) }
+    ensures own { IfErr result IsTimesStop }
+    ensures no_output { IfErr result (λ stop. stop ≢ Stop.Read × stop ≢ Stop.Write) }
+{
+    let events = match events_of(alloc, lines, finding.count) {
+        Ok(events) => events,
+        Err(stop) => return Err(stop),
+    };
+    let drawing = match draw(alloc, config, bytes, finding, events) {
+        Ok(drawing) => drawing,
+        Err(stop) => return Err(stop),
+    };
+    match drawing.finish(config, finding.first_bad) {
+        Ok(text) => Ok(text),
+        Err(_) => Err(Stop::NoMemory),
+    }
+}
+
+/// Reads an audit and a file of events, each from its reader to its end, and writes one SVG document
+/// as `run_show` does, whose columns are laid by the times of the events. The answer is whether the
+/// audit is legal.
+///
+/// The audit is read and checked first, and then the events are read. All is drawn before the first
+/// byte is written.
+///
+/// # Errors
+///
+/// `Audit` for an audit that is refused; then `Events` for a file of events that is; `Read` where
+/// one of the readers fails, `NoMemory` where memory is refused. Nothing is written but after
+/// `Write`, when a front of the document is out, and never all of it.
+pub fn run_show_by_time<R: Read, E: Read, W: Write>(
+    alloc: Global,
+    config: &Config,
+    reader: &mut R,
+    events: &mut E,
+    writer: &mut W,
+) -> Result<bool, Stop>
+    ensures done { IfOk result (λ legal.
+        HasTimedDocument config.now (R.remaining reader.old) (E.remaining events.old) legal
+        (Appends (W.contents writer.old) (W.contents writer.new))) }
+    ensures audit_refused { IfErr result (λ stop. IfAuditFault stop
+        (λ fault. IfSome (R.remaining reader.old) (λ bytes. AuditOf bytes (Err fault)))) }
+    ensures events_refused { IfErr result (λ stop. IfEventsFault stop
+        (AreRefused config.now (R.remaining reader.old) (E.remaining events.old))) }
+    ensures nothing_out { IfErr result (λ stop. stop ≢ Stop.Write →
+        W.contents writer.new ≡ W.contents writer.old) }
+    ensures front_out { result ≡ Err Stop.Write → (legal : Bool)
+        × HasTimedDocument config.now (R.remaining reader.old) (E.remaining events.old) legal
+        (AppendsProperPrefix (W.contents writer.old) (W.contents writer.new)) }
+    ensures no_other { IfErr result IsTimesStop }
+    ensures read_fault { result ≡ Err Stop.Read →
+        ReadsAtMost (R.remaining reader.old) (R.remaining reader.new) MOST_AUDIT_BYTES
+        ⊎ ReadsAtMost (E.remaining events.old) (E.remaining events.new) MOST_EVENTS_BYTES }
+    ensures no_further { ReadsAtMost (R.remaining reader.old) (R.remaining reader.new)
+        (MOST_AUDIT_BYTES + 1) }
+    ensures no_event_further { ReadsAtMost (E.remaining events.old) (E.remaining events.new)
+        (MOST_EVENTS_BYTES + 1) }
+{
+    let bytes = match load_audit(alloc, reader) {
+        Ok(bytes) => bytes,
+        Err(stop) => return Err(stop),
+    };
+    let finding = match finding_of(alloc, config, &bytes) {
+        Ok(finding) => finding,
+        Err(stop) => return Err(stop),
+    };
+    let lines = match load_events(alloc, events) {
+        Ok(lines) => lines,
+        Err(stop) => return Err(stop),
+    };
+    let text = match document(alloc, config, &bytes, finding, &lines) {
+        Ok(text) => text,
+        Err(stop) => return Err(stop),
+    };
+    match write_bytes(writer, text.as_bytes()) {
+        Ok(()) => Ok(finding.first_bad.is_none()),
+        Err(OutputFault) => Err(Stop::Write),
+    }
+}
