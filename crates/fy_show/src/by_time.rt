@@ -13,8 +13,9 @@ ghost use Rattle.fy_check_audit.specs.CheckTexts.{IsFound};
 ghost use Rattle.fy_svg.specs.Documents.{EndsDocument};
 ghost use Rattle.fy_show.specs.Shows.{AreRefused, HasTimedDocument, IsDrawnByTime};
 
-use crate::show::{Laid, watch};
+use crate::show::{Laid, watch_laid};
 use fy_audit::MOST_AUDIT_BYTES;
+use fy_audit::laws::audits_are_unambiguous;
 use fy_check_audit::{Finding, load_audit, replay_audit};
 use fy_cluster::Config;
 use fy_engine::Stop;
@@ -102,13 +103,14 @@ fn draw(
     let Ok(columns) = columns_by_time(alloc, drawn, good, MOST_COLUMNS) else {
         return Err(Stop::NoMemory);
     };
-    match watch(alloc, config, bytes, Laid::ByTime(columns, events), good) {
+    match watch_laid(alloc, config, bytes, Laid::ByTime(columns, events), good) {
         Ok(watched) => Ok(watched.drawing),
         Err(stop) => Err(stop),
     }
 }
 
-/// The document of an audit, of which this was found, and a file of events.
+/// The document of an audit, of which this was found, and a file of events. Such an audit isn't
+/// refused any more.
 fn document(
     alloc: Global,
     config: &Config,
@@ -116,15 +118,16 @@ fn document(
     finding: Finding,
     lines: &[u8],
 ) -> Result<String, Stop>
+    requires { IsFound config.now bytes.now finding }
     ensures done { IfOk result (λ text. (told : List Event)
         × EventsOf finding.count lines.now (Ok told) × EndsDocument (string_bytes text)) }
-    ensures audit_refused { IfErr result (λ stop. IfAuditFault stop
-        (λ fault. AuditOf bytes.now (Err fault))) }
+    ensures no_audit { IfErr result (λ stop. IfAuditFault stop (λ _. ⊥)) }
     ensures events_refused { IfErr result (λ stop. IfEventsFault stop
         (λ fault. EventsOf finding.count lines.now (Err fault))) }
     ensures own { IfErr result IsTimesStop }
     ensures no_output { IfErr result (λ stop. stop ≢ Stop.Read × stop ≢ Stop.Write) }
 {
+    audits_are_unambiguous();
     let events = match events_of(alloc, lines, finding.count) {
         Ok(events) => events,
         Err(stop) => return Err(stop),
@@ -148,9 +151,9 @@ fn document(
 ///
 /// # Errors
 ///
-/// `Audit` for an audit that is refused; then `Events` for a file of events that is; `Read` where
-/// one of the readers fails, `NoMemory` where memory is refused. Nothing is written but after
-/// `Write`, when a front of the document is out, and never all of it.
+/// `Audit` for an audit that is refused: no event is read then. `Events` for a file of events that
+/// is refused, `Read` where one of the readers fails, `NoMemory` where memory is refused. Nothing is
+/// written but after `Write`, when a front of the document is out, and never all of it.
 pub fn run_show_by_time<R: Read, E: Read, W: Write>(
     alloc: Global,
     config: &Config,
@@ -163,6 +166,8 @@ pub fn run_show_by_time<R: Read, E: Read, W: Write>(
         (Appends (W.contents writer.old) (W.contents writer.new))) }
     ensures audit_refused { IfErr result (λ stop. IfAuditFault stop
         (λ fault. IfSome (R.remaining reader.old) (λ bytes. AuditOf bytes (Err fault)))) }
+    ensures unread { IfErr result (λ stop. IfAuditFault stop
+        (λ fault. E.remaining events.new ≡ E.remaining events.old)) }
     ensures events_refused { IfErr result (λ stop. IfEventsFault stop
         (AreRefused config.now (R.remaining reader.old) (E.remaining events.old))) }
     ensures nothing_out { IfErr result (λ stop. stop ≢ Stop.Write →

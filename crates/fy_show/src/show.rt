@@ -83,7 +83,7 @@ fn draw_first(drawing: &mut Drawing, entry: Entry, most: u32) -> Result<(), Allo
 
 /// Reads an audit entry by entry, and has the first of them, up to so many, checked and drawn, laid
 /// out so.
-pub(crate) fn watch(
+pub(crate) fn watch_laid(
     alloc: Global,
     config: &Config,
     bytes: &[u8],
@@ -123,7 +123,7 @@ pub(crate) fn watch(
 }
 
 /// Reads an audit likewise, laid out as so many entries are.
-fn watch_by_count(
+fn watch(
     alloc: Global,
     config: &Config,
     bytes: &[u8],
@@ -139,7 +139,7 @@ fn watch_by_count(
     ensures no_output { IfErr result (λ stop. stop ≢ Stop.Read × stop ≢ Stop.Write) }
 {
     match layout_of(alloc, laid_out) {
-        Ok(layout) => watch(alloc, config, bytes, Laid::ByCount(layout), most),
+        Ok(layout) => watch_laid(alloc, config, bytes, Laid::ByCount(layout), most),
         Err(_) => Err(Stop::NoMemory),
     }
 }
@@ -173,7 +173,7 @@ fn draw(alloc: Global, config: &Config, bytes: &[u8]) -> Result<Drawn, Stop>
     ensures no_output { IfErr result (λ stop. stop ≢ Stop.Read × stop ≢ Stop.Write) }
 {
     let lines = count_lines(bytes);
-    let Watched { count, drawing } = match watch_by_count(alloc, config, bytes, lines, u32::MAX) {
+    let Watched { count, drawing } = match watch(alloc, config, bytes, lines, u32::MAX) {
         Ok(watched) => watched,
         Err(stop) => return Err(stop),
     };
@@ -183,7 +183,7 @@ fn draw(alloc: Global, config: &Config, bytes: &[u8]) -> Result<Drawn, Stop>
     if first_bad.is_none() && good == lines {
         return Ok(Drawn { finding, drawing });
     }
-    match watch_by_count(alloc, config, bytes, good, good) {
+    match watch(alloc, config, bytes, good, good) {
         Ok(Watched { count: _, drawing }) => Ok(Drawn { finding, drawing }),
         Err(stop) => Err(stop),
     }

@@ -82,6 +82,30 @@ fn write_ring(
     text.push_str("</title></path>\n")
 }
 
+/// The rings of one column. What it has is cleared after it.
+fn write_column(
+    text: &mut String,
+    deeds: &[Deed],
+    open: &mut [Ring],
+    rows: &[usize],
+    column: usize,
+) -> Result<(), AllocError> {
+    for place in 0..open.len() {
+        let ring = open[place];
+        open[place] = NO_RING;
+        let row = match rows.get(place) {
+            Some(row) => *row,
+            None => rows.len(),
+        };
+        if ring.count > 0
+            && let Some(deed) = deeds.get(ring.place)
+        {
+            write_ring(text, deed, ring.count, column, row)?;
+        }
+    }
+    Ok(())
+}
+
 /// Notes a deed at a row. The answer is whether it is the first there.
 fn note(open: &mut [Ring], row: usize, place: usize) -> bool {
     let Some(ring) = open.get_mut(row) else {
@@ -161,19 +185,13 @@ impl Rings {
 
     /// Writes the rings of the open column, which ends.
     pub(crate) fn end_column(&mut self, column: usize) -> Result<(), AllocError> {
-        for place in 0..self.open.len() {
-            let ring = self.open[place];
-            self.open[place] = NO_RING;
-            let row = match self.rows.get(place) {
-                Some(row) => *row,
-                None => self.rows.len(),
-            };
-            if ring.count > 0
-                && let Some(deed) = self.deeds.get(ring.place)
-            {
-                write_ring(&mut self.text, deed, ring.count, column, row)?;
-            }
-        }
+        write_column(
+            &mut self.text,
+            &self.deeds,
+            &mut self.open,
+            &self.rows,
+            column,
+        )?;
         self.deeds.clear();
         Ok(())
     }

@@ -15,9 +15,9 @@ none_of None none is holds = refl
 none_of (Some at) none is holds = absurd (true≢false (is ∙ ap not holds))
 
 -- what was found where all entries were drawn
-found_of : (setup : Setup) (bytes : List ℕ) (lines most : ℕ) (first_bad : Option ℕ) (watched : Watched) → IsWatched setup bytes lines most watched → watched.count ≤ most → first_bad ≡ watched.drawing.recorder.replayer.first_bad
+found_of : (setup : Setup) (bytes : List ℕ) (most : ℕ) (first_bad : Option ℕ) (watched : Watched) → IsWatched setup bytes most watched → watched.count ≤ most → first_bad ≡ watched.drawing.recorder.replayer.first_bad
     → IsFound setup bytes (record { count = watched.count; first_bad = first_bad })
-found_of setup bytes lines most first_bad watched is few same =
+found_of setup bytes most first_bad watched is few same =
     let all : take most is.audit.entries ≡ is.audit.entries = take_all most is.audit.entries (subst (λ n. n ≤ most) is.count few) in
     record {
       audit = is.audit;
@@ -40,11 +40,11 @@ returns-then-good-lines-clause-drawn c =
     let same : take (unwrap_or c.first_bad-first_bad.result watched.count) is.audit.entries ≡ is.audit.entries =
     take_all (unwrap_or c.first_bad-first_bad.result watched.count) is.audit.entries (subst (λ n. length is.audit.entries ≤ n) (sym good) (subst (λ n. n ≤ watched.count) is.count (omega arith))) in
     record {
-      found = found_of setup c.args.bytes.now c.count_lines-lines.result 4294967295 c.first_bad-first_bad.result watched is c.in-Ok.ensures.few c.first_bad-first_bad.ensures;
+      found = found_of setup c.args.bytes.now 4294967295 c.first_bad-first_bad.result watched is c.in-Ok.ensures.few c.first_bad-first_bad.ensures;
       audit = is.audit;
       read = is.read;
       those = subst (λ es. HasRecorded setup es watched.drawing.recorder) (all ∙ sym same) is.those;
-      laid_out_so = subst (λ n. IsLaidOut n watched.drawing) (sym c.if-good-lines.true ∙ c.unwrap_or-good.ensures) is.laid_out_so;
+      laid_out_so = subst (λ n. IsLaidOut n watched.drawing) (sym c.if-good-lines.true ∙ c.unwrap_or-good.ensures) c.in-Ok.ensures.laid_out;
     }
 
 pub returns-in-Ok-watch-clause-drawn : goal.returns-in-Ok-watch-clause-drawn
@@ -52,9 +52,9 @@ returns-in-Ok-watch-clause-drawn c =
     let setup = c.args.config.now in
     let is = c.in-Ok-watch.ensures.watched in
     record {
-      found = found_of setup c.args.bytes.now c.count_lines-lines.result 4294967295 c.first_bad-first_bad.result c.in-Ok.watched c.in-Ok.ensures.watched c.in-Ok.ensures.few c.first_bad-first_bad.ensures;
+      found = found_of setup c.args.bytes.now 4294967295 c.first_bad-first_bad.result c.in-Ok.watched c.in-Ok.ensures.watched c.in-Ok.ensures.few c.first_bad-first_bad.ensures;
       audit = is.audit;
       read = is.read;
       those = subst (λ n. HasRecorded setup (take n is.audit.entries) c.in-Ok-watch.field-0.drawing.recorder) c.unwrap_or-good.ensures is.those;
-      laid_out_so = subst (λ n. IsLaidOut n c.in-Ok-watch.field-0.drawing) c.unwrap_or-good.ensures is.laid_out_so;
+      laid_out_so = subst (λ n. IsLaidOut n c.in-Ok-watch.field-0.drawing) c.unwrap_or-good.ensures c.in-Ok-watch.ensures.laid_out;
     }

@@ -1,5 +1,5 @@
 use Rattle.std.proofs.Common.{◌-◌, length}
 use Rattle.fy_svg.proofs.otherwise.Rings.done_at.Given as goal
 
-abbrev pub decreases-loop-test : goal.decreases-loop-test
-decreases-loop-test l = length l.self.events.items - l.self.passed
+abbrev pub decreases-loop-event : goal.decreases-loop-event
+decreases-loop-event l = length l.self.events.items - l.self.passed

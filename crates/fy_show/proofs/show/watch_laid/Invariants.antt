@@ -2,7 +2,7 @@ use Rattle.std.proofs.Common.{◌≡◌, List, length, take}
 use Rattle.fy_acts.specs.declared.entry.Entry.{Entry}
 use Rattle.fy_audit.specs.Reading.{HasRead}
 use Rattle.fy_picture.specs.Recording.{HasRecorded}
-use Rattle.fy_show.proofs.show.watch.Given as goal
+use Rattle.fy_show.proofs.show.watch_laid.Given as goal
 
 -- of the entries that were read the first were recorded
 abbrev pub invariant-loop-reader : goal.invariant-loop-reader

@@ -4,7 +4,7 @@ use Rattle.fy_acts.specs.declared.entry.Entry.{Entry}
 use Rattle.fy_cluster.specs.Execution.{Execution}
 use Rattle.fy_picture.specs.Recording.{HasRecorded}
 use Rattle.fy_show.proofs.Showing.{stop_is_told}
-use Rattle.fy_show.proofs.show.watch.Goals as goal
+use Rattle.fy_show.proofs.show.watch_laid.Goals as goal
 
 pub loop-reader-init : goal.loop-reader-init
 loop-reader-init c = (
@@ -52,5 +52,7 @@ returns-clause-watched c =
       count = c.place.ensures ∙ c.loop-reader.invariant.1.place;
       version = c.loop-reader.invariant.3;
       those = c.loop-reader.invariant.2;
-      laid_out_so = (c.in-Ok-layout_of.layout, c.in-Ok-layout_of.ensures, c.loop-reader.invariant.4 ∙ c.in-Ok-begin.ensures.ends);
     }
+
+pub returns-clause-ends : goal.returns-clause-ends
+returns-clause-ends c = c.loop-reader.invariant.4 ∙ c.in-Ok-begin.ensures.ends

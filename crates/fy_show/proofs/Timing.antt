@@ -1,0 +1,139 @@
+-- what is known of the document of an audit and its events
+use Rattle.std.proofs.Common.{◌≡◌, ◌≤◌, ℕ, List, [], length, Option, Some, None, Result, Ok, Err, Bool, refl, subst, arith}
+use Rattle.std.specs.Prelude.{IfSome, is_none}
+use Rattle.std.proofs.KnownBytes.{Consumes-nil}
+use Rattle.fy_lines.specs.Readings.{ReadsAtMost}
+use Rattle.fy_audit.specs.Audit.{Audit, AuditOf}
+use Rattle.fy_audit.specs.One.{AuditIsUnambiguous}
+use Rattle.fy_audit.specs.declared.audit.AuditFault.{AuditFault}
+use Rattle.fy_times.specs.Events.{EventsOf}
+use Rattle.fy_times.specs.declared.event.Event.{Event}
+use Rattle.fy_times.specs.declared.events.EventsFault.{EventsFault}
+use Rattle.fy_cluster.specs.Setup.{Setup}
+use Rattle.fy_check_audit.specs.CheckTexts.{IsFound}
+use Rattle.fy_check_audit.specs.declared.check.Finding.{Finding}
+use Rattle.fy_engine.specs.declared.stop.Stop.{Stop}
+use Rattle.fy_engine.specs.declared.stop.Stop.TheVariants.{JudgeTooLong, JudgeLine, Config, Script, JournalFull, Audit as AuditStop, Events, SwarmClose, Read, Write, NoMemory}
+use Rattle.fy_engine.specs.Stops.{IfAuditFault, IfEventsFault, IsCheckStop, IsTimesStop}
+use Rattle.fy_svg.specs.Documents.{EndsDocument}
+use Rattle.fy_show.specs.Shows.{HasTimedDocument, AreRefused}
+
+-- what follows of a fault of the events, whichever it is
+pub map_events : (stop : Stop) (P Q : EventsFault → Type 0) →
+    ((fault : EventsFault) → P fault → Q fault) → IfEventsFault stop P → IfEventsFault stop Q
+map_events JudgeTooLong P Q gives holds = tt
+map_events (JudgeLine line fault) P Q gives holds = tt
+map_events (Config fault) P Q gives holds = tt
+map_events (Script fault) P Q gives holds = tt
+map_events JournalFull P Q gives holds = tt
+map_events (AuditStop fault) P Q gives holds = tt
+map_events (Events fault) P Q gives holds = gives fault holds
+map_events SwarmClose P Q gives holds = tt
+map_events Read P Q gives holds = tt
+map_events Write P Q gives holds = tt
+map_events NoMemory P Q gives holds = tt
+
+-- what follows of a fault of the audit, where there is none
+pub no_audit : (stop : Stop) (P : AuditFault → Type 0) → IfAuditFault stop (λ _. ⊥) →
+    IfAuditFault stop P
+no_audit JudgeTooLong P none = tt
+no_audit (JudgeLine line fault) P none = tt
+no_audit (Config fault) P none = tt
+no_audit (Script fault) P none = tt
+no_audit JournalFull P none = tt
+no_audit (AuditStop fault) P none = absurd none
+no_audit (Events fault) P none = tt
+no_audit SwarmClose P none = tt
+no_audit Read P none = tt
+no_audit Write P none = tt
+no_audit NoMemory P none = tt
+
+-- a stop for an audit is for no fault of the events
+pub no_events : (stop : Stop) (P : EventsFault → Type 0) → IsCheckStop stop → IfEventsFault stop P
+no_events JudgeTooLong P own = tt
+no_events (JudgeLine line fault) P own = tt
+no_events (Config fault) P own = tt
+no_events (Script fault) P own = tt
+no_events JournalFull P own = tt
+no_events (AuditStop fault) P own = tt
+no_events (Events fault) P own = absurd own
+no_events SwarmClose P own = tt
+no_events Read P own = tt
+no_events Write P own = tt
+no_events NoMemory P own = tt
+
+-- a stop for an audit is one of an audit with events
+pub times_stop : (stop : Stop) → IsCheckStop stop → IsTimesStop stop
+times_stop JudgeTooLong own = own
+times_stop (JudgeLine line fault) own = own
+times_stop (Config fault) own = own
+times_stop (Script fault) own = own
+times_stop JournalFull own = own
+times_stop (AuditStop fault) own = own
+times_stop (Events fault) own = tt
+times_stop SwarmClose own = own
+times_stop Read own = own
+times_stop Write own = own
+times_stop NoMemory own = own
+
+-- what isn't read gives nothing
+pub reads_none : (known : Option (List ℕ)) (most : ℕ) → ReadsAtMost known known most
+reads_none known most = ([], Consumes-nil known, omega arith)
+
+-- an audit that was read and checked, and the events of its entries, have a document
+pub has_timed_document : (setup : Setup) (audit events : Option (List ℕ)) (bytes lines : List ℕ)
+    (finding : Finding) (legal : Bool) (P : List ℕ → Type 0) → IfSome audit (λ known. bytes ≡ known) →
+    IfSome events (λ known. lines ≡ known) → IsFound setup bytes finding →
+    legal ≡ is_none finding.first_bad → (told : List Event) → EventsOf finding.count lines (Ok told) →
+    (text : List ℕ) → EndsDocument text → P text → HasTimedDocument setup audit events legal P
+has_timed_document setup None events bytes lines finding legal P read_audit read found is told are text ends holds = tt
+has_timed_document setup (Some known) None bytes lines finding legal P read_audit read found is told are text ends holds = tt
+has_timed_document setup (Some known) (Some known_lines) bytes lines finding legal P read_audit read found is told are text ends holds = (
+  finding,
+  subst (λ xs. IsFound setup xs finding) read_audit found,
+  is,
+  told,
+  subst (λ xs. EventsOf finding.count xs (Ok told)) read are,
+  text,
+  ends,
+  holds,
+)
+
+-- an audit that was read and checked, and events that are refused
+pub are_refused : (setup : Setup) (audit events : Option (List ℕ)) (bytes : List ℕ)
+    (finding : Finding) (fault : EventsFault) → IfSome audit (λ known. bytes ≡ known) →
+    IsFound setup bytes finding → IfSome events (λ known. EventsOf finding.count known (Err fault)) →
+    AreRefused setup audit events fault
+are_refused setup None events bytes finding fault read_audit found refused = tt
+are_refused setup (Some known) None bytes finding fault read_audit found refused = tt
+are_refused setup (Some known) (Some lines) bytes finding fault read_audit found refused =
+    (finding, subst (λ xs. IsFound setup xs finding) read_audit found, refused)
+
+-- what is known of lines is known of those that were read
+pub of_lines : (events : Option (List ℕ)) (lines : List ℕ) (count : ℕ) (fault : EventsFault) →
+    IfSome events (λ known. lines ≡ known) → EventsOf count lines (Err fault) →
+    IfSome events (λ known. EventsOf count known (Err fault))
+of_lines None lines count fault read refused = tt
+of_lines (Some known) lines count fault read refused =
+    subst (λ xs. EventsOf count xs (Err fault)) read refused
+
+-- an audit, and no fault of one
+IsRead : Result Audit AuditFault → Type 0
+IsRead (Ok audit) = Unit {0}
+IsRead (Err fault) = ⊥
+
+-- bytes of which something was found are refused by no fault
+pub found_unrefused : AuditIsUnambiguous → (setup : Setup) (bytes : List ℕ) (finding : Finding) →
+    IsFound setup bytes finding → (stop : Stop) →
+    IfAuditFault stop (λ fault. AuditOf bytes (Err fault)) → IfAuditFault stop (λ _. ⊥)
+found_unrefused one setup bytes finding found JudgeTooLong refused = tt
+found_unrefused one setup bytes finding found (JudgeLine line fault) refused = tt
+found_unrefused one setup bytes finding found (Config fault) refused = tt
+found_unrefused one setup bytes finding found (Script fault) refused = tt
+found_unrefused one setup bytes finding found JournalFull refused = tt
+found_unrefused one setup bytes finding found (AuditStop fault) refused = subst IsRead (one bytes (Ok found.audit) (Err fault) found.read refused) tt
+found_unrefused one setup bytes finding found (Events fault) refused = tt
+found_unrefused one setup bytes finding found SwarmClose refused = tt
+found_unrefused one setup bytes finding found Read refused = tt
+found_unrefused one setup bytes finding found Write refused = tt
+found_unrefused one setup bytes finding found NoMemory refused = tt
