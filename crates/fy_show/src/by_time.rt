@@ -16,7 +16,7 @@ ghost use Rattle.fy_show.specs.Shows.{AreRefused, HasTimedDocument, IsDrawnByTim
 use crate::show::{Laid, watch_laid};
 use fy_audit::MOST_AUDIT_BYTES;
 use fy_audit::laws::audits_are_unambiguous;
-use fy_check_audit::{Finding, load_audit, replay_audit};
+use fy_check_audit::{Finding, load_audit, replay_bytes};
 use fy_cluster::Config;
 use fy_engine::Stop;
 use fy_lines::{InputFault, OutputFault, read_limited, write_bytes};
@@ -77,7 +77,7 @@ fn finding_of(alloc: Global, config: &Config, bytes: &[u8]) -> Result<Finding, S
     ensures own { IfErr result IsCheckStop }
     ensures no_output { IfErr result (λ stop. stop ≢ Stop.Read × stop ≢ Stop.Write) }
 {
-    match replay_audit(alloc, config, bytes) {
+    match replay_bytes(alloc, config, bytes) {
         Ok(replayed) => Ok(replayed.finding()),
         Err(stop) => Err(stop),
     }
