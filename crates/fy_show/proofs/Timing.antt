@@ -91,12 +91,14 @@ has_timed_document setup (Some known) None bytes lines finding legal P read_audi
 has_timed_document setup (Some known) (Some known_lines) bytes lines finding legal P read_audit read found is told are text ends holds = (
   finding,
   subst (λ xs. IsFound setup xs finding) read_audit found,
-  is,
-  told,
-  subst (λ xs. EventsOf finding.count xs (Ok told)) read are,
-  text,
-  ends,
-  holds,
+  (
+    is,
+    told,
+    subst (λ xs. EventsOf finding.count xs (Ok told)) read are,
+    text,
+    ends,
+    holds,
+  ),
 )
 
 -- an audit that was read and checked, and events that are refused
@@ -118,7 +120,7 @@ of_lines (Some known) lines count fault read refused =
     subst (λ xs. EventsOf count xs (Err fault)) read refused
 
 -- an audit, and no fault of one
-IsRead : Result Audit AuditFault → Type 0
+abbrev IsRead : Result Audit AuditFault → Type 0
 IsRead (Ok audit) = Unit {0}
 IsRead (Err fault) = ⊥
 
