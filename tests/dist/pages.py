@@ -63,6 +63,7 @@ def table_has_the_proved_lines() -> None:
         ("judge", "fault_word"),
         ("script", "line_word"),
         ("audit", "audit_line_word"),
+        ("events", "event_word"),
     ):
         found = words_of(name, specs)
         assert len(found) >= 3, f"{name} isn't found in specs/Stops.antt"

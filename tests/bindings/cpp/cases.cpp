@@ -269,7 +269,7 @@ static void by_number()
             HOLDS(asked.judge_process(1, process, kind, Kind::Reboot) == verdict);
             HOLDS(numbered.kill_process(1, process, kind, Kind::Reboot, 5) == verdict);
         }
-    EQUAL(numbered.audit(), named.audit());
+    HOLDS(numbered.audit() == named.audit());
     const std::size_t entries = asked.journal_len();
     THROWS(Argument, (void)numbered.kill_process(1, 6, Kind::Reboot));
     THROWS(Argument, (void)asked.judge_process(1, 6, Kind::Reboot));
