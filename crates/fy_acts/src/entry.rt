@@ -1,7 +1,9 @@
 //! The entries of a journal.
-ghost use Rattle.std.specs.Prelude.{◌≡◌};
+ghost use Rattle.std.specs.Prelude.{◌≡◌, false, IfOk, IsOk};
+ghost use Rattle.fy_acts.specs.Acts.{holds_list};
 
 use crate::{Act, Reply};
+use std::alloc::{AllocError, Global};
 
 /// One act and its reply.
 #[derive(PartialEq, Eq)]
@@ -27,6 +29,23 @@ impl Drop for Entry {
 }
 
 impl Entry {
+    /// A copy of the entry.
+    ///
+    /// # Errors
+    ///
+    /// `AllocError` where there is no memory for what the act holds in lists.
+    pub fn try_copy(&self, alloc: Global) -> Result<Entry, AllocError>
+        ensures equal { IfOk result (λ copy. copy ≡ self.now) }
+        ensures plain { holds_list self.now.act ≡ false → IsOk result }
+    {
+        Ok(Entry {
+            at: self.at,
+            by: self.by,
+            act: self.act.try_copy(alloc)?,
+            reply: self.reply,
+        })
+    }
+
     /// Takes the entry apart: its place, who acted, the act, and the reply.
     pub fn into_parts(self) -> (u32, u32, Act, Reply)
         ensures { result ≡ (self.at, self.by, self.act, self.reply) }

@@ -136,12 +136,7 @@ pub fn replay(alloc: Global, config: &Config, journal: &Journal) -> Result<(), C
     journal.invariant();
     let mut replayer = Replayer::begin(alloc, config.try_copy(alloc)?, journal.version())?;
     for entry in journal.entries() {
-        replayer.enter(Entry {
-            at: entry.at,
-            by: entry.by,
-            act: entry.act.try_copy(alloc)?,
-            reply: entry.reply,
-        })?;
+        replayer.enter(entry.try_copy(alloc)?)?;
         if let Some(at) = replayer.first_bad() {
             return Err(CheckFault::BadEntry { at });
         }

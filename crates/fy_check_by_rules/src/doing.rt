@@ -130,14 +130,8 @@ pub(crate) fn step_of(before: &Past, entry: &Entry) -> Result<FoundStep, AllocEr
     } else {
         Vec::new(before.alloc)
     };
-    let entry = Entry {
-        at: entry.at,
-        by: entry.by,
-        act: entry.act.try_copy(before.alloc)?,
-        reply: entry.reply,
-    };
     Ok(FoundStep {
-        entry,
+        entry: entry.try_copy(before.alloc)?,
         targets,
         message,
         sends,

@@ -289,17 +289,6 @@ module _ (situation : Situation) (order : Order) (kind : Kind) (s : ℕ → Bool
       both : (a b c : ℕ) → nat_lt a b ≡ true → nat_lt a c ≡ false → (nat_le c a && nat_le a b) ≡ true
       both a b c milder above = grind (arith, nat_tests)
 
--- only processes are targets
-pub targets_known : ProcessesHaveValues → (processes : List Locality) (left : ℕ → Bool) (target : Target) (q : ℕ) → targets processes left target q ≡ true → q < length processes
-targets_known law processes left target q is = elim (cases_lt q (length processes)) [
-  | inl known ↦ known
-  | inr past ↦ absurd (true≢false (sym (second (left q) (has_value processes target.key target.value q) is) ∙ law processes target.key target.value q past))
-]
-  where
-    second : (a b : Bool) → (a && b) ≡ true → b ≡ true
-    second true b e = e
-    second false b e = absurd (true≢false (sym e))
-
 -- ---- the verdict
 first_of : {X : Type 0} (b : Bool) (x y : X) → b ≡ true → cond b x y ≡ x
 first_of true x y e = refl

@@ -55,19 +55,6 @@ same_held old new before after slides same =
     let counted = slides.counted in
     slides.held ∙ ap (λ more. old.held ++ more) (empty slides.more (omega arith)) ∙ append-nil old.held
 
-pub slides_on : (first old new : WindowState) (start before after : Option (List ℕ)) → Slides first old start before
-    → Slides old new before after → Slides first new start after
-slides_on first old new start before after done more =
-    let one = done.counted in
-    let two = more.counted in
-    let long = length-append done.more more.more in
-    record {
-      more = done.more ++ more.more;
-      consumed = Consumes-trans start before after done.more more.more done.consumed more.consumed;
-      counted = omega arith;
-      held = more.held ∙ ap (λ l. l ++ more.more) done.held ∙ append_assoc first.held done.more more.more;
-    }
-
 pub reads_on : (first old emptied new : WindowState) (start before after : Option (List ℕ)) → ReadsOn first old start before
     → emptied.read ≡ old.read → Slides emptied new before after → ReadsOn first new start after
 reads_on first old emptied new start before after done same more =

@@ -5,7 +5,7 @@ ghost use Rattle.fy_picture.specs.Pictures.{AreEven, IsPicture};
 use crate::{Column, Recorder, layout_of};
 use fy_check::CheckFault;
 use fy_cluster::Config;
-use fy_journal::{Entry, Journal};
+use fy_journal::Journal;
 use fy_locality::ProcId;
 use std::alloc::{AllocError, Global};
 
@@ -43,12 +43,7 @@ pub fn draw(alloc: Global, config: &Config, journal: &Journal) -> Result<Picture
         layout.ends,
     )?;
     for entry in journal.entries() {
-        recorder.enter(Entry {
-            at: entry.at,
-            by: entry.by,
-            act: entry.act.try_copy(alloc)?,
-            reply: entry.reply,
-        })?;
+        recorder.enter(entry.try_copy(alloc)?)?;
         if let Some(at) = recorder.first_bad() {
             return Err(CheckFault::BadEntry { at });
         }

@@ -65,16 +65,6 @@ struct Order {
     named: ProcSet,
 }
 
-/// A copy of an entry.
-fn copy_of(alloc: Global, entry: &Entry) -> Result<Entry, AllocError> {
-    Ok(Entry {
-        at: entry.at,
-        by: entry.by,
-        act: entry.act.try_copy(alloc)?,
-        reply: entry.reply,
-    })
-}
-
 impl Drawing {
     /// Begins with a cluster of this configuration, for a journal of the version that is laid out
     /// so.
@@ -167,7 +157,7 @@ impl Drawing {
         }
         Ok(Some(Order {
             named: named_by(self.recorder.cluster(), &entry.act),
-            entry: copy_of(self.alloc, entry)?,
+            entry: entry.try_copy(self.alloc)?,
         }))
     }
 
@@ -179,7 +169,7 @@ impl Drawing {
             return Ok(());
         };
         if rule_of(&entry).is_some() && self.orders.len() < MOST_LINES {
-            self.orders.push(copy_of(self.alloc, &entry)?)?;
+            self.orders.push(entry.try_copy(self.alloc)?)?;
         }
         if let Some(rings) = &mut self.rings {
             rings.note(self.alloc, &named, &entry)?;
@@ -298,13 +288,7 @@ pub fn svg(alloc: Global, config: &Config, journal: &Journal) -> Result<String, 
     let layout = layout_of(alloc, journal.len().min(limit as usize) as u32)?;
     let mut drawing = Drawing::begin(alloc, config, journal.version(), layout)?;
     for entry in journal.entries() {
-        let entry = Entry {
-            at: entry.at,
-            by: entry.by,
-            act: entry.act.try_copy(alloc)?,
-            reply: entry.reply,
-        };
-        drawing.enter(entry)?;
+        drawing.enter(entry.try_copy(alloc)?)?;
         if let Some(at) = drawing.first_bad() {
             return Err(CheckFault::BadEntry { at });
         }

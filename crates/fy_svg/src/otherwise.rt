@@ -172,12 +172,7 @@ impl Rings {
             is_first = true;
         }
         if is_first {
-            let order = Entry {
-                at: order.at,
-                by: order.by,
-                act: order.act.try_copy(alloc)?,
-                reply: order.reply,
-            };
+            let order = order.try_copy(alloc)?;
             self.deeds.push(Deed { order, done })?;
         }
         Ok(())
