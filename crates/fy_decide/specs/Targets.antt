@@ -1,6 +1,8 @@
 -- what targets are seen as
+use Rattle.std.specs.Prelude.{Option, Some, None}
 use Rattle.std.specs.Ordering.{nat_cmp}
 use Rattle.std.specs.FinSet as sets
+use Rattle.fy_locality.specs.declared.ProcId.{ProcId}
 use Rattle.fy_decide.specs.declared.targets.Aim.{Aim}
 use Rattle.fy_decide.specs.declared.targets.Aim.TheVariants.{One, Many}
 use Rattle.fy_decide.specs.declared.targets.Targets.{Targets}
@@ -13,3 +15,12 @@ set_of (Many set) = set
 -- the set of the processes that are targets
 abbrev pub targeted : Targets → sets.FinSet nat_cmp
 targeted targets = set_of targets.aim
+
+-- the process of targets that are kept as one alone
+abbrev pub sole_of : Aim → Option ProcId
+sole_of (One p) = Some p
+sole_of (Many set) = None
+
+-- the process that is known to be alone among the targets
+abbrev pub lone : Targets → Option ProcId
+lone targets = sole_of targets.aim

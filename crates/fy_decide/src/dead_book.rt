@@ -6,7 +6,7 @@ ghost use Rattle.fy_locality.specs.declared.key.Key.TheVariants.{Process};
 ghost use Rattle.fy_locality.specs.Locality.{value_of};
 ghost use Rattle.fy_decide.specs.Safety.{AreShort, AreSatisfied, AreMet, everyone, first_satisfied, first_short, first_unmet, with_set, without_set};
 ghost use Rattle.fy_decide.specs.DeadBook.{IsFresh, MayLose, may_lose, struck, MayHeal, healed};
-ghost use Rattle.fy_decide.specs.Targets.{targeted};
+ghost use Rattle.fy_decide.specs.Targets.{targeted, lone};
 ghost use Rattle.fy_decide.specs.Verdicts.{targets, loss_of};
 
 use crate::tallies::{
@@ -250,6 +250,7 @@ impl DeadBook {
             → (q : ℕ) → sets.contains (targeted result) q
             ≡ targets self.now.processes (sets.contains self.now.left)
             (record { key = Process; value = name }) q }
+        ensures lone { sets.contains self.now.left p.0 ≡ true → lone result ≡ Some p }
     {
         fy_locality::laws::value_is_had();
         self.map.names_differ();

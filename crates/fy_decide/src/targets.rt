@@ -1,5 +1,5 @@
 //! The processes that an order is about, or that may be lost.
-ghost use Rattle.std.specs.Prelude.{◌≡◌, ◌<◌, IfSome};
+ghost use Rattle.std.specs.Prelude.{◌≡◌, ◌<◌, IfSome, Some};
 ghost use Rattle.std.specs.FinSet as sets;
 ghost use Rattle.fy_locality.specs.declared.ProcId.{ProcId};
 ghost use Rattle.fy_locality.specs.declared.TheConstants.{MOST_PROCESSES};
@@ -23,7 +23,7 @@ pub struct Targets {
 }
 
 impl Targets {
-    ghost use Rattle.fy_decide.specs.Targets.{targeted};
+    ghost use Rattle.fy_decide.specs.Targets.{targeted, lone};
 
     /// The processes of a set. Looks for the one that is alone in it.
     pub(crate) fn of(set: &ProcSet) -> Targets
@@ -40,7 +40,8 @@ impl Targets {
     /// One process.
     pub(crate) fn one(p: ProcId) -> Targets
         requires { p.0 < MOST_PROCESSES }
-        ensures { targeted result ≡ sets.insert sets.empty p.0 }
+        ensures targeted { targeted result ≡ sets.insert sets.empty p.0 }
+        ensures lone { lone result ≡ Some p }
     {
         Targets { aim: Aim::One(p) }
     }
@@ -56,6 +57,7 @@ impl Targets {
 
     /// The one process, where it is known to be alone. Where none is answered, they may be any.
     pub fn alone(&self) -> Option<ProcId>
+        ensures known { result ≡ lone self.now }
         ensures small { IfSome result (λ p. p.0 < MOST_PROCESSES) }
         ensures alone { IfSome result (λ p. targeted self.now ≡ sets.insert sets.empty p.0) }
     {

@@ -76,6 +76,7 @@ impl Case<'_> {
     }
 
     /// The bar of a deed by the first three rules, those of leave.
+    #[inline(always)]
     fn permission_bar(&self, kinds: KindSet) -> Option<Rule>
         ensures { (deed : Deed) → kinds ≡ only deed → result
             ≡ first_rule (permission_rules
@@ -119,6 +120,7 @@ impl Case<'_> {
     }
 
     /// The bar of a kind of kill: the first of all five rules that bars it.
+    #[inline(always)]
     fn bar(&self, kind: Kind) -> Option<Rule>
         ensures { result
             ≡ bar (situation_of self.now.dead.now self.now.book.now self.now.actor) (Striking kind)

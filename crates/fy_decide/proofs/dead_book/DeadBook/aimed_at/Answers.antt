@@ -10,6 +10,6 @@ pub returns-in-Some : goal.returns-in-Some
 returns-in-Some c =
     let key : c.args.target.now.key ≡ Process = search rules in
     λ q.
-    in-one (targeted c.one.result) c.in-Some.p.0 q c.one.ensures
+    in-one (targeted c.one.result) c.in-Some.p.0 q c.one.ensures.targeted
     ∙ c.in-Some.ensures.alone q
     ∙ ap (λ k. targets c.args.self.now.processes (sets.contains c.args.self.now.left) (record { key = k; value = c.args.target.now.value }) q) (sym key)

@@ -7,11 +7,11 @@ use Rattle.fy_decide.proofs.Alone.{in-one, one_targeted, none_targeted, one_with
 use Rattle.fy_decide.proofs.dead_book.DeadBook.aimed_at_process.Goals as goal
 
 pub returns-then-contains-clause-members : goal.returns-then-contains-clause-members
-returns-then-contains-clause-members c = λ q member. one_within (targeted c.one.result) c.args.p.0 q _ c.one.ensures c.requires member
+returns-then-contains-clause-members c = λ q member. one_within (targeted c.one.result) c.args.p.0 q _ c.one.ensures.targeted c.requires member
 
 pub returns-then-contains-clause-those : goal.returns-then-contains-clause-those
 returns-then-contains-clause-those c = λ name is q.
-    in-one (targeted c.one.result) c.args.p.0 q c.one.ensures
+    in-one (targeted c.one.result) c.args.p.0 q c.one.ensures.targeted
     ∙ one_targeted c.args.self.now.processes c.args.self.now.left
     (subst NamesDiffer (c.deref.ensures ∙ ap (λ (d : Losses). d.processes) c.self.view_is) c.names_differ.ensures) c.value_is_had.ensures c.args.p.0 q name is
     (ap (λ (d : Losses). sets.contains d.left c.args.p.0) (sym c.self.view_is) ∙ sym c.contains.ensures ∙ c.if-contains.true)
