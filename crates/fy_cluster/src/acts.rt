@@ -41,31 +41,36 @@ impl Machine {
     }
 
     /// Replies to a kill of the process that an order names alone, and appends both to the trail,
-    /// as `enter` does. The name isn't looked up. Takes no memory.
+    /// as `enter` does. The entry is the caller's to make. The name isn't looked up. Takes no
+    /// memory.
     pub(crate) fn enter_kill(
         &mut self,
         trail: &mut Trail,
         config: &Config,
         by: u32,
         process: ProcId,
-        order: KillOrder,
-    ) -> Entry
+        order: &KillOrder,
+    ) -> Reply
         ghost point: { Point }
         requires stands { Refines point.setup point.before self.old }
         requires config { config.now ≡ point.setup }
         requires by { by ≡ point.by }
-        requires named { NamesProcess point.setup.processes process.0 order }
+        requires named { NamesProcess point.setup.processes process.0 order.now }
         requires room { length trail.old < MOST_JOURNAL_ENTRIES }
-        ensures answered { EntersOrOom point (length trail.old) by (Kill order) (Ok result)
-            self.new }
-        ensures entered { trail.new ≡ trail.old ++ result ∷ [] }
+        ensures answered { RepliesOrOom point (Kill order.now) (Ok result) self.new }
+        ensures entered { trail.new ≡ trail.old ++ record {
+          at = length trail.old;
+          by = by;
+          act = Kill order.now;
+          reply = result;
+        } ∷ [] }
     {
-        let reply = self.reply_to_kill(config, by, process, &order);
+        let reply = self.reply_to_kill(config, by, process, order);
         let at = trail.len() as u32;
-        let act = Act::Kill { order };
+        let act = Act::Kill { order: *order };
         let killed = Entry { at, by, act, reply };
         trail.push(&killed);
-        killed
+        reply
     }
 
     /// Replies to an act, and does it where no rule refuses it. An unknown actor, or one whose role

@@ -1,5 +1,5 @@
 //! A cluster: it replies to acts, and keeps them all in its journal.
-ghost use Rattle.std.specs.Prelude.{◌≡◌, ◌↔◌, ◌≤◌, ℕ, length, IfOk, IfErr, IsTrue, OnOk, OnErr, Err, IsSome, IfSome, None};
+ghost use Rattle.std.specs.Prelude.{◌≡◌, ◌↔◌, ◌<◌, ◌≤◌, ℕ, max, length, IfOk, IfErr, IsTrue, OnOk, OnErr, Err, IsSome, IfSome, None};
 ghost use Rattle.std.specs.FinSet as sets;
 ghost use Rattle.fy_kinds.specs.Kinds.{rank};
 ghost use Rattle.fy_kinds.specs.Orders.{Order};
@@ -52,6 +52,28 @@ impl Drop for Cluster {
             state: _,
             journal: _,
         } = self;
+    }
+}
+
+/// Makes sure that a cluster's journal has a place for the next entry.
+///
+/// # Errors
+///
+/// In this order: `JournalFull` where the journal is at its limit; `NoMemory`. The journal is then as
+/// it was.
+fn make_place(journal: &mut Journal, state: &ClusterState) -> Result<(), Fault>
+    ensures full { (state.now.setup.limit ≤ length state.now.journal) ↔ (result ≡ Err JournalFull) }
+    ensures room { OnOk result (length state.now.journal < state.now.setup.limit) }
+    ensures place { OnOk result (journal.new ≡ record journal.old { room = max journal.old.room 1 }) }
+    ensures err { OnErr result (journal.new ≡ journal.old) }
+{
+    if state.is_full() {
+        return Err(Fault::JournalFull);
+    }
+    match journal.reserve(1) {
+        Ok(()) => Ok(()),
+        // Want of memory, since a cluster's limit is far below that of the type.
+        Err(_) => Err(Fault::NoMemory),
     }
 }
 
@@ -112,13 +134,7 @@ impl Cluster {
         ensures survives { Survives self.new.setup self.new.journal }
     {
         self.state.survives();
-        if self.state.is_full() {
-            return Err(Fault::JournalFull);
-        }
-        // Want of memory, since a cluster's limit is far below that of the type.
-        let Ok(()) = self.journal.reserve(1) else {
-            return Err(Fault::NoMemory);
-        };
+        make_place(&mut self.journal, &self.state)?;
         let (_, by, act, reply) = self.state.enter(by, act)?.into_parts();
         self.journal.push(by, act, reply);
         Ok(reply)
@@ -135,26 +151,20 @@ impl Cluster {
         &mut self,
         by: u32,
         process: ProcId,
-        order: KillOrder,
+        order: &KillOrder,
     ) -> Result<Reply, Fault>
-        requires { NamesProcess self.old.setup.processes process.0 order }
+        requires { NamesProcess self.old.setup.processes process.0 order.now }
         ensures full { (self.old.setup.limit ≤ length self.old.journal)
             ↔ (result ≡ Err JournalFull) }
-        ensures replied { IfOk result (λ reply. reply ≡ replied self.old by (Kill order)) }
-        ensures entered { OnOk result (self.new ≡ entered self.old by (Kill order)) }
+        ensures replied { IfOk result (λ reply. reply ≡ replied self.old by (Kill order.now)) }
+        ensures entered { OnOk result (self.new ≡ entered self.old by (Kill order.now)) }
         ensures err { OnErr result (self.new ≡ self.old) }
         ensures survives { Survives self.new.setup self.new.journal }
     {
-        self.survives();
-        if self.is_full() {
-            return Err(Fault::JournalFull);
-        }
-        // Want of memory, as in `apply`.
-        let Ok(()) = self.journal.reserve(1) else {
-            return Err(Fault::NoMemory);
-        };
-        let (_, by, kill, reply) = self.state.kill_process(by, process, order)?.into_parts();
-        self.journal.push(by, kill, reply);
+        self.state.survives();
+        make_place(&mut self.journal, &self.state)?;
+        let reply = self.state.strike_process(by, process, order);
+        self.journal.push(by, Act::Kill { order: *order }, reply);
         Ok(reply)
     }
 
@@ -172,7 +182,7 @@ impl Cluster {
         let most = limit.saturating_sub(self.journal.len());
         match self.journal.reserve(count.min(most)) {
             Ok(()) => Ok(()),
-            // Want of memory, as in `apply`.
+            // Want of memory, as in `make_place`.
             Err(_) => Err(AllocError),
         }
     }

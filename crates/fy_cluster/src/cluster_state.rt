@@ -123,14 +123,28 @@ impl ClusterState {
         ensures err { OnErr result (self.new ≡ self.old) }
         ensures survives { Survives self.new.setup self.new.journal }
     {
-        laws::journals_survive();
+        self.survives();
         if self.is_full() {
             return Err(Fault::JournalFull);
         }
-        Ok(
-            self.machine
-                .enter_kill(&mut self.trail, &self.config, by, process, order),
-        )
+        let at = self.trail.len() as u32;
+        let reply = self.strike_process(by, process, &order);
+        let act = Act::Kill { order };
+        Ok(Entry { at, by, act, reply })
+    }
+
+    /// Does what `kill_process` does where there is room for an entry, and leaves the entry to the
+    /// caller. Takes no memory.
+    pub(crate) fn strike_process(&mut self, by: u32, process: ProcId, order: &KillOrder) -> Reply
+        requires named { NamesProcess self.old.setup.processes process.0 order.now }
+        requires room { length self.old.journal < self.old.setup.limit }
+        ensures reply { result ≡ replied self.old by (Kill order.now) }
+        ensures entered { self.new ≡ entered self.old by (Kill order.now) }
+        ensures survives { Survives self.new.setup self.new.journal }
+    {
+        laws::journals_survive();
+        self.machine
+            .enter_kill(&mut self.trail, &self.config, by, process, order)
     }
 
     /// Whether so many acts were entered as the configuration allows.

@@ -40,10 +40,6 @@ fn strike_disks(disks: &mut Disks, targets: &ProcSet, kind: Kind, tear: u64)
     ensures { ChangesAt (sets.contains targets.now) (disk_after_strike kind tear) empty_disk
         disks.old disks.new }
 {
-    // A reboot of processes leaves the disks as they are.
-    if let Kind::RebootProcess = kind {
-        return;
-    }
     for p in targets.iter() {
         strike_disk(disks, p, kind, tear);
     }
@@ -55,6 +51,10 @@ fn strike_targets(disks: &mut Disks, targets: &Targets, kind: Kind, tear: u64)
     ensures { ChangesAt (sets.contains (targeted targets.now)) (disk_after_strike kind tear)
         empty_disk disks.old disks.new }
 {
+    // A reboot of processes leaves the disks as they are.
+    if let Kind::RebootProcess = kind {
+        return;
+    }
     match targets.alone() {
         Some(p) => strike_disk(disks, p, kind, tear),
         None => strike_disks(disks, &targets.set(), kind, tear),

@@ -1,6 +1,4 @@
-use Rattle.std.proofs.Common.{ap}
-use Rattle.fy_cluster.specs.Standing.{disk_after_strike}
-use Rattle.fy_cluster.proofs.Targets.{unchanged, visits_below, visits_more, visits_all}
+use Rattle.fy_cluster.proofs.Targets.{visits_below, visits_more, visits_all}
 use Rattle.fy_cluster.proofs.kills.strike_disks.Goals as goal
 
 pub loop-p-preserved : goal.loop-p-preserved
@@ -13,6 +11,3 @@ strike_disk-requires c = visits_below c.requires c.in-Some.ensures.steps.0 c.loo
 
 pub returns : goal.returns
 returns c = visits_all c.in-None.ensures.steps.0 c.loop-p.invariant
-
-pub returns-in-RebootProcess : goal.returns-in-RebootProcess
-returns-in-RebootProcess c = unchanged (λ disk. ap (λ kind. disk_after_strike kind c.args.tear disk) c.in-RebootProcess.is)
