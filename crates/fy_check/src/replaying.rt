@@ -1,6 +1,6 @@
 //! Checks a journal by replaying it: its acts are made once more, and the replies compared. No
 //! entry is kept.
-ghost use Rattle.std.specs.Prelude.{◌≡◌, ◌↔◌, List, [], ◌∷◌, ◌++◌, length, None, IfOk, OnOk, OnErr, IsSome, IsTrue};
+ghost use Rattle.std.specs.Prelude.{◌≡◌, ◌↔◌, List, [], ◌∷◌, ◌++◌, length, None, IfOk, IfSome, OnOk, OnErr, IsSome, IsTrue};
 ghost use Rattle.fy_acts.specs.declared.entry.Entry.{Entry};
 ghost use Rattle.fy_cluster.specs.Setup.{Setup};
 ghost use Rattle.fy_cluster.specs.Versions.{LegalUnder};
@@ -109,6 +109,8 @@ impl Replayer {
             → HasReplayed setup (so_far ++ entry ∷ []) self.new) }
         ensures version { self.new.version ≡ self.old.version }
         ensures stays { IsSome self.old.first_bad → self.new ≡ self.old }
+        ensures place { OnOk result (self.old.first_bad ≡ None
+            → IfSome self.new.first_bad (λ at. at ≡ entry.at)) }
         ensures same { OnErr result (self.new ≡ self.old) }
     {
         if self.first_bad.is_some() {

@@ -1,5 +1,6 @@
 -- what a cluster shows of its processes is what the machine's parts say
-use Rattle.std.proofs.Common.{◌≡◌, ℕ, ◌<◌, Bool, true, false, ◌&&◌, Option, Some, None, refl, sym, ◌∙◌, ap, arith, nat_lt, length, slice_get}
+use Rattle.std.proofs.Common.{◌≡◌, ℕ, ◌+◌, ◌==◌, ◌<◌, Bool, true, false, ◌&&◌, ◌||◌, Option, Some, None, refl, sym, ◌∙◌, ap, ap₂, arith, nat_lt, length, slice_get, lt-ltb}
+use Rattle.std.proofs.lemmas.Bool.{eqb-true, false≢true, le-ltb}
 use Rattle.std.proofs.lemmas.Bool.Decides.{nat_tests}
 use Rattle.std.specs.FinSet as sets
 use Rattle.std.specs.Ordering.{nat_cmp}
@@ -13,11 +14,12 @@ use Rattle.fy_acts.specs.declared.reply.Refusal.TheVariants.{Stranger}
 use Rattle.fy_cluster.specs.declared.machine.Machine.{Machine}
 use Rattle.fy_cluster.specs.declared.role.Role.{Role}
 use Rattle.fy_cluster.specs.Setup.{Setup}
-use Rattle.fy_cluster.specs.History.{History, members_for, up}
+use Rattle.fy_cluster.specs.History.{History, clogged, members_for, up}
 use Rattle.fy_cluster.specs.Replies.{reply}
 use Rattle.fy_cluster.specs.Needs.{is_member_on, needed_on}
 use Rattle.fy_team.specs.Teams.{is_among}
-use Rattle.fy_cluster.specs.Sights.{needed_at, up_in}
+use Rattle.fy_net.specs.Net.{is_clogged}
+use Rattle.fy_cluster.specs.Sights.{clogged_in, needed_at, up_in}
 use Rattle.fy_cluster.specs.Standing.{Refines}
 use Rattle.fy_cluster.proofs.Entering.{stranger, may_reply}
 use Rattle.fy_cluster.proofs.Judged.{judged}
@@ -30,6 +32,55 @@ up_is c h m k everyone out all is p = ap (λ s. sets.contains s p) is ∙ sets.c
   where
     at : (b : Bool) → nat_lt p (length c.processes) ≡ b → (b && sets.contains m.up p) ≡ (b && up h p)
     at true e = let there : p < length c.processes = grind (arith, nat_tests) in k.up.each p there
+    at false e = refl
+
+-- ---- a set that is made process by process
+
+pub none_yet : (f : ℕ → Bool) (q : ℕ) → false ≡ (nat_lt q 0 && f q)
+none_yet f q = ap (λ b. b && f q) (nothing_below q)
+  where
+    nothing_below : (q : ℕ) → false ≡ nat_lt q 0
+    nothing_below q = grind (arith, nat_tests)
+
+one_further : (q n : ℕ) → (q == n) ≡ false → nat_lt q n ≡ nat_lt q (n + 1)
+one_further q n apart = grind (arith, nat_tests)
+
+-- one more, where it is in it
+pub one_next : (f : ℕ → Bool) (q n : ℕ) → ((q == n && f n) || (nat_lt q n && f q)) ≡ (nat_lt q (n + 1) && f q)
+one_next f q n = at (q == n) refl
+  where
+    own : (a b : Bool) → a ≡ false → (b || (a && b)) ≡ b
+    own a true e = refl
+    own true false e = absurd (false≢true (sym e))
+    own false false e = refl
+
+    at : (b : Bool) → (q == n) ≡ b → ((b && f n) || (nat_lt q n && f q)) ≡ (nat_lt q (n + 1) && f q)
+    at true e =
+        let same : q ≡ n = eqb-true q n e in
+        ap (λ k. f k || (nat_lt q n && f q)) (sym same)
+        ∙ own (nat_lt q n) (f q) (le-ltb q n (omega arith))
+        ∙ ap (λ b. b && f q) (sym (lt-ltb q (n + 1) (omega arith)))
+    at false e = ap (λ b. b && f q) (one_further q n e)
+
+pub put_true : (own holds had : Bool) → holds ≡ true → (own || had) ≡ ((own && holds) || had)
+put_true true true had e = refl
+put_true false true had e = refl
+put_true own false had e = absurd (false≢true e)
+
+pub put_false : (own holds had : Bool) → holds ≡ false → had ≡ ((own && holds) || had)
+put_false true false had e = refl
+put_false false false had e = refl
+put_false own true had e = absurd (false≢true (sym e))
+
+-- who is clogged, among those that are there
+pub clogged_is : (c : Setup) (h : History) (m : Machine) → Refines c h m → (out : sets.FinSet nat_cmp) (count : ℕ) → count ≡ length c.processes → ((q : ℕ) → sets.contains out q ≡ (nat_lt q count && is_clogged m.net q))
+    → (p : ℕ) → sets.contains out p ≡ clogged_in c h p
+clogged_is c h m k out count all each p = each p ∙ ap (λ n. nat_lt p n && is_clogged m.net p) all ∙ at (nat_lt p (length c.processes)) refl
+  where
+    at : (b : Bool) → nat_lt p (length c.processes) ≡ b → (b && is_clogged m.net p) ≡ (b && clogged h p)
+    at true e =
+        let there : p < length c.processes = grind (arith, nat_tests) in
+        ap₂ (λ now end. nat_lt now end) k.net.clock (k.net.ends p there)
     at false e = refl
 
 -- the least record that a process which is there still needs

@@ -84,3 +84,7 @@ needed_of c h p = if nat_lt p (length c.processes) then needed_at h p else None
 -- the processes that are up
 abbrev pub up_in : Setup → History → ℕ → Bool
 up_in c h p = nat_lt p (length c.processes) && up h p
+
+-- the processes whose messages are held back
+abbrev pub clogged_in : Setup → History → ℕ → Bool
+clogged_in c h p = nat_lt p (length c.processes) && clogged h p

@@ -9,7 +9,7 @@ ghost use Rattle.fy_cluster.specs.declared.fault.Fault.TheVariants.{JournalFull}
 ghost use Rattle.fy_cluster.specs.Survival.{Survives};
 ghost use Rattle.fy_cluster.specs.Execution.{history_of, opened, replied, entered, next_entry};
 ghost use Rattle.fy_acts.specs.declared.act.Act.TheVariants.{Kill};
-ghost use Rattle.fy_cluster.specs.Sights.{IsLeastKeeper, Sees, status_of, needed_of, up_in};
+ghost use Rattle.fy_cluster.specs.Sights.{IsLeastKeeper, Sees, clogged_in, status_of, needed_of, up_in};
 
 use crate::machine::Machine;
 use crate::trail::Trail;
@@ -180,6 +180,14 @@ impl ClusterState {
         ensures { (p : ℕ) → sets.contains result p ≡ up_in self.now.setup (history_of self.now) p }
     {
         self.config.map().everyone().intersection(&self.machine.up)
+    }
+
+    /// The processes whose messages are held back. Each process is looked at.
+    pub fn clogged(&self) -> ProcSet
+        ensures { (p : ℕ) → sets.contains result p
+            ≡ clogged_in self.now.setup (history_of self.now) p }
+    {
+        self.machine.clogged(self.config.map().len())
     }
 
     /// The state of the process with this number; `None` where there is no such process.

@@ -1,7 +1,8 @@
-use Rattle.std.proofs.Common.{rules, ◌+◌, ◌∙◌, [], refl, sym, ap, subst, length}
+use Rattle.std.proofs.Common.{rules, ◌+◌, ◌∙◌, [], sym, ap, subst, length}
+use Rattle.fy_acts.specs.declared.entry.Entry.{Entry}
 use Rattle.fy_cluster.specs.Execution.{Execution}
 use Rattle.fy_check.specs.Replayed.{HasReplayed}
-use Rattle.fy_check.proofs.Nexts.{place_is, of_parts}
+use Rattle.fy_check.proofs.Nexts.{place_is}
 use Rattle.fy_check.proofs.Entering.{one_more_entered, all_are_legal, bad_of_all}
 use Rattle.fy_check.proofs.replaying.replay.Goals as goal
 
@@ -15,7 +16,8 @@ loop-entry-init c = (
 
 pub enter-requires : goal.enter-requires
 enter-requires c = λ none.
-    place_is c.args.journal.now.entries c.loop-entry.entry-index c.entry-item.result (search rules)
+    ap (λ (x : Entry). x.at) c.in_ok-try_copy-2.ensures.equal
+    ∙ place_is c.args.journal.now.entries c.loop-entry.entry-index c.entry-item.result (search rules)
     (search rules) c.invariant.ensures.numbered
     ∙ sym (ap (λ (replayed : Execution). length replayed.journal)
     (c.loop-entry.invariant.0.execution none))
@@ -24,7 +26,7 @@ pub loop-entry-preserved : goal.loop-entry-preserved
 loop-entry-preserved c = (
   one_more_entered c.args.config.now c.args.journal.now.entries c.loop-entry.entry-index
       c.entry-item.result _ c.enter.new.self (search rules) (search rules)
-      (of_parts c.entry-item.result _ _ _ refl (sym c.in_ok-try_copy-2.ensures.equal) refl)
+      c.in_ok-try_copy-2.ensures.equal
       (c.in_ok-enter.ensures.entered c.args.config.now _ c.loop-entry.invariant.0),
   sym c.first_bad.ensures ∙ c.in_default.is,
   c.enter.ensures.version ∙ c.loop-entry.invariant.2,
@@ -36,7 +38,7 @@ returns-in-Some c =
     (c.loop-entry.entry-index + 1) c.in-Some.at c.enter.new.self
     (one_more_entered c.args.config.now c.args.journal.now.entries c.loop-entry.entry-index
     c.entry-item.result _ c.enter.new.self (search rules) (search rules)
-    (of_parts c.entry-item.result _ _ _ refl (sym c.in_ok-try_copy-2.ensures.equal) refl)
+    c.in_ok-try_copy-2.ensures.equal
     (c.in_ok-enter.ensures.entered c.args.config.now _ c.loop-entry.invariant.0))
     (sym c.first_bad.ensures ∙ c.in-Some.is) (c.enter.ensures.version ∙ c.loop-entry.invariant.2)
 
