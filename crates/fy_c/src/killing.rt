@@ -1,6 +1,7 @@
 //! Kills, ordered and answered by numbers.
 ghost use Rattle.std.specs.Prelude.{◌≡◌, ◌≢◌, IfOk, IfErr};
 ghost use Rattle.std.specs.Ptr.{null_ptr};
+ghost use Rattle.fy_c.specs.Entering.{status_of};
 ghost use Rattle.fy_c.specs.Killing.{IsOrderOf, NoOrder, IsKilled, Kills, IsJudged, Judges, told_of, untold};
 ghost use Rattle.fy_c.specs.Statuses.{Answers};
 
@@ -32,7 +33,7 @@ pub(crate) const UNTOLD: Told = Told {
 };
 
 /// What C is told of an answer to a kill.
-pub(crate) fn told_of(answer: Result<Reply, Fault>) -> Told
+fn told_of(answer: Result<Reply, Fault>) -> Told
     ensures { result ≡ told_of answer }
 {
     match answer {
@@ -43,6 +44,14 @@ pub(crate) fn told_of(answer: Result<Reply, Fault>) -> Told
         },
         _ => UNTOLD,
     }
+}
+
+/// The status of an answer to a kill, and what C is told of it.
+pub(crate) fn outcome_of(answer: Result<Reply, Fault>) -> (Status, Told)
+    ensures status { result.0 ≡ status_of answer }
+    ensures told { result.1 ≡ told_of answer }
+{
+    (status_of(answer), told_of(answer))
 }
 
 /// An order by the numbers of its key and its kinds.
@@ -88,7 +97,7 @@ fn kill(guard: &mut FyGuard, actor: u32, order: Result<KillOrder, Status>) -> (S
         Err(status) => return (status, UNTOLD),
     };
     let answer = apply(guard, actor, Act::Kill { order });
-    (status_of(answer), told_of(answer))
+    outcome_of(answer)
 }
 
 /// Orders a kill by an actor: of the processes whose key has a value, by a kind or where that is
@@ -139,7 +148,7 @@ fn judge(cluster: &Cluster, actor: u32, order: Result<KillOrder, Status>) -> (St
         Err(status) => return (status, UNTOLD),
     };
     let reply = Ok(cluster.judge(actor, &order));
-    (status_of(reply), told_of(reply))
+    outcome_of(reply)
 }
 
 /// What `fy_kill` would answer now to the same order, if the journal had room. It enters nothing, and

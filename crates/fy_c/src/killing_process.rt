@@ -9,9 +9,8 @@ ghost use Rattle.fy_c.specs.Killing.{IsKilled, untold};
 ghost use Rattle.fy_c.specs.KillingProcess.{IsOrderOn, AreKindsOn, NoOrderOn, KillsProcess, JudgesProcess};
 ghost use Rattle.fy_c.specs.Statuses.{Answers};
 
-use crate::entering::status_of;
 use crate::handle::FyGuard;
-use crate::killing::{Told, UNTOLD, told_of};
+use crate::killing::{Told, UNTOLD, outcome_of};
 use crate::numbers::kind_of;
 use crate::status::Status;
 use fy_acts::Reply;
@@ -84,12 +83,12 @@ fn apply_kill(
     guard: &mut FyGuard,
     by: u32,
     process: ProcId,
-    order: KillOrder,
+    order: &KillOrder,
 ) -> Result<Reply, Fault>
     requires open { guard.old.at ≢ null_ptr }
-    requires named { NamesProcess guard.old.value.setup.processes process.0 order }
+    requires named { NamesProcess guard.old.value.setup.processes process.0 order.now }
     ensures open { guard.new.at ≢ null_ptr }
-    ensures applied { Applies guard.old.value guard.new.value by (Kill order) result }
+    ensures applied { Applies guard.old.value guard.new.value by (Kill order.now) result }
 {
     guard.cluster().kill_process(by, process, order)
 }
@@ -99,22 +98,22 @@ fn kill_process(
     guard: &mut FyGuard,
     actor: u32,
     process: u32,
-    order: Result<KillOrder, Status>,
+    order: &Result<KillOrder, Status>,
 ) -> (Status, Told)
     requires open { guard.old.at ≢ null_ptr }
-    requires named { IfOk order (NamesProcess guard.old.value.setup.processes process) }
+    requires named { IfOk order.now (NamesProcess guard.old.value.setup.processes process) }
     ensures open { guard.new.at ≢ null_ptr }
-    ensures given { IfOk order (λ order.
+    ensures given { IfOk order.now (λ order.
         IsKilled guard.old.value guard.new.value actor order result.0 result.1) }
-    ensures not_given { IfErr order (λ status. (guard.new.value ≡ guard.old.value)
+    ensures not_given { IfErr order.now (λ status. (guard.new.value ≡ guard.old.value)
         × (result ≡ (status, untold))) }
 {
     let order = match order {
         Ok(order) => order,
-        Err(status) => return (status, UNTOLD),
+        Err(status) => return (*status, UNTOLD),
     };
     let answer = apply_kill(guard, actor, ProcId(process), order);
-    (status_of(answer), told_of(answer))
+    outcome_of(answer)
 }
 
 /// Does what `fy_kill` does with an order that names this process alone by its name, and makes the
@@ -144,7 +143,7 @@ pub extern "C" fn fy_kill_process(
         (record { struck = struck.new; rule = rule.new; named = named.new })) }
 {
     let order = order_on(guard.cluster().config().map(), process, kind, floor, tear);
-    let (status, told) = kill_process(guard, actor, process, order);
+    let (status, told) = kill_process(guard, actor, process, &order);
     *struck = told.struck;
     *rule = told.rule;
     *named = told.named;
@@ -170,7 +169,7 @@ fn judge_process(
         // The number was found to be that of a process.
         unreachable!();
     };
-    (status_of(Ok(reply)), told_of(Ok(reply)))
+    outcome_of(Ok(reply))
 }
 
 /// What `fy_kill_process` would answer now to the same order, if the journal had room. It enters
