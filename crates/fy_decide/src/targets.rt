@@ -26,6 +26,7 @@ impl Targets {
     ghost use Rattle.fy_decide.specs.Targets.{targeted, lone};
 
     /// The processes of a set. Looks for the one that is alone in it.
+    #[inline(never)]
     pub(crate) fn of(set: &ProcSet) -> Targets
         ensures { targeted result ≡ set.now }
     {
@@ -47,6 +48,7 @@ impl Targets {
     }
 
     /// Nobody.
+    #[inline(never)]
     pub(crate) fn nobody() -> Targets
         ensures { targeted result ≡ sets.empty }
     {

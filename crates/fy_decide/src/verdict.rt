@@ -31,6 +31,7 @@ struct Case<'a> {
 impl Case<'_> {
     /// The least target that no grant of the actor with all these kinds covers. Of a lone target no
     /// set is made.
+    #[inline(always)]
     fn uncovered(&self, kinds: KindSet) -> Option<ProcId>
         ensures { LeastWith (sets.contains (targeted self.now.targets.now))
             (λ q. not (is_covered self.now.book.now.processes
@@ -49,6 +50,7 @@ impl Case<'_> {
     }
 
     /// The least target that is protected from some of these kinds.
+    #[inline(always)]
     fn barred(&self, kinds: KindSet) -> Option<ProcId>
         ensures { LeastWith (sets.contains (targeted self.now.targets.now))
             (is_protected self.now.book.now kinds) result }
@@ -99,6 +101,7 @@ impl Case<'_> {
     }
 
     /// The bar of a kind of kill by the last two rules, those of replication.
+    #[inline(always)]
     fn loss_bar(&self, kind: Kind) -> Option<Rule>
         ensures { (rights : Rights) (actor : ℕ) → result
             ≡ first_rule (loss_rules (situation_of self.now.dead.now rights actor) (Striking kind)
