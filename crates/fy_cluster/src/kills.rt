@@ -74,6 +74,7 @@ fn record_losses(dead: &mut DeadBook, targets: &Targets, kind: Kind)
 
 impl Machine {
     /// Strikes these targets of an order by the hardest kind that nothing bars.
+    // Within `kill_process` no target is copied.
     #[inline(always)]
     fn strike(&mut self, by: u32, order: &KillOrder, found: &Targets) -> Reply
         ghost point: { Point }

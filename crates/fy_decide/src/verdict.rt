@@ -28,6 +28,8 @@ struct Case<'a> {
         → sets.contains (targeted targets.now) q ≡ true → q < length dead.now.processes },
 }
 
+// Of one process each question is a few instructions, which a call would double: so all are put into
+// the function that finds the verdict.
 impl Case<'_> {
     /// The least target that no grant of the actor with all these kinds covers. Of a lone target no
     /// set is made.
