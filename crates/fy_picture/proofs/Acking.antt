@@ -132,7 +132,7 @@ pub record NotesSoFar (f : ℕ → Option ℕ → Option ℕ) (old : List (Optio
   pub each : (r : ℕ) → slice_get new r ≡ (if nat_lt r i then option_map (f r) (slice_get old r) else slice_get old r)
 
 -- a list after one element was written over
-after_set : {X : Type 0} (xs : List X) (i p : ℕ) (x other : X) → i < length xs → p < length xs → slice_get (slice_set xs i x) p ≡ (if p == i then Some x else slice_get xs p)
+pub after_set : {X : Type 0} (xs : List X) (i p : ℕ) (x other : X) → i < length xs → p < length xs → slice_get (slice_set xs i x) p ≡ (if p == i then Some x else slice_get xs p)
 after_set xs i p x other l w = at (p == i) refl
   where
     at : (b : Bool) → (p == i) ≡ b → slice_get (slice_set xs i x) p ≡ (if b then Some x else slice_get xs p)

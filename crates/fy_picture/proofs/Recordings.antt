@@ -1,29 +1,31 @@
 -- what is recorded of one column more, and of one entry more
-use Rattle.std.proofs.Common.{◌≡◌, ◌∙◌, ◌+◌, ◌<◌, ◌≤◌, ◌&&◌, ℕ, zero, suc, inl, inr, cond, Bool, true, false, Option, Some, None, is_some, option_map, IsTrue, List, [], ◌∷◌, ◌++◌, length, take, get_or, slice_get, min, refl, sym, ap, subst, arith, length-append}
-use Rattle.std.specs.Prelude.{IsSomeAnd, option_to_list, IsSome}
-use Rattle.std.proofs.lemmas.List.{take-append-le, take_all}
+use Rattle.std.proofs.Common.{◌≡◌, ◌∙◌, ◌+◌, ◌-◌, ◌<◌, ◌≤◌, ◌&&◌, ◌*◌, ℕ, zero, suc, inl, inr, cond, Bool, true, false, Option, Some, None, is_some, option_map, IsTrue, List, [], ◌∷◌, ◌++◌, length, take, slice_get, min, refl, sym, ap, subst, arith, length-append}
+use Rattle.std.specs.Prelude.{IsSomeAnd, option_to_list}
+use Rattle.std.proofs.lemmas.List.{take-append-le}
 use Rattle.std.proofs.Math.Seq.{take-length}
 use Rattle.std.proofs.lemmas.Bool.{cases_lt, false≢true}
+use Rattle.std.proofs.lemmas.Option.{slice_get_within}
 use Rattle.fy_locality.specs.declared.ProcId.{ProcId}
 use Rattle.fy_acts.specs.declared.entry.Entry.{Entry}
-use Rattle.fy_check.specs.Replayed.{Replayed, HasFirstBad, HasReplayed}
 use Rattle.fy_cluster.specs.Setup.{Setup}
-use Rattle.fy_cluster.specs.Execution.{Execution, history_of}
+use Rattle.fy_acts.specs.declared.act.Act.{Act}
+use Rattle.fy_cluster.specs.Execution.{Execution, entered, history_of, next_entry}
 use Rattle.fy_cluster.specs.History.{History, begins, records, acked, keeper, step_of, history}
 use Rattle.fy_cluster.specs.Replies.{Legal, MayFollow}
 use Rattle.fy_cluster.specs.Survival.{FrontsLegal, NextLegal}
 use Rattle.fy_picture.specs.declared.column.Column.{Column}
-use Rattle.fy_picture.specs.declared.recorder.Recorder.{Recorder}
+use Rattle.fy_picture.specs.declared.layout.Plan.{Plan}
+use Rattle.fy_picture.specs.declared.recorded.Recorded.{Recorded}
 use Rattle.fy_picture.specs.declared.TheConstants.{MOST_KEPT}
 use Rattle.fy_picture.specs.Columns.{IsColumn, AreStates, AreCounts}
 use Rattle.fy_picture.specs.Keeping.{AreKeepers, AreAckedAt, BeginsNext, IsAckedAt, ListsKeepers, Notes, noted, says_acked, with_begun}
 use Rattle.fy_picture.specs.Killable.{IsKnown}
-use Rattle.fy_picture.specs.Layouts.{AreInOrder, AreMade, AreAllMade}
+use Rattle.fy_picture.specs.Layouts.{AreEnded, AreSoFar, HasRoom, IsDue, IsLate, IsOpen, IsShut}
 use Rattle.fy_picture.specs.Pictures.{ShowEnds}
-use Rattle.fy_picture.specs.Recording.{EndsColumn, HasRecorded, IsDue, IsLate, IsRecorded}
+use Rattle.fy_picture.specs.Recorded.{EndsColumn, IsRecorded}
 use Rattle.fy_picture.proofs.Acking.{ByReply, acked_at_more, some_and-map, never}
-use Rattle.fy_picture.proofs.Afters.{after-append, elements_more, one_more}
-use Rattle.fy_picture.proofs.Laying.{all_made, made_more, made_next}
+use Rattle.fy_picture.proofs.Afters.{after-append, elements_more}
+use Rattle.fy_picture.proofs.Laying.{due_below, ended_open, ended_shut, has_room_more, listed, so_far_more, so_far_next}
 
 -- ---- columns
 
@@ -34,7 +36,7 @@ shown_next c entries e column is =
     let more : length (entries ++ e ∷ []) ≡ length entries + 1 = length-append entries (e ∷ []) in
     record {
       end = let l = is.end in omega arith;
-      states = subst (λ es. AreStates c (history c es) column.states.items) same is.states;
+      states = subst (λ es. AreStates c (history c es) column.states) same is.states;
       counts = subst (λ es. AreCounts c (history c es) column.counts.items) same is.counts;
     }
 
@@ -50,13 +52,13 @@ own_or_last P (z ∷ xs) x each last (suc k) y is = own_or_last P xs x (λ j w e
 
 -- a column more, at the end of the entries
 pub show_more : (c : Setup) (entries : List Entry) (columns : List Column) (column : Column) → ShowEnds c entries columns → column.end ≡ length entries
-    → AreStates c (history c entries) column.states.items → AreCounts c (history c entries) column.counts.items → ShowEnds c entries (columns ++ column ∷ [])
+    → AreStates c (history c entries) column.states → AreCounts c (history c entries) column.counts.items → ShowEnds c entries (columns ++ column ∷ [])
 show_more c entries columns column show end states counts =
     let all : entries ≡ take column.end entries = sym (ap (λ n. take n entries) end ∙ take-length entries) in
     own_or_last (IsColumn c entries) columns column show
     (record {
       end = omega arith;
-      states = subst (λ es. AreStates c (history c es) column.states.items) all states;
+      states = subst (λ es. AreStates c (history c es) column.states) all states;
       counts = subst (λ es. AreCounts c (history c es) column.counts.items) all counts;
     })
 
@@ -148,49 +150,102 @@ none_acked c places none =
     let count : length places ≡ 0 = ap length none in
     record { count = count; each = λ r l. absurd (omega arith) }
 
--- a replayer that has no bad entry had none
-pub none_before : (old new : Replayed) → (IsSome old.first_bad → new ≡ old) → new.first_bad ≡ None → old.first_bad ≡ None
-none_before old new stays none = by old.first_bad refl
+-- a column that is due is recorded
+pub column_ended : (old new : Recorded) → IsRecorded old → EndsColumn old new → IsDue old.plan (length old.columns.items) old.entries → HasRoom old.plan (length old.columns.items) old.entries → IsRecorded new
+column_ended old new was ended due room =
+    let same = ended.same in
+    let c = old.state.setup in
+    let entries = old.state.journal in
+    let here : history_of old.state ≡ history c entries = refl in
+    let columns : ShowEnds c entries new.columns.items =
+    subst (ShowEnds c entries) (sym ended.more)
+    (show_more c entries old.columns.items ended.column was.columns (ended.end ∙ was.count) ended.states ended.counts) in
+    let laid : AreSoFar old.plan (length entries) new.columns.items =
+    subst (AreSoFar old.plan (length entries)) (sym ended.more)
+    (so_far_more old.plan (length entries) old.columns.items ended.column was.laid
+    (subst (IsDue old.plan (length old.columns.items)) was.count due)
+    (subst (HasRoom old.plan (length old.columns.items)) was.count room) (ended.end ∙ was.count)) in
+    record {
+      count = same.entries ∙ was.count ∙ ap (λ (x : Execution). length x.journal) (sym same.state);
+      columns = subst (λ (x : Execution). ShowEnds x.setup x.journal new.columns.items) (sym same.state) columns;
+      laid = subst (λ (x : Execution). AreSoFar new.plan (length x.journal) new.columns.items) (sym same.state)
+          (subst (λ (p : Plan). AreSoFar p (length entries) new.columns.items) (sym same.plan) laid);
+      counts = subst (λ (x : Execution). IsKnown x.setup new.killable) (sym same.state) ended.known;
+      acked = subst (λ (x : Execution). AreAckedAt x.setup x.journal new.acked_at.items) (sym same.state)
+          (subst (AreAckedAt c entries) (sym same.acked) was.acked);
+    }
+
+-- and there is room for another, where it is needed
+pub room_left : (old new : Recorded) → IsRecorded old → EndsColumn old new → IsDue old.plan (length old.columns.items) old.entries → HasRoom old.plan (length old.columns.items) old.entries
+    → HasRoom new.plan (length new.columns.items) new.entries
+room_left old new was ended due room =
+    let same = ended.same in
+    let count : length new.columns.items ≡ length old.columns.items + 1 = ap length ended.more ∙ length-append old.columns.items (ended.column ∷ []) in
+    let so_far = subst (λ n. AreSoFar old.plan n old.columns.items) (sym was.count) was.laid in
+    subst (λ (p : Plan). HasRoom p (length new.columns.items) new.entries) (sym same.plan)
+    (subst (HasRoom old.plan (length new.columns.items)) (sym same.entries)
+    (subst (λ n. HasRoom old.plan n old.entries) (sym count)
+    (has_room_more old.plan old.entries old.columns.items so_far due room)))
+
+-- and less is left to end
+pub fewer_left : (old new : Recorded) → IsRecorded old → EndsColumn old new → IsDue old.plan (length old.columns.items) old.entries
+    → new.entries + listed new.plan - length new.columns.items < old.entries + listed old.plan - length old.columns.items
+fewer_left old new was ended due =
+    let same = ended.same in
+    let count : length new.columns.items ≡ length old.columns.items + 1 = ap length ended.more ∙ length-append old.columns.items (ended.column ∷ []) in
+    let entries : new.entries ≡ old.entries = same.entries in
+    let ends : listed new.plan ≡ listed old.plan = ap listed same.plan in
+    let below : length old.columns.items < old.entries + listed old.plan =
+    due_below old.plan old.entries old.columns.items (subst (λ n. AreSoFar old.plan n old.columns.items) (sym was.count) was.laid) due in
+    omega arith
+
+-- the columns once the last one has ended
+pub last_shown : (old new : Recorded) → IsRecorded old → EndsColumn old new → ShowEnds old.state.setup old.state.journal new.columns.items
+last_shown old new was ended =
+    subst (ShowEnds old.state.setup old.state.journal) (sym ended.more)
+    (show_more old.state.setup old.state.journal old.columns.items ended.column was.columns (ended.end ∙ was.count) ended.states ended.counts)
+
+pub last_ended : (old new : Recorded) → IsRecorded old → EndsColumn old new → IsLate old.plan (length old.columns.items) old.entries → IsOpen old.plan (length old.columns.items) old.entries → HasRoom old.plan (length old.columns.items) old.entries
+    → AreEnded old.plan (length old.state.journal) new.columns.items
+last_ended old new was ended late behind room =
+    subst (AreEnded old.plan (length old.state.journal)) (sym ended.more)
+    (ended_open old.plan (length old.state.journal) old.columns.items ended.column was.laid
+    (subst (IsLate old.plan (length old.columns.items)) was.count late)
+    (subst (IsOpen old.plan (length old.columns.items)) was.count behind)
+    (subst (HasRoom old.plan (length old.columns.items)) was.count room) (ended.end ∙ was.count))
+
+pub none_open : (old : Recorded) → IsRecorded old → IsLate old.plan (length old.columns.items) old.entries → IsShut old.plan (length old.columns.items) old.entries
+    → AreEnded old.plan (length old.state.journal) old.columns.items
+none_open old was late shut =
+    ended_shut old.plan (length old.state.journal) old.columns.items was.laid
+    (subst (IsLate old.plan (length old.columns.items)) was.count late)
+    (subst (IsShut old.plan (length old.columns.items)) was.count shut)
+
+-- columns that are those of others show what they showed
+pub folded_show : (c : Setup) (entries : List Entry) (old new : List Column) → ((k : ℕ) → k < length new → slice_get new k ≡ slice_get old (2 * k + 1)) → ShowEnds c entries old → ShowEnds c entries new
+folded_show c entries old new each show k column is =
+    show (2 * k + 1) column (sym (each k (slice_get_within new k column is)) ∙ is)
+
+-- of a legal journal each entry may follow those before it
+pub may_next : (c : Setup) (entries : List Entry) (e : Entry) → FrontsLegal → NextLegal → Legal c (entries ++ e ∷ []) → MayFollow c entries e
+may_next c entries e fronts next legal = (next c entries e (fronts c entries (e ∷ []) legal)).0 legal
+
+-- an entry that may follow is what the cluster makes of its act
+pub next_is : (c : Setup) (entries : List Entry) (e : Entry) (before : Execution) → MayFollow c entries e → before ≡ record { setup = c; journal = entries } → (by : ℕ) (act : Act) → by ≡ e.by → act ≡ e.act → (behind : Execution) → behind ≡ entered before by act
+    → behind ≡ record { setup = c; journal = entries ++ e ∷ [] }
+next_is c entries e before may is by act by_is act_is behind made =
+    made
+    ∙ ap (λ (x : Execution). entered x by act) is
+    ∙ ap (λ n. entered (record { setup = c; journal = entries }) n act) by_is
+    ∙ ap (λ a. entered (record { setup = c; journal = entries }) e.by a) act_is
+    ∙ ap (λ (x : Entry). let more : Execution = record { setup = c; journal = entries ++ x ∷ [] } in more) given
   where
-    by : (o : Option ℕ) → old.first_bad ≡ o → old.first_bad ≡ None
-    by None is = is
-    by (Some at) is = sym (ap (λ (x : Replayed). x.first_bad) (stays (subst IsSome (sym is) refl))) ∙ none
+    given : next_entry (record { setup = c; journal = entries }) e.by e.act ≡ e
+    given = λ i. record { at = sym may.place i; by = e.by; act = e.act; reply = sym may.right i }
 
 module _ (c : Setup) (entries : List Entry) where
   abbrev here : Execution
   here = record { setup = c; journal = entries }
-
-  -- a column that is due is recorded
-  pub column_ended : (old new : Recorder) → HasRecorded c entries old → EndsColumn old new → IsDue old → HasRecorded c entries new
-  column_ended old new has ended due = record {
-    replayed = subst (HasReplayed c entries) (sym ended.replayer) has.replayed;
-    recorded = λ none.
-        let none_yet : old.replayer.first_bad ≡ None = ap (λ (x : Replayed). x.first_bad) (sym ended.replayer) ∙ none in
-        let was : IsRecorded c entries old = has.recorded none_yet in
-        let execution : old.replayer.execution ≡ here = has.replayed.execution none_yet in
-        let known : IsKnown old.replayer.execution.setup old.killable = subst (λ (x : Execution). IsKnown x.setup old.killable) (sym execution) was.counts in
-        record {
-          count = ended.entries ∙ was.count;
-          columns = subst (ShowEnds c entries) (sym ended.more)
-              (show_more c entries old.columns.items ended.column was.columns (ended.end ∙ was.count)
-              (subst (λ (x : Execution). AreStates x.setup (history_of x) ended.column.states.items) execution ended.states)
-              (subst (λ (x : Execution). AreCounts x.setup (history_of x) ended.column.counts.items) execution (ended.counts known)));
-          made = λ order.
-              let was_in_order : AreInOrder old.ends.items = subst AreInOrder ended.ends order in
-              subst (λ ends. AreMade ends (length entries) new.columns.items) (sym ended.ends)
-              (subst (AreMade old.ends.items (length entries)) (sym ended.more)
-              (made_more old.ends.items (length entries) due.end old.columns.items ended.column was_in_order (was.made was_in_order) due.next
-              (subst (λ n. due.end ≤ n) was.count due.among) (ended.end ∙ was.count)));
-          counts = subst (λ (x : Execution). IsKnown x.setup new.killable) execution (ended.known known);
-          acked = subst (AreAckedAt c entries) (sym ended.acked) was.acked;
-        };
-  }
-
-  -- no column is left out
-  pub all_ended : (recorder : Recorder) → IsRecorded c entries recorder → IsLate recorder → AreInOrder recorder.ends.items → AreAllMade recorder.ends.items (length entries) recorder.columns.items
-  all_ended recorder was late order =
-      all_made recorder.ends.items (length entries) recorder.columns.items order (was.made order)
-      (λ end is. subst (λ n. n < end) was.count (late end is))
 
   pub keepers_are : (places : List (Option ℕ)) (keepers : List (Option ProcId)) (count : ℕ) (execution : Execution) → execution ≡ here → AreAckedAt c entries places → count ≡ length places → ListsKeepers execution count keepers → AreKeepers c entries keepers
   keepers_are places keepers count execution is acked many lists = record {
@@ -200,44 +255,44 @@ module _ (c : Setup) (entries : List Entry) where
         ∙ ap (λ (x : Execution). Some (keeper x.setup (history_of x) r)) is;
   }
 
-  -- one entry more, which is not bad, is recorded
-  pub entry_recorded : FrontsLegal → NextLegal → ByReply → (e : Entry) (mid : Recorder) (replayer : Replayed) (count : ℕ) (places : List (Option ℕ)) (is_begun : Bool) (before behind : Execution) (known : ℕ)
-      → IsRecorded c entries mid → IsLate mid → HasReplayed c (entries ++ e ∷ []) replayer → replayer.first_bad ≡ None
+  -- one entry more, which the rules give, is recorded
+  pub entry_recorded : FrontsLegal → NextLegal → ByReply → (e : Entry) (mid : Recorded) (count : ℕ) (places : List (Option ℕ)) (is_begun : Bool) (behind : Execution)
+      → mid.state ≡ here → IsRecorded mid → IsLate mid.plan (length mid.columns.items) mid.entries → Legal c (entries ++ e ∷ [])
       → ((n : ℕ) → mid.entries ≡ n → n + 1 ≤ c.limit → count ≡ n + 1)
-      → before ≡ here → behind ≡ record { setup = c; journal = entries ++ e ∷ [] } → known ≡ length mid.acked_at.items
-      → (IsTrue is_begun → BeginsNext before e known)
-      → (known < MOST_KEPT → IsTrue (is_some (begins e.act e.reply)) → length (records (history_of before)) ≤ known → IsTrue is_begun)
+      → behind ≡ record { setup = c; journal = entries ++ e ∷ [] }
+      → (IsTrue is_begun → BeginsNext mid.state e (length mid.acked_at.items))
+      → (length mid.acked_at.items < MOST_KEPT → IsTrue (is_some (begins e.act e.reply)) → length (records (history_of mid.state)) ≤ length mid.acked_at.items → IsTrue is_begun)
       → (length (with_begun is_begun mid.acked_at.items) ≤ MOST_KEPT → Notes e.at (λ r. says_acked e.reply && acked (history_of behind) r) (with_begun is_begun mid.acked_at.items) places)
-      → (new : Recorder) → new.entries ≡ count → new.columns.items ≡ mid.columns.items → new.ends.items ≡ mid.ends.items → new.killable ≡ mid.killable → new.acked_at.items ≡ places
-      → IsRecorded c (entries ++ e ∷ []) new
-  entry_recorded fronts next by_reply e mid replayer count places is_begun before behind known was late replayed none counted is_before is_behind is_known to only notes new n_count n_columns n_ends n_killable n_acked =
-      let first : HasFirstBad replayer.version c (entries ++ e ∷ []) None = subst (HasFirstBad replayer.version c (entries ++ e ∷ [])) none replayed.first in
-      let legal : Legal c (entries ++ e ∷ []) = first.legal in
-      let may : MayFollow c entries e = (next c entries e (fronts c entries (e ∷ []) legal)).0 legal in
+      → (new : Recorded) → new.state ≡ behind → new.entries ≡ count → new.columns.items ≡ mid.columns.items → new.plan ≡ mid.plan → new.killable ≡ mid.killable → new.acked_at.items ≡ places
+      → IsRecorded new
+  entry_recorded fronts next by_reply e mid count places is_begun behind is_mid was late legal counted is_behind to only notes new n_state n_count n_columns n_plan n_killable n_acked =
+      let may : MayFollow c entries e = may_next c entries e fronts next legal in
       let longer : length (entries ++ e ∷ []) ≡ length entries + 1 = length-append entries (e ∷ []) in
       let within : length entries + 1 ≤ c.limit = subst (λ n. n ≤ c.limit) longer legal.0 in
       let to_here : IsTrue is_begun → BeginsNext here e (length mid.acked_at.items) =
-      λ t. subst (λ n. BeginsNext here e n) is_known (subst (λ (x : Execution). BeginsNext x e known) is_before (to t)) in
+      λ t. subst (λ (x : Execution). BeginsNext x e (length mid.acked_at.items)) is_mid (to t) in
       let only_here : length mid.acked_at.items < MOST_KEPT → IsTrue (is_some (begins e.act e.reply)) → length (records (history c entries)) ≤ length mid.acked_at.items → IsTrue is_begun =
-      λ few begun unbegun. only (subst (λ n. n < MOST_KEPT) (sym is_known) few) begun
-      (subst (λ n. length (records (history_of before)) ≤ n) (sym is_known) (subst (λ (x : Execution). length (records (history_of x)) ≤ length mid.acked_at.items) (sym is_before) unbegun)) in
+      λ few begun unbegun. only few begun (subst (λ (x : Execution). length (records (history_of x)) ≤ length mid.acked_at.items) (sym is_mid) unbegun) in
+      let mid_count : mid.entries ≡ length entries = was.count ∙ ap (λ (x : Execution). length x.journal) is_mid in
+      let mid_columns : ShowEnds c entries mid.columns.items = subst (λ (x : Execution). ShowEnds x.setup x.journal mid.columns.items) is_mid was.columns in
+      let mid_laid : AreSoFar mid.plan (length entries) mid.columns.items = subst (λ (x : Execution). AreSoFar mid.plan (length x.journal) mid.columns.items) is_mid was.laid in
+      let mid_counts : IsKnown c mid.killable = subst (λ (x : Execution). IsKnown x.setup mid.killable) is_mid was.counts in
+      let mid_acked : AreAckedAt c entries mid.acked_at.items = subst (λ (x : Execution). AreAckedAt x.setup x.journal mid.acked_at.items) is_mid was.acked in
       let few : length (with_begun is_begun mid.acked_at.items) ≤ MOST_KEPT =
-      few_next c entries e mid.acked_at.items is_begun to_here only_here was.acked in
+      few_next c entries e mid.acked_at.items is_begun to_here only_here mid_acked in
+      let there : new.state ≡ record { setup = c; journal = entries ++ e ∷ [] } = n_state ∙ is_behind in
+      let laid : AreSoFar mid.plan (length (entries ++ e ∷ [])) mid.columns.items =
+      subst (λ n. AreSoFar mid.plan n mid.columns.items) (sym longer)
+      (so_far_next mid.plan (length entries) mid.columns.items mid_laid (subst (IsLate mid.plan (length mid.columns.items)) mid_count late)) in
       record {
-        count = n_count ∙ counted (length entries) was.count within ∙ sym longer;
-        columns = subst (ShowEnds c (entries ++ e ∷ [])) (sym n_columns) (show_next c entries e mid.columns.items was.columns);
-        made = λ order.
-            subst (λ ends. AreMade ends (length (entries ++ e ∷ [])) new.columns.items) (sym n_ends)
-            (subst (AreMade mid.ends.items (length (entries ++ e ∷ []))) (sym n_columns)
-            (subst (λ n. AreMade mid.ends.items n mid.columns.items) (sym longer)
-            (made_next mid.ends.items (length entries) mid.columns.items (all_ended mid was late (subst AreInOrder n_ends order)))));
-        counts = subst (IsKnown c) (sym n_killable) was.counts;
-        acked = subst (AreAckedAt c (entries ++ e ∷ [])) (sym n_acked)
-            (acked_next by_reply c entries e mid.acked_at.items places is_begun (history_of behind) may (ap history_of is_behind) to_here only_here was.acked (notes few));
+        count = n_count ∙ counted (length entries) mid_count within ∙ sym longer ∙ ap (λ (x : Execution). length x.journal) (sym there);
+        columns = subst (λ (x : Execution). ShowEnds x.setup x.journal new.columns.items) (sym there)
+            (subst (ShowEnds c (entries ++ e ∷ [])) (sym n_columns) (show_next c entries e mid.columns.items mid_columns));
+        laid = subst (λ (x : Execution). AreSoFar new.plan (length x.journal) new.columns.items) (sym there)
+            (subst (λ (p : Plan). AreSoFar p (length (entries ++ e ∷ [])) new.columns.items) (sym n_plan)
+            (subst (AreSoFar mid.plan (length (entries ++ e ∷ []))) (sym n_columns) laid));
+        counts = subst (λ (x : Execution). IsKnown x.setup new.killable) (sym there) (subst (IsKnown c) (sym n_killable) mid_counts);
+        acked = subst (λ (x : Execution). AreAckedAt x.setup x.journal new.acked_at.items) (sym there)
+            (subst (AreAckedAt c (entries ++ e ∷ [])) (sym n_acked)
+            (acked_next by_reply c entries e mid.acked_at.items places is_begun (history_of behind) may (ap history_of is_behind) to_here only_here mid_acked (notes few)));
       }
-
--- where the first entries of a journal were recorded, one more is
-pub one_more_recorded : (c : Setup) (entries : List Entry) (i : ℕ) (e given : Entry) (new : Recorder) → i < length entries → e ≡ get_or entries i e → given ≡ e → HasRecorded c (take i entries ++ given ∷ []) new → HasRecorded c (take (i + 1) entries) new
-one_more_recorded c entries i e given new l is same entered =
-    subst (λ es. HasRecorded c es new) (sym (one_more entries i e l is))
-    (subst (λ (x : Entry). HasRecorded c (take i entries ++ x ∷ []) new) same entered)

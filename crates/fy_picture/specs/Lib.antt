@@ -4,4 +4,6 @@ pub mod Keeping
 pub mod Killable
 pub mod Layouts
 pub mod Pictures
+pub mod Recorded
+pub mod Recorder
 pub mod Recording

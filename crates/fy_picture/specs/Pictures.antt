@@ -1,12 +1,10 @@
 -- what a picture of a journal shows
-use Rattle.std.specs.Prelude.{◌≡◌, ℕ, List, length, slice_get, Some}
+use Rattle.std.specs.Prelude.{◌≡◌, ℕ, List, slice_get, Some}
 use Rattle.fy_acts.specs.declared.entry.Entry.{Entry}
 use Rattle.fy_cluster.specs.Setup.{Setup}
 use Rattle.fy_picture.specs.declared.column.Column.{Column}
-use Rattle.fy_picture.specs.declared.layout.Layout.{Layout}
 use Rattle.fy_picture.specs.declared.picture.Picture.{Picture}
 use Rattle.fy_picture.specs.Columns.{IsColumn}
-use Rattle.fy_picture.specs.Layouts.{IsLayout, ends_of}
 use Rattle.fy_picture.specs.Keeping.{AreKeepers, AreAckedAt}
 
 -- each column shows the cluster in the history of all entries up to its end
@@ -20,10 +18,3 @@ pub record IsPicture (c : Setup) (journal : List Entry) (picture : Picture) : Ty
   pub columns : ShowEnds c journal picture.columns.items
   pub keepers : AreKeepers c journal picture.keepers.items
   pub acked : AreAckedAt c journal picture.acked_at.items
-
--- columns that are laid out evenly: the fewest that have room for each entry, of the least width
--- that needs no more than 4,000
-pub record AreEven (entries : ℕ) (columns : List Column) : Type 0 where
-  pub layout : Layout
-  pub is_layout : IsLayout entries layout
-  pub ends : ends_of columns ≡ layout.ends.items

@@ -9,11 +9,11 @@ pub mod laws;
 mod layout;
 mod named;
 mod picture;
+mod recorded;
 mod recorder;
 
-pub use column::Column;
+pub use column::{Column, States};
 pub use glyph::{rule_of, struck_as_ordered};
-pub use layout::{Layout, layout_of};
 pub use named::named_by;
 pub use picture::{Picture, draw};
 pub use recorder::Recorder;

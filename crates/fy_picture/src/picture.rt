@@ -1,8 +1,9 @@
 //! The picture of a journal.
 ghost use Rattle.std.specs.Prelude.{IfOk, length};
-ghost use Rattle.fy_picture.specs.Pictures.{AreEven, IsPicture};
+ghost use Rattle.fy_picture.specs.Layouts.{AreEven};
+ghost use Rattle.fy_picture.specs.Pictures.{IsPicture};
 
-use crate::{Column, Recorder, layout_of};
+use crate::{Column, Recorder};
 use fy_check::CheckFault;
 use fy_cluster::Config;
 use fy_journal::Journal;
@@ -12,6 +13,9 @@ use std::alloc::{AllocError, Global};
 /// A journal, drawn from left to right.
 #[derive(Drop)]
 pub struct Picture {
+    /// How many entries a column stands for, where all stand for as many; the last may stand for
+    /// fewer.
+    pub width: Option<usize>,
     /// The cluster at the end of each column, at most `MOST_COLUMNS`.
     pub columns: Vec<Column>,
     /// Of each record that was begun, by its number and up to `MOST_KEPT` of them, which process
@@ -33,15 +37,7 @@ pub fn draw(alloc: Global, config: &Config, journal: &Journal) -> Result<Picture
         AreEven (length journal.now.entries) picture.columns.items) }
 {
     journal.invariant();
-    // A legal journal is within the limit.
-    let limit = config.journal_limit();
-    let layout = layout_of(alloc, journal.len().min(limit as usize) as u32)?;
-    let mut recorder = Recorder::begin(
-        alloc,
-        config.try_copy(alloc)?,
-        journal.version(),
-        layout.ends,
-    )?;
+    let mut recorder = Recorder::begin(alloc, config.try_copy(alloc)?, journal.version())?;
     for entry in journal.entries() {
         recorder.enter(entry.try_copy(alloc)?)?;
         if let Some(at) = recorder.first_bad() {

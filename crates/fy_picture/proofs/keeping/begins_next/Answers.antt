@@ -6,7 +6,7 @@ use Rattle.std.specs.Option.{option_map_or}
 use Rattle.fy_locality.specs.declared.ProcId.{ProcId}
 use Rattle.fy_team.specs.Teams.{is_among}
 use Rattle.fy_cluster.specs.Execution.{history_of}
-use Rattle.fy_cluster.specs.History.{History, BegunRecord, records, members_of, members_for}
+use Rattle.fy_cluster.specs.History.{History, BegunRecord, records, members_of}
 use Rattle.fy_cluster.specs.Sights.{IsLeastKeeper}
 use Rattle.fy_picture.proofs.keeping.begins_next.Goals as goal
 

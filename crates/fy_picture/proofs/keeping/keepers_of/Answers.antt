@@ -1,4 +1,4 @@
-use Rattle.std.proofs.Common.{◌≡◌, ◌<◌, ◌+◌, ◌++◌, ◌∷◌, [], ◌∙◌, length, length-append, subst, ap, arith}
+use Rattle.std.proofs.Common.{◌≡◌, ◌+◌, ◌++◌, ◌∷◌, [], ◌∙◌, length, length-append, subst, ap, arith}
 use Rattle.fy_cluster.specs.Execution.{history_of}
 use Rattle.fy_cluster.specs.History.{keeper}
 use Rattle.fy_picture.specs.Keeping.{ListsKeepers}

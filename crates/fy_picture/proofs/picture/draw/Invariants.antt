@@ -6,6 +6,5 @@ use Rattle.fy_picture.proofs.picture.draw.Given as goal
 abbrev pub invariant-loop-entry : goal.invariant-loop-entry
 invariant-loop-entry l =
     HasRecorded l.config (take l.entry-index l.journal.entries) l.recorder
-    × (l.recorder.replayer.first_bad ≡ None)
-    × (l.recorder.replayer.version ≡ l.journal.version)
-    × (l.recorder.ends.items ≡ l.initial.recorder.ends.items)
+    × (l.recorder.first_bad ≡ None)
+    × (l.recorder.laid ≡ None)

@@ -1,0 +1,16 @@
+use Rattle.std.proofs.Common.{◌≡◌, ◌-◌, ◌+◌, length}
+use Rattle.fy_picture.specs.Layouts.{HasRoom, laid_by}
+use Rattle.fy_picture.specs.Recorded.{IsRecorded}
+use Rattle.fy_picture.proofs.Laying.{listed}
+use Rattle.fy_picture.proofs.recorded.Recorded.end_due.Given as goal
+
+-- the columns so far are recorded, and nothing is entered
+abbrev pub invariant-loop-self : goal.invariant-loop-self
+invariant-loop-self l =
+    IsRecorded l.self
+    × (l.self.state ≡ l.fn.self.state)
+    × (laid_by l.self.plan ≡ laid_by l.fn.self.plan)
+    × HasRoom l.self.plan (length l.self.columns.items) l.self.entries
+
+abbrev pub decreases-loop-self : goal.decreases-loop-self
+decreases-loop-self l = l.self.entries + listed l.self.plan - length l.self.columns.items

@@ -1,0 +1,48 @@
+use Rattle.std.proofs.Common.{◌≡◌, ◌∙◌, ◌≤◌, length, sym, subst, ap, arith}
+use Rattle.std.specs.Prelude.{IsSomeAnd}
+use Rattle.fy_cluster.specs.Execution.{Execution}
+use Rattle.fy_picture.specs.Keeping.{AreAckedAt}
+use Rattle.fy_picture.specs.Layouts.{AreAllMade, AreEven, IsWidth, width_in}
+use Rattle.fy_picture.specs.Pictures.{ShowEnds}
+use Rattle.fy_picture.proofs.Laying.{ended_even, ended_laid}
+use Rattle.fy_picture.proofs.Recordings.{few_told, keepers_are}
+use Rattle.fy_picture.proofs.recorded.Recorded.finish.Goals as goal
+
+pub returns-clause-picture : goal.returns-clause-picture
+returns-clause-picture c =
+    let old = c.args.self in
+    let mid = c.end_due.new.self in
+    let last = c.end_last.new.self in
+    let state = c.in_ok-end_due.ensures.state in
+    let same = c.in_ok-end_last.ensures.same in
+    let acked : AreAckedAt old.state.setup old.state.journal last.acked_at.items =
+    subst (AreAckedAt old.state.setup old.state.journal) (sym same.acked)
+    (subst (λ (x : Execution). AreAckedAt x.setup x.journal mid.acked_at.items) state c.in_ok-end_due.ensures.recorded.acked) in
+    let few : length last.acked_at.items ≤ 1000 = few_told old.state.setup old.state.journal last.acked_at.items acked in
+    let count : c.min-count.result ≡ length last.acked_at.items = let told = c.told.ensures in let least = c.min-count.ensures in omega arith in
+    record {
+      columns = subst (λ (x : Execution). ShowEnds x.setup x.journal last.columns.items) state c.in_ok-end_last.ensures.columns;
+      keepers = keepers_are old.state.setup old.state.journal last.acked_at.items c.in_ok-keepers.keepers.items c.min-count.result last.state
+          (same.state ∙ state) acked count c.in_ok-keepers.ensures;
+      acked = acked;
+    }
+
+pub returns-clause-even : goal.returns-clause-even
+returns-clause-even c = λ none.
+    let mid = c.end_due.new.self in
+    let last = c.end_last.new.self in
+    let state = c.in_ok-end_due.ensures.state in
+    let n = ap (λ (x : Execution). length x.journal) state in
+    let even = ended_even mid.plan (length mid.state.journal) last.columns.items (c.in_ok-end_due.ensures.laid ∙ none) c.in_ok-end_last.ensures.ended in (
+      subst (λ k. AreEven k last.columns.items) n even.0,
+      subst (λ w. IsSomeAnd w (IsWidth (length c.args.self.state.journal))) (sym (c.width_of-width.ensures ∙ ap width_in c.in_ok-end_last.ensures.same.plan))
+          (subst (λ k. IsSomeAnd (width_in mid.plan) (IsWidth k)) n even.1),
+    )
+
+pub returns-clause-laid : goal.returns-clause-laid
+returns-clause-laid c = λ ends laid order.
+    let mid = c.end_due.new.self in
+    let last = c.end_last.new.self in
+    let n = ap (λ (x : Execution). length x.journal) c.in_ok-end_due.ensures.state in
+    subst (λ k. AreAllMade ends k last.columns.items) n
+    (ended_laid mid.plan (length mid.state.journal) last.columns.items ends (c.in_ok-end_due.ensures.laid ∙ laid) c.in_ok-end_last.ensures.ended order)

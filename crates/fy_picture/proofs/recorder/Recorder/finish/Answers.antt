@@ -1,0 +1,15 @@
+use Rattle.std.proofs.Common.{◌∙◌, length, subst, ap}
+use Rattle.std.specs.Prelude.{IfOk}
+use Rattle.fy_picture.specs.declared.picture.Picture.{Picture}
+use Rattle.fy_picture.specs.Layouts.{AreAllMade}
+use Rattle.fy_picture.specs.Recording.{Recording}
+use Rattle.fy_picture.proofs.Recorders.{whole_of}
+use Rattle.fy_picture.proofs.recorder.Recorder.finish.Goals as goal
+
+pub finish-requires : goal.finish-requires
+finish-requires c = (c.self.invariant (whole_of c.self.inside.is_whole c.if-not-self.false)).recorded
+
+pub returns-clause-laid : goal.returns-clause-laid
+returns-clause-laid c = λ ends laid order.
+    subst (λ (r : Recording). IfOk c.finish.result (λ (picture : Picture). AreAllMade ends (length r.execution.journal) picture.columns.items)) c.self.view_is
+    (c.finish.ensures.laid ends (ap (λ (r : Recording). r.laid) c.self.view_is ∙ laid) order)
