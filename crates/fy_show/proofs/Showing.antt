@@ -1,15 +1,22 @@
 -- what is known of the document that show writes
-use Rattle.std.proofs.Common.{◌≡◌, ℕ, List, Option, Some, None, Err, Bool, subst, sym}
-use Rattle.std.specs.Prelude.{IfSome}
+use Rattle.std.proofs.Common.{◌≡◌, ◌∙◌, ℕ, List, Option, Some, None, Ok, Err, Bool, length, take, ap, subst, sym, arith}
+use Rattle.std.specs.Prelude.{IfSome, is_none, unwrap_or}
+use Rattle.std.proofs.lemmas.List.{take_all}
+use Rattle.fy_acts.specs.declared.entry.Entry.{Entry}
+use Rattle.fy_journal.specs.declared.version.Version.{Version}
 use Rattle.fy_audit.specs.Audit.{AuditOf, AuditAnswers}
 use Rattle.fy_audit.specs.declared.audit.AuditFault.{AuditFault}
 use Rattle.fy_audit.specs.declared.audit.AuditFault.TheVariants.{TooLong, Line, NoMemory}
 use Rattle.fy_cluster.specs.Setup.{Setup}
+use Rattle.fy_cluster.specs.Execution.{Execution}
+use Rattle.fy_check.specs.Replayed.{HasFirstBad}
 use Rattle.fy_check_audit.specs.Checked.{IsChecked}
 use Rattle.fy_engine.specs.declared.stop.Stop.{Stop}
 use Rattle.fy_engine.specs.Stops.{audit_stop, IfAuditFault}
 use Rattle.fy_svg.specs.Documents.{EndsDocument}
-use Rattle.fy_show.specs.Shows.{HasDocument}
+use Rattle.fy_picture.specs.Recording.{HasRecorded, Recording}
+use Rattle.fy_show.specs.declared.show.Drawn.{Drawn}
+use Rattle.fy_show.specs.Shows.{HasDocument, IsDrawn}
 
 -- the stop for what a reader of an audit answers
 pub stop_is_told : (bytes : List ℕ) (fault : AuditFault) (stop : Stop) →
@@ -19,10 +26,46 @@ stop_is_told bytes TooLong stop told is = subst (λ s. IfAuditFault s (λ f. Aud
 stop_is_told bytes (Line number fault) stop told is = subst (λ s. IfAuditFault s (λ f. AuditOf bytes (Err f))) (sym is) told
 stop_is_told bytes NoMemory stop told is = subst (λ s. IfAuditFault s (λ f. AuditOf bytes (Err f))) (sym is) tt
 
+-- while no entry is bad, the next one's place is how many were recorded
+pub next_place : (setup : Setup) (entries : List Entry) (recording : Recording) → HasRecorded setup entries recording → recording.first_bad ≡ None → length entries ≡ length recording.execution.journal
+next_place setup entries recording has none =
+    sym (ap (λ (x : Execution). length x.journal) has.execution
+    ∙ ap (λ o. length (take (unwrap_or o (length entries)) entries)) none
+    ∙ ap length (take_all (length entries) entries (omega arith)))
+
+-- an audit whose bytes are known was drawn
+pub drawn_known : (setup : Setup) (known : Option (List ℕ)) (version : Version) (entries : List Entry) (drawn : Drawn)
+    → IfSome known (λ bytes. AuditOf bytes (Ok (record { version = version; entries = entries })))
+    → drawn.count ≡ length entries → drawn.drawing.version ≡ version → HasRecorded setup entries drawn.drawing → drawn.drawing.laid ≡ None
+    → IfSome known (λ bytes. IsDrawn setup bytes drawn)
+drawn_known setup None version entries drawn read count same those even = tt
+drawn_known setup (Some bytes) version entries drawn read count same those even = record {
+  audit = record { version = version; entries = entries };
+  read = read;
+  count = count;
+  version = same;
+  those = those;
+  even = even;
+}
+
+-- and so it is checked
+pub checked_known : (setup : Setup) (known : Option (List ℕ)) (drawn : Drawn) (legal : Bool) → legal ≡ is_none drawn.drawing.first_bad
+    → IfSome known (λ bytes. IsDrawn setup bytes drawn) → IfSome known (λ bytes. IsChecked setup bytes legal)
+checked_known setup None drawn legal is holds = tt
+checked_known setup (Some bytes) drawn legal is holds = record {
+  finding = record { count = drawn.count; first_bad = drawn.drawing.first_bad };
+  found = record {
+    audit = holds.audit;
+    read = holds.read;
+    count = holds.count;
+    first = subst (λ v. HasFirstBad v setup holds.audit.entries drawn.drawing.first_bad) holds.version holds.those.first;
+  };
+  legal_is = is;
+}
+
 -- an audit that was read and checked has a document that was drawn to its end
-pub has_document : (setup : Setup) (known : Option (List ℕ)) (read : List ℕ) (legal : Bool)
-    (P : List ℕ → Type 0) → IfSome known (λ bytes. read ≡ bytes) → IsChecked setup read legal →
-    (text : List ℕ) → EndsDocument text → P text → HasDocument setup known legal P
-has_document setup None read legal P is checked text ends holds = tt
-has_document setup (Some bytes) read legal P is checked text ends holds =
-    (subst (λ xs. IsChecked setup xs legal) is checked, text, ends, holds)
+pub has_document : (setup : Setup) (known : Option (List ℕ)) (legal : Bool) (P : List ℕ → Type 0) →
+    IfSome known (λ bytes. IsChecked setup bytes legal) → (text : List ℕ) → EndsDocument text →
+    P text → HasDocument setup known legal P
+has_document setup None legal P is text ends holds = tt
+has_document setup (Some bytes) legal P is text ends holds = (is, text, ends, holds)

@@ -1,5 +1,5 @@
 -- what show writes of an audit
-use Rattle.std.specs.Prelude.{◌≡◌, ℕ, Bool, List, Option, IfSome, Ok, Err, is_none, length, take, unwrap_or}
+use Rattle.std.specs.Prelude.{◌≡◌, ℕ, Bool, List, Option, Some, None, IfSome, Ok, Err, is_none, length, unwrap_or}
 use Rattle.fy_audit.specs.Audit.{Audit, AuditOf}
 use Rattle.fy_cluster.specs.Setup.{Setup}
 use Rattle.fy_check_audit.specs.CheckTexts.{IsFound}
@@ -11,15 +11,10 @@ use Rattle.fy_times.specs.declared.columns.TimeColumns.{TimeColumns}
 use Rattle.fy_times.specs.declared.event.Event.{Event}
 use Rattle.fy_times.specs.declared.events.EventsFault.{EventsFault}
 use Rattle.fy_picture.specs.Recording.{HasRecorded}
-use Rattle.fy_picture.specs.declared.layout.Layout.{Layout}
 use Rattle.fy_picture.specs.declared.TheConstants.{MOST_COLUMNS}
-use Rattle.fy_picture.specs.Layouts.{IsLayout}
 use Rattle.fy_svg.specs.declared.drawing.Drawing.{Drawing}
 use Rattle.fy_svg.specs.Documents.{EndsDocument}
 use Rattle.fy_show.specs.declared.show.Drawn.{Drawn}
-use Rattle.fy_show.specs.declared.show.Laid.{Laid}
-use Rattle.fy_show.specs.declared.show.Laid.TheVariants.{ByCount, ByTime}
-use Rattle.fy_show.specs.declared.show.Watched.{Watched}
 
 -- SHOW: known bytes of an audit that was read and checked, whether it is legal, and what holds of
 -- its document
@@ -54,42 +49,31 @@ AreRefused setup audit events fault =
 abbrev pub good_of : Finding → ℕ
 good_of finding = unwrap_or finding.first_bad finding.count
 
--- the drawing's columns are laid out as those of so many entries
-abbrev pub IsLaidOut : ℕ → Drawing → Type 0
-IsLaidOut entries drawing =
-    (layout : Layout) × IsLayout entries layout × (drawing.recorder.ends.items ≡ layout.ends.items)
-
--- where the columns end that are laid out so
-abbrev pub ends_in : Laid → List ℕ
-ends_in (ByCount layout) = layout.ends.items
-ends_in (ByTime columns events) = columns.ends.items
-
--- the bytes are an audit, whose first entries were checked and recorded
-pub record IsWatched (setup : Setup) (bytes : List ℕ) (most : ℕ) (watched : Watched) : Type 0 where
-  pub audit : Audit
-  pub read : AuditOf bytes (Ok audit)
-  pub count : watched.count ≡ length audit.entries
-  pub version : watched.drawing.recorder.replayer.version ≡ audit.version
-  pub those : HasRecorded setup (take most audit.entries) watched.drawing.recorder
-
--- this was found of the bytes, which are an audit, and the drawing is that of the entries before
--- the first bad one, or of all
+-- the bytes are an audit, and the drawing is that of its entries before the first bad one, or of
+-- all, in even columns
 pub record IsDrawn (setup : Setup) (bytes : List ℕ) (drawn : Drawn) : Type 0 where
-  pub found : IsFound setup bytes drawn.finding
   pub audit : Audit
   pub read : AuditOf bytes (Ok audit)
-  pub those : HasRecorded setup (take (good_of drawn.finding) audit.entries)
-      drawn.drawing.recorder
-  pub laid_out_so : IsLaidOut (good_of drawn.finding) drawn.drawing
+  pub count : drawn.count ≡ length audit.entries
+  pub version : drawn.drawing.version ≡ audit.version
+  pub those : HasRecorded setup audit.entries drawn.drawing
+  pub even : drawn.drawing.laid ≡ None
+
+-- the bytes are an audit, and the drawing is that of its entries before the first bad one, or of
+-- all, in columns that end so
+pub record IsDrawnIn (setup : Setup) (bytes : List ℕ) (ends : List ℕ) (drawing : Drawing) : Type 0
+  where
+    pub audit : Audit
+    pub read : AuditOf bytes (Ok audit)
+    pub version : drawing.version ≡ audit.version
+    pub those : HasRecorded setup audit.entries drawing
+    pub laid : drawing.laid ≡ Some ends
 
 -- the bytes are an audit, and the drawing is that of its entries before the first bad one, in the
 -- columns that the events of these entries give
 pub record IsDrawnByTime (setup : Setup) (bytes : List ℕ) (finding : Finding) (events : List Event)
     (drawing : Drawing) : Type 0 where
-  pub audit : Audit
-  pub read : AuditOf bytes (Ok audit)
-  pub those : HasRecorded setup (take (good_of finding) audit.entries) drawing.recorder
   pub columns : TimeColumns
   pub are_columns : AreTimeColumns (events_before events (good_of finding)) (good_of finding)
       MOST_COLUMNS columns
-  pub laid_out_so : drawing.recorder.ends.items ≡ columns.ends.items
+  pub drawn : IsDrawnIn setup bytes columns.ends.items drawing

@@ -11,19 +11,19 @@ ghost use Rattle.fy_times.specs.declared.TheConstants.{MOST_EVENTS_BYTES};
 ghost use Rattle.fy_engine.specs.Stops.{IfAuditFault, IfEventsFault, IsCheckStop, IsTimesStop};
 ghost use Rattle.fy_check_audit.specs.CheckTexts.{IsFound};
 ghost use Rattle.fy_svg.specs.Documents.{EndsDocument};
-ghost use Rattle.fy_show.specs.Shows.{AreRefused, HasTimedDocument, IsDrawnByTime};
+ghost use Rattle.fy_show.specs.Shows.{AreRefused, HasTimedDocument, IsDrawnByTime, IsDrawnIn};
 
-use crate::show::{Laid, watch_laid};
-use fy_audit::MOST_AUDIT_BYTES;
-use fy_audit::laws::audits_are_unambiguous;
-use fy_check_audit::{Finding, load_audit, replay_bytes};
+use fy_audit::laws::{an_audit_is_read_entry_by_entry, audits_are_unambiguous};
+use fy_audit::{AuditReader, MOST_AUDIT_BYTES};
+use fy_check_audit::{Finding, audit_stop, load_audit, replay_bytes};
 use fy_cluster::Config;
 use fy_engine::Stop;
 use fy_lines::{InputFault, OutputFault, read_limited, write_bytes};
 use fy_picture::MOST_COLUMNS;
 use fy_svg::Drawing;
 use fy_times::{
-    Event, EventsFault, MOST_EVENTS_BYTES, columns_by_time, events_before, read_events,
+    Event, EventsFault, MOST_EVENTS_BYTES, TimeColumns, columns_by_time, events_before,
+    read_events,
 };
 use std::alloc::Global;
 use std::io::{Read, Write};
@@ -83,6 +83,42 @@ fn finding_of(alloc: Global, config: &Config, bytes: &[u8]) -> Result<Finding, S
     }
 }
 
+/// Reads an audit that is held whole entry by entry, and has each checked and drawn, in columns by
+/// the times of events.
+fn draw_in(
+    alloc: Global,
+    config: &Config,
+    bytes: &[u8],
+    columns: TimeColumns,
+    events: Vec<Event>,
+) -> Result<Drawing, Stop>
+    ensures drawn { IfOk result (IsDrawnIn config.now bytes.now columns.ends.items) }
+    ensures refused { IfErr result (λ stop. IfAuditFault stop
+        (λ fault. AuditOf bytes.now (Err fault))) }
+    ensures own { IfErr result IsCheckStop }
+    ensures no_output { IfErr result (λ stop. stop ≢ Stop.Read × stop ≢ Stop.Write) }
+{
+    an_audit_is_read_entry_by_entry();
+    let mut reader = match AuditReader::begin(alloc, bytes) {
+        Ok(reader) => reader,
+        Err(fault) => return Err(audit_stop(fault)),
+    };
+    let version = reader.version();
+    let Ok(mut drawing) = Drawing::begin_by_time(alloc, config, version, columns, events) else {
+        return Err(Stop::NoMemory);
+    };
+    while !reader.is_at_end() {
+        let entry = match reader.next_entry() {
+            Ok(entry) => entry,
+            Err(fault) => return Err(audit_stop(fault)),
+        };
+        let Ok(()) = drawing.enter(entry) else {
+            return Err(Stop::NoMemory);
+        };
+    }
+    Ok(drawing)
+}
+
 /// Draws the entries of an audit up to the first bad one, in columns by the times of events.
 fn draw(
     alloc: Global,
@@ -103,10 +139,7 @@ fn draw(
     let Ok(columns) = columns_by_time(alloc, drawn, good, MOST_COLUMNS) else {
         return Err(Stop::NoMemory);
     };
-    match watch_laid(alloc, config, bytes, Laid::ByTime(columns, events), good) {
-        Ok(watched) => Ok(watched.drawing),
-        Err(stop) => Err(stop),
-    }
+    draw_in(alloc, config, bytes, columns, events)
 }
 
 /// The document of an audit, of which this was found, and a file of events. Such an audit isn't
@@ -136,7 +169,7 @@ fn document(
         Ok(drawing) => drawing,
         Err(stop) => return Err(stop),
     };
-    match drawing.finish(config, finding.first_bad) {
+    match drawing.finish(config) {
         Ok(text) => Ok(text),
         Err(_) => Err(Stop::NoMemory),
     }

@@ -1,6 +1,7 @@
 //! The bands of a row.
 use crate::layout::{ROW, x_of};
 use fy_cluster::Status;
+use fy_locality::ProcId;
 use fy_picture::Column;
 use std::alloc::AllocError;
 
@@ -59,23 +60,25 @@ fn write_band(
 }
 
 /// The state of a process at a column.
-fn state_at(columns: &[Column], column: usize, process: usize) -> Option<Status> {
-    columns.get(column)?.states.get(process).copied()
+fn state_at(columns: &[Column], column: usize, process: u32) -> Option<Status> {
+    Some(columns.get(column)?.states.status(ProcId(process)))
 }
 
 /// The bands of a process's row: columns that follow one another in the same state are one.
 pub(crate) fn write_bands(
     text: &mut String,
     columns: &[Column],
-    process: usize,
+    process: u32,
     y: u64,
 ) -> Result<(), AllocError> {
     let mut from = 0;
+    let mut next = state_at(columns, 0, process);
     for at in 0..columns.len() {
-        let Some(state) = state_at(columns, at, process) else {
+        let Some(state) = next else {
             return Ok(());
         };
-        if state_at(columns, at + 1, process) != Some(state) {
+        next = state_at(columns, at + 1, process);
+        if next != Some(state) {
             write_band(text, state, from, at + 1, y)?;
             from = at + 1;
         }

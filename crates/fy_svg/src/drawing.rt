@@ -1,23 +1,24 @@
 //! A journal that is drawn while it is checked entry by entry.
-ghost use Rattle.std.specs.Prelude.{◌≡◌, ◌++◌, ◌∷◌, [], List, None, IfOk, OnOk, length, string_bytes};
+ghost use Rattle.std.specs.Prelude.{◌≡◌, ◌++◌, ◌∷◌, [], List, None, Some, IfOk, OnOk, length, string_bytes};
 ghost use Rattle.fy_acts.specs.declared.entry.Entry.{Entry};
 ghost use Rattle.fy_cluster.specs.Setup.{Setup};
-ghost use Rattle.fy_picture.specs.Recording.{HasRecorded};
+ghost use Rattle.fy_picture.specs.Recording.{HasRecorded, begun};
 ghost use Rattle.fy_svg.specs.Documents.{EndsDocument};
 
 use crate::glyphs::{Glyphs, is_order};
 use crate::lanes::{Lane, lanes_of, rows_of};
 use crate::layout::MOST_LINES;
-use crate::marks::{Ticks, note_time};
+use crate::marks::{Ticks, fold_ticks, note_time};
 use crate::otherwise::Rings;
 use crate::sheet::document;
 use fy_check::CheckFault;
 use fy_cluster::Config;
 use fy_journal::{Entry, Journal, Reply, Version};
 use fy_locality::ProcSet;
-use fy_picture::{Layout, Picture, Recorder, layout_of, named_by, rule_of};
+use fy_picture::{Picture, Recorder, named_by, rule_of};
 use fy_times::{Event, TimeColumns};
 use std::alloc::{AllocError, Global};
+use std::marker::Model;
 
 /// What a column stands for.
 #[derive(Clone, Copy)]
@@ -34,9 +35,8 @@ pub(crate) struct Drawn {
     pub picture: Picture,
     pub lanes: Vec<Lane>,
     pub width: Width,
-    /// The glyphs, as a part of the document.
-    pub glyphs: String,
-    /// The rings round orders for which something else was done, likewise.
+    pub glyphs: Glyphs,
+    /// The rings round orders for which something else was done, as a part of the document.
     pub rings: Option<String>,
     /// When time passed, at most once a column.
     pub ticks: Vec<Ticks>,
@@ -44,18 +44,32 @@ pub(crate) struct Drawn {
     pub orders: Vec<Entry>,
 }
 
-/// Checks a journal entry by entry, and draws it. Nothing is kept of an entry but what its column
-/// shows. After an error it is of no use.
+/// Checks a journal entry by entry, and draws the entries before the first bad one. Nothing is kept
+/// of an entry but what its column shows. After an error each call answers one.
 #[derive(Drop)]
 pub struct Drawing {
     alloc: Global,
     recorder: Recorder,
     lanes: Vec<Lane>,
-    width: Width,
+    /// How long a column lasts, where columns are laid by time.
+    micros: Option<u64>,
     glyphs: Glyphs,
     rings: Option<Rings>,
     ticks: Vec<Ticks>,
     orders: Vec<Entry>,
+}
+
+impl Model for Drawing {
+    ghost use Rattle.std.specs.Coded.{codes};
+    ghost use Rattle.fy_locality.specs.contracts.locality.Locality as e;
+    ghost use Rattle.fy_policy.specs.TreeCode.{tree_code};
+    ghost use Rattle.fy_picture.specs.Recording.{Recording};
+
+    ghost Value = { Recording };
+
+    ghost coded = { Prim.hlevel (codes, tree_code, e.the_row.coded) };
+
+    ghost view = { λ drawing. drawing.recorder };
 }
 
 /// An order, and the processes that its target named.
@@ -66,27 +80,18 @@ struct Order {
 }
 
 impl Drawing {
-    /// Begins with a cluster of this configuration, for a journal of the version that is laid out
-    /// so.
+    /// Begins with a cluster of this configuration, for a journal of the version, whose columns each
+    /// stand for as many entries.
     ///
     /// # Errors
     ///
     /// `AllocError` where there is no memory for it.
-    pub fn begin(
-        alloc: Global,
-        config: &Config,
-        version: Version,
-        layout: Layout,
-    ) -> Result<Drawing, AllocError>
-        ensures begun { IfOk result (λ drawing. HasRecorded config.now [] drawing.recorder) }
-        ensures none { IfOk result (λ drawing. drawing.recorder.replayer.first_bad ≡ None) }
-        ensures ends { IfOk result (λ drawing.
-            drawing.recorder.ends.items ≡ layout.ends.items) }
-        ensures version { IfOk result (λ drawing.
-            drawing.recorder.replayer.version ≡ version) }
+    pub fn begin(alloc: Global, config: &Config, version: Version) -> Result<Drawing, AllocError>
+        ensures begun { IfOk result (λ drawing. drawing ≡ begun version config.now None) }
+        ensures recorded { IfOk result (HasRecorded config.now []) }
     {
-        let width = Width::Entries(layout.width);
-        Drawing::begin_laid(alloc, config, version, layout.ends, width, None)
+        let recorder = Recorder::begin(alloc, config.try_copy(alloc)?, version)?;
+        Drawing::begin_with(alloc, config, recorder, None, None)
     }
 
     /// Begins likewise, for a journal whose columns are laid by the times of its events.
@@ -101,41 +106,34 @@ impl Drawing {
         columns: TimeColumns,
         events: Vec<Event>,
     ) -> Result<Drawing, AllocError>
-        ensures begun { IfOk result (λ drawing. HasRecorded config.now [] drawing.recorder) }
-        ensures none { IfOk result (λ drawing. drawing.recorder.replayer.first_bad ≡ None) }
-        ensures ends { IfOk result (λ drawing.
-            drawing.recorder.ends.items ≡ columns.ends.items) }
-        ensures version { IfOk result (λ drawing.
-            drawing.recorder.replayer.version ≡ version) }
+        ensures begun { IfOk result (λ drawing.
+            drawing ≡ begun version config.now (Some columns.ends.items)) }
+        ensures recorded { IfOk result (HasRecorded config.now []) }
     {
         let rows = rows_of(alloc, &lanes_of(alloc, config.map())?)?;
         let rings = Rings::begin(alloc, rows, events)?;
-        let width = Width::Micros(columns.width);
-        Drawing::begin_laid(alloc, config, version, columns.ends, width, Some(rings))
+        let own = config.try_copy(alloc)?;
+        let recorder = Recorder::begin_laid(alloc, own, version, columns.ends)?;
+        Drawing::begin_with(alloc, config, recorder, Some(columns.width), Some(rings))
     }
 
-    /// Begins with columns that end so.
-    fn begin_laid(
+    /// Begins with what is recorded so.
+    fn begin_with(
         alloc: Global,
         config: &Config,
-        version: Version,
-        ends: Vec<u32>,
-        width: Width,
+        recorder: Recorder,
+        micros: Option<u64>,
         rings: Option<Rings>,
     ) -> Result<Drawing, AllocError>
-        ensures begun { IfOk result (λ drawing. HasRecorded config.now [] drawing.recorder) }
-        ensures none { IfOk result (λ drawing. drawing.recorder.replayer.first_bad ≡ None) }
-        ensures ends { IfOk result (λ drawing. drawing.recorder.ends.items ≡ ends.items) }
-        ensures version { IfOk result (λ drawing.
-            drawing.recorder.replayer.version ≡ version) }
+        ensures { IfOk result (λ drawing. drawing ≡ recorder) }
     {
         let lanes = lanes_of(alloc, config.map())?;
         let rows = rows_of(alloc, &lanes)?;
         Ok(Drawing {
             alloc,
-            recorder: Recorder::begin(alloc, config.try_copy(alloc)?, version, ends)?,
+            recorder,
             lanes,
-            width,
+            micros,
             glyphs: Glyphs::begin(alloc, rows)?,
             rings,
             ticks: Vec::new(alloc),
@@ -145,7 +143,7 @@ impl Drawing {
 
     /// The place of the first bad entry so far; `None` where the entries are a legal journal.
     pub fn first_bad(&self) -> Option<u32>
-        ensures { result ≡ self.now.recorder.replayer.first_bad }
+        ensures { result ≡ self.now.first_bad }
     {
         self.recorder.first_bad()
     }
@@ -163,7 +161,7 @@ impl Drawing {
 
     /// Draws an order in the column that is open, where the entry is one.
     fn draw_order(&mut self, order: Option<Order>) -> Result<(), AllocError>
-        ensures { OnOk result (self.new.recorder ≡ self.old.recorder) }
+        ensures { OnOk result (self.new ≡ self.old) }
     {
         let Some(Order { entry, named }) = order else {
             return Ok(());
@@ -180,7 +178,7 @@ impl Drawing {
 
     /// Draws that time passed, where it did.
     fn draw_time(&mut self, at: u32, reply: Reply) -> Result<(), AllocError>
-        ensures { OnOk result (self.new.recorder ≡ self.old.recorder) }
+        ensures { OnOk result (self.new ≡ self.old) }
     {
         let Reply::Time { now } = reply else {
             return Ok(());
@@ -190,43 +188,54 @@ impl Drawing {
         Ok(())
     }
 
-    /// Ends the columns that end before the next entry.
-    fn end_due(&mut self) -> Result<(), AllocError>
-        ensures same { OnOk result
-            (self.new.recorder.replayer ≡ self.old.recorder.replayer) }
-        ensures ends { OnOk result
-            (self.new.recorder.ends.items ≡ self.old.recorder.ends.items) }
-        ensures ended { OnOk result ((setup : Setup) (so_far : List Entry)
-            → HasRecorded setup so_far self.old.recorder
-            → HasRecorded setup so_far self.new.recorder) }
+    /// Makes each two columns one, where there are too many.
+    fn make_room(&mut self) -> Result<(), AllocError>
+        ensures { OnOk result (self.new ≡ self.old) }
     {
-        let open = self.recorder.columns();
-        self.recorder.end_due()?;
-        if self.recorder.columns() > open {
-            self.glyphs.end_column(open)?;
-            if let Some(rings) = &mut self.rings {
-                rings.end_column(open)?;
-            }
+        if self.recorder.make_room()? {
+            self.glyphs.fold()?;
+            self.ticks = fold_ticks(self.alloc, &self.ticks)?;
         }
         Ok(())
     }
 
-    /// Checks and draws the next entry. After the first bad one nothing is done, and the drawing
-    /// has to be dropped.
+    /// Ends the columns that end before the next entry.
+    fn end_due(&mut self) -> Result<(), AllocError>
+        ensures { OnOk result (self.new ≡ self.old) }
+    {
+        self.make_room()?;
+        let open = self.recorder.columns();
+        self.recorder.end_due()?;
+        if self.recorder.columns() > open {
+            self.end_column(open)?;
+        }
+        Ok(())
+    }
+
+    /// Ends the glyphs and the rings of a column.
+    fn end_column(&mut self, column: usize) -> Result<(), AllocError>
+        ensures { OnOk result (self.new ≡ self.old) }
+    {
+        self.glyphs.end_column(column)?;
+        if let Some(rings) = &mut self.rings {
+            rings.end_column(column)?;
+        }
+        Ok(())
+    }
+
+    /// Checks the next entry, and draws it where it is what the rules give. After the first bad one
+    /// nothing is done.
     ///
     /// # Errors
     ///
     /// `AllocError` where there is no memory for it.
     pub fn enter(&mut self, entry: Entry) -> Result<(), AllocError>
-        requires { self.old.recorder.replayer.first_bad ≡ None
-            → entry.at ≡ length self.old.recorder.replayer.execution.journal }
+        requires { self.old.first_bad ≡ None → entry.at ≡ length self.old.execution.journal }
         ensures entered { OnOk result ((setup : Setup) (so_far : List Entry)
-            → HasRecorded setup so_far self.old.recorder
-            → HasRecorded setup (so_far ++ entry ∷ []) self.new.recorder) }
-        ensures ends { OnOk result
-            (self.new.recorder.ends.items ≡ self.old.recorder.ends.items) }
-        ensures version { OnOk result
-            (self.new.recorder.replayer.version ≡ self.old.recorder.replayer.version) }
+            → HasRecorded setup so_far self.old
+            → HasRecorded setup (so_far ++ entry ∷ []) self.new) }
+        ensures version { OnOk result (self.new.version ≡ self.old.version) }
+        ensures laid { OnOk result (self.new.laid ≡ self.old.laid) }
     {
         self.end_due()?;
         let (at, reply) = (entry.at, entry.reply);
@@ -240,31 +249,38 @@ impl Drawing {
         Ok(())
     }
 
-    /// The SVG document of the entries so far. `bad` is the place of the first bad entry, where one
-    /// follows them.
+    /// The SVG document of the entries before the first bad one, whose place it marks in red.
     ///
     /// # Errors
     ///
     /// `AllocError` where there is no memory for it.
-    pub fn finish(mut self, config: &Config, bad: Option<u32>) -> Result<String, AllocError>
+    pub fn finish(mut self, config: &Config) -> Result<String, AllocError>
         ensures { IfOk result (λ text. EndsDocument (string_bytes text)) }
     {
         self.end_due()?;
+        let bad = self.first_bad();
+        let open = self.recorder.columns();
+        self.end_column(open)?;
         let Drawing {
             alloc,
             recorder,
             lanes,
-            width,
+            micros,
             glyphs,
             rings,
             ticks,
             orders,
         } = self;
+        let picture = recorder.finish()?;
+        let width = match micros {
+            Some(micros) => Width::Micros(micros),
+            None => Width::Entries(picture.width.unwrap_or(1)),
+        };
         let drawn = Drawn {
-            picture: recorder.finish()?,
+            picture,
             lanes,
             width,
-            glyphs: glyphs.into_text(),
+            glyphs,
             rings: rings.map(|rings| rings.into_text()),
             ticks,
             orders,
@@ -283,15 +299,12 @@ pub fn svg(alloc: Global, config: &Config, journal: &Journal) -> Result<String, 
     ensures { IfOk result (λ text. EndsDocument (string_bytes text)) }
 {
     journal.invariant();
-    // A legal journal is within the limit.
-    let limit = config.journal_limit();
-    let layout = layout_of(alloc, journal.len().min(limit as usize) as u32)?;
-    let mut drawing = Drawing::begin(alloc, config, journal.version(), layout)?;
+    let mut drawing = Drawing::begin(alloc, config, journal.version())?;
     for entry in journal.entries() {
         drawing.enter(entry.try_copy(alloc)?)?;
         if let Some(at) = drawing.first_bad() {
             return Err(CheckFault::BadEntry { at });
         }
     }
-    Ok(drawing.finish(config, None)?)
+    Ok(drawing.finish(config)?)
 }

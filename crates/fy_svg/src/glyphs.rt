@@ -6,23 +6,35 @@ use fy_kinds::Kind;
 use fy_locality::ProcSet;
 use fy_picture::struck_as_ordered;
 use std::alloc::{AllocError, Global};
+use std::mem::swap;
 
-/// The hardest order of a column that named a process.
+/// What a column has at a process, or at nobody, who has the number behind the last process.
 #[derive(Clone, Copy)]
-struct Hit {
-    /// The order's place among those that are kept of the column.
-    place: usize,
-    /// How hard the order is; 0 where there is none.
+struct Mark {
+    process: usize,
+    /// The place of the hardest order there, among those that are kept of the column.
+    order: usize,
+    /// How hard it is; 0 where there is none.
     weight: u32,
-    /// How many orders of the column named the process.
+    /// How many orders there are.
     count: u32,
 }
 
-const NO_HIT: Hit = Hit {
-    place: 0,
+const NO_MARK: Mark = Mark {
+    process: 0,
+    order: 0,
     weight: 0,
     count: 0,
 };
+
+/// The orders of a column, each of which is the hardest somewhere, and where.
+#[derive(Drop)]
+struct Marked {
+    column: usize,
+    /// In the order of processes.
+    marks: Vec<Mark>,
+    orders: Vec<Entry>,
+}
 
 /// How hard a kind is, from 5.
 fn weight_of(kind: Kind) -> u32 {
@@ -99,86 +111,162 @@ fn write_glyph(
     text.push_str("</title></path>\n")
 }
 
-/// Notes an order for a process, or for nobody. The answer is whether it is the hardest there.
-fn note(hits: &mut [Hit], row: usize, place: usize, weight: u32) -> bool {
-    let Some(hit) = hits.get_mut(row) else {
+/// Puts a mark beside the one that is at its process: the harder order stands for both, of equals the
+/// earlier. The answer is whether it is that of the mark that was put.
+fn put(open: &mut [Mark], mark: Mark) -> bool {
+    let Some(there) = open.get_mut(mark.process) else {
         return false;
     };
-    hit.count = hit.count.saturating_add(1);
-    if weight <= hit.weight {
-        return false;
+    let count = there.count.saturating_add(mark.count);
+    let is_harder = mark.weight > there.weight;
+    if is_harder {
+        *there = mark;
     }
-    hit.place = place;
-    hit.weight = weight;
-    true
+    there.count = count;
+    is_harder
 }
 
-/// The glyphs of one column. The notes are cleared after it.
-fn write_column(
-    text: &mut String,
-    orders: &[Entry],
-    hits: &mut [Hit],
-    rows: &[usize],
-    column: usize,
-) -> Result<(), AllocError> {
-    for place in 0..hits.len() {
-        let hit = hits[place];
-        hits[place] = NO_HIT;
-        let row = match rows.get(place) {
-            Some(row) => *row,
-            None => rows.len(),
-        };
-        if hit.weight > 0
-            && let Some(order) = orders.get(hit.place)
-        {
-            write_glyph(text, order, hit.count, column, row)?;
+/// Takes all marks, in the order of processes.
+fn take_marks(alloc: Global, open: &mut [Mark]) -> Result<Vec<Mark>, AllocError> {
+    let mut marks = Vec::new(alloc);
+    for place in 0..open.len() {
+        let mark = open[place];
+        if mark.weight > 0 {
+            marks.push(mark)?;
+            open[place] = NO_MARK;
         }
     }
-    Ok(())
+    Ok(marks)
+}
+
+/// At which place each order is kept, in order: those that a mark names. `None` of the others.
+fn kept_places(
+    alloc: Global,
+    marks: &[Mark],
+    orders: usize,
+) -> Result<Vec<Option<usize>>, AllocError> {
+    let mut places = vec![in alloc; None; orders]?;
+    for mark in marks {
+        if let Some(place) = places.get_mut(mark.order) {
+            *place = Some(0);
+        }
+    }
+    let mut kept: usize = 0;
+    for place in 0..places.len() {
+        if places[place].is_some() {
+            places[place] = Some(kept);
+            kept = kept.saturating_add(1);
+        }
+    }
+    Ok(places)
+}
+
+/// The marks of a column that has ended, with the orders that they name and no others.
+fn with_named(
+    alloc: Global,
+    column: usize,
+    marks: Vec<Mark>,
+    orders: Vec<Entry>,
+) -> Result<Marked, AllocError> {
+    let mut marks = marks;
+    let places = kept_places(alloc, &marks, orders.len())?;
+    for at in 0..marks.len() {
+        if let Some(Some(place)) = places.get(marks[at].order) {
+            marks[at].order = *place;
+        }
+    }
+    let mut kept = Vec::new(alloc);
+    for (at, order) in orders.into_iter().enumerate() {
+        if let Some(Some(_)) = places.get(at) {
+            kept.push(order)?;
+        }
+    }
+    Ok(Marked {
+        column,
+        marks,
+        orders: kept,
+    })
+}
+
+/// Makes two columns one, of this number.
+fn merge(
+    alloc: Global,
+    open: &mut [Mark],
+    column: usize,
+    first: Marked,
+    second: Marked,
+) -> Result<Marked, AllocError> {
+    let Marked {
+        column: _,
+        marks: early,
+        mut orders,
+    } = first;
+    let Marked {
+        column: _,
+        marks: late,
+        orders: more,
+    } = second;
+    for mark in early.iter().copied() {
+        put(open, mark);
+    }
+    let before = orders.len();
+    for mark in late.iter().copied() {
+        let mut mark = mark;
+        mark.order = mark.order.saturating_add(before);
+        put(open, mark);
+    }
+    for order in more.into_iter() {
+        orders.push(order)?;
+    }
+    let marks = take_marks(alloc, open)?;
+    with_named(alloc, column, marks, orders)
 }
 
 /// The glyph of each order at each process that it names, column by column: the hardest of a column
 /// stands for all. An order that names nobody stands below the rows.
 #[derive(Drop)]
 pub(crate) struct Glyphs {
+    alloc: Global,
     /// At which row each process stands.
     rows: Vec<usize>,
     /// What the open column has of each process, and of nobody.
-    hits: Vec<Hit>,
+    open: Vec<Mark>,
     /// The orders of the open column that are or were the hardest of a process: at most eight a
     /// process, whatever the column has.
     orders: Vec<Entry>,
-    /// The glyphs of the columns that have ended.
-    text: String,
+    /// The columns that have ended, but those without an order.
+    ended: Vec<Marked>,
 }
 
 impl Glyphs {
     pub(crate) fn begin(alloc: Global, rows: Vec<usize>) -> Result<Glyphs, AllocError> {
-        let mut hits = Vec::new(alloc);
-        for _ in 0..rows.len() {
-            hits.push(NO_HIT)?;
-        }
-        hits.push(NO_HIT)?;
+        let open = vec![in alloc; NO_MARK; rows.len().saturating_add(1)]?;
         Ok(Glyphs {
+            alloc,
             rows,
-            hits,
+            open,
             orders: Vec::new(alloc),
-            text: String::new(alloc),
+            ended: Vec::new(alloc),
         })
     }
 
     /// Notes an order in the open column.
     pub(crate) fn note(&mut self, named: &ProcSet, order: Entry) -> Result<(), AllocError> {
-        let weight = hardness(&order);
-        let place = self.orders.len();
+        let mut mark = Mark {
+            process: self.rows.len(),
+            order: self.orders.len(),
+            weight: hardness(&order),
+            count: 1,
+        };
         let mut is_hardest = false;
+        if named.is_empty() {
+            is_hardest = put(&mut self.open, mark);
+        }
         for p in named.iter() {
-            if note(&mut self.hits, p.0 as usize, place, weight) {
+            mark.process = p.0 as usize;
+            if put(&mut self.open, mark) {
                 is_hardest = true;
             }
-        }
-        if named.is_empty() && note(&mut self.hits, self.rows.len(), place, weight) {
-            is_hardest = true;
         }
         if is_hardest {
             self.orders.push(order)?;
@@ -186,21 +274,72 @@ impl Glyphs {
         Ok(())
     }
 
-    /// Writes the glyphs of the open column, which ends.
+    /// Ends the open column, which has this number.
     pub(crate) fn end_column(&mut self, column: usize) -> Result<(), AllocError> {
-        write_column(
-            &mut self.text,
-            &self.orders,
-            &mut self.hits,
-            &self.rows,
-            column,
-        )?;
-        self.orders.clear();
+        let marks = take_marks(self.alloc, &mut self.open)?;
+        if marks.is_empty() {
+            return Ok(());
+        }
+        let mut orders = Vec::new(self.alloc);
+        swap(&mut orders, &mut self.orders);
+        self.ended
+            .push(with_named(self.alloc, column, marks, orders)?)?;
         Ok(())
     }
 
-    /// The glyphs of all columns that have ended.
-    pub(crate) fn into_text(self) -> String {
-        self.text
+    /// Makes each two columns that have ended one.
+    pub(crate) fn fold(&mut self) -> Result<(), AllocError> {
+        let mut open = vec![in self.alloc; NO_MARK; self.open.len()]?;
+        let mut ended = Vec::new(self.alloc);
+        swap(&mut ended, &mut self.ended);
+        for next in ended.into_iter() {
+            let folded = fold_next(self.alloc, &mut open, &mut self.ended, next)?;
+            self.ended.push(folded)?;
+        }
+        Ok(())
     }
+
+    /// Writes the glyphs of all columns that have ended.
+    pub(crate) fn write(&self, text: &mut String) -> Result<(), AllocError> {
+        for ended in &self.ended {
+            for mark in &ended.marks {
+                let row = match self.rows.get(mark.process) {
+                    Some(row) => *row,
+                    None => self.rows.len(),
+                };
+                if let Some(order) = ended.orders.get(mark.order) {
+                    write_glyph(text, order, mark.count, ended.column, row)?;
+                }
+            }
+        }
+        Ok(())
+    }
+}
+
+/// A column where each two become one: with the one that was folded last, where that is its other
+/// half.
+fn fold_next(
+    alloc: Global,
+    open: &mut [Mark],
+    folded: &mut Vec<Marked>,
+    next: Marked,
+) -> Result<Marked, AllocError> {
+    let column = next.column / 2;
+    let is_second = match folded.last() {
+        Some(last) => last.column == column,
+        None => false,
+    };
+    if is_second && let Some(first) = folded.pop() {
+        return merge(alloc, open, column, first, next);
+    }
+    let Marked {
+        column: _,
+        marks,
+        orders,
+    } = next;
+    Ok(Marked {
+        column,
+        marks,
+        orders,
+    })
 }

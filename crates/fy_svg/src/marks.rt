@@ -23,6 +23,21 @@ pub(crate) struct Ticks {
     count: u64,
 }
 
+/// Adds marks of a column that is the last of all so far, or comes behind it. Of one column the
+/// later stand for all.
+fn add_ticks(ticks: &mut Vec<Ticks>, next: Ticks) -> Result<(), AllocError> {
+    if let Some(last) = ticks.last_mut()
+        && last.column == next.column
+    {
+        last.at = next.at;
+        last.now = next.now;
+        last.count = last.count.saturating_add(next.count);
+        return Ok(());
+    }
+    ticks.push(next)?;
+    Ok(())
+}
+
 /// Notes that time passed in a column, which is the last of all so far.
 pub(crate) fn note_time(
     ticks: &mut Vec<Ticks>,
@@ -30,21 +45,32 @@ pub(crate) fn note_time(
     at: u32,
     now: u64,
 ) -> Result<(), AllocError> {
-    if let Some(last) = ticks.last_mut()
-        && last.column == column
-    {
-        last.at = at;
-        last.now = now;
-        last.count = last.count.saturating_add(1);
-        return Ok(());
+    add_ticks(
+        ticks,
+        Ticks {
+            column,
+            at,
+            now,
+            count: 1,
+        },
+    )
+}
+
+/// The marks where each two columns become one.
+pub(crate) fn fold_ticks(alloc: Global, ticks: &[Ticks]) -> Result<Vec<Ticks>, AllocError> {
+    let mut folded = Vec::new(alloc);
+    for next in ticks.iter().copied() {
+        add_ticks(
+            &mut folded,
+            Ticks {
+                column: next.column / 2,
+                at: next.at,
+                now: next.now,
+                count: next.count,
+            },
+        )?;
     }
-    ticks.push(Ticks {
-        column,
-        at,
-        now,
-        count: 1,
-    })?;
-    Ok(())
+    Ok(folded)
 }
 
 /// How many entries come before a column.

@@ -1,7 +1,7 @@
 //! Below the rows: how many processes each policy lets be killed next.
 use crate::layout::{CLEAR, STEPS, foot_of_steps, x_of};
-use fy_cluster::{Config, Status};
-use fy_picture::Column;
+use fy_cluster::Config;
+use fy_picture::{Column, States};
 use fy_policy::{Policy, policy_text};
 use std::alloc::{AllocError, Global};
 
@@ -24,14 +24,8 @@ pub(crate) enum Counted {
 }
 
 /// How many processes are up.
-fn count_up(states: &[Status]) -> u32 {
-    let mut count: u32 = 0;
-    for state in states {
-        if state.up && !state.gone {
-            count = count.saturating_add(1);
-        }
-    }
-    count
+fn count_up(states: &States) -> u32 {
+    states.up.intersection(&states.left).len()
 }
 
 /// The count of a stepped line at a column.

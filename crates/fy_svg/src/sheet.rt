@@ -30,7 +30,7 @@ fn write_rows(
         let process = lane.process;
         writeln!(text, "<g class=\"row\" data-process=\"{process}\">")?;
         write_names(text, map, above, *lane, row)?;
-        write_bands(text, columns, process as usize, y_of(row))?;
+        write_bands(text, columns, process, y_of(row))?;
         text.push_str("</g>\n")?;
         above = Some(*lane);
     }
@@ -60,7 +60,7 @@ pub(crate) fn document(
     write_axis(&mut text, columns, drawn.width, lanes.len())?;
     write_rows(&mut text, config.map(), columns, lanes)?;
     write_last_names(&mut text, lanes.len())?;
-    text.push_str(drawn.glyphs.as_str())?;
+    drawn.glyphs.write(&mut text)?;
     if let Some(rings) = &drawn.rings {
         text.push_str(rings.as_str())?;
     }

@@ -1,60 +1,49 @@
-use Rattle.std.proofs.Common.{◌≡◌, ◌∙◌, ◌≤◌, ℕ, Option, None, Some, true, length, take, refl, sym, ap, subst, arith}
-use Rattle.std.specs.Prelude.{Bool, not, is_some, unwrap_or, List}
-use Rattle.std.proofs.lemmas.Bool.{true≢false}
-use Rattle.std.proofs.lemmas.List.{take_all}
-use Rattle.fy_cluster.specs.Setup.{Setup}
-use Rattle.fy_check.specs.Replayed.{HasFirstBad}
-use Rattle.fy_check_audit.specs.CheckTexts.{IsFound}
-use Rattle.fy_picture.specs.Recording.{HasRecorded}
-use Rattle.fy_show.specs.declared.show.Watched.{Watched}
-use Rattle.fy_show.specs.Shows.{IsWatched, IsLaidOut, good_of}
+use Rattle.std.proofs.Common.{◌∙◌, ◌∷◌, ◌++◌, [], Ok, sym, ap, subst}
+use Rattle.std.specs.Prelude.{IfSome}
+use Rattle.fy_check_audit.specs.Inputs.{HasTakenOne}
+use Rattle.fy_picture.specs.Recording.{Recording}
+use Rattle.fy_show.proofs.Showing.{drawn_known, next_place}
 use Rattle.fy_show.proofs.show.draw.Goals as goal
 
-none_of : (o : Option ℕ) (none : Bool) → is_some o ≡ not none → none ≡ true → o ≡ None
-none_of None none is holds = refl
-none_of (Some at) none is holds = absurd (true≢false (is ∙ ap not holds))
+pub loop-entry-init : goal.loop-entry-init
+loop-entry-init g c = (
+  [],
+  c.in-Ok.ensures.begun,
+  c.in-Ok-begin-2.ensures.recorded,
+  ap (λ (r : Recording). r.version) c.in-Ok-begin-2.ensures.begun ∙ c.version.ensures,
+  ap (λ (r : Recording). r.laid) c.in-Ok-begin-2.ensures.begun,
+)
 
--- what was found where all entries were drawn
-found_of : (setup : Setup) (bytes : List ℕ) (most : ℕ) (first_bad : Option ℕ) (watched : Watched) → IsWatched setup bytes most watched → watched.count ≤ most → first_bad ≡ watched.drawing.recorder.replayer.first_bad
-    → IsFound setup bytes (record { count = watched.count; first_bad = first_bad })
-found_of setup bytes most first_bad watched is few same =
-    let all : take most is.audit.entries ≡ is.audit.entries = take_all most is.audit.entries (subst (λ n. n ≤ most) is.count few) in
-    record {
-      audit = is.audit;
-      read = is.read;
-      count = is.count;
-      first =
-          subst (HasFirstBad is.audit.version setup is.audit.entries) (sym same)
-          (subst (λ v. HasFirstBad v setup is.audit.entries watched.drawing.recorder.replayer.first_bad) is.version
-          (subst (λ es. HasFirstBad watched.drawing.recorder.replayer.version setup es watched.drawing.recorder.replayer.first_bad) all is.those.replayed.first));
-    }
+pub enter-requires : goal.enter-requires
+enter-requires g c = λ none.
+    let entries = c.loop-entry.invariant.0 in
+    let one = subst (λ next. IfSome next (HasTakenOne (g.R.Read.remaining c.loop-entry.reader)
+    (g.R.Read.remaining c.next_entry.new.reader) c.loop-entry.input c.next_entry.new.self))
+    c.in-Ok-Some.field-0-is c.in-Ok-Some.ensures.taken in
+    one.at ∙ c.loop-entry.invariant.1.place
+    ∙ next_place c.args.config.now entries c.loop-entry.drawing c.loop-entry.invariant.2 none
 
-pub returns-then-good-lines-clause-drawn : goal.returns-then-good-lines-clause-drawn
-returns-then-good-lines-clause-drawn c =
-    let setup = c.args.config.now in
-    let watched = c.in-Ok.watched in
-    let is = c.in-Ok.ensures.watched in
-    let none : c.first_bad-first_bad.result ≡ None = none_of c.first_bad-first_bad.result c.is_none.result c.is_none.ensures c.if-is_none.true in
-    let good : unwrap_or c.first_bad-first_bad.result watched.count ≡ watched.count = ap (λ o. unwrap_or o watched.count) none in
-    let all : take 4294967295 is.audit.entries ≡ is.audit.entries = take_all 4294967295 is.audit.entries (subst (λ n. n ≤ 4294967295) is.count c.in-Ok.ensures.few) in
-    let same : take (unwrap_or c.first_bad-first_bad.result watched.count) is.audit.entries ≡ is.audit.entries =
-    take_all (unwrap_or c.first_bad-first_bad.result watched.count) is.audit.entries (subst (λ n. length is.audit.entries ≤ n) (sym good) (subst (λ n. n ≤ watched.count) is.count (omega arith))) in
-    record {
-      found = found_of setup c.args.bytes.now 4294967295 c.first_bad-first_bad.result watched is c.in-Ok.ensures.few c.first_bad-first_bad.ensures;
-      audit = is.audit;
-      read = is.read;
-      those = subst (λ es. HasRecorded setup es watched.drawing.recorder) (all ∙ sym same) is.those;
-      laid_out_so = subst (λ n. IsLaidOut n watched.drawing) (sym c.if-good-lines.true ∙ c.unwrap_or-good.ensures) c.in-Ok.ensures.laid_out;
-    }
+pub loop-entry-preserved : goal.loop-entry-preserved
+loop-entry-preserved g c =
+    let entries = c.loop-entry.invariant.0 in
+    let entry = c.in-Ok-Some.entry in
+    let one = subst (λ next. IfSome next (HasTakenOne (g.R.Read.remaining c.loop-entry.reader)
+    (g.R.Read.remaining c.next_entry.new.reader) c.loop-entry.input c.next_entry.new.self))
+    c.in-Ok-Some.field-0-is c.in-Ok-Some.ensures.taken in (
+      entries ++ entry ∷ [],
+      one.taken _ entries c.loop-entry.invariant.1,
+      c.in-Ok-enter.ensures.entered c.args.config.now entries c.loop-entry.invariant.2,
+      c.in-Ok-enter.ensures.version ∙ c.loop-entry.invariant.3 ∙ sym one.version,
+      c.in-Ok-enter.ensures.laid ∙ c.loop-entry.invariant.4,
+    )
 
-pub returns-in-Ok-watch-clause-drawn : goal.returns-in-Ok-watch-clause-drawn
-returns-in-Ok-watch-clause-drawn c =
-    let setup = c.args.config.now in
-    let is = c.in-Ok-watch.ensures.watched in
-    record {
-      found = found_of setup c.args.bytes.now 4294967295 c.first_bad-first_bad.result c.in-Ok.watched c.in-Ok.ensures.watched c.in-Ok.ensures.few c.first_bad-first_bad.ensures;
-      audit = is.audit;
-      read = is.read;
-      those = subst (λ n. HasRecorded setup (take n is.audit.entries) c.in-Ok-watch.field-0.drawing.recorder) c.unwrap_or-good.ensures is.those;
-      laid_out_so = subst (λ n. IsLaidOut n c.in-Ok-watch.field-0.drawing) c.unwrap_or-good.ensures c.in-Ok-watch.ensures.laid_out;
-    }
+pub returns-in-Ok-None-clause-drawn : goal.returns-in-Ok-None-clause-drawn
+returns-in-Ok-None-clause-drawn g c =
+    let entries = c.loop-entry.invariant.0 in
+    let taken = c.loop-entry.invariant.1 in
+    let known = g.R.Read.remaining c.args.reader.now in
+    let ended = ap Ok c.in-Ok-None.field-0-is in
+    drawn_known c.args.config.now known c.loop-entry.input.version entries _
+    (c.in-Ok-None.ensures.ended ended known entries taken)
+    (c.place.ensures ∙ c.in-Ok-None.ensures.count ended ∙ taken.place)
+    c.loop-entry.invariant.3 c.loop-entry.invariant.2 c.loop-entry.invariant.4

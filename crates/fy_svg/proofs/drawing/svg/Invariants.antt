@@ -5,5 +5,5 @@ use Rattle.fy_svg.proofs.drawing.svg.Given as goal
 -- the entries so far were recorded, and none is bad
 abbrev pub invariant-loop-entry : goal.invariant-loop-entry
 invariant-loop-entry l =
-    HasRecorded l.config (take l.entry-index l.journal.entries) l.drawing.recorder
-    × (l.drawing.recorder.replayer.first_bad ≡ None)
+    HasRecorded l.config (take l.entry-index l.journal.entries) l.drawing
+    × (l.drawing.first_bad ≡ None)
