@@ -74,7 +74,7 @@ fn record_losses(dead: &mut DeadBook, targets: &Targets, kind: Kind)
 
 impl Machine {
     /// Strikes these targets of an order by the hardest kind that nothing bars.
-    // Within `kill_process` no target is copied.
+    // One call less for each kill.
     #[inline(always)]
     fn strike(&mut self, by: u32, order: &KillOrder, found: &Targets) -> Reply
         ghost point: { Point }
