@@ -17,7 +17,7 @@ fn a_tick_is_drawn(rt: HostRuntime) -> Result<(), Fail> {
     assert_eq!(rt; picture.columns.len(), 1);
     let column = &picture.columns[0];
     assert_eq!(rt;
-        (column.end, column.states.len(), column.counts.len()),
+        (column.end, column.states.up.len(), column.counts.len()),
         (1, 1, 1)
     );
     let text = svg(alloc, &config, &journal)?;

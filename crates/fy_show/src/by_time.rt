@@ -22,8 +22,7 @@ use fy_lines::{InputFault, OutputFault, read_limited, write_bytes};
 use fy_picture::MOST_COLUMNS;
 use fy_svg::Drawing;
 use fy_times::{
-    Event, EventsFault, MOST_EVENTS_BYTES, TimeColumns, columns_by_time, events_before,
-    read_events,
+    Event, EventsFault, MOST_EVENTS_BYTES, TimeColumns, columns_by_time, events_before, read_events,
 };
 use std::alloc::Global;
 use std::io::{Read, Write};

@@ -67,11 +67,7 @@ fn draw<R: Read>(alloc: Global, config: &Config, reader: &mut R) -> Result<Drawn
 }
 
 /// The document of an audit, and whether it is legal.
-fn document<R: Read>(
-    alloc: Global,
-    config: &Config,
-    reader: &mut R,
-) -> Result<(bool, String), Stop>
+fn document<R: Read>(alloc: Global, config: &Config, reader: &mut R) -> Result<(bool, String), Stop>
     ensures done { IfOk result (λ document. IfSome (R.remaining reader.old)
         (λ bytes. IsChecked config.now bytes document.0)
         × EndsDocument (string_bytes document.1)) }
