@@ -26,8 +26,6 @@ impl Targets {
     ghost use Rattle.fy_decide.specs.Targets.{targeted, lone};
 
     /// The processes of a set. Looks for the one that is alone in it.
-    // Within its callers it would make room for a set where one process is kept by its number.
-    #[inline(never)]
     pub(crate) fn of(set: &ProcSet) -> Targets
         ensures { targeted result ≡ set.now }
     {
@@ -49,8 +47,6 @@ impl Targets {
     }
 
     /// Nobody.
-    // As for `of`.
-    #[inline(never)]
     pub(crate) fn nobody() -> Targets
         ensures { targeted result ≡ sets.empty }
     {
