@@ -1,6 +1,7 @@
 -- what is known of the document that show writes
-use Rattle.std.proofs.Common.{◌≡◌, ◌∙◌, ℕ, List, Option, Some, None, Ok, Err, Bool, length, take, ap, subst, sym, arith}
-use Rattle.std.specs.Prelude.{IfSome, is_none, unwrap_or}
+use Rattle.std.proofs.Common.{◌≡◌, ◌∙◌, ℕ, List, Option, Some, None, Ok, Err, Bool, true, false, length, take, refl, ap, subst, sym, arith}
+use Rattle.std.specs.Prelude.{IfSome, is_none, is_some, not, unwrap_or}
+use Rattle.std.proofs.lemmas.Bool.{true≢false}
 use Rattle.std.proofs.lemmas.List.{take_all}
 use Rattle.fy_acts.specs.declared.entry.Entry.{Entry}
 use Rattle.fy_journal.specs.declared.version.Version.{Version}
@@ -47,6 +48,12 @@ drawn_known setup (Some bytes) version entries drawn read count same those even 
   those = those;
   even = even;
 }
+
+pub none_is : (o : Option ℕ) (none : Bool) → not none ≡ is_some o → none ≡ is_none o
+none_is None true is = refl
+none_is None false is = absurd (true≢false is)
+none_is (Some at) true is = absurd (true≢false (sym is))
+none_is (Some at) false is = refl
 
 -- and so it is checked
 pub checked_known : (setup : Setup) (known : Option (List ℕ)) (drawn : Drawn) (legal : Bool) → legal ≡ is_none drawn.drawing.first_bad

@@ -1,5 +1,5 @@
 -- what is known of the document of an audit and its events
-use Rattle.std.proofs.Common.{◌≡◌, ◌≤◌, ℕ, List, [], length, Option, Some, None, Result, Ok, Err, Bool, refl, subst, arith}
+use Rattle.std.proofs.Common.{◌≡◌, ℕ, List, [], Option, Some, None, Result, Ok, Err, Bool, subst, arith}
 use Rattle.std.specs.Prelude.{IfSome, is_none}
 use Rattle.std.proofs.KnownBytes.{Consumes-nil}
 use Rattle.fy_lines.specs.Readings.{ReadsAtMost}

@@ -1,12 +1,12 @@
-use Rattle.std.proofs.Common.{◌≡◌, ◌∙◌, Ok, IfOk, ap, subst}
+use Rattle.std.proofs.Common.{◌≡◌, ◌∙◌, ap, subst}
 use Rattle.std.proofs.lemmas.Result.{IfOk-weaker}
 use Rattle.fy_times.specs.Columns.{AreTimeColumns, events_before}
 use Rattle.fy_picture.specs.declared.TheConstants.{MOST_COLUMNS}
 use Rattle.fy_show.specs.Shows.{IsDrawnByTime, IsDrawnIn}
 use Rattle.fy_show.proofs.by_time.draw.Goals as goal
 
-pub returns-in-Ok-clause-drawn : goal.returns-in-Ok-clause-drawn
-returns-in-Ok-clause-drawn c =
+pub returns-clause-drawn : goal.returns-clause-drawn
+returns-clause-drawn c =
     let events = c.args.events.items in
     let good = c.unwrap_or-good.result in
     let drawn : c.events_before-drawn.result.now ≡ events_before events good =

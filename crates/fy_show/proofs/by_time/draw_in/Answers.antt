@@ -8,7 +8,7 @@ loop-reader-init c = (
   [],
   c.in-Ok.ensures.begun,
   c.in-Ok-begin_by_time.ensures.recorded,
-  ap (λ (r : Recording). r.version) c.in-Ok-begin_by_time.ensures.begun ∙ c.version.ensures,
+  ap (λ (r : Recording). r.version) c.in-Ok-begin_by_time.ensures.begun ∙ c.version-version.ensures,
   refl,
 )
 

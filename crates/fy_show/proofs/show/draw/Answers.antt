@@ -9,9 +9,9 @@ pub loop-entry-init : goal.loop-entry-init
 loop-entry-init g c = (
   [],
   c.in-Ok.ensures.begun,
-  c.in-Ok-begin-2.ensures.recorded,
-  ap (λ (r : Recording). r.version) c.in-Ok-begin-2.ensures.begun ∙ c.version.ensures,
-  ap (λ (r : Recording). r.laid) c.in-Ok-begin-2.ensures.begun,
+  c.in-Ok-begin.ensures.recorded,
+  ap (λ (r : Recording). r.version) c.in-Ok-begin.ensures.begun ∙ c.version.ensures,
+  ap (λ (r : Recording). r.laid) c.in-Ok-begin.ensures.begun,
 )
 
 pub enter-requires : goal.enter-requires
