@@ -1,6 +1,11 @@
 //! `faultyard`: a fault injector for a simulated storage cluster.
 #![tactic(auto)]
 
+ghost use Rattle.std.specs.Prelude.{◌≡◌, ◌⊎◌, IfErr};
+ghost use Rattle.std.specs.Process.{exit_status};
+ghost use Rattle.fy_engine.specs.Stops.{stop_status, IsConfigStop};
+ghost use Rattle.faultyard.specs.Statuses.{done_status};
+
 mod task;
 
 use fy_bears::Form;
@@ -43,10 +48,17 @@ fn main(rt: HostRuntime) -> ExitCode {
         },
         Err(error) => return answered(&rt, &error),
     };
+    ended(&rt, done)
+}
+
+/// The status that a command ends with. Where it stopped, its fault line is written.
+fn ended(rt: &HostRuntime, done: Result<bool, Stop>) -> ExitCode
+    ensures { exit_status result ≡ done_status done }
+{
     match done {
         Ok(true) => ExitCode::SUCCESS,
         Ok(false) => ExitCode::from(REFUTED),
-        Err(stop) => stopped(&rt, stop),
+        Err(stop) => stopped(rt, stop),
     }
 }
 
@@ -120,7 +132,9 @@ fn guard_file(rt: &HostRuntime, path: &str) -> Result<bool, Stop> {
 }
 
 /// A file to read, by its path.
-fn open_file(rt: &HostRuntime, path: &str) -> Result<File, Stop> {
+fn open_file(rt: &HostRuntime, path: &str) -> Result<File, Stop>
+    ensures { IfErr result (λ stop. (stop ≡ Stop.Read) ⊎ (stop ≡ Stop.NoMemory)) }
+{
     match fs::open(rt, path) {
         Ok(file) => Ok(file),
         Err(error) if error.kind() == ErrorKind::OutOfMemory => Err(Stop::NoMemory),
@@ -129,7 +143,9 @@ fn open_file(rt: &HostRuntime, path: &str) -> Result<File, Stop> {
 }
 
 /// The configuration of a cluster file by its path.
-fn open_config(rt: &HostRuntime, path: &str) -> Result<Config, Stop> {
+fn open_config(rt: &HostRuntime, path: &str) -> Result<Config, Stop>
+    ensures { IfErr result IsConfigStop }
+{
     match open_file(rt, path) {
         Ok(mut file) => load_config(rt.alloc(), &mut file),
         Err(stop) => Err(stop),
@@ -164,7 +180,9 @@ fn answered(rt: &HostRuntime, error: &clap::Error) -> ExitCode {
 }
 
 /// Writes the fault line, as far as standard error takes it.
-fn stopped(rt: &HostRuntime, stop: Stop) -> ExitCode {
+fn stopped(rt: &HostRuntime, stop: Stop) -> ExitCode
+    ensures { exit_status result ≡ stop_status stop }
+{
     let _ = write_stop(&stop, &mut rt.stderr());
     ExitCode::from(stop.status())
 }
