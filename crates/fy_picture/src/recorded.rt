@@ -23,8 +23,11 @@ pub(crate) struct Recorded {
     pub(crate) state: ClusterState,
     pub(crate) plan: Plan,
     pub(crate) columns: Vec<Column>,
+    /// How many good entries there are.
     pub(crate) entries: u32,
+    /// The counts after the losses at the last column's end.
     pub(crate) killable: Killable,
+    /// Of each record that was begun, the entry that acknowledged it.
     pub(crate) acked_at: Vec<Option<u32>>,
 }
 
@@ -151,7 +154,7 @@ impl Recorded {
         let Ok(_) = self.state.enter(by, act) else {
             return Err(AllocError);
         };
-        // So many entries as the journal may have at most.
+        // A legal journal has at most this many entries.
         let limit = self.state.config().journal_limit();
         self.entries = self.entries.saturating_add(1).min(limit);
         note_entry(&self.state, at, reply, is_begun, &mut self.acked_at)?;

@@ -16,7 +16,8 @@ use std::alloc::{AllocError, Global};
 use std::marker::Model;
 
 /// Checks a journal entry by entry, and records the picture of the entries before the first bad
-/// one: column by column, and no entry is kept. After an error each call answers one.
+/// one, column by column. No entry is kept. After an error a recorder is of no use. Where its two
+/// clusters may differ, each later call that may fail answers an error.
 #[derive(Drop)]
 pub struct Recorder {
     alloc: Global,
@@ -24,7 +25,7 @@ pub struct Recorder {
     replayer: Replayer,
     /// Makes the acts of the good entries alone.
     recorded: Recorded,
-    /// Whether the two have the same entries, so far as these are good.
+    /// Whether no call failed midway. Then both have the same good entries.
     is_whole: bool,
 }
 
@@ -46,8 +47,8 @@ impl Model for Recorder {
 }
 
 impl Recorder {
-    /// Begins with a cluster of this configuration, for a journal of the version, whose columns each
-    /// stand for as many entries.
+    /// Begins with a cluster of this configuration, for a journal of the version. Columns are even:
+    /// each stands for the same power of two of entries, and there are at most `MOST_COLUMNS`.
     ///
     /// # Errors
     ///
@@ -59,7 +60,8 @@ impl Recorder {
         Recorder::begin_planned(alloc, config, version, Plan::Even(1))
     }
 
-    /// Begins likewise, with the end of each column, in order: how many entries come before it.
+    /// Begins likewise, with the end of each column: how many entries there are up to it. No end is
+    /// below one before it, and there may be any number of them.
     ///
     /// # Errors
     ///
@@ -121,7 +123,7 @@ impl Recorder {
     ///
     /// # Errors
     ///
-    /// `AllocError` where an earlier call answered one.
+    /// `AllocError` where an earlier call left the two clusters apart.
     pub fn make_room(&mut self) -> Result<bool, AllocError>
         ensures { self.new ≡ self.old }
     {
@@ -135,7 +137,8 @@ impl Recorder {
     ///
     /// # Errors
     ///
-    /// `AllocError` where there is no memory for it.
+    /// `AllocError` where there is no memory for it, or where an earlier call left the two clusters
+    /// apart.
     pub fn end_due(&mut self) -> Result<(), AllocError>
         ensures { OnOk result (self.new ≡ self.old) }
     {
@@ -149,11 +152,12 @@ impl Recorder {
     }
 
     /// Checks the next entry, and records it where it is what the rules give. After the first bad
-    /// one nothing is done.
+    /// one nothing is done. While none is bad, the entry's place is the number of entries so far.
     ///
     /// # Errors
     ///
-    /// `AllocError` where there is no memory for it.
+    /// `AllocError` where there is no memory for it, or where an earlier call left the two clusters
+    /// apart.
     pub fn enter(&mut self, entry: Entry) -> Result<(), AllocError>
         requires { self.old.first_bad ≡ None → entry.at ≡ length self.old.execution.journal }
         ensures entered { OnOk result ((setup : Setup) (so_far : List Entry)
@@ -178,12 +182,13 @@ impl Recorder {
         Ok(())
     }
 
-    /// The picture of the entries before the first bad one. A column that was to end behind them is
-    /// left out.
+    /// The picture of the entries before the first bad one. A given end behind them has no column;
+    /// the last of even columns may stand for fewer entries.
     ///
     /// # Errors
     ///
-    /// `AllocError` where there is no memory for it.
+    /// `AllocError` where there is no memory for it, or where an earlier call left the two clusters
+    /// apart.
     pub fn finish(self) -> Result<Picture, AllocError>
         ensures picture { IfOk result (IsPicture self.execution.setup self.execution.journal) }
         ensures even { self.laid ≡ None → IfOk result (λ picture.

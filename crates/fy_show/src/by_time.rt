@@ -82,7 +82,7 @@ fn finding_of(alloc: Global, config: &Config, bytes: &[u8]) -> Result<Finding, S
     }
 }
 
-/// Reads an audit that is held whole entry by entry, and has each checked and drawn, in columns by
+/// Reads an audit whose bytes are held, entry by entry, and has each checked and drawn, in columns by
 /// the times of events.
 fn draw_in(
     alloc: Global,

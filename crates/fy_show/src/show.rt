@@ -23,7 +23,7 @@ use std::io::{Read, Write};
 /// An audit whose entries were checked one after another, and drawn up to the first bad one.
 #[derive(Drop)]
 pub(crate) struct Drawn {
-    /// How many entries it has.
+    /// How many entries it has. No code reads it: the proof that the audit was checked does.
     pub count: u32,
     pub drawing: Drawing,
 }
@@ -95,7 +95,7 @@ fn document<R: Read>(alloc: Global, config: &Config, reader: &mut R) -> Result<(
 /// red mark in its place. The answer is whether the audit is legal.
 ///
 /// The audit is read piece by piece, and all of it is read, checked and drawn before the first byte
-/// is written. Memory doesn't grow with its entries.
+/// is written. Beyond `MOST_COLUMNS` entries memory grows only with the records that are begun.
 ///
 /// # Errors
 ///

@@ -44,8 +44,9 @@ pub(crate) struct Drawn {
     pub orders: Vec<Entry>,
 }
 
-/// Checks a journal entry by entry, and draws the entries before the first bad one. Nothing is kept
-/// of an entry but what its column shows. After an error each call answers one.
+/// Checks a journal entry by entry, and draws the entries before the first bad one. Of an entry no
+/// more is kept than its column shows, but for the first hundred orders against which a rule stood.
+/// After an error a drawing is of no use: an order may be missing.
 #[derive(Drop)]
 pub struct Drawing {
     alloc: Global,
@@ -80,8 +81,8 @@ struct Order {
 }
 
 impl Drawing {
-    /// Begins with a cluster of this configuration, for a journal of the version, whose columns each
-    /// stand for as many entries.
+    /// Begins with a cluster of this configuration, for a journal of the version. Columns are even:
+    /// each stands for the same power of two of entries, and there are at most `MOST_COLUMNS`.
     ///
     /// # Errors
     ///
@@ -224,7 +225,7 @@ impl Drawing {
     }
 
     /// Checks the next entry, and draws it where it is what the rules give. After the first bad one
-    /// nothing is done.
+    /// nothing is done. While none is bad, the entry's place is the number of entries so far.
     ///
     /// # Errors
     ///
@@ -250,6 +251,7 @@ impl Drawing {
     }
 
     /// The SVG document of the entries before the first bad one, whose place it marks in red.
+    /// `config` is the one that the drawing began with.
     ///
     /// # Errors
     ///

@@ -46,8 +46,8 @@ fn weight_of(kind: Kind) -> u32 {
     }
 }
 
-/// How hard an order is: a kill that struck by its kind, then one that struck nobody, a clog, and
-/// the end of one; 0 of any other act.
+/// How hard an order is: a kill by the kind that struck, then a kill that struck nobody, a refused
+/// kill, a clog, and the end of one; 0 for any other act.
 fn hardness(entry: &Entry) -> u32 {
     match entry.act {
         Act::Kill { .. } => match entry.reply {
@@ -111,8 +111,8 @@ fn write_glyph(
     text.push_str("</title></path>\n")
 }
 
-/// Puts a mark beside the one that is at its process: the harder order stands for both, of equals the
-/// earlier. The answer is whether it is that of the mark that was put.
+/// Joins a mark with the one at its process: the harder order stands for both, of two equals the
+/// earlier, and their counts add up. The answer is whether the new mark's order stands.
 fn put(open: &mut [Mark], mark: Mark) -> bool {
     let Some(there) = open.get_mut(mark.process) else {
         return false;
@@ -139,7 +139,7 @@ fn take_marks(alloc: Global, open: &mut [Mark]) -> Result<Vec<Mark>, AllocError>
     Ok(marks)
 }
 
-/// At which place each order is kept, in order: those that a mark names. `None` of the others.
+/// The new place of each order that a mark names, in the same order; `None` for the others.
 fn kept_places(
     alloc: Global,
     marks: &[Mark],
@@ -316,8 +316,7 @@ impl Glyphs {
     }
 }
 
-/// A column where each two become one: with the one that was folded last, where that is its other
-/// half.
+/// Folds the next column into the last folded one where the two are a pair, and else alone.
 fn fold_next(
     alloc: Global,
     open: &mut [Mark],

@@ -23,8 +23,8 @@ pub(crate) struct Ticks {
     count: u64,
 }
 
-/// Adds marks of a column that is the last of all so far, or comes behind it. Of one column the
-/// later stand for all.
+/// Adds the mark of a column that isn't before the last one. Two of one column become one, with the
+/// later entry and time and both counts.
 fn add_ticks(ticks: &mut Vec<Ticks>, next: Ticks) -> Result<(), AllocError> {
     if let Some(last) = ticks.last_mut()
         && last.column == next.column
