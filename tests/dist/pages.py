@@ -38,16 +38,30 @@ def rendered_pages() -> Iterator[tuple[str, Path]]:
             yield path.name, path
 
 
-def table_is_current() -> None:
+def tables_are_current() -> None:
     module = generator()
-    said("release/pages", "formats", "--check")
-    page = (ROOT / "docs/FORMATS.md").read_text()
-    row = f"| `{module.read_faults()[0].line}` |"
-    assert row in page
-    changed = page.replace(row, "| `another: line` |")
-    assert (
-        module.with_table(changed, module.markdown_table(module.read_faults())) != changed
-    ), "a change isn't seen"
+    said("release/pages", "tables", "--check")
+    pages = {path.name: text for path, text in module.renewed().items()}
+    assert f"| `{module.read_faults()[0].line}` |" in pages["FORMATS.md"]
+    for source, page in (("faults", "FORMATS.md"), ("strikes", "GUARD.md")):
+        changed = module.with_table(pages[page], "| another |", f"docs/{source}.toml")
+        assert changed != pages[page], f"a change of {page} isn't seen"
+
+
+def guard_tells_each_strike() -> None:
+    """GUARD and the man page have a row for each kind that can strike, for none, and no other."""
+    module = generator()
+    enums = (ROOT / "bindings/python/src/faultyard/enums.py").read_text()
+    kinds = re.findall(r' = "(\w+)"', enums.partition("class Kind")[2].partition("class ")[0])
+    wanted = [*(it for it in kinds if it != "Clog"), "null"]
+    assert [kind for kind, _ in module.strikes()] == wanted, wanted
+    with tempfile.TemporaryDirectory() as folder:
+        said("release/pages", "man", folder)
+        manual = (Path(folder) / "faultyard-guard.1").read_text()
+    page = (ROOT / "docs/GUARD.md").read_text()
+    for _, text in (*module.strikes(), *module.joins(), ("", f"**{module.rule()}**")):
+        assert text in page, f"GUARD lacks {text}"
+        assert module.in_man_filled(text) in manual, f"faultyard-guard.1 lacks {text}"
 
 
 def words_of(name: str, specs: str) -> list[str]:
@@ -296,7 +310,8 @@ def completes_in_fish() -> None:
 
 
 CHECKS = [
-    table_is_current,
+    tables_are_current,
+    guard_tells_each_strike,
     table_has_the_proved_lines,
     table_explains_each_case,
     man_pages_have_no_warning,
