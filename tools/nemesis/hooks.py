@@ -7,9 +7,11 @@ import time
 from argparse import Namespace
 from asyncio.subprocess import PIPE, Process
 from contextlib import AbstractAsyncContextManager, suppress
+from pathlib import Path
 from random import Random, SystemRandom
 from typing import Any
 
+import faultyard
 from faultyard import ClusterFile, Key
 from faultyard.ledger import Ledger
 from keeper import output, running
@@ -18,8 +20,10 @@ from . import HOOK, TOOL, USAGE, Fault
 
 NEEDED = {"start", "whole", "write", "read"}
 KNOWN = NEEDED | {"hooks", "setup", "ready", "join", "leave", "elect", "pause", "resume"}
+KNOWN |= {"check", "salvage", "fresh"}
 SLOW = {"hooks", "setup", "join", "elect", "read"}  # some copy: they have six times as long
 PORTS = 4  # for each process
+SOURCES = str(Path(faultyard.__file__).parents[1])
 Running = AbstractAsyncContextManager[Process]
 MUTE = 20  # so often in a row may a writer end or hang without any answer
 
@@ -38,6 +42,9 @@ class Hooks:
             "FY_COUNT": str(len(file.places)),
             "FY_NAMES": " ".join(place[Key.PROCESS] for place in file.places),
             "FY_ZONES": " ".join(self._zones),
+            # A hook in Python may import faultyard_hooks, and leaves nothing beside it.
+            "PYTHONDONTWRITEBYTECODE": "1",
+            "PYTHONPATH": ":".join(filter(None, [SOURCES, os.environ.get("PYTHONPATH")])),
         }
 
     async def learn(self) -> None:

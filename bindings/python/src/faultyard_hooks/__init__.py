@@ -1,0 +1,200 @@
+"""What the hooks of stores have in common. docs/GUARD.md says which hooks there are.
+
+    from faultyard_hooks import folder, hook, main, port, start, writes
+    from faultyard_hooks.resp import Resp
+
+    @hook("start")
+    def start_it(n):
+        start("mystore", "--data", folder(n), "--port", port(n))
+
+    @writes
+    def put(key, value):
+        return Resp(port(0)).ask("SET", key, value)
+
+    main()
+
+A hook is called ten times a second, so this stands beside the package `faultyard`, which takes
+longer to import than a hook may take.
+"""
+
+from __future__ import annotations
+
+import os
+import sys
+import time
+from contextlib import contextmanager
+from typing import Any, Callable, Dict, Iterator, Optional, TypeVar
+
+Hook = TypeVar("Hook", bound=Callable[..., Any])
+_hooks: Dict[str, Callable[..., Any]] = {}
+
+
+class Refused(OSError):
+    """The store answered, and said no."""
+
+
+# What the tool says.
+
+_told = os.environ.get
+DIR = _told("FY_DIR", "")
+COUNT = int(_told("FY_COUNT", "0"))
+NAMES = _told("FY_NAMES", "").split()
+ZONES = _told("FY_ZONES", "").split()
+ABLE = [int(number) for number in _told("FY_ABLE", "").split()]
+
+
+def port(n: int, which: int = 0) -> int:
+    """One of the four ports of a process."""
+    return int(_told("FY_PORT", "0")) + 4 * n + which
+
+
+def folder(n: int, *below: str) -> str:
+    """The folder of a process, or a path below it."""
+    return os.path.join(DIR, str(n), *below)
+
+
+def copied(*below: str) -> str:
+    """The copy of a folder that `salvage` may change, or a path below it."""
+    return os.path.join(_told("FY_COPY", ""), *below)
+
+
+# Hooks.
+
+
+def hook(name: str) -> Callable[[Hook], Hook]:
+    """Makes a function a hook. False says no, as an OSError does; a text is printed."""
+
+    def register(function: Hook) -> Hook:
+        _hooks[name] = function
+        return function
+
+    return register
+
+
+def writes(put: Callable[[str, str], int]) -> None:
+    """Makes the hook `write`: `put` answers the mark of a record once it is acknowledged."""
+
+    def write() -> None:
+        for line in sys.stdin:
+            key, value = line.split()
+            _answer(lambda: f"ok {put(key, value)}", "no")
+
+    _hooks["write"] = write
+
+
+def checks(get: Callable[[int, str], Optional[str]]) -> None:
+    """Makes the hook `check`: `get` answers what a process itself has for a key, or None."""
+
+    def check() -> None:
+        for line in sys.stdin:
+            number, key = line.split()
+            _answer(lambda: get(int(number), key) or "none", "?")
+
+    _hooks["check"] = check
+
+
+def _answer(ask: Callable[[], str], otherwise: str) -> None:
+    try:
+        told = ask()
+    except OSError as fault:
+        told = otherwise
+        print(f"{type(fault).__name__}: {fault}", file=sys.stderr)
+    print(told, flush=True)
+
+
+def main(*promises: str) -> None:
+    """Calls the hook that the command line names. `promises` are printed beside all names."""
+    name, *numbers = sys.argv[1:] or [""]
+    if name == "hooks":
+        print(*_hooks, *promises)
+    elif name not in _hooks:
+        sys.exit(64)
+    else:
+        try:
+            result = _hooks[name](*map(int, numbers))
+        except OSError as fault:
+            sys.exit(f"{' '.join(sys.argv[1:])}: {type(fault).__name__}: {fault}")
+        if result is False:
+            sys.exit(1)
+        if isinstance(result, str):
+            sys.stdout.write(result)
+
+
+# What hooks do.
+
+
+def start(*words: object) -> None:
+    """Goes on as a command, in this process."""
+    sys.stdout.flush()
+    os.execvp(str(words[0]), [str(word) for word in words])
+
+
+def run(*words: object, seconds: float = 60.0) -> str:
+    """What a command prints; `Refused` where it fails or takes too long."""
+    import subprocess  # few hooks need it, and it is slow to import
+
+    command = [str(word) for word in words]
+    try:
+        return subprocess.run(
+            command, stdout=subprocess.PIPE, text=True, check=True, timeout=seconds
+        ).stdout
+    except subprocess.SubprocessError as fault:
+        raise Refused(f"{command[0]}: {fault}") from None
+
+
+@contextmanager
+def running(*words: object) -> Iterator[None]:
+    """A command that runs until the block ends. What it prints goes to standard error."""
+    import subprocess
+
+    with subprocess.Popen([str(word) for word in words], stdout=sys.stderr) as process:
+        try:
+            yield
+        finally:
+            process.terminate()
+            try:
+                process.wait(5)
+            except subprocess.TimeoutExpired:
+                process.kill()
+
+
+def wait(ask: Callable[[], Any], seconds: float = 5.0, pause: float = 0.05) -> Any:
+    """Asks again and again until the answer is true. False where it isn't in time."""
+    until = time.monotonic() + seconds
+    while True:
+        try:
+            if answer := ask():
+                return answer
+        except OSError:
+            pass
+        if time.monotonic() > until:
+            return False
+        time.sleep(pause)
+
+
+def keep(path: str, text: str) -> None:
+    """Writes a file so that a power cut leaves the old one or the new one."""
+    with open(f"{path}.new", "w", encoding="utf-8") as file:
+        file.write(text)
+        file.flush()
+        os.fsync(file.fileno())
+    os.replace(f"{path}.new", path)
+    sync_folder(os.path.dirname(path))
+
+
+def sync_folder(path: str) -> None:
+    """Has the names in a folder on the disk."""
+    place = os.open(path, os.O_RDONLY)
+    try:
+        os.fsync(place)
+    finally:
+        os.close(place)
+
+
+def text_of(path: str) -> str:
+    """What a file has; nothing where it isn't there."""
+    try:
+        with open(path, encoding="utf-8") as file:
+            return file.read()
+    except FileNotFoundError:
+        return ""

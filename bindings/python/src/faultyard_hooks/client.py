@@ -1,0 +1,86 @@
+"""A connection to a process of a store on this machine."""
+
+from __future__ import annotations
+
+import random
+import socket
+from abc import ABC, abstractmethod
+from typing import Any, BinaryIO, Generic, Optional, Sequence, TypeVar
+
+
+class Client(ABC):
+    """Connects when it is first asked, and again after a fault, which is an OSError."""
+
+    def __init__(self, port: int, seconds: float = 2.0) -> None:
+        """`seconds` is how long the store may be silent."""
+        self._port, self._seconds = port, seconds
+        self._socket: Optional[socket.socket] = None
+        self._file: Optional[BinaryIO] = None
+
+    def ask(self, *words: Any) -> Any:
+        """What the store answers."""
+        try:
+            if self._socket is None:
+                self._connect()
+            return self._asked(*words)
+        except BaseException:
+            self.close()
+            raise
+
+    def close(self) -> None:
+        """Ends the connection."""
+        if self._socket is not None:
+            self._socket.close()
+        if self._file is not None:
+            self._file.close()
+        self._socket = self._file = None
+
+    def _connect(self) -> None:
+        self._socket = socket.create_connection(("127.0.0.1", self._port), self._seconds)
+        self._socket.setsockopt(socket.IPPROTO_TCP, socket.TCP_NODELAY, 1)
+        self._file = self._socket.makefile("rb")
+        self._greet()
+
+    def _greet(self) -> None:
+        """What a protocol says first."""
+
+    @abstractmethod
+    def _asked(self, *words: Any) -> Any:
+        """Sends a question, and reads its answer."""
+
+    def _send(self, data: bytes) -> None:
+        assert self._socket is not None
+        self._socket.sendall(data)
+
+    def _read(self, count: int) -> bytes:
+        assert self._file is not None
+        data = self._file.read(count)
+        if len(data) < count:
+            raise ConnectionResetError("the store closed the connection")
+        return data
+
+    def _line(self) -> bytes:
+        assert self._file is not None
+        line = self._file.readline()
+        if not line.endswith(b"\n"):
+            raise ConnectionResetError("the store closed the connection")
+        return line.rstrip(b"\r\n")
+
+
+Any_client = TypeVar("Any_client", bound=Client)
+
+
+class OneOf(Generic[Any_client]):
+    """Asks one of several, and after a fault another. Each writer has a process of its own so."""
+
+    def __init__(self, clients: Sequence[Any_client]) -> None:
+        self._clients = clients
+        self._chosen = random.randrange(len(clients)) if clients else 0
+
+    def ask(self, *words: Any) -> Any:
+        """What the one answers."""
+        try:
+            return self._clients[self._chosen].ask(*words)
+        except OSError:
+            self._chosen = random.randrange(len(self._clients))
+            raise
