@@ -13,6 +13,7 @@ import faultyard
 from faultyard import ConfigRefused, FaultyardError, Guard, InvalidAct, NotFound
 from faultyard.harness import lost_line
 from faultyard.plans import PLANS
+from config_check.main import explain
 from keeper import adopt_orphans, end_children
 
 from . import GUARD, LOST, NONE_LOST, TOOL, USAGE, Fault, say
@@ -107,6 +108,8 @@ def main() -> int:
         if status == USAGE:
             shutil.rmtree(words.out)
         print(f"faultyard-nemesis: {why}", file=sys.stderr)
+        if isinstance(fault, ConfigRefused) and (more := explain(words.config)):
+            print(more, file=sys.stderr)
         return int(status)
     finally:
         end_children()

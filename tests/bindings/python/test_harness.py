@@ -42,6 +42,12 @@ class ClusterFileTest(unittest.TestCase):
             ClusterFile.parse(text).actor(Role.OPERATOR)
         self.assertIn("no actor with the role operator", str(caught.exception))
 
+    def test_what_only_toml_1_1_has_is_refused_with_its_place(self):
+        text = THREE.read_bytes().replace(b'"operator"}', b'"operator",}')
+        with self.assertRaises(faultyard.ConfigRefused) as caught:
+            ClusterFile.parse(text)
+        self.assertRegex(str(caught.exception), r"TOML 1\.0: .* \(at line \d+, column \d+\)")
+
 
 class PlansTest(unittest.TestCase):
     PLACES = [{Key.PROCESS: f"p{i}", Key.MACHINE: f"m{i}", Key.ZONE: "z0"} for i in range(3)]

@@ -47,7 +47,10 @@ class ClusterFile:
     @classmethod
     def parse(cls, text: bytes) -> ClusterFile:
         """Reads the text of a cluster file that a guard has accepted."""
-        document = _toml().loads(text.decode())
+        try:
+            document = _toml().loads(text.decode())
+        except ValueError as fault:  # the program reads TOML 1.1
+            raise ConfigRefused(f"the cluster file is read as TOML 1.0: {fault}") from None
         places = [
             {key: place[key.value] for key in Key if key.value in place}
             for place in document["process"]

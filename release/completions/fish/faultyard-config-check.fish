@@ -1,0 +1,3 @@
+# Completion of faultyard-config-check for fish.
+
+complete -c faultyard-config-check -s h -l help -d "Print help"

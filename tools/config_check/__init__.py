@@ -1,0 +1,1 @@
+"""Says where a cluster file is at fault, and what was probably meant."""
