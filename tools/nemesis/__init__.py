@@ -2,7 +2,8 @@
 import os
 from contextlib import suppress
 
-NONE_LOST, LOST, USAGE, HOOK, GUARD, TOOL = range(6)  # how the tool ends
+# How the tool ends.
+NONE_LOST, LOST, USAGE, HOOK, GUARD, TOOL, UNREADABLE, STALE, WRONG = range(9)
 
 
 class Fault(Exception):

@@ -16,9 +16,11 @@ from faultyard.plans import PLANS
 from config_check.main import explain
 from keeper import adopt_orphans, end_children
 
-from . import GUARD, LOST, NONE_LOST, TOOL, USAGE, Fault, say
+from . import GUARD, NONE_LOST, TOOL, USAGE, Fault, say, summary
 from . import __doc__ as about
 from .run import Run
+from .summary import closing, tested_little
+from .verdicts import Verdict
 
 KINDS, PAUSES = "10,35,54,1,10", "0,0.2,0.5,1,2,4"
 SHOWN = 5  # lost records that are told on the terminal; lost.jsonl has all
@@ -117,7 +119,10 @@ def main() -> int:
 
 def report(run: Run) -> int:
     """Prints what a run comes to, and says how the tool ends."""
-    words, lost, audit, beyond = run.words, run.losses, run.guard.audit(), run.beyond()
+    words, audit, beyond = run.words, run.guard.audit(), run.beyond()
+    counts = run.counts()
+    keys = [it.write.key for it in run.judged if it.verdict is Verdict.LOST]
+    lost = [run.named(run.ledger.loss_of(key)) for key in keys]
     try:
         checked = f"legal {faultyard.check(words.config, audit)}"
         first, events = beyond["entry"] if beyond else None, words.out / "events.jsonl"
@@ -127,11 +132,16 @@ def report(run: Run) -> int:
         checked = fault.fault
     if lost:
         (words.out / "lost.jsonl").write_text("".join(f"{json.dumps(it)}\n" for it in lost))
-    lines = run.summary(f"seed {words.seed}") + run.notes + [lost_line(it) for it in lost[:SHOWN]]
+    run.history.flush()
+    lines = run.summary(f"seed {words.seed}") + run.notes
+    if not words.check_hooks:
+        healed, destroyed = len(run.ledger.healed), len(run.ledger.losses)
+        lines += tested_little(len(run.judged), run.ledger.pauses(), destroyed, healed)
+    lines += [lost_line(it) for it in lost[:SHOWN]]
     if len(lost) > SHOWN:
         lines.append(f"lost: {len(lost) - SHOWN} more, in lost.jsonl")
-    acked = f"{len(run.ledger.records)} acknowledged"
-    say("\n".join([*lines, f"{acked}, {len(lost)} lost; audit {checked}; {words.out}"]))
+    lines.append(f"{closing(len(run.judged), counts)}; audit {checked}; {words.out}")
+    say("\n".join(lines))
     if checked != f"legal {run.guard.journal_len()}":
         return GUARD
-    return LOST if lost else NONE_LOST
+    return summary.status(counts, "fresh" in run.hooks.names, run.is_unread)

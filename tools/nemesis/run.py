@@ -1,24 +1,35 @@
 """A run: orders are asked and done while records are written; then what is left is read."""
 import asyncio
+from argparse import Namespace
+from collections import Counter
 from collections.abc import Iterator
 from random import Random
-from typing import Any
 
-from faultyard import FaultyardError, Key, Kind
+from faultyard import FaultyardError, Guard, Key, Kind
 from faultyard.harness import read_orders
 from faultyard.plans import Draw, Order
 from faultyard.server import serve
 
 from . import HOOK, USAGE, Fault
+from .clients import Clients
+from .history import History, Operation
 from .store import Store, cancelled
+from .verdicts import Judged, Left, Verdict, judged, wrong
 
 FIRST = 1.0  # seconds before the first order
 Timed = tuple[float, Order]
 
 
 class Run(Store):
-    losses: list[dict[str, Any]]  # the records that are lost, as in lost.jsonl
-    notes: list[str]  # who was not back at the end, and why nothing could be read
+    judged: list[Judged] = []  # what became of each acknowledged record
+    wrong: list[Operation] = []  # reads of what was never written
+    is_unread = False  # whether `read` hung, so that only disks and `check` can say what is left
+
+    def __init__(self, words: Namespace, guard: Guard) -> None:
+        super().__init__(words, guard)
+        self.notes: list[str] = []  # who was not back at the end, and why nothing could be read
+        self.history = History(words.out / "history.jsonl", self.ledger)
+        self.clients = Clients(self.hooks, self.ledger, self.history)
 
     async def whole(self) -> None:
         """The run from its first process to what could be read."""
@@ -58,7 +69,7 @@ class Run(Store):
     async def _chaos(self, orders: list[Timed]) -> None:
         """Writes and orders, until all that was clogged is let go again."""
         words = self.words
-        work = [self.hooks.write(Random(f"{words.seed}-{n}")) for n in range(words.writers)]
+        work = [self.clients.write(Random(f"{words.seed}-{n}")) for n in range(words.writers)]
         if words.socket:
             work.append(serve(words.socket, self.asked))
         behind = [self.tasks.create_task(it) for it in work]
@@ -70,6 +81,7 @@ class Run(Store):
         await asyncio.sleep(0 if words.check_hooks else words.seconds - self.ledger.now())
         async with self.turn:
             await cancelled(behind)
+        self.ledger.stop()
         await self.clogs_ended(at_once=True)
 
     async def _check(self, order: Order) -> None:
@@ -82,8 +94,8 @@ class Run(Store):
         self.show(f"{order.value} is {'out' if order.kind.is_final else 'back'} after {kind}")
 
     async def _read(self) -> None:
-        """Finds which of the records that were acknowledged are not there any more."""
-        found, acked = await self.hooks.read(), len(self.ledger.records)
+        """Finds what became of each record that was acknowledged."""
+        found, acked = await self.clients.read(), len(self.ledger.records)
         if not acked:
             text = "no record was acknowledged, so the run says nothing; write only said 'no'"
             raise Fault(HOOK, text)
@@ -91,6 +103,19 @@ class Run(Store):
         if found is None:
             when = f"in {self.hooks.seconds('read'):g} seconds"
             when = when if self.ledger.able else "and every process is destroyed"
-            self.notes.insert(0, f"nothing could be read {when}: {self.hooks.ends[()]}")
-        self.losses = self.lost(found or {})
-        self.note("read", acked=acked, found=len(found or {}), lost=len(self.losses))
+            end = self.hooks.ends["read"]
+            self.notes.insert(0, f"nothing could be read {when}: {end}")
+            self.is_unread = end.status is None
+        self.judge(Left(found))
+
+    def judge(self, left: Left) -> None:
+        """Says what became of each record, by what is left."""
+        writes, reads = self.history.writes, self.history.reads
+        self.judged = judged(self.ledger.records, writes, reads, left)
+        self.wrong = wrong(writes, reads)
+        self.note("read", acked=len(self.judged), **self.counts())
+
+    def counts(self) -> dict[str, int]:
+        """How many records there are of each verdict; wrong are all keys that were read so."""
+        counts = Counter(it.verdict for it in self.judged)
+        return {it.value: counts[it] for it in Verdict} | {"wrong": len(self.wrong)}

@@ -13,7 +13,7 @@ from faultyard.harness import Harness
 from keeper import signal_below
 
 from . import HOOK, Fault, say
-from .hooks import Hooks
+from .hooks import End, Hooks
 
 AGAIN = 0.1  # seconds until a hook that said no is asked again
 ALONE = 20.0  # seconds for which a process that joined has to be ready before another may join
@@ -36,7 +36,7 @@ class Store(Harness):
     async def begin(self, tasks: asyncio.TaskGroup) -> None:
         """Sets the store up, and waits for all of it."""
         if not await self.hooks.says("setup"):
-            raise Fault(HOOK, f"{self.hooks.ends[()]}; {self.words.out}/hooks.log may say why")
+            raise Fault(HOOK, f"{self.hooks.ends['setup']}; {self.words.out}/hooks.log may say why")
         self.tasks, self.spawn = tasks, tasks.create_task
         self._electing = tasks.create_task(self._elect())
         for number in range(len(self.names)):
@@ -58,11 +58,11 @@ class Store(Harness):
     def waiting(self) -> list[str]:
         """Who is not up or not whole, or has not left, and what each waits for."""
         if not self._is_elected():
-            return [f"there is no election: {self.hooks.ends.get((), 'it was not asked for')}"]
+            return [f"there is no election: {self.hooks.ends.get('elect', 'it was not asked for')}"]
         whole = self.up - self.ledger.destroyed.keys() | self.gone - self._emptied
         return [
             f"{name} is not {'out' if number in self.gone else 'back'}: "
-            f"{self.hooks.ends.get((number,), 'it was not started')}{self._ended.get(number, '')}"
+            f"{self.hooks.ends.get(number, 'it was not started')}{self._ended.get(number, '')}"
             for number, name in enumerate(self.names)
             if number not in whole
         ]
@@ -99,7 +99,7 @@ class Store(Harness):
             elif hook not in self.hooks.names:
                 signal_below(process.pid, sent)
             elif not await self.hooks.says(hook, number) and process.returncode is None:
-                raise Fault(HOOK, f"{self.hooks.ends[number,]}; it may not fail")
+                raise Fault(HOOK, f"{self.hooks.ends[number]}; it may not fail")
 
     async def _keep(self, number: int) -> None:
         """Brings a process back, and again each time that it ends by itself."""
@@ -114,7 +114,7 @@ class Store(Harness):
                         await self._ask_after(number, process)
                         await asyncio.sleep(AGAIN)
             self._ended[number] = f"; its last process ended with status {process.returncode}"
-            self.hooks.ends.setdefault((number,), f"start {number} ended")
+            self.hooks.ends.setdefault(number, End(f"start {number}", process.returncode))
             self.note("ended", process=number, status=process.returncode)
             if number in self.up:
                 self.tell_ended(number, "ended by itself")

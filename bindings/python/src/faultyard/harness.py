@@ -26,7 +26,7 @@ from .cluster_file import ClusterFile
 from .enums import Key, Kind, Role
 from .errors import InvalidAct
 from .guard import Guard
-from .ledger import Ledger
+from .ledger import Ledger, Lost
 from .plans import Order
 from .programs import StrPath
 from .replies import Entry
@@ -189,8 +189,8 @@ class Harness(ABC):
 
     def tell_healed(self, process: int) -> None:
         """A destroyed process has its records again, up to the mark of `Ledger.due`."""
-        self._tell("heal", process, self.storage, {"heal": {"process": process}})
-        self.ledger.heal(process)
+        entry = self._tell("heal", process, self.storage, {"heal": {"process": process}})
+        self.ledger.heal(process, entry)
 
     def tell_ended(self, process: int, why: str) -> None:
         """A process went down, and nobody ordered it: told as a reboot."""
@@ -198,10 +198,13 @@ class Harness(ABC):
         order = Order(Kind.REBOOT, Key.PROCESS, self.names[process])
         self._tell(why, process, self.fault, order.act())
 
-    def _tell(self, what: str, process: int, by: int, act: Act) -> None:
-        if self.ledger.has_begun():  # before, the guard takes all for up
-            entry = self.guard.act(by, act)
-            self.note(what, process=process, entry=entry.at, reply=entry.told)
+    def _tell(self, what: str, process: int, by: int, act: Act) -> Optional[int]:
+        """Tells the guard, by which entry; not before the beginning, when it takes all for up."""
+        if not self.ledger.has_begun():
+            return None
+        entry = self.guard.act(by, act)
+        self.note(what, process=process, entry=entry.at, reply=entry.told)
+        return entry.at
 
     # What it comes to.
 
@@ -230,8 +233,11 @@ class Harness(ABC):
 
     def lost(self, found: Mapping[str, str]) -> List[Dict[str, Any]]:
         """The records that are lost, with the names of who could hold each."""
-        lost = self.ledger.lost(found)
-        return [{**it._asdict(), "able": [self.names[n] for n in it.able]} for it in lost]
+        return [self.named(it) for it in self.ledger.lost(found)]
+
+    def named(self, lost: Lost) -> Dict[str, Any]:
+        """A lost record with the names of who could hold it."""
+        return {**lost._asdict(), "able": [self.names[n] for n in lost.able]}
 
 
 def lost_line(lost: Mapping[str, Any]) -> str:

@@ -42,6 +42,15 @@ class Loss(NamedTuple):
     """How many writes were sent until then."""
 
 
+class Heal(NamedTuple):
+    """A destroyed process had its records again, as was told."""
+
+    process: int
+    t: float
+    entry: Optional[int]
+    """The entry that told it, if it is known."""
+
+
 class Ledger:
     """What a test was told is stored, and what it has destroyed, guarded or not.
 
@@ -52,7 +61,8 @@ class Ledger:
 
     def __init__(self, guard: Guard) -> None:
         self._guard = guard
-        self._began: Optional[float] = None
+        self._began: Optional[int] = None
+        self._stopped: Optional[float] = None
         self._sent = self._late = 0
         self.able: Set[int] = set(range(guard.process_count()))
         """The processes that aren't destroyed."""
@@ -61,13 +71,18 @@ class Ledger:
         self.losses: List[Loss] = []
         self.healed: List[float] = []
         """How many seconds each process was destroyed that is healed."""
+        self.heals: List[Heal] = []
         self.records: Dict[str, Record] = {}
         self.mark = 0
         """The largest that an acknowledgement told."""
 
     def begin(self) -> None:
         """Time goes on from 0."""
-        self._began = time.monotonic()
+        self._began = time.monotonic_ns()
+
+    def stop(self) -> None:
+        """No more is written."""
+        self._stopped = self.now()
 
     def has_begun(self) -> bool:
         """Whether time goes on."""
@@ -75,19 +90,25 @@ class Ledger:
 
     def now(self) -> float:
         """Seconds since the beginning, 0 before."""
-        return 0.0 if self._began is None else round(time.monotonic() - self._began, 3)
+        return round(self.now_ns() / 1e9, 3)
+
+    def now_ns(self) -> int:
+        """Nanoseconds since the beginning, 0 before."""
+        return 0 if self._began is None else time.monotonic_ns() - self._began
 
     def send(self) -> int:
         """The number of a write that is sent now, from 1."""
         self._sent += 1
         return self._sent
 
-    def acknowledge(self, write: int, key: str, value: str, mark: int) -> None:
-        """A write was acknowledged, with a number of the store that never falls."""
-        if write > self._late:
-            entry, able = self._guard.journal_len(), tuple(sorted(self.able))
-            self.records[key] = Record(value, self.now(), entry, able)
-            self.mark = max(self.mark, mark)
+    def acknowledge(self, write: int, key: str, value: str, mark: int) -> bool:
+        """A write was acknowledged, with a number of the store that never falls: does it count?"""
+        if write <= self._late:
+            return False
+        entry, able = self._guard.journal_len(), tuple(sorted(self.able))
+        self.records[key] = Record(value, self.now(), entry, able)
+        self.mark = max(self.mark, mark)
+        return True
 
     def destroy(self, process: int, entry: int) -> None:
         """A process was emptied or killed for good, as an entry asked."""
@@ -101,18 +122,21 @@ class Ledger:
         self._late = max(self._late, self.destroyed[process].sent)
         return self.mark
 
-    def heal(self, process: int) -> None:
-        """A destroyed process has them."""
+    def heal(self, process: int, entry: Optional[int] = None) -> None:
+        """A destroyed process has them, as an entry told."""
         self.healed.append(self.now() - self.destroyed.pop(process).t)
+        self.heals.append(Heal(process, self.now(), entry))
         self.able.add(process)
 
     def lost(self, found: Mapping[str, str]) -> List[Lost]:
         """The records that aren't among those that were found."""
-        return [
-            Lost(key, record.t, record.entry, record.able, self._takers(record))
-            for key, record in self.records.items()
-            if found.get(key) != record.value
-        ]
+        lacks = (key for key, record in self.records.items() if found.get(key) != record.value)
+        return [self.loss_of(key) for key in lacks]
+
+    def loss_of(self, key: str) -> Lost:
+        """An acknowledged record that is lost."""
+        record = self.records[key]
+        return Lost(key, record.t, record.entry, record.able, self._takers(record))
 
     def _takers(self, record: Record) -> Tuple[int, ...]:
         first: Dict[int, int] = {}
@@ -121,7 +145,12 @@ class Ledger:
                 first.setdefault(loss.process, loss.entry)
         return tuple(sorted(set(first.values())))
 
+    def pauses(self) -> List[float]:
+        """The times without an acknowledgement: before the first, between two, and since the last."""
+        end = self.now() if self._stopped is None else self._stopped
+        times = [0.0, *(record.t for record in self.records.values()), end]
+        return [max(later - t, 0.0) for t, later in zip(times, times[1:])]
+
     def longest_pause(self) -> float:
-        """The longest time between two acknowledgements, or before the first."""
-        times = [0.0, *(record.t for record in self.records.values())]
-        return max((later - t for t, later in zip(times, times[1:])), default=0.0)
+        """The longest of them."""
+        return max(self.pauses())
