@@ -1,0 +1,286 @@
+"""The server as its users meet it: its words, its socket, its files, and what a crash leaves."""
+
+import http.client
+import json
+import os
+import random
+import resource
+import signal
+import threading
+import time
+import uuid
+
+import common
+from common_serve import HEADER, KILLS, PROGRAM, Case, Server
+from common_serve import built, checked, cluster, kill, line, run, up
+
+
+class Words(Case):
+    def test_help_and_version(self):
+        for word in ("-h", "--help"):
+            told = run(built(), word)
+            self.assertEqual((told.returncode, told.stderr), (0, ""))
+            self.assertTrue(told.stdout.startswith("usage: faultyard-serve CONFIG --audit FILE"))
+        for word in ("-V", "--version"):
+            told = run(built(), word)
+            wanted = f"faultyard-serve {common.version()}\n"
+            self.assertEqual((told.returncode, told.stdout), (0, wanted))
+
+    def test_wrong_words_are_refused_before_anything_is_touched(self):
+        loopback = "without --tokens, --listen takes an address of the loopback"
+        for words, why in (
+            ([], "one cluster file is needed"),
+            (["a", "b", "--audit", "x"], "one cluster file is needed"),
+            (["a"], "--audit FILE is needed"),
+            (["a", "--audit"], "flag needs an argument: --audit"),
+            (["a", "--audit", "x", "--tls-cert", "y"], "--tls-cert and --tls-key go together"),
+            (["a", "--audit", "x", "--tokens", "y"], "--tokens and --tls-cert go with --listen"),
+            (["a", "--audit", "x", "--listen", "7077"], "--listen takes HOST:PORT"),
+            (["a", "--audit", "x", "--listen", "0.0.0.0:0"], loopback),
+            (["a", "--audit", "x", "--listen", ":0"], loopback),
+            (["a", "--audit", "x", "--nothing"], "flag provided but not defined: --nothing"),
+        ):
+            ran = run(built(), *words, cwd=self.folder)
+            wanted = f"faultyard-serve: {why}; --help says more\n"
+            self.assertEqual((ran.returncode, ran.stdout, ran.stderr), (2, "", wanted))
+        self.assertEqual(os.listdir(self.folder), [])
+
+    def test_a_refused_cluster_file_is_told_as_the_program_tells_it(self):
+        for fault, file in common.refused_files(str(self.folder)).items():
+            status, said = self.refuse(file, "--audit", self.folder / "audit")
+            self.assertEqual(status, 1)
+            self.assertTrue(said.startswith(f"faultyard-serve: {fault}: "), said)
+        self.assertFalse((self.folder / "audit").exists())
+        status, said = self.refuse(self.folder / "none", "--audit", self.folder / "audit")
+        self.assertEqual((status, "no such file" in said), (3, True))
+
+
+class Answers(Case):
+    def test_random_acts_are_answered_as_run_answers_them(self):
+        config = common.six_with(str(self.folder), 5_000)
+        acts = list(common.random_acts(63, 3_000))
+        wanted = common.run_script(config, acts).encode()
+        server = self.server(config=config.read_text()).start()
+        talk = server.talk()
+        lines = [line({"by": by, "act": act}) for by, act in acts]
+        told = [talk.ask(it) for it in lines[:500]]
+        # The rest at once: many share a sync, and the answers keep their order.
+        rest = threading.Thread(target=talk.socket.sendall, args=(b"".join(lines[500:]),))
+        rest.start()
+        told += [talk.file.readline() for _ in lines[500:]]
+        rest.join()
+        self.assertTrue(HEADER + b"".join(told) == wanted, "other answers")
+        self.assertTrue(server.file.read_bytes() == wanted, "another audit")
+        self.assertEqual(server.end(), 0)
+        self.assertEqual(server.check(), "legal 3000")
+        self.assertFalse(server.socket.exists())
+
+    def test_it_goes_on_with_its_audit(self):
+        server = self.server().start()
+        first = server.talk().ask(kill(0, "RebootAndDelete"))
+        self.assertEqual(server.end(), 0)
+        server.start()
+        answer = json.loads(server.talk().ask(kill(2, "RebootAndDelete")))
+        self.assertEqual(answer["at"], 1)
+        wanted = {"rule": ["TooManyDestroyed", 0], "struck": "Reboot"}
+        self.assertEqual(answer["reply"], {"verdict": wanted})
+        self.assertEqual(server.lines()[0], first)
+        self.assertEqual(server.check(), "legal 2")
+
+    def test_a_faulty_line_ends_nobody(self):
+        server = self.server(config=cluster(limit=2)).start()
+        talk = server.talk()
+        for text, why in (
+            (b"x\n", "script: line 1: Syntax"),
+            (b"\n", "script: line 2: Syntax"),
+            (kill(0).replace(b"RebootProcess", b"KillInstantly"), "script: line 3: Floor"),
+            (b"x" * 65_537 + b"\n", "script: line 4: TooLong"),
+            (up(0, once="a b"), "script: line 5: OnceName"),
+        ):
+            self.assertEqual(json.loads(talk.ask(text)), {"refused": why})
+        self.assertEqual(json.loads(talk.ask(up(0, once="a")))["reply"], {"no": ["IsUp"]})
+        self.assertEqual(json.loads(talk.ask(up(1, once="a"))), {"refused": "script: line 7: OnceOther"})
+        self.assertEqual(json.loads(talk.ask(up(0)))["at"], 1)
+        self.assertEqual(json.loads(talk.ask(up(0))), {"refused": "script: JournalFull"})
+        self.assertEqual(json.loads(talk.ask(up(0, once="a")))["at"], 0)
+        self.assertEqual(server.check(), "legal 2")
+
+
+class Files(Case):
+    def test_the_file_of_another_configuration_is_refused(self):
+        server = self.server(http=False).start()
+        server.talk().ask(kill(0, "KillInstantly"))
+        self.assertEqual(server.end(), 0)
+        before = server.file.read_bytes()
+        other = common.written(self.folder, "other.toml", cluster().replace("2,zoneid", "1,zoneid"))
+        status, said = self.refuse(other, "--audit", server.file)
+        self.assertEqual((status, said), (5, f"faultyard-serve: {server.file}: bad entry 0\n"))
+        self.assertEqual(server.file.read_bytes(), before)
+
+    def test_a_faulty_audit_is_refused_as_check_refuses_it(self):
+        config, file = common.written(self.folder, "c.toml", cluster()), self.folder / "audit"
+        script = (kill(0) + kill(1) + up(0)).decode()
+        told = run(PROGRAM, "guard", config, input=script).stdout.encode()
+        header, *entries = told.splitlines(keepends=True)
+        bad = entries[1].replace(b'"Reboot"}}', b"null}}")
+        for text in (
+            b'{"audit":3}\n',
+            b"\n",
+            header + b"\n",
+            header + entries[1],
+            header + entries[0].replace(b"{", b" {", 1),
+            header + entries[0] + bad,
+            header + entries[0] + bad + entries[2] + b"x\n",
+            header + b"x" * 70_000 + b"\n",
+            header + entries[0] + entries[0],
+        ):
+            file.write_bytes(text)
+            wanted, why = checked(config, file)
+            told = self.refuse(config, "--audit", file)
+            self.assertEqual(told, (wanted, f"faultyard-serve: {file}: {why}\n"))
+            self.assertEqual(file.read_bytes(), text)
+        file.write_bytes(b'{"audit":1}\n' + entries[0])  # It can't be gone on with.
+        told = self.refuse(config, "--audit", file)
+        self.assertEqual(told, (1, f"faultyard-serve: {file}: audit: line 1: Header\n"))
+
+    def test_half_a_last_line_is_cut_and_told(self):
+        server = self.server(http=False).start()
+        first = server.talk().ask(kill(0))
+        self.assertEqual(server.end(), 0)
+        whole = HEADER + first
+        for more in (b"{", first[:-1].replace(b'"at":0', b'"at":1')):
+            server.file.write_bytes(whole + more)
+            server.start()
+            wanted = f"{server.file}: its last line is half; cut to the {len(whole)} bytes"
+            self.assertIn(wanted, server.said.read_text())
+            self.assertEqual(server.file.read_bytes(), whole)
+            self.assertEqual(server.end(), 0)
+
+    def test_one_server_at_a_time_holds_a_file(self):
+        server = self.server(http=False).start()
+        other = self.folder / "other"
+        told = self.refuse(server.config, "--audit", server.file, "--socket", other)
+        self.assertEqual(told, (3, f"faultyard-serve: {server.file} is held by another process\n"))
+        told = self.refuse(server.config, "--audit", other, "--socket", server.socket)
+        wanted = f"faultyard-serve: {server.socket}: another server listens there\n"
+        self.assertEqual(told, (3, wanted))
+        self.assertTrue(server.talk().ask(kill(0)))
+
+    def test_a_full_disk_ends_it_and_nobody_is_answered(self):
+        def limit(size):
+            return lambda: resource.setrlimit(resource.RLIMIT_FSIZE, (size, size))
+
+        server = self.server(http=False)
+        server.limit = limit(100_000)
+        server.start()
+        answers = []
+        talk = server.talk()
+        while answer := talk.ask(kill(len(answers) % 6)):
+            answers.append(answer)
+        self.assertEqual(server.end(), 3)
+        self.assertIn("file too large", server.said.read_text())
+        self.assertEqual(server.file.read_bytes(), HEADER + b"".join(answers))
+        self.assertGreater(len(answers), 500)
+        new = self.folder / "new"
+        status, said = self.refuse(server.config, "--audit", new, limit=limit(5))
+        self.assertEqual((status, "file too large" in said), (3, True))
+        self.assertEqual(new.read_bytes(), b"")
+        server.limit = None
+        server.start()
+        self.assertTrue(server.talk().ask(kill(0)))
+        self.assertEqual(server.end(), 0)
+        self.assertEqual(server.check(), f"legal {len(answers) + 1}")
+
+    def test_a_file_that_cannot_be_made_is_told(self):
+        config = common.written(self.folder, "c.toml", cluster())
+        status, said = self.refuse(config, "--audit", self.folder / "none/audit")
+        self.assertEqual((status, "no such file or directory" in said), (3, True))
+
+
+class Client(threading.Thread):
+    """Asks for acts, each with a key of its own, again and again until each is answered."""
+
+    def __init__(self, server: Server, number: int, is_over: threading.Event):
+        super().__init__()
+        self.server, self.is_over, self.random = server, is_over, random.Random(number)
+        self.by_socket = number % 2 == 0
+        self.answers: list[tuple[bytes, bytes]] = []
+        self.fault: BaseException | None = None
+        self.talk = None
+
+    def run(self):
+        try:
+            while not self.is_over.is_set():
+                self.act()
+        except BaseException as fault:
+            self.fault = fault
+
+    def act(self):
+        """One act, however often it has to be asked for."""
+        process, key = self.random.randrange(6), str(uuid.UUID(int=self.random.getrandbits(128)))
+        act = self.random.choice((kill(process), kill(process, "RebootAndDelete", by=2), up(process)))
+        while True:
+            try:
+                answer = self.ask(act, key)
+            except OSError:
+                answer = b""
+            if answer.endswith(b"\n"):
+                self.answers.append((act, answer))
+                return
+            self.talk = None
+            time.sleep(0.01)
+
+    def ask(self, act, key):
+        if self.by_socket:
+            self.talk = self.talk or self.server.talk()
+            return self.talk.ask(act[:-2] + b',"once":"' + key.encode() + b'"}\n')
+        try:
+            status, answer = self.server.ask("POST", "/v1/acts", act, Idempotency_Key=key)
+        except (AssertionError, ValueError, http.client.HTTPException):
+            return b""
+        return answer if status == 200 else b""
+
+
+class Crashes(Case):
+    def test_no_answer_is_lost_and_none_is_there_twice_whenever_it_is_killed(self):
+        server, is_over = self.server().start(), threading.Event()
+        clients = [Client(server, number, is_over) for number in range(8)]
+        for client in clients:
+            client.start()
+        chance = random.Random(9)
+        for _ in range(KILLS):
+            time.sleep(chance.uniform(0.02, 0.4))
+            server.kill()
+            server.start()
+        time.sleep(0.2)
+        is_over.set()
+        for client in clients:
+            client.join(120)
+            self.assertFalse(client.is_alive())
+            self.assertIsNone(client.fault)
+        self.assertEqual(server.end(), 0)
+        entries = server.lines()
+        self.assertEqual(server.check(), f"legal {len(entries)}")
+        places = []
+        for client in clients:
+            self.assertGreater(len(client.answers), KILLS)
+            for act, answer in client.answers:
+                told, asked = json.loads(answer), json.loads(act)
+                self.assertEqual(entries[told["at"]], answer)
+                self.assertEqual((told["act"], told["by"]), (asked["act"], asked["by"]))
+                places.append(told["at"])
+            ats = [json.loads(answer)["at"] for _, answer in client.answers]
+            self.assertEqual(ats, sorted(ats))
+        # Each act was asked for until it was answered: so each entry is the answer of one of them.
+        self.assertEqual(sorted(places), list(range(len(entries))))
+
+    def test_signals_end_it_with_status_0(self):
+        for number in (signal.SIGTERM, signal.SIGINT, signal.SIGHUP):
+            server = self.server().start()
+            talk = server.talk()
+            answer = talk.ask(kill(0))
+            server.process.send_signal(number)
+            self.assertEqual(server.process.wait(60), 0)
+            self.assertTrue(server.file.read_bytes().endswith(answer))
+            self.assertFalse(server.socket.exists())
+            self.assertEqual(talk.file.readline(), b"")

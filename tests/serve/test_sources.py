@@ -1,0 +1,38 @@
+"""The sources of the server, and the tests of its packages."""
+
+import re
+import unittest
+
+from common_serve import LIBRARY, SOURCE, built, go_environment, run
+
+
+def go(*words):
+    ran = run("go", *words, cwd=SOURCE, env=go_environment())
+    if ran.returncode:
+        raise AssertionError(ran.stdout + ran.stderr)
+    return ran.stdout
+
+
+class Sources(unittest.TestCase):
+    def test_gofmt_and_vet_find_nothing(self):
+        self.assertEqual(run("gofmt", "-l", SOURCE).stdout, "")
+        go("vet", "./internal/...")
+
+    def test_the_packages_under_the_race_detector(self):
+        told = go("test", "-race", "-count=1", "-v", "./internal/...")
+        tests = "".join(it.read_text() for it in SOURCE.glob("internal/*/*_test.go"))
+        wanted = re.findall(r"^func (Test\w+)\(", tests, re.M)
+        self.assertEqual(sorted(re.findall(r"^--- PASS: (\w+) ", told, re.M)), sorted(wanted))
+
+    def test_nothing_but_the_standard_library_and_the_binding_is_used(self):
+        told = (SOURCE / "go.mod").read_text()
+        self.assertEqual(re.findall(r"^require (.*)$", told, re.M), ["faultyard v0.0.0"])
+        self.assertFalse((SOURCE / "go.sum").exists())
+
+    def test_it_is_one_static_binary_that_is_built_to_the_same_bytes(self):
+        first = built()
+        self.assertEqual(run("ldd", first).returncode, 1)
+        again = first.with_name("again")
+        ran = run(SOURCE / "build", LIBRARY, again, env=go_environment())
+        self.assertEqual((ran.returncode, ran.stderr), (0, ""))
+        self.assertTrue(first.read_bytes() == again.read_bytes(), "other bytes")

@@ -1,0 +1,7 @@
+module faultyard-serve
+
+go 1.19
+
+require faultyard v0.0.0
+
+replace faultyard => ../../bindings/go

@@ -1,0 +1,381 @@
+// Package book keeps the audit of one guard on the disk, for many who ask at once.
+//
+// An answer goes out only once its entry is on the disk. Those who ask while a sync runs wait for
+// the next one together: one sync serves all of them.
+package book
+
+import (
+	"errors"
+	"fmt"
+	"io"
+	"os"
+	"sync"
+	"time"
+)
+
+// Header is the first line of an audit that a book begins or goes on with.
+const Header = "{\"audit\":2}\n"
+
+// Guard makes acts, and keeps the entry of each. Goroutines may share it.
+type Guard interface {
+	// Act makes the act of a script's line, and answers the line of its entry. Where the line is
+	// refused, nothing is entered and the error is a Fault. Any other error ends the book.
+	Act(line []byte) ([]byte, error)
+	// Entry answers the line of the entry at a place, from 0.
+	Entry(at int) ([]byte, error)
+}
+
+// Fault is why a line makes no entry, as a guard says it of a script's line.
+type Fault string
+
+// Error is the fault's word.
+func (fault Fault) Error() string { return string(fault) }
+
+// The faults that a guard finds in a line, and those that a book adds.
+const (
+	TooLong     Fault = "TooLong"
+	Syntax      Fault = "Syntax"
+	Floor       Fault = "Floor"
+	JournalFull Fault = "JournalFull"
+	// OnceName is: the key of an act isn't 1 to 64 letters, digits and marks of - _ . and :.
+	OnceName Fault = "OnceName"
+	// OnceOther is: the actor gave this key to another act before.
+	OnceOther Fault = "OnceOther"
+)
+
+// ErrEnded is: the book was closed.
+var ErrEnded = errors.New("the server ends")
+
+// Ask is an act that somebody asks for.
+type Ask struct {
+	// Line is the act's line of a script. It may have a member `once`: the key of the act.
+	Line []byte
+	// Once is the key of the act, where it isn't in the line.
+	Once string
+}
+
+// Answer is what came of an Ask: the line of its entry, or an error.
+type Answer struct {
+	Line []byte
+	Err  error
+	// Repeated is: the entry is that of an earlier act with the same key.
+	Repeated bool
+}
+
+// Turn is what one client asks at once, and its answers. A client may use it again and again.
+type Turn struct {
+	Asks    []Ask
+	Answers []Answer
+	view    func()
+	woken   chan bool // true where the turn is to lead
+}
+
+// NewTurn is a turn without asks.
+func NewTurn() *Turn { return &Turn{woken: make(chan bool, 1)} }
+
+// Stats counts what a book did since it was opened.
+type Stats struct {
+	Entries  int // that are on the disk, those from before too
+	Made     uint64
+	Refused  uint64
+	Repeated uint64
+	Syncs    uint64
+	Synced   time.Duration // how long all syncs took
+}
+
+// Book is an open audit. Goroutines may share it.
+type Book struct {
+	guard  Guard
+	audit  *os.File
+	events *events
+
+	lock    sync.Mutex
+	waiting []*Turn
+	led     bool
+	stop    error // why nothing is made any more
+	stopped chan struct{}
+	grown   chan struct{} // closed once there are more entries
+	stats   Stats
+	length  int64 // of the audit in bytes, as far as it is on the disk
+
+	// Who leads owns these.
+	count  int // of the entries that the guard has
+	buffer []byte
+}
+
+// Submit makes the acts of a turn in their order, and returns once each entry is on the disk.
+func (book *Book) Submit(turn *Turn) {
+	book.lock.Lock()
+	book.waiting = append(book.waiting, turn)
+	if book.led {
+		book.lock.Unlock()
+		if leads := <-turn.woken; !leads {
+			return
+		}
+		book.lock.Lock()
+	}
+	book.led = true
+	turns, stop := book.waiting, book.stop
+	book.waiting = nil
+	book.lock.Unlock()
+
+	book.serve(turns, stop)
+	for _, other := range turns {
+		if other != turn {
+			other.woken <- false
+		}
+	}
+	book.handOn()
+}
+
+// handOn lets the first of those who wait lead.
+func (book *Book) handOn() {
+	book.lock.Lock()
+	defer book.lock.Unlock()
+	book.led = len(book.waiting) > 0
+	if book.led {
+		book.waiting[0].woken <- true
+	}
+}
+
+// View calls a function while nobody acts and all that was done is on the disk.
+func (book *Book) View(look func()) {
+	turn := NewTurn()
+	turn.view = look
+	book.Submit(turn)
+}
+
+// serve answers the turns, and calls the views behind the sync.
+func (book *Book) serve(turns []*Turn, stop error) {
+	if stop == nil {
+		var stats Stats
+		stop = book.commit(turns, &stats)
+		book.publish(stats, stop)
+	}
+	for _, turn := range turns {
+		if stop != nil {
+			turn.refuse(stop)
+		}
+		if turn.view != nil {
+			turn.view()
+		}
+	}
+}
+
+// refuse answers every ask of a turn with one error.
+func (turn *Turn) refuse(err error) {
+	turn.Answers = turn.Answers[:0]
+	for range turn.Asks {
+		turn.Answers = append(turn.Answers, Answer{Err: err})
+	}
+}
+
+// commit makes the acts of the turns, and brings their entries to the disk.
+func (book *Book) commit(turns []*Turn, stats *Stats) error {
+	book.buffer = book.buffer[:0]
+	for _, turn := range turns {
+		turn.Answers = turn.Answers[:0]
+		for _, ask := range turn.Asks {
+			answer, err := book.make(ask, stats)
+			if err != nil {
+				return err
+			}
+			turn.Answers = append(turn.Answers, answer)
+		}
+	}
+	if len(book.buffer) == 0 {
+		return nil
+	}
+	begun := time.Now()
+	if err := book.write(); err != nil {
+		return err
+	}
+	stats.Syncs, stats.Synced = 1, time.Since(begun)
+	return nil
+}
+
+// make makes one act, unless its actor gave its key to an act before.
+func (book *Book) make(ask Ask, stats *Stats) (Answer, error) {
+	asked, fault := readAsk(ask)
+	if fault != "" {
+		stats.Refused++
+		return Answer{Err: fault}, nil
+	}
+	if asked.once != "" {
+		if at, known := book.events.keys[asked.once]; known {
+			return book.repeat(asked, at, stats)
+		}
+	}
+	line, err := book.guard.Act(asked.line)
+	if errors.As(err, &fault) {
+		stats.Refused++
+		return Answer{Err: fault}, nil
+	}
+	if err != nil {
+		return Answer{}, err
+	}
+	book.events.add(book.count, asked.once)
+	book.count++
+	book.buffer = append(book.buffer, line...)
+	stats.Made++
+	return Answer{Line: line}, nil
+}
+
+// repeat answers the entry that the act with the same key made.
+func (book *Book) repeat(asked asked, at int, stats *Stats) (Answer, error) {
+	line, err := book.guard.Entry(at)
+	if err != nil {
+		return Answer{}, err
+	}
+	if !asked.made(line) {
+		stats.Refused++
+		return Answer{Err: OnceOther}, nil
+	}
+	stats.Repeated++
+	return Answer{Line: line, Repeated: true}, nil
+}
+
+// write brings the buffer to the disk, behind the keys of its acts. Where the disk takes less, the
+// audit is cut to what was answered before: nobody is answered what is taken out.
+func (book *Book) write() error {
+	err := book.events.write()
+	if err == nil {
+		_, err = book.audit.Write(book.buffer)
+	}
+	if err == nil {
+		err = onDisk(book.audit)
+	}
+	if err == nil {
+		return nil
+	}
+	if cut := book.audit.Truncate(book.length); cut != nil {
+		return fmt.Errorf("%w, and then %v", err, cut)
+	}
+	return err
+}
+
+// publish tells those who look on what a commit did.
+func (book *Book) publish(stats Stats, stop error) {
+	book.lock.Lock()
+	defer book.lock.Unlock()
+	if stop != nil {
+		book.halt(stop)
+		return
+	}
+	book.length += int64(len(book.buffer))
+	its := &book.stats
+	its.Entries = book.count
+	its.Made += stats.Made
+	its.Refused += stats.Refused
+	its.Repeated += stats.Repeated
+	its.Syncs += stats.Syncs
+	its.Synced += stats.Synced
+	if stats.Made > 0 && book.grown != nil {
+		close(book.grown)
+		book.grown = nil
+	}
+}
+
+// halt has every later act refused. The lock is held.
+func (book *Book) halt(why error) {
+	if book.stop == nil {
+		book.stop = why
+		close(book.stopped)
+	}
+}
+
+// Stopped is closed once the book makes no more acts; Stop says why.
+func (book *Book) Stopped() <-chan struct{} { return book.stopped }
+
+// Stop is why the book makes no more acts, or nil.
+func (book *Book) Stop() error {
+	book.lock.Lock()
+	defer book.lock.Unlock()
+	return book.stop
+}
+
+// Grown is closed once there are more entries than Stats said before it was called.
+func (book *Book) Grown() (Stats, <-chan struct{}) {
+	book.lock.Lock()
+	defer book.lock.Unlock()
+	if book.grown == nil {
+		book.grown = make(chan struct{})
+	}
+	return book.stats, book.grown
+}
+
+// Stats counts what was done so far.
+func (book *Book) Stats() Stats {
+	book.lock.Lock()
+	defer book.lock.Unlock()
+	return book.stats
+}
+
+// Entry answers the line of an entry that is on the disk.
+func (book *Book) Entry(at int) ([]byte, error) { return book.guard.Entry(at) }
+
+// Audit is the audit as far as it is on the disk, and how many bytes it has.
+func (book *Book) Audit() (io.ReadSeeker, int64) {
+	book.lock.Lock()
+	defer book.lock.Unlock()
+	return io.NewSectionReader(book.audit, 0, book.length), book.length
+}
+
+// Drawn is the audit and what `faultyard show --times` reads beside it: when each entry came.
+func (book *Book) Drawn() (audit, times io.Reader, err error) {
+	book.View(func() {
+		if err = book.flush(); err != nil {
+			return
+		}
+		var length int64
+		length, err = book.events.file.Seek(0, io.SeekCurrent)
+		audit = io.NewSectionReader(book.audit, 0, book.length)
+		times = io.NewSectionReader(book.events.file, 0, length)
+	})
+	return audit, times, err
+}
+
+// flush writes the times that aren't in their file yet. Whoever calls it leads.
+func (book *Book) flush() error {
+	err := book.events.flush()
+	if err != nil {
+		book.lock.Lock()
+		defer book.lock.Unlock()
+		book.halt(err)
+	}
+	return err
+}
+
+// keepTimes writes the times of new entries once a second, so that a crash takes few of them.
+func (book *Book) keepTimes() {
+	for {
+		_, grown := book.Grown()
+		select {
+		case <-book.stopped:
+			return
+		case <-grown:
+		}
+		select {
+		case <-book.stopped:
+			return
+		case <-time.After(time.Second):
+			book.View(func() { _ = book.flush() })
+		}
+	}
+}
+
+// Close ends the book once those who lead are done. Later asks are answered ErrEnded.
+func (book *Book) Close() error {
+	var err error
+	book.lock.Lock()
+	book.halt(ErrEnded)
+	book.lock.Unlock()
+	book.View(func() {
+		err = book.flush()
+		if closed := book.audit.Close(); err == nil {
+			err = closed
+		}
+		_ = book.events.file.Close()
+	})
+	return err
+}

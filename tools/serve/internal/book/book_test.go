@@ -1,0 +1,334 @@
+package book
+
+import (
+	"bytes"
+	"errors"
+	"fmt"
+	"io"
+	"os"
+	"path/filepath"
+	"strings"
+	"sync"
+	"testing"
+
+	"faultyard-serve/internal/scribe"
+)
+
+// guard is the guard of a book in a test.
+type guard struct{ scribe.Scribe }
+
+// Act says Syntax as a book wants it.
+func (its *guard) Act(line []byte) ([]byte, error) {
+	entry, fault := its.Scribe.Act(line)
+	if fault != "" {
+		return nil, Fault(fault)
+	}
+	return entry, nil
+}
+
+// kept is what a test knows of a book.
+type kept struct {
+	*testing.T
+	path string
+	said []string
+}
+
+func begin(test *testing.T) *kept {
+	return &kept{T: test, path: filepath.Join(test.TempDir(), "audit")}
+}
+
+// open opens the book anew, with a guard that starts from nothing.
+func (its *kept) open() (*Book, error) {
+	return Open(Files{
+		Audit: its.path,
+		Check: func(audit io.Reader) error {
+			text, _ := io.ReadAll(audit)
+			return Refusal{5, fmt.Sprintf("bad entry, in %d bytes", len(text))}
+		},
+		Say: func(what string) { its.said = append(its.said, what) },
+	}, &guard{Scribe: scribe.Scribe{Most: 1000}})
+}
+
+func (its *kept) must() *Book {
+	its.Helper()
+	book, err := its.open()
+	if err != nil {
+		its.Fatal(err)
+	}
+	return book
+}
+
+func (its *kept) write(name, text string) {
+	its.Helper()
+	if err := os.WriteFile(name, []byte(text), 0o600); err != nil {
+		its.Fatal(err)
+	}
+}
+
+func (its *kept) read(name string) string {
+	its.Helper()
+	text, err := os.ReadFile(name)
+	if err != nil {
+		its.Fatal(err)
+	}
+	return string(text)
+}
+
+// ask asks for one act.
+func ask(book *Book, line string) Answer {
+	turn := NewTurn()
+	turn.Asks = []Ask{{Line: []byte(line)}}
+	book.Submit(turn)
+	answer := turn.Answers[0]
+	answer.Line = append([]byte{}, answer.Line...)
+	return answer
+}
+
+// up is the line of an act, with a key if there is one.
+func up(process int, once string) string {
+	if once == "" {
+		return fmt.Sprintf(`{"by":0,"act":{"up":{"process":%d}}}`, process)
+	}
+	return fmt.Sprintf(`{"by":0,"act":{"up":{"process":%d}},"once":%q}`, process, once)
+}
+
+func entry(at, process int) string {
+	text := `{"act":{"up":{"process":%d}},"at":%d,"by":0,"reply":"done"}` + "\n"
+	return fmt.Sprintf(text, process, at)
+}
+
+func same(test *testing.T, what string, got, wanted any) {
+	test.Helper()
+	if fmt.Sprint(got) != fmt.Sprint(wanted) {
+		test.Errorf("%s: %v, and not %v", what, got, wanted)
+	}
+}
+
+func TestABookIsBegunAndGoneOnWith(test *testing.T) {
+	its := begin(test)
+	book := its.must()
+	same(test, "the first answer", string(ask(book, up(3, "")).Line), entry(0, 3))
+	if err := book.Close(); err != nil {
+		test.Fatal(err)
+	}
+	same(test, "an answer of a closed book", ask(book, up(3, "")).Err, ErrEnded)
+	book = its.must()
+	same(test, "the second answer", string(ask(book, up(4, "")).Line), entry(1, 4))
+	same(test, "the audit", its.read(its.path), Header+entry(0, 3)+entry(1, 4))
+	same(test, "what was said", its.said, []string{})
+	_ = book.Close()
+}
+
+func TestEveryFrontOfAnAuditIsGoneOnWith(test *testing.T) {
+	whole := Header + entry(0, 3) + entry(1, 4)
+	for length := 0; length <= len(whole); length++ {
+		its := begin(test)
+		its.write(its.path, whole[:length])
+		book := its.must()
+		wanted := whole[:strings.LastIndex(whole[:length], "\n")+1]
+		count := strings.Count(wanted, "\n") - 1
+		if wanted == "" {
+			wanted, count = Header, 0
+		}
+		same(test, "the entries", book.Stats().Entries, count)
+		same(test, "the audit", its.read(its.path), wanted)
+		isHalf := length > 0 && whole[length-1] != '\n'
+		same(test, fmt.Sprintf("%d: is said to be cut", length), len(its.said) == 1, isHalf)
+		same(test, "the next answer", string(ask(book, up(5, "")).Line), entry(count, 5))
+		_ = book.Close()
+	}
+}
+
+func TestWhatIsNoAuditOfThisGuardIsLeftAlone(test *testing.T) {
+	for _, text := range []string{
+		"x", "{\"audit\":1}\n", Header + "x", Header + "\n", Header + entry(1, 3),
+		Header + strings.Replace(entry(0, 3), "done", "gone", 1),
+		Header + entry(0, 3) + "{\"act\":{}}\n" + entry(1, 4) + "{",
+		Header + strings.Repeat("x", 70_000), Header + strings.Repeat("x", 70_000) + "\n",
+	} {
+		its := begin(test)
+		its.write(its.path, text)
+		_, err := its.open()
+		var refusal Refusal
+		if !errors.As(err, &refusal) {
+			test.Errorf("%.40q: %v", text, err)
+		}
+		same(test, "the file", its.read(its.path), text)
+		if _, err := os.Stat(its.path + ".events"); !os.IsNotExist(err) {
+			test.Errorf("%.40q: there are events", text)
+		}
+	}
+}
+
+func TestOneAtATimeHoldsTheFile(test *testing.T) {
+	its := begin(test)
+	book := its.must()
+	_, err := its.open()
+	same(test, "the second", err, its.path+" is held by another process")
+	_ = book.Close()
+	_ = its.must().Close()
+}
+
+func TestAKeyIsAnsweredOnce(test *testing.T) {
+	its := begin(test)
+	book := its.must()
+	first := ask(book, up(1, "a"))
+	same(test, "the first", string(first.Line), entry(0, 1))
+	again := ask(book, `{"once": "a", "act": {"up": {"process": 1}}, "by": 0}`)
+	same(test, "the same again", string(again.Line), entry(0, 1))
+	same(test, "it is repeated", []bool{first.Repeated, again.Repeated}, []bool{false, true})
+	same(test, "another act", ask(book, up(2, "a")).Err, OnceOther)
+	other := ask(book, `{"by":1,"act":{"up":{"process":1}},"once":"a"}`)
+	wanted := strings.Replace(entry(1, 1), `"by":0`, `"by":1`, 1)
+	same(test, "another actor", string(other.Line), wanted)
+	for _, key := range []string{`""`, `"a b"`, `7`, `null`, `"` + strings.Repeat("x", 65) + `"`} {
+		line := `{"by":0,"act":{"up":{"process":1}},"once":` + key + `}`
+		same(test, key, ask(book, line).Err, OnceName)
+	}
+	same(test, "the audit", strings.Count(its.read(its.path), "\n"), 3)
+	_ = book.Close()
+	book = its.must()
+	same(test, "after a start", string(ask(book, up(1, "a")).Line), entry(0, 1))
+	same(test, "and it is counted", book.Stats().Repeated, 1)
+	_ = book.Close()
+}
+
+func TestAKeyWithoutItsEntryIsTakenOut(test *testing.T) {
+	its := begin(test)
+	book := its.must()
+	ask(book, up(1, "a"))
+	ask(book, up(2, "b"))
+	_ = book.Close()
+	events := its.read(its.path + ".events")
+	its.write(its.path, Header+entry(0, 1)) // As a crash between the two syncs leaves it.
+	book = its.must()
+	same(test, "the kept key", string(ask(book, up(1, "a")).Line), entry(0, 1))
+	same(test, "another act", string(ask(book, up(7, "")).Line), entry(1, 7))
+	same(test, "the lost key", string(ask(book, up(2, "b")).Line), entry(2, 2))
+	_ = book.Close()
+	// Each front of the events gives the keys that are whole in it, and what is behind is cut.
+	for length := 0; length <= len(events); length++ {
+		its.write(its.path, Header+entry(0, 1)+entry(1, 2))
+		its.write(its.path+".events", events[:length])
+		book = its.must()
+		wanted := strings.Count(events[:length], "\n") - 1
+		if wanted < 0 {
+			wanted = 0
+		}
+		same(test, fmt.Sprintf("%d: keys", length), len(book.events.keys), wanted)
+		_ = book.Close()
+	}
+	its.write(its.path+".events", "something else\n")
+	_, err := its.open()
+	var refusal Refusal
+	same(test, "a file of something else is refused", errors.As(err, &refusal), true)
+	same(test, "and left alone", its.read(its.path+".events"), "something else\n")
+}
+
+func TestThoseWhoWaitShareASync(test *testing.T) {
+	its := begin(test)
+	book := its.must()
+	const clients, acts = 32, 30
+	var all sync.WaitGroup
+	for client := 0; client < clients; client++ {
+		all.Add(1)
+		go func(client int) {
+			defer all.Done()
+			turn, last := NewTurn(), -1
+			for number := 0; number < acts; number++ {
+				turn.Asks = []Ask{{Line: []byte(up(client, ""))}}
+				book.Submit(turn)
+				var at, process int
+				text := `{"act":{"up":{"process":%d}},"at":%d,`
+				_, err := fmt.Sscanf(string(turn.Answers[0].Line), text, &process, &at)
+				if err != nil || process != client || at <= last {
+					test.Errorf("client %d, behind %d: %q", client, last, turn.Answers[0].Line)
+					return
+				}
+				last = at
+			}
+		}(client)
+	}
+	all.Wait()
+	stats := book.Stats()
+	same(test, "the entries", stats.Entries, clients*acts)
+	if stats.Syncs > clients*acts/2 {
+		test.Errorf("%d syncs", stats.Syncs)
+	}
+	_ = book.Close()
+	book = its.must()
+	same(test, "the entries after a start", book.Stats().Entries, clients*acts)
+	_ = book.Close()
+}
+
+func TestATurnIsAnsweredInItsOrder(test *testing.T) {
+	its := begin(test)
+	book := its.must()
+	turn := NewTurn()
+	for _, line := range []string{up(1, ""), "x", up(2, "k"), up(2, "k"), up(3, "")} {
+		turn.Asks = append(turn.Asks, Ask{Line: []byte(line)})
+	}
+	book.Submit(turn)
+	var told bytes.Buffer
+	for _, answer := range turn.Answers {
+		fmt.Fprintf(&told, "%s%v;", answer.Line, answer.Err)
+	}
+	wanted := entry(0, 1) + "<nil>;Syntax;" + entry(1, 2) + "<nil>;" + entry(1, 2) + "<nil>;"
+	wanted += entry(2, 3) + "<nil>;"
+	same(test, "the answers", told.String(), wanted)
+	_ = book.Close()
+}
+
+func TestAFullJournalIsAFault(test *testing.T) {
+	its := begin(test)
+	book := its.must()
+	turn := NewTurn()
+	for number := 0; number < 1001; number++ {
+		turn.Asks = append(turn.Asks, Ask{Line: []byte(up(1, ""))})
+	}
+	book.Submit(turn)
+	same(test, "the last but one", turn.Answers[999].Err, nil)
+	same(test, "the last", turn.Answers[1000].Err, JournalFull)
+	same(test, "and the book goes on", book.Stop(), nil)
+	_ = book.Close()
+}
+
+func TestADiskThatTakesNoMoreEndsTheBook(test *testing.T) {
+	its := begin(test)
+	book := its.must()
+	ask(book, up(1, ""))
+	_ = book.audit.Close()
+	audit, err := os.Open(its.path) // It can't be written to.
+	if err != nil {
+		test.Fatal(err)
+	}
+	book.audit = audit
+	answer := ask(book, up(2, ""))
+	if answer.Err == nil || answer.Line != nil && len(answer.Line) > 0 {
+		test.Errorf("it was answered %q", answer.Line)
+	}
+	<-book.Stopped()
+	same(test, "a later act has the same error", ask(book, up(3, "")).Err, book.Stop())
+	same(test, "the audit", its.read(its.path), Header+entry(0, 1))
+}
+
+func TestTheLineOfAnEntryIsItsScript(test *testing.T) {
+	const give = `{"give":{"actor":3,"kinds":["Clog"],"scope":{"key":"zoneid","value":"z0"}}}`
+	for entry, wanted := range map[string]string{
+		entry(7, 3): `{"by":0,"act":{"up":{"process":3}}}`,
+		`{"act":` + give + `,"at":1,"by":12,"reply":"done"}`: `{"by":12,"act":` + give + `}`,
+		`{"act":{"up":{"process":3}},"at":0,"by":x}`:         "",
+		`{"act":{"up":{"process":3}`:                         "",
+		`x`:                                                  "",
+	} {
+		same(test, entry, string(scriptOf([]byte(entry))), wanted)
+	}
+}
+
+func TestAnActIsKnownAgainWhateverTheOrderOfItsKinds(test *testing.T) {
+	line := []byte(`{"act":{"protect":{"process":1,"kinds":["Clog","Reboot","Clog"]}},"by":2}`)
+	const made = `{"act":{"protect":{"kinds":["Reboot","Clog"],"process":1}},"at":0,"by":2}`
+	same(test, "the same", asked{line: line}.made([]byte(made)), true)
+	other := strings.Replace(made, `"Reboot",`, "", 1)
+	same(test, "another", asked{line: line}.made([]byte(other)), false)
+}

@@ -1,0 +1,255 @@
+package door
+
+import (
+	"bytes"
+	"embed"
+	"encoding/json"
+	"errors"
+	"fmt"
+	"io"
+	"mime"
+	"net/http"
+	"strconv"
+	"time"
+
+	"faultyard-serve/internal/book"
+	"faultyard-serve/internal/cluster"
+)
+
+//go:embed assets
+var assets embed.FS
+
+// asset answers a file of the page.
+func asset(name, kind string) func(*Web, http.ResponseWriter, *http.Request) {
+	return func(_ *Web, writer http.ResponseWriter, request *http.Request) {
+		text, err := assets.ReadFile("assets/" + name)
+		if err != nil {
+			fail(writer, http.StatusInternalServerError, err.Error())
+			return
+		}
+		writer.Header().Set("Content-Type", kind)
+		_, _ = writer.Write(text)
+	}
+}
+
+// act makes an act, and answers its entry.
+func (web *Web) act(writer http.ResponseWriter, request *http.Request) {
+	// Another server's page can't send this type without being asked first, which isn't answered.
+	kind, _, err := mime.ParseMediaType(request.Header.Get("Content-Type"))
+	if err != nil || kind != "application/json" {
+		fail(writer, http.StatusUnsupportedMediaType, "the body has to be application/json")
+		return
+	}
+	body, err := io.ReadAll(http.MaxBytesReader(writer, request.Body, mostLine))
+	var tooLarge *http.MaxBytesError
+	switch {
+	case errors.As(err, &tooLarge):
+		failOf(writer, book.TooLong)
+		return
+	case err != nil:
+		fail(writer, http.StatusBadRequest, "the body ended too soon")
+		return
+	}
+	line, status, why := web.lineOf(body, request)
+	if why != "" {
+		fail(writer, status, why)
+		return
+	}
+	turn := book.NewTurn()
+	turn.Asks = []book.Ask{{Line: line, Once: request.Header.Get("Idempotency-Key")}}
+	web.Book.Submit(turn)
+	answer := turn.Answers[0]
+	if answer.Err != nil {
+		failOf(writer, answer.Err)
+		return
+	}
+	writer.Header().Set("Content-Type", "application/json")
+	if answer.Repeated {
+		writer.Header().Set("Idempotency-Replayed", "true")
+	}
+	_, _ = writer.Write(answer.Line)
+}
+
+// lineOf is the line of the act that a body asks for, by the actor of the request's token. It says
+// why there is none.
+func (web *Web) lineOf(body []byte, request *http.Request) (line []byte, status int, why string) {
+	var compact bytes.Buffer
+	var members map[string]json.RawMessage
+	if json.Compact(&compact, body) != nil || json.Unmarshal(body, &members) != nil {
+		return nil, http.StatusBadRequest, faultLine(book.Syntax, 1)
+	}
+	actor, known := request.Context().Value(actorKey{}).(int)
+	if !known {
+		return compact.Bytes(), 0, ""
+	}
+	if actor == Reader {
+		return nil, http.StatusForbidden, "the token only reads"
+	}
+	number := strconv.Itoa(actor)
+	if by, has := members["by"]; has {
+		if string(by) != number {
+			return nil, http.StatusForbidden, "the token is of another actor"
+		}
+		return compact.Bytes(), 0, ""
+	}
+	members["by"] = json.RawMessage(number)
+	line, err := json.Marshal(members)
+	if err != nil {
+		return nil, http.StatusBadRequest, faultLine(book.Syntax, 1)
+	}
+	return line, 0, ""
+}
+
+// status answers who is up, down, destroyed and gone.
+func (web *Web) status(writer http.ResponseWriter, _ *http.Request) {
+	writeJSON(writer, http.StatusOK, web.state())
+}
+
+// state is what the page shows of the processes.
+type state struct {
+	Version   string            `json:"version"`
+	Entries   int               `json:"entries"`
+	Processes []cluster.Process `json:"processes"`
+}
+
+// state is the state that is on the disk.
+func (web *Web) state() state {
+	its := state{Version: web.Version, Processes: append([]cluster.Process{}, web.Processes...)}
+	web.Book.View(func() {
+		its.Entries = web.Book.Stats().Entries
+		for number := range its.Processes {
+			its.Processes[number].State = web.Guard.State(number)
+		}
+	})
+	return its
+}
+
+// audit answers the audit, or its entries from one on.
+func (web *Web) audit(writer http.ResponseWriter, request *http.Request) {
+	from := 0
+	if word := request.URL.Query().Get("from"); word != "" {
+		number, err := strconv.ParseUint(word, 10, 31)
+		if err != nil {
+			fail(writer, http.StatusBadRequest, "from is no number of an entry")
+			return
+		}
+		from = int(number)
+	}
+	writer.Header().Set("Content-Type", "application/x-ndjson")
+	if from > 0 {
+		web.entries(writer, request, from)
+		return
+	}
+	text, length := web.Book.Audit()
+	writer.Header().Set("Content-Length", strconv.FormatInt(length, 10))
+	part := make([]byte, 1<<16)
+	for {
+		read, err := text.Read(part)
+		patience(request, answerSeconds)
+		if _, failed := writer.Write(part[:read]); failed != nil || err != nil {
+			return
+		}
+	}
+}
+
+// entries answers the lines of the entries from one on.
+func (web *Web) entries(writer http.ResponseWriter, request *http.Request, from int) {
+	for at, count := from, web.Book.Stats().Entries; at < count; at++ {
+		line, err := web.Book.Entry(at)
+		if err != nil {
+			return
+		}
+		if at%256 == 0 {
+			patience(request, answerSeconds)
+		}
+		if _, err := writer.Write(line); err != nil {
+			return
+		}
+	}
+}
+
+// targets answers whom an order of a key and a value is about.
+func (web *Web) targets(writer http.ResponseWriter, request *http.Request) {
+	query := request.URL.Query()
+	key, value := query.Get("key"), query.Get("value")
+	found := []map[string]any{}
+	var err error
+	web.Book.View(func() {
+		var numbers []int
+		numbers, err = web.Guard.Targets(key, value)
+		for _, number := range numbers {
+			its := web.Processes[number]
+			found = append(found, map[string]any{"number": number, "processid": its.Name})
+		}
+	})
+	if err != nil {
+		fail(writer, http.StatusBadRequest, err.Error())
+		return
+	}
+	writeJSON(writer, http.StatusOK, map[string]any{"processes": found})
+}
+
+// healthz says whether acts are made.
+func (web *Web) healthz(writer http.ResponseWriter, _ *http.Request) {
+	if err := web.Book.Stop(); err != nil {
+		fail(writer, http.StatusServiceUnavailable, err.Error())
+		return
+	}
+	writeJSON(writer, http.StatusOK, map[string]string{"status": "ok"})
+}
+
+// events sends each entry as it comes, from the one behind Last-Event-ID, or from `from` on.
+func (web *Web) events(writer http.ResponseWriter, request *http.Request) {
+	flusher, can := writer.(*told).ResponseWriter.(http.Flusher)
+	if !can {
+		fail(writer, http.StatusInternalServerError, "no events can be sent")
+		return
+	}
+	at, err := firstEvent(request)
+	if err != nil {
+		fail(writer, http.StatusBadRequest, "the first entry is no number")
+		return
+	}
+	writer.Header().Set("Content-Type", "text/event-stream")
+	staysOpen(request)
+	for {
+		stats, grown := web.Book.Grown()
+		patience(request, answerSeconds)
+		for ; at < stats.Entries; at++ {
+			line, err := web.Book.Entry(at)
+			if err != nil {
+				return
+			}
+			if _, err := fmt.Fprintf(writer, "id: %d\ndata: %s\n", at, line); err != nil {
+				return
+			}
+		}
+		flusher.Flush()
+		select {
+		case <-grown:
+		case <-request.Context().Done():
+			return
+		case <-web.Book.Stopped():
+			return
+		case <-time.After(idleSeconds / 4):
+			// So that a client that is gone is seen.
+			if _, err := io.WriteString(writer, ": still here\n\n"); err != nil {
+				return
+			}
+		}
+	}
+}
+
+// firstEvent is the entry that a client wants first.
+func firstEvent(request *http.Request) (int, error) {
+	if last := request.Header.Get("Last-Event-ID"); last != "" {
+		at, err := strconv.ParseUint(last, 10, 31)
+		return int(at) + 1, err
+	}
+	word := request.URL.Query().Get("from")
+	if word == "" {
+		return 0, nil
+	}
+	at, err := strconv.ParseUint(word, 10, 31)
+	return int(at), err
+}

@@ -1,0 +1,131 @@
+package door
+
+import (
+	"bytes"
+	"context"
+	"errors"
+	"fmt"
+	"io"
+	"net/http"
+	"os"
+	"os/exec"
+	"strings"
+	"sync"
+	"syscall"
+	"time"
+)
+
+// programSeconds is how long the program may take for one answer.
+const programSeconds = 60 * time.Second
+
+// Program is the command faultyard, which is called for what the library doesn't offer.
+type Program struct {
+	// Path is where it is.
+	Path string
+	// Config is the text of the cluster file, as it was when the server began.
+	Config []byte
+}
+
+// run calls a command of the program. The cluster file and what else it reads come through pipes,
+// so that it sees what is on the disk and no half line.
+func (program *Program) run(stdin io.Reader, words []string, files ...io.Reader) ([]byte, error) {
+	context, cancel := context.WithTimeout(context.Background(), programSeconds)
+	defer cancel()
+	command := exec.CommandContext(context, program.Path, words...)
+	command.SysProcAttr = &syscall.SysProcAttr{Pdeathsig: syscall.SIGKILL}
+	command.Stdin = stdin
+	var out, said bytes.Buffer
+	command.Stdout, command.Stderr = &out, &said
+	var fed sync.WaitGroup
+	defer fed.Wait()
+	for _, text := range append([]io.Reader{bytes.NewReader(program.Config)}, files...) {
+		reader, writer, err := os.Pipe()
+		if err != nil {
+			return nil, err
+		}
+		defer reader.Close()
+		command.ExtraFiles = append(command.ExtraFiles, reader)
+		fed.Add(1)
+		go func(text io.Reader) {
+			defer fed.Done()
+			defer writer.Close()
+			_, _ = io.Copy(writer, text) // The program may end before it has read all.
+		}(text)
+	}
+	if err := command.Run(); err != nil {
+		if why := strings.TrimSpace(said.String()); why != "" {
+			return nil, errors.New(why)
+		}
+		return nil, fmt.Errorf("%s: %w", program.Path, err)
+	}
+	return out.Bytes(), nil
+}
+
+// The first of the ExtraFiles of a command, and the next one.
+const (
+	configFile = "/dev/fd/3"
+	timesFile  = "/dev/fd/4"
+)
+
+// cache keeps the last answer of the program, until there are more entries.
+type cache struct {
+	lock    sync.Mutex
+	entries int
+	text    []byte
+}
+
+// get answers the kept text, or has it made anew. One at a time has it made.
+func (its *cache) get(entries int, make func() ([]byte, error)) ([]byte, error) {
+	its.lock.Lock()
+	defer its.lock.Unlock()
+	if its.text != nil && entries <= its.entries {
+		return its.text, nil
+	}
+	text, err := make()
+	if err == nil {
+		its.entries, its.text = entries, text
+	}
+	return text, err
+}
+
+// bears answers what may still be lost, as `faultyard bears --json --after` says it.
+func (web *Web) bears(writer http.ResponseWriter, request *http.Request) {
+	call := func(audit, _ io.Reader) ([]byte, error) {
+		words := []string{"bears", configFile, "--json", "--after", "/dev/stdin"}
+		return web.Program.run(audit, words)
+	}
+	web.drawn(writer, request, &web.losses, "application/json", call)
+}
+
+// picture answers the picture of `faultyard show --times`.
+func (web *Web) picture(writer http.ResponseWriter, request *http.Request) {
+	call := func(audit, times io.Reader) ([]byte, error) {
+		return web.Program.run(audit, []string{"show", configFile, "--times", timesFile}, times)
+	}
+	web.drawn(writer, request, &web.pictures, "image/svg+xml", call)
+}
+
+// drawn answers a text that the program makes of the audit and its times.
+func (web *Web) drawn(
+	writer http.ResponseWriter, request *http.Request, kept *cache, kind string,
+	call func(audit, times io.Reader) ([]byte, error),
+) {
+	if web.Program == nil {
+		fail(writer, http.StatusNotImplemented, "the server found no program faultyard")
+		return
+	}
+	text, err := kept.get(web.Book.Stats().Entries, func() ([]byte, error) {
+		audit, times, err := web.Book.Drawn()
+		if err != nil {
+			return nil, err
+		}
+		return call(audit, times)
+	})
+	patience(request, answerSeconds)
+	if err != nil {
+		fail(writer, http.StatusServiceUnavailable, err.Error())
+		return
+	}
+	writer.Header().Set("Content-Type", kind)
+	_, _ = writer.Write(text)
+}

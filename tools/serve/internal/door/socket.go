@@ -1,0 +1,167 @@
+// Package door answers those who ask a book: by lines over a Unix socket, and by HTTP.
+package door
+
+import (
+	"bufio"
+	"bytes"
+	"errors"
+	"fmt"
+	"io"
+	"net"
+	"os"
+	"sync/atomic"
+	"syscall"
+
+	"faultyard-serve/internal/book"
+)
+
+const (
+	// mostLine is how many bytes a line has at most, without its line feed.
+	mostLine = 65_536
+	// mostAtOnce is how many lines of one client one turn takes.
+	mostAtOnce = 1024
+)
+
+// Lines answers the lines of `faultyard guard` to each who connects to a socket.
+type Lines struct {
+	Book *book.Book
+	// Most is how many may be connected at once.
+	Most  int32
+	count atomic.Int32
+}
+
+// Count is how many are connected.
+func (lines *Lines) Count() int { return int(lines.count.Load()) }
+
+// ListenSocket makes a Unix socket that its owner alone may connect to. One that is left from a
+// server that was killed is removed first.
+func ListenSocket(path string) (net.Listener, error) {
+	if info, err := os.Lstat(path); err == nil {
+		if info.Mode()&os.ModeSocket == 0 {
+			return nil, fmt.Errorf("%s is there, and is no socket", path)
+		}
+		other, err := net.Dial("unix", path)
+		if err == nil {
+			_ = other.Close()
+			return nil, fmt.Errorf("%s: another server listens there", path)
+		}
+		if !errors.Is(err, syscall.ECONNREFUSED) {
+			return nil, err
+		}
+		if err := os.Remove(path); err != nil {
+			return nil, err
+		}
+	}
+	mask := syscall.Umask(0o177)
+	defer syscall.Umask(mask)
+	return net.Listen("unix", path)
+}
+
+// Serve answers all who connect, until the listener is closed.
+func (lines *Lines) Serve(listener net.Listener) error {
+	for {
+		connection, err := listener.Accept()
+		if errors.Is(err, net.ErrClosed) {
+			return nil
+		}
+		if err != nil {
+			return err
+		}
+		if lines.count.Add(1) > lines.Most {
+			lines.count.Add(-1)
+			_ = connection.Close()
+			continue
+		}
+		go func() {
+			defer lines.count.Add(-1)
+			defer connection.Close()
+			_ = lines.talk(connection) // Whoever is gone needs no answer.
+		}()
+	}
+}
+
+// talk answers one client until nothing more comes.
+func (lines *Lines) talk(connection net.Conn) error {
+	if _, err := io.WriteString(connection, book.Header); err != nil {
+		return err
+	}
+	reader := bufio.NewReaderSize(connection, mostLine+2)
+	turn := book.NewTurn()
+	told := []byte{}
+	for number := 1; ; number += len(turn.Asks) {
+		ends, err := readTurn(reader, turn)
+		if err != nil {
+			return err
+		}
+		lines.Book.Submit(turn)
+		told, err = appendAnswers(told[:0], turn.Answers, number)
+		if _, failed := connection.Write(told); failed != nil {
+			return failed
+		}
+		if err != nil || ends {
+			return err
+		}
+	}
+}
+
+// readTurn waits for a line, and takes in those that are there with it. It says whether the input
+// ends behind them.
+func readTurn(reader *bufio.Reader, turn *book.Turn) (ends bool, err error) {
+	turn.Asks = turn.Asks[:0]
+	for len(turn.Asks) < mostAtOnce {
+		line, err := reader.ReadSlice('\n')
+		switch {
+		case err == bufio.ErrBufferFull:
+			// The guard finds a line of this length too long.
+			turn.Asks = append(turn.Asks, book.Ask{Line: append([]byte{}, line...)})
+			return false, skipLine(reader)
+		case err == io.EOF && len(line) > 0:
+			turn.Asks = append(turn.Asks, book.Ask{Line: line})
+			return true, nil
+		case err != nil:
+			return false, err
+		}
+		turn.Asks = append(turn.Asks, book.Ask{Line: line})
+		// What is buffered stays in its place as long as no more is read.
+		rest, _ := reader.Peek(reader.Buffered())
+		if bytes.IndexByte(rest, '\n') < 0 {
+			return false, nil
+		}
+	}
+	return false, nil
+}
+
+// skipLine passes over the rest of a line.
+func skipLine(reader *bufio.Reader) error {
+	for {
+		_, err := reader.ReadSlice('\n')
+		if err != bufio.ErrBufferFull {
+			return err
+		}
+	}
+}
+
+// appendAnswers puts the lines of the answers behind a text; number is that of the first line. An
+// error that is no fault of a line ends the talk.
+func appendAnswers(text []byte, answers []book.Answer, number int) ([]byte, error) {
+	for at, answer := range answers {
+		var fault book.Fault
+		switch {
+		case answer.Err == nil:
+			text = append(text, answer.Line...)
+		case errors.As(answer.Err, &fault):
+			text = append(text, fmt.Sprintf("{\"refused\":%q}\n", faultLine(fault, number+at))...)
+		default:
+			return text, answer.Err
+		}
+	}
+	return text, nil
+}
+
+// faultLine is what `faultyard guard` says of a faulty line.
+func faultLine(fault book.Fault, number int) string {
+	if fault == book.JournalFull {
+		return "script: JournalFull"
+	}
+	return fmt.Sprintf("script: line %d: %s", number, string(fault))
+}

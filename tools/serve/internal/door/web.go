@@ -1,0 +1,277 @@
+package door
+
+import (
+	"context"
+	"crypto/tls"
+	"encoding/json"
+	"errors"
+	"log"
+	"net"
+	"net/http"
+	"strings"
+	"sync/atomic"
+	"time"
+
+	"faultyard-serve/internal/book"
+	"faultyard-serve/internal/cluster"
+)
+
+// The limits of what a client of the network may take.
+const (
+	mostHeader    = 16 << 10
+	headerSeconds = 5 * time.Second
+	bodySeconds   = 10 * time.Second
+	answerSeconds = 30 * time.Second
+	idleSeconds   = 60 * time.Second
+)
+
+// Web answers requests of HTTP.
+type Web struct {
+	Book *book.Book
+	// Processes are those of the cluster file, as they were when nothing had happened.
+	Processes []cluster.Process
+	Guard     cluster.Guard
+	// Tokens says who may do what. Without it only this machine is answered.
+	Tokens *Tokens
+	// Program draws pictures and says what may be lost.
+	Program *Program
+	Version string
+	// Lines is the other door, whose clients are counted too.
+	Lines *Lines
+	// Most is how many may be connected at once.
+	Most     int32
+	count    atomic.Int32
+	requests requests
+	pictures cache
+	losses   cache
+}
+
+// route is a path that is answered.
+type route struct {
+	method string
+	path   string
+	answer func(*Web, http.ResponseWriter, *http.Request)
+	// open is: no token is asked for.
+	open bool
+}
+
+// routes are all paths. The file openapi.json describes those that aren't the page's.
+var routes = []route{
+	{"POST", "/v1/acts", (*Web).act, false},
+	{"GET", "/v1/status", (*Web).status, false},
+	{"GET", "/v1/audit", (*Web).audit, false},
+	{"GET", "/v1/events", (*Web).events, false},
+	{"GET", "/v1/targets", (*Web).targets, false},
+	{"GET", "/v1/bears", (*Web).bears, false},
+	{"GET", "/picture.svg", (*Web).picture, false},
+	{"GET", "/metrics", (*Web).metrics, false},
+	{"GET", "/healthz", (*Web).healthz, true},
+	{"GET", "/openapi.json", asset("openapi.json", "application/json"), true},
+	{"GET", "/", asset("page.html", "text/html; charset=utf-8"), true},
+	{"GET", "/page.css", asset("page.css", "text/css; charset=utf-8"), true},
+	{"GET", "/page.js", asset("page.js", "text/javascript; charset=utf-8"), true},
+}
+
+// connectionKey finds the connection of a request in its context.
+type connectionKey struct{}
+
+// Server is the server of these answers, with its limits.
+func (web *Web) Server(certificate *tls.Config) *http.Server {
+	return &http.Server{
+		Handler:           web,
+		TLSConfig:         certificate,
+		MaxHeaderBytes:    mostHeader,
+		ReadHeaderTimeout: headerSeconds,
+		ReadTimeout:       bodySeconds,
+		IdleTimeout:       idleSeconds,
+		// One connection for each client, so that its limits hold.
+		TLSNextProto: map[string]func(*http.Server, *tls.Conn, http.Handler){},
+		ErrorLog:     log.New(nowhere{}, "", 0),
+		ConnContext: func(context_ context.Context, connection net.Conn) context.Context {
+			return context.WithValue(context_, connectionKey{}, connection)
+		},
+	}
+}
+
+// nowhere takes what a client did wrong: it is the client's matter.
+type nowhere struct{}
+
+func (nowhere) Write(text []byte) (int, error) { return len(text), nil }
+
+// Limited is a listener that turns away whoever comes when too many are connected.
+func (web *Web) Limited(listener net.Listener) net.Listener { return &limited{listener, web} }
+
+type limited struct {
+	net.Listener
+	web *Web
+}
+
+// Accept waits for one who may come in.
+func (its *limited) Accept() (net.Conn, error) {
+	for {
+		connection, err := its.Listener.Accept()
+		if err != nil {
+			return nil, err
+		}
+		if its.web.count.Add(1) <= its.web.Most {
+			return &counted{Conn: connection, count: &its.web.count}, nil
+		}
+		its.web.count.Add(-1)
+		_ = connection.Close()
+	}
+}
+
+// counted is a connection that is counted until it is closed.
+type counted struct {
+	net.Conn
+	count  *atomic.Int32
+	closed atomic.Bool
+}
+
+// Close closes the connection.
+func (its *counted) Close() error {
+	if its.closed.CompareAndSwap(false, true) {
+		its.count.Add(-1)
+	}
+	return its.Conn.Close()
+}
+
+// ServeHTTP answers a request.
+func (web *Web) ServeHTTP(writer http.ResponseWriter, request *http.Request) {
+	its := &told{ResponseWriter: writer, status: http.StatusOK}
+	defer func() { web.requests.add(its.status) }()
+	patience(request, answerSeconds)
+	header := its.Header()
+	header.Set("Cache-Control", "no-store")
+	header.Set("X-Content-Type-Options", "nosniff")
+	header.Set("Referrer-Policy", "no-referrer")
+	header.Set("Content-Security-Policy",
+		"default-src 'self'; style-src 'self' 'unsafe-inline'; img-src data:; "+
+			"frame-ancestors 'none'; base-uri 'none'; form-action 'self'")
+	web.dispatch(its, request)
+}
+
+// told remembers the status of an answer.
+type told struct {
+	http.ResponseWriter
+	status int
+}
+
+// WriteHeader sends the status.
+func (its *told) WriteHeader(status int) {
+	its.status = status
+	its.ResponseWriter.WriteHeader(status)
+}
+
+// dispatch finds the route of a request, and who asks.
+func (web *Web) dispatch(writer http.ResponseWriter, request *http.Request) {
+	var allowed []string
+	for _, route := range routes {
+		if route.path != request.URL.Path {
+			continue
+		}
+		method := request.Method
+		if method == http.MethodHead {
+			method = http.MethodGet
+		}
+		if route.method != method {
+			allowed = append(allowed, route.method)
+			continue
+		}
+		if !route.open && !web.mayEnter(writer, request) {
+			return
+		}
+		route.answer(web, writer, request)
+		return
+	}
+	if len(allowed) > 0 {
+		writer.Header().Set("Allow", strings.Join(allowed, ", "))
+		fail(writer, http.StatusMethodNotAllowed, "this path has another method")
+		return
+	}
+	fail(writer, http.StatusNotFound, "there is no such path")
+}
+
+// actorKey finds the actor of a request in its context.
+type actorKey struct{}
+
+// mayEnter asks for a token. Without a file of tokens only this machine gets here. A page of
+// another server, whose name was changed to this machine's address, is turned away.
+func (web *Web) mayEnter(writer http.ResponseWriter, request *http.Request) bool {
+	if web.Tokens == nil {
+		if isLoopback(request.Host) {
+			return true
+		}
+		fail(writer, http.StatusForbidden, "the host of the request isn't this machine")
+		return false
+	}
+	actor, known := web.Tokens.actorOf(request)
+	if !known {
+		writer.Header().Set("WWW-Authenticate", `Bearer realm="faultyard"`)
+		fail(writer, http.StatusUnauthorized, "the request has no token that is known")
+		return false
+	}
+	*request = *request.WithContext(context.WithValue(request.Context(), actorKey{}, actor))
+	return true
+}
+
+// isLoopback says whether a host, with its port or without, is this machine.
+func isLoopback(host string) bool {
+	name := host
+	if split, _, err := net.SplitHostPort(host); err == nil {
+		name = split
+	}
+	name = strings.TrimSuffix(strings.TrimPrefix(name, "["), "]")
+	address := net.ParseIP(name)
+	return name == "localhost" || address != nil && address.IsLoopback()
+}
+
+// patience is how long the client may take from now on to take its answer.
+func patience(request *http.Request, seconds time.Duration) {
+	if connection, is := request.Context().Value(connectionKey{}).(net.Conn); is {
+		_ = connection.SetWriteDeadline(time.Now().Add(seconds))
+	}
+}
+
+// staysOpen lets a client say nothing for as long as it is answered.
+func staysOpen(request *http.Request) {
+	if connection, is := request.Context().Value(connectionKey{}).(net.Conn); is {
+		_ = connection.SetReadDeadline(time.Time{})
+	}
+}
+
+// fail answers an error.
+func fail(writer http.ResponseWriter, status int, why string) {
+	writeJSON(writer, status, map[string]string{"error": why})
+}
+
+// failOf answers what went wrong with an act or a view.
+func failOf(writer http.ResponseWriter, err error) {
+	var fault book.Fault
+	if !errors.As(err, &fault) {
+		fail(writer, http.StatusServiceUnavailable, err.Error())
+		return
+	}
+	status := http.StatusBadRequest
+	switch fault {
+	case book.TooLong:
+		status = http.StatusRequestEntityTooLarge
+	case book.JournalFull:
+		status = http.StatusInsufficientStorage
+	case book.OnceOther:
+		status = http.StatusUnprocessableEntity
+	}
+	fail(writer, status, faultLine(fault, 1))
+}
+
+// writeJSON answers a value.
+func writeJSON(writer http.ResponseWriter, status int, value any) {
+	text, err := json.Marshal(value)
+	if err != nil {
+		http.Error(writer, err.Error(), http.StatusInternalServerError)
+		return
+	}
+	writer.Header().Set("Content-Type", "application/json")
+	writer.WriteHeader(status)
+	_, _ = writer.Write(append(text, '\n')) // Whoever is gone needs no answer.
+}

@@ -1,0 +1,158 @@
+package main
+
+import (
+	"bufio"
+	"errors"
+	"fmt"
+	"io"
+	"strings"
+
+	"faultyard"
+	"faultyard-serve/internal/book"
+	"faultyard-serve/internal/cluster"
+)
+
+// The statuses by which the server ends, which are those of the program.
+const (
+	ended      = 0
+	refused    = 1
+	usage      = 2
+	ioFailed   = 3
+	noMemory   = 4
+	badEntry   = 5
+	mostOfLine = 65_536 + 2
+)
+
+// failure is why the server ends, and its status.
+type failure struct {
+	status int
+	why    string
+}
+
+func (failure failure) Error() string { return failure.why }
+
+// library is a guard of the C library, as a book asks it.
+type library struct{ *faultyard.Guard }
+
+var faults = map[error]book.Fault{
+	faultyard.ErrLineTooLong: book.TooLong,
+	faultyard.ErrLineSyntax:  book.Syntax,
+	faultyard.ErrFloor:       book.Floor,
+	faultyard.ErrJournalFull: book.JournalFull,
+}
+
+// Act makes an act. A line that the library refuses is a book.Fault.
+func (its library) Act(line []byte) ([]byte, error) {
+	answer, err := its.Guard.Act(line)
+	if err == nil {
+		return answer, nil
+	}
+	if fault, is := faults[err]; is {
+		return nil, fault
+	}
+	return nil, ofLibrary(err)
+}
+
+// ofLibrary is an error of the library as the server ends by it.
+func ofLibrary(err error) error {
+	var fault faultyard.ConfigFault
+	switch {
+	case errors.As(err, &fault):
+		return failure{refused, strings.TrimPrefix(fault.Error(), "faultyard: ")}
+	case errors.Is(err, faultyard.ErrNoMemory), errors.Is(err, faultyard.ErrUnwritten):
+		return failure{noMemory, "no memory"}
+	}
+	return err
+}
+
+var keys = map[string]faultyard.Key{
+	"processid": faultyard.Process,
+	"machineid": faultyard.Machine,
+	"zoneid":    faultyard.Zone,
+	"data_hall": faultyard.DataHall,
+	"dcid":      faultyard.DataCenter,
+}
+
+// places is a guard as a cluster asks it. Its calls fail only once the guard is closed, which it
+// never is.
+type places struct{ *faultyard.Guard }
+
+// ProcessCount is how many processes there are.
+func (its places) ProcessCount() int {
+	count, _ := its.Guard.ProcessCount()
+	return count
+}
+
+// Targets answers whom an order is about.
+func (its places) Targets(key, value string) ([]int, error) {
+	known, is := keys[key]
+	if !is {
+		return nil, fmt.Errorf("there is no key %q", key)
+	}
+	set, err := its.Guard.Targets(known, value)
+	if err != nil {
+		return nil, errors.New(strings.TrimPrefix(err.Error(), "faultyard: "))
+	}
+	numbers := make([]int, len(set))
+	for at, number := range set {
+		numbers[at] = int(number)
+	}
+	return numbers, nil
+}
+
+// State is the state of a process.
+func (its places) State(process int) cluster.State {
+	state, _, _ := its.Guard.State(uint32(process))
+	return cluster.State(state)
+}
+
+// check refuses an audit as `faultyard check` does.
+func check(config []byte, audit io.Reader) error {
+	check, err := faultyard.BeginCheck(config)
+	if err != nil {
+		return ofLibrary(err)
+	}
+	defer check.Close()
+	reader := bufio.NewReaderSize(audit, mostOfLine)
+	for number := 1; ; number++ {
+		line, err := reader.ReadSlice('\n')
+		if err == io.EOF && len(line) == 0 && number > 1 {
+			return found(check)
+		}
+		if err != nil && err != io.EOF && err != bufio.ErrBufferFull {
+			return err
+		}
+		if _, err := check.Line(line); err != nil {
+			return ofLine(err, number)
+		}
+	}
+}
+
+var auditFaults = map[error]string{
+	faultyard.ErrNoHeader:    "Header",
+	faultyard.ErrLineTooLong: "TooLong",
+	faultyard.ErrLineSyntax:  "Syntax",
+}
+
+// ofLine is why a line of an audit is refused.
+func ofLine(err error, number int) error {
+	if word, is := auditFaults[err]; is {
+		return book.Refusal{Status: refused, Why: fmt.Sprintf("audit: line %d: %s", number, word)}
+	}
+	if err == faultyard.ErrAuditTooLong {
+		return book.Refusal{Status: refused, Why: "audit: TooLong"}
+	}
+	return ofLibrary(err)
+}
+
+// found is the first bad entry of an audit that was read to its end, or nil.
+func found(check *faultyard.Check) error {
+	finding, err := check.Finding()
+	if err != nil {
+		return ofLibrary(err)
+	}
+	if finding.FirstBad == faultyard.NoBadEntry {
+		return nil
+	}
+	return book.Refusal{Status: badEntry, Why: fmt.Sprintf("bad entry %d", finding.FirstBad)}
+}

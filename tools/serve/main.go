@@ -1,0 +1,235 @@
+// Command faultyard-serve is one guard that many ask. It keeps its audit on the disk before it
+// answers, and goes on with it when it is started again.
+package main
+
+import (
+	"context"
+	"crypto/tls"
+	"errors"
+	"fmt"
+	"io"
+	"net"
+	"net/http"
+	"os"
+	"os/exec"
+	"os/signal"
+	"path/filepath"
+	"syscall"
+	"time"
+
+	"faultyard"
+	"faultyard-serve/internal/book"
+	"faultyard-serve/internal/cluster"
+	"faultyard-serve/internal/door"
+)
+
+const (
+	// mostConnected is how many may be connected at once, at each door.
+	mostConnected = 256
+	// lastSeconds is how long requests may take that are there when the server ends.
+	lastSeconds = 2 * time.Second
+)
+
+func main() {
+	words, err := parsed(os.Args[1:], os.Stdout)
+	if err == nil && words != nil {
+		err = serve(words)
+	}
+	os.Exit(report(err))
+}
+
+// report says on standard error why the server ends, and answers its status.
+func report(err error) int {
+	if err == nil {
+		return ended
+	}
+	say(err.Error())
+	var known failure
+	var refusal book.Refusal
+	switch {
+	case errors.As(err, &known):
+		return known.status
+	case errors.As(err, &refusal):
+		return refusal.Status
+	}
+	return ioFailed
+}
+
+// say tells something on standard error.
+func say(what string) { fmt.Fprintln(os.Stderr, "faultyard-serve: "+what) }
+
+// server is what runs until a signal comes, or the disk fails.
+type server struct {
+	words  *words
+	config []byte
+	guard  *faultyard.Guard
+	book   *book.Book
+	lines  *door.Lines
+	web    *door.Web
+	http   *http.Server
+	// socket and network are nil where nobody is let in there.
+	socket, network net.Listener
+}
+
+// serve answers until a signal ends the server, or the disk fails.
+func serve(words *words) error {
+	signals := make(chan os.Signal, 1)
+	signal.Notify(signals, syscall.SIGTERM, syscall.SIGINT, syscall.SIGHUP)
+	signal.Ignore(syscall.SIGXFSZ) // A limit of a file is an error of the write.
+	its := &server{words: words}
+	defer its.end()
+	if err := its.open(); err != nil {
+		return err
+	}
+	if err := its.listen(); err != nil {
+		return err
+	}
+	failed := make(chan error, 2)
+	go func() { failed <- its.lines.Serve(its.socket) }()
+	if its.network != nil {
+		go func() { failed <- its.http.Serve(its.network) }()
+	}
+	say(its.ready())
+	notify("READY=1")
+	select {
+	case <-signals:
+		return its.book.Close()
+	case <-its.book.Stopped():
+		return its.book.Stop()
+	case err := <-failed:
+		return err
+	}
+}
+
+// open opens the guard, and goes on with its audit.
+func (its *server) open() (err error) {
+	if its.config, err = os.ReadFile(its.words.config); err != nil {
+		return err
+	}
+	if its.guard, err = faultyard.Open(its.config); err != nil {
+		return ofLibrary(err)
+	}
+	var tokens *door.Tokens
+	if its.words.tokens != "" {
+		if tokens, err = door.ReadTokens(its.words.tokens); err != nil {
+			return failure{refused, err.Error()}
+		}
+	}
+	processes := cluster.Processes(its.config, places{its.guard})
+	if err := its.goOn(); err != nil {
+		return err
+	}
+	its.lines = &door.Lines{Book: its.book, Most: mostConnected}
+	its.web = &door.Web{
+		Book: its.book, Processes: processes, Guard: places{its.guard}, Tokens: tokens,
+		Program: program(its.config), Version: libraryVersion(), Lines: its.lines,
+		Most: mostConnected,
+	}
+	return nil
+}
+
+// goOn goes on with the audit, or begins it.
+func (its *server) goOn() (err error) {
+	path := its.words.audit
+	its.book, err = book.Open(book.Files{
+		Audit: path,
+		Check: func(audit io.Reader) error { return check(its.config, audit) },
+		Say:   say,
+	}, library{its.guard})
+	var refusal book.Refusal
+	if errors.As(err, &refusal) {
+		refusal.Why = path + ": " + refusal.Why
+		return refusal
+	}
+	return err
+}
+
+// listen opens the doors.
+func (its *server) listen() (err error) {
+	var certificate *tls.Config
+	if its.words.certificate != "" {
+		pair, err := tls.LoadX509KeyPair(its.words.certificate, its.words.privateKey)
+		if err != nil {
+			return failure{refused, err.Error()}
+		}
+		certificate = &tls.Config{
+			Certificates: []tls.Certificate{pair}, MinVersion: tls.VersionTLS12,
+		}
+	}
+	if its.socket, err = door.ListenSocket(its.words.socket); err != nil {
+		return err
+	}
+	if its.words.listen == "" {
+		return nil
+	}
+	if its.network, err = net.Listen("tcp", its.words.listen); err != nil {
+		return err
+	}
+	its.network = its.web.Limited(its.network)
+	its.http = its.web.Server(certificate)
+	if certificate != nil {
+		its.network = tls.NewListener(its.network, certificate)
+	}
+	return nil
+}
+
+// ready is what is said once everybody may ask.
+func (its *server) ready() string {
+	text := fmt.Sprintf("%d entries; socket %s", its.book.Stats().Entries, its.words.socket)
+	if its.network == nil {
+		return text
+	}
+	scheme := "http"
+	if its.words.certificate != "" {
+		scheme = "https"
+	}
+	return fmt.Sprintf("%s; %s://%s/", text, scheme, its.network.Addr())
+}
+
+// end lets nobody in any more. Who was answered has an entry on the disk.
+func (its *server) end() {
+	notify("STOPPING=1")
+	if its.socket != nil {
+		_ = its.socket.Close()
+	}
+	if its.book != nil {
+		_ = its.book.Close()
+	}
+	if its.http != nil {
+		last, cancel := context.WithTimeout(context.Background(), lastSeconds)
+		defer cancel()
+		_ = its.http.Shutdown(last)
+	}
+}
+
+// program finds the program faultyard: FAULTYARD names it, or it lies beside the server or on the
+// search path. Without it no picture is drawn.
+func program(config []byte) *door.Program {
+	path := os.Getenv("FAULTYARD")
+	if own, err := os.Executable(); path == "" && err == nil {
+		beside := filepath.Join(filepath.Dir(own), "faultyard")
+		if _, err := os.Stat(beside); err == nil {
+			path = beside
+		}
+	}
+	if path == "" {
+		path = "faultyard"
+	}
+	found, err := exec.LookPath(path)
+	if err != nil {
+		return nil
+	}
+	return &door.Program{Path: found, Config: config}
+}
+
+// notify tells systemd, where it started the server, how far it is.
+func notify(what string) {
+	path := os.Getenv("NOTIFY_SOCKET")
+	if path == "" {
+		return
+	}
+	if connection, err := net.Dial("unixgram", path); err == nil {
+		_, _ = connection.Write([]byte(what))
+		_ = connection.Close()
+	}
+}
