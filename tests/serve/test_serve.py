@@ -99,7 +99,8 @@ class Answers(Case):
         ):
             self.assertEqual(json.loads(talk.ask(text)), {"refused": why})
         self.assertEqual(json.loads(talk.ask(up(0, once="a")))["reply"], {"no": ["IsUp"]})
-        self.assertEqual(json.loads(talk.ask(up(1, once="a"))), {"refused": "script: line 7: OnceOther"})
+        wanted = {"refused": "script: line 7: OnceOther"}
+        self.assertEqual(json.loads(talk.ask(up(1, once="a"))), wanted)
         self.assertEqual(json.loads(talk.ask(up(0)))["at"], 1)
         self.assertEqual(json.loads(talk.ask(up(0))), {"refused": "script: JournalFull"})
         self.assertEqual(json.loads(talk.ask(up(0, once="a")))["at"], 0)
@@ -218,7 +219,8 @@ class Client(threading.Thread):
     def act(self):
         """One act, however often it has to be asked for."""
         process, key = self.random.randrange(6), str(uuid.UUID(int=self.random.getrandbits(128)))
-        act = self.random.choice((kill(process), kill(process, "RebootAndDelete", by=2), up(process)))
+        acts = kill(process), kill(process, "RebootAndDelete", by=2), up(process)
+        act = self.random.choice(acts)
         while True:
             try:
                 answer = self.ask(act, key)
