@@ -5,7 +5,7 @@ from __future__ import annotations
 import random
 import socket
 from abc import ABC, abstractmethod
-from typing import Any, BinaryIO, Generic, Optional, Sequence, TypeVar
+from typing import Any, BinaryIO, Callable, Generic, Optional, Sequence, TypeVar
 
 
 class Client(ABC):
@@ -67,20 +67,24 @@ class Client(ABC):
         return line.rstrip(b"\r\n")
 
 
-Any_client = TypeVar("Any_client", bound=Client)
+AnyClient = TypeVar("AnyClient", bound=Client)
 
 
-class OneOf(Generic[Any_client]):
+class OneOf(Generic[AnyClient]):
     """Asks one of several, and after a fault another. Each writer has a process of its own so."""
 
-    def __init__(self, clients: Sequence[Any_client]) -> None:
+    def __init__(self, clients: Sequence[AnyClient]) -> None:
         self._clients = clients
-        self._chosen = random.randrange(len(clients)) if clients else 0
+        self._chosen = random.randrange(len(clients) or 1)
 
     def ask(self, *words: Any) -> Any:
         """What the one answers."""
+        return self.of(lambda client: client.ask(*words))
+
+    def of(self, ask: Callable[[AnyClient], Any]) -> Any:
+        """What comes of a function of the one."""
         try:
-            return self._clients[self._chosen].ask(*words)
+            return ask(self._clients[self._chosen])
         except OSError:
             self._chosen = random.randrange(len(self._clients))
             raise
