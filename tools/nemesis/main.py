@@ -18,6 +18,7 @@ from keeper import adopt_orphans, end_children
 
 from . import GUARD, NONE_LOST, TOOL, USAGE, Fault, say, summary
 from . import __doc__ as about
+from .picture import draw
 from .run import Run
 from .summary import closing, tested_little
 from .verdicts import Verdict
@@ -127,7 +128,7 @@ def report(run: Run) -> int:
         checked = f"legal {faultyard.check(words.config, audit)}"
         first, events = beyond["entry"] if beyond else None, words.out / "events.jsonl"
         picture = faultyard.show(words.config, audit, beyond=first, times=events)
-        (words.out / "picture.svg").write_text(picture, "utf-8")
+        (words.out / "audit.svg").write_text(picture, "utf-8")
     except faultyard.AuditRefused as fault:
         checked = fault.fault
     if lost:
@@ -140,7 +141,9 @@ def report(run: Run) -> int:
     lines += [lost_line(it) for it in lost[:SHOWN]]
     if len(lost) > SHOWN:
         lines.append(f"lost: {len(lost) - SHOWN} more, in lost.jsonl")
-    lines.append(f"{closing(len(run.judged), counts)}; audit {checked}; {words.out}")
+    ending = closing(len(run.judged), counts)
+    (words.out / "picture.svg").write_text(draw(words.out, run.file, [lines[0], ending]), "utf-8")
+    lines.append(f"{ending}; audit {checked}; {words.out}")
     say("\n".join(lines))
     if checked != f"legal {run.guard.journal_len()}":
         return GUARD

@@ -82,6 +82,7 @@ class Run(Store):
         async with self.turn:
             await cancelled(behind)
         self.ledger.stop()
+        self.note("written")
         await self.clogs_ended(at_once=True)
 
     async def _check(self, order: Order) -> None:
