@@ -12,6 +12,8 @@
 #   make wrong-bodies     tries every wrong body again, which the prover has to refuse, and records those crates whose are all refused
 #   make try-stores       runs faultyard-nemesis on redis, etcd and PostgreSQL, a minute guarded and a minute unguarded with two
 #                         seeds each, and prints a table: guarded none may be lost; it takes a quarter of an hour
+#   make lossy            builds the disk that forgets what isn't synced, bin/faultyard-lossy; it needs libfuse3-dev
+#   make try-disks        tests that disk by thousands of seeds, beside ext4 and xfs, and by longer loads; it needs to be root
 #   make nemesis-aborts   aborts a hundred runs of faultyard-nemesis at random moments: no process may be left
 #   make look             draws a picture and takes a screenshot of it in light and in dark; it needs chromium
 #   make lib              proves and builds the C library, and leaves it at bin/libfaultyard.a and bin/libfaultyard.so
@@ -31,7 +33,7 @@ BUILT := crates/faultyard/out/faultyard
 UNPROVED := bin/unproved/faultyard
 KIT = $(dir $(shell rt doc))
 
-.PHONY: build run lib merged test quick format swarm-seeds refused-memory wrong-bodies try-stores nemesis-aborts look install installed uninstall static dist packaged try-dist bench clean
+.PHONY: build run lib merged test quick format swarm-seeds refused-memory wrong-bodies try-stores lossy try-disks nemesis-aborts look install installed uninstall static dist packaged try-dist bench clean
 
 # `rt run` proves what changed, builds the program beside its crate and runs it once.
 build:
@@ -88,6 +90,15 @@ wrong-bodies:
 
 try-stores: build
 	tests/stores/run --table bin/faultyard
+
+lossy: bin/faultyard-lossy
+
+bin/faultyard-lossy: $(wildcard tools/lossy/*.[ch])
+	mkdir -p bin
+	$(CC) -std=gnu11 -D_GNU_SOURCE -O2 -Wall -Wextra -Werror $(shell pkg-config --cflags fuse3) -o $@ tools/lossy/*.c $(shell pkg-config --libs fuse3)
+
+try-disks:
+	tests/disk/run --long
 
 nemesis-aborts:
 	tests/nemesis/run --aborts 100 bin/faultyard Trees.test_aborted_runs_leave_nothing

@@ -1,0 +1,278 @@
+// The program: it mounts a disk, or gives an order to one that is mounted.
+#include <errno.h>
+#include <fcntl.h>
+#include <getopt.h>
+#include <inttypes.h>
+#include <limits.h>
+#include <mntent.h>
+#include <stdio.h>
+#include <stdlib.h>
+#include <string.h>
+#include <sys/file.h>
+#include <sys/mount.h>
+#include <sys/resource.h>
+#include <sys/wait.h>
+#include <unistd.h>
+
+#include "mount.h"
+
+enum { DONE = 0, FAILED = 1, USAGE = 2 };
+
+static const char USAGE_TEXT[] =
+    "usage: faultyard-lossy mount [--deaf] [--foreground] [--writeback SECONDS] DISK MOUNT\n"
+    "       faultyard-lossy sync MOUNT\n"
+    "       faultyard-lossy cut MOUNT [TEAR]\n"
+    "       faultyard-lossy unmount MOUNT\n";
+
+static const double WRITEBACK = 30;  // as Linux has it
+
+static int refuse(void)
+{
+    fputs(USAGE_TEXT, stderr);
+    return USAGE;
+}
+
+static int fail(const char *what, int why)
+{
+    fprintf(stderr, "faultyard-lossy: %s: %s\n", what, strerror(why));
+    return FAILED;
+}
+
+// ---- mount ----
+
+struct words {
+    bool is_deaf, is_foreground;
+    double writeback;
+    const char *disk, *mount;
+};
+
+static bool read_seconds(const char *text, double *seconds)
+{
+    char *end = NULL;
+    *seconds = strtod(text, &end);
+    return end != text && !*end && *seconds >= 0 && *seconds < 1e9;
+}
+
+static bool read_words(int count, char **texts, struct words *words)
+{
+    static const struct option known[] = {{"deaf", no_argument, NULL, 'd'},
+        {"foreground", no_argument, NULL, 'f'}, {"writeback", required_argument, NULL, 'w'},
+        {NULL, 0, NULL, 0}};
+    int found;
+    *words = (struct words){.writeback = WRITEBACK};
+    while ((found = getopt_long(count, texts, "f", known, NULL)) != -1) {
+        if (found == 'd')
+            words->is_deaf = true;
+        else if (found == 'f')
+            words->is_foreground = true;
+        else if (found != 'w' || !read_seconds(optarg, &words->writeback))
+            return false;
+    }
+    if (count - optind != 2)
+        return false;
+    words->disk = texts[optind];
+    words->mount = texts[optind + 1];
+    return true;
+}
+
+// Each file of a disk is open for as long as it is mounted.
+static void allow_many_files(void)
+{
+    struct rlimit files;
+    if (getrlimit(RLIMIT_NOFILE, &files))
+        return;
+    files.rlim_cur = files.rlim_max;
+    (void)setrlimit(RLIMIT_NOFILE, &files);
+}
+
+static int mount_disk(int count, char **texts)
+{
+    struct disk disk = {.ring = NULL};
+    struct words words;
+    char *folder;
+    int status, why;
+    if (!read_words(count, texts, &words))
+        return refuse();
+    allow_many_files();
+    why = disk_open(&disk, words.disk);
+    if (why == EBUSY)
+        fprintf(stderr, "faultyard-lossy: %s is mounted already\n", words.disk);
+    if (why)
+        return why == EBUSY ? FAILED : fail(words.disk, why);
+    folder = realpath(words.disk, NULL);
+    if (!folder)
+        return fail(words.disk, errno);
+    disk.is_deaf = words.is_deaf;
+    disk.writeback = words.writeback;
+    status = disk_serve(&disk, folder, words.mount, words.is_foreground);
+    free(folder);
+    return disk_close(&disk) && !status ? FAILED : status;
+}
+
+// ---- orders to a mounted disk ----
+
+struct mounted {
+    char *mount, *disk;
+};
+
+static void free_mounted(struct mounted *it)
+{
+    free(it->mount);
+    free(it->disk);
+}
+
+// The whole path of a folder which may be the mount of a disk that has died, and answers nothing.
+static char *whole_path(const char *path)
+{
+    char *copy = strdup(path), *slash, *parent, *whole = NULL;
+    size_t length = copy ? strlen(copy) : 0;
+    while (length > 1 && copy[length - 1] == '/')
+        copy[--length] = '\0';
+    slash = copy ? strrchr(copy, '/') : NULL;
+    if (slash && slash != copy)
+        *slash = '\0';
+    parent = copy ? realpath(slash ? copy : ".", NULL) : NULL;
+    if (parent && asprintf(&whole, "%s/%s", parent, slash ? slash + 1 : copy) < 0)
+        whole = NULL;
+    free(parent);
+    free(copy);
+    return whole;
+}
+
+static bool find_mounted(const char *path, struct mounted *found)
+{
+    FILE *mounts = setmntent("/proc/self/mounts", "r");
+    const struct mntent *entry;
+    *found = (struct mounted){whole_path(path), NULL};
+    while (mounts && found->mount && (entry = getmntent(mounts))) {
+        if (strcmp(entry->mnt_dir, found->mount) != 0)
+            continue;
+        free(found->disk);  // the last one is on top
+        found->disk =
+            strcmp(entry->mnt_type, "fuse." LOSSY_TYPE) == 0 ? strdup(entry->mnt_fsname) : NULL;
+    }
+    if (mounts)
+        endmntent(mounts);
+    if (found->disk)
+        return true;
+    fprintf(stderr, "faultyard-lossy: %s is no mounted disk of faultyard-lossy\n", path);
+    free_mounted(found);
+    return false;
+}
+
+static int give(const char *mount, unsigned long command, struct order *order)
+{
+    int why, folder = open(mount, O_RDONLY | O_DIRECTORY | O_CLOEXEC);
+    if (folder < 0)
+        return errno;
+    why = ioctl(folder, command, order) ? errno : 0;
+    close(folder);
+    return why;
+}
+
+static int by_fusermount(const char *mount, bool is_lazy)
+{
+    int status = 0;
+    pid_t child = fork();
+    if (child < 0)
+        return errno;
+    if (child == 0) {
+        execlp("fusermount3", "fusermount3", is_lazy ? "-uz" : "-u", "--", mount, (char *)NULL);
+        _exit(127);
+    }
+    while (waitpid(child, &status, 0) < 0 && errno == EINTR)
+        continue;
+    return status ? EBUSY : 0;
+}
+
+static int take_off(const char *mount, bool is_lazy)
+{
+    if (!umount2(mount, (is_lazy ? MNT_DETACH : 0) | UMOUNT_NOFOLLOW))
+        return 0;
+    return errno == EPERM ? by_fusermount(mount, is_lazy) : errno;
+}
+
+// A disk is locked for as long as it is served.
+static void wait_for_its_end(const char *disk)
+{
+    int folder = open(disk, O_RDONLY | O_DIRECTORY | O_CLOEXEC);
+    if (folder < 0)
+        return;
+    while (flock(folder, LOCK_SH) && errno == EINTR)
+        continue;
+    close(folder);
+}
+
+static int sync_disk(const struct mounted *it)
+{
+    struct order order = {0, {0, 0}};
+    int why = give(it->mount, LOSSY_SYNC, &order);
+    return why ? fail(it->mount, why) : DONE;
+}
+
+static int cut_disk(const struct mounted *it, uint64_t tear)
+{
+    struct order order = {tear, {0, 0}};
+    int why = give(it->mount, LOSSY_CUT, &order);
+    if (why)
+        return fail(it->mount, why);
+    why = take_off(it->mount, true);
+    if (why)
+        return fail(it->mount, why);
+    wait_for_its_end(it->disk);
+    printf("%" PRIu64 " of %" PRIu64 " unsynced items survive\n", order.count.survived,
+        order.count.unsynced);
+    return DONE;
+}
+
+// A disk that has died is taken off too: what it hadn't synced is lost.
+static int unmount_disk(const struct mounted *it)
+{
+    struct order order = {0, {0, 0}};
+    int why = give(it->mount, LOSSY_SYNC, &order);
+    if (why && why != ENOTCONN)
+        return fail(it->mount, why);
+    why = take_off(it->mount, false);
+    if (why)
+        return fail(it->mount, why);
+    wait_for_its_end(it->disk);
+    return DONE;
+}
+
+static bool read_tear(const char *text, uint64_t *tear)
+{
+    char *end = NULL;
+    errno = 0;
+    *tear = strtoull(text, &end, 10);
+    return *text >= '0' && *text <= '9' && !*end && !errno;
+}
+
+static int order_disk(int count, char **texts)
+{
+    bool is_cut = strcmp(texts[0], "cut") == 0;
+    struct mounted it;
+    uint64_t tear = 0;
+    int status;
+    if (count < 2 || count > (is_cut ? 3 : 2) || (count == 3 && !read_tear(texts[2], &tear)))
+        return refuse();
+    if (!find_mounted(texts[1], &it))
+        return FAILED;
+    if (is_cut)
+        status = cut_disk(&it, tear);
+    else
+        status = strcmp(texts[0], "sync") == 0 ? sync_disk(&it) : unmount_disk(&it);
+    free_mounted(&it);
+    return status;
+}
+
+int main(int count, char **texts)
+{
+    const char *deed = count > 1 ? texts[1] : "";
+    if (count == 2 && (strcmp(deed, "--help") == 0 || strcmp(deed, "-h") == 0))
+        return fputs(USAGE_TEXT, stdout) < 0 || fflush(stdout) ? FAILED : DONE;
+    if (strcmp(deed, "mount") == 0)
+        return mount_disk(count - 1, texts + 1);
+    if (strcmp(deed, "sync") == 0 || strcmp(deed, "cut") == 0 || strcmp(deed, "unmount") == 0)
+        return order_disk(count - 1, texts + 1);
+    return refuse();
+}
