@@ -21,7 +21,7 @@ SHARED = f"libfaultyard.so.{version()}"
 
 # What a user of the archive looks for; release/layout isn't asked.
 COMMANDS = ("judge", "run", "check", "swarm", "guard", "show", "bears")
-TOOLS = ("nemesis", "sweep", "shrink")
+TOOLS = ("nemesis", "config-check", "sweep", "shrink")
 WANTED = [
     "bin/faultyard",
     *(f"bin/faultyard-{it}" for it in TOOLS),
