@@ -129,17 +129,20 @@ def start(*words: object) -> None:
     os.execvp(str(words[0]), [str(word) for word in words])
 
 
-def run(*words: object, seconds: float = 60.0) -> str:
-    """What a command prints; `Refused` where it fails or takes too long."""
+def run(*words: object, text: str = "", seconds: float = 60.0) -> str:
+    """What a command prints that reads a text; `Refused` where it fails or takes too long."""
     import subprocess  # few hooks need it, and it is slow to import
 
-    command = [str(word) for word in words]
-    try:
-        return subprocess.run(
-            command, stdout=subprocess.PIPE, text=True, check=True, timeout=seconds
-        ).stdout
-    except subprocess.SubprocessError as fault:
-        raise Refused(f"{command[0]}: {fault}") from None
+    command, pipe = [str(word) for word in words], subprocess.PIPE
+    with subprocess.Popen(command, stdin=pipe, stdout=pipe, text=True) as process:
+        try:
+            told, _ = process.communicate(text, seconds)
+        except subprocess.TimeoutExpired:
+            process.kill()
+            raise Refused(f"{command[0]} took over {seconds:g} seconds") from None
+    if process.returncode:
+        raise Refused(f"{command[0]} ended with status {process.returncode}")
+    return told
 
 
 @contextmanager
