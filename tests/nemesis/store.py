@@ -2,8 +2,20 @@
 
     store.py HOOK [N] ..
 
-STORE_FAULT in the environment plants a fault: `unsynced` acknowledges a record up to half a second
-before it is written; `forgetful` says that an emptied server is whole at once, and copies nothing to it.
+A server that is asked for a record by `check` asks the others where it lacks it, as one of them has it.
+
+STORE_FAULT in the environment plants a fault:
+
+    unsynced    a record is acknowledged up to half a second before it is written
+    forgetful   an emptied server is said to be whole at once, and nothing is copied to it
+    late        a server tells of a record half a second after it has it
+    hole        server 1 tells that each seventh record isn't there
+    corrupt     each ninth value is told backwards
+    invented    `read` tells of a record that nobody wrote
+    partial     `read` leaves out each fifth record
+    denied      `check` tells of no record that it asks server 2 for
+    quorum      `read` wants an answer of two servers
+    crash       server 0 ends by itself, a second after each start
 """
 import os
 import random
@@ -31,16 +43,44 @@ class Server(socketserver.ThreadingTCPServer):
 
     def __init__(self, number: int) -> None:
         path = Path(os.environ["FY_DIR"], str(number), "log")
-        self.lock = threading.Lock()
+        self.lock, self.number = threading.Lock(), number
         self.records = read_log(path)
+        self.came: dict[str, float] = {}  # when each record came
         self.log = path.open("a", 1 << 20)
         super().__init__(address(number), Handler)
         if FAULT == "unsynced":
             threading.Thread(target=self.sync_late, daemon=True).start()
+        if FAULT == "crash" and number == 0:
+            threading.Timer(1, self.crash).start()
+
+    def crash(self) -> None:
+        print("assertion failed: the sky is up", file=sys.stderr, flush=True)
+        os._exit(3)
+
+    def own(self, key: str) -> str | None:
+        """What it tells of a record that it has itself."""
+        value = self.records.get(key)
+        if FAULT == "late" and time.monotonic() - self.came.get(key, 0) < 0.5:
+            return None
+        return value[::-1] if value and FAULT == "corrupt" and not int(key[2:]) % 9 else value
+
+    def get(self, key: str) -> str:
+        """What it tells of a record, which one of any two servers has."""
+        if FAULT == "hole" and self.number == 1 and not int(key[2:]) % 7:
+            return "none"
+        told = [self.own(key)]
+        for number in {0, 1, 2} - {self.number}:
+            if told[-1] is None:
+                try:
+                    told.append(Link(number).word(f"own {key}"))
+                except OSError:
+                    pass
+        return next(filter(None, told), "none" if len(told) > 1 else "?")
 
     def put(self, records: Records) -> None:
         with self.lock:
             self.records |= records
+            self.came |= dict.fromkeys(records, time.monotonic())
             self.log.writelines(f"{key} {value}\n" for key, value in records.items())
             if FAULT != "unsynced":
                 self.sync()
@@ -65,6 +105,9 @@ class Handler(socketserver.StreamRequestHandler):
             if words[0] == "put":
                 self.server.put(dict(zip(words[1::2], words[2::2])))
                 self.wfile.write(b"ok\n")
+            elif words[0] in ("own", "get"):
+                told = self.server.get(words[1]) if words[0] == "get" else self.server.own(words[1]) or "none"
+                self.wfile.write(f"{told}\n.\n".encode())
             else:
                 with self.server.lock:
                     told = "".join(f"{key} {value}\n" for key, value in self.server.records.items())
@@ -102,6 +145,11 @@ class Link:
             self.link = None
             raise
 
+    def word(self, line: str) -> str | None:
+        """The one word of an answer, if it isn't that there is none."""
+        told = self.ask(line)[0]
+        return None if told == "none" else told
+
     def records(self) -> Records:
         return dict(pair for line in self.ask("all")[:-1] if len(pair := line.split()) == 2)  # type: ignore[misc]
 
@@ -138,6 +186,32 @@ def whole(number: int) -> None:
         link.ask(" ".join(["put", *(f"{key} {value}" for key, value in lacks.items())]))
 
 
+def check() -> None:
+    """Tells what a server tells of a record."""
+    links = [Link(number) for number in range(COUNT)]
+    for line in sys.stdin:
+        number, key = line.split()
+        try:
+            told = links[int(number)].ask(f"get {key}")[0]
+        except OSError:
+            told = "?"
+        print("none" if FAULT == "denied" and number == "2" else told, flush=True)
+
+
+def read() -> None:
+    """Prints all records, of all servers that aren't destroyed."""
+    if FAULT == "quorum" and len(able()) < 2:
+        sys.exit(1)
+    found = everything()
+    for key, value in found.items():
+        is_record, number = key.startswith("r/"), int(key[2:]) if key.startswith("r/") else 1
+        if FAULT == "partial" and is_record and not number % 5:
+            continue
+        print(key, value[::-1] if FAULT == "corrupt" and not number % 9 else value)
+    if FAULT == "invented":
+        print("r/999999999", "abc")
+
+
 def main() -> None:
     match sys.argv[1:]:
         case ["hooks"]:
@@ -150,8 +224,13 @@ def main() -> None:
             whole(int(number))
         case ["write"]:
             write()
+        case ["check"]:
+            check()
+        case ["salvage", _]:
+            found = read_log(Path(os.environ["FY_COPY"], "log"))
+            sys.stdout.writelines(f"{key} {value}\n" for key, value in found.items())
         case ["read"]:
-            sys.stdout.writelines(f"{key} {value}\n" for key, value in everything().items())
+            read()
         case _:
             sys.exit(64)
 

@@ -1,7 +1,9 @@
 """Verdicts of small histories that are written out by hand. Expected are the definitions of docs/GUARD.md."""
 import unittest
 
+from faultyard.ledger import Heal, Loss, Record
 from nemesis import summary
+from nemesis.evidence import Case, Course
 from nemesis.history import Operation
 from nemesis.verdicts import Left, Verdict, judged, wrong
 
@@ -91,3 +93,114 @@ class Summaries(unittest.TestCase):
             summary.tested_little(100, [0.5], 1, 0),
             ["tested little: nothing that was destroyed was healed"],
         )
+
+
+class Cases(unittest.TestCase):
+    """Five processes, and a record that was acknowledged at second 5, before entry 6."""
+
+    def case(self, left, losses=(), heals=(), orders=(), able=range(5), reads=(), is_fresh=False):
+        course = Course(
+            [f"k{number}" for number in range(5)],
+            orders,
+            [Loss(process, t, entry, 0) for process, t, entry in losses],
+            [Heal(process, t, entry) for process, t, entry in heals],
+            left,
+            is_fresh,
+        )
+        acked = write(began=4_900_000_000, ended=5_000_000_000)
+        (judged_record,) = judged([KEY], {KEY: acked}, reads, left)
+        return Case(judged_record, Record(VALUE, 5.0, 6, tuple(able)), course)
+
+    def disks(self, *having, unknown=()):
+        return {n: None if n in unknown else {KEY: VALUE} if n in having else {} for n in range(5)}
+
+    def test_one_who_was_never_destroyed_holds_it(self):
+        left = Left({}, disks=self.disks(2, 4))
+        case = self.case(left, losses=[(2, 6.0, 18), (3, 7.0, 20)])
+        self.assertEqual(case.fault(), "k4 holds it and was never destroyed: the store lost it")
+        line = case.line()
+        self.assertEqual((line["sent"], line["acked"], line["entry"]), (4.9, 5.0, 6))
+        self.assertEqual(line["never_destroyed"], ["k0", "k1", "k4"])
+        self.assertEqual(line["destroyed"], {"k2": [18], "k3": [20]})
+        self.assertEqual(line["holds"], {"k2": ["salvage"], "k4": ["salvage"]})
+        self.assertEqual(sorted(line["lacks"]), ["k0", "k1", "k3"])
+
+    def test_none_of_those_who_were_never_destroyed_has_it(self):
+        case = self.case(Left({}, disks=self.disks()), losses=[(2, 6.0, 18), (3, 7.0, 20)])
+        fault = "k0 k1 k4 could hold it and were never destroyed since, and none has it: the store lost it"
+        self.assertEqual(case.fault(), fault)
+
+    def test_what_was_destroyed_before_is_not_blamed(self):
+        case = self.case(Left({}, disks=self.disks()), losses=[(2, 3.0, 4)], able=(0, 1, 3, 4))
+        self.assertEqual((case.destroyed, case.never), ({}, {0, 1, 3, 4}))
+        self.assertNotIn("4", case.fault().replace("k4", ""))
+
+    def test_unknown_disks_are_said_to_be_unknown(self):
+        case = self.case(Left({}), losses=[(2, 6.0, 18), (3, 7.0, 20)])
+        fault = (
+            "k0 k1 k4 could hold it and were never destroyed since, "
+            "and whether the disk of k0 k1 k4 has it is unknown: the store lost it"
+        )
+        self.assertEqual(case.fault(), fault)
+        case = self.case(Left(None, disks=self.disks(unknown=[3])))
+        self.assertEqual(case.verdict, Verdict.UNREADABLE)
+        self.assertEqual(case.fault(), "unknown: no read was answered, and whether the disk of k3 has it is unknown")
+
+    def test_all_were_destroyed_as_the_guard_allowed(self):
+        losses = [(0, 6.0, 7), (1, 6.0, 7), (2, 6.0, 7), (3, 7.0, 20), (4, 7.0, 20)]
+        case = self.case(Left({}, disks=self.disks()), losses)
+        fault = "every holder was destroyed by entries 7 and 20, which the guard allowed: tell us"
+        self.assertEqual(case.fault(), fault)
+
+    def test_beyond_the_guard(self):
+        order = {"entry": 7, "does": "RebootAndDelete", "beyond": True, "t": 6.0, "targets": [2, 3]}
+        mild = {"entry": 3, "does": "Reboot", "beyond": True, "t": 2.0, "targets": [2]}
+        losses = [(2, 6.0, 7), (3, 6.0, 7)]
+        case = self.case(Left({}, disks=self.disks()), losses, orders=[mild, order])
+        self.assertEqual(case.fault(), "beyond the guard since entry 7, which destroyed k2 k3 who could hold it")
+        case = self.case(Left({}, disks=self.disks(4)), losses, orders=[order])
+        self.assertTrue(case.fault().endswith("; k4 has it"))
+        case = self.case(Left({}, disks=self.disks()), orders=[order | {"entry": 2, "t": 1.0}])
+        self.assertEqual(case.fault(), "beyond the guard since entry 2")
+        self.assertEqual(case.line()["struck"], [])
+
+    def test_one_was_healed_and_lacks_it(self):
+        losses, heals = [(0, 6.0, 7), (1, 8.0, 11)], [(0, 7.0, 9)]
+        case = self.case(Left({}, disks=self.disks()), losses, heals, able=(0, 1))
+        self.assertEqual(case.never, set())
+        fault = "of those who could hold it k0 was healed by entry 9: `whole` was wrong, or the store lost it"
+        self.assertEqual(case.fault(), fault)
+
+    def test_a_heal_does_not_matter_where_all_were_down_at_once(self):
+        losses, heals = [(0, 6.0, 7), (1, 6.5, 8)], [(0, 7.0, 9)]
+        case = self.case(Left({}, disks=self.disks()), losses, heals)
+        self.assertTrue(case.fault().endswith("and none has it: the store lost it"), case.fault())
+        later = self.case(Left({}, disks=self.disks()), [(0, 6.0, 7), (1, 8.0, 11)], heals)
+        self.assertTrue(later.fault().endswith("`whole` was wrong, or the store lost it"), later.fault())
+
+    def test_a_process_lacks_it_and_read_has_it(self):
+        left = Left({KEY: VALUE}, {0: {KEY: VALUE}, 2: {KEY: None}})
+        self.assertEqual(
+            self.case(left).fault(),
+            "k2 lacks it by `check`, and k0 and `read` has it: the store lost it there, or `check` is wrong",
+        )
+        case = self.case(left, losses=[(2, 6.0, 7)], heals=[(2, 7.0, 9)])
+        self.assertTrue(case.fault().endswith("k2 was healed by entry 9: `whole` was wrong, or the store lost it"))
+
+    def test_stale(self):
+        late = Operation(1, "read", KEY, None, 5_300_000_000, 5_400_000_000, "ok", node=1)
+        left = Left({KEY: VALUE})
+        self.assertEqual(self.case(left, reads=[late]).fault(), "k1 lacked it after 0.300 s")
+        fault = "k1 lacked it after 0.300 s, though the hooks promise fresh"
+        self.assertEqual(self.case(left, reads=[late], is_fresh=True).fault(), fault)
+
+    def test_orders_since_it_was_sent_are_told(self):
+        orders = [
+            {"entry": 4, "does": "Reboot", "beyond": False, "t": 4.0, "targets": [0]},
+            {"entry": 5, "does": "Reboot", "beyond": False, "t": 4.95, "targets": [0, 1]},
+            {"entry": 8, "does": None, "beyond": False, "t": 6.0, "targets": [0]},
+            {"entry": 9, "does": "Clog", "beyond": False, "t": 7.0, "targets": [3, 4]},
+        ]
+        case = self.case(Left({}, disks=self.disks()), orders=orders, able=(0, 2, 3))
+        struck = [(it["entry"], it["processes"]) for it in case.line()["struck"]]
+        self.assertEqual(struck, [(5, ["k0"]), (9, ["k3"])])

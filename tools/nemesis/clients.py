@@ -1,72 +1,151 @@
 """The clients of a store: co-processes of the user's, which write and read, and what they are told."""
 import asyncio
-import itertools
 import time
 from asyncio.subprocess import PIPE, Process
+from collections.abc import Awaitable, Callable
 from random import Random
 
-from faultyard.ledger import Ledger
+from faultyard.harness import Harness
 
 from . import HOOK, Fault
-from .history import PREFIX, Client, History
+from .history import PREFIX, Client, History, Operation
 from .hooks import Hooks
 
 MUTE = 20  # so often in a row may a client end or hang without any answer
-ENDLESS = b"a line that does not end\n"
+ENDLESS = ["a", "line", "that", "does", "not", "end"]
+AGAIN = 0.1  # seconds until another client runs where one ended
 REFUSED = 0.05  # seconds until a writer goes on that was told no
+READ_PAUSE = 0.01  # seconds between two reads of a reader
+LAGS = 0.5  # seconds until a process is asked again at the end for what it lacks
+NEWEST = 10  # of the acknowledged records, one of which is read as often as one of all
+OVER = ("hung", "ended")  # the errors after which a co-process isn't asked any more
+Once = Callable[[Process], Awaitable[str | None]]  # asks a co-process once; the error, if any
 
 
 class Clients:
-    def __init__(self, hooks: Hooks, ledger: Ledger, history: History) -> None:
-        self.hooks, self.ledger, self.history = hooks, ledger, history
+    def __init__(self, hooks: Hooks, harness: Harness, history: History) -> None:
+        self.hooks, self.ledger, self.history = hooks, harness.ledger, history
+        self._harness = harness
+        self._acked: list[str] = []
 
-    async def write(self, dice: Random) -> None:
-        """Runs a writer, and another where it ends or hangs."""
-        mute, client = 0, self.history.client()
+    async def _talk(self, name: str, once: Once, is_over: Callable[[], bool] = bool) -> None:
+        """Runs a co-process that is asked again and again, and another where it ends or hangs."""
+        mute = 0
         while mute < MUTE:
-            async with self.hooks.running("write", stdin=PIPE, stdout=PIPE) as writer:
-                answers, end = await self._feed(writer, client, dice)
-            mute = 0 if answers else mute + 1
-            await asyncio.sleep(0.1)
-        raise Fault(HOOK, f"write {end}, {MUTE} times in a row")
+            async with self.hooks.running(name, stdin=PIPE, stdout=PIPE) as process:
+                mute += 1
+                while not is_over() and (error := await once(process)) not in OVER:
+                    mute = 0
+                if is_over():
+                    return
+                end = error if error == "hung" else f"ended with status {await process.wait()}"
+            await asyncio.sleep(AGAIN)
+        raise Fault(HOOK, f"{name} {end}, {MUTE} times in a row")
 
-    async def _feed(self, writer: Process, client: Client, dice: Random) -> tuple[int, str]:
-        """Writes records until the writer ends or hangs: how many it answered, and its end."""
-        for answers in itertools.count():
-            number, value = self.ledger.send(), f"{dice.getrandbits(64):016x}"
-            key = f"{PREFIX}{number:09d}"
-            with self.history.write(client, key, value) as operation:
-                line = await self._ask(writer, f"{key} {value}")
-                match line.split() if line else []:
-                    case [b"ok", mark] if mark.isdigit():
-                        if self.ledger.acknowledge(number, key, value, int(mark)):
-                            operation.ok(value)
-                        else:
-                            operation.unknown("late")
-                    case [b"no"]:
-                        operation.unknown("no")
-                    case _ if line and line.endswith(b"\n"):
-                        told = line.decode(errors="replace").strip()[:80]
-                        text = f"write printed {told!r}; it has to be 'ok MARK' or 'no'"
-                        raise Fault(HOOK, text)
-                    case _:
-                        operation.unknown("hung" if line is None else "ended")
-                        break
-            if operation.error == "no":
-                await asyncio.sleep(REFUSED)
-        return answers, "hung" if line is None else f"ended with status {await writer.wait()}"
-
-    async def _ask(self, process: Process, text: str) -> bytes | None:
-        """What a co-process answers to a line: not a whole line if it ended, None if it hangs."""
+    async def _ask(self, process: Process, text: str) -> tuple[list[str], str | None]:
+        """The words that a co-process answers to a line, or why there are none."""
         assert process.stdin and process.stdout
         process.stdin.write(f"{text}\n".encode())
         try:
             async with asyncio.timeout(self.hooks.limit):
-                return await process.stdout.readline()
+                line = await process.stdout.readline()
         except TimeoutError:
-            return None
+            return [], "hung"
         except ValueError:
-            return ENDLESS
+            return ENDLESS, None
+        return line.decode(errors="replace").split(), None if line.endswith(b"\n") else "ended"
+
+    async def write(self, dice: Random) -> None:
+        """Writes records, one after the other, until it is cancelled."""
+        client = self.history.client()
+
+        async def once(process: Process) -> str | None:
+            error = await self._write_one(process, client, f"{dice.getrandbits(64):016x}")
+            if error == "no":
+                await asyncio.sleep(REFUSED)
+            return error
+
+        await self._talk("write", once)
+
+    async def _write_one(self, process: Process, client: Client, value: str) -> str | None:
+        number = self.ledger.send()
+        key = f"{PREFIX}{number:09d}"
+        with self.history.write(client, key, value) as operation:
+            match await self._ask(process, f"{key} {value}"):
+                case _, str(error):
+                    operation.unknown(error)
+                case ["ok", mark], _ if mark.isdecimal():
+                    if self.ledger.acknowledge(number, key, value, int(mark)):
+                        operation.ok(value)
+                        self._acked.append(key)
+                    else:
+                        operation.unknown("late")
+                case ["no"], _:
+                    operation.unknown("no")
+                case words, _:
+                    raise unexpected("write", words, "'ok MARK' or 'no'")
+        return operation.error
+
+    async def check(self, dice: Random) -> None:
+        """Asks random processes that are up for random records, until it is cancelled."""
+        client = self.history.client()
+
+        async def once(process: Process) -> str | None:
+            await asyncio.sleep(READ_PAUSE)
+            up = sorted(self._harness.up)
+            if not up or not self._acked:
+                return "?"
+            last = NEWEST if dice.random() < 0.5 else len(self._acked)
+            number, key = dice.choice(up), dice.choice(self._acked[-last:])
+            return (await self._check_one(process, client, number, key)).error
+
+        await self._talk("check", once)
+
+    async def _check_one(self, asked: Process, client: Client, number: int, key: str) -> Operation:
+        """Asks one process for one record."""
+        with self.history.read(client, key, number, self.is_whole(number)) as operation:
+            match await self._ask(asked, f"{number} {key}"):
+                case _, str(error):
+                    operation.fail(error)
+                case ["?"], _:
+                    operation.fail("?")
+                case ["none"], _:
+                    operation.ok(None)
+                case [value], _:
+                    operation.ok(value)
+                case words, _:
+                    raise unexpected("check", words, "a value, 'none' or '?'")
+            operation.is_whole &= self.is_whole(number)
+        return operation
+
+    def is_whole(self, number: int) -> bool:
+        """Whether a process counts as up, with all records."""
+        return number in self._harness.up and number in self.ledger.able
+
+    async def check_all(self, number: int, keys: list[str], until: float) -> dict[str, str | None]:
+        """What a process has of these records in the end, as long as it is up and whole.
+
+        It is asked again for what it lacks until that time, since it may lag.
+        """
+        client, found = self.history.client(), dict[str, str | None]()
+        while keys and self.is_whole(number):
+            queue, answered = list(reversed(keys)), list[str]()
+
+            async def once(process: Process) -> str | None:
+                operation = await self._check_one(process, client, number, queue[-1])
+                if operation.error not in OVER:
+                    queue.pop()
+                if operation.type == "ok" and operation.is_whole:
+                    found[operation.key] = operation.value
+                    answered.append(operation.key)
+                return operation.error
+
+            await self._talk("check", once, lambda: not queue or time.monotonic() > until)
+            keys = [key for key in keys if found.get(key) is None]
+            if time.monotonic() > until or not answered:
+                break
+            await asyncio.sleep(LAGS if keys else 0)
+        return found
 
     async def read(self) -> dict[str, str] | None:
         """What is left, which may need some tries; None if nothing could be read."""
@@ -77,10 +156,21 @@ class Clients:
                 return None
             await asyncio.sleep(0.5)
             began = self.ledger.now_ns()
-        found = {}
-        for line in text.splitlines():
-            if len(pair := line.split()) != 2:
-                raise Fault(HOOK, f"read printed {line[:80]!r}; it has to print 'KEY VALUE' lines")
-            found[pair[0]] = pair[1]
+        found = pairs("read", text)
         self.history.read_all(began, found)
         return found
+
+
+def unexpected(hook: str, words: list[str], expected: str) -> Fault:
+    """A hook printed what it may not."""
+    return Fault(HOOK, f"{hook} printed {' '.join(words)[:80]!r}; it has to be {expected}")
+
+
+def pairs(hook: str, text: str) -> dict[str, str]:
+    """The records that a hook printed."""
+    found = {}
+    for line in text.splitlines():
+        if len(pair := line.split()) != 2:
+            raise Fault(HOOK, f"{hook} printed {line[:80]!r}; it has to print 'KEY VALUE' lines")
+        found[pair[0]] = pair[1]
+    return found

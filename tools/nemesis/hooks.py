@@ -1,6 +1,7 @@
 """The user's hooks: one executable, called as HOOKS NAME [N] .."""
 import asyncio
 import os
+import shutil
 import socket
 from argparse import Namespace
 from asyncio.subprocess import Process
@@ -78,17 +79,32 @@ class Hooks:
         """A hook that runs until the block ends."""
         return running(self._path, name, *numbers, **self._more(*numbers) | files)
 
-    async def call(self, name: str, *numbers: int) -> str | None:
+    async def call(self, name: str, *numbers: int, **variables: str) -> str | None:
         """What a hook prints; None if it says no or hangs. One that there isn't says yes."""
         if name not in self.names:
             return ""
-        status, text = None, ""
+        status, text, more = None, "", self._more(*numbers)
+        more["env"] |= variables
         with suppress(TimeoutError):
             async with asyncio.timeout(self.seconds(name)):
-                status, text = await output(self._path, name, *numbers, **self._more(*numbers))
+                status, text = await output(self._path, name, *numbers, **more)
         end = End(" ".join([name, *map(str, numbers)]), status)
         self.ends[numbers[0] if numbers else name] = end
         return text if status == 0 else None
+
+    async def salvage(self, number: int) -> str | None:
+        """What a copy of a process's folder has, by the hook, which may change the copy."""
+        folder = Path(self._env["FY_DIR"])
+        copy = folder / "salvage" / str(number)
+        copy.parent.mkdir(exist_ok=True)
+        try:
+            # Some stores look at the owner of their files, which shutil doesn't keep.
+            await output("cp", "-a", folder / str(number), copy, stderr=self._log)
+            return await self.call("salvage", number, FY_COPY=str(copy))
+        finally:
+            shutil.rmtree(copy, ignore_errors=True)
+            with suppress(OSError):  # another may still be at work
+                copy.parent.rmdir()
 
     async def says(self, name: str, *numbers: int) -> bool:
         """Whether a hook says yes."""

@@ -11,20 +11,20 @@ from pathlib import Path
 
 import faultyard
 from faultyard import ConfigRefused, FaultyardError, Guard, InvalidAct, NotFound
-from faultyard.harness import lost_line
 from faultyard.plans import PLANS
 from config_check.main import explain
 from keeper import adopt_orphans, end_children
 
 from . import GUARD, NONE_LOST, TOOL, USAGE, Fault, say, summary
 from . import __doc__ as about
+from .evidence import told_cases
 from .picture import draw
 from .run import Run
 from .summary import closing, tested_little
 from .verdicts import Verdict
 
 KINDS, PAUSES = "10,35,54,1,10", "0,0.2,0.5,1,2,4"
-SHOWN = 5  # lost records that are told on the terminal; lost.jsonl has all
+SHOWN = 5  # cases that are told on the terminal; records.jsonl has all
 
 
 def numbers(text: str) -> list[float]:
@@ -52,14 +52,15 @@ def parsed() -> argparse.Namespace:
     add("--unguarded", action="store_true", help="do what was ordered, whatever the guard says")
     add("--check-hooks", action="store_true", help="have each hook called on a calm cluster")
     add("--writers", type=int, default=3, help="how many write hooks run (3)")
-    text = "how long a hook may take; setup, join, elect and read six times as long (10)"
+    add("--readers", type=int, default=2, help="how many check hooks run, if there is one (2)")
+    text = "how long a hook may take; setup, join, elect, read and salvage six times as long (10)"
     add("--hook-timeout", type=float, default=10.0, metavar="SECONDS", help=text)
     add("--socket", metavar="PATH", help="others may ask the same guard by this Unix socket")
     add("--out", type=Path, metavar="FOLDER", help="empty or new; else a new one below TMPDIR")
     add("--keep", action="store_true", help="keep the data of the processes if nothing is lost")
     add("--quiet", action="store_true", help="print the summary alone")
     words = it.parse_args()
-    for name, least in (("seed", 0), ("seconds", 0), ("writers", 1), ("hook_timeout", 0.1)):
+    for name, least in (("seed", 0), ("seconds", 0), ("writers", 1), ("readers", 0), ("hook_timeout", 0.1)):
         if not least <= vars(words)[name] < 1e9:
             it.error(f"--{name.replace('_', '-')} has to be {least} or more")
     for path in (words.config, words.hooks, words.replay):
@@ -118,12 +119,15 @@ def main() -> int:
         end_children()
 
 
-def report(run: Run) -> int:
-    """Prints what a run comes to, and says how the tool ends."""
+def write_files(run: Run) -> str:
+    """Writes what a run leaves beside its events; whether its audit is legal, in words."""
     words, audit, beyond = run.words, run.guard.audit(), run.beyond()
-    counts = run.counts()
+    run.history.flush()
     keys = [it.write.key for it in run.judged if it.verdict is Verdict.LOST]
     lost = [run.named(run.ledger.loss_of(key)) for key in keys]
+    for name, found in (("lost.jsonl", lost), ("records.jsonl", run.cases())):
+        if found:
+            (words.out / name).write_text("".join(f"{json.dumps(it)}\n" for it in found))
     try:
         checked = f"legal {faultyard.check(words.config, audit)}"
         first, events = beyond["entry"] if beyond else None, words.out / "events.jsonl"
@@ -131,20 +135,20 @@ def report(run: Run) -> int:
         (words.out / "audit.svg").write_text(picture, "utf-8")
     except faultyard.AuditRefused as fault:
         checked = fault.fault
-    if lost:
-        (words.out / "lost.jsonl").write_text("".join(f"{json.dumps(it)}\n" for it in lost))
-    run.history.flush()
+    return checked
+
+
+def report(run: Run) -> int:
+    """Prints what a run comes to, and says how the tool ends."""
+    words, counts, checked = run.words, run.counts(), write_files(run)
     lines = run.summary(f"seed {words.seed}") + run.notes
     if not words.check_hooks:
         healed, destroyed = len(run.ledger.healed), len(run.ledger.losses)
         lines += tested_little(len(run.judged), run.ledger.pauses(), destroyed, healed)
-    lines += [lost_line(it) for it in lost[:SHOWN]]
-    if len(lost) > SHOWN:
-        lines.append(f"lost: {len(lost) - SHOWN} more, in lost.jsonl")
+    lines += told_cases(run.cases(), SHOWN)
     ending = closing(len(run.judged), counts)
     (words.out / "picture.svg").write_text(draw(words.out, run.file, [lines[0], ending]), "utf-8")
-    lines.append(f"{ending}; audit {checked}; {words.out}")
-    say("\n".join(lines))
+    say("\n".join([*lines, f"{ending}; audit {checked}; {words.out}"]))
     if checked != f"legal {run.guard.journal_len()}":
         return GUARD
     return summary.status(counts, "fresh" in run.hooks.names, run.is_unread)

@@ -1,9 +1,13 @@
 """A run: orders are asked and done while records are written; then what is left is read."""
 import asyncio
+import time
 from argparse import Namespace
 from collections import Counter
 from collections.abc import Iterator
+from contextlib import suppress
+from dataclasses import replace
 from random import Random
+from typing import Any
 
 from faultyard import FaultyardError, Guard, Key, Kind
 from faultyard.harness import read_orders
@@ -11,10 +15,11 @@ from faultyard.plans import Draw, Order
 from faultyard.server import serve
 
 from . import HOOK, USAGE, Fault
-from .clients import Clients
+from .clients import Clients, pairs
+from .evidence import Case, Course, wrong_line
 from .history import History, Operation
-from .store import Store, cancelled
-from .verdicts import Judged, Left, Verdict, judged, wrong
+from .store import AGAIN, Store, cancelled
+from .verdicts import Disk, Judged, Left, Verdict, judged, wrong
 
 FIRST = 1.0  # seconds before the first order
 Timed = tuple[float, Order]
@@ -23,13 +28,14 @@ Timed = tuple[float, Order]
 class Run(Store):
     judged: list[Judged] = []  # what became of each acknowledged record
     wrong: list[Operation] = []  # reads of what was never written
+    course: Course  # what was done, for their evidence
     is_unread = False  # whether `read` hung, so that only disks and `check` can say what is left
 
     def __init__(self, words: Namespace, guard: Guard) -> None:
         super().__init__(words, guard)
         self.notes: list[str] = []  # who was not back at the end, and why nothing could be read
         self.history = History(words.out / "history.jsonl", self.ledger)
-        self.clients = Clients(self.hooks, self.ledger, self.history)
+        self.clients = Clients(self.hooks, self, self.history)
 
     async def whole(self) -> None:
         """The run from its first process to what could be read."""
@@ -41,8 +47,9 @@ class Run(Store):
                 self.ledger.begin()
                 self.note("ready")
                 await self._chaos(orders)
-                await self._read()
+                left = await self._read()
                 await self.end()
+                await self._judge(left)
         except* (Fault, FaultyardError, OSError) as faults:
             raise faults.exceptions[0] from None
 
@@ -69,7 +76,10 @@ class Run(Store):
     async def _chaos(self, orders: list[Timed]) -> None:
         """Writes and orders, until all that was clogged is let go again."""
         words = self.words
-        work = [self.clients.write(Random(f"{words.seed}-{n}")) for n in range(words.writers)]
+        dice = [Random(f"{words.seed}-{n}") for n in range(words.writers + words.readers)]
+        work = [self.clients.write(it) for it in dice[: words.writers]]
+        if "check" in self.hooks.names:
+            work += [self.clients.check(it) for it in dice[words.writers :]]
         if words.socket:
             work.append(serve(words.socket, self.asked))
         behind = [self.tasks.create_task(it) for it in work]
@@ -94,29 +104,91 @@ class Run(Store):
         await self.calm()
         self.show(f"{order.value} is {'out' if order.kind.is_final else 'back'} after {kind}")
 
-    async def _read(self) -> None:
-        """Finds what became of each record that was acknowledged."""
-        found, acked = await self.clients.read(), len(self.ledger.records)
+    async def _read(self) -> Left:
+        """What the store tells at the end, all of it and each process alone."""
+        found, acked = await self.clients.read(), list(self.ledger.records)
         if not acked:
             text = "no record was acknowledged, so the run says nothing; write only said 'no'"
             raise Fault(HOOK, text)
-        self.notes = [f"at the end {text}" for text in self.waiting()]
         if found is None:
             when = f"in {self.hooks.seconds('read'):g} seconds"
             when = when if self.ledger.able else "and every process is destroyed"
             end = self.hooks.ends["read"]
-            self.notes.insert(0, f"nothing could be read {when}: {end}")
+            self.notes.append(f"nothing could be read {when}: {end}")
             self.is_unread = end.status is None
-        self.judge(Left(found))
+        checked = await self._check_all(acked) if "check" in self.hooks.names else {}
+        self.notes += [f"at the end {text}" for text in self.waiting()]
+        return Left(found, checked)
 
-    def judge(self, left: Left) -> None:
-        """Says what became of each record, by what is left."""
+    async def _check_all(self, keys: list[str]) -> dict[int, dict[str, str | None]]:
+        """What each process that is up and whole tells, once those that come back had some time."""
+        with suppress(TimeoutError):
+            async with asyncio.timeout(self.hooks.limit):
+                while self.waiting():
+                    await asyncio.sleep(AGAIN)
+        Random(self.words.seed).shuffle(keys)
+        until = time.monotonic() + self.hooks.seconds("read")
+        numbers = [number for number in range(len(self.names)) if self.clients.is_whole(number)]
+        asked = (self.clients.check_all(number, keys, until) for number in numbers)
+        checked = dict(zip(numbers, await asyncio.gather(*asked)))
+        for number, found in checked.items():
+            if len(found) < len(keys):
+                text = f"told of {len(found)} of {len(keys)} records by check"
+                self.notes.append(f"at the end {self.names[number]} {text}")
+        return checked
+
+    async def _judge(self, left: Left) -> None:
+        """Says what became of each record; the disks are looked at where that isn't clear."""
         writes, reads = self.history.writes, self.history.reads
         self.judged = judged(self.ledger.records, writes, reads, left)
+        unclear = {Verdict.LOST, Verdict.UNREADABLE}
+        if "salvage" in self.hooks.names and unclear & {it.verdict for it in self.judged}:
+            left = replace(left, disks=await self._salvaged())
+            self.judged = judged(self.ledger.records, writes, reads, left)
         self.wrong = wrong(writes, reads)
+        self.course = self._course(left)
         self.note("read", acked=len(self.judged), **self.counts())
+
+    async def _salvaged(self) -> dict[int, Disk]:
+        """What the folder of each process has; those that the tool emptied have nothing."""
+        numbers = range(len(self.names))
+        self.show("looks at the disks")
+        disks: list[Disk] = await asyncio.gather(*(self._disk(number) for number in numbers))
+        return dict(zip(numbers, disks))
+
+    async def _disk(self, number: int) -> Disk:
+        if number in self.gone or number in self.emptied:
+            return {}
+        text = await self.hooks.salvage(number)
+        if text is None:
+            self.notes.append(f"the disk of {self.names[number]} is unknown: {self.hooks.ends[number]}")
+            return None
+        return pairs(f"salvage {number}", text)
+
+    def _course(self, left: Left) -> Course:
+        """What was done, for the case of each record."""
+        return Course(
+            self.names,
+            self.orders,
+            self.ledger.losses,
+            self.ledger.heals,
+            left,
+            "fresh" in self.hooks.names,
+        )
 
     def counts(self) -> dict[str, int]:
         """How many records there are of each verdict; wrong are all keys that were read so."""
         counts = Counter(it.verdict for it in self.judged)
         return {it.value: counts[it] for it in Verdict} | {"wrong": len(self.wrong)}
+
+    def cases(self) -> list[dict[str, Any]]:
+        """The evidence of all records that aren't kept, and of all that was never written."""
+        unclear = {Verdict.LOST, Verdict.UNREADABLE, Verdict.STALE}
+        records = self.ledger.records
+        lines = [
+            Case(it, records[it.write.key], self.course).line()
+            for it in self.judged
+            if it.verdict in unclear
+        ]
+        writes = self.history.writes
+        return lines + [wrong_line(it, writes.get(it.key), self.names) for it in self.wrong]

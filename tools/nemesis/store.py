@@ -28,7 +28,7 @@ class Store(Harness):
         self.words, self.hooks = words, Hooks(words, file, self.ledger)
         self._keeping: dict[int, asyncio.Task[None]] = {}  # each brings a process back
         self._started: dict[int, Process] = {}
-        self._emptied: set[int] = set()  # until they have joined, or left
+        self.emptied: set[int] = set()  # until they have joined, or left
         self._ended: dict[int, str] = {}  # how each last ended by itself, until it is up
         self._elected = 0  # how many of the losses an election has seen
         self._joining, self._alone_until = 0, 0.0
@@ -59,7 +59,7 @@ class Store(Harness):
         """Who is not up or not whole, or has not left, and what each waits for."""
         if not self._is_elected():
             return [f"there is no election: {self.hooks.ends.get('elect', 'it was not asked for')}"]
-        whole = self.up - self.ledger.destroyed.keys() | self.gone - self._emptied
+        whole = self.up - self.ledger.destroyed.keys() | self.gone - self.emptied
         return [
             f"{name} is not {'out' if number in self.gone else 'back'}: "
             f"{self.hooks.ends.get(number, 'it was not started')}{self._ended.get(number, '')}"
@@ -87,7 +87,7 @@ class Store(Harness):
         data = self.words.out / str(number)
         shutil.rmtree(data, ignore_errors=True)
         data.mkdir()  # which fails if something is left
-        self._emptied.add(number)
+        self.emptied.add(number)
 
     async def clog(self, processes: Sequence[int], is_clogged: bool) -> None:
         """Stops or continues all that they run, or has a hook cut them off."""
@@ -103,7 +103,7 @@ class Store(Harness):
 
     async def _keep(self, number: int) -> None:
         """Brings a process back, and again each time that it ends by itself."""
-        if number in self._emptied:
+        if number in self.emptied:
             await self._join(number)
         while number not in self.gone:
             with (self.words.out / f"{self.names[number]}.log").open("ab") as log:
@@ -122,13 +122,13 @@ class Store(Harness):
     async def _join(self, number: int) -> None:
         """Makes it a new member, one after the other; or has it leave for good."""
         hook = "leave" if number in self.gone else "join"
-        while number in self._emptied:
+        while number in self.emptied:
             is_free = self._joining in self.up or self._alone_until < time.monotonic()
             if (is_free or self._joining == number) and self._is_elected():
                 self._joining, self._alone_until = number, math.inf
                 self._empty(number)
                 if await self.hooks.says(hook, number):
-                    self._emptied.discard(number)
+                    self.emptied.discard(number)
             await asyncio.sleep(AGAIN)
         self._alone_until = 0.0 if number in self.gone else time.monotonic() + ALONE
         self.note(hook, process=number)

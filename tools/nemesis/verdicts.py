@@ -52,6 +52,11 @@ class Judged:
     verdict: Verdict
     lacking: Operation | None = None  # the last read that lacked it, though it was acknowledged
 
+    @property
+    def stale(self) -> float:
+        """Seconds from the acknowledgement to that read."""
+        return (self.lacking.began - self.write.ended) / 1e9 if self.lacking else 0.0
+
 
 def lacking(write: Operation, reads: Iterable[Operation]) -> Operation | None:
     """The last read of a record that began after its acknowledgement, and lacked it."""

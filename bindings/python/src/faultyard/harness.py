@@ -129,6 +129,7 @@ class Harness(ABC):
         said, does = entry.struck, order.kind if self.unguarded else entry.struck
         processes = self.targets(order.key, order.value)
         event: Dict[str, Any] = {
+            "t": self.ledger.now(),
             "by": entry.by,
             "entry": entry.at,
             "key": order.key.value,
