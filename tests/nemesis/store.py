@@ -65,7 +65,7 @@ class Server(socketserver.ThreadingTCPServer):
         return value[::-1] if value and FAULT == "corrupt" and not int(key[2:]) % 9 else value
 
     def get(self, key: str) -> str:
-        """What it tells of a record, which one of any two servers has."""
+        """What it tells of a record. That there is none it knows if all were asked: one may be empty."""
         if FAULT == "hole" and self.number == 1 and not int(key[2:]) % 7:
             return "none"
         told = [self.own(key)]
@@ -75,7 +75,7 @@ class Server(socketserver.ThreadingTCPServer):
                     told.append(Link(number).word(f"own {key}"))
                 except OSError:
                     pass
-        return next(filter(None, told), "none" if len(told) > 1 else "?")
+        return next(filter(None, told), "none" if len(told) == COUNT else "?")
 
     def put(self, records: Records) -> None:
         with self.lock:
