@@ -4,8 +4,9 @@ import os
 import shutil
 import socket
 from argparse import Namespace
-from asyncio.subprocess import Process
-from contextlib import AbstractAsyncContextManager, suppress
+from asyncio.subprocess import PIPE, Process
+from collections.abc import AsyncIterator
+from contextlib import AbstractAsyncContextManager, asynccontextmanager, suppress
 from pathlib import Path
 from random import SystemRandom
 from typing import Any, NamedTuple
@@ -70,6 +71,24 @@ class Hooks:
         if wrong:
             raise Fault(USAGE, f"{self._path}: {wrong[0]}")
         self.names |= names
+
+    @asynccontextmanager
+    async def set_up(self) -> AsyncIterator[None]:
+        """Has `setup` done. What it started for all lives until the block ends."""
+        if "setup" not in self.names:
+            yield
+            return
+        shell = '"$0" setup < /dev/null >&2; echo $?; exec sleep infinity'
+        async with running("sh", "-c", shell, self._path, stdout=PIPE, **self._more()) as process:
+            assert process.stdout
+            status = None
+            with suppress(TimeoutError):
+                async with asyncio.timeout(self.seconds("setup")):
+                    status = int(await process.stdout.readline() or -1)
+            if status != 0:
+                log = f"{self._env['FY_DIR']}/hooks.log"
+                raise Fault(HOOK, f"{End('setup', status)}; {log} may say why")
+            yield
 
     def seconds(self, name: str) -> float:
         """How long a hook may take."""

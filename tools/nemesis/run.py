@@ -42,7 +42,7 @@ class Run(Store):
         await self.hooks.learn()
         orders = list(self._planned())
         try:
-            async with asyncio.TaskGroup() as tasks:
+            async with self.hooks.set_up(), asyncio.TaskGroup() as tasks:
                 await self.begin(tasks)
                 self.ledger.begin()
                 self.note("ready")

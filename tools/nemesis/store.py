@@ -34,9 +34,7 @@ class Store(Harness):
         self._joining, self._alone_until = 0, 0.0
 
     async def begin(self, tasks: asyncio.TaskGroup) -> None:
-        """Sets the store up, and waits for all of it."""
-        if not await self.hooks.says("setup"):
-            raise Fault(HOOK, f"{self.hooks.ends['setup']}; {self.words.out}/hooks.log may say why")
+        """Starts the store, and waits for all of it."""
         self.tasks, self.spawn = tasks, tasks.create_task
         self._electing = tasks.create_task(self._elect())
         for number in range(len(self.names)):
