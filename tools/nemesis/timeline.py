@@ -71,7 +71,7 @@ class Lane:
 
 @dataclass(frozen=True)
 class Record:
-    """A record that isn't kept, and the entries that destroyed who could hold it."""
+    """A record that isn't kept, and the entries that first destroyed those who could hold it."""
 
     t: float
     """When it was acknowledged; or when a read told a value that was never written."""
@@ -85,7 +85,7 @@ class Record:
 class Timeline:
     """All that a picture shows."""
 
-    seconds: float  # the end of the last event
+    seconds: float  # when something last changed
     written: float  # until when records were written, or the end of a run that was broken off
     lanes: list[Lane]
     orders: list[Struck]
@@ -98,7 +98,7 @@ def timeline(folder: Path, file: ClusterFile) -> Timeline:
     events = [*lines_of(folder / "events.jsonl")]
     acks = [*acknowledged(lines_of(folder / "history.jsonl"))]
     records = [*not_kept(lines_of(folder / "records.jsonl"))]
-    last = max([1.0, *(event["t"] for event in events), *acks])
+    last = max([1.0, *(event["t"] for event in events if event["what"] != "read"), *acks])
     states = _States(file, last)
     for event in events:
         states.take(event)
@@ -125,7 +125,8 @@ def acknowledged(history: Iterable[Event]) -> Iterator[float]:
 def not_kept(records: Iterable[Event]) -> Iterator[Record]:
     """The records that have another verdict than kept."""
     for line in records:
-        entries = frozenset(it for those in line.get("destroyed", {}).values() for it in those)
+        destroyed = line.get("destroyed", {}).values()
+        entries = frozenset(min(those) for those in destroyed if those)
         t = line["acked"] if "acked" in line else line["t"]
         yield Record(t, line["key"], line["verdict"], line["fault"], entries)
 
