@@ -10,8 +10,9 @@
 #   make refused-memory   makes each allocation fail once, one run each, in the short tests of commands, texts, acts, actors, checks and
 #                         shared clusters, which `make test` does too, and in those of a buffer and of whole runs of actors
 #   make wrong-bodies     tries every wrong body again, which the prover has to refuse, and records those crates whose are all refused
-#   make try-stores       runs faultyard-nemesis on redis, etcd and PostgreSQL, a minute guarded and a minute unguarded with two
-#                         seeds each, and prints a table: guarded none may be lost; it takes a quarter of an hour
+#   make try-stores       runs faultyard-nemesis on redis, etcd, PostgreSQL, ZooKeeper and RabbitMQ, a minute guarded and a minute
+#                         unguarded with two seeds each, and prints a table: guarded none may be lost; it takes half an hour
+#   make slow-stores      runs faultyard-nemesis guarded for a minute on each store that boots slowly: ZooKeeper and RabbitMQ
 #   make lossy            builds the disk that forgets what isn't synced, bin/faultyard-lossy; it needs libfuse3-dev
 #   make try-disks        tests that disk by thousands of seeds, beside ext4 and xfs, and by longer loads; it needs to be root
 #   make nemesis-aborts   aborts a hundred runs of faultyard-nemesis at random moments: no process may be left
@@ -33,7 +34,7 @@ BUILT := crates/faultyard/out/faultyard
 UNPROVED := bin/unproved/faultyard
 KIT = $(dir $(shell rt doc))
 
-.PHONY: build run lib merged test quick format swarm-seeds refused-memory wrong-bodies try-stores lossy try-disks nemesis-aborts look install installed uninstall static dist packaged try-dist bench clean
+.PHONY: build run lib merged test quick format swarm-seeds refused-memory wrong-bodies try-stores slow-stores lossy try-disks nemesis-aborts look install installed uninstall static dist packaged try-dist bench clean
 
 # `rt run` proves what changed, builds the program beside its crate and runs it once.
 build:
@@ -90,6 +91,9 @@ wrong-bodies:
 
 try-stores: build
 	tests/stores/run --table bin/faultyard
+
+slow-stores: $(UNPROVED)
+	tests/stores/run --slow $(UNPROVED)
 
 lossy: bin/faultyard-lossy
 
