@@ -1,0 +1,346 @@
+"""What hooks have in common, and the protocols by which they ask stores.
+
+Expected are the bytes that the protocols' own documents have.
+"""
+
+import os
+import socket
+import struct
+import subprocess
+import sys
+import tempfile
+import threading
+import unittest
+from pathlib import Path
+
+from faultyard_hooks import Refused, keep, wait
+from faultyard_hooks.amqp import Amqp
+from faultyard_hooks.client import OneOf
+from faultyard_hooks.http import Http
+from faultyard_hooks.postgres import Postgres
+from faultyard_hooks.resp import Resp
+from faultyard_hooks.zookeeper import ZooKeeper, last_synced
+
+HOOKS = """
+import sys
+from faultyard_hooks import ABLE, Refused, checks, folder, hook, main, port, writes
+
+@hook("ready")
+def is_ready(n):
+    return n in ABLE
+
+@hook("join")
+def join(n):
+    raise Refused("not now")
+
+@hook("read")
+def read():
+    return f"{folder(1, 'data')} {port(2, 1)}\\n"
+
+@writes
+def put(key, value):
+    if value == "bad":
+        raise ConnectionError("it fell")
+    return len(key)
+
+@checks
+def get(n, key):
+    if n == 2:
+        raise TimeoutError("it is silent")
+    return {"a": "x"}.get(key)
+
+main("fresh")
+"""
+
+
+class Talk:
+    """A server that hears what is due on each of its connections, and says what is written here."""
+
+    def __init__(self, case, *connections):
+        self._socket = socket.create_server(("127.0.0.1", 0))
+        self._heard = []
+        self._connections = connections
+        self._thread = threading.Thread(target=self._run, daemon=True)
+        self._thread.start()
+        self._case = case
+        case.addCleanup(self._end, case)
+
+    def client(self, kind):
+        """A client of this server."""
+        made = kind(self._socket.getsockname()[1])
+        self._case.addCleanup(made.close)
+        return made
+
+    def _run(self):
+        for talk in self._connections:
+            connection, _ = self._socket.accept()
+            with connection:
+                for due, said in talk:
+                    heard = connection.recv(len(due), socket.MSG_WAITALL)
+                    self._heard.append((due, heard))
+                    connection.sendall(said)
+
+    def _end(self, case):
+        self._thread.join(10)
+        self._socket.close()
+        for due, heard in self._heard:
+            case.assertEqual(heard, due)
+        case.assertEqual(len(self._heard), sum(map(len, self._connections)))
+
+
+class Dispatch(unittest.TestCase):
+    def setUp(self):
+        folder = tempfile.TemporaryDirectory()
+        self.addCleanup(folder.cleanup)
+        self.path = Path(folder.name, "hooks.py")
+        self.path.write_text(HOOKS)
+
+    def call(self, *words, told=""):
+        more = {"FY_DIR": "/run", "FY_PORT": "20000", "FY_COUNT": "3", "FY_ABLE": "0 2"}
+        command = [sys.executable, str(self.path), *words]
+        ran = subprocess.run(
+            command, input=told, env={**os.environ, **more}, capture_output=True, text=True
+        )
+        return ran.returncode, ran.stdout, ran.stderr
+
+    def test_the_names_of_hooks_are_printed_with_what_is_promised(self):
+        self.assertEqual(self.call("hooks"), (0, "ready join read write check fresh\n", ""))
+
+    def test_a_hook_says_yes_or_no(self):
+        self.assertEqual(self.call("ready", "2"), (0, "", ""))
+        self.assertEqual(self.call("ready", "1"), (1, "", ""))
+
+    def test_a_fault_of_the_store_says_no_in_one_line(self):
+        self.assertEqual(self.call("join", "1"), (1, "", "join 1: Refused: not now\n"))
+
+    def test_a_text_is_printed_as_it_is(self):
+        self.assertEqual(self.call("read"), (0, "/run/1/data 20009\n", ""))
+
+    def test_a_hook_that_there_is_not_ends_with_64(self):
+        self.assertEqual(self.call("leave", "1")[0], 64)
+        self.assertEqual(self.call()[0], 64)
+
+    def test_a_writer_goes_on_after_a_fault(self):
+        told = "r/1 good\nr/22 bad\nr/333 good\n"
+        status, answers, _ = self.call("write", told=told)
+        self.assertEqual((status, answers), (0, "ok 3\nno\nok 5\n"))
+
+    def test_a_check_tells_a_value_none_and_a_process_that_was_not_asked(self):
+        status, answers, _ = self.call("check", told="0 a\n0 b\n2 a\n0 a\n")
+        self.assertEqual((status, answers), (0, "x\nnone\n?\nx\n"))
+
+
+class Helpers(unittest.TestCase):
+    def test_a_file_that_is_kept_replaces_the_old_one_whole(self):
+        with tempfile.TemporaryDirectory() as folder:
+            path = f"{folder}/primary"
+            keep(path, "first")
+            keep(path, "2")
+            self.assertEqual(Path(path).read_text(), "2")
+            self.assertEqual(os.listdir(folder), ["primary"])
+
+    def test_waiting_ends_with_the_answer_or_without(self):
+        answers = iter([None, 0, "yes"])
+        self.assertEqual(wait(lambda: next(answers)), "yes")
+        self.assertIs(wait(lambda: None, 0.0), False)
+
+    def test_waiting_goes_on_after_a_fault(self):
+        def ask():
+            if not failed:
+                failed.append(True)
+                raise ConnectionRefusedError
+            return 7
+
+        failed = []
+        self.assertEqual(wait(ask), 7)
+
+
+PING, PONG = b"*1\r\n$4\r\nPING\r\n", b"+PONG\r\n"
+
+
+class Clients(unittest.TestCase):
+    def test_a_connection_is_kept(self):
+        client = Talk(self, [(PING, PONG), (PING, PONG)]).client(Resp)
+        self.assertEqual([client.ask("PING"), client.ask("PING")], ["PONG", "PONG"])
+
+    def test_a_connection_is_made_again_after_a_fault(self):
+        client = Talk(self, [(PING, b"")], [(PING, PONG)]).client(Resp)
+        with self.assertRaises(OSError):
+            client.ask("PING")
+        self.assertEqual(client.ask("PING"), "PONG")
+
+    def test_silence_is_a_fault(self):
+        with socket.create_server(("127.0.0.1", 0)) as silent, self.assertRaises(socket.timeout):
+            Resp(silent.getsockname()[1], 0.1).ask("PING")
+
+    def test_one_of_several_is_asked_until_it_fails(self):
+        talk = Talk(self, [(PING, PONG), (PING, b"-ERR no\r\n")], [(PING, PONG)])
+        one = OneOf([talk.client(Resp)])
+        self.assertEqual(one.ask("PING"), "PONG")
+        with self.assertRaises(Refused):
+            one.ask("PING")
+        self.assertEqual(one.ask("PING"), "PONG")
+
+
+class RespAnswers(unittest.TestCase):
+    def asked(self, answer, *words):
+        command = b"*%d\r\n" % len(words)
+        command += b"".join(b"$%d\r\n%b\r\n" % (len(it), it.encode()) for it in words)
+        return Talk(self, [(command, answer)]).client(Resp).ask(*words)
+
+    def test_each_kind_of_answer_is_read(self):
+        self.assertEqual(self.asked(b":1000\r\n", "HLEN", "r"), 1000)
+        self.assertEqual(self.asked(b"$5\r\nhe\r\no\r\n", "HGET", "r", "k"), "he\r\no")
+        self.assertIsNone(self.asked(b"$-1\r\n", "HGET", "r", "k"))
+        self.assertEqual(self.asked(b"*2\r\n$1\r\na\r\n:3\r\n", "HGETALL", "r"), ["a", 3])
+
+    def test_an_error_is_refused_with_its_text(self):
+        with self.assertRaisesRegex(Refused, "LOADING it loads"):
+            self.asked(b"-LOADING it loads\r\n", "HLEN", "r")
+
+    def test_a_transaction_answers_for_each_command(self):
+        sent = b"*1\r\n$5\r\nMULTI\r\n*2\r\n$4\r\nHLEN\r\n$1\r\nr\r\n*1\r\n$4\r\nEXEC\r\n"
+        said = b"+OK\r\n+QUEUED\r\n*1\r\n:4\r\n"
+        self.assertEqual(Talk(self, [(sent, said)]).client(Resp).at_once(("HLEN", "r")), [4])
+        said = b"+OK\r\n+QUEUED\r\n*-1\r\n"
+        with self.assertRaises(Refused):
+            Talk(self, [(sent, said)]).client(Resp).at_once(("HLEN", "r"))
+
+
+class HttpAnswers(unittest.TestCase):
+    SENT = (
+        b"POST /put HTTP/1.1\r\nHost: 127.0.0.1\r\nContent-Type: application/json\r\n"
+        b'Content-Length: 8\r\n\r\n{"a": 1}'
+    )
+
+    def asked(self, *answers):
+        client = Talk(self, [(self.SENT, answer) for answer in answers]).client(Http)
+        return [client.ask("/put", {"a": 1}) for _ in answers]
+
+    def test_an_answer_has_its_length_or_comes_in_chunks(self):
+        sized = b'HTTP/1.1 200 OK\r\nContent-Length: 7\r\n\r\n{"b":2}'
+        head = b"HTTP/1.1 200 OK\r\nTransfer-Encoding: chunked\r\n\r\n"
+        chunked = head + b'3\r\n{"b\r\n4;x=y\r\n":3}\r\n0\r\n\r\n'
+        self.assertEqual(self.asked(sized, chunked, sized), [{"b": 2}, {"b": 3}, {"b": 2}])
+
+    def test_a_refusal_has_its_status_and_text(self):
+        with self.assertRaisesRegex(Refused, "503 no leader"):
+            self.asked(b"HTTP/1.1 503 Unavailable\r\nContent-Length: 9\r\n\r\nno leader")
+
+
+def message(kind, body):
+    """A message of PostgreSQL's protocol: a letter, and a size that counts itself."""
+    return kind + struct.pack(">i", len(body) + 4) + body
+
+
+HELLO = struct.pack(">ii", 41, 196608) + b"user\0postgres\0database\0postgres\0\0"
+WELCOME = message(b"R", bytes(4)) + message(b"S", b"a\0b\0") + message(b"Z", b"I")
+DONE = message(b"C", b"SELECT 1\0") + message(b"Z", b"I")
+
+
+class PostgresAnswers(unittest.TestCase):
+    def asked(self, answer):
+        talk = Talk(self, [(HELLO, WELCOME), (message(b"Q", b"SELECT 1\0"), answer)])
+        return talk.client(Postgres).ask("SELECT 1")
+
+    def test_rows_have_texts_and_nulls(self):
+        row = message(b"D", struct.pack(">hi1sii2s", 3, 1, b"x", -1, 2, b"yz"))
+        self.assertEqual(self.asked(message(b"T", b"\0\0") + row + DONE), [["x", None, "yz"]])
+
+    def test_an_error_and_a_warning_are_refused(self):
+        fault = b"SERROR\0VERROR\0Mit is full\0\0"
+        with self.assertRaisesRegex(Refused, "ERROR: it is full"):
+            self.asked(message(b"E", fault) + message(b"Z", b"I"))
+        warning = b"SWARNUNG\0VWARNING\0Mno standby has it\0\0"
+        with self.assertRaisesRegex(Refused, "no standby has it"):
+            self.asked(message(b"N", warning) + DONE)
+
+    def test_a_notice_is_no_fault(self):
+        self.assertEqual(self.asked(message(b"N", b"SNOTICE\0VNOTICE\0Mby the way\0\0") + DONE), [])
+
+
+def frame(data):
+    return struct.pack(">i", len(data)) + data
+
+
+SESSION = frame(struct.pack(">iqiqi", 0, 0, 30000, 0, 16) + bytes(16))
+BEGUN = frame(struct.pack(">iiqi", 0, 10000, 5, 16) + bytes(16))
+
+
+class ZooKeeperAnswers(unittest.TestCase):
+    def test_a_node_is_created_read_and_missed(self):
+        anyone = frame(b"world") + frame(b"anyone")
+        create = struct.pack(">ii", 1, 1) + frame(b"/a") + frame(b"v")
+        create = frame(create + struct.pack(">ii", 1, 31) + anyone + bytes(4))
+        created = frame(struct.pack(">iqi", 1, 70, 0) + frame(b"/a"))
+        gets = [frame(struct.pack(">ii", 2, 4) + frame(b"/a") + b"\0")]
+        gets += [frame(struct.pack(">ii", 3, 4) + frame(b"/b") + b"\0")]
+        got = frame(struct.pack(">iqi", 2, 70, 0) + frame(b"v") + bytes(68))
+        none = frame(struct.pack(">iqi", 3, 71, -101))
+        watch = frame(struct.pack(">iqi", -1, -1, 0) + b"event")
+        talk = [(SESSION, BEGUN), (create, created), (b"".join(gets), watch + got + none)]
+        client = Talk(self, talk).client(ZooKeeper)
+        self.assertTrue(client.create("/a", "v"))
+        self.assertEqual(client.zxid, 70)
+        self.assertEqual(client.values(["/a", "/b"]), {"/a": "v"})
+        self.assertEqual(client.zxid, 71)
+
+    def test_another_fault_is_refused(self):
+        get = frame(struct.pack(">ii", 1, 4) + frame(b"/a") + b"\0")
+        talk = [(SESSION, BEGUN), (get, frame(struct.pack(">iqi", 1, 70, -4)))]
+        with self.assertRaisesRegex(Refused, "-4"):
+            Talk(self, talk).client(ZooKeeper).values(["/a"])
+
+    def test_the_last_synced_transaction_is_that_of_the_last_whole_entry(self):
+        def entry(zxid):
+            data = struct.pack(">qiqqi", 1, 2, zxid, 3, 4)
+            return bytes(8) + frame(data) + b"B"
+
+        with tempfile.TemporaryDirectory() as folder:
+            self.assertEqual(last_synced(folder), 0)
+            logs = Path(folder, "version-2")
+            logs.mkdir()
+            Path(logs, "acceptedEpoch").write_text("1")
+            Path(logs, "snapshot.1f").write_bytes(b"")
+            self.assertEqual(last_synced(folder), 0x1F)
+            log = Path(logs, "log.20")
+            log.write_bytes(bytes(16) + entry(0x20) + entry(0x21) + bytes(64))
+            self.assertEqual(last_synced(folder), 0x21)
+            log.write_bytes(bytes(16) + entry(0x20) + entry(0x21)[:-1])
+            self.assertEqual(last_synced(folder), 0x20)
+
+
+def method(channel, number, words):
+    data = struct.pack(">HH", *number) + words
+    return struct.pack(">BHI", 1, channel, len(data)) + data + b"\xce"
+
+
+class AmqpAnswers(unittest.TestCase):
+    def asked(self, answer):
+        login = bytes(4) + b"\x05PLAIN" + frame(b"\0guest\0guest") + b"\x05en_US"
+        content = struct.pack(">HHQHB", 60, 0, 2, 4096, 2)
+        publish = method(1, (60, 40), b"\0\0\0\1q\1") + b"\2\0\1" + frame(content) + b"\xce"
+        talk = [
+            (b"AMQP\0\0\x09\x01", method(0, (10, 10), b"..")),
+            (method(0, (10, 11), login), method(0, (10, 30), b"..")),
+            (method(0, (10, 31), struct.pack(">HIH", 1, 131072, 0)), b""),
+            (method(0, (10, 40), b"\1/\0\0"), method(0, (10, 41), b"\0")),
+            (method(1, (20, 10), b"\0"), method(1, (20, 11), bytes(4))),
+            (method(1, (85, 10), b"\0"), method(1, (85, 11), b"")),
+            (publish + b"\3\0\1" + frame(b"hi") + b"\xce", answer),
+        ]
+        Talk(self, talk).client(Amqp).publish("q", "hi")
+
+    def test_a_publish_ends_once_it_is_confirmed(self):
+        heartbeat = b"\x08\0\0" + bytes(4) + b"\xce"
+        self.asked(heartbeat + method(1, (60, 80), struct.pack(">QB", 1, 0)))
+
+    def test_a_publish_that_is_refused_or_returned_is_no_write(self):
+        with self.assertRaises(Refused):
+            self.asked(method(1, (60, 120), struct.pack(">QB", 1, 0)))
+        with self.assertRaisesRegex(Refused, "NO_ROUTE"):
+            self.asked(method(1, (60, 50), b"\x01\x38\x08NO_ROUTE\0\1q"))
+
+
+if __name__ == "__main__":
+    unittest.main()
