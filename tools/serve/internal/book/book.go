@@ -16,6 +16,13 @@ import (
 // Header is the first line of an audit that a book begins or goes on with.
 const Header = "{\"audit\":2}\n"
 
+const (
+	// gatherPart is which part of the last sync's time others are waited for.
+	gatherPart = 4
+	// leastGather is the least time that is worth a wait.
+	leastGather = 20 * time.Microsecond
+)
+
 // Guard makes acts, and keeps the entry of each. Goroutines may share it.
 type Guard interface {
 	// Act makes the act of a script's line, and answers the line of its entry. Where the line is
@@ -97,6 +104,10 @@ type Book struct {
 	grown   chan struct{} // closed once there are more entries
 	stats   Stats
 	length  int64 // of the audit in bytes, as far as it is on the disk
+	// lastTurns and lastSync are how many turns the last commit served, and how long its sync took.
+	lastTurns int
+	lastSync  time.Duration
+	gathered  chan struct{} // closed once as many turns wait again
 
 	// Who leads owns these.
 	count  int // of the entries that the guard has
@@ -107,6 +118,10 @@ type Book struct {
 func (book *Book) Submit(turn *Turn) {
 	book.lock.Lock()
 	book.waiting = append(book.waiting, turn)
+	if book.gathered != nil && len(book.waiting) == book.lastTurns {
+		close(book.gathered)
+		book.gathered = nil
+	}
 	if book.led {
 		book.lock.Unlock()
 		if leads := <-turn.woken; !leads {
@@ -115,8 +130,10 @@ func (book *Book) Submit(turn *Turn) {
 		book.lock.Lock()
 	}
 	book.led = true
+	book.gather()
 	turns, stop := book.waiting, book.stop
 	book.waiting = nil
+	book.lastTurns = len(turns)
 	book.lock.Unlock()
 
 	book.serve(turns, stop)
@@ -126,6 +143,25 @@ func (book *Book) Submit(turn *Turn) {
 		}
 	}
 	book.handOn()
+}
+
+// gather waits for as many turns as the last sync served, at most for a part of its time: clients
+// that were answered together ask together again, and then one sync serves all of them. The lock is
+// held before and after.
+func (book *Book) gather() {
+	patience := book.lastSync / gatherPart
+	if patience < leastGather || book.lastTurns <= len(book.waiting) {
+		return
+	}
+	gathered := make(chan struct{})
+	book.gathered = gathered
+	book.lock.Unlock()
+	select {
+	case <-gathered:
+	case <-time.After(patience):
+	}
+	book.lock.Lock()
+	book.gathered = nil
 }
 
 // handOn lets the first of those who wait lead.
@@ -269,6 +305,9 @@ func (book *Book) publish(stats Stats, stop error) {
 	its.Refused += stats.Refused
 	its.Repeated += stats.Repeated
 	its.Syncs += stats.Syncs
+	if stats.Syncs > 0 {
+		book.lastSync = stats.Synced
+	}
 	its.Synced += stats.Synced
 	if stats.Made > 0 && book.grown != nil {
 		close(book.grown)

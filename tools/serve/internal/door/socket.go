@@ -9,8 +9,10 @@ import (
 	"io"
 	"net"
 	"os"
+	"runtime"
 	"sync/atomic"
 	"syscall"
+	"time"
 
 	"faultyard-serve/internal/book"
 )
@@ -20,6 +22,9 @@ const (
 	mostLine = 65_536
 	// mostAtOnce is how many lines of one client one turn takes.
 	mostAtOnce = 1024
+	// eagerTime is how long the next line of an only client is looked for before the server sleeps.
+	// To be woken costs more than the rest of a round trip.
+	eagerTime = 30 * time.Microsecond
 )
 
 // Lines answers the lines of `faultyard guard` to each who connects to a socket.
@@ -85,7 +90,7 @@ func (lines *Lines) talk(connection net.Conn) error {
 	if _, err := io.WriteString(connection, book.Header); err != nil {
 		return err
 	}
-	reader := bufio.NewReaderSize(connection, mostLine+2)
+	reader := bufio.NewReaderSize(lines.eager(connection), mostLine+2)
 	turn := book.NewTurn()
 	told := []byte{}
 	for number := 1; ; number += len(turn.Asks) {
@@ -102,6 +107,43 @@ func (lines *Lines) talk(connection net.Conn) error {
 			return err
 		}
 	}
+}
+
+// eager is a connection on which the next line is looked for before the server sleeps.
+type eager struct {
+	net.Conn
+	lines *Lines
+	raw   syscall.RawConn
+}
+
+// eager is the connection as it is read.
+func (lines *Lines) eager(connection net.Conn) io.Reader {
+	if its, is := connection.(syscall.Conn); is && runtime.NumCPU() > 1 {
+		if raw, err := its.SyscallConn(); err == nil {
+			return &eager{connection, lines, raw}
+		}
+	}
+	return connection
+}
+
+// Read looks for bytes for a while if there is one client, and then sleeps until some come.
+func (its *eager) Read(part []byte) (int, error) {
+	read := 0
+	if its.lines.Count() == 1 {
+		_ = its.raw.Read(func(descriptor uintptr) bool {
+			for until := time.Now().Add(eagerTime); read <= 0 && time.Now().Before(until); {
+				read, _ = syscall.Read(int(descriptor), part)
+				if read == 0 {
+					break // The input ends, which the next read tells.
+				}
+			}
+			return true
+		})
+	}
+	if read > 0 {
+		return read, nil
+	}
+	return its.Conn.Read(part)
 }
 
 // readTurn waits for a line, and takes in those that are there with it. It says whether the input
