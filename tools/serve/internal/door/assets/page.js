@@ -51,13 +51,14 @@ function actInWords(name, its) {
 
 /** The cells for what came of an act. */
 function replyInWords(reply) {
+  if (typeof reply === "string") return [reply, ""];
   if (reply.verdict) {
     const { struck, rule } = reply.verdict;
     return [struck ? make("b", "", struck) : make("span", "none", "nothing"), inWords(rule)];
   }
   if ("ruled" in reply) return [reply.ruled ? make("span", "none", "nothing") : "done", inWords(reply.ruled)];
   if (reply.no) return [make("span", "none", "refused"), reply.no.join(" ")];
-  return [typeof reply === "string" ? reply : Object.keys(reply)[0], ""];
+  return [Object.keys(reply)[0], ""];
 }
 
 /** Puts an entry on top of the last orders. */
@@ -73,7 +74,7 @@ const SIGNS = { up: "●", down: "○", clogged: "◐", destroyed: "✕", gone: 
 /** The states of a process, as words. */
 function statesOf(its) {
   const first = its.gone ? "gone" : its.up ? "up" : "down";
-  return [first, ...["destroyed", "clogged"].filter((it) => its[it] && !its.gone)];
+  return [first, ...["destroyed", "clogged"].filter((it) => its[it])];
 }
 
 const mark = (state, text) => make("span", `state ${state}`, `${SIGNS[state]} ${text}`);
