@@ -57,18 +57,22 @@ lib:
 	$(MAKE) --no-print-directory merged
 
 # The library is the crate's one object beside those of the toolchain's archive for memory, so that a program links with one
-# file. The shared library exports what the header declares. Without a C compiler there is none.
+# file. The shared library exports what the header declares. Without a C compiler there is none, and without Go no
+# faultyard-serve.
 merged:
 	rm -rf bin/objects
 	mkdir -p bin/objects
 	cd bin/objects && ar x ../../crates/fy_c/out/libfy_c.a && ar x $(KIT)/c/liblibc_c.a
-	rm -f bin/libfaultyard.*
+	rm -f bin/libfaultyard.* bin/faultyard-serve
 	ar rcsD bin/libfaultyard.a bin/objects/*.o
 	if command -v $(CC) > /dev/null; then \
 		$(CC) -shared -Wl,-soname,libfaultyard.so.1 -Wl,--version-script=release/libfaultyard.map \
 			-o bin/libfaultyard.so.$(VERSION) bin/objects/*.o && \
 		ln -s libfaultyard.so.$(VERSION) bin/libfaultyard.so.1 && \
 		ln -s libfaultyard.so.$(VERSION) bin/libfaultyard.so; \
+	fi
+	if command -v $(CC) > /dev/null && command -v go > /dev/null && command -v pkg-config > /dev/null; then \
+		tools/serve/build bin/libfaultyard.a bin/faultyard-serve; \
 	fi
 
 test:

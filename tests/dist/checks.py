@@ -101,6 +101,11 @@ def programs() -> list[str]:
 
 def options_of_tool(name: str) -> set[str]:
     """The options that the help of a tool lists; one that lists none has its help alone."""
-    block = said(tools()[name], "--help").partition("\noptions:\n")[2]
+    tool = tools()[name]
+    if name == "faultyard-serve":  # Its help is a file of its sources; only a release is built.
+        text = (ROOT / "tools/serve/help.txt").read_text()
+    else:
+        text = said(tool, "--help")
+    block = text.partition("\noptions:\n")[2]
     listed = re.findall(r"^  (?:(-[a-z]), )?(--[a-z-]+)", block, re.MULTILINE)
     return {it for pair in listed for it in pair if it} or {"-h", "--help"}

@@ -21,7 +21,7 @@ SHARED = f"libfaultyard.so.{version()}"
 
 # What a user of the archive looks for; release/layout isn't asked.
 COMMANDS = ("judge", "run", "check", "swarm", "guard", "show", "bears")
-TOOLS = ("nemesis", "config-check", "sweep", "shrink")
+TOOLS = ("nemesis", "serve", "config-check", "sweep", "shrink")
 WANTED = [
     "bin/faultyard",
     *(f"bin/faultyard-{it}" for it in TOOLS),
@@ -31,6 +31,7 @@ WANTED = [
     "lib/libfaultyard.so",
     "lib/libfaultyard.so.1",
     "lib/pkgconfig/faultyard.pc",
+    "lib/systemd/system/faultyard-serve@.service",
     "share/bash-completion/completions/faultyard",
     "share/zsh/site-functions/_faultyard",
     "share/fish/vendor_completions.d/faultyard.fish",

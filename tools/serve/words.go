@@ -1,6 +1,7 @@
 package main
 
 import (
+	_ "embed"
 	"errors"
 	"flag"
 	"fmt"
@@ -11,24 +12,8 @@ import (
 	"faultyard"
 )
 
-const help = `usage: faultyard-serve CONFIG --audit FILE [OPTION..]
-
-One guard that many ask, by a Unix socket and by HTTP. It answers once the entry is on the disk, and
-goes on with FILE when it is started again.
-
-  CONFIG             the cluster file
-  --audit FILE       the audit, which is begun where there is none; FILE.events stands beside it
-  --socket PATH      where the Unix socket is (FILE.socket)
-  --listen ADDRESS   answer HTTP too, at a host and a port, as 127.0.0.1:7077
-  --tokens FILE      who may ask by HTTP: lines TOKEN ACTOR, in a file of mode 0600;
-                     without it the host has to be an address of the loopback
-  --tls-cert FILE    the certificate of TLS, with --tls-key
-  --tls-key FILE     its key
-  -h, --help         print this help
-  -V, --version      print the version
-
-faultyard-serve(1) says more.
-`
+//go:embed help.txt
+var help string
 
 // words is what the command line says.
 type words struct {
@@ -50,7 +35,6 @@ func parsed(arguments []string, out io.Writer) (*words, error) {
 		flags.StringVar(value, name, "", "")
 	}
 	flags.BoolVar(&version, "version", false, "")
-	flags.BoolVar(&version, "V", false, "")
 	var names []string
 	for rest := arguments; ; {
 		err := flags.Parse(rest)
