@@ -14,6 +14,9 @@ STORE_FAULT in the environment plants a fault:
     invented    `read` tells of a record that nobody wrote
     partial     `read` leaves out each fifth record
     denied      `check` tells of no record that it asks server 2 for
+    elsewhere   `check` asks the server after the one that it was to ask
+    idle        `join` copies nothing
+    careless    `whole` copies nothing, and says yes
     quorum      `read` wants an answer of two servers
     crash       server 0 ends by itself, a second after each start
 """
@@ -28,7 +31,9 @@ from pathlib import Path
 
 FAULT = os.environ.get("STORE_FAULT", "")
 COUNT, PORT = int(os.environ["FY_COUNT"]), int(os.environ["FY_PORT"])
+JOINS = "STORE_JOINS" in os.environ  # `join` copies, so `whole` only looks
 NET = os.environ.get("STORE_NET", "")  # a network in which each server has an address of its own
+PAUSE = 0.004  # seconds that a write takes at least: with too many records hooks take too long
 Records = dict[str, str]
 
 
@@ -167,6 +172,7 @@ def write() -> None:
                 acknowledged += acknowledged < 2 and link.ask(f"put {line.strip()}") == ["ok"]
             except OSError:
                 pass
+        time.sleep(PAUSE)
         print(f"ok {int(key[2:])}" if acknowledged == 2 else "no", flush=True)
 
 
@@ -182,8 +188,17 @@ def whole(number: int) -> None:
     link = Link(number)
     have = link.records()
     lacks = {key: value for key, value in everything().items() if key not in have}
+    if lacks and JOINS:
+        sys.exit(0 if FAULT == "careless" else 1)
     if lacks and FAULT != "forgetful":
         link.ask(" ".join(["put", *(f"{key} {value}" for key, value in lacks.items())]))
+
+
+def join(number: int) -> None:
+    """Copies all that is left into an empty folder."""
+    if FAULT not in ("idle", "careless"):
+        lines = (f"{key} {value}\n" for key, value in everything().items())
+        Path(os.environ["FY_DIR"], str(number), "log").write_text("".join(lines))
 
 
 def check() -> None:
@@ -191,8 +206,9 @@ def check() -> None:
     links = [Link(number) for number in range(COUNT)]
     for line in sys.stdin:
         number, key = line.split()
+        asked = (int(number) + (FAULT == "elsewhere")) % COUNT
         try:
-            told = links[int(number)].ask(f"get {key}")[0]
+            told = links[asked].ask(f"get {key}")[0]
         except OSError:
             told = "?"
         print("none" if FAULT == "denied" and number == "2" else told, flush=True)
@@ -224,6 +240,8 @@ def main() -> None:
             whole(int(number))
         case ["write"]:
             write()
+        case ["join", number]:
+            join(int(number))
         case ["check"]:
             check()
         case ["salvage", _]:

@@ -147,8 +147,16 @@ class Clients:
             await asyncio.sleep(LAGS if keys else 0)
         return found
 
-    async def read(self) -> dict[str, str] | None:
-        """What is left, which may need some tries; None if nothing could be read."""
+    async def ask_once(self, number: int, key: str) -> Operation:
+        """Asks a process for one record, whatever it is."""
+        async with self.hooks.running("check", stdin=PIPE, stdout=PIPE) as process:
+            return await self._check_one(process, self.history.client(), number, key)
+
+    async def read(self, is_noted: bool = True) -> dict[str, str] | None:
+        """What is left, which may need some tries; None if nothing could be read.
+
+        It is noted in the history, which it may only be if nothing else is asked at once.
+        """
         until = time.monotonic() + self.hooks.seconds("read")
         began = self.ledger.now_ns()
         while (text := await self.hooks.call("read")) is None:
@@ -157,7 +165,8 @@ class Clients:
             await asyncio.sleep(0.5)
             began = self.ledger.now_ns()
         found = pairs("read", text)
-        self.history.read_all(began, found)
+        if is_noted:
+            self.history.read_all(began, found)
         return found
 
 

@@ -5,8 +5,8 @@ import shutil
 import socket
 from argparse import Namespace
 from asyncio.subprocess import PIPE, Process
-from collections.abc import AsyncIterator
-from contextlib import AbstractAsyncContextManager, asynccontextmanager, suppress
+from collections.abc import AsyncIterator, Sequence
+from contextlib import asynccontextmanager, suppress
 from pathlib import Path
 from random import SystemRandom
 from typing import Any, NamedTuple
@@ -17,15 +17,16 @@ from faultyard.ledger import Ledger
 from keeper import output, running
 
 from . import HOOK, TOOL, USAGE, Fault
+from .hook_log import HookLog
 
 NEEDED = {"start", "whole", "write", "read"}
 KNOWN = NEEDED | {"hooks", "setup", "ready", "join", "leave", "elect", "pause", "resume"}
 KNOWN |= {"check", "salvage", "fresh"}  # fresh is no hook, but a promise of check's answers
 # Some copy: they have six times as long.
 SLOW = {"hooks", "setup", "join", "elect", "read", "salvage"}
+NEEDS = {"pause": "resume", "resume": "pause", "fresh": "check"}  # one without the other is wrong
 PORTS = 4  # for each process
 SOURCES = str(Path(faultyard.__file__).parents[1])
-Running = AbstractAsyncContextManager[Process]
 
 
 class End(NamedTuple):
@@ -45,7 +46,7 @@ class Hooks:
         self._path, self._ledger = words.hooks, ledger
         self.limit: float = words.hook_timeout
         self._zones = [place[Key.ZONE] for place in file.places]
-        self._log = (words.out / "hooks.log").open("ab")
+        self._log = HookLog(words.out / "hooks.log", ledger.now)
         self._env = os.environ | {
             "FY_DIR": str(words.out),
             "FY_PORT": str(free_ports(PORTS * len(file.places))),
@@ -66,6 +67,9 @@ class Hooks:
         names = set((text or "").split())
         wrong = [f"hooks: there is no hook named {it}" for it in sorted(names - KNOWN)]
         wrong += [f"hooks: {it} is missing" for it in sorted(NEEDED - names)]
+        for name, other in NEEDS.items():
+            if name in names and other not in names:
+                wrong.append(f"hooks: {name} is there without {other}")
         if text is None:
             wrong = [f"{self.ends['hooks']}; it has to print the names of all hooks that there are"]
         if wrong:
@@ -79,36 +83,40 @@ class Hooks:
             yield
             return
         shell = '"$0" setup < /dev/null >&2; echo $?; exec sleep infinity'
-        async with running("sh", "-c", shell, self._path, stdout=PIPE, **self._more()) as process:
-            assert process.stdout
-            status = None
-            with suppress(TimeoutError):
-                async with asyncio.timeout(self.seconds("setup")):
-                    status = int(await process.stdout.readline() or -1)
-            if status != 0:
-                log = f"{self._env['FY_DIR']}/hooks.log"
-                raise Fault(HOOK, f"{End('setup', status)}; {log} may say why")
-            yield
+        with self._log.of("setup") as log:
+            files = {"stdout": PIPE, "stderr": log, "env": self._variables()}
+            async with running("sh", "-c", shell, self._path, **files) as process:
+                assert process.stdout
+                status = None
+                with suppress(TimeoutError):
+                    async with asyncio.timeout(self.seconds("setup")):
+                        status = int(await process.stdout.readline() or -1)
+                if status != 0:
+                    path = f"{self._env['FY_DIR']}/hooks.log"
+                    raise Fault(HOOK, f"{End('setup', status)}; {path} may say why")
+                yield
 
     def seconds(self, name: str) -> float:
         """How long a hook may take."""
         return self.limit * (6 if name in SLOW else 1)
 
-    def running(self, name: str, *numbers: int, **files: Any) -> Running:
+    @asynccontextmanager
+    async def running(self, name: str, *numbers: int, **files: Any) -> AsyncIterator[Process]:
         """A hook that runs until the block ends."""
-        return running(self._path, name, *numbers, **self._more(*numbers) | files)
+        with self._log.of(called(name, numbers)) as log:
+            more = {"env": self._variables(*numbers), "stderr": log} | files
+            async with running(self._path, name, *numbers, **more) as process:
+                yield process
 
     async def call(self, name: str, *numbers: int, **variables: str) -> str | None:
         """What a hook prints; None if it says no or hangs. One that there isn't says yes."""
         if name not in self.names:
             return ""
-        status, text, more = None, "", self._more(*numbers)
-        more["env"] |= variables
-        with suppress(TimeoutError):
+        status, text, env = None, "", self._variables(*numbers) | variables
+        with suppress(TimeoutError), self._log.of(called(name, numbers)) as log:
             async with asyncio.timeout(self.seconds(name)):
-                status, text = await output(self._path, name, *numbers, **more)
-        end = End(" ".join([name, *map(str, numbers)]), status)
-        self.ends[numbers[0] if numbers else name] = end
+                status, text = await output(self._path, name, *numbers, env=env, stderr=log)
+        self.ends[numbers[0] if numbers else name] = End(called(name, numbers), status)
         return text if status == 0 else None
 
     async def salvage(self, number: int) -> str | None:
@@ -118,7 +126,8 @@ class Hooks:
         copy.parent.mkdir(exist_ok=True)
         try:
             # Some stores look at the owner of their files, which shutil doesn't keep.
-            await output("cp", "-a", folder / str(number), copy, stderr=self._log)
+            with self._log.of(f"cp for salvage {number}") as log:
+                await output("cp", "-a", folder / str(number), copy, stderr=log)
             return await self.call("salvage", number, FY_COPY=str(copy))
         finally:
             shutil.rmtree(copy, ignore_errors=True)
@@ -129,11 +138,14 @@ class Hooks:
         """Whether a hook says yes."""
         return await self.call(name, *numbers) is not None
 
-    def _more(self, *numbers: int) -> dict[str, Any]:
+    def _variables(self, *numbers: int) -> dict[str, str]:
         env = self._env | {"FY_ABLE": " ".join(map(str, sorted(self._ledger.able)))}
-        if numbers:
-            env["FY_ZONE"] = self._zones[numbers[0]]
-        return {"env": env, "stderr": self._log}
+        return env | {"FY_ZONE": self._zones[numbers[0]]} if numbers else env
+
+
+def called(name: str, numbers: Sequence[int]) -> str:
+    """How a hook is called."""
+    return " ".join([name, *map(str, numbers)])
 
 
 def free_ports(count: int) -> int:

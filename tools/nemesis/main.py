@@ -10,7 +10,7 @@ import tempfile
 from pathlib import Path
 
 import faultyard
-from faultyard import ConfigRefused, FaultyardError, Guard, InvalidAct, NotFound
+from faultyard import ConfigRefused, FaultyardError, Guard, InvalidAct, Kind, NotFound
 from faultyard.plans import PLANS
 from config_check.main import explain
 from keeper import adopt_orphans, end_children
@@ -35,6 +35,14 @@ def numbers(text: str) -> list[float]:
     return found
 
 
+def weights(text: str) -> list[float]:
+    """A weight for each kind."""
+    found = numbers(text)
+    if len(found) != len(Kind):
+        raise argparse.ArgumentTypeError(f"{len(Kind)} weights are wanted, and {len(found)} are given")
+    return found
+
+
 def parsed() -> argparse.Namespace:
     """The words of the command line, which have to be right."""
     it = argparse.ArgumentParser("faultyard-nemesis", description=about, allow_abbrev=False)
@@ -45,7 +53,7 @@ def parsed() -> argparse.Namespace:
     add("--seconds", type=float, default=60.0, help="how long records are written (60)")
     add("--plan", choices=PLANS, default="mixed", help="how orders are drawn (mixed)")
     text = f"how often each kind that is granted is drawn, from the mildest; Clog last ({KINDS})"
-    add("--kinds", type=numbers, default=KINDS, metavar="WEIGHTS", help=text)
+    add("--kinds", type=weights, default=KINDS, metavar="WEIGHTS", help=text)
     text = f"between mixed orders ({PAUSES})"
     add("--pauses", type=numbers, default=PAUSES, metavar="SECONDS", help=text)
     add("--replay", type=Path, metavar="EVENTS", help="do the orders of an events.jsonl again")
@@ -84,7 +92,15 @@ async def chaos(words: argparse.Namespace) -> int:
         loop.add_signal_handler(number, task.cancel, int(number))
     with Guard(words.config, folder=words.out) as guard:
         run = Run(words, guard)
-        await run.whole()
+        try:
+            await run.whole()
+        except asyncio.CancelledError:
+            run.unread()
+            if run.ledger.has_begun():
+                report(run, is_read=False)
+            raise
+        finally:
+            run.history.flush()
     status = report(run)
     if status == NONE_LOST and not words.keep:
         for process in range(len(run.names)):
@@ -138,15 +154,17 @@ def write_files(run: Run) -> str:
     return checked
 
 
-def report(run: Run) -> int:
+def report(run: Run, is_read: bool = True) -> int:
     """Prints what a run comes to, and says how the tool ends."""
     words, counts, checked = run.words, run.counts(), write_files(run)
     lines = run.summary(f"seed {words.seed}") + run.notes
-    if not words.check_hooks:
+    lines += [f"{run.names[number]} {crashes}" for number, crashes in sorted(run.crashes.items())]
+    acked = len(run.ledger.records)
+    if is_read and not words.check_hooks:
         healed, destroyed = len(run.ledger.healed), len(run.ledger.losses)
-        lines += tested_little(len(run.judged), run.ledger.pauses(), destroyed, healed)
+        lines += tested_little(acked, run.ledger.pauses(), destroyed, healed)
     lines += told_cases(run.cases(), SHOWN)
-    ending = closing(len(run.judged), counts)
+    ending = closing(acked, counts) if is_read else f"{acked} acknowledged so far, not read"
     (words.out / "picture.svg").write_text(draw(words.out, run.file, [lines[0], ending]), "utf-8")
     say("\n".join([*lines, f"{ending}; audit {checked}; {words.out}"]))
     if checked != f"legal {run.guard.journal_len()}":

@@ -14,7 +14,8 @@ from faultyard.harness import read_orders
 from faultyard.plans import Draw, Order
 from faultyard.server import serve
 
-from . import HOOK, USAGE, Fault
+from . import HOOK, Fault
+from .checks import HookCheck
 from .clients import Clients, pairs
 from .evidence import Case, Course, wrong_line
 from .history import History, Operation
@@ -54,18 +55,11 @@ class Run(Store):
             raise faults.exceptions[0] from None
 
     def _planned(self) -> Iterator[Timed]:
-        """Orders and their times: of another run, of a plan, or such as have each hook called."""
-        words, hooks, granted = self.words, self.hooks.names, self.file.actors[self.fault].kinds
+        """Orders and their times: of another run, or of a plan."""
+        words, granted = self.words, self.file.actors[self.fault].kinds
         if words.replay:
             yield from read_orders(words.replay)
-        elif words.check_hooks:
-            clog = [Kind.CLOG] if {"pause", "resume"} & hooks and Kind.CLOG in granted else []
-            for name in self.names:
-                for kind in (*clog, Kind.REBOOT, Kind.REBOOT_AND_DELETE):
-                    yield 0, Order(kind, Key.PROCESS, name, clogged=1.0)
-            if "leave" in hooks and Kind.KILL_INSTANTLY in granted:
-                yield 0, Order(Kind.KILL_INSTANTLY, Key.PROCESS, self.names[-1])
-        else:
+        elif not words.check_hooks:
             weights = {kind: it for kind, it in zip(Kind, words.kinds) if kind in granted}
             draw, at = Draw(Random(words.seed), self.file.places, weights, words.pauses), FIRST
             for order in getattr(draw, words.plan)():
@@ -83,26 +77,18 @@ class Run(Store):
         if words.socket:
             work.append(serve(words.socket, self.asked))
         behind = [self.tasks.create_task(it) for it in work]
+        if words.check_hooks:
+            self.notes += await HookCheck(self).whole()
         for at, order in orders:
-            await asyncio.sleep(1 if words.check_hooks else at - self.ledger.now())
+            await asyncio.sleep(at - self.ledger.now())
             await self.obey(self.fault, order.act())
-            if words.check_hooks:
-                await self._check(order)
-        await asyncio.sleep(0 if words.check_hooks else words.seconds - self.ledger.now())
+        if not words.check_hooks:
+            await asyncio.sleep(words.seconds - self.ledger.now())
         async with self.turn:
             await cancelled(behind)
         self.ledger.stop()
         self.note("written")
         await self.clogs_ended(at_once=True)
-
-    async def _check(self, order: Order) -> None:
-        """Waits until all came back after an order."""
-        kind, done = order.kind.value, self.orders[-1]
-        if done["does"] != kind:
-            raise Fault(USAGE, f"{kind} of {order.value} is barred by {done['rule']}")
-        await self.clogs_ended()
-        await self.calm()
-        self.show(f"{order.value} is {'out' if order.kind.is_final else 'back'} after {kind}")
 
     async def _read(self) -> Left:
         """What the store tells at the end, all of it and each process alone."""
@@ -157,6 +143,7 @@ class Run(Store):
         return dict(zip(numbers, disks))
 
     async def _disk(self, number: int) -> Disk:
+        """What the folder of a process has, which doesn't run."""
         if number in self.gone or number in self.emptied:
             return {}
         text = await self.hooks.salvage(number)
@@ -175,6 +162,11 @@ class Run(Store):
             left,
             "fresh" in self.hooks.names,
         )
+
+    def unread(self) -> None:
+        """Says what is known of the records where nothing was read in the end."""
+        self.judged, self.course = [], self._course(Left())
+        self.wrong = wrong(self.history.writes, self.history.reads)
 
     def counts(self) -> dict[str, int]:
         """How many records there are of each verdict; wrong are all keys that were read so."""

@@ -1,22 +1,28 @@
 """The processes of a store: started, struck and brought back by hooks, as a guard allows."""
 import asyncio
 import math
+import os
 import shutil
 import signal
+import tempfile
 import time
 from argparse import Namespace
 from asyncio.subprocess import DEVNULL, Process
-from collections.abc import Sequence
+from collections.abc import AsyncIterator, Sequence
+from contextlib import asynccontextmanager, suppress
+from pathlib import Path
 
 from faultyard import ClusterFile, Guard, Kind
 from faultyard.harness import Harness
 from keeper import signal_below
 
 from . import HOOK, Fault, say
+from .crashes import Crashes, end_of_log
 from .hooks import End, Hooks
 
 AGAIN = 0.1  # seconds until a hook that said no is asked again
 ALONE = 20.0  # seconds for which a process that joined has to be ready before another may join
+CRASHES_SHOWN = 3  # of each process; the summary counts all
 LIVES = 0.5  # seconds after which a process counts as ready where no hook tells
 
 
@@ -28,8 +34,13 @@ class Store(Harness):
         self.words, self.hooks = words, Hooks(words, file, self.ledger)
         self._keeping: dict[int, asyncio.Task[None]] = {}  # each brings a process back
         self._started: dict[int, Process] = {}
+        self._began: dict[int, float] = {}  # when each was started last
+        self.starts: list[float] = []  # how many seconds each start took until it was up
+        self.crashes: dict[int, Crashes] = {}  # of those that ended by themselves
         self.emptied: set[int] = set()  # until they have joined, or left
         self._ended: dict[int, str] = {}  # how each last ended by itself, until it is up
+        self.joined: dict[int, str] = {}  # what the last join of each has done, until it is struck
+        self.idle: set[int] = set()  # those whose last join left the folder empty
         self._elected = 0  # how many of the losses an election has seen
         self._joining, self._alone_until = 0, 0.0
 
@@ -59,11 +70,28 @@ class Store(Harness):
             return [f"there is no election: {self.hooks.ends.get('elect', 'it was not asked for')}"]
         whole = self.up - self.ledger.destroyed.keys() | self.gone - self.emptied
         return [
-            f"{name} is not {'out' if number in self.gone else 'back'}: "
-            f"{self.hooks.ends.get(number, 'it was not started')}{self._ended.get(number, '')}"
+            f"{name} is {self._state(number)}: {self._last(number)}{self._ended.get(number, '')}"
             for number, name in enumerate(self.names)
             if number not in whole
         ]
+
+    def _state(self, number: int) -> str:
+        """What a process is that isn't back."""
+        if number in self.gone:
+            return "not out"
+        return "up and not whole" if number in self.up else "not back"
+
+    def _last(self, number: int) -> str:
+        """What its last hook said since it was struck."""
+        end = self.hooks.ends.get(number)
+        if end is None:
+            waits = number in self.emptied and self._joining != number
+            other = f"it waits until {self.names[self._joining]} has joined"
+            return other if waits else "no hook has answered since it went down"
+        if end.status == 0:
+            return f"{end.call} said yes, and no hook has answered since"
+        joined = self.joined.get(number)
+        return f"{end}; {joined}" if joined and number not in self.emptied else str(end)
 
     async def end(self) -> None:
         """Ends all; nothing is told to the guard then."""
@@ -77,14 +105,26 @@ class Store(Harness):
         """Ends them all at once, with the hooks that work for them, to be brought back."""
         await cancelled([self._keeping[number] for number in processes])
         for number in processes:
+            self.hooks.ends.pop(number, None)
+            self.joined.pop(number, None)
             if emptied:
                 self._empty(number)
             self._keeping[number] = self.tasks.create_task(self._keep(number))
 
+    @asynccontextmanager
+    async def held_down(self, number: int) -> AsyncIterator[None]:
+        """Nothing of a process runs until the block ends."""
+        async with self.turn:
+            await cancelled([self._keeping[number]])
+            self.hooks.ends.pop(number, None)
+            self.tell_ended(number, "restart")
+        try:
+            yield
+        finally:
+            self._keeping[number] = self.tasks.create_task(self._keep(number))
+
     def _empty(self, number: int) -> None:
-        data = self.words.out / str(number)
-        shutil.rmtree(data, ignore_errors=True)
-        data.mkdir()  # which fails if something is left
+        empty(self.words.out / str(number))
         self.emptied.add(number)
 
     async def clog(self, processes: Sequence[int], is_clogged: bool) -> None:
@@ -105,17 +145,27 @@ class Store(Harness):
             await self._join(number)
         while number not in self.gone:
             with (self.words.out / f"{self.names[number]}.log").open("ab") as log:
-                files = {"stdin": DEVNULL, "stdout": log, "stderr": log}
+                begin, files = log.tell(), {"stdin": DEVNULL, "stdout": log, "stderr": log}
+                self._began[number] = time.monotonic()
                 async with self.hooks.running("start", number, **files) as process:
                     self._started[number] = process
                     while process.returncode is None:
                         await self._ask_after(number, process)
                         await asyncio.sleep(AGAIN)
-            self._ended[number] = f"; its last process ended with status {process.returncode}"
-            self.hooks.ends.setdefault(number, End(f"start {number}", process.returncode))
-            self.note("ended", process=number, status=process.returncode)
-            if number in self.up:
-                self.tell_ended(number, "ended by itself")
+            self._end_by_itself(number, process.returncode, begin)
+
+    def _end_by_itself(self, number: int, status: int, begin: int) -> None:
+        """Notes that a process ended which nobody struck, with the end of what it wrote."""
+        name, is_up = self.names[number], number in self.up
+        log = end_of_log(self.words.out / f"{name}.log", begin)
+        self._ended[number] = f"; its last process ended with status {status}"
+        self.hooks.ends.setdefault(number, End(f"start {number}", status))
+        self.note("ended", process=number, status=status, was_up=is_up, log=log)
+        crashes = self.crashes.setdefault(number, Crashes())
+        if crashes.add(is_up, status, log) <= CRASHES_SHOWN:
+            self.show(f"{name} ended by itself{'' if is_up else ' before it was up'}, {crashes.last}")
+        if is_up:
+            self.tell_ended(number, "ended by itself")
 
     async def _join(self, number: int) -> None:
         """Makes it a new member, one after the other; or has it leave for good."""
@@ -127,9 +177,20 @@ class Store(Harness):
                 self._empty(number)
                 if await self.hooks.says(hook, number):
                     self.emptied.discard(number)
+                    if hook == "join":
+                        self._note_join(number)
             await asyncio.sleep(AGAIN)
         self._alone_until = 0.0 if number in self.gone else time.monotonic() + ALONE
         self.note(hook, process=number)
+
+    def _note_join(self, number: int) -> None:
+        """Keeps what a `join` has done, in case the process doesn't come back."""
+        self.idle.discard(number)
+        if "join" in self.hooks.names:
+            if not any((self.words.out / str(number)).iterdir()):
+                self.idle.add(number)
+            left = " and left its folder empty" if number in self.idle else ""
+            self.joined[number] = f"join {number} had said yes{left}"
 
     async def _ask_after(self, number: int, process: Process) -> None:
         """Asks whether it is ready, and later whether it is whole, and tells the guard."""
@@ -138,6 +199,7 @@ class Store(Harness):
                 await asyncio.sleep(LIVES)
             if await self.hooks.says("ready", number) and process.returncode is None:
                 self._ended.pop(number, None)
+                self.starts.append(time.monotonic() - self._began[number])
                 self.tell_up(number)
         elif number in self.ledger.destroyed and self._is_elected():
             whole = await self.hooks.says("whole", number, self.ledger.due(number))
@@ -173,6 +235,15 @@ class Store(Harness):
             if number not in self.gone:
                 await self._take_down([number], what == "empty")
                 self.tell_ended(number, "restart")
+
+
+def empty(folder: Path) -> None:
+    """Empties a folder, also while something writes into it."""
+    old = tempfile.mkdtemp(prefix=f".{folder.name}-", dir=folder.parent)
+    with suppress(FileNotFoundError):  # a hook may have removed it
+        os.replace(folder, old)
+    folder.mkdir(exist_ok=True)
+    shutil.rmtree(old, ignore_errors=True)
 
 
 async def cancelled(tasks: Sequence[asyncio.Task[None]]) -> None:

@@ -1,0 +1,169 @@
+"""Tries each hook on a calm cluster, and says which one is wrong."""
+import asyncio
+import time
+from collections.abc import Iterable, Mapping
+from typing import TYPE_CHECKING
+
+from faultyard import Key, Kind
+from faultyard.plans import Order
+
+from . import HOOK, USAGE, Fault
+from .clients import pairs
+
+if TYPE_CHECKING:
+    from .run import Run
+
+BEFORE = 1.0  # seconds of writes before each order
+MOST = 200  # records for which a process is asked
+NEVER = "r/999999999"  # a key that is never written
+HEALS = 3  # so many a run should have time for
+CALM = "nothing was struck yet"
+Records = Mapping[str, str]
+
+
+class HookCheck:
+    """Strikes each process in turn, and looks whether hooks said what is so."""
+
+    def __init__(self, run: "Run") -> None:
+        self.run, self.hooks, self.clients = run, run.hooks, run.clients
+        self.healed: list[int] = []  # whose `whole` was believed
+
+    async def whole(self) -> list[str]:
+        """Calls each hook; how long a start and a heal take."""
+        await asyncio.sleep(BEFORE)
+        await self._calm()
+        granted = self.run.file.actors[self.run.fault].kinds
+        clog = [Kind.CLOG] if "pause" in self.hooks.names and Kind.CLOG in granted else []
+        for number, name in enumerate(self.run.names):
+            for kind in (*clog, Kind.REBOOT):
+                await self._order(kind, name)
+            before = self._known()
+            await self._order(Kind.REBOOT_AND_DELETE, name)
+            await self._healed(number, before)
+        if "leave" in self.hooks.names and Kind.KILL_INSTANTLY in granted:
+            await self._order(Kind.KILL_INSTANTLY, self.run.names[-1])
+        return self.times()
+
+    async def _order(self, kind: Kind, name: str) -> None:
+        """Has a process struck, and waits until it is back."""
+        await asyncio.sleep(BEFORE)
+        run = self.run
+        await run.obey(run.fault, Order(kind, Key.PROCESS, name, clogged=1.0).act())
+        if (done := run.orders[-1])["does"] != kind.value:
+            raise Fault(USAGE, f"{kind.value} of {name} is barred by {done['rule']}")
+        await run.clogs_ended()
+        await run.calm()
+        run.show(f"{name} is {'out' if kind.is_final else 'back'} after {kind.value}")
+
+    def _known(self) -> dict[str, str]:
+        """The records that are acknowledged by now."""
+        return {key: record.value for key, record in self.run.ledger.records.items()}
+
+    # Before anything was struck.
+
+    async def _calm(self) -> None:
+        """Looks at what is read while all are up."""
+        known = self._known()
+        read = await self._lacked_by_read(known)
+        told = {number: await self._told(number, known) for number in range(len(self.run.names))}
+        answers = [value for found in told.values() for value in found.values()]
+        if read:
+            blamed = "`read`" if any(answers) else "`write`" if answers else "`write` or `read`"
+            raise wrong(f"{CALM}, and `read` lacks {counted(read, known)}: {blamed} is wrong")
+        for number, found in told.items():
+            if lacks := [key for key, value in found.items() if value != known[key]]:
+                text = f"{CALM}, and {self.run.names[number]} lacks {counted(lacks, found)} by `check`"
+                raise wrong(f"{text}, which `read` has: `check` is wrong, or it gets no records")
+        for number in told if "check" in self.hooks.names else ():
+            asked = await self.clients.ask_once(number, NEVER)
+            if asked.value is not None:
+                text = f"`check` told {asked.value} for {NEVER}, which nobody wrote"
+                raise wrong(f"{text}: `check` is wrong")
+
+    # After one was emptied.
+
+    async def _healed(self, number: int, before: Records) -> None:
+        """Looks whether a process has all records that were acknowledged before it was emptied."""
+        name = self.run.names[number]
+        if read := await self._lacked_by_read(before):
+            healed = " ".join(f"`whole {it}`" for it in self.healed)
+            blamed = f"{healed} said yes too early" if healed else "`write` said ok too early"
+            text = f"after {name} was emptied `read` lacks {counted(read, before)}"
+            raise wrong(f"{text}: {blamed}, or the policy is wrong")
+        found = {
+            "check": await self._told(number, before),
+            "salvage": await self._on_disk(number, before),
+        }
+        lacks = {
+            hook: lacking
+            for hook, told in found.items()
+            if (lacking := [key for key in told if told[key] != before[key]])
+        }
+        for hook, lacking in lacks.items():
+            text = f"`whole {number}` said yes, and {name} lacks {counted(lacking, before)}"
+            how = " and ".join(f"`{it}`" for it in lacks)
+            blamed = "`whole`" if len(lacks) == 2 else f"`whole` or `{hook}`"
+            idle = f"; {self.run.joined[number]}" if number in self.run.idle else ""
+            raise wrong(f"{text} by {how}{idle}: {blamed} is wrong")
+        self.healed.append(number)
+
+    async def _on_disk(self, number: int, before: Records) -> dict[str, str | None]:
+        """What the folder of a process alone has of some records, if a hook tells."""
+        if "salvage" not in self.hooks.names:
+            return {}
+        async with self.run.held_down(number):
+            if "check" in self.hooks.names and before:
+                await self._ask_the_dead(number, next(iter(before)))
+            text = await self.hooks.salvage(number)
+        if text is None:
+            raise wrong(f"{self.hooks.ends[number]}; hooks.log may say why")
+        await self.run.calm()
+        disk = pairs(f"salvage {number}", text)
+        return {key: disk.get(key) for key in before}
+
+    async def _ask_the_dead(self, number: int, key: str) -> None:
+        """A process that doesn't run tells nothing."""
+        asked = await self.clients.ask_once(number, key)
+        if asked.type == "ok":
+            text = f"`check` told {asked.value or 'none'} of {self.run.names[number]}"
+            raise wrong(f"{text}, which doesn't run: `check` asks another process")
+
+    # What is told.
+
+    async def _lacked_by_read(self, known: Records) -> list[str]:
+        """The records that `read` lacks."""
+        if (found := await self.clients.read(is_noted=False)) is None:
+            raise wrong(f"nothing could be read, though all is up: {self.hooks.ends['read']}")
+        return [key for key, value in known.items() if found.get(key) != value]
+
+    async def _told(self, number: int, known: Records) -> dict[str, str | None]:
+        """What a process tells by `check` of the newest records, once it had time for all."""
+        if "check" not in self.hooks.names:
+            return {}
+        until = time.monotonic() + self.hooks.limit
+        return await self.clients.check_all(number, list(known)[-MOST:], until)
+
+    def times(self) -> list[str]:
+        """How long a start and a heal took, and whether a run leaves time for that."""
+        words, starts, heals = self.run.words, self.run.starts, self.run.ledger.healed
+        start, heal = max(starts, default=0.0), max(heals, default=0.0)
+        lines = [f"a start took up to {start:.1f} s, a heal up to {heal:.1f} s"]
+        pause = sum(words.pauses) / len(words.pauses)
+        if pause < start:
+            text = f"--pauses are {pause:.1f} s on average, shorter than a start"
+            lines.append(f"{text}: take some like {start:.0f},{2 * start:.0f}")
+        if words.seconds < HEALS * heal:
+            least = f"{HEALS * heal:.0f}"
+            lines.append(f"--seconds {words.seconds:g} leaves no time for {HEALS} heals: take {least} or more")
+        return lines
+
+
+def counted(lacks: Iterable[str], known: Iterable[str]) -> str:
+    """How many records of how many."""
+    first, *more = sorted(lacks)
+    return f"{1 + len(more)} of {len(list(known))} records ({first}{' ..' if more else ''})"
+
+
+def wrong(text: str) -> Fault:
+    """A hook is wrong."""
+    return Fault(HOOK, text)

@@ -1,0 +1,52 @@
+"""What hooks write to standard error: a file of lines, each with its time and the hook."""
+import asyncio
+import os
+from collections.abc import Callable, Iterator
+from contextlib import contextmanager, suppress
+from pathlib import Path
+
+MOST = 1 << 16  # bytes that are read at once
+
+
+class HookLog:
+    def __init__(self, path: Path, now: Callable[[], float]) -> None:
+        self._file = path.open("ab", buffering=0)
+        self._now = now
+
+    @contextmanager
+    def of(self, call: str) -> Iterator[int]:
+        """A descriptor for the standard error of a hook, which has ended when the block ends."""
+        source, sink = os.pipe()
+        os.set_blocking(source, False)
+        lines = _Lines(lambda line: self._write(call, line))
+        loop = asyncio.get_running_loop()
+        loop.add_reader(source, lambda: lines.take(os.read(source, MOST)))
+        try:
+            yield sink
+        finally:
+            loop.remove_reader(source)
+            os.close(sink)
+            with suppress(BlockingIOError):  # where something escaped, and may still write
+                while data := os.read(source, MOST):
+                    lines.take(data)
+            lines.end()
+            os.close(source)
+
+    def _write(self, call: str, line: bytes) -> None:
+        self._file.write(f"{self._now():7.2f}  {call}: ".encode() + line + b"\n")
+
+
+class _Lines:
+    """Cuts what comes into lines."""
+
+    def __init__(self, write: Callable[[bytes], None]) -> None:
+        self._write, self._rest = write, b""
+
+    def take(self, data: bytes) -> None:
+        *lines, self._rest = (self._rest + data).split(b"\n")
+        for line in lines:
+            self._write(line)
+
+    def end(self) -> None:
+        if self._rest:
+            self._write(self._rest)
