@@ -17,6 +17,7 @@ from keeper import adopt_orphans, end_children
 
 from . import GUARD, NONE_LOST, TOOL, USAGE, Fault, say, summary
 from . import __doc__ as about
+from .edn import Convert
 from .evidence import told_cases
 from .picture import draw
 from .run import Run
@@ -67,6 +68,8 @@ def parsed() -> argparse.Namespace:
     add("--out", type=Path, metavar="FOLDER", help="empty or new; else a new one below TMPDIR")
     add("--keep", action="store_true", help="keep the data of the processes if nothing is lost")
     add("--quiet", action="store_true", help="print the summary alone")
+    text = "print the history of a run that has ended as EDN, and do nothing else"
+    add("--edn", action=Convert, metavar="FOLDER", help=text)
     words = it.parse_args()
     for name, least in (("seed", 0), ("seconds", 0), ("writers", 1), ("readers", 0), ("hook_timeout", 0.1)):
         if not least <= vars(words)[name] < 1e9:

@@ -11,6 +11,7 @@ complete -c faultyard-nemesis -l unguarded -d "Do what was ordered, whatever the
 complete -c faultyard-nemesis -l check-hooks -d "Call each hook on a calm cluster"
 complete -c faultyard-nemesis -l writers -x -d "How many write hooks run"
 complete -c faultyard-nemesis -l readers -x -d "How many check hooks run"
+complete -c faultyard-nemesis -l edn -r -d "Print the history of a run as EDN"
 complete -c faultyard-nemesis -l hook-timeout -x -d "How long a hook may take"
 complete -c faultyard-nemesis -l socket -r -d "A Unix socket by which others ask the guard"
 complete -c faultyard-nemesis -l out -r -d "The folder of the run"
