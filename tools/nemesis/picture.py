@@ -224,7 +224,7 @@ class _Picture:
             sides = "; ".join(f"{name} not to {' '.join(to)}" for name, to in heard.items())
             told = f"partition {it.shape} from {it.begin:.1f} to {it.end:.1f} s: {sides}"
             x, wide = self.x(it.begin), round(self.x(it.end) - self.x(it.begin), 1)
-            place = f'x="{x}" y="{y - 5}" width="{wide}" height="10"'
+            place = f'x="{x}" y="{y - 7}" width="{wide}" height="14"'
             yield f'<rect {place} class="clog"><title>{escape(told)}</title></rect>'
             if wide > LETTER * len(it.shape) + 8:
                 yield f'<text x="{x + 4}" y="{y + 4}" class="word">{escape(it.shape)}</text>'
