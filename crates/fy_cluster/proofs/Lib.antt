@@ -13,6 +13,7 @@ pub mod Healed
 pub mod Journals
 pub mod Judged
 pub mod Keepers
+pub mod Least
 pub mod Losing
 pub mod Needed
 pub mod Records

@@ -34,11 +34,11 @@ missing_more marks q ps b is =
     go true = omega arith
     go false = omega arith
 
-has_inserted : (marks : sets.FinSet nat_cmp) (p q : ℕ) → sets.contains (sets.insert marks p) q ≡ (eqb q p || sets.contains marks q)
+pub has_inserted : (marks : sets.FinSet nat_cmp) (p q : ℕ) → sets.contains (sets.insert marks p) q ≡ (eqb q p || sets.contains marks q)
 has_inserted marks p q =
     sets.contains-insert nat_cmp_total marks p q ∙ ap (λ b. b || sets.contains marks q) (unsigned_tied q p)
 
-has_removed : (marks : sets.FinSet nat_cmp) (p q : ℕ) → sets.contains (sets.remove marks p) q ≡ (not (eqb q p) && sets.contains marks q)
+pub has_removed : (marks : sets.FinSet nat_cmp) (p q : ℕ) → sets.contains (sets.remove marks p) q ≡ (not (eqb q p) && sets.contains marks q)
 has_removed marks p q =
     sets.contains-remove nat_cmp_total marks p q ∙ ap (λ b. not b && sets.contains marks q) (unsigned_tied q p)
 

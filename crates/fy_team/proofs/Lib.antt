@@ -1,5 +1,7 @@
 pub mod Counting
+pub mod Indexing
 pub mod Keeping
+pub mod Kept
 pub mod Marking
 pub mod Rising
 pub mod Swapping

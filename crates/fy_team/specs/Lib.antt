@@ -1,4 +1,5 @@
 pub mod Counts
+pub mod Index
 pub mod Members
 pub mod Standing
 pub mod Teams

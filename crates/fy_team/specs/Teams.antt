@@ -1,5 +1,5 @@
 -- teams, the records that were begun for them, and the marks of each record
-use Rattle.std.specs.Prelude.{◌≡◌, ℕ, ◌<◌, ◌≤◌, Bool, true, false, ◌||◌, ◌==◌, not, nat_le, nat_lt, List, [], ◌∷◌, ◌++◌, length, map, filter, slice_get, slice_set, Option, Some, None, option_map, if◌then◌else◌}
+use Rattle.std.specs.Prelude.{◌≡◌, ℕ, ◌+◌, ◌<◌, ◌≤◌, Bool, true, false, ◌||◌, ◌==◌, not, nat_le, nat_lt, List, [], ◌∷◌, ◌++◌, length, map, filter, slice_get, slice_set, Option, Some, None, option_map, if◌then◌else◌}
 use Rattle.std.specs.List.{All, AllByRecursion, AllPairs, list_all, list_any}
 use Rattle.std.specs.Option.{option_map_or}
 use Rattle.std.specs.Ordering.{nat_cmp}
@@ -127,6 +127,16 @@ pub record MayReplace (processes : List Locality) (policies : List Tree) (roster
 -- the number of a record's team
 abbrev pub team_number : Roster → ℕ → Option ℕ
 team_number roster rec = option_map (λ it. it.team) (slice_get roster.records rec)
+
+-- the places at which a number stands in a list whose first place is `at`, rising
+abbrev pub places_from : ℕ → ℕ → List ℕ → List ℕ
+places_from at number [] = []
+places_from at number (n ∷ ns) =
+    if n == number then at ∷ places_from (at + 1) number ns else places_from (at + 1) number ns
+
+-- the numbers of a team's records, rising
+abbrev pub records_of : Roster → ℕ → List ℕ
+records_of roster team = places_from 0 team (map (λ it. it.team) roster.records)
 
 -- what a record holds
 abbrev pub payload_in : Roster → ℕ → Option (List ℕ)

@@ -2,11 +2,13 @@
 //! each record.
 #![tactic(auto)]
 
+mod blocks;
 mod fault;
 mod forming;
 pub mod laws;
 mod limits;
 mod members;
+mod numbers;
 mod record;
 mod team;
 mod teams;

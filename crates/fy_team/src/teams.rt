@@ -1,13 +1,17 @@
 //! The teams and their records.
-ghost use Rattle.std.specs.Prelude.{◌≡◌, ◌<◌, Some, None, length, map, option_map, slice_get, IfOk, IfErr, IsOk, OnOk, OnErr};
+ghost use Rattle.std.specs.Prelude.{◌≡◌, ◌<◌, ◌≤◌, ◌+◌, ◌*◌, Some, None, length, map, option_map, slice_get, IfOk, IfErr, IsOk, OnOk, OnErr};
 ghost use Rattle.std.specs.Option.{option_copied};
-ghost use Rattle.fy_team.specs.Teams.{no_teams, IsFormed, AreFormed, unfit, form_refusal, with_team, team_number, members_in, policy_in, payload_in, begin_refusal, with_record, marked_by, is_marked, is_acked, replaced, MayReplace, healed, IsRoster};
-ghost use Rattle.fy_team.specs.Counts.{recounted};
+ghost use Rattle.fy_team.specs.Teams.{no_teams, IsFormed, AreFormed, unfit, form_refusal, with_team, team_number, members_in, policy_in, payload_in, begin_refusal, with_record, marked_by, is_marked, is_acked, replaced, MayReplace, healed, records_of, IsRoster};
+ghost use Rattle.std.specs.List.{All};
+ghost use Rattle.fy_team.specs.Counts.{recounted, TeamsInvariant};
+ghost use Rattle.fy_team.specs.Index.{ChangedAmong, HealedWithin, MarksSeen};
 ghost use Rattle.fy_team.specs.declared.fault.TeamFault.{TeamFault};
 ghost use Rattle.fy_team.specs.declared.fault.TeamFault.TheVariants.{NoMemory};
 
+use crate::blocks::{BLOCK, open_block};
 use crate::forming::unfit;
 use crate::limits::{MOST_BYTES, MOST_RECORDS, MOST_TEAMS};
+use crate::numbers::Numbers;
 use crate::record::KeptRecord;
 use crate::team::KeptTeam;
 use crate::{Members, TeamFault, laws};
@@ -19,9 +23,15 @@ use std::marker::Model;
 
 /// Teams, the records that were begun for them, and which processes have marked each record. Teams
 /// and records are known by their numbers, from 0 in the order in which they came.
+///
+/// `numbers` has for each team the numbers of its records, so that a replacement looks at no others.
+/// `marked` has for each block of records the processes that may have marked one that isn't
+/// acknowledged, so that a heal passes over the blocks that a process has no mark in.
 pub struct Teams {
     teams: Vec<KeptTeam>,
     records: Vec<KeptRecord>,
+    numbers: Vec<Numbers>,
+    marked: Vec<ProcSet>,
 }
 
 impl Model for Teams {
@@ -29,7 +39,8 @@ impl Model for Teams {
     ghost use Rattle.std.specs.FinSet as sets;
     ghost use Rattle.std.specs.Ordering.{nat_cmp};
     ghost use Rattle.fy_team.specs.Teams.{Roster};
-    ghost use Rattle.fy_team.specs.Counts.{roster_of, TeamsInvariant};
+    ghost use Rattle.fy_team.specs.Counts.{roster_of};
+    ghost use Rattle.fy_team.specs.Index.{TeamsKept};
 
     ghost Value = { Roster };
 
@@ -37,7 +48,7 @@ impl Model for Teams {
 
     ghost view = { λ t. roster_of t.teams.items t.records.items };
 
-    ghost invariant = { λ t. TeamsInvariant t.teams.items t.records.items };
+    ghost invariant = { λ t. TeamsKept t.teams.items t.records.items t.numbers.items t.marked.items };
 }
 
 // Written out and not derived: see `Drop` in docs/DECISIONS.md.
@@ -46,6 +57,8 @@ impl Drop for Teams {
         let Teams {
             teams: _,
             records: _,
+            numbers: _,
+            marked: _,
         } = self;
     }
 }
@@ -58,6 +71,8 @@ impl Teams {
         Teams {
             teams: Vec::new(alloc),
             records: Vec::new(alloc),
+            numbers: Vec::new(alloc),
+            marked: Vec::new(alloc),
         }
     }
 
@@ -99,6 +114,8 @@ impl Teams {
             return Err(fault);
         }
         let number = self.teams.len() as u32;
+        let alloc = *self.numbers.allocator();
+        self.numbers.push(Numbers::make(alloc))?;
         self.teams.push(team)?;
         Ok(number)
     }
@@ -144,8 +161,12 @@ impl Teams {
     {
         self.may_begin(team, &payload)?;
         let number = self.records.len() as u32;
+        self.records.reserve(1)?;
+        open_block(&mut self.marked, number as usize)?;
+        self.numbers[team as usize].add(number)?;
         let members = &self.teams[team as usize].members;
-        self.records.push(KeptRecord::make(team, payload, members))?;
+        self.records
+            .push_reserved(KeptRecord::make(team, payload, members));
         Ok(number)
     }
 
@@ -162,7 +183,9 @@ impl Teams {
         let record = &mut self.records[rec as usize];
         let team = &self.teams[record.team() as usize];
         record.mark(p, &team.members);
-        record.acked()
+        let acked = record.acked();
+        self.marked[rec as usize / BLOCK].put(p);
+        acked
     }
 
     /// Whether there is such a record and it is acknowledged: at some mark each member of its team
@@ -188,17 +211,17 @@ impl Teams {
             AreFormed map.now policies.now self.new.teams }
     {
         self.teams[team as usize].replace(out, into);
-        recount(&mut self.records, team, &self.teams[team as usize].members);
+        let numbers = self.numbers[team as usize].as_slice();
+        let members = &self.teams[team as usize].members;
+        recount(&mut self.records, numbers, team, members);
     }
 
     /// Takes a process's mark off each record that isn't acknowledged. Takes no memory.
     pub fn heal(&mut self, p: ProcId)
         ensures { self.new ≡ healed p.0 self.old }
     {
-        for rec in 0..self.records.len() {
-            let record = &mut self.records[rec];
-            let team = &self.teams[record.team() as usize];
-            record.heal(p, &team.members);
+        for block in 0..self.marked.len() {
+            heal_block(&mut self.records, &mut self.marked, &self.teams, block, p);
         }
     }
 
@@ -235,6 +258,24 @@ impl Teams {
         ensures { result ≡ length self.now.records }
     {
         self.records.len() as u32
+    }
+
+    /// The numbers of a team's records, rising. There are none if there is no such team.
+    pub fn records_of(&self, team: u32) -> &[u32]
+        ensures { result.now ≡ records_of self.now team }
+    {
+        match self.numbers.get(team as usize) {
+            Some(numbers) => numbers.as_slice(),
+            None => &[],
+        }
+    }
+
+    /// How many teams there are.
+    pub fn team_count(&self) -> u32
+        ensures { result ≡ length self.now.teams }
+    {
+        let count = self.teams.len();
+        count as u32
     }
 
     /// The members of a team, if there is such a team.
@@ -275,11 +316,55 @@ impl Teams {
 }
 
 /// Counts the missing marks anew in each unacknowledged record of a team, which now has these
-/// members.
-fn recount(records: &mut Vec<KeptRecord>, team: u32, members: &Members)
-    ensures { records.new.items ≡ map (recounted team members.now) records.old.items }
+/// members. The numbers are those of its records.
+fn recount(records: &mut Vec<KeptRecord>, numbers: &[u32], team: u32, members: &Members)
+    requires { All (λ rec. rec < length records.old.items) numbers.now }
+    ensures { ChangedAmong numbers.now (recounted team members.now)
+        records.old.items records.new.items }
 {
-    for rec in 0..records.len() {
-        records[rec].recount(team, members);
+    for rec in numbers {
+        records[*rec as usize].recount(team, members);
+    }
+}
+
+/// Takes a process's mark off each record of a block that isn't acknowledged.
+fn heal_block(
+    records: &mut Vec<KeptRecord>,
+    marked: &mut Vec<ProcSet>,
+    teams: &Vec<KeptTeam>,
+    block: usize,
+    p: ProcId,
+)
+    requires counts { TeamsInvariant teams.now.items records.old.items }
+    requires there { block < length marked.old.items }
+    requires seen { MarksSeen (map (λ it. it.held) records.old.items) marked.old.items }
+    ensures counts { TeamsInvariant teams.now.items records.new.items }
+    ensures seen { MarksSeen (map (λ it. it.held) records.new.items) marked.new.items }
+    ensures blocks { length marked.new.items ≡ length marked.old.items }
+    ensures count { length records.new.items ≡ length records.old.items }
+    ensures healed { HealedWithin (BLOCK * block) (BLOCK * block + BLOCK) p.0
+        (map (λ it. it.held) records.old.items) (map (λ it. it.held) records.new.items) }
+{
+    if !marked[block].contains(p) {
+        return;
+    }
+    marked[block].invariant();
+    heal_records(records, teams, block * BLOCK, p);
+    marked[block].drop_one(p);
+}
+
+/// Takes a process's mark off each record of the block from this one on that isn't acknowledged.
+fn heal_records(records: &mut Vec<KeptRecord>, teams: &Vec<KeptTeam>, first: usize, p: ProcId)
+    requires counts { TeamsInvariant teams.now.items records.old.items }
+    requires low { first ≤ MOST_RECORDS }
+    ensures counts { TeamsInvariant teams.now.items records.new.items }
+    ensures count { length records.new.items ≡ length records.old.items }
+    ensures healed { HealedWithin first (first + BLOCK) p.0
+        (map (λ it. it.held) records.old.items) (map (λ it. it.held) records.new.items) }
+{
+    for rec in first..records.len().min(first + BLOCK) {
+        let record = &mut records[rec];
+        let team = &teams[record.team() as usize];
+        record.heal(p, &team.members);
     }
 }

@@ -1,17 +1,28 @@
-use Rattle.std.proofs.Common.{◌<◌, ◌++◌, add-one, length, map, set, take, drop, ap, sym, ◌∙◌, arith}
+use Rattle.std.proofs.Common.{◌<◌, ◌≤◌, ◌+◌, length, take, set, get_or, refl, sym, subst, ◌∙◌, arith}
+use Rattle.std.proofs.lemmas.List.{length-set, take_all}
 use Rattle.fy_team.specs.Counts.{recounted}
-use Rattle.fy_team.proofs.Marking.{mapped-next, mapped-all}
+use Rattle.fy_team.specs.Index.{ChangedAmong}
+use Rattle.fy_team.proofs.Indexing.{changed_none, changed_more, recounted_twice}
 use Rattle.fy_team.proofs.teams.recount.Goals as goal
+
+pub loop-rec-init : goal.loop-rec-init
+loop-rec-init c = record { count = refl; changed = changed_none (recounted c.args.team c.args.members.now) c.args.records.now.items }
+
+pub index_mut-requires : goal.index_mut-requires
+index_mut-requires c = omega (arith, c.loop-rec.invariant.count, c.requires c.loop-rec.rec-index 0 c.loop-rec-test.true, c.loop-rec.records.ok.0)
 
 pub loop-rec-preserved : goal.loop-rec-preserved
 loop-rec-preserved c =
-    let was = c.args.records.now in
-    let anew = recounted c.args.team c.args.members.now in
-    let within : c.loop-rec.rec < length was.items = omega (arith, was.ok.0) in
-    ap (set c.loop-rec.records.items c.loop-rec.rec) (c.recount.ensures ∙ ap anew c.index_mut.ensures.value)
-    ∙ mapped-next anew was.items c.loop-rec.records.items c.loop-rec.rec c.index_mut.result.now within c.loop-rec.invariant
-    ∙ ap (λ n. map anew (take n was.items) ++ drop n was.items) (sym (add-one c.loop-rec.rec))
+    let i = get_or c.args.numbers.now c.loop-rec.rec-index 0 in
+    let there : i < length c.loop-rec.records.items = omega (arith, c.loop-rec.invariant.count, c.requires c.loop-rec.rec-index 0 c.loop-rec-test.true) in
+    record {
+      count = length-set c.loop-rec.records.items i c.recount.new.self ∙ c.loop-rec.invariant.count;
+      changed = subst (λ x. ChangedAmong (take (c.loop-rec.rec-index + 1) c.args.numbers.now) (recounted c.args.team c.args.members.now) c.args.records.now.items (set c.loop-rec.records.items i x)) (sym c.recount.ensures)
+          (changed_more c.args.numbers.now c.loop-rec.rec-index (recounted c.args.team c.args.members.now) (recounted_twice c.args.team c.args.members.now) c.args.records.now.items c.loop-rec.records.items c.index_mut.result.now c.loop-rec-test.true there c.index_mut.ensures.value c.loop-rec.invariant.changed);
+    }
 
 pub returns : goal.returns
 returns c =
-    c.loop-rec.invariant ∙ mapped-all (recounted c.args.team c.args.members.now) c.args.records.now.items c.loop-rec.rec (omega (arith, c.args.records.now.ok.0))
+    subst (λ numbers. ChangedAmong numbers (recounted c.args.team c.args.members.now) c.args.records.now.items c.loop-rec.records.items)
+    (take_all c.loop-rec.rec-index c.args.numbers.now (let e : length c.args.numbers.now ≤ c.loop-rec.rec-index = omega arith in e))
+    c.loop-rec.invariant.changed

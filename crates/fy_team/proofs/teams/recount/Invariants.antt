@@ -1,8 +1,11 @@
-use Rattle.std.proofs.Common.{◌≡◌, ◌++◌, map, take, drop}
+use Rattle.std.proofs.Common.{◌≡◌, length, take}
 use Rattle.fy_team.specs.Counts.{recounted}
+use Rattle.fy_team.specs.Index.{ChangedAmong}
 use Rattle.fy_team.proofs.teams.recount.Given as goal
 
--- the records up to this one are counted anew
+-- the records that were looked at are counted anew
 abbrev pub invariant-loop-rec : goal.invariant-loop-rec
-invariant-loop-rec l =
-    l.records.items ≡ map (recounted l.team l.members) (take l.rec l.initial.records.items) ++ drop l.rec l.initial.records.items
+invariant-loop-rec l = record {
+  count : length l.records.items ≡ length l.initial.records.items;
+  changed : ChangedAmong (take l.rec-index l.numbers) (recounted l.team l.members) l.initial.records.items l.records.items;
+}

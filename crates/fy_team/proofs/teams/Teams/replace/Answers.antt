@@ -1,10 +1,15 @@
-use Rattle.std.proofs.Common.{◌≡◌, List, map, get_or-set_same, set, ap, sym, subst, ◌∙◌}
+use Rattle.std.proofs.Common.{◌≡◌, ◌<◌, List, length, get_or, map, get_or-set_same, set, ap, sym, subst, ◌∙◌}
+use Rattle.std.specs.List.{All}
 use Rattle.std.specs.Prelude.{Some, slice_get}
 use Rattle.std.proofs.lemmas.Option.{slice_get_within}
 use Rattle.fy_locality.specs.declared.ProcId.{ProcId}
-use Rattle.fy_team.specs.Teams.{Team, Roster, AreFormed, swapped, with_member, replaced}
+use Rattle.fy_team.specs.Teams.{Team, Roster, AreFormed, swapped, with_member, replaced, records_of}
 use Rattle.fy_team.specs.Counts.{TeamsInvariant, recounted, roster_of}
 use Rattle.fy_team.proofs.Swapping.{AreFormed-replaced, replaced_there, read_there, team_there}
+use Rattle.std.proofs.lemmas.List.{length-set}
+use Rattle.fy_team.specs.Index.{ChangedAmong}
+use Rattle.fy_team.proofs.Indexing.{recounted_all}
+use Rattle.fy_team.proofs.Kept.{TeamsKept-counted, numbers_read, numbers_within}
 use Rattle.fy_team.proofs.Keeping.{held, records_recounted, TeamsInvariant-replaced}
 use Rattle.fy_team.proofs.teams.Teams.replace.Goals as goal
 
@@ -24,18 +29,46 @@ read_back : (c : goal.After-recount) → c.behind-self.inside.members ≡ swappe
 read_back c =
     ap (λ (team : Team). team.members)
     (c.behind-self.view_is
-    ∙ c.index.ensures
-    ∙ get_or-set_same c.self.inside.teams.items c.args.team c.replace.new.self c.index.result.now (slice_get_within c.self.inside.teams.items c.args.team (was c) (there c))
+    ∙ c.index-2.ensures
+    ∙ get_or-set_same c.self.inside.teams.items c.args.team c.replace.new.self c.index-2.result.now (slice_get_within c.self.inside.teams.items c.args.team (was c) (there c))
     ∙ becomes c)
 
+-- the numbers that are read are those of the team's records
+numbers_are : (c : goal.After-recount) → c.as_slice-numbers.result.now ≡ records_of (roster_of c.self.inside.teams.items c.self.inside.records.items) c.args.team
+numbers_are c =
+    numbers_read c.self.inside.teams.items c.self.inside.records.items c.self.inside.numbers.items c.self.inside.marked.items c.args.team c.as_slice-numbers.result.now
+    (slice_get_within c.self.inside.teams.items c.args.team (was c) (there c))
+    (c.as_slice-numbers.ensures ∙ subst (λ s. c.index.result.now ≡ get_or c.self.inside.numbers.items c.args.team s) (sym c.as_slice-numbers.ensures) c.index.ensures)
+    c.self.invariant
+
 counts : (c : goal.After-recount) → c.recount.new.records.items ≡ map (recounted c.args.team (swapped c.args.out c.args.into c.requires.members)) c.self.inside.records.items
-counts c = c.recount.ensures ∙ ap (λ (members : List ProcId). map (recounted c.args.team members) c.self.inside.records.items) (read_back c)
+counts c =
+    recounted_all c.args.team c.behind-self.inside.members c.self.inside.records.items c.recount.new.records.items
+    (subst (λ numbers. ChangedAmong numbers (recounted c.args.team c.behind-self.inside.members) c.self.inside.records.items c.recount.new.records.items) (numbers_are c) c.recount.ensures)
+    ∙ ap (λ (members : List ProcId). map (recounted c.args.team members) c.self.inside.records.items) (read_back c)
+
+pub recount-requires : goal.recount-requires
+recount-requires c =
+    let here : slice_get c.self.inside.teams.items c.args.team ≡ Some (record { members = c.requires.members; policy = c.requires.policy }) =
+    ap (λ (roster : Roster). slice_get roster.teams c.args.team) c.self.view_is
+    ∙ team_there c.args.self.now c.args.team c.requires.members c.requires.policy c.requires.there c.requires.names in
+    subst (All (λ rec. rec < length c.self.inside.records.items))
+    (sym (numbers_read c.self.inside.teams.items c.self.inside.records.items c.self.inside.numbers.items c.self.inside.marked.items c.args.team c.as_slice-numbers.result.now
+    (slice_get_within c.self.inside.teams.items c.args.team (record { members = c.requires.members; policy = c.requires.policy }) here)
+    (c.as_slice-numbers.ensures ∙ subst (λ s. c.index.result.now ≡ get_or c.self.inside.numbers.items c.args.team s) (sym c.as_slice-numbers.ensures) c.index.ensures)
+    c.self.invariant))
+    (numbers_within c.self.inside.records.items c.args.team)
 
 pub invariant_of-self : goal.invariant_of-self
 invariant_of-self c =
-    subst (λ it. TeamsInvariant (set c.self.inside.teams.items c.args.team it) c.recount.new.records.items) (sym (becomes c))
-    (subst (TeamsInvariant (set c.self.inside.teams.items c.args.team (with_member c.args.out c.args.into (was c)))) (sym (counts c))
-    (TeamsInvariant-replaced c.self.inside.teams.items c.self.inside.records.items c.args.team c.args.out c.args.into (was c) (there c) c.requires.member c.self.invariant))
+    let inside = c.self.inside in
+    TeamsKept-counted inside.teams.items (set inside.teams.items c.args.team c.replace.new.self) inside.records.items c.recount.new.records.items inside.numbers.items inside.marked.items
+    (length-set inside.teams.items c.args.team c.replace.new.self)
+    (ap (map held) (counts c) ∙ records_recounted c.args.team (swapped c.args.out c.args.into c.requires.members) inside.records.items)
+    (subst (λ it. TeamsInvariant (set inside.teams.items c.args.team it) c.recount.new.records.items) (sym (becomes c))
+    (subst (TeamsInvariant (set inside.teams.items c.args.team (with_member c.args.out c.args.into (was c)))) (sym (counts c))
+    (TeamsInvariant-replaced inside.teams.items inside.records.items c.args.team c.args.out c.args.into (was c) (there c) c.requires.member c.self.invariant.counts)))
+    c.self.invariant
 
 pub returns-clause-replaced : goal.returns-clause-replaced
 returns-clause-replaced c =
