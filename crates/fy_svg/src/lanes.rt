@@ -1,6 +1,4 @@
 //! The order of the rows: by data centre, data hall and zone.
-ghost use Rattle.std.specs.Prelude.{◌<◌, length};
-
 use fy_locality::{Key, Map, ProcId};
 use std::alloc::{AllocError, Global};
 
@@ -14,27 +12,40 @@ pub(crate) struct Lane {
     pub process: u32,
 }
 
-/// The least process with the same value of a key as this one, or like this one without a value.
-fn first_like(map: &Map, p: ProcId, key: Key) -> u32
-    requires { p.0 < length map.now }
-{
-    for q in 0..p.0 {
-        if map.value(ProcId(q), key) == map.value(p, key) {
-            return q;
-        }
+/// The least process without a value, of each key of a row.
+#[derive(Drop)]
+struct Valueless {
+    center: Option<u32>,
+    hall: Option<u32>,
+    zone: Option<u32>,
+}
+
+/// The least process with the same value of a key as this one. Of those without a value it is the
+/// one that was asked about first, which is kept.
+fn first_like(map: &Map, p: ProcId, key: Key, valueless: &mut Option<u32>) -> u32 {
+    match map.peers(p, key) {
+        Some(peers) => match peers.least() {
+            Some(first) => first.0,
+            None => p.0,
+        },
+        None => *valueless.get_or_insert(p.0),
     }
-    p.0
 }
 
 /// A row for each process, in order.
 pub(crate) fn lanes_of(alloc: Global, map: &Map) -> Result<Vec<Lane>, AllocError> {
     let mut lanes = Vec::new(alloc);
+    let mut valueless = Valueless {
+        center: None,
+        hall: None,
+        zone: None,
+    };
     for process in 0..map.len() {
         let p = ProcId(process);
         lanes.push(Lane {
-            center: first_like(map, p, Key::DataCenter),
-            hall: first_like(map, p, Key::DataHall),
-            zone: first_like(map, p, Key::Zone),
+            center: first_like(map, p, Key::DataCenter, &mut valueless.center),
+            hall: first_like(map, p, Key::DataHall, &mut valueless.hall),
+            zone: first_like(map, p, Key::Zone, &mut valueless.zone),
             process,
         })?;
     }
