@@ -110,7 +110,7 @@ take_pushed [] i x e = absurd (let y : ⊥ = cc in y)
 take_pushed (y ∷ ys) zero x e = let same : y ≡ x = cc in ap (λ z. z ∷ []) same
 take_pushed (y ∷ ys) (suc i) x e = ap (λ zs. y ∷ zs) (take_pushed ys i x e)
 
-map_pushed : {A B : Type 0} (f : A → B) (xs : List A) (x : A) → map f (xs ++ x ∷ []) ≡ map f xs ++ f x ∷ []
+pub map_pushed : {A B : Type 0} (f : A → B) (xs : List A) (x : A) → map f (xs ++ x ∷ []) ≡ map f xs ++ f x ∷ []
 map_pushed f [] x = refl
 map_pushed f (y ∷ ys) x = ap (λ zs. f y ∷ zs) (map_pushed f ys x)
 

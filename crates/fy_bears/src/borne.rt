@@ -1,98 +1,120 @@
-//! Gathers all that a cluster bears of one kind of loss, by policy and by group, for the two
-//! writers of its text. Nothing is written here.
-ghost use Rattle.std.specs.Prelude.{◌≡◌};
+//! Gathers all that a cluster bears, by loss, by policy and by group, for the two writers of its
+//! text. Nothing is written here.
+ghost use Rattle.std.specs.Prelude.{◌≡◌, IfOk};
+ghost use Rattle.std.specs.List.{AllZip};
+ghost use Rattle.fy_bears.specs.Bears.{IsBorne, IsFindings, IsTolerance, least_any};
 
-use crate::MOST_PAIRED;
-use crate::groups::{borne_alone, borne_beside};
+use crate::groups::{Group, borne_alone, group_of};
 use crate::tolerance::{Tolerance, tolerance_of};
 use fy_decide::{DeadBook, Loss};
-use fy_locality::{Key, Map};
+use fy_locality::{Key, Map, ProcSet};
 use fy_policy::Policy;
 use std::alloc::{AllocError, Global};
 
-/// The keys whose values are groups of processes.
-const GROUP_KEYS: [Key; 4] = [Key::Machine, Key::Zone, Key::DataHall, Key::DataCenter];
-
-/// A dead book with the map and the policies that it was made of.
-#[derive(Clone, Copy)]
-pub(crate) struct Case<'a> {
-    pub(crate) dead: &'a DeadBook,
-    pub(crate) map: &'a Map,
-    pub(crate) policies: &'a [Policy],
-    ghost map_is: { map.now ≡ dead.now.processes },
-    ghost policies_are: { policies.now ≡ dead.now.policies },
-}
-
-/// Which values of a key may be lost whole, by their places.
-#[derive(Drop)]
-pub(crate) struct Group {
-    pub(crate) key: Key,
-    /// Of each value whether it may be lost.
-    pub(crate) alone: Vec<bool>,
-    /// The pairs that may be lost; none where there are too many values to ask about.
-    pub(crate) pairs: Option<Vec<(u32, u32)>>,
-}
-
 /// All that is borne of one kind of loss.
 #[derive(Drop)]
-pub(crate) struct Borne {
-    pub(crate) loss: Loss,
+pub struct Borne {
+    pub loss: Loss,
     /// Any so many processes may be lost together.
-    pub(crate) any: u32,
+    pub any: u32,
     /// What each policy bears.
-    pub(crate) tolerances: Vec<Tolerance>,
-    pub(crate) groups: Vec<Group>,
+    pub tolerances: Vec<Tolerance>,
+    /// Of each process whether it alone may be lost.
+    pub processes: Vec<bool>,
+    pub machines: Group,
+    pub zones: Group,
+    pub halls: Group,
+    pub centers: Group,
 }
 
-/// All that a cluster bears of a kind of loss.
-pub(crate) fn borne_of(alloc: Global, case: &Case<'_>, loss: Loss) -> Result<Borne, AllocError> {
+/// All that a cluster bears, and who is left in it.
+#[derive(Drop)]
+pub struct Findings {
+    pub left: ProcSet,
+    pub emptied: Borne,
+    pub gone: Borne,
+}
+
+/// What each policy bears of a kind of loss.
+fn tolerances_of(
+    alloc: Global,
+    dead: &DeadBook,
+    map: &Map,
+    policies: &[Policy],
+    loss: Loss,
+) -> Result<Vec<Tolerance>, AllocError>
+    requires map { map.now ≡ dead.now.processes }
+    requires policies { policies.now ≡ dead.now.policies }
+    ensures { IfOk result (λ all. AllZip (λ policy one. IsTolerance dead.now policy loss one)
+        dead.now.policies all.items) }
+{
     let mut tolerances = Vec::new(alloc);
-    let mut any = case.map.len();
-    for index in 0..case.policies.len() {
-        let found = tolerance_of(alloc, case.dead, case.map, case.policies, index, loss)?;
-        any = any.min(found.any);
-        tolerances.push(found)?;
+    for index in 0..policies.len() {
+        tolerances.push(tolerance_of(alloc, dead, map, policies, index, loss)?)?;
     }
-    let mut groups = Vec::new(alloc);
-    for key in GROUP_KEYS {
-        groups.push(group_of(alloc, case, key, loss)?)?;
+    Ok(tolerances)
+}
+
+/// The least of the numbers of the policies, and of how many processes there are.
+fn least_any(processes: u32, tolerances: &[Tolerance]) -> u32
+    ensures { result ≡ least_any processes tolerances.now }
+{
+    let mut least = processes;
+    for one in tolerances {
+        least = least.min(one.any);
     }
+    least
+}
+
+/// All that a cluster bears of a kind of loss. The map and the policies are those that the book
+/// was made of.
+///
+/// # Errors
+///
+/// Want of memory.
+pub(crate) fn borne_of(
+    alloc: Global,
+    dead: &DeadBook,
+    map: &Map,
+    policies: &[Policy],
+    loss: Loss,
+) -> Result<Borne, AllocError>
+    requires map { map.now ≡ dead.now.processes }
+    requires policies { policies.now ≡ dead.now.policies }
+    ensures { IfOk result (IsBorne dead.now loss) }
+{
+    let tolerances = tolerances_of(alloc, dead, map, policies, loss)?;
+    let any = least_any(map.len(), &tolerances);
     Ok(Borne {
         loss,
         any,
         tolerances,
-        groups,
+        processes: borne_alone(alloc, dead, map, Key::Process, loss)?,
+        machines: group_of(alloc, dead, map, Key::Machine, loss)?,
+        zones: group_of(alloc, dead, map, Key::Zone, loss)?,
+        halls: group_of(alloc, dead, map, Key::DataHall, loss)?,
+        centers: group_of(alloc, dead, map, Key::DataCenter, loss)?,
     })
 }
 
-/// Which values of a key may be lost whole.
-fn group_of(alloc: Global, case: &Case<'_>, key: Key, loss: Loss) -> Result<Group, AllocError> {
-    let alone = borne_alone(alloc, case.dead, case.map, key, loss)?;
-    let pairs = if case.map.value_count(key) <= MOST_PAIRED {
-        Some(pairs_of(alloc, case, key, loss)?)
-    } else {
-        None
-    };
-    Ok(Group { key, alone, pairs })
-}
-
-/// Which pairs of values of a key may be lost whole together.
-fn pairs_of(
+/// All that a cluster bears. The map and the policies are those that the book was made of.
+///
+/// # Errors
+///
+/// Want of memory.
+pub fn findings_of(
     alloc: Global,
-    case: &Case<'_>,
-    key: Key,
-    loss: Loss,
-) -> Result<Vec<(u32, u32)>, AllocError> {
-    let mut pairs = Vec::new(alloc);
-    for i in 0..case.map.value_count(key) {
-        if let Some(first) = case.map.value_at(key, i) {
-            let row = borne_beside(alloc, case.dead, case.map, key, &first, loss)?;
-            for (j, borne) in row.iter().enumerate() {
-                if *borne && j > i as usize {
-                    pairs.push((i, j as u32))?;
-                }
-            }
-        }
-    }
-    Ok(pairs)
+    dead: &DeadBook,
+    map: &Map,
+    policies: &[Policy],
+) -> Result<Findings, AllocError>
+    requires map { map.now ≡ dead.now.processes }
+    requires policies { policies.now ≡ dead.now.policies }
+    ensures { IfOk result (IsFindings dead.now) }
+{
+    Ok(Findings {
+        left: dead.left(),
+        emptied: borne_of(alloc, dead, map, policies, Loss::Emptied)?,
+        gone: borne_of(alloc, dead, map, policies, Loss::Gone)?,
+    })
 }

@@ -1,7 +1,9 @@
 //! Writes what a cluster bears, for programs, as one JSON object. The text is promised, and tested;
 //! no contract says what it is. Names, keys and policies have no character that JSON would escape.
 use crate::LossesSoFar;
-use crate::borne::{Borne, Case, Group};
+use crate::borne::{Borne, Findings};
+use crate::groups::Group;
+use crate::reports::Case;
 use crate::warnings::warnings_of;
 use fy_decide::Loss;
 use fy_locality::{Key, Map, ProcSet};
@@ -12,9 +14,8 @@ use std::alloc::{AllocError, Global};
 pub(crate) fn write_json(
     alloc: Global,
     case: &Case<'_>,
-    before: Option<LossesSoFar>,
-    emptied: &Borne,
-    gone: &Borne,
+    before: Option<&LossesSoFar>,
+    findings: &Findings,
 ) -> Result<String, AllocError> {
     let mut text = String::new(alloc);
     let processes = case.map.len();
@@ -26,11 +27,11 @@ pub(crate) fn write_json(
         text.push_str(",")?;
     }
     text.push_str("\"losses\":[")?;
-    write_borne(alloc, &mut text, case, emptied)?;
+    write_borne(alloc, &mut text, case, &findings.emptied)?;
     text.push_str(",")?;
-    write_borne(alloc, &mut text, case, gone)?;
+    write_borne(alloc, &mut text, case, &findings.gone)?;
     text.push_str("],\"warnings\":[")?;
-    let warnings = warnings_of(alloc, case, emptied, gone)?;
+    let warnings = warnings_of(alloc, case, findings)?;
     for (place, warning) in warnings.iter().enumerate() {
         write_text(&mut text, place, warning.as_str())?;
     }
@@ -98,12 +99,13 @@ fn write_borne(
         }
     }
     text.push_str("],\"groups\":[")?;
-    for (place, group) in borne.groups.iter().enumerate() {
-        if place > 0 {
-            text.push_str(",")?;
-        }
-        write_group(text, case.map, group)?;
-    }
+    write_group(text, case.map, &borne.machines)?;
+    text.push_str(",")?;
+    write_group(text, case.map, &borne.zones)?;
+    text.push_str(",")?;
+    write_group(text, case.map, &borne.halls)?;
+    text.push_str(",")?;
+    write_group(text, case.map, &borne.centers)?;
     text.push_str("]}")
 }
 
@@ -123,25 +125,41 @@ fn write_group(text: &mut String, map: &Map, group: &Group) -> Result<(), AllocE
         }
         value = value.saturating_add(1);
     }
-    text.push_str("],\"pairs\":")?;
-    let Some(pairs) = &group.pairs else {
-        return text.push_str("null}");
-    };
-    text.push_str("[")?;
-    let mut comma = false;
-    for (first, second) in pairs {
-        if comma {
-            text.push_str(",")?;
+    text.push_str("],\"pairs\":[")?;
+    let mut count = 0usize;
+    let mut first = 0u32;
+    for row in &group.pairs {
+        let mut second = first;
+        for may in row {
+            second = second.saturating_add(1);
+            if *may {
+                write_pair(text, map, group.key, count, first, second)?;
+                count = count.saturating_add(1);
+            }
         }
-        comma = true;
-        text.push_str("[")?;
-        if let Some(name) = map.value_at(group.key, *first) {
-            write_text(text, 0, name.as_str())?;
-        }
-        if let Some(name) = map.value_at(group.key, *second) {
-            write_text(text, 1, name.as_str())?;
-        }
-        text.push_str("]")?;
+        first = first.saturating_add(1);
     }
     text.push_str("]}")
+}
+
+/// A pair of values at a place of a list.
+fn write_pair(
+    text: &mut String,
+    map: &Map,
+    key: Key,
+    place: usize,
+    first: u32,
+    second: u32,
+) -> Result<(), AllocError> {
+    if place > 0 {
+        text.push_str(",")?;
+    }
+    text.push_str("[")?;
+    if let Some(name) = map.value_at(key, first) {
+        write_text(text, 0, name.as_str())?;
+    }
+    if let Some(name) = map.value_at(key, second) {
+        write_text(text, 1, name.as_str())?;
+    }
+    text.push_str("]")
 }

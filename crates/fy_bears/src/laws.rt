@@ -1,8 +1,14 @@
-//! The limit as a number.
-ghost use Rattle.std.specs.Prelude.{◌≡◌};
-ghost use Rattle.fy_bears.specs.declared.TheConstants.{MOST_PAIRED};
+//! The law of the book after losses.
+ghost use Rattle.fy_bears.specs.Bears.{NothingIsDropped};
 
-/// The limit of this crate, as a number.
-pub fn limits()
-    ensures paired { MOST_PAIRED ≡ 64 }
-{}
+use fy_policy::laws;
+
+/// Of losses that the policies bear at the end, nothing is dropped: the book has exactly those
+/// destroyed, and all but the gone are left.
+#[tactic(auto, using(crate::proofs::Dropping::nothing_is_dropped))]
+pub fn nothing_is_dropped()
+    ensures { NothingIsDropped }
+{
+    laws::test_is_satisfaction();
+    laws::more_satisfies();
+}

@@ -16,9 +16,7 @@ mod tolerance;
 mod warnings;
 
 pub use book::{LossesSoFar, book_of};
-pub use groups::{borne_alone, borne_beside};
-pub use reports::{Form, report};
+pub use borne::{Borne, Findings, findings_of};
+pub use groups::{Group, borne_alone, borne_in_pairs};
+pub use reports::{Form, write_findings};
 pub use tolerance::{Tolerance, tolerance_of};
-
-/// Of how many values of a key the pairs are asked about.
-pub const MOST_PAIRED: u32 = 64;

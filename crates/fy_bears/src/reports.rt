@@ -1,11 +1,8 @@
 //! What a cluster bears, as one text.
-ghost use Rattle.std.specs.Prelude.{◌≡◌};
-
 use crate::LossesSoFar;
-use crate::borne::{Case, borne_of};
+use crate::borne::Findings;
 use crate::json::write_json;
 use crate::text::write_text;
-use fy_decide::{DeadBook, Loss};
 use fy_locality::Map;
 use fy_policy::Policy;
 use std::alloc::{AllocError, Global};
@@ -19,32 +16,30 @@ pub enum Form {
     Json,
 }
 
-/// What a cluster bears from a dead book on, which was made of this map and these policies. Where
-/// there were losses before, they are told too.
+/// A cluster whose findings are written.
+#[derive(Clone, Copy)]
+pub(crate) struct Case<'a> {
+    pub(crate) map: &'a Map,
+    pub(crate) policies: &'a [Policy],
+}
+
+/// Writes what was found of a cluster of this map and these policies. Where there were losses
+/// before, they are told too. Only the spelling is made here, and no contract says what it is.
 ///
 /// # Errors
 ///
 /// Want of memory.
-pub fn report(
+pub fn write_findings(
     alloc: Global,
-    dead: &DeadBook,
     map: &Map,
     policies: &[Policy],
-    before: Option<LossesSoFar>,
+    before: Option<&LossesSoFar>,
+    findings: &Findings,
     form: Form,
-) -> Result<String, AllocError>
-    requires map { map.now ≡ dead.now.processes }
-    requires policies { policies.now ≡ dead.now.policies }
-{
-    let case = Case {
-        dead,
-        map,
-        policies,
-    };
-    let emptied = borne_of(alloc, &case, Loss::Emptied)?;
-    let gone = borne_of(alloc, &case, Loss::Gone)?;
+) -> Result<String, AllocError> {
+    let case = Case { map, policies };
     match form {
-        Form::Text => write_text(alloc, &case, before, &emptied, &gone),
-        Form::Json => write_json(alloc, &case, before, &emptied, &gone),
+        Form::Text => write_text(alloc, &case, before, findings),
+        Form::Json => write_json(alloc, &case, before, findings),
     }
 }

@@ -1,9 +1,11 @@
 //! Writes what a cluster bears, for people. The text is promised (docs/FORMATS.md), and tested by
 //! `tests/cli/bears`; no contract says what it is.
-use crate::borne::{Borne, Case, Group};
+use crate::LossesSoFar;
+use crate::borne::{Borne, Findings};
+use crate::groups::Group;
+use crate::reports::Case;
 use crate::tolerance::Tolerance;
 use crate::warnings::warnings_of;
-use crate::{LossesSoFar, MOST_PAIRED};
 use fy_decide::Loss;
 use fy_locality::{Key, Map, ProcSet};
 use fy_policy::policy_text;
@@ -14,9 +16,8 @@ use std::alloc::{AllocError, Global};
 pub(crate) fn write_text(
     alloc: Global,
     case: &Case<'_>,
-    before: Option<LossesSoFar>,
-    emptied: &Borne,
-    gone: &Borne,
+    before: Option<&LossesSoFar>,
+    findings: &Findings,
 ) -> Result<String, AllocError> {
     let mut text = String::new(alloc);
     let processes = case.map.len();
@@ -26,9 +27,9 @@ pub(crate) fn write_text(
         write_members(&mut text, case.map, "gone:", &losses.gone)?;
         write_members(&mut text, case.map, "down:", &losses.down)?;
     }
-    write_borne(alloc, &mut text, case, emptied)?;
-    write_borne(alloc, &mut text, case, gone)?;
-    let warnings = warnings_of(alloc, case, emptied, gone)?;
+    write_borne(alloc, &mut text, case, &findings.emptied)?;
+    write_borne(alloc, &mut text, case, &findings.gone)?;
+    let warnings = warnings_of(alloc, case, findings)?;
     if !warnings.is_empty() {
         text.push_str("\n")?;
     }
@@ -92,10 +93,10 @@ fn write_borne(
             write_tolerance(text, case.map, found)?;
         }
     }
-    for group in &borne.groups {
-        write_group(text, case.map, group)?;
-    }
-    Ok(())
+    write_group(text, case.map, &borne.machines)?;
+    write_group(text, case.map, &borne.zones)?;
+    write_group(text, case.map, &borne.halls)?;
+    write_group(text, case.map, &borne.centers)
 }
 
 /// What a policy bears: the end of its line.
@@ -183,38 +184,45 @@ fn write_value(
 
 /// Which pairs may be lost whole.
 fn write_pairs(text: &mut String, map: &Map, group: &Group) -> Result<(), AllocError> {
-    let Some(pairs) = &group.pairs else {
-        return write!(
-            text,
-            "; pairs: not asked, there are more than {MOST_PAIRED}"
-        );
-    };
-    let count = map.value_count(group.key) as usize;
-    let all = count.saturating_mul(count.saturating_sub(1)) / 2;
+    let mut all = 0usize;
+    let mut borne = 0usize;
+    for row in &group.pairs {
+        for may in row {
+            all = all.saturating_add(1);
+            borne = borne.saturating_add(usize::from(*may));
+        }
+    }
     text.push_str("; pairs: ")?;
-    write_share(text, pairs.len(), all)?;
-    if pairs.is_empty() || pairs.len() == all {
+    write_share(text, borne, all)?;
+    if borne == 0 || borne == all {
         return Ok(());
     }
-    let told = pairs.len() <= all / 2;
+    let told = borne <= all / 2;
     text.push_str(if told { ":" } else { ", not" })?;
-    for first in 0..map.value_count(group.key) {
-        for second in 0..map.value_count(group.key) {
-            if first < second && has_pair(pairs, first, second) == told {
-                write_value(text, map, group.key, first, " ")?;
-                write_value(text, map, group.key, second, "+")?;
-            }
-        }
+    let mut first = 0u32;
+    for row in &group.pairs {
+        write_row(text, map, group.key, first, row, told)?;
+        first = first.saturating_add(1);
     }
     Ok(())
 }
 
-/// Whether a pair is among those.
-fn has_pair(pairs: &[(u32, u32)], first: u32, second: u32) -> bool {
-    for (one, other) in pairs {
-        if *one == first && *other == second {
-            return true;
+/// The pairs of a value with those behind it that are told of.
+fn write_row(
+    text: &mut String,
+    map: &Map,
+    key: Key,
+    first: u32,
+    row: &[bool],
+    told: bool,
+) -> Result<(), AllocError> {
+    let mut second = first;
+    for may in row {
+        second = second.saturating_add(1);
+        if *may == told {
+            write_value(text, map, key, first, " ")?;
+            write_value(text, map, key, second, "+")?;
         }
     }
-    false
+    Ok(())
 }

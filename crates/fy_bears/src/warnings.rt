@@ -1,6 +1,7 @@
 //! What in a cluster file is seldom meant.
-use crate::borne::{Borne, Case};
-use fy_locality::Key;
+use crate::borne::Findings;
+use crate::reports::Case;
+use fy_locality::{Key, ProcId};
 use fy_policy::Shape;
 use std::alloc::{AllocError, Global};
 
@@ -17,12 +18,11 @@ const KEYS: [Key; 5] = [
 pub(crate) fn warnings_of(
     alloc: Global,
     case: &Case<'_>,
-    emptied: &Borne,
-    gone: &Borne,
+    findings: &Findings,
 ) -> Result<Vec<String>, AllocError> {
     let mut warnings = Vec::new(alloc);
     let half = case.map.len() / 2;
-    for (place, found) in emptied.tolerances.iter().enumerate() {
+    for (place, found) in findings.emptied.tolerances.iter().enumerate() {
         if found.any == 0 {
             let warning = format!(in alloc; "some single process is too many for policy {place}")?;
             warnings.push(warning)?;
@@ -35,10 +35,13 @@ pub(crate) fn warnings_of(
             warnings.push(warning)?;
         }
     }
-    if emptied.any > 0 && gone.any == 0 {
-        let warning = format!(in alloc;
-            "no process may be killed for good: too few would be left"
-        )?;
+    if findings.emptied.any > 0 && findings.gone.any == 0 {
+        let who = if some_may_go(findings) {
+            "some process may not"
+        } else {
+            "no process may"
+        };
+        let warning = format!(in alloc; "{who} be killed for good: too few would be left")?;
         warnings.push(warning)?;
     }
     for (place, policy) in case.policies.iter().enumerate() {
@@ -57,6 +60,18 @@ pub(crate) fn warnings_of(
         }
     }
     Ok(warnings)
+}
+
+/// Whether some process that is left may be killed for good.
+fn some_may_go(findings: &Findings) -> bool {
+    let mut place = 0u32;
+    for may in &findings.gone.processes {
+        if *may && findings.left.contains(ProcId(place)) {
+            return true;
+        }
+        place = place.saturating_add(1);
+    }
+    false
 }
 
 /// Whether a policy names a key.

@@ -14,7 +14,7 @@ ghost use Rattle.fy_engine.specs.Stops.{IfAuditFault, IsCheckStop};
 
 use crate::lost::losses_in;
 use fy_audit::MOST_AUDIT_BYTES;
-use fy_bears::{Form, LossesSoFar, book_of, report};
+use fy_bears::{Form, LossesSoFar, book_of, findings_of, write_findings};
 use fy_check_audit::{ReplayedAudit, replay_audit, write_finding};
 use fy_cluster::Config;
 use fy_engine::Stop;
@@ -43,7 +43,10 @@ fn report_text(
     let Ok(dead) = book_of(alloc, map, policies, losses) else {
         return Err(Stop::NoMemory);
     };
-    match report(alloc, &dead, map, policies, before.copied(), form) {
+    let Ok(findings) = findings_of(alloc, &dead, map, policies) else {
+        return Err(Stop::NoMemory);
+    };
+    match write_findings(alloc, map, policies, before, &findings, form) {
         Ok(text) => Ok(text),
         Err(_) => Err(Stop::NoMemory),
     }

@@ -1,5 +1,4 @@
 use Rattle.std.proofs.Common.{sym, ap, cond, ◌∙◌}
-use Rattle.std.specs.FinSet as sets
 use Rattle.fy_decide.specs.DeadBook.{struck}
 use Rattle.fy_bears.proofs.book.strike_as_allowed.Goals as goal
 

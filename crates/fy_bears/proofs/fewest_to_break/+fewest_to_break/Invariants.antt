@@ -1,4 +1,4 @@
-use Rattle.std.proofs.Common.{◌≡◌, ℕ, ◌<◌, ◌≤◌, Bool, true, ◌&&◌, not, length, slice_index_or}
+use Rattle.std.proofs.Common.{◌≡◌, ℕ, ◌<◌, Bool, true, ◌&&◌, not, length, slice_index_or}
 use Rattle.std.specs.FinSet as sets
 use Rattle.fy_policy.specs.Counted.{number_of}
 use Rattle.fy_policy.specs.Sat.{satisfies}

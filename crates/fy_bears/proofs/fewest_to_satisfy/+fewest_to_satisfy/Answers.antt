@@ -1,10 +1,9 @@
-use Rattle.std.proofs.Common.{◌≡◌, ◌≢◌, inl, inr, ℕ, ◌≤◌, ◌<◌, ◌+◌, Bool, true, false, not, ◌&&◌, eqb, max, length, slice_index_or, refl, sym, ap, subst, ◌∙◌, arith}
+use Rattle.std.proofs.Common.{◌≡◌, ℕ, ◌≤◌, true, not, ◌&&◌, length, sym, subst, arith}
 use Rattle.std.specs.FinSet as sets
-use Rattle.std.specs.Ordering.{nat_cmp}
 use Rattle.fy_policy.specs.Counted.{number_of}
 use Rattle.fy_policy.specs.Sat.{satisfies}
 use Rattle.fy_policy.specs.Shape.{tree_of}
-use Rattle.fy_policy.specs.Tree.{IsWellFormed, across, one}
+use Rattle.fy_policy.specs.Tree.{IsWellFormed}
 use Rattle.fy_bears.specs.Costs.{NeedsAtLeast}
 use Rattle.fy_bears.specs.Costs.{IsLeastOf}
 use Rattle.fy_bears.proofs.Needing.{NeedSoFar, fewest_to_satisfy-begins, fewest_to_satisfy-goes-on, fewest_to_satisfy-skips, fewest_to_satisfy-ends}

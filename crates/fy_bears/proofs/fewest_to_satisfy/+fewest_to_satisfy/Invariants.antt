@@ -1,4 +1,4 @@
-use Rattle.std.proofs.Common.{◌≡◌, ℕ, ◌<◌, ◌≤◌, Bool, true}
+use Rattle.std.proofs.Common.{ℕ, Bool}
 use Rattle.std.specs.FinSet as sets
 use Rattle.fy_policy.specs.Shape.{tree_of}
 use Rattle.fy_policy.specs.Tree.{IsWellFormed}

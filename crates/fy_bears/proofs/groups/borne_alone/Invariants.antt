@@ -1,4 +1,4 @@
-use Rattle.std.proofs.Common.{◌≡◌, ◌≤◌, length, map, take}
+use Rattle.std.proofs.Common.{◌≡◌, map, take}
 use Rattle.fy_locality.specs.Locality.{values_of}
 use Rattle.fy_decide.specs.DeadBook.{may_lose}
 use Rattle.fy_bears.specs.Bears.{left_with_value}

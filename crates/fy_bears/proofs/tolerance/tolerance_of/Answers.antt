@@ -1,65 +1,41 @@
-use Rattle.std.proofs.Common.{◌≡◌, ℕ, ◌+◌, ◌-◌, ◌<◌, ◌≤◌, Bool, true, [], ◌∷◌, get_or, length, Some, ap, sym, subst, ◌∙◌, arith}
+use Rattle.std.proofs.Common.{◌≡◌, ℕ, ◌-◌, ◌≤◌, Bool, true, [], ◌∷◌, length, sym}
 use Rattle.std.specs.FinSet as sets
-use Rattle.std.proofs.lemmas.Bool.Decides.{nat_tests}
-use Rattle.std.proofs.lemmas.Option.{get_or_from_slice_get}
-use Rattle.std.specs.Prelude.{slice_get, nat_lt}
 use Rattle.fy_policy.specs.Counted.{number_of}
 use Rattle.fy_policy.specs.Sat.{Sat}
-use Rattle.fy_policy.specs.Shape.{tree_of}
-use Rattle.fy_policy.specs.Tree.{Tree, IsPolicy, IsWellFormed}
 use Rattle.fy_decide.specs.Safety.{MayDestroy}
-use Rattle.fy_bears.specs.Bears.{MayLoseBy}
-use Rattle.fy_bears.specs.Costs.{NeedsAtLeast, LacksAtLeast}
-use Rattle.fy_bears.proofs.BorneLosses.{each_at, short-with, satisfied-without}
-use Rattle.fy_bears.proofs.tolerance.tolerance_of.Goals.{in-Emptied, in-Gone}
+use Rattle.fy_bears.proofs.BorneLosses.{each_at}
+use Rattle.fy_bears.proofs.Tolerating.{carried, exact_is_greatest, parts_of, read_at, stands_at}
 use Rattle.fy_bears.proofs.tolerance.tolerance_of.Goals as goal
 
-pub returns-clause-any : goal.returns-clause-any
-returns-clause-any c = λ policy at s small.
-    let same : c.index-policies-index.result ≡ policy = c.index-policies-index.is ∙ ap (λ ps. get_or ps c.args.index c.index-policies-index.result) c.requires.policies ∙ get_or_from_slice_get c.args.dead.now.policies c.args.index policy c.index-policies-index.result at in
-    let is : tree_of c.shape-shape.result.now ≡ policy = c.shape-shape.ensures.shape ∙ same in
-    let formed : IsPolicy c.index-policies-index.result = c.shape-shape.ensures.policy in
-    let counted : IsWellFormed (tree_of c.shape-shape.result.now) = subst IsWellFormed (sym c.shape-shape.ensures.shape) formed.counted in
-    let needs0 : NeedsAtLeast c.args.dead.now.processes policy (sets.contains c.everyone.result) (sets.contains c.destroyed-destroyed.result) c.in_ok-needed.needed.least =
-    subst (λ q. NeedsAtLeast c.args.dead.now.processes q (sets.contains c.everyone.result) (sets.contains c.destroyed-destroyed.result) c.in_ok-needed.needed.least) is
-    (subst (λ ps. NeedsAtLeast ps (tree_of c.shape-shape.result.now) (sets.contains c.everyone.result) (sets.contains c.destroyed-destroyed.result) c.in_ok-needed.needed.least) c.requires.map (c.in_ok-needed.ensures counted)) in
-    let needs : NeedsAtLeast c.args.dead.now.processes policy (sets.contains c.everyone.result) (sets.contains c.args.dead.now.destroyed) c.in_ok-needed.needed.least =
-    subst (λ d. NeedsAtLeast c.args.dead.now.processes policy (sets.contains c.everyone.result) (sets.contains d) c.in_ok-needed.needed.least) c.destroyed-destroyed.ensures.destroyed needs0 in
-    let lacks0 : LacksAtLeast c.args.dead.now.processes policy (sets.contains c.left-left.result) c.in_ok-lacked.lacked.least =
-    subst (λ q. LacksAtLeast c.args.dead.now.processes q (sets.contains c.left-left.result) c.in_ok-lacked.lacked.least) is
-    (subst (λ ps. LacksAtLeast ps (tree_of c.shape-shape.result.now) (sets.contains c.left-left.result) c.in_ok-lacked.lacked.least) c.requires.map (c.in_ok-lacked.ensures counted)) in
-    let lacks : LacksAtLeast c.args.dead.now.processes policy (sets.contains c.args.dead.now.left) c.in_ok-lacked.lacked.least =
-    subst (λ l. LacksAtLeast c.args.dead.now.processes policy (sets.contains l) c.in_ok-lacked.lacked.least) c.left-left.ensures.left lacks0 in
-    let short : Sat c.args.dead.now.processes policy (sets.contains c.args.dead.now.destroyed) → ⊥ =
-    each_at (λ P. Sat c.args.dead.now.processes P (sets.contains c.args.dead.now.destroyed) → ⊥) c.args.dead.now.policies c.args.index policy c.destroyed-destroyed.ensures.short at in
-    let met : Sat c.args.dead.now.processes policy (sets.contains c.args.dead.now.left) =
-    each_at (λ P. Sat c.args.dead.now.processes P (sets.contains c.args.dead.now.left)) c.args.dead.now.policies c.args.index policy c.left-left.ensures.satisfied at in
-    let everyone : (p : ℕ) → p < length c.args.dead.now.processes → sets.contains c.everyone.result p ≡ true = λ p below. c.everyone.ensures p ∙ ap (λ ps. nat_lt p (length ps)) c.requires.map ∙ inside p (length c.args.dead.now.processes) below in
-    let few : c.saturating_sub.result ≡ c.match-loss.part.least - 1 = c.saturating_sub.ensures in
-    elim c.match-loss.branch [
-      | in-Emptied w ↦
-          let least : c.match-loss.part.least ≡ c.in_ok-needed.needed.least = ap (λ part. part.least) w.part-is in
-          subst (MayLoseBy c.args.dead.now policy s) (sym w.in-Emptied.is)
-          (short-with c.args.dead.now.processes policy c.test_is_satisfaction.ensures c.more_of_map_satisfies.ensures (sets.contains c.everyone.result) (sets.contains c.args.dead.now.destroyed) c.in_ok-needed.needed.least c.saturating_sub.result everyone needs short (omega arith) s small, tt)
-      | in-Gone w ↦
-          let least : c.match-loss.part.least ≡ w.lesser-part.result.least = ap (λ part. part.least) w.part-is in
-          let first : w.lesser-part.result.least ≤ c.in_ok-needed.needed.least = w.lesser-part.ensures.first in
-          let second : w.lesser-part.result.least ≤ c.in_ok-lacked.lacked.least = w.lesser-part.ensures.second in
-          subst (MayLoseBy c.args.dead.now policy s) (sym w.in-Gone.is) (
-            (short-with c.args.dead.now.processes policy c.test_is_satisfaction.ensures c.more_of_map_satisfies.ensures (sets.contains c.everyone.result) (sets.contains c.args.dead.now.destroyed) c.in_ok-needed.needed.least c.saturating_sub.result everyone needs short (omega arith) s small, tt),
-            (satisfied-without c.args.dead.now.processes policy c.test_is_satisfaction.ensures c.more_of_map_satisfies.ensures (sets.contains c.args.dead.now.left) c.in_ok-lacked.lacked.least c.saturating_sub.result lacks met (omega arith) s small, tt),
-          )
-    ]
-  where
-    inside : (p n : ℕ) → p < n → nat_lt p n ≡ true
-    inside p n h = grind (arith, nat_tests)
+pub settled-requires-clause-short : goal.settled-requires-clause-short
+settled-requires-clause-short c =
+    let at = stands_at c.args.policies.now c.args.dead.now.policies c.args.index c.index-policies-index.result c.index-policies-index.is c.requires.policies c.requires.index in
+    carried (λ ps q d l. Sat ps q (sets.contains d) → ⊥) _ _ _ _ _ _ _ _ (sym c.requires.map) (λ i. c.index-policies-index.result) (sym c.destroyed-destroyed.ensures.destroyed) (sym c.left-left.ensures.left)
+    (each_at (λ P. Sat c.args.dead.now.processes P (sets.contains c.args.dead.now.destroyed) → ⊥) c.args.dead.now.policies c.args.index c.index-policies-index.result c.destroyed-destroyed.ensures.short at)
 
-pub returns-clause-too_many : goal.returns-clause-too_many
-returns-clause-too_many c = λ policy at may.
-    let same : c.index-policies-index.result ≡ policy = c.index-policies-index.is ∙ ap (λ ps. get_or ps c.args.index c.index-policies-index.result) c.requires.policies ∙ get_or_from_slice_get c.args.dead.now.policies c.args.index policy c.index-policies-index.result at in
-    let set = sets.contains c.least_found-too_many.result in
-    c.least_found-too_many.ensures
-    (subst (λ ps. MayDestroy ps (c.index-policies-index.result ∷ []) (sets.contains c.destroyed-destroyed.result) (sets.contains c.left-left.result) set c.args.loss) (sym c.requires.map)
-    (subst (λ q. MayDestroy c.args.dead.now.processes (q ∷ []) (sets.contains c.destroyed-destroyed.result) (sets.contains c.left-left.result) set c.args.loss) (sym same)
-    (subst (λ d. MayDestroy c.args.dead.now.processes (policy ∷ []) (sets.contains d) (sets.contains c.left-left.result) set c.args.loss) (sym c.destroyed-destroyed.ensures.destroyed)
-    (subst (λ l. MayDestroy c.args.dead.now.processes (policy ∷ []) (sets.contains c.args.dead.now.destroyed) (sets.contains l) set c.args.loss) (sym c.left-left.ensures.left) may))))
+pub settled-requires-clause-satisfied : goal.settled-requires-clause-satisfied
+settled-requires-clause-satisfied c =
+    let at = stands_at c.args.policies.now c.args.dead.now.policies c.args.index c.index-policies-index.result c.index-policies-index.is c.requires.policies c.requires.index in
+    carried (λ ps q d l. Sat ps q (sets.contains l)) _ _ _ _ _ _ _ _ (sym c.requires.map) (λ i. c.index-policies-index.result) (sym c.destroyed-destroyed.ensures.destroyed) (sym c.left-left.ensures.left)
+    (each_at (λ P. Sat c.args.dead.now.processes P (sets.contains c.args.dead.now.left)) c.args.dead.now.policies c.args.index c.index-policies-index.result c.left-left.ensures.satisfied at)
+
+pub settled-requires-clause-any : goal.settled-requires-clause-any
+settled-requires-clause-any c =
+    let at = stands_at c.args.policies.now c.args.dead.now.policies c.args.index c.index-policies-index.result c.index-policies-index.is c.requires.policies c.requires.index in
+    carried (λ ps q d l. (s : ℕ → Bool) → number_of s (length ps) ≤ c.in_ok-part.part.least - 1 → MayDestroy ps (q ∷ []) (sets.contains d) (sets.contains l) s c.args.loss) _ _ _ _ _ _ _ _ (sym c.requires.map) (λ i. c.index-policies-index.result) (sym c.destroyed-destroyed.ensures.destroyed) (sym c.left-left.ensures.left)
+    (c.in_ok-part.ensures c.index-policies-index.result at)
+
+pub returns : goal.returns
+returns c = λ policy at.
+    let same : c.index-policies-index.result ≡ policy = read_at c.args.policies.now c.args.dead.now.policies c.args.index policy c.index-policies-index.result c.index-policies-index.is c.requires.policies at in
+    let found = c.settled.result in
+    let too_many : MayDestroy c.args.dead.now.processes (policy ∷ []) (sets.contains c.args.dead.now.destroyed) (sets.contains c.args.dead.now.left) (sets.contains found.too_many) c.args.loss → ⊥ =
+    carried (λ ps q d l. MayDestroy ps (q ∷ []) (sets.contains d) (sets.contains l) (sets.contains found.too_many) c.args.loss → ⊥) _ _ _ _ _ _ _ _ c.requires.map same c.destroyed-destroyed.ensures.destroyed c.left-left.ensures.left c.settled.ensures.too_many in
+    record {
+      any = carried (λ ps q d l. (s : ℕ → Bool) → number_of s (length ps) ≤ found.any → MayDestroy ps (q ∷ []) (sets.contains d) (sets.contains l) s c.args.loss) _ _ _ _ _ _ _ _ c.requires.map same c.destroyed-destroyed.ensures.destroyed c.left-left.ensures.left c.settled.ensures.any;
+      too_many = too_many;
+      least = parts_of c.more_of_map_satisfies.ensures c.args.dead.now.processes policy (sets.contains c.args.dead.now.destroyed) (sets.contains c.args.dead.now.left) found.too_many c.args.loss
+          (carried (λ ps q d l. (p : ℕ) → sets.contains found.too_many p ≡ true → MayDestroy ps (q ∷ []) (sets.contains d) (sets.contains l) (sets.contains (sets.remove found.too_many p)) c.args.loss) _ _ _ _ _ _ _ _ c.requires.map same c.destroyed-destroyed.ensures.destroyed c.left-left.ensures.left c.settled.ensures.least);
+      greatest = exact_is_greatest c.args.dead.now policy c.args.loss found.any found.too_many too_many;
+      none = c.settled.ensures.none;
+    }
