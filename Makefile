@@ -110,6 +110,7 @@ try-disks:
 
 nemesis-aborts:
 	tests/nemesis/run --aborts 100 bin/faultyard Trees.test_aborted_runs_leave_nothing
+	tests/power/run --aborts 100 bin/faultyard Aborts
 
 look: build
 	tests/show/look bin/faultyard
