@@ -182,10 +182,22 @@ def write_files(run: Run) -> str:
     return checked
 
 
+def after_cuts(run: Run) -> list[str]:
+    """What may be the work of a power cut: records that are missing, and who did not start again."""
+    lost = run.counts()["lost"]
+    if not run.cuts or not (lost or run.down):
+        return []
+    lines = [f"records missing after power cuts: {lost}"] if lost else []
+    lines += [f"did not start again: {' '.join(run.down)}"] if run.down else []
+    if run.words.disks == "lossy" and not run.words.deaf_disks:
+        lines.append("unconfirmed: a disk of lossy hears no sync(2); --disks ext4 confirms it, or not")
+    return lines
+
+
 def report(run: Run, is_read: bool = True) -> int:
     """Prints what a run comes to, and says how the tool ends."""
     words, counts, checked = run.words, run.counts(), write_files(run)
-    lines = run.summary(f"seed {words.seed}") + run.notes + run.power()
+    lines = run.summary(f"seed {words.seed}") + run.notes + run.power() + after_cuts(run)
     lines += [f"{run.names[number]} {crashes}" for number, crashes in sorted(run.crashes.items())]
     acked = len(run.ledger.records)
     if is_read and not words.check_hooks:

@@ -14,7 +14,7 @@ from faultyard.harness import read_orders
 from faultyard.plans import Draw, Order, shared_place
 from faultyard.server import serve
 
-from . import HOOK, Fault
+from . import HOOK, USAGE, Fault
 from .checks import HookCheck
 from .clients import Clients, pairs
 from .evidence import Case, Course, wrong_line
@@ -47,6 +47,7 @@ class Run(Store):
 
     def __init__(self, words: Namespace, guard: Guard) -> None:
         super().__init__(words, guard)
+        self.down: list[str] = []  # who did not run at the end
         self.notes: list[str] = []  # who was not back at the end, and why nothing could be read
         self.history = History(words.out / "history.jsonl", self.ledger)
         self.clients = Clients(self.hooks, self, self.history)
@@ -129,6 +130,8 @@ class Run(Store):
             self.is_unread = end.status is None
         checked = await self._check_all(acked) if "check" in self.hooks.names else {}
         self.notes += [f"at the end {text}" for text in self.waiting()]
+        runs = self.up | self.gone
+        self.down = [name for number, name in enumerate(self.names) if number not in runs]
         return Left(found, checked)
 
     async def _check_all(self, keys: list[str]) -> dict[int, dict[str, str | None]]:

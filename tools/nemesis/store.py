@@ -156,10 +156,12 @@ class Store(Harness):
 
     def power(self) -> list[str]:
         """What power cuts left, as lines of the summary."""
+        if not self.disks:
+            return []
         lines = [f"{len(self.cuts)} power cuts: {sum((it for _, it in self.cuts), Cut(0, 0))}"]
         if self.words.deaf_disks:
             lines.append("the disks were deaf: a control, which has to lose records")
-        return lines if self.disks else []
+        return lines
 
     async def _empty(self, number: int) -> None:
         self.emptied.add(number)
