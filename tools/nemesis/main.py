@@ -28,6 +28,7 @@ from .summary import closing, tested_little
 from .verdicts import Verdict
 
 KINDS, PAUSES = "10,35,54,1,10", "0,0.2,0.5,1,2,4"
+LEAST = {"seed": 0, "seconds": 0, "writers": 1, "readers": 0, "hook_timeout": 0.1}
 SHOWN = 5  # cases that are told on the terminal; records.jsonl has all
 
 
@@ -43,7 +44,8 @@ def weights(text: str) -> list[float]:
     """A weight for each kind."""
     found = numbers(text)
     if len(found) != len(Kind):
-        raise argparse.ArgumentTypeError(f"{len(Kind)} weights are wanted, and {len(found)} are given")
+        text = f"{len(Kind)} weights are wanted, and {len(found)} are given"
+        raise argparse.ArgumentTypeError(text)
     return found
 
 
@@ -83,7 +85,7 @@ def parsed() -> argparse.Namespace:
     text = "print the history of a run that has ended as EDN, and do nothing else"
     add("--edn", action=Convert, metavar="FOLDER", help=text)
     words = it.parse_args()
-    for name, least in (("seed", 0), ("seconds", 0), ("writers", 1), ("readers", 0), ("hook_timeout", 0.1)):
+    for name, least in LEAST.items():
         if not least <= vars(words)[name] < 1e9:
             it.error(f"--{name.replace('_', '-')} has to be {least} or more")
     if words.deaf_disks and not words.disks:
@@ -169,7 +171,7 @@ def write_files(run: Run) -> str:
     run.history.flush()
     keys = [it.write.key for it in run.judged if it.verdict is Verdict.LOST]
     lost = [run.named(run.ledger.loss_of(key)) for key in keys]
-    for name, found in (("lost.jsonl", lost), ("records.jsonl", run.cases())):
+    for name, found in (("lost.jsonl", lost), ("records.jsonl", run.cases)):
         if found:
             (words.out / name).write_text("".join(f"{json.dumps(it)}\n" for it in found))
     try:
@@ -203,7 +205,7 @@ def report(run: Run, is_read: bool = True) -> int:
     if is_read and not words.check_hooks:
         healed, destroyed = len(run.ledger.healed), len(run.ledger.losses)
         lines += tested_little(acked, run.ledger.pauses(), destroyed, healed)
-    lines += told_cases(run.cases(), SHOWN)
+    lines += told_cases(run.cases, SHOWN)
     ending = closing(acked, counts) if is_read else f"{acked} acknowledged so far, not read"
     (words.out / "picture.svg").write_text(draw(words.out, run.file, [lines[0], ending]), "utf-8")
     say("\n".join([*lines, f"{ending}; audit {checked}; {words.out}"]))

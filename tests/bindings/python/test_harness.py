@@ -11,6 +11,7 @@ import unittest
 from itertools import islice
 from pathlib import Path
 from random import Random
+from unittest import mock
 
 import common
 import faultyard
@@ -122,13 +123,27 @@ class LedgerTest(unittest.TestCase):
         self.ledger.acknowledge(between, "between", "v", 2)
         self.assertEqual(list(self.ledger.records), ["a", "between"])
         self.assertEqual(self.ledger.mark, 2)
-        self.ledger.heal(0)
+        self.assertFalse(self.ledger.acknowledge(early, "early", "v", 9))
+        self.assertTrue(self.ledger.acknowledge(self.ledger.send(), "last", "v", 2))
+        self.ledger.heal(0, 7)
         self.assertEqual((self.ledger.able, len(self.ledger.healed)), ({0, 1, 2}, 1))
+        (heal,) = self.ledger.heals
+        self.assertEqual((heal.process, heal.entry), (0, 7))
+
+    def test_the_times_without_a_write_count_the_first_and_the_last(self):
+        times = iter([0, 3_000_000_000, 3_500_000_000, 8_500_000_000])
+        with mock.patch("faultyard.ledger.time.monotonic_ns", lambda: next(times)):
+            self.ledger.begin()
+            self.acknowledge("a")
+            self.acknowledge("b")
+            self.ledger.stop()
+        self.assertEqual(self.ledger.pauses(), [3.0, 0.5, 5.0])
+        self.assertEqual(self.ledger.longest_pause(), 5.0)
 
     def test_time_stands_until_the_beginning(self):
         ledger = Ledger(self.guard)
         self.assertEqual((ledger.now(), ledger.has_begun()), (0.0, False))
-        self.assertEqual(ledger.longest_pause(), 0.0)
+        self.assertEqual((ledger.pauses(), ledger.longest_pause()), ([0.0], 0.0))
         self.assertTrue(self.ledger.has_begun())
 
 
