@@ -78,7 +78,9 @@ def parsed() -> argparse.Namespace:
     add("--readers", type=int, default=2, help="how many check hooks run, if there is one (2)")
     text = "how long a hook may take; setup, join, elect, read and salvage six times as long (10)"
     add("--hook-timeout", type=float, default=10.0, metavar="SECONDS", help=text)
-    add("--socket", metavar="PATH", help="others may ask the same guard by this Unix socket")
+    text = "ask a faultyard-serve by its socket or URL, and do what others are answered there too"
+    add("--guard", metavar="SERVER", help=text)
+    add("--tokens", type=Path, metavar="FILE", help="tokens for --guard, as faultyard-serve has them")
     add("--out", type=Path, metavar="FOLDER", help="empty or new; else a new one below TMPDIR")
     add("--keep", action="store_true", help="keep the data of the processes if nothing is lost")
     add("--quiet", action="store_true", help="print the summary alone")
@@ -94,17 +96,23 @@ def parsed() -> argparse.Namespace:
         it.error("--plan partition needs --net")
     if words.clog != "both" and not words.net:
         it.error("--clog needs --net")
-    for path in (words.config, words.hooks, words.replay):
+    for path in (words.config, words.hooks, words.replay, words.tokens):
         if path and not path.is_file():
             it.error(f"there is no file {path}")
     if not os.access(words.hooks, os.X_OK):
         it.error(f"{words.hooks} is no executable")
-    if words.socket and os.path.exists(words.socket):
-        it.error(f"{words.socket} is there already")
+    if words.tokens and not words.guard:
+        it.error("--tokens goes with --guard")
     if words.out and words.out.is_dir() and any(words.out.iterdir()):
         it.error(f"{words.out} is not empty")
     words.hooks = words.hooks.resolve()
     return words
+
+
+def read_tokens(path: Path) -> dict[int, str]:
+    """The token of each actor, of a file as faultyard-serve reads it."""
+    rows = [line.split() for line in path.read_text().splitlines() if not line.startswith("#")]
+    return {int(row[1]): row[0] for row in rows if len(row) == 2 and row[1].isdigit()}
 
 
 async def chaos(words: argparse.Namespace) -> int:
@@ -113,7 +121,10 @@ async def chaos(words: argparse.Namespace) -> int:
     assert task
     for number in (signal.SIGINT, signal.SIGTERM, signal.SIGHUP):
         loop.add_signal_handler(number, task.cancel, int(number))
-    with Guard(words.config, folder=words.out) as guard:
+    tokens = read_tokens(words.tokens) if words.tokens else {}
+    with Guard(words.config, folder=words.out, server=words.guard, tokens=tokens) as guard:
+        if guard.journal_len():
+            raise Fault(USAGE, f"{words.guard} has entries: a run needs a new audit")
         run = Run(words, guard)
         try:
             await run.whole()

@@ -12,7 +12,6 @@ from typing import Any
 from faultyard import FaultyardError, Guard, Key, Kind
 from faultyard.harness import read_orders
 from faultyard.plans import Draw, Order, shared_place
-from faultyard.server import serve
 
 from . import HOOK, USAGE, Fault
 from .checks import HookCheck
@@ -99,8 +98,8 @@ class Run(Store):
         work = [self.clients.write(it) for it in dice[: words.writers]]
         if "check" in self.hooks.names:
             work += [self.clients.check(it) for it in dice[words.writers :]]
-        if words.socket:
-            work.append(serve(words.socket, self.asked))
+        if words.guard:
+            work.append(self.follow())
         behind = [self.tasks.create_task(it) for it in work]
         if words.check_hooks:
             self.notes += await self.check.whole()
