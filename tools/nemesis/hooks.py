@@ -5,7 +5,7 @@ import shutil
 import socket
 from argparse import Namespace
 from asyncio.subprocess import PIPE, Process
-from collections.abc import AsyncIterator, Sequence
+from collections.abc import AsyncIterator, Callable, Sequence
 from contextlib import asynccontextmanager, suppress
 from pathlib import Path
 from random import SystemRandom
@@ -36,14 +36,18 @@ class End(NamedTuple):
     status: int | None  # None where it hung
 
     def __str__(self) -> str:
-        return f"{self.call} " + ("hung" if self.status is None else f"ended with status {self.status}")
+        how = "hung" if self.status is None else f"ended with status {self.status}"
+        return f"{self.call} {how}"
 
 
 class Hooks:
-    def __init__(self, words: Namespace, file: ClusterFile, ledger: Ledger) -> None:
+    def __init__(
+        self, words: Namespace, file: ClusterFile, ledger: Ledger, hosts: Sequence[str] = ()
+    ) -> None:
         self.names = {"hooks"}  # which there are
         self.ends: dict[int | str, End] = {}  # of the last hook of each process, and of the others
         self._path, self._ledger = words.hooks, ledger
+        self.before: Callable[[int], list[str]] = lambda number: []  # the words of start
         self.limit: float = words.hook_timeout
         self._zones = [place[Key.ZONE] for place in file.places]
         self._log = HookLog(words.out / "hooks.log", ledger.now)
@@ -53,6 +57,7 @@ class Hooks:
             "FY_COUNT": str(len(file.places)),
             "FY_NAMES": " ".join(place[Key.PROCESS] for place in file.places),
             "FY_ZONES": " ".join(self._zones),
+            "FY_HOSTS": " ".join(hosts or ["127.0.0.1"] * len(file.places)),
             # A hook in Python may import faultyard_hooks, and leaves nothing beside it.
             "PYTHONDONTWRITEBYTECODE": "1",
             "PYTHONPATH": ":".join(filter(None, [SOURCES, os.environ.get("PYTHONPATH")])),
@@ -103,9 +108,10 @@ class Hooks:
     @asynccontextmanager
     async def running(self, name: str, *numbers: int, **files: Any) -> AsyncIterator[Process]:
         """A hook that runs until the block ends."""
+        before = self.before(*numbers) if name == "start" else []
         with self._log.of(called(name, numbers)) as log:
             more = {"env": self._variables(*numbers), "stderr": log} | files
-            async with running(self._path, name, *numbers, **more) as process:
+            async with running(*before, self._path, name, *numbers, **more) as process:
                 yield process
 
     async def call(self, name: str, *numbers: int, **variables: str) -> str | None:
@@ -119,19 +125,24 @@ class Hooks:
         self.ends[numbers[0] if numbers else name] = End(called(name, numbers), status)
         return text if status == 0 else None
 
-    async def salvage(self, number: int) -> str | None:
-        """What a copy of a process's folder has, by the hook, which may change the copy."""
+    async def copy(self, number: int) -> Path:
+        """A copy of a process's folder; the process doesn't run."""
         folder = Path(self._env["FY_DIR"])
         copy = folder / "salvage" / str(number)
         copy.parent.mkdir(exist_ok=True)
+        shutil.rmtree(copy, ignore_errors=True)
+        # Some stores look at the owner of their files, which shutil doesn't keep.
+        with self._log.of(f"cp for salvage {number}") as log:
+            await output("cp", "-a", folder / str(number), copy, stderr=log)
+        return copy
+
+    async def salvage(self, number: int, copy: Path) -> str | None:
+        """What a copy has, by the hook, which may change the copy. The whole store is down."""
         try:
-            # Some stores look at the owner of their files, which shutil doesn't keep.
-            with self._log.of(f"cp for salvage {number}") as log:
-                await output("cp", "-a", folder / str(number), copy, stderr=log)
             return await self.call("salvage", number, FY_COPY=str(copy))
         finally:
             shutil.rmtree(copy, ignore_errors=True)
-            with suppress(OSError):  # another may still be at work
+            with suppress(OSError):  # there may be other copies
                 copy.parent.rmdir()
 
     async def says(self, name: str, *numbers: int) -> bool:

@@ -11,14 +11,14 @@ from typing import Any
 
 from faultyard import FaultyardError, Guard, Key, Kind
 from faultyard.harness import read_orders
-from faultyard.plans import Draw, Order
-from faultyard.server import serve
+from faultyard.plans import Draw, Order, shared_place
 
-from . import HOOK, Fault
+from . import HOOK, USAGE, Fault
 from .checks import HookCheck
 from .clients import Clients, pairs
 from .evidence import Case, Course, wrong_line
 from .history import History, Operation
+from .disks import tears_of
 from .store import AGAIN, Store, cancelled
 from .verdicts import Disk, Judged, Left, Verdict, judged, wrong
 
@@ -26,22 +26,37 @@ FIRST = 1.0  # seconds before the first order
 Timed = tuple[float, Order]
 
 
+def first_of(faults: ExceptionGroup[Exception]) -> Exception:
+    """The first fault of a group that the tool has words for, or else the group.
+
+    `except*` isn't used: what it raises is a group again in Python 3.11.2, which Debian 12 has.
+    """
+    known = faults.subgroup((Fault, FaultyardError, OSError))
+    fault: Exception = known or faults
+    while known and isinstance(fault, ExceptionGroup):
+        fault = fault.exceptions[0]
+    return fault
+
+
 class Run(Store):
     judged: list[Judged] = []  # what became of each acknowledged record
     wrong: list[Operation] = []  # reads of what was never written
-    course: Course  # what was done, for their evidence
+    cases: list[dict[str, Any]] = []  # the evidence of each that isn't kept, as in records.jsonl
     is_unread = False  # whether `read` hung, so that only disks and `check` can say what is left
 
     def __init__(self, words: Namespace, guard: Guard) -> None:
         super().__init__(words, guard)
+        self.down: list[str] = []  # who did not run at the end
         self.notes: list[str] = []  # who was not back at the end, and why nothing could be read
         self.history = History(words.out / "history.jsonl", self.ledger)
         self.clients = Clients(self.hooks, self, self.history)
+        self.check = HookCheck(self)
 
     async def whole(self) -> None:
         """The run from its first process to what could be read."""
         await self.hooks.learn()
         orders = list(self._planned())
+        await self.lay_out()
         try:
             async with self.hooks.set_up(), asyncio.TaskGroup() as tasks:
                 await self.begin(tasks)
@@ -50,9 +65,12 @@ class Run(Store):
                 await self._chaos(orders)
                 left = await self._read()
                 await self.end()
+                await self.check.disks()
                 await self._judge(left)
-        except* (Fault, FaultyardError, OSError) as faults:
-            raise faults.exceptions[0] from None
+                if self.disks:
+                    await self.disks.end()
+        except ExceptionGroup as faults:
+            raise first_of(faults) from None
 
     def _planned(self) -> Iterator[Timed]:
         """Orders and their times: of another run, or of a plan."""
@@ -62,10 +80,16 @@ class Run(Store):
         elif not words.check_hooks:
             weights = {kind: it for kind, it in zip(Kind, words.kinds) if kind in granted}
             draw, at = Draw(Random(words.seed), self.file.places, weights, words.pauses), FIRST
+            if words.plan == "blackout" and not shared_place(self.file.places):
+                text = "--plan blackout needs a place that all processes share, as a dcid"
+                raise Fault(USAGE, f"{words.config}: {text}")
+            if words.plan == "partition" and Kind.CLOG not in granted:
+                raise Fault(USAGE, f"{words.config}: --plan partition needs a grant of Clog")
+            tears = tears_of(words)
             for order in getattr(draw, words.plan)():
                 if (at := round(at + order.pause, 3)) >= words.seconds:
                     return
-                yield at, order
+                yield at, order._replace(tear=next(tears))
 
     async def _chaos(self, orders: list[Timed]) -> None:
         """Writes and orders, until all that was clogged is let go again."""
@@ -74,14 +98,17 @@ class Run(Store):
         work = [self.clients.write(it) for it in dice[: words.writers]]
         if "check" in self.hooks.names:
             work += [self.clients.check(it) for it in dice[words.writers :]]
-        if words.socket:
-            work.append(serve(words.socket, self.asked))
+        if words.guard:
+            work.append(self.follow())
         behind = [self.tasks.create_task(it) for it in work]
         if words.check_hooks:
-            self.notes += await HookCheck(self).whole()
+            self.notes += await self.check.whole()
         for at, order in orders:
             await asyncio.sleep(at - self.ledger.now())
-            await self.obey(self.fault, order.act())
+            if order.cuts:
+                await self.partition(order)
+            else:
+                await self.obey(self.fault, order.act())
         if not words.check_hooks:
             await asyncio.sleep(words.seconds - self.ledger.now())
         async with self.turn:
@@ -92,6 +119,7 @@ class Run(Store):
 
     async def _read(self) -> Left:
         """What the store tells at the end, all of it and each process alone."""
+        self.show("reads what is left")
         found, acked = await self.clients.read(), list(self.ledger.records)
         if not acked:
             text = "no record was acknowledged, so the run says nothing; write only said 'no'"
@@ -104,6 +132,8 @@ class Run(Store):
             self.is_unread = end.status is None
         checked = await self._check_all(acked) if "check" in self.hooks.names else {}
         self.notes += [f"at the end {text}" for text in self.waiting()]
+        runs = self.up | self.gone
+        self.down = [name for number, name in enumerate(self.names) if number not in runs]
         return Left(found, checked)
 
     async def _check_all(self, keys: list[str]) -> dict[int, dict[str, str | None]]:
@@ -112,6 +142,7 @@ class Run(Store):
             async with asyncio.timeout(self.hooks.limit):
                 while self.waiting():
                     await asyncio.sleep(AGAIN)
+        self.show(f"asks each process for {len(keys)} records")
         Random(self.words.seed).shuffle(keys)
         until = time.monotonic() + self.hooks.seconds("read")
         numbers = [number for number in range(len(self.names)) if self.clients.is_whole(number)]
@@ -132,25 +163,30 @@ class Run(Store):
             left = replace(left, disks=await self._salvaged())
             self.judged = judged(self.ledger.records, writes, reads, left)
         self.wrong = wrong(writes, reads)
-        self.course = self._course(left)
+        self.cases = self._cases(self._course(left))
         self.note("read", acked=len(self.judged), **self.counts())
 
     async def _salvaged(self) -> dict[int, Disk]:
-        """What the folder of each process has; those that the tool emptied have nothing."""
-        numbers = range(len(self.names))
+        """What the folder of each process has; those that the tool emptied have nothing.
+
+        One after the other, since members of a store that run at once may find each other.
+        """
         self.show("looks at the disks")
-        disks: list[Disk] = await asyncio.gather(*(self._disk(number) for number in numbers))
-        return dict(zip(numbers, disks))
+        return {number: await self._disk(number) for number in range(len(self.names))}
 
     async def _disk(self, number: int) -> Disk:
         """What the folder of a process has, which doesn't run."""
         if number in self.gone or number in self.emptied:
             return {}
-        text = await self.hooks.salvage(number)
-        if text is None:
-            self.notes.append(f"the disk of {self.names[number]} is unknown: {self.hooks.ends[number]}")
-            return None
-        return pairs(f"salvage {number}", text)
+        text = await self.hooks.salvage(number, await self.hooks.copy(number))
+        try:
+            if text is not None:
+                return pairs(f"salvage {number}", text)
+            why = str(self.hooks.ends[number])
+        except Fault as fault:
+            why = fault.args[1]
+        self.notes.append(f"the disk of {self.names[number]} is unknown: {why}")
+        return None
 
     def _course(self, left: Left) -> Course:
         """What was done, for the case of each record."""
@@ -165,20 +201,20 @@ class Run(Store):
 
     def unread(self) -> None:
         """Says what is known of the records where nothing was read in the end."""
-        self.judged, self.course = [], self._course(Left())
-        self.wrong = wrong(self.history.writes, self.history.reads)
+        self.judged, self.wrong = [], wrong(self.history.writes, self.history.reads)
+        self.cases = self._cases(self._course(Left()))
 
     def counts(self) -> dict[str, int]:
         """How many records there are of each verdict; wrong are all keys that were read so."""
         counts = Counter(it.verdict for it in self.judged)
         return {it.value: counts[it] for it in Verdict} | {"wrong": len(self.wrong)}
 
-    def cases(self) -> list[dict[str, Any]]:
+    def _cases(self, course: Course) -> list[dict[str, Any]]:
         """The evidence of all records that aren't kept, and of all that was never written."""
         unclear = {Verdict.LOST, Verdict.UNREADABLE, Verdict.STALE}
         records = self.ledger.records
         lines = [
-            Case(it, records[it.write.key], self.course).line()
+            Case(it, records[it.write.key], course).line()
             for it in self.judged
             if it.verdict in unclear
         ]
