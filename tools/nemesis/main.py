@@ -203,7 +203,8 @@ def after_cuts(run: Run) -> list[str]:
     lines = [f"records missing after power cuts: {lost}"] if lost else []
     lines += [f"did not start again: {' '.join(run.down)}"] if run.down else []
     if run.words.disks == "lossy" and not run.words.deaf_disks:
-        lines.append("unconfirmed: a disk of lossy hears no sync(2); --disks ext4 confirms it, or not")
+        text = "a disk of lossy hears no sync(2); --disks ext4 confirms it, or not"
+        lines.append(f"unconfirmed: {text}")
     return lines
 
 
