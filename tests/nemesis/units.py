@@ -1,10 +1,14 @@
 """Verdicts of small histories that are written out by hand. Expected are the definitions of docs/GUARD.md."""
+import json
+import tempfile
 import unittest
+from pathlib import Path
 
 from faultyard.ledger import Heal, Loss, Record
 from nemesis import summary
 from nemesis.evidence import Case, Course
 from nemesis.history import Operation
+from nemesis.main import rising
 from nemesis.verdicts import Left, Verdict, judged, wrong
 
 KEY, VALUE = "r/000000001", "a"
@@ -204,3 +208,12 @@ class Cases(unittest.TestCase):
         case = self.case(Left({}, disks=self.disks()), orders=orders, able=(0, 2, 3))
         struck = [(it["entry"], it["processes"]) for it in case.line()["struck"]]
         self.assertEqual(struck, [(5, ["k0"]), (9, ["k3"])])
+
+
+class Events(unittest.TestCase):
+    def test_show_reads_events_whose_entries_rise(self):
+        """Behind an entry that was asked for later, what others did has no time."""
+        with tempfile.TemporaryDirectory() as folder:
+            events = Path(folder, "events.jsonl")
+            events.write_text("".join(f'{{"entry":{it}}}\n' for it in (0, 2, 1, 2, 3)))
+            self.assertEqual([json.loads(it)["entry"] for it in rising(events)], [0, 2, 3])

@@ -40,7 +40,8 @@ class Answers(Case):
         status, text = server.ask("GET", "/v1/status")
         told = json.loads(text)
         self.assertEqual((status, told["entries"], told["version"]), (200, 4, common.version()))
-        states = [[it["up"], it["clogged"], it["destroyed"], it["gone"]] for it in told["processes"]]
+        words = "up", "clogged", "destroyed", "gone"
+        states = [[it[word] for word in words] for it in told["processes"]]
         well, down, gone = [[True] + [False] * 3, [False] * 4, [False, False, True, True]]
         self.assertEqual(states, [down, gone, well, well, well, well])
         self.assertEqual(told["processes"][3]["zoneid"], "z1")
@@ -193,11 +194,11 @@ class Doors(Case):
 
 
 WORDS = (
-    b"GET POST HEAD PUT PATCH DELETE OPTIONS TRACE CONNECT / /v1/acts /v1/status /v1/audit /v1/events"
-    b" /v1/targets /v1/bears /picture.svg /metrics /healthz /../etc/passwd //v1//acts HTTP/1.1"
+    b"GET POST HEAD PUT PATCH DELETE OPTIONS TRACE CONNECT / /v1/acts /v1/status /v1/audit"
+    b" /v1/events /v1/targets /v1/bears /picture.svg /metrics /healthz /../etc/passwd //v1//acts HTTP/1.1"
     b" HTTP/1.0 HTTP/9.9 Host: Content-Length: Transfer-Encoding: chunked Content-Type: Expect:"
-    b" 100-continue Connection: close Upgrade: Authorization: Bearer Idempotency-Key: Last-Event-ID:"
-    b" application/json 127.0.0.1 0 1 -1 99999999999999999999 \r\n \r\n\r\n \n \0 \xff {} [] null"
+    b" 100-continue Connection: close Upgrade: Authorization: Bearer Idempotency-Key:"
+    b" Last-Event-ID: application/json 127.0.0.1 0 1 -1 99999999999999999999 \r\n \r\n\r\n \n \0 \xff {} [] null"
     b' {"by":1,"act": {"kill": "once" "x" ?from= ?key=processid&value=p0'
 ).split(b" ")
 

@@ -79,7 +79,8 @@ class HookCheck:
         """What a disk of ours never hears."""
         if self.run.words.disks != "lossy":
             return ""
-        return " (lossy doesn't hear sync(2) and syncfs(2): where --disks ext4 passes, they are used)"
+        text = "lossy doesn't hear sync(2) and syncfs(2)"
+        return f" ({text}: where --disks ext4 passes, they are used)"
 
     def _known(self) -> dict[str, str]:
         """The records that are acknowledged by now."""

@@ -7,6 +7,7 @@ import shutil
 import signal
 import sys
 import tempfile
+from collections.abc import Iterator
 from pathlib import Path
 
 import faultyard
@@ -176,6 +177,15 @@ def main() -> int:
         end_children()
 
 
+def rising(events: Path) -> Iterator[str]:
+    """The events whose entries rise, for `show`: what others did may come behind a later entry."""
+    last = -1
+    for line in events.read_text("utf-8").splitlines(keepends=True):
+        if (entry := json.loads(line).get("entry", -1)) > last:
+            last = entry
+            yield line
+
+
 def write_files(run: Run) -> str:
     """Writes what a run leaves beside its events; whether its audit is legal, in words."""
     words, audit, beyond = run.words, run.guard.audit(), run.beyond()
@@ -187,8 +197,11 @@ def write_files(run: Run) -> str:
             (words.out / name).write_text("".join(f"{json.dumps(it)}\n" for it in found))
     try:
         checked = f"legal {faultyard.check(words.config, audit)}"
-        first, events = beyond["entry"] if beyond else None, words.out / "events.jsonl"
-        picture = faultyard.show(words.config, audit, beyond=first, times=events)
+        first = beyond["entry"] if beyond else None
+        with tempfile.NamedTemporaryFile("w", encoding="utf-8") as times:
+            times.writelines(rising(words.out / "events.jsonl"))
+            times.flush()
+            picture = faultyard.show(words.config, audit, beyond=first, times=times.name)
         (words.out / "audit.svg").write_text(picture, "utf-8")
     except faultyard.AuditRefused as fault:
         checked = fault.fault
@@ -203,7 +216,8 @@ def after_cuts(run: Run) -> list[str]:
     lines = [f"records missing after power cuts: {lost}"] if lost else []
     lines += [f"did not start again: {' '.join(run.down)}"] if run.down else []
     if run.words.disks == "lossy" and not run.words.deaf_disks:
-        lines.append("unconfirmed: a disk of lossy hears no sync(2); --disks ext4 confirms it, or not")
+        text = "a disk of lossy hears no sync(2); --disks ext4 confirms it, or not"
+        lines.append(f"unconfirmed: {text}")
     return lines
 
 

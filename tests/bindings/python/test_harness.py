@@ -325,18 +325,6 @@ class HarnessTest(common.Folder, unittest.TestCase):
         self.assertEqual([it["entry"] for it in events], [0, 1, 2, 3])
         self.assertEqual(events[1]["reply"], "done")
 
-    def test_an_event_has_no_entry_where_a_later_one_was_written_before(self):
-        async def play(harness):
-            guard = harness.guard
-            other = guard.act(2, EMPTY.act())
-            harness.tell_up(1)
-            guard.others = lambda before=None: [other]
-            await harness.obey(1, Order(Kind.REBOOT, Key.PROCESS, "p2").act())
-
-        harness, events = self.played(play)
-        self.assertEqual([it.get("entry") for it in events], [1, None, 2])
-        self.assertEqual([it["entry"] for it in harness.orders], [0, 2])
-
     def test_reports(self):
         async def play(harness):
             await harness.obey(1, EMPTY.act())

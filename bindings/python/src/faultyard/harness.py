@@ -80,7 +80,6 @@ class Harness(ABC):
         self._show = show
         self._events = Path(events)
         self._events.write_text("")
-        self._noted = -1
         self._over = asyncio.Event()
         self._clogs: List[Awaitable[None]] = []
 
@@ -97,11 +96,7 @@ class Harness(ABC):
         self._show(f"{self.ledger.now():7.2f}  {text}")
 
     def note(self, what: str, **more: Any) -> None:
-        """Writes an event. Its entry is left out where a later one was written before."""
-        entry = more.get("entry")
-        if entry is not None and entry <= self._noted:
-            del more["entry"]
-        self._noted = max(self._noted, -1 if entry is None else entry)
+        """Writes an event."""
         event = {"t": self.ledger.now(), "what": what, **more, "up": sorted(self.up)}
         with self._events.open("a", encoding="utf-8") as file:
             print(json.dumps(event), file=file)

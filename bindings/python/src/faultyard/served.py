@@ -45,8 +45,9 @@ class Served(Followed):
         super().__init__(config)
         self._server, self._timeout = server, timeout
         self._own: Set[int] = set()
-        is_url = server.startswith(("http://", "https://"))
-        self._door: _Door = _Web(server, tokens or {}, timeout) if is_url else _Lines(server, timeout)
+        self._door: _Door = _Lines(server, timeout)
+        if server.startswith(("http://", "https://")):
+            self._door = _Web(server, tokens or {}, timeout)
         if folder is not None:
             self._kept = open_audit(folder)
         self._keep(HEADER)

@@ -518,6 +518,7 @@ func TestALineIsAnsweredAsAGuardDoes(test *testing.T) {
 	entry := func(at int) string {
 		return fmt.Sprintf(`{"act":{"up":{"process":0}},"at":%d,"by":1,"reply":"done"}`+"\n", at)
 	}
+	asks := func(from int) string { return fmt.Sprintf("{\"from\":%d}\n", from) }
 	refused := func(line int, why string) string {
 		return fmt.Sprintf(`{"refused":"script: line %d: %s"}`+"\n", line, why)
 	}
@@ -532,10 +533,13 @@ func TestALineIsAnsweredAsAGuardDoes(test *testing.T) {
 		{"a line in two halves", []string{up[:9], up[9:] + "\n"}, entry(0)},
 		{"many at once", []string{up + "\n" + up + "\nx\n" + up + "\n" + up[:5], up[5:] + "\n"},
 			entry(0) + entry(1) + refused(3, "Syntax") + entry(2) + entry(3)},
-		{"what was entered", []string{`{"from":0}` + "\n" + up + "\n" + up + "\n" + `{"from":1}` + "\n" + up + "\n"},
-			`{"from":0,"to":0}` + "\n" + entry(0) + entry(1) + `{"from":1,"to":2}` + "\n" + entry(1) + entry(2)},
-		{"what is still to come", []string{up + "\n" + `{"from":9}` + "\n" + `{"from":-1}` + "\n"},
-			entry(0) + `{"from":1,"to":1}` + "\n" + refused(3, "Syntax")},
+		{"what was entered",
+			[]string{asks(0) + up + "\n" + up + "\n" + asks(1) + up + "\n"},
+			"{\"from\":0,\"to\":0}\n" + entry(0) + entry(1) +
+				"{\"from\":1,\"to\":2}\n" + entry(1) + entry(2)},
+		{"what is still to come",
+			[]string{up + "\n" + asks(9) + asks(-1)},
+			entry(0) + "{\"from\":1,\"to\":1}\n" + refused(3, "Syntax")},
 		{"an empty line", []string{"\n" + up + "\n"}, refused(1, "Syntax") + entry(0)},
 		{"a line that is too long",
 			[]string{up + "\n", strings.Repeat("x", 65_537), "\n" + up + "\n"},
