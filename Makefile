@@ -110,6 +110,7 @@ try-disks:
 
 nemesis-aborts:
 	tests/nemesis/run --aborts 100 bin/faultyard Trees.test_aborted_runs_leave_nothing
+	tests/power/run --aborts 100 bin/faultyard Aborts
 
 look: build
 	tests/show/look bin/faultyard
@@ -151,8 +152,8 @@ bench: build lib
 	bench/check.py --largest --rounds 1 bin/faultyard $(BESIDE)
 	bench/swarm.py bin/faultyard $(BESIDE)
 	bench/guard.py bin/faultyard
-	bench/growth --all --states 1000 bin/faultyard
-	if [ -n "$(BESIDE)" ]; then bench/growth --all --beside $(BESIDE) bin/faultyard; fi
+	-bench/growth --all --states 1000 bin/faultyard
+	-if [ -n "$(BESIDE)" ]; then bench/growth --all --beside $(BESIDE) bin/faultyard; fi
 	bench/verdicts.sh
 	bench/acts.sh
 	bench/turns.sh

@@ -7,6 +7,7 @@ A server that is asked for a record by `check` asks the others where it lacks it
 STORE_FAULT in the environment plants a fault:
 
     unsynced    a record is acknowledged up to half a second before it is written
+    lazy        a record is given to the kernel, and never synced: only a power cut loses it
     forgetful   an emptied server is said to be whole at once, and nothing is copied to it
     late        a server tells of a record half a second after it has it
     hole        server 1 tells that each seventh record isn't there
@@ -32,13 +33,14 @@ from pathlib import Path
 FAULT = os.environ.get("STORE_FAULT", "")
 COUNT, PORT = int(os.environ["FY_COUNT"]), int(os.environ["FY_PORT"])
 JOINS = "STORE_JOINS" in os.environ  # `join` copies, so `whole` only looks
+HOSTS = os.environ["FY_HOSTS"].split()
 NET = os.environ.get("STORE_NET", "")  # a network in which each server has an address of its own
 PAUSE = 0.004  # seconds that a write takes at least: with too many records hooks take too long
 Records = dict[str, str]
 
 
 def address(number: int) -> tuple[str, int]:
-    return f"{NET}{number + 1}" if NET else "127.0.0.1", PORT + 4 * number
+    return f"{NET}{number + 1}" if NET else HOSTS[number], PORT + 4 * number
 
 
 class Server(socketserver.ThreadingTCPServer):
@@ -52,6 +54,8 @@ class Server(socketserver.ThreadingTCPServer):
         self.records = read_log(path)
         self.came: dict[str, float] = {}  # when each record came
         self.log = path.open("a", 1 << 20)
+        # What a power cut tore was never acknowledged; it may not be a part of what comes.
+        self.log.truncate(sum(len(line) + 1 for line in lines_of(path)))
         super().__init__(address(number), Handler)
         if FAULT == "unsynced":
             threading.Thread(target=self.sync_late, daemon=True).start()
@@ -83,6 +87,7 @@ class Server(socketserver.ThreadingTCPServer):
         return next(filter(None, told), "none" if len(told) == COUNT else "?")
 
     def put(self, records: Records) -> None:
+        print("put", time.time(), flush=True)
         with self.lock:
             self.records |= records
             self.came |= dict.fromkeys(records, time.monotonic())
@@ -92,7 +97,8 @@ class Server(socketserver.ThreadingTCPServer):
 
     def sync(self) -> None:
         self.log.flush()
-        os.fdatasync(self.log.fileno())
+        if FAULT != "lazy":
+            os.fdatasync(self.log.fileno())
 
     def sync_late(self) -> None:
         while True:
@@ -119,10 +125,14 @@ class Handler(socketserver.StreamRequestHandler):
                 self.wfile.write(told.encode() + b".\n")
 
 
-def read_log(path: Path) -> Records:
-    """Whole lines; the last may be torn."""
+def lines_of(path: Path) -> list[str]:
+    """Its lines up to the first that is torn: a sector that a power cut lost is zeros."""
     text = path.read_text() if path.exists() else ""
-    return dict(pair for line in text.split("\n")[:-1] if len(pair := line.split()) == 2)  # type: ignore[misc]
+    return text.partition("\0")[0].split("\n")[:-1]
+
+
+def read_log(path: Path) -> Records:
+    return dict(line.split() for line in lines_of(path))  # type: ignore[misc]
 
 
 class Link:

@@ -35,11 +35,14 @@ class HookCheck:
         granted = self.run.file.actors[self.run.fault].kinds
         clog = [Kind.CLOG] if "pause" in self.hooks.names and Kind.CLOG in granted else []
         for number, name in enumerate(self.run.names):
-            for kind in (*clog, Kind.REBOOT):
+            for kind in clog:
                 await self._order(kind, name)
+            await self._reboot(name, "setup")
             before = self._known()
             await self._order(Kind.REBOOT_AND_DELETE, name)
             await self._healed(number, before)
+            if self.run.disks:
+                await self._reboot(name, "join")
         if "leave" in self.hooks.names and Kind.KILL_INSTANTLY in granted:
             await self._order(Kind.KILL_INSTANTLY, self.run.names[-1])
         return self.times()
@@ -54,6 +57,27 @@ class HookCheck:
         await run.clogs_ended()
         await run.calm()
         run.show(f"{name} is {'out' if kind.is_final else 'back'} after {kind.value}")
+
+    async def _reboot(self, name: str, wrote: str) -> None:
+        """With disks it is a power cut: what a hook wrote and didn't sync is gone."""
+        before = self._known()
+        try:
+            await self._order(Kind.REBOOT, name)
+        except Fault as fault:
+            if not self.run.disks or fault.args[0] != HOOK:
+                raise
+            asked = f"does `{wrote}` or `start` sync all that it writes?{self._hint()}"
+            text = f"{name} did not start again after a power cut: {asked} {fault.args[1]}"
+            raise wrong(text) from None
+        if self.run.disks and (lacks := await self._lacked_by_read(before)):
+            text = f"after a power cut of {name} records are missing: `read` lacks"
+            raise wrong(f"{text} {counted(lacks, before)}{self._hint()}")
+
+    def _hint(self) -> str:
+        """What a disk of ours never hears."""
+        if self.run.words.disks != "lossy":
+            return ""
+        return " (lossy doesn't hear sync(2) and syncfs(2): where --disks ext4 passes, they are used)"
 
     def _known(self) -> dict[str, str]:
         """The records that are acknowledged by now."""

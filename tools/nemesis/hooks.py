@@ -5,7 +5,7 @@ import shutil
 import socket
 from argparse import Namespace
 from asyncio.subprocess import PIPE, Process
-from collections.abc import AsyncIterator, Sequence
+from collections.abc import AsyncIterator, Callable, Sequence
 from contextlib import asynccontextmanager, suppress
 from pathlib import Path
 from random import SystemRandom
@@ -40,10 +40,13 @@ class End(NamedTuple):
 
 
 class Hooks:
-    def __init__(self, words: Namespace, file: ClusterFile, ledger: Ledger) -> None:
+    def __init__(
+        self, words: Namespace, file: ClusterFile, ledger: Ledger, hosts: Sequence[str] = ()
+    ) -> None:
         self.names = {"hooks"}  # which there are
         self.ends: dict[int | str, End] = {}  # of the last hook of each process, and of the others
         self._path, self._ledger = words.hooks, ledger
+        self.before: Callable[[int], list[str]] = lambda number: []  # the words of start
         self.limit: float = words.hook_timeout
         self._zones = [place[Key.ZONE] for place in file.places]
         self._log = HookLog(words.out / "hooks.log", ledger.now)
@@ -53,6 +56,7 @@ class Hooks:
             "FY_COUNT": str(len(file.places)),
             "FY_NAMES": " ".join(place[Key.PROCESS] for place in file.places),
             "FY_ZONES": " ".join(self._zones),
+            "FY_HOSTS": " ".join(hosts or ["127.0.0.1"] * len(file.places)),
             # A hook in Python may import faultyard_hooks, and leaves nothing beside it.
             "PYTHONDONTWRITEBYTECODE": "1",
             "PYTHONPATH": ":".join(filter(None, [SOURCES, os.environ.get("PYTHONPATH")])),
@@ -103,9 +107,10 @@ class Hooks:
     @asynccontextmanager
     async def running(self, name: str, *numbers: int, **files: Any) -> AsyncIterator[Process]:
         """A hook that runs until the block ends."""
+        before = self.before(*numbers) if name == "start" else []
         with self._log.of(called(name, numbers)) as log:
             more = {"env": self._variables(*numbers), "stderr": log} | files
-            async with running(self._path, name, *numbers, **more) as process:
+            async with running(*before, self._path, name, *numbers, **more) as process:
                 yield process
 
     async def call(self, name: str, *numbers: int, **variables: str) -> str | None:

@@ -15,9 +15,13 @@ from faultyard.plans import PLANS
 from config_check.main import explain
 from keeper import adopt_orphans, end_children
 
+from . import alone
 from . import GUARD, NONE_LOST, TOOL, USAGE, Fault, say, summary
 from . import __doc__ as about
+from .edn import Convert
 from .evidence import told_cases
+from .disks import KINDS as KINDS_OF_DISKS
+from .net import WAYS
 from .picture import draw
 from .run import Run
 from .summary import closing, tested_little
@@ -56,6 +60,15 @@ def parsed() -> argparse.Namespace:
     add("--kinds", type=weights, default=KINDS, metavar="WEIGHTS", help=text)
     text = f"between mixed orders ({PAUSES})"
     add("--pauses", type=numbers, default=PAUSES, metavar="SECONDS", help=text)
+    text = "a disk for each process, whose power a Reboot cuts"
+    add("--disks", choices=KINDS_OF_DISKS, help=text)
+    text = "what a power cut keeps of what was unsynced: nothing, or what is drawn (draw)"
+    add("--tear", choices=("none", "draw"), default="draw", help=text)
+    add("--deaf-disks", action="store_true", help="syncs do nothing: a control that has to lose")
+    text = "a host for each process, FY_HOSTS, whose cable a Clog pulls"
+    add("--net", action="store_true", help=text)
+    text = "what a Clog loses with --net: what the process sends, what it gets, or both (both)"
+    add("--clog", choices=WAYS, default="both", help=text)
     add("--replay", type=Path, metavar="EVENTS", help="do the orders of an events.jsonl again")
     add("--unguarded", action="store_true", help="do what was ordered, whatever the guard says")
     add("--check-hooks", action="store_true", help="have each hook called on a calm cluster")
@@ -67,10 +80,18 @@ def parsed() -> argparse.Namespace:
     add("--out", type=Path, metavar="FOLDER", help="empty or new; else a new one below TMPDIR")
     add("--keep", action="store_true", help="keep the data of the processes if nothing is lost")
     add("--quiet", action="store_true", help="print the summary alone")
+    text = "print the history of a run that has ended as EDN, and do nothing else"
+    add("--edn", action=Convert, metavar="FOLDER", help=text)
     words = it.parse_args()
     for name, least in (("seed", 0), ("seconds", 0), ("writers", 1), ("readers", 0), ("hook_timeout", 0.1)):
         if not least <= vars(words)[name] < 1e9:
             it.error(f"--{name.replace('_', '-')} has to be {least} or more")
+    if words.deaf_disks and not words.disks:
+        it.error("--deaf-disks needs --disks")
+    if words.plan == "partition" and not words.net:
+        it.error("--plan partition needs --net")
+    if words.clog != "both" and not words.net:
+        it.error("--clog needs --net")
     for path in (words.config, words.hooks, words.replay):
         if path and not path.is_file():
             it.error(f"there is no file {path}")
@@ -105,12 +126,19 @@ async def chaos(words: argparse.Namespace) -> int:
     if status == NONE_LOST and not words.keep:
         for process in range(len(run.names)):
             shutil.rmtree(words.out / str(process), ignore_errors=True)
+            if run.disks:
+                run.disks.remove(process)
     return status
 
 
 def main() -> int:
     """Does what the words say; all that it started ends before this returns."""
     words = parsed()
+    if (words.disks or words.net) and alone.MARK not in os.environ:
+        if lack := alone.missing(words):
+            print(f"faultyard-nemesis: {lack}", file=sys.stderr)
+            return USAGE
+        alone.move(words)
     adopt_orphans()
     if sys.version_info < (3, 12):  # later it is the default
         asyncio.set_child_watcher(asyncio.PidfdChildWatcher())
@@ -154,10 +182,22 @@ def write_files(run: Run) -> str:
     return checked
 
 
+def after_cuts(run: Run) -> list[str]:
+    """What may be the work of a power cut: records that are missing, and who did not start again."""
+    lost = run.counts()["lost"]
+    if not run.cuts or not (lost or run.down):
+        return []
+    lines = [f"records missing after power cuts: {lost}"] if lost else []
+    lines += [f"did not start again: {' '.join(run.down)}"] if run.down else []
+    if run.words.disks == "lossy" and not run.words.deaf_disks:
+        lines.append("unconfirmed: a disk of lossy hears no sync(2); --disks ext4 confirms it, or not")
+    return lines
+
+
 def report(run: Run, is_read: bool = True) -> int:
     """Prints what a run comes to, and says how the tool ends."""
     words, counts, checked = run.words, run.counts(), write_files(run)
-    lines = run.summary(f"seed {words.seed}") + run.notes
+    lines = run.summary(f"seed {words.seed}") + run.notes + run.power() + after_cuts(run)
     lines += [f"{run.names[number]} {crashes}" for number, crashes in sorted(run.crashes.items())]
     acked = len(run.ledger.records)
     if is_read and not words.check_hooks:

@@ -15,6 +15,7 @@ LEFT, RIGHT, LETTER = 150, 24, 6.3  # of the plot, and of a letter
 CHART = 84  # how high the curve of the writes is
 MOST_LETTERS = 205  # of a line below
 LISTED = 12  # orders that are explained below; a picture is no log
+BOLT = "l-5 9h4l-2 7l7 -9h-4l3 -7z"
 SHORT = {
     Kind.REBOOT_PROCESS: ("P", "Process"),
     Kind.REBOOT: ("R", "Reboot"),
@@ -94,7 +95,8 @@ class _Picture:
         strips = {record.verdict for record in run.records}
         order = ("lost", "wrong", "stale", "unreadable")
         self.strips = [it for it in order if it in strips]
-        self.lanes_top = self.top + CHART + 18 + 16 * len(self.strips) + 12
+        rows = len(self.strips) + bool(run.partitions)
+        self.lanes_top = self.top + CHART + 18 + 16 * rows + 12
         self.zones = zones(file)
         self.bottom = self.lanes_top + len(self.names) * self.high + 6 * len(self.zones)
 
@@ -114,6 +116,7 @@ class _Picture:
         yield from self.legend(self.top - 38)
         yield from self.chart()
         yield from self.records()
+        yield from self.partitions()
         yield from self.grid()
         yield from self.lanes()
         if self.run.seconds - self.run.written > 0.05 * self.run.seconds:
@@ -155,6 +158,10 @@ class _Picture:
             x += 36 + LETTER * len(word)
         yield self.diamond(x + 8, y - 4, "")
         yield f'<text x="{x + 20}" y="{y}">ended by itself</text>'
+        if any(lane.cuts for lane in self.run.lanes):
+            x += 40 + LETTER * len("ended by itself")
+            yield f'<path d="M{x + 8} {y - 12}{BOLT}" class="crash"/>'
+            yield f'<text x="{x + 20}" y="{y}">power cut</text>'
 
     def grid(self) -> Iterator[str]:
         step = nice(self.run.seconds / 14)
@@ -205,6 +212,23 @@ class _Picture:
                 told = f"{record.key}, {record.t:.2f} s, {record.verdict}: {record.fault}"
                 yield f"<title>{escape(told)}</title></path>"
 
+    def partitions(self) -> Iterator[str]:
+        """When some didn't hear others."""
+        y = self.top + CHART + 18 + 16 * len(self.strips)
+        if self.run.partitions:
+            yield f'<text x="16" y="{y + 4}">partitions</text>'
+        for it in self.run.partitions:
+            heard: dict[str, list[str]] = {}
+            for sender, receiver in it.cuts:
+                heard.setdefault(self.names[sender], []).append(self.names[receiver])
+            sides = "; ".join(f"{name} not to {' '.join(to)}" for name, to in heard.items())
+            told = f"partition {it.shape} from {it.begin:.1f} to {it.end:.1f} s: {sides}"
+            x, wide = self.x(it.begin), round(self.x(it.end) - self.x(it.begin), 1)
+            place = f'x="{x}" y="{y - 7}" width="{wide}" height="14"'
+            yield f'<rect {place} class="clog"><title>{escape(told)}</title></rect>'
+            if wide > LETTER * len(it.shape) + 8:
+                yield f'<text x="{x + 4}" y="{y + 4}" class="word">{escape(it.shape)}</text>'
+
     # The processes.
 
     def lanes(self) -> Iterator[str]:
@@ -239,6 +263,9 @@ class _Picture:
             if with_words and LETTER * len(word) < xs[place_of + 1] - xs[place_of]:
                 where = f'x="{xs[place_of] - 6}" y="{y + 10}"'
                 yield f'<text {where} class="word">{word}</text>'
+        for t in lane.cuts:
+            told = f"<title>the power of {escape(name)} was cut at {t:.2f} s</title>"
+            yield f'<path d="M{self.x(t) + 12} {middle - 8}{BOLT}" class="crash">{told}</path>'
         for t, how in lane.ends:
             yield self.diamond(self.x(t), middle, f"{name} ended by itself at {t:.2f} s, {how}")
 

@@ -11,19 +11,32 @@ from typing import Any
 
 from faultyard import FaultyardError, Guard, Key, Kind
 from faultyard.harness import read_orders
-from faultyard.plans import Draw, Order
+from faultyard.plans import Draw, Order, shared_place
 from faultyard.server import serve
 
-from . import HOOK, Fault
+from . import HOOK, USAGE, Fault
 from .checks import HookCheck
 from .clients import Clients, pairs
 from .evidence import Case, Course, wrong_line
 from .history import History, Operation
+from .disks import tears_of
 from .store import AGAIN, Store, cancelled
 from .verdicts import Disk, Judged, Left, Verdict, judged, wrong
 
 FIRST = 1.0  # seconds before the first order
 Timed = tuple[float, Order]
+
+
+def first_of(faults: ExceptionGroup[Exception]) -> Exception:
+    """The first fault of a group that the tool has words for, or else the group.
+
+    `except*` isn't used: what it raises is a group again in Python 3.11.2, which Debian 12 has.
+    """
+    known = faults.subgroup((Fault, FaultyardError, OSError))
+    fault: Exception = known or faults
+    while known and isinstance(fault, ExceptionGroup):
+        fault = fault.exceptions[0]
+    return fault
 
 
 class Run(Store):
@@ -34,6 +47,7 @@ class Run(Store):
 
     def __init__(self, words: Namespace, guard: Guard) -> None:
         super().__init__(words, guard)
+        self.down: list[str] = []  # who did not run at the end
         self.notes: list[str] = []  # who was not back at the end, and why nothing could be read
         self.history = History(words.out / "history.jsonl", self.ledger)
         self.clients = Clients(self.hooks, self, self.history)
@@ -42,6 +56,7 @@ class Run(Store):
         """The run from its first process to what could be read."""
         await self.hooks.learn()
         orders = list(self._planned())
+        await self.lay_out()
         try:
             async with self.hooks.set_up(), asyncio.TaskGroup() as tasks:
                 await self.begin(tasks)
@@ -51,8 +66,10 @@ class Run(Store):
                 left = await self._read()
                 await self.end()
                 await self._judge(left)
-        except* (Fault, FaultyardError, OSError) as faults:
-            raise faults.exceptions[0] from None
+                if self.disks:
+                    await self.disks.end()
+        except ExceptionGroup as faults:
+            raise first_of(faults) from None
 
     def _planned(self) -> Iterator[Timed]:
         """Orders and their times: of another run, or of a plan."""
@@ -62,10 +79,16 @@ class Run(Store):
         elif not words.check_hooks:
             weights = {kind: it for kind, it in zip(Kind, words.kinds) if kind in granted}
             draw, at = Draw(Random(words.seed), self.file.places, weights, words.pauses), FIRST
+            if words.plan == "blackout" and not shared_place(self.file.places):
+                text = "--plan blackout needs a place that all processes share, as a dcid"
+                raise Fault(USAGE, f"{words.config}: {text}")
+            if words.plan == "partition" and Kind.CLOG not in granted:
+                raise Fault(USAGE, f"{words.config}: --plan partition needs a grant of Clog")
+            tears = tears_of(words)
             for order in getattr(draw, words.plan)():
                 if (at := round(at + order.pause, 3)) >= words.seconds:
                     return
-                yield at, order
+                yield at, order._replace(tear=next(tears))
 
     async def _chaos(self, orders: list[Timed]) -> None:
         """Writes and orders, until all that was clogged is let go again."""
@@ -81,7 +104,10 @@ class Run(Store):
             self.notes += await HookCheck(self).whole()
         for at, order in orders:
             await asyncio.sleep(at - self.ledger.now())
-            await self.obey(self.fault, order.act())
+            if order.cuts:
+                await self.partition(order)
+            else:
+                await self.obey(self.fault, order.act())
         if not words.check_hooks:
             await asyncio.sleep(words.seconds - self.ledger.now())
         async with self.turn:
@@ -104,6 +130,8 @@ class Run(Store):
             self.is_unread = end.status is None
         checked = await self._check_all(acked) if "check" in self.hooks.names else {}
         self.notes += [f"at the end {text}" for text in self.waiting()]
+        runs = self.up | self.gone
+        self.down = [name for number, name in enumerate(self.names) if number not in runs]
         return Left(found, checked)
 
     async def _check_all(self, keys: list[str]) -> dict[int, dict[str, str | None]]:

@@ -4,6 +4,7 @@ import math
 import os
 import shutil
 import signal
+import sys
 import tempfile
 import time
 from argparse import Namespace
@@ -14,12 +15,16 @@ from pathlib import Path
 
 from faultyard import ClusterFile, Guard, Kind
 from faultyard.harness import Harness
+from faultyard.plans import Order
 from keeper import signal_below
 
 from . import HOOK, Fault, say
 from .crashes import Crashes, end_of_log
+from .disks import Cut, disks_of
 from .hooks import End, Hooks
+from .net import Net
 
+DEAF = Path(__file__).with_name("deaf.py")
 AGAIN = 0.1  # seconds until a hook that said no is asked again
 ALONE = 20.0  # seconds for which a process that joined has to be ready before another may join
 CRASHES_SHOWN = 3  # of each process; the summary counts all
@@ -31,7 +36,13 @@ class Store(Harness):
         file, events = ClusterFile.read(words.config), words.out / "events.jsonl"
         show = (lambda text: None) if words.quiet else say
         super().__init__(guard, file, events, unguarded=words.unguarded, show=show)
-        self.words, self.hooks = words, Hooks(words, file, self.ledger)
+        count = len(file.places)
+        self.net = Net(words.out, count, words.clog) if words.net else None
+        self.disks = disks_of(words, count) if words.disks else None
+        self.cuts: list[tuple[str, Cut]] = []  # whose power was cut, and what that left
+        self.words = words
+        self.hooks = Hooks(words, file, self.ledger, self.net.hosts if self.net else ())
+        self.hooks.before = self._before
         self._keeping: dict[int, asyncio.Task[None]] = {}  # each brings a process back
         self._started: dict[int, Process] = {}
         self._began: dict[int, float] = {}  # when each was started last
@@ -43,6 +54,13 @@ class Store(Harness):
         self.idle: set[int] = set()  # those whose last join left the folder empty
         self._elected = 0  # how many of the losses an election has seen
         self._joining, self._alone_until = 0, 0.0
+
+    async def lay_out(self) -> None:
+        """Gives each process its host and its disk, where these were asked for."""
+        if self.net:
+            await self.net.begin()
+        if self.disks:
+            await self.disks.begin()
 
     async def begin(self, tasks: asyncio.TaskGroup) -> None:
         """Starts the store, and waits for all of it."""
@@ -99,16 +117,21 @@ class Store(Harness):
             await cancelled([self._electing, *self._keeping.values()])
 
     async def strike(self, processes: Sequence[int], kind: Kind) -> None:
-        await self._take_down(processes, kind.empties_disk)
+        is_cut = self.disks is not None and kind is Kind.REBOOT
+        await self._take_down(processes, kind.empties_disk, is_cut)
 
-    async def _take_down(self, processes: Sequence[int], emptied: bool) -> None:
+    async def _take_down(
+        self, processes: Sequence[int], emptied: bool, is_cut: bool = False
+    ) -> None:
         """Ends them all at once, with the hooks that work for them, to be brought back."""
         await cancelled([self._keeping[number] for number in processes])
+        if is_cut:
+            await self._cut(processes)
         for number in processes:
             self.hooks.ends.pop(number, None)
             self.joined.pop(number, None)
             if emptied:
-                self._empty(number)
+                await self._empty(number)
             self._keeping[number] = self.tasks.create_task(self._keep(number))
 
     @asynccontextmanager
@@ -123,21 +146,72 @@ class Store(Harness):
         finally:
             self._keeping[number] = self.tasks.create_task(self._keep(number))
 
-    def _empty(self, number: int) -> None:
-        empty(self.words.out / str(number))
+    async def _cut(self, processes: Sequence[int]) -> None:
+        """Cuts the power of their disks: what the order's tear doesn't keep is lost."""
+        assert self.disks and self.order
+        found = await self.disks.cut(processes, self.order.tear)
+        self.cuts.append((self.order.value, found))
+        self.note("cut", processes=list(processes), tear=self.order.tear, **found._asdict())
+        self.show(f"power cut of {self.order.value}: {found}")
+
+    def power(self) -> list[str]:
+        """What power cuts left, as lines of the summary."""
+        if not self.disks:
+            return []
+        lines = [f"{len(self.cuts)} power cuts: {sum((it for _, it in self.cuts), Cut(0, 0))}"]
+        if self.words.deaf_disks:
+            lines.append("the disks were deaf: a control, which has to lose records")
+        return lines
+
+    async def _empty(self, number: int) -> None:
         self.emptied.add(number)
+        if self.disks:
+            await self.disks.replace(number)
+        else:
+            empty(self.words.out / str(number))
+
+    def _before(self, number: int) -> list[str]:
+        """The words before `start`: where it runs, and what its syncs do."""
+        deaf = self.words.deaf_disks and self.words.disks != "lossy"  # which is deaf by itself
+        within = self.net.within(number) if self.net else []
+        return within + ([sys.executable, "-I", "-S", str(DEAF)] if deaf else [])
 
     async def clog(self, processes: Sequence[int], is_clogged: bool) -> None:
         """Stops or continues all that they run, or has a hook cut them off."""
         hook, sent = ("pause", signal.SIGSTOP) if is_clogged else ("resume", signal.SIGCONT)
         for number in processes:
             process = self._started.get(number)
-            if process is None or process.returncode is not None:
+            if self.net:
+                await self.net.clog(number, is_clogged)
+            elif process is None or process.returncode is not None:
                 await self.hooks.call(hook, number)
             elif hook not in self.hooks.names:
                 signal_below(process.pid, sent)
             elif not await self.hooks.says(hook, number) and process.returncode is None:
                 raise Fault(HOOK, f"{self.hooks.ends[number]}; it may not fail")
+
+    async def partition(self, order: Order) -> None:
+        """Loses what some processes send to others, until the order's time is over."""
+        assert self.net
+        async with self.turn:
+            self.note("partition", shape=order.value, cuts=order.cuts, clogged=order.clogged)
+            self.show(f"partition {order.value}: {self._sides(order)}, {order.clogged:g} s")
+            await self.net.cut(order.cuts, True)
+        self._clogs.append(self.spawn(self._rejoin(order)))
+
+    async def _rejoin(self, order: Order) -> None:
+        assert self.net
+        with suppress(TimeoutError):
+            async with asyncio.timeout(order.clogged):
+                await self._over.wait()
+        await self.net.cut(order.cuts, False)
+
+    def _sides(self, order: Order) -> str:
+        """Who is not heard by whom."""
+        to: dict[str, list[str]] = {}
+        for sender, receiver in order.cuts:
+            to.setdefault(self.names[sender], []).append(self.names[receiver])
+        return "; ".join(f"{name} not to {' '.join(others)}" for name, others in to.items())
 
     async def _keep(self, number: int) -> None:
         """Brings a process back, and again each time that it ends by itself."""
@@ -174,7 +248,7 @@ class Store(Harness):
             is_free = self._joining in self.up or self._alone_until < time.monotonic()
             if (is_free or self._joining == number) and self._is_elected():
                 self._joining, self._alone_until = number, math.inf
-                self._empty(number)
+                await self._empty(number)
                 if await self.hooks.says(hook, number):
                     self.emptied.discard(number)
                     if hook == "join":

@@ -67,6 +67,18 @@ class Lane:
     orders: list[Struck] = field(default_factory=list)
     ends: list[tuple[float, str]] = field(default_factory=list)
     """When it ended by itself, and how."""
+    cuts: list[float] = field(default_factory=list)
+    """When the power of its disk was cut."""
+
+
+@dataclass(frozen=True)
+class Partition:
+    """A time in which some didn't hear others: pairs of who wasn't heard, and by whom."""
+
+    begin: float
+    end: float
+    shape: str
+    cuts: tuple[tuple[int, int], ...]
 
 
 @dataclass(frozen=True)
@@ -91,6 +103,7 @@ class Timeline:
     orders: list[Struck]
     acks: list[float]
     records: list[Record]
+    partitions: list[Partition]
 
 
 def timeline(folder: Path, file: ClusterFile) -> Timeline:
@@ -103,7 +116,8 @@ def timeline(folder: Path, file: ClusterFile) -> Timeline:
     for event in events:
         states.take(event)
     until = next((event["t"] for event in events if event["what"] == "written"), last)
-    return Timeline(last, until, states.ended(), states.orders, acks, records)
+    cuts = [*partitions(events, until)]
+    return Timeline(last, until, states.ended(), states.orders, acks, records, cuts)
 
 
 def lines_of(path: Path) -> Iterator[Event]:
@@ -113,6 +127,15 @@ def lines_of(path: Path) -> Iterator[Event]:
             yield json.loads(line)
         except ValueError:
             return
+
+
+def partitions(events: Iterable[Event], until: float) -> Iterator[Partition]:
+    """The partitions, all of which end with the writing."""
+    for event in events:
+        if event["what"] == "partition":
+            cuts = tuple((sender, receiver) for sender, receiver in event["cuts"])
+            end = min(event["t"] + event["clogged"], until)
+            yield Partition(event["t"], end, event["shape"], cuts)
 
 
 def acknowledged(history: Iterable[Event]) -> Iterator[float]:
@@ -189,6 +212,9 @@ class _States:
                 self.become(process, State.UP, t)
             case "ended by itself" | "restart":
                 self.down(process, t)
+            case "cut":
+                for it in event["processes"]:
+                    self.lanes[it].cuts.append(t)
             case "ended":
                 self.lanes[process].ends.append((t, f"status {event['status']}"))
 

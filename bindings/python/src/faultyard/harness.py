@@ -71,6 +71,8 @@ class Harness(ABC):
         """The processes that were killed for good, with the guard's leave or without."""
         self.orders: List[Dict[str, Any]] = []
         """All kills and clogs, as the events have them."""
+        self.order: Optional[Order] = None
+        """The order at hand, whose tear says what a reboot keeps."""
         self.turn = asyncio.Lock()
         """Is held while somebody asks, and does what is answered."""
         self.spawn: Spawn = asyncio.ensure_future
@@ -135,6 +137,7 @@ class Harness(ABC):
             "key": order.key.value,
             "value": order.value,
             "clogged": order.clogged,
+            "tear": order.tear,
             "order": order.kind.value,
             "verdict": said and said.value,
             "rule": entry.barred,
@@ -146,6 +149,7 @@ class Harness(ABC):
         self.orders.append(event)
         self.note("order", **event)
         self.show(self._told(event))
+        self.order = order
         if does is Kind.CLOG:
             await self.clog(processes, True)
             self._clogs.append(self.spawn(self._unclog(order, entry.by)))
@@ -254,8 +258,14 @@ def read_orders(events: StrPath) -> Iterator[Tuple[float, Order]]:
     for number, line in enumerate(Path(events).read_text(encoding="utf-8").splitlines(), 1):
         try:
             event = json.loads(line)
-            if event["what"] == "order":
+            if event["what"] == "partition":
+                cuts = tuple((int(a), int(b)) for a, b in event["cuts"])
+                shape, clogged = event["shape"], event["clogged"]
+                order = Order(Kind.CLOG, Key.PROCESS, shape, clogged=clogged, cuts=cuts)
+                yield event["t"], order
+            elif event["what"] == "order":
                 order = Order(Kind(event["order"]), Key(event["key"]), event["value"])
-                yield event["t"], order._replace(clogged=event.get("clogged", 0.0))
+                clogged, tear = event.get("clogged", 0.0), event.get("tear", 0)
+                yield event["t"], order._replace(clogged=clogged, tear=tear)
         except (ValueError, KeyError, TypeError) as fault:
             raise InvalidAct(f"{events}: line {number} is no event: {fault!r}") from None

@@ -4,11 +4,11 @@ from __future__ import annotations
 
 from itertools import cycle
 from random import Random
-from typing import Any, Dict, Iterator, Mapping, NamedTuple, Optional, Sequence
+from typing import Any, Dict, Iterator, Mapping, NamedTuple, Optional, Sequence, Tuple
 
 from .enums import Key, Kind
 
-PLANS = ("mixed", "attrition", "swizzle", "rolling")
+PLANS = ("mixed", "attrition", "swizzle", "rolling", "blackout", "partition")
 """The plans of `Draw`, each a call of it."""
 PAUSES = (0.0, 0.2, 0.5, 1.0, 2.0, 4.0)
 WEIGHTS = dict(zip(Kind, (10.0, 35.0, 54.0, 1.0, 10.0)))
@@ -24,6 +24,10 @@ class Order(NamedTuple):
     """How many seconds to wait before."""
     clogged: float = 0.0
     """How many seconds a clog lasts."""
+    tear: int = 0
+    """Which unsynced items a reboot keeps, by its bits."""
+    cuts: Tuple[Tuple[int, int], ...] = ()
+    """A partition, of which no guard is asked: what each first sends to the second is lost."""
 
     def act(self) -> Dict[str, Dict[str, Any]]:
         """The act for `Guard.act`. A clog's ticks are milliseconds; the floor is the mildest."""
@@ -31,7 +35,7 @@ class Order(NamedTuple):
         if self.kind is Kind.CLOG:
             return {"clog": {**target, "ticks": round(1000 * self.clogged)}}
         floor = Kind.REBOOT_PROCESS.value
-        return {"kill": {**target, "kind": self.kind.value, "floor": floor, "tear": 0}}
+        return {"kill": {**target, "kind": self.kind.value, "floor": floor, "tear": self.tear}}
 
     @classmethod
     def of(cls, act: Mapping[str, Mapping[str, Any]]) -> Optional[Order]:
@@ -41,7 +45,36 @@ class Order(NamedTuple):
             return None
         kind = Kind(members.get("kind", Kind.CLOG.value))
         clogged = members.get("ticks", 0) / 1000
-        return cls(kind, Key(members["key"]), members["value"], clogged=clogged)
+        key, tear = Key(members["key"]), members.get("tear", 0)
+        return cls(kind, key, members["value"], clogged=clogged, tear=tear)
+
+
+def shared_place(places: Sequence[Mapping[Key, str]]) -> Optional[Tuple[Key, str]]:
+    """A key and a value that all processes have, so that one order strikes them all."""
+    for key in (Key.DATA_CENTER, Key.DATA_HALL, Key.ZONE, Key.MACHINE, Key.PROCESS):
+        values = {place.get(key) for place in places}
+        if len(values) == 1 and (value := values.pop()):
+            return key, value
+    return None
+
+
+SHAPES = ("majority", "one-way", "bridge", "ring")
+
+
+def cuts_of(shape: str, ring: Sequence[int], fewer: int) -> Tuple[Tuple[int, int], ...]:
+    """The pairs that a partition cuts, among processes in this order.
+
+    majority: the first few and the others. one-way: only what these few send is lost. bridge: two
+    halves, and the last process sees both. ring: each sees the one before and the one after it.
+    """
+    count = len(ring)
+    half = count // 2 if shape == "bridge" else fewer
+    last = count - 1 if shape == "bridge" else count
+    sides = [(a, b) for a in ring[:half] for b in ring[half:last]]
+    if shape == "ring":
+        apart = range(2, count - 1)
+        return tuple((ring[a], ring[(a + far) % count]) for a in range(count) for far in apart)
+    return tuple(sides if shape == "one-way" else sides + [(b, a) for a, b in sides])
 
 
 class Draw(NamedTuple):
@@ -89,6 +122,22 @@ class Draw(NamedTuple):
             for turn, (place, end) in enumerate(zip(places, ends)):
                 pause, clogged = 0.3 if turn else 3.0, 0.3 * (len(places) - turn + end)
                 yield Order(kind, Key.PROCESS, place[Key.PROCESS], pause, clogged)
+
+    def blackout(self) -> Iterator[Order]:
+        """Reboots everything at once, now and then; all have to share a place."""
+        key, value = shared_place(self.places) or (Key.DATA_CENTER, "")
+        while value:
+            yield Order(Kind.REBOOT, key, value, self.dice.choice([4.0, 6.0, 8.0]))
+
+    def partition(self) -> Iterator[Order]:
+        """Cuts processes off from each other, in one of the shapes of `cuts_of`."""
+        while len(self.places) > 1:
+            shape = self.dice.choice(SHAPES)
+            ring = self.dice.sample(range(len(self.places)), len(self.places))
+            fewer = self.dice.randint(1, max(1, (len(ring) - 1) // 2))
+            pause, clogged = self.dice.choice([1.0, 2.0, 4.0]), self.dice.choice([1.0, 3.0, 8.0])
+            if cuts := cuts_of(shape, ring, fewer):
+                yield Order(Kind.CLOG, Key.PROCESS, shape, pause, clogged, cuts=cuts)
 
     def rolling(self) -> Iterator[Order]:
         """Restarts each in turn; then all again, with a harder kind."""
