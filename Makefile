@@ -16,7 +16,10 @@
 #   make lossy            builds the disk that forgets what isn't synced, bin/faultyard-lossy; it needs libfuse3-dev
 #   make try-disks        tests that disk by thousands of seeds, beside ext4 and xfs, and by longer loads; it needs to be root
 #   make nemesis-aborts   aborts a hundred runs of faultyard-nemesis at random moments: no process may be left
-#   make look             draws a picture and takes a screenshot of it in light and in dark; it needs chromium
+#   make serve-many       kills faultyard-serve a hundred times while a nemesis and two testers ask it over an etcd of five, and sends
+#                         it a hundred thousand wrong requests
+#   make serve-speed      times faultyard-serve beside the pipe of `guard` and a server that echoes, on a machine with nothing else to do
+#   make look             draws a picture, and takes screenshots of it and of the page of faultyard-serve; it needs chromium
 #   make lib              proves and builds the C library, and leaves it at bin/libfaultyard.a and bin/libfaultyard.so
 #   make install          puts the program, its tools, the library, man pages, completions and pages below $(PREFIX), which is
 #                         /usr/local by default; `make uninstall` takes them away
@@ -34,7 +37,7 @@ BUILT := crates/faultyard/out/faultyard
 UNPROVED := bin/unproved/faultyard
 KIT = $(dir $(shell rt doc))
 
-.PHONY: build run lib merged test quick format swarm-seeds refused-memory wrong-bodies try-stores slow-stores lossy try-disks nemesis-aborts look install installed uninstall static dist packaged try-dist bench clean
+.PHONY: build run lib merged test quick format swarm-seeds refused-memory wrong-bodies try-stores slow-stores lossy try-disks nemesis-aborts serve-many serve-speed look install installed uninstall static dist packaged try-dist bench clean
 
 # `rt run` proves what changed, builds the program beside its crate and runs it once.
 build:
@@ -112,8 +115,17 @@ nemesis-aborts:
 	tests/nemesis/run --aborts 100 bin/faultyard Trees.test_aborted_runs_leave_nothing
 	tests/power/run --aborts 100 bin/faultyard Aborts
 
-look: build
+serve-many: build lib
+	tests/serve/many bin/faultyard bin/faultyard-serve
+	tests/serve/run --kills 100 --requests 100000 bin/faultyard bin/libfaultyard.a test_serve.Crashes test_http.Wrong
+
+serve-speed: build lib
+	cd tests/serve/echo && go build -buildvcs=false -o ../../../bin/echo .
+	tests/serve/speed bin/faultyard bin/faultyard-serve bin/echo bin
+
+look: build lib
 	tests/show/look bin/faultyard
+	tests/serve/look bin/faultyard bin/faultyard-serve
 
 install: build lib
 	$(MAKE) --no-print-directory installed

@@ -19,7 +19,7 @@ STORE_FAULT in the environment plants a fault:
     idle        `join` copies nothing
     careless    `whole` copies nothing, and says yes
     quorum      `read` wants an answer of two servers
-    crash       server 0 ends by itself, a second after each start
+    crash       server 0 ends by itself, two seconds after each start
 """
 import os
 import random
@@ -60,7 +60,7 @@ class Server(socketserver.ThreadingTCPServer):
         if FAULT == "unsynced":
             threading.Thread(target=self.sync_late, daemon=True).start()
         if FAULT == "crash" and number == 0:
-            threading.Timer(1, self.crash).start()
+            threading.Timer(2, self.crash).start()
 
     def crash(self) -> None:
         print("assertion failed: the sky is up", file=sys.stderr, flush=True)

@@ -2,6 +2,7 @@
 import asyncio
 import time
 from collections.abc import Iterable, Mapping
+from pathlib import Path
 from typing import TYPE_CHECKING
 
 from faultyard import Key, Kind
@@ -27,6 +28,7 @@ class HookCheck:
     def __init__(self, run: "Run") -> None:
         self.run, self.hooks, self.clients = run, run.hooks, run.clients
         self.healed: list[int] = []  # whose `whole` was believed
+        self.copies: dict[int, tuple[Path, Records]] = {}  # of folders, and what they have to have
 
     async def whole(self) -> list[str]:
         """Calls each hook; how long a start and a heal take."""
@@ -77,7 +79,8 @@ class HookCheck:
         """What a disk of ours never hears."""
         if self.run.words.disks != "lossy":
             return ""
-        return " (lossy doesn't hear sync(2) and syncfs(2): where --disks ext4 passes, they are used)"
+        text = "lossy doesn't hear sync(2) and syncfs(2)"
+        return f" ({text}: where --disks ext4 passes, they are used)"
 
     def _known(self) -> dict[str, str]:
         """The records that are acknowledged by now."""
@@ -95,9 +98,10 @@ class HookCheck:
             blamed = "`read`" if any(answers) else "`write`" if answers else "`write` or `read`"
             raise wrong(f"{CALM}, and `read` lacks {counted(read, known)}: {blamed} is wrong")
         for number, found in told.items():
-            if lacks := [key for key, value in found.items() if value != known[key]]:
-                text = f"{CALM}, and {self.run.names[number]} lacks {counted(lacks, found)} by `check`"
-                raise wrong(f"{text}, which `read` has: `check` is wrong, or it gets no records")
+            if lacks := lacking(found, {key: known[key] for key in found}):
+                text = f"{CALM}, and {self.run.names[number]} lacks {counted(lacks, found)}"
+                blamed = "`check` is wrong, or it gets no records"
+                raise wrong(f"{text} by `check`, which `read` has: {blamed}")
         for number in told if "check" in self.hooks.names else ():
             asked = await self.clients.ask_once(number, NEVER)
             if asked.value is not None:
@@ -113,37 +117,36 @@ class HookCheck:
             healed = " ".join(f"`whole {it}`" for it in self.healed)
             blamed = f"{healed} said yes too early" if healed else "`write` said ok too early"
             text = f"after {name} was emptied `read` lacks {counted(read, before)}"
-            raise wrong(f"{text}: {blamed}, or the policy is wrong")
-        found = {
-            "check": await self._told(number, before),
-            "salvage": await self._on_disk(number, before),
-        }
-        lacks = {
-            hook: lacking
-            for hook, told in found.items()
-            if (lacking := [key for key in told if told[key] != before[key]])
-        }
-        for hook, lacking in lacks.items():
-            text = f"`whole {number}` said yes, and {name} lacks {counted(lacking, before)}"
-            how = " and ".join(f"`{it}`" for it in lacks)
-            blamed = "`whole`" if len(lacks) == 2 else f"`whole` or `{hook}`"
-            idle = f"; {self.run.joined[number]}" if number in self.run.idle else ""
-            raise wrong(f"{text} by {how}{idle}: {blamed} is wrong")
+            raise wrong(f"{text}{self._idle(self.healed)}: {blamed}, or the policy is wrong")
         self.healed.append(number)
+        told = await self._told(number, before)
+        asked = {key: before[key] for key in told}
+        if lacks := lacking(told, asked):
+            raise self._wrong_whole(number, "check", lacks, asked)
+        if "salvage" in self.hooks.names:
+            async with self.run.held_down(number):
+                if "check" in self.hooks.names and before:
+                    await self._ask_the_dead(number, next(iter(before)))
+                self.copies[number] = (await self.hooks.copy(number), before)
+            await self.run.calm()
 
-    async def _on_disk(self, number: int, before: Records) -> dict[str, str | None]:
-        """What the folder of a process alone has of some records, if a hook tells."""
-        if "salvage" not in self.hooks.names:
-            return {}
-        async with self.run.held_down(number):
-            if "check" in self.hooks.names and before:
-                await self._ask_the_dead(number, next(iter(before)))
-            text = await self.hooks.salvage(number)
-        if text is None:
-            raise wrong(f"{self.hooks.ends[number]}; hooks.log may say why")
-        await self.run.calm()
-        disk = pairs(f"salvage {number}", text)
-        return {key: disk.get(key) for key in before}
+    async def disks(self) -> None:
+        """Looks at what each folder had after `whole` said yes, now that the store is down."""
+        for number, (copy, before) in self.copies.items():
+            if (text := await self.hooks.salvage(number, copy)) is None:
+                raise wrong(f"{self.hooks.ends[number]}; hooks.log may say why")
+            if lacks := lacking(pairs(f"salvage {number}", text), before):
+                raise self._wrong_whole(number, "salvage", lacks, before)
+
+    def _wrong_whole(self, number: int, by: str, lacks: list[str], before: Records) -> Fault:
+        name, idle = self.run.names[number], self._idle([number])
+        text = f"`whole {number}` said yes, and {name} lacks {counted(lacks, before)} by `{by}`"
+        return wrong(f"{text}{idle}: `whole` or `{by}` is wrong")
+
+    def _idle(self, numbers: Iterable[int]) -> str:
+        """Of some processes those whose `join` left their folders empty."""
+        found = [self.run.joined.get(it, "") for it in numbers if it in self.run.idle]
+        return "".join(f"; {it}" for it in found if it)
 
     async def _ask_the_dead(self, number: int, key: str) -> None:
         """A process that doesn't run tells nothing."""
@@ -164,7 +167,7 @@ class HookCheck:
         """What a process tells by `check` of the newest records, once it had time for all."""
         if "check" not in self.hooks.names:
             return {}
-        until = time.monotonic() + self.hooks.limit
+        until = time.monotonic() + self.hooks.seconds("read")
         return await self.clients.check_all(number, list(known)[-MOST:], until)
 
     def times(self) -> list[str]:
@@ -177,9 +180,14 @@ class HookCheck:
             text = f"--pauses are {pause:.1f} s on average, shorter than a start"
             lines.append(f"{text}: take some like {start:.0f},{2 * start:.0f}")
         if words.seconds < HEALS * heal:
-            least = f"{HEALS * heal:.0f}"
-            lines.append(f"--seconds {words.seconds:g} leaves no time for {HEALS} heals: take {least} or more")
+            text = f"--seconds {words.seconds:g} leaves no time for {HEALS} heals"
+            lines.append(f"{text}: take {HEALS * heal:.0f} or more")
         return lines
+
+
+def lacking(found: Mapping[str, str | None], before: Records) -> list[str]:
+    """The records that aren't found as they were written."""
+    return [key for key, value in before.items() if found.get(key) != value]
 
 
 def counted(lacks: Iterable[str], known: Iterable[str]) -> str:

@@ -1,4 +1,4 @@
-"""The clients of a store: co-processes of the user's, which write and read, and what they are told."""
+"""The clients of a store: hooks that run on, which write and read, and what they are told."""
 import asyncio
 import time
 from asyncio.subprocess import PIPE, Process
@@ -95,8 +95,8 @@ class Clients:
             up = sorted(self._harness.up)
             if not up or not self._acked:
                 return "?"
-            last = NEWEST if dice.random() < 0.5 else len(self._acked)
-            number, key = dice.choice(up), dice.choice(self._acked[-last:])
+            last = len(self._acked) if dice.random() < 0.5 else min(NEWEST, len(self._acked))
+            number, key = dice.choice(up), self._acked[-1 - dice.randrange(last)]
             return (await self._check_one(process, client, number, key)).error
 
         await self._talk("check", once)

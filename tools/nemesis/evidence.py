@@ -1,5 +1,5 @@
-"""The case for the defence: who could hold a record that isn't kept, what became of each, and whose fault
-it is by the guarantee of the guard."""
+"""The case for the defence: who could hold a record that isn't kept, what became of them, and whose
+fault it is by the guarantee of the guard."""
 from collections.abc import Iterable, Mapping, Sequence
 from dataclasses import dataclass
 from functools import cached_property
@@ -99,7 +99,8 @@ class Case:
         having, lacking = checks
         if read is not None and not has_read:
             if having and not lacking:
-                return f"`read` lacks it, and {told(having)} told it by `check`: `read` or the store is wrong"
+                text = f"`read` lacks it, and {told(having)} told it by `check`"
+                return f"{text}: `read` or the store is wrong"
             return ""
         if not lacking or not (has_read or self.holds):
             return ""
@@ -132,9 +133,10 @@ class Case:
             return f"every holder was destroyed by {entries}, which the guard allowed: tell us"
         if not self.never:
             return f"of those who could hold it {self._too_early(self.healed)}"
-        known = f"{told(self.never)} could hold it and {'were' if len(self.never) > 1 else 'was'} never destroyed since"
+        were, none = ("were", "none has it") if len(self.never) > 1 else ("was", "doesn't have it")
+        known = f"{told(self.never)} could hold it and {were} never destroyed since"
         if self.counted <= self.lacks.keys():
-            known += ", and none has it" if len(self.never) > 1 else ", and doesn't have it"
+            known += f", and {none}"
         else:
             known += f", and {self._unknown(self.counted)}"
         if self.healed and not self._were_down_at_once():

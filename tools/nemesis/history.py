@@ -1,5 +1,5 @@
-"""What each client asked of the store and was answered: a history as Jepsen has it, one line for each
-beginning and each end."""
+"""What each client asked of the store and was answered: a history as Jepsen has it, one line for
+each beginning and each end."""
 import itertools
 import json
 from collections.abc import Iterator
@@ -15,7 +15,7 @@ PREFIX = "r/"  # of the keys that are written; the store may have others of its 
 
 @dataclass
 class Operation:
-    """One write or read. As long as nothing else is known it may or may not have been done: info."""
+    """One write or read. As long as nothing is known of its end it may have been done: info."""
 
     process: int
     f: str
@@ -42,8 +42,10 @@ class Operation:
 
 
 class Client:
-    """One that asks the store, one thing after the other. After an end that is not known its number is
-    another one, since the old one may still be at work."""
+    """One that asks the store, one thing after the other.
+
+    After an end that isn't known its number is another one, since the old one may be at work.
+    """
 
     def __init__(self, numbers: Iterator[int]) -> None:
         self._numbers = numbers

@@ -36,7 +36,8 @@ class End(NamedTuple):
     status: int | None  # None where it hung
 
     def __str__(self) -> str:
-        return f"{self.call} " + ("hung" if self.status is None else f"ended with status {self.status}")
+        how = "hung" if self.status is None else f"ended with status {self.status}"
+        return f"{self.call} {how}"
 
 
 class Hooks:
@@ -124,19 +125,24 @@ class Hooks:
         self.ends[numbers[0] if numbers else name] = End(called(name, numbers), status)
         return text if status == 0 else None
 
-    async def salvage(self, number: int) -> str | None:
-        """What a copy of a process's folder has, by the hook, which may change the copy."""
+    async def copy(self, number: int) -> Path:
+        """A copy of a process's folder; the process doesn't run."""
         folder = Path(self._env["FY_DIR"])
         copy = folder / "salvage" / str(number)
         copy.parent.mkdir(exist_ok=True)
+        shutil.rmtree(copy, ignore_errors=True)
+        # Some stores look at the owner of their files, which shutil doesn't keep.
+        with self._log.of(f"cp for salvage {number}") as log:
+            await output("cp", "-a", folder / str(number), copy, stderr=log)
+        return copy
+
+    async def salvage(self, number: int, copy: Path) -> str | None:
+        """What a copy has, by the hook, which may change the copy. The whole store is down."""
         try:
-            # Some stores look at the owner of their files, which shutil doesn't keep.
-            with self._log.of(f"cp for salvage {number}") as log:
-                await output("cp", "-a", folder / str(number), copy, stderr=log)
             return await self.call("salvage", number, FY_COPY=str(copy))
         finally:
             shutil.rmtree(copy, ignore_errors=True)
-            with suppress(OSError):  # another may still be at work
+            with suppress(OSError):  # there may be other copies
                 copy.parent.rmdir()
 
     async def says(self, name: str, *numbers: int) -> bool:

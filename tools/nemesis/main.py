@@ -28,6 +28,7 @@ from .summary import closing, tested_little
 from .verdicts import Verdict
 
 KINDS, PAUSES = "10,35,54,1,10", "0,0.2,0.5,1,2,4"
+LEAST = {"seed": 0, "seconds": 0, "writers": 1, "readers": 0, "hook_timeout": 0.1}
 SHOWN = 5  # cases that are told on the terminal; records.jsonl has all
 
 
@@ -43,7 +44,8 @@ def weights(text: str) -> list[float]:
     """A weight for each kind."""
     found = numbers(text)
     if len(found) != len(Kind):
-        raise argparse.ArgumentTypeError(f"{len(Kind)} weights are wanted, and {len(found)} are given")
+        text = f"{len(Kind)} weights are wanted, and {len(found)} are given"
+        raise argparse.ArgumentTypeError(text)
     return found
 
 
@@ -76,14 +78,16 @@ def parsed() -> argparse.Namespace:
     add("--readers", type=int, default=2, help="how many check hooks run, if there is one (2)")
     text = "how long a hook may take; setup, join, elect, read and salvage six times as long (10)"
     add("--hook-timeout", type=float, default=10.0, metavar="SECONDS", help=text)
-    add("--socket", metavar="PATH", help="others may ask the same guard by this Unix socket")
+    text = "ask a faultyard-serve by its socket or URL, and do what others are answered there too"
+    add("--guard", metavar="SERVER", help=text)
+    add("--tokens", type=Path, metavar="FILE", help="tokens for --guard, as faultyard-serve has them")
     add("--out", type=Path, metavar="FOLDER", help="empty or new; else a new one below TMPDIR")
     add("--keep", action="store_true", help="keep the data of the processes if nothing is lost")
     add("--quiet", action="store_true", help="print the summary alone")
     text = "print the history of a run that has ended as EDN, and do nothing else"
     add("--edn", action=Convert, metavar="FOLDER", help=text)
     words = it.parse_args()
-    for name, least in (("seed", 0), ("seconds", 0), ("writers", 1), ("readers", 0), ("hook_timeout", 0.1)):
+    for name, least in LEAST.items():
         if not least <= vars(words)[name] < 1e9:
             it.error(f"--{name.replace('_', '-')} has to be {least} or more")
     if words.deaf_disks and not words.disks:
@@ -92,17 +96,23 @@ def parsed() -> argparse.Namespace:
         it.error("--plan partition needs --net")
     if words.clog != "both" and not words.net:
         it.error("--clog needs --net")
-    for path in (words.config, words.hooks, words.replay):
+    for path in (words.config, words.hooks, words.replay, words.tokens):
         if path and not path.is_file():
             it.error(f"there is no file {path}")
     if not os.access(words.hooks, os.X_OK):
         it.error(f"{words.hooks} is no executable")
-    if words.socket and os.path.exists(words.socket):
-        it.error(f"{words.socket} is there already")
+    if words.tokens and not words.guard:
+        it.error("--tokens goes with --guard")
     if words.out and words.out.is_dir() and any(words.out.iterdir()):
         it.error(f"{words.out} is not empty")
     words.hooks = words.hooks.resolve()
     return words
+
+
+def read_tokens(path: Path) -> dict[int, str]:
+    """The token of each actor, of a file as faultyard-serve reads it."""
+    rows = [line.split() for line in path.read_text().splitlines() if not line.startswith("#")]
+    return {int(row[1]): row[0] for row in rows if len(row) == 2 and row[1].isdigit()}
 
 
 async def chaos(words: argparse.Namespace) -> int:
@@ -111,7 +121,10 @@ async def chaos(words: argparse.Namespace) -> int:
     assert task
     for number in (signal.SIGINT, signal.SIGTERM, signal.SIGHUP):
         loop.add_signal_handler(number, task.cancel, int(number))
-    with Guard(words.config, folder=words.out) as guard:
+    tokens = read_tokens(words.tokens) if words.tokens else {}
+    with Guard(words.config, folder=words.out, server=words.guard, tokens=tokens) as guard:
+        if guard.journal_len():
+            raise Fault(USAGE, f"{words.guard} has entries: a run needs a new audit")
         run = Run(words, guard)
         try:
             await run.whole()
@@ -169,7 +182,7 @@ def write_files(run: Run) -> str:
     run.history.flush()
     keys = [it.write.key for it in run.judged if it.verdict is Verdict.LOST]
     lost = [run.named(run.ledger.loss_of(key)) for key in keys]
-    for name, found in (("lost.jsonl", lost), ("records.jsonl", run.cases())):
+    for name, found in (("lost.jsonl", lost), ("records.jsonl", run.cases)):
         if found:
             (words.out / name).write_text("".join(f"{json.dumps(it)}\n" for it in found))
     try:
@@ -190,7 +203,8 @@ def after_cuts(run: Run) -> list[str]:
     lines = [f"records missing after power cuts: {lost}"] if lost else []
     lines += [f"did not start again: {' '.join(run.down)}"] if run.down else []
     if run.words.disks == "lossy" and not run.words.deaf_disks:
-        lines.append("unconfirmed: a disk of lossy hears no sync(2); --disks ext4 confirms it, or not")
+        text = "a disk of lossy hears no sync(2); --disks ext4 confirms it, or not"
+        lines.append(f"unconfirmed: {text}")
     return lines
 
 
@@ -203,7 +217,7 @@ def report(run: Run, is_read: bool = True) -> int:
     if is_read and not words.check_hooks:
         healed, destroyed = len(run.ledger.healed), len(run.ledger.losses)
         lines += tested_little(acked, run.ledger.pauses(), destroyed, healed)
-    lines += told_cases(run.cases(), SHOWN)
+    lines += told_cases(run.cases, SHOWN)
     ending = closing(acked, counts) if is_read else f"{acked} acknowledged so far, not read"
     (words.out / "picture.svg").write_text(draw(words.out, run.file, [lines[0], ending]), "utf-8")
     say("\n".join([*lines, f"{ending}; audit {checked}; {words.out}"]))

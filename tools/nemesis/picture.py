@@ -8,7 +8,8 @@ from xml.sax.saxutils import escape
 
 from faultyard import ClusterFile, Key, Kind
 
-from .timeline import QUIET, Lane, Record, State, Struck, Timeline, gaps, rates, timeline, zones
+from .timeline import QUIET, Lane, Partition, Record, State, Struck, Timeline
+from .timeline import gaps, rates, timeline, zones
 
 WIDE = 1400  # pixels, however long the run was
 LEFT, RIGHT, LETTER = 150, 24, 6.3  # of the plot, and of a letter
@@ -218,16 +219,20 @@ class _Picture:
         if self.run.partitions:
             yield f'<text x="16" y="{y + 4}">partitions</text>'
         for it in self.run.partitions:
-            heard: dict[str, list[str]] = {}
-            for sender, receiver in it.cuts:
-                heard.setdefault(self.names[sender], []).append(self.names[receiver])
-            sides = "; ".join(f"{name} not to {' '.join(to)}" for name, to in heard.items())
-            told = f"partition {it.shape} from {it.begin:.1f} to {it.end:.1f} s: {sides}"
+            told = self.sides(it)
             x, wide = self.x(it.begin), round(self.x(it.end) - self.x(it.begin), 1)
             place = f'x="{x}" y="{y - 7}" width="{wide}" height="14"'
             yield f'<rect {place} class="clog"><title>{escape(told)}</title></rect>'
             if wide > LETTER * len(it.shape) + 8:
                 yield f'<text x="{x + 4}" y="{y + 4}" class="word">{escape(it.shape)}</text>'
+
+    def sides(self, it: Partition) -> str:
+        """A partition, and who isn't heard by whom."""
+        heard: dict[str, list[str]] = {}
+        for sender, receiver in it.cuts:
+            heard.setdefault(self.names[sender], []).append(self.names[receiver])
+        sides = "; ".join(f"{name} not to {' '.join(to)}" for name, to in heard.items())
+        return f"{it.begin:.1f} to {it.end:.1f} s, {it.shape}: {sides}"
 
     # The processes.
 
@@ -339,6 +344,7 @@ class _Picture:
             ("Records that are not kept", [*self.faults()], "records.jsonl"),
             ("Beyond the guard", [*map(self.told_by, beyond)], "events.jsonl"),
             ("Why no harder", [*map(self.told_by, less)], "events.jsonl"),
+            ("Who did not hear whom", [*map(self.sides, self.run.partitions)], "events.jsonl"),
         ):
             if texts:
                 yield head

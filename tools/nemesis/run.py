@@ -12,7 +12,6 @@ from typing import Any
 from faultyard import FaultyardError, Guard, Key, Kind
 from faultyard.harness import read_orders
 from faultyard.plans import Draw, Order, shared_place
-from faultyard.server import serve
 
 from . import HOOK, USAGE, Fault
 from .checks import HookCheck
@@ -42,7 +41,7 @@ def first_of(faults: ExceptionGroup[Exception]) -> Exception:
 class Run(Store):
     judged: list[Judged] = []  # what became of each acknowledged record
     wrong: list[Operation] = []  # reads of what was never written
-    course: Course  # what was done, for their evidence
+    cases: list[dict[str, Any]] = []  # the evidence of each that isn't kept, as in records.jsonl
     is_unread = False  # whether `read` hung, so that only disks and `check` can say what is left
 
     def __init__(self, words: Namespace, guard: Guard) -> None:
@@ -51,6 +50,7 @@ class Run(Store):
         self.notes: list[str] = []  # who was not back at the end, and why nothing could be read
         self.history = History(words.out / "history.jsonl", self.ledger)
         self.clients = Clients(self.hooks, self, self.history)
+        self.check = HookCheck(self)
 
     async def whole(self) -> None:
         """The run from its first process to what could be read."""
@@ -65,6 +65,7 @@ class Run(Store):
                 await self._chaos(orders)
                 left = await self._read()
                 await self.end()
+                await self.check.disks()
                 await self._judge(left)
                 if self.disks:
                     await self.disks.end()
@@ -97,11 +98,11 @@ class Run(Store):
         work = [self.clients.write(it) for it in dice[: words.writers]]
         if "check" in self.hooks.names:
             work += [self.clients.check(it) for it in dice[words.writers :]]
-        if words.socket:
-            work.append(serve(words.socket, self.asked))
+        if words.guard:
+            work.append(self.follow())
         behind = [self.tasks.create_task(it) for it in work]
         if words.check_hooks:
-            self.notes += await HookCheck(self).whole()
+            self.notes += await self.check.whole()
         for at, order in orders:
             await asyncio.sleep(at - self.ledger.now())
             if order.cuts:
@@ -118,6 +119,7 @@ class Run(Store):
 
     async def _read(self) -> Left:
         """What the store tells at the end, all of it and each process alone."""
+        self.show("reads what is left")
         found, acked = await self.clients.read(), list(self.ledger.records)
         if not acked:
             text = "no record was acknowledged, so the run says nothing; write only said 'no'"
@@ -140,6 +142,7 @@ class Run(Store):
             async with asyncio.timeout(self.hooks.limit):
                 while self.waiting():
                     await asyncio.sleep(AGAIN)
+        self.show(f"asks each process for {len(keys)} records")
         Random(self.words.seed).shuffle(keys)
         until = time.monotonic() + self.hooks.seconds("read")
         numbers = [number for number in range(len(self.names)) if self.clients.is_whole(number)]
@@ -160,25 +163,30 @@ class Run(Store):
             left = replace(left, disks=await self._salvaged())
             self.judged = judged(self.ledger.records, writes, reads, left)
         self.wrong = wrong(writes, reads)
-        self.course = self._course(left)
+        self.cases = self._cases(self._course(left))
         self.note("read", acked=len(self.judged), **self.counts())
 
     async def _salvaged(self) -> dict[int, Disk]:
-        """What the folder of each process has; those that the tool emptied have nothing."""
-        numbers = range(len(self.names))
+        """What the folder of each process has; those that the tool emptied have nothing.
+
+        One after the other, since members of a store that run at once may find each other.
+        """
         self.show("looks at the disks")
-        disks: list[Disk] = await asyncio.gather(*(self._disk(number) for number in numbers))
-        return dict(zip(numbers, disks))
+        return {number: await self._disk(number) for number in range(len(self.names))}
 
     async def _disk(self, number: int) -> Disk:
         """What the folder of a process has, which doesn't run."""
         if number in self.gone or number in self.emptied:
             return {}
-        text = await self.hooks.salvage(number)
-        if text is None:
-            self.notes.append(f"the disk of {self.names[number]} is unknown: {self.hooks.ends[number]}")
-            return None
-        return pairs(f"salvage {number}", text)
+        text = await self.hooks.salvage(number, await self.hooks.copy(number))
+        try:
+            if text is not None:
+                return pairs(f"salvage {number}", text)
+            why = str(self.hooks.ends[number])
+        except Fault as fault:
+            why = fault.args[1]
+        self.notes.append(f"the disk of {self.names[number]} is unknown: {why}")
+        return None
 
     def _course(self, left: Left) -> Course:
         """What was done, for the case of each record."""
@@ -193,20 +201,20 @@ class Run(Store):
 
     def unread(self) -> None:
         """Says what is known of the records where nothing was read in the end."""
-        self.judged, self.course = [], self._course(Left())
-        self.wrong = wrong(self.history.writes, self.history.reads)
+        self.judged, self.wrong = [], wrong(self.history.writes, self.history.reads)
+        self.cases = self._cases(self._course(Left()))
 
     def counts(self) -> dict[str, int]:
         """How many records there are of each verdict; wrong are all keys that were read so."""
         counts = Counter(it.verdict for it in self.judged)
         return {it.value: counts[it] for it in Verdict} | {"wrong": len(self.wrong)}
 
-    def cases(self) -> list[dict[str, Any]]:
+    def _cases(self, course: Course) -> list[dict[str, Any]]:
         """The evidence of all records that aren't kept, and of all that was never written."""
         unclear = {Verdict.LOST, Verdict.UNREADABLE, Verdict.STALE}
         records = self.ledger.records
         lines = [
-            Case(it, records[it.write.key], self.course).line()
+            Case(it, records[it.write.key], course).line()
             for it in self.judged
             if it.verdict in unclear
         ]

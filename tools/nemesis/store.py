@@ -237,7 +237,8 @@ class Store(Harness):
         self.note("ended", process=number, status=status, was_up=is_up, log=log)
         crashes = self.crashes.setdefault(number, Crashes())
         if crashes.add(is_up, status, log) <= CRASHES_SHOWN:
-            self.show(f"{name} ended by itself{'' if is_up else ' before it was up'}, {crashes.last}")
+            when = "" if is_up else " before it was up"
+            self.show(f"{name} ended by itself{when}, {crashes.last}")
         if is_up:
             self.tell_ended(number, "ended by itself")
 

@@ -1,4 +1,4 @@
-"""What became of each acknowledged record, from what the store and the disks of its processes told."""
+"""What became of each acknowledged record, by what the store and its disks told."""
 from collections.abc import Iterable, Mapping
 from dataclasses import dataclass, field
 from enum import StrEnum

@@ -2,15 +2,14 @@
 
 import asyncio
 import json
-import os
 import signal
-import socket
 import subprocess
 import sys
 import unittest
 from itertools import islice
 from pathlib import Path
 from random import Random
+from unittest import mock
 
 import common
 import faultyard
@@ -18,7 +17,6 @@ from faultyard import ClusterFile, Guard, Key, Kind, Role, plans
 from faultyard.harness import Harness, lost_line, read_orders
 from faultyard.ledger import Ledger
 from faultyard.plans import Draw, Order
-from faultyard.server import serve
 
 # Three processes, a grant of each kind for actor 1, and two copies of each record.
 THREE = common.ROOT / "tests/nemesis/three.toml"
@@ -122,13 +120,27 @@ class LedgerTest(unittest.TestCase):
         self.ledger.acknowledge(between, "between", "v", 2)
         self.assertEqual(list(self.ledger.records), ["a", "between"])
         self.assertEqual(self.ledger.mark, 2)
-        self.ledger.heal(0)
+        self.assertFalse(self.ledger.acknowledge(early, "early", "v", 9))
+        self.assertTrue(self.ledger.acknowledge(self.ledger.send(), "last", "v", 2))
+        self.ledger.heal(0, 7)
         self.assertEqual((self.ledger.able, len(self.ledger.healed)), ({0, 1, 2}, 1))
+        (heal,) = self.ledger.heals
+        self.assertEqual((heal.process, heal.entry), (0, 7))
+
+    def test_the_times_without_a_write_count_the_first_and_the_last(self):
+        times = iter([0, 3_000_000_000, 3_500_000_000, 8_500_000_000])
+        with mock.patch("faultyard.ledger.time.monotonic_ns", lambda: next(times)):
+            self.ledger.begin()
+            self.acknowledge("a")
+            self.acknowledge("b")
+            self.ledger.stop()
+        self.assertEqual(self.ledger.pauses(), [3.0, 0.5, 5.0])
+        self.assertEqual(self.ledger.longest_pause(), 5.0)
 
     def test_time_stands_until_the_beginning(self):
         ledger = Ledger(self.guard)
         self.assertEqual((ledger.now(), ledger.has_begun()), (0.0, False))
-        self.assertEqual(ledger.longest_pause(), 0.0)
+        self.assertEqual((ledger.pauses(), ledger.longest_pause()), ([0.0], 0.0))
         self.assertTrue(self.ledger.has_begun())
 
 
@@ -199,79 +211,6 @@ class EntryTest(common.Folder, unittest.TestCase):
         events.write_text("{}\n[]\n")
         with self.assertRaisesRegex(faultyard.AuditRefused, "events: line 2: Syntax"):
             faultyard.show(THREE, audit, times=events)
-
-
-class ServerTest(common.Folder, unittest.TestCase):
-    def talk(self, guard, lines, ask=None):
-        """What a server says to these lines, each of a connection of its own."""
-        path = os.path.join(self.folder, "door")
-
-        async def each():
-            server = asyncio.ensure_future(serve(path, ask or self.asking(guard)))
-            while not os.path.exists(path):
-                await asyncio.sleep(0.01)
-            answers = []
-            for line in lines:
-                reader, writer = await asyncio.open_unix_connection(path)
-                writer.write(line)
-                answers.append(await reader.readline())
-                writer.close()
-            server.cancel()
-            await asyncio.wait([server])
-            return answers
-
-        answers = asyncio.run(asyncio.wait_for(each(), 60))
-        self.assertFalse(os.path.exists(path))
-        return answers
-
-    def asking(self, guard):
-        async def ask(by, act):
-            return guard.act(by, act)
-
-        return ask
-
-    def test_each_line_is_answered_by_its_entry(self):
-        lines = [json.dumps({"by": 1, "act": EMPTY.act()}), '{"by":0,"act":{"up":{"process":1}}}']
-        with Guard(THREE) as guard:
-            answers = self.talk(guard, [f"{line}\n".encode() for line in lines])
-            self.assertEqual(
-                b"".join(answers).decode().splitlines(), guard.audit().splitlines()[1:]
-            )
-
-    def test_a_line_that_no_guard_reads_ends_nothing(self):
-        faulty = ["rubbish", "[]", '{"by":1}', '{"by":1,"act":7}', '{"by":1,"act":{"up":1}}']
-        faulty += ['{"by":-1,"act":{"up":{"process":1}}}', '{"by":0,"act":{"up":{}}}', "[" * 9999]
-        with Guard(THREE) as guard:
-            answers = self.talk(guard, [f"{line}\n".encode() for line in faulty])
-            self.assertTrue(all("script: line 1: " in json.loads(it)["refused"] for it in answers))
-            self.assertEqual(guard.journal_len(), 0)
-            self.assertEqual(self.talk(guard, [b"x" * 200_000]), [b""])
-
-    def test_who_asks_may_be_refused(self):
-        async def ask(by, act):
-            raise faultyard.InvalidAct("not you")
-
-        answers = self.talk(None, [b'{"by":0,"act":{"tick":{"ticks":1}}}\n'], ask)
-        self.assertEqual(json.loads(answers[0]), {"refused": "not you"})
-
-    def test_what_ask_raises_ends_the_server(self):
-        path = os.path.join(self.folder, "door")
-
-        async def ask(by, act):
-            raise KeyError(by)
-
-        async def both():
-            server = asyncio.ensure_future(serve(path, ask))
-            while not os.path.exists(path):
-                await asyncio.sleep(0.01)
-            with socket.socket(socket.AF_UNIX) as link:
-                link.connect(path)
-                link.sendall(b'{"by":5,"act":{"tick":{"ticks":1}}}\n')
-                await asyncio.wait([server])
-            return server
-
-        self.assertIsInstance(asyncio.run(asyncio.wait_for(both(), 60)).exception(), KeyError)
-        self.assertFalse(os.path.exists(path))
 
 
 class Mine(Harness):
@@ -367,17 +306,36 @@ class HarnessTest(common.Folder, unittest.TestCase):
         self.assertEqual(whats, ["order", "unclog", "order", "order", "unclog"])
         self.assertEqual(events[3]["rule"], ["NoGrant", 0])
 
-    def test_others_order_and_do_not_report(self):
+    def test_what_others_are_answered_is_done_in_its_order(self):
         async def play(harness):
-            entry = await harness.asked(2, EMPTY.act())
-            self.assertEqual(entry.struck, Kind.REBOOT_AND_DELETE)
-            with self.assertRaises(faultyard.InvalidAct):
-                await harness.asked(0, {"heal": {"process": 1}})
-            await harness.asked(3, {"protect": {"process": 0, "kinds": ["Reboot"]}})
+            guard, untold = harness.guard, []
+            guard.others = lambda before=None: [untold.pop(0) for _ in untold[:]]
+            untold.append(guard.act(2, EMPTY.act()))
+            untold.append(guard.act(3, {"protect": {"process": 0, "kinds": ["Reboot"]}}))
+            await harness.obey(1, Order(Kind.REBOOT, Key.PROCESS, "p2").act())
+            untold.append(guard.act(2, Order(Kind.REBOOT, Key.PROCESS, "p1").act()))
+            following = asyncio.ensure_future(harness.follow())
+            while untold:
+                await asyncio.sleep(0.01)
+            following.cancel()
 
         harness, events = self.played(play)
-        self.assertEqual(harness.done, [([1], Kind.REBOOT_AND_DELETE)])
+        wanted = [([1], Kind.REBOOT_AND_DELETE), ([2], Kind.REBOOT), ([1], Kind.REBOOT)]
+        self.assertEqual(harness.done, wanted)
+        self.assertEqual([it["entry"] for it in events], [0, 1, 2, 3])
         self.assertEqual(events[1]["reply"], "done")
+
+    def test_an_event_has_no_entry_where_a_later_one_was_written_before(self):
+        async def play(harness):
+            guard = harness.guard
+            other = guard.act(2, EMPTY.act())
+            harness.tell_up(1)
+            guard.others = lambda before=None: [other]
+            await harness.obey(1, Order(Kind.REBOOT, Key.PROCESS, "p2").act())
+
+        harness, events = self.played(play)
+        self.assertEqual([it.get("entry") for it in events], [1, None, 2])
+        self.assertEqual([it["entry"] for it in harness.orders], [0, 2])
 
     def test_reports(self):
         async def play(harness):

@@ -67,7 +67,7 @@ class Talk:
 
     def client(self, kind):
         """A client of this server."""
-        made = kind(self._socket.getsockname()[1])
+        made = kind(self._socket.getsockname())
         self._case.addCleanup(made.close)
         return made
 
@@ -111,7 +111,7 @@ class Dispatch(unittest.TestCase):
         self.assertEqual(self.call("ready", "1"), (1, "", ""))
 
     def test_a_fault_of_the_store_says_no_in_one_line(self):
-        self.assertEqual(self.call("join", "1"), (1, "", "join 1: Refused: not now\n"))
+        self.assertEqual(self.call("join", "1"), (1, "", "Refused: not now\n"))
 
     def test_a_text_is_printed_as_it_is(self):
         self.assertEqual(self.call("read"), (0, "/run/1/data 20009\n", ""))
@@ -171,7 +171,7 @@ class Clients(unittest.TestCase):
 
     def test_silence_is_a_fault(self):
         with socket.create_server(("127.0.0.1", 0)) as silent, self.assertRaises(socket.timeout):
-            Resp(silent.getsockname()[1], 0.1).ask("PING")
+            Resp(silent.getsockname(), 0.1).ask("PING")
 
     def test_one_of_several_is_asked_until_it_fails(self):
         talk = Talk(self, [(PING, PONG), (PING, b"-ERR no\r\n")], [(PING, PONG)])

@@ -16,6 +16,7 @@ from .pipe import Pipe
 from .programs import StrPath
 from .replies import Begun, Done, Entry, Formed, Marked, Refused, Ruling, Sent, Stored, Synced
 from .replies import Reply, Time, Verdict, read_entry
+from .served import Served
 from .transport import Sight, State, Transport
 
 _Reply = TypeVar("_Reply")
@@ -28,7 +29,11 @@ def _open(
     library: Optional[StrPath],
     timeout: Optional[float],
     folder: Optional[StrPath],
+    server: Optional[str],
+    tokens: Optional[Mapping[int, str]],
 ) -> Transport:
+    if server is not None:
+        return Served(config, server, tokens, timeout, folder)
     if transport == "pipe":
         return Pipe(config, program, timeout, folder)
     if transport == "library":
@@ -61,16 +66,24 @@ class Guard:
         library: Optional[StrPath] = None,
         timeout: Optional[float] = 60.0,
         folder: Optional[StrPath] = None,
+        server: Optional[str] = None,
+        tokens: Optional[Mapping[int, str]] = None,
     ) -> None:
-        """Opens a guard of a cluster in which nothing happened yet.
+        """Opens a guard of a cluster in which nothing happened yet, or asks one that is served.
 
         `config` is the path of a cluster file. Over `"pipe"`, `program` is the path of `faultyard`
         (else FAULTYARD, else the one on PATH), and a guard that doesn't answer within `timeout`
         seconds is ended. What it writes goes into `folder` at once, into `audit` and `guard.log`,
         so that both are there whatever ends the test. Over `"library"`, `library` is the path of
         libfaultyard.so (else FAULTYARD_LIB, else what the system's loader finds).
+
+        `server` is the path of a socket, or the URL, of a `faultyard-serve` with this cluster file,
+        and `tokens` are those of the actors by which it is asked. Others may ask it too, and their
+        entries stand in the journal. An act is sent again until it is answered, for `timeout`
+        seconds, and is made once.
         """
-        self._hold(_open(config, transport, program, library, timeout, folder))
+        made = _open(config, transport, program, library, timeout, folder, server, tokens)
+        self._hold(made)
 
     # The end.
 
@@ -280,6 +293,14 @@ class Guard:
         with self._lock:
             answer = self._at_work().exchange(text)
         return read_entry(answer)
+
+    def others(self, before: Optional[int] = None) -> List[Entry]:
+        """The entries that others made since the last call, of a guard that is served.
+
+        With `before` only those that stand before this entry. Of any other guard there are none.
+        """
+        with self._lock:
+            return self._at_work().others(before)
 
     def reset(self) -> None:
         """Puts the guard back to where nothing happened yet, by the cluster file as it was opened.

@@ -33,8 +33,8 @@ from .replies import Entry
 
 Act = Mapping[str, Mapping[str, Any]]
 Spawn = Callable[[Coroutine[Any, Any, None]], Awaitable[None]]
-OTHERS = frozenset(("kill", "clog", "unclog", "protect", "unprotect", "give", "take"))
-"""The acts that others may ask of a harness, which itself makes the reports."""
+FOLLOWED = 0.05
+"""How many seconds pass before a guard that is served is asked what others did."""
 
 
 class Harness(ABC):
@@ -80,6 +80,7 @@ class Harness(ABC):
         self._show = show
         self._events = Path(events)
         self._events.write_text("")
+        self._noted = -1
         self._over = asyncio.Event()
         self._clogs: List[Awaitable[None]] = []
 
@@ -96,7 +97,11 @@ class Harness(ABC):
         self._show(f"{self.ledger.now():7.2f}  {text}")
 
     def note(self, what: str, **more: Any) -> None:
-        """Writes an event."""
+        """Writes an event. Its entry is left out where a later one was written before."""
+        entry = more.get("entry")
+        if entry is not None and entry <= self._noted:
+            del more["entry"]
+        self._noted = max(self._noted, -1 if entry is None else entry)
         event = {"t": self.ledger.now(), "what": what, **more, "up": sorted(self.up)}
         with self._events.open("a", encoding="utf-8") as file:
             print(json.dumps(event), file=file)
@@ -111,21 +116,28 @@ class Harness(ABC):
         """Asks the guard, and does what it answers, or what was asked if unguarded."""
         async with self.turn:
             entry = self.guard.act(by, act)
-            order = Order.of(entry.act)
-            if order is not None:
-                await self._do(order, entry)
-                return entry
-            ((name, members),) = entry.act.items()
-            self.note(name, by=by, act=entry.act, entry=entry.at, reply=entry.told)
-            if name == "unclog" and (self.unguarded or entry.barred is None):
-                await self.clog(self.targets(Key(members["key"]), members["value"]), False)
+            for other in self.guard.others(before=entry.at):
+                await self._carry_out(other)
+            await self._carry_out(entry)
         return entry
 
-    async def asked(self, by: int, act: Act) -> Entry:
-        """Obeys others, for `serve`. `InvalidAct`: they may not report, nor store records."""
-        if not OTHERS & act.keys():
-            raise InvalidAct("only the tool starts, heals and writes")
-        return await self.obey(by, act)
+    async def follow(self) -> None:
+        """Does what others are answered by a guard that is served, until it is cancelled."""
+        while True:
+            async with self.turn:
+                for entry in self.guard.others():
+                    await self._carry_out(entry)
+            await asyncio.sleep(FOLLOWED)
+
+    async def _carry_out(self, entry: Entry) -> None:
+        order = Order.of(entry.act)
+        if order is not None:
+            await self._do(order, entry)
+            return
+        ((name, members),) = entry.act.items()
+        self.note(name, by=entry.by, act=entry.act, entry=entry.at, reply=entry.told)
+        if name == "unclog" and (self.unguarded or entry.barred is None):
+            await self.clog(self.targets(Key(members["key"]), members["value"]), False)
 
     async def _do(self, order: Order, entry: Entry) -> None:
         said, does = entry.struck, order.kind if self.unguarded else entry.struck

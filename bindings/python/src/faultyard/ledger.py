@@ -146,7 +146,7 @@ class Ledger:
         return tuple(sorted(set(first.values())))
 
     def pauses(self) -> List[float]:
-        """The times without an acknowledgement: before the first, between two, and since the last."""
+        """The times without an acknowledgement, before the first and since the last too."""
         end = self.now() if self._stopped is None else self._stopped
         times = [0.0, *(record.t for record in self.records.values()), end]
         return [max(later - t, 0.0) for t, later in zip(times, times[1:])]

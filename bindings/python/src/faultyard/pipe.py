@@ -9,14 +9,13 @@ import tempfile
 import time
 import weakref
 from contextlib import ExitStack
-from typing import IO, Any, Dict, FrozenSet, List, Mapping, Optional
+from typing import IO, Optional
 
 from .errors import ConfigRefused, FaultyardError, GuardEnded, JournalFull, OutOfMemory
-from .errors import NotOffered, ProtocolError
-from .losses import Losses
+from .errors import ProtocolError
+from .followed import Followed, open_audit
 from .programs import StrPath, find_program
-from .replies import Reply, read_entry
-from .transport import HEADER, Sight, State, Transport
+from .transport import HEADER
 
 PATIENCE = 10.0
 """How many seconds a guard may take to end once its input is closed."""
@@ -31,7 +30,7 @@ def _kill(process: "subprocess.Popen[bytes]", opener: int) -> None:
         process.wait()
 
 
-class Pipe(Transport):
+class Pipe(Followed):
     """`faultyard guard` as a child process.
 
     A line is sent only once the line before is answered. So neither side waits for the other with
@@ -45,17 +44,12 @@ class Pipe(Transport):
         timeout: Optional[float],
         folder: Optional[StrPath],
     ):
-        with open(config, "rb") as file:
-            self._config = file.read()
+        super().__init__(config)
         self._timeout = timeout
-        self._audit: List[bytes] = []
         self._pending = b""
         self._end: Optional[GuardEnded] = None
-        self._losses: Optional[Losses] = None
-        self._followed = 0
         words = [find_program(program), "guard", os.fspath(config)]
         self._files = ExitStack()
-        self._kept: Optional[IO[bytes]] = None
         try:
             self._open_files(folder)
             # In a session of its own, Ctrl-C at a terminal ends the test and not its guard.
@@ -81,9 +75,7 @@ class Pipe(Transport):
             self._errors: IO[bytes] = self._files.enter_context(tempfile.TemporaryFile())
             return
         self._errors = self._files.enter_context(open(os.path.join(folder, "guard.log"), "w+b"))
-        # Unbuffered, so that an entry is there before its verdict is carried out.
-        audit = open(os.path.join(folder, "audit"), "wb", buffering=0)
-        self._kept = self._files.enter_context(audit)
+        self._kept = self._files.enter_context(open_audit(folder))
 
     def _begin(self) -> None:
         """Reads the header, which is there before anything is sent."""
@@ -111,89 +103,6 @@ class Pipe(Transport):
             raise
         self._keep(answer)
         return answer
-
-    def _keep(self, text: bytes) -> None:
-        self._audit.append(text)
-        if self._kept is not None:
-            self._kept.write(text)
-
-    def process(self, name: str) -> Optional[int]:
-        return self._follow().process(name)
-
-    def process_count(self) -> int:
-        return len(self._follow())
-
-    def targets(self, key: str, value: str) -> FrozenSet[int]:
-        return self._follow().targets(key, value)
-
-    def is_destroyed(self, process: int) -> bool:
-        return process in self._follow().destroyed
-
-    def left(self) -> FrozenSet[int]:
-        losses = self._follow()
-        return frozenset(range(len(losses))) - losses.gone
-
-    def destroyed(self) -> FrozenSet[int]:
-        return frozenset(self._follow().destroyed)
-
-    def gone(self) -> FrozenSet[int]:
-        return frozenset(self._follow().gone)
-
-    def judge(self, by: int, order: Mapping[str, Any]) -> Reply:
-        raise NotOffered("judge asks for the transport 'library'")
-
-    def kill_process(self, by: int, order: Mapping[str, Any]) -> Reply:
-        raise NotOffered("kill_process asks for the transport 'library'")
-
-    def judge_process(self, by: int, order: Mapping[str, Any]) -> Reply:
-        raise NotOffered("judge_process asks for the transport 'library'")
-
-    def reset(self) -> None:
-        raise NotOffered("reset asks for the transport 'library'")
-
-    def try_copy(self) -> Transport:
-        raise NotOffered("try_copy asks for the transport 'library'")
-
-    def up_set(self) -> FrozenSet[int]:
-        raise NotOffered("up_set asks for the transport 'library'")
-
-    def state(self, process: int) -> Optional[State]:
-        raise NotOffered("state asks for the transport 'library'")
-
-    def needed(self, process: int) -> Optional[int]:
-        raise NotOffered("needed asks for the transport 'library'")
-
-    def is_acked(self, record: int) -> bool:
-        raise NotOffered("is_acked asks for the transport 'library'")
-
-    def keeper(self, record: int) -> Optional[int]:
-        raise NotOffered("keeper asks for the transport 'library'")
-
-    def sight(self) -> Sight:
-        raise NotOffered("sight asks for the transport 'library'")
-
-    def swizzle_plan(self, seed: int, stream: int, ticks: int) -> List[Dict[str, Dict[str, Any]]]:
-        raise NotOffered("swizzle_plan asks for the transport 'library'")
-
-    def attrition_plan(
-        self, seed: int, stream: int, to_kill: int, to_leave: int, order: Mapping[str, Any]
-    ) -> List[Dict[str, Dict[str, Any]]]:
-        raise NotOffered("attrition_plan asks for the transport 'library'")
-
-    def _follow(self) -> Losses:
-        """Reads the entries since the last question."""
-        if self._losses is None:
-            self._losses = Losses(self._config)
-        for text in self._audit[1 + self._followed :]:
-            self._losses.read(read_entry(text))
-            self._followed += 1
-        return self._losses
-
-    def journal_len(self) -> int:
-        return len(self._audit) - 1
-
-    def audit(self) -> bytes:
-        return b"".join(self._audit)
 
     def close(self) -> None:
         if self._end is None:

@@ -7,7 +7,7 @@ from dataclasses import dataclass
 from typing import Any, Dict, FrozenSet, List, Mapping, Optional
 
 from .acts import line
-from .replies import Reply, read_entry
+from .replies import Entry, Reply, read_entry
 
 HEADER = b'{"audit":2}\n'
 """The first line of an audit."""
@@ -51,6 +51,10 @@ class Transport(ABC):
     def reply(self, by: int, name: str, members: Mapping[str, Any]) -> Reply:
         """Makes an act whose members are checked, and answers its reply."""
         return read_entry(self.exchange(line(by, name, members))).reply
+
+    def others(self, before: Optional[int]) -> List[Entry]:
+        """The entries that others made and that weren't told yet, before one or all; here none."""
+        return []
 
     @abstractmethod
     def judge(self, by: int, order: Mapping[str, Any]) -> Reply:

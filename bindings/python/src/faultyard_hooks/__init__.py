@@ -1,6 +1,6 @@
 """What the hooks of stores have in common. docs/GUARD.md says which hooks there are.
 
-    from faultyard_hooks import folder, hook, main, port, start, writes
+    from faultyard_hooks import at, folder, hook, main, port, start, writes
     from faultyard_hooks.resp import Resp
 
     @hook("start")
@@ -9,7 +9,7 @@
 
     @writes
     def put(key, value):
-        return Resp(port(0)).ask("SET", key, value)
+        return Resp(at(0)).ask("RPUSH", "r", f"{key} {value}")
 
     main()
 
@@ -23,7 +23,7 @@ import os
 import sys
 import time
 from contextlib import contextmanager
-from typing import Any, Callable, Dict, Iterator, Optional, TypeVar
+from typing import Any, Callable, Dict, Iterator, Optional, Tuple, TypeVar
 
 Hook = TypeVar("Hook", bound=Callable[..., Any])
 _hooks: Dict[str, Callable[..., Any]] = {}
@@ -40,12 +40,20 @@ DIR = _told("FY_DIR", "")
 COUNT = int(_told("FY_COUNT", "0"))
 NAMES = _told("FY_NAMES", "").split()
 ZONES = _told("FY_ZONES", "").split()
+HOSTS = ["127.0.0.1"] * COUNT
+if sys.argv[1:2] not in (["setup"], ["salvage"]):  # which run processes beside the tool
+    HOSTS = _told("FY_HOSTS", "").split() or HOSTS
 ABLE = [int(number) for number in _told("FY_ABLE", "").split()]
 
 
 def port(n: int, which: int = 0) -> int:
     """One of the four ports of a process."""
     return int(_told("FY_PORT", "0")) + 4 * n + which
+
+
+def at(n: int, which: int = 0) -> Tuple[str, int]:
+    """The address of a process with one of its ports."""
+    return HOSTS[n], port(n, which)
 
 
 def folder(n: int, *below: str) -> str:
@@ -113,7 +121,7 @@ def main(*promises: str) -> None:
         try:
             result = _hooks[name](*map(int, numbers))
         except OSError as fault:
-            sys.exit(f"{' '.join(sys.argv[1:])}: {type(fault).__name__}: {fault}")
+            sys.exit(f"{type(fault).__name__}: {fault}")
         if result is False:
             sys.exit(1)
         if isinstance(result, str):

@@ -1,19 +1,19 @@
-"""A connection to a process of a store on this machine."""
+"""A connection to a process of a store."""
 
 from __future__ import annotations
 
 import random
 import socket
 from abc import ABC, abstractmethod
-from typing import Any, BinaryIO, Callable, Generic, Optional, Sequence, TypeVar
+from typing import Any, BinaryIO, Callable, Generic, Optional, Sequence, Tuple, TypeVar
 
 
 class Client(ABC):
     """Connects when it is first asked, and again after a fault, which is an OSError."""
 
-    def __init__(self, port: int, seconds: float = 2.0) -> None:
+    def __init__(self, address: Tuple[str, int], seconds: float = 2.0) -> None:
         """`seconds` is how long the store may be silent."""
-        self._port, self._seconds = port, seconds
+        self._address, self._seconds = address, seconds
         self._socket: Optional[socket.socket] = None
         self._file: Optional[BinaryIO] = None
 
@@ -36,7 +36,7 @@ class Client(ABC):
         self._socket = self._file = None
 
     def _connect(self) -> None:
-        self._socket = socket.create_connection(("127.0.0.1", self._port), self._seconds)
+        self._socket = socket.create_connection(self._address, self._seconds)
         self._socket.setsockopt(socket.IPPROTO_TCP, socket.TCP_NODELAY, 1)
         self._file = self._socket.makefile("rb")
         self._greet()

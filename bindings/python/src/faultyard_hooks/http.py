@@ -15,7 +15,7 @@ class Http(Client):
     def _asked(self, *words: Any) -> Any:
         path, *body = words
         data = json.dumps(body[0]).encode() if body else b""
-        head = f"{'POST' if body else 'GET'} {path} HTTP/1.1\r\nHost: 127.0.0.1\r\n"
+        head = f"{'POST' if body else 'GET'} {path} HTTP/1.1\r\nHost: {self._address[0]}\r\n"
         head += f"Content-Type: application/json\r\nContent-Length: {len(data)}\r\n\r\n"
         self._send(head.encode() + data)
         status, told = self._answer()

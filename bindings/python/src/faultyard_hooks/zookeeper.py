@@ -6,7 +6,7 @@ import glob
 import os
 import socket
 import struct
-from typing import Any, Dict, List, Optional
+from typing import Any, Dict, List, Optional, Tuple
 
 from . import Refused
 from .client import Client
@@ -89,9 +89,9 @@ class ZooKeeper(Client):
         return self._read(*struct.unpack(">i", self._read(4)))
 
 
-def mode(port: int) -> str:
+def mode(address: Tuple[str, int]) -> str:
     """What a server is, as the word `srvr` has it: leader, follower, observer or standalone."""
-    with socket.create_connection(("127.0.0.1", port), 2) as asked:
+    with socket.create_connection(address, 2) as asked:
         asked.sendall(b"srvr")
         told = b"".join(iter(lambda: asked.recv(65536), b"")).decode()
     return dict(line.partition(": ")[::2] for line in told.splitlines()).get("Mode", "")

@@ -4,6 +4,7 @@ package door
 import (
 	"bufio"
 	"bytes"
+	"encoding/json"
 	"errors"
 	"fmt"
 	"io"
@@ -98,8 +99,12 @@ func (lines *Lines) talk(connection net.Conn) error {
 		if err != nil {
 			return err
 		}
-		lines.Book.Submit(turn)
-		told, err = appendAnswers(told[:0], turn.Answers, number)
+		if from, asked := readFrom(turn); asked {
+			told, err = lines.appendEntries(told[:0], from)
+		} else {
+			lines.Book.Submit(turn)
+			told, err = appendAnswers(told[:0], turn.Answers, number)
+		}
 		if _, failed := connection.Write(told); failed != nil {
 			return failed
 		}
@@ -107,6 +112,41 @@ func (lines *Lines) talk(connection net.Conn) error {
 			return err
 		}
 	}
+}
+
+// readFrom says whether a line asks for the entries from one on, as {"from":7}. Such a line stands
+// alone in its turn.
+func readFrom(turn *book.Turn) (from int, asked bool) {
+	if len(turn.Asks) != 1 || !isRead(turn.Asks[0].Line) {
+		return 0, false
+	}
+	var line struct{ From *uint32 }
+	reader := json.NewDecoder(bytes.NewReader(turn.Asks[0].Line))
+	reader.DisallowUnknownFields()
+	if reader.Decode(&line) != nil || line.From == nil {
+		return 0, false
+	}
+	return int(*line.From), true
+}
+
+// isRead says whether a line enters nothing.
+func isRead(line []byte) bool { return bytes.HasPrefix(line, []byte(`{"from":`)) }
+
+// appendEntries puts behind a text how many entries there are, and those from one on.
+func (lines *Lines) appendEntries(text []byte, from int) ([]byte, error) {
+	count := lines.Book.Stats().Entries
+	if count < from {
+		from = count
+	}
+	text = append(text, fmt.Sprintf("{\"from\":%d,\"to\":%d}\n", from, count)...)
+	for at := from; at < count; at++ {
+		line, err := lines.Book.Entry(at)
+		if err != nil {
+			return text, err
+		}
+		text = append(text, line...)
+	}
+	return text, nil
 }
 
 // eager is a connection on which the next line is looked for before the server sleeps.
@@ -166,7 +206,7 @@ func readTurn(reader *bufio.Reader, turn *book.Turn) (ends bool, err error) {
 		turn.Asks = append(turn.Asks, book.Ask{Line: line})
 		// What is buffered stays in its place as long as no more is read.
 		rest, _ := reader.Peek(reader.Buffered())
-		if bytes.IndexByte(rest, '\n') < 0 {
+		if bytes.IndexByte(rest, '\n') < 0 || isRead(line) || isRead(rest) {
 			return false, nil
 		}
 	}

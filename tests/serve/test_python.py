@@ -1,0 +1,66 @@
+"""The Python package as a client of the server: over its socket and by HTTP."""
+
+import threading
+
+import common
+import faultyard
+from common_serve import Case, up
+from faultyard import Guard, Key, Kind
+
+TOKENS = {0: "zero-zero-zero-zero", 1: "one-one-one-one-one"}
+
+
+class Guards(Case):
+    def test_acts_questions_and_what_others_did(self):
+        server = self.server().start()
+        for door in (str(server.socket), f"http://{server.address}"):
+            with Guard(server.config, server=door) as guard:
+                before = guard.journal_len()
+                verdict = guard.kill(Key.PROCESS, "p0", Kind.REBOOT_AND_DELETE, by=1)
+                self.assertEqual(verdict.struck, Kind.REBOOT_AND_DELETE)
+                self.assertTrue(guard.is_destroyed(0))
+                server.talk().ask(up(0))
+                with self.assertRaises(faultyard.ActRefused):
+                    guard.up(0, by=0)
+                (other,) = guard.others()
+                self.assertEqual((other.at, other.by), (before + 1, 0))
+                self.assertEqual(guard.others(), [])
+                guard.heal(0, by=0)
+                self.assertEqual(guard.journal_len(), before + 4)
+                self.assertEqual(guard.audit().encode(), server.file.read_bytes())
+            self.assertEqual(guard.audit().encode(), server.file.read_bytes())
+
+    def test_acts_are_made_once_while_the_server_is_killed(self):
+        server = self.server().start()
+        for door in (str(server.socket), f"http://{server.address}"):
+            with Guard(server.config, server=door) as guard:
+                before = guard.journal_len()
+                for number in range(30):
+                    starts = threading.Thread(target=server.start)
+                    if number % 6 == 3:
+                        server.kill()
+                        starts.start()
+                    guard.kill(Key.PROCESS, f"p{number % 6}", Kind.REBOOT, by=1)
+                    if number % 6 == 3:
+                        starts.join()
+                self.assertEqual(guard.journal_len() - before, 30)
+                self.assertEqual(guard.others(), [])
+        self.assertEqual(server.check(), f"legal {len(server.lines())}")
+
+    def test_a_full_journal_a_wrong_token_and_no_server(self):
+        path = common.written(self.folder, "tokens", "")
+        path.chmod(0o600)
+        path.write_text("".join(f"{token} {actor}\n" for actor, token in TOKENS.items()))
+        config = "journal_limit = 1\n" + common.SIX.read_text().partition("\n")[2]
+        server = self.server("--tokens", str(path), config=config).start()
+        url = f"http://{server.address}"
+        with Guard(server.config, server=url, tokens=TOKENS) as guard:
+            guard.kill(Key.ZONE, "z0", Kind.REBOOT, by=1)
+            with self.assertRaises(faultyard.JournalFull):
+                guard.up(0, by=0)
+        with self.assertRaisesRegex(faultyard.ProtocolError, "no token that is known"):
+            Guard(server.config, server=url, tokens={0: "none-none-none-none"})
+        server.kill()
+        for door in (str(server.socket), url):
+            with self.assertRaisesRegex(faultyard.GuardEnded, "no answer from .* in 0.2 seconds"):
+                Guard(server.config, server=door, timeout=0.2)
