@@ -1,54 +1,45 @@
 //! The engine behind `faultyard bears`: what a cluster bears, from its start or from the end of an
 //! audit on.
-ghost use Rattle.std.specs.Prelude.{◌≡◌, ◌≢◌, ◌+◌, ℕ, List, None, IfOk, IfErr, IfSome, Ok, Err, false, true};
+ghost use Rattle.std.specs.Prelude.{◌≡◌, ◌≢◌, ◌+◌, IfOk, IfErr, IfSome, Ok, Err, false, true};
 ghost use Rattle.std.specs.Io.KnownBytes.{Appends};
 ghost use Rattle.fy_lines.specs.Readings.{ReadsAtMost};
 ghost use Rattle.fy_audit.specs.Audit.{AuditOf};
 ghost use Rattle.fy_audit.specs.declared.audit.TheConstants.{MOST_AUDIT_BYTES};
-ghost use Rattle.fy_bears_after.specs.BearsTexts.{HasLosses};
 ghost use Rattle.fy_check_audit.specs.CheckTexts.{HasVerdict};
 ghost use Rattle.fy_engine.specs.Outputs.{IsOutputStop};
-ghost use Rattle.fy_check_audit.specs.Checked.{IsChecked, IsReplayed};
-ghost use Rattle.fy_cluster.specs.Setup.{Setup};
+ghost use Rattle.fy_check_audit.specs.Checked.{IsChecked};
 ghost use Rattle.fy_engine.specs.Stops.{IfAuditFault, IsCheckStop};
 
-use crate::lost::losses_in;
+use crate::told::{Told, told_after, told_at_start};
 use fy_audit::MOST_AUDIT_BYTES;
-use fy_bears::{Form, LossesSoFar, book_of, findings_of, write_findings};
-use fy_check_audit::{ReplayedAudit, replay_audit, write_finding};
+use fy_bears::{Form, write_findings};
+use fy_check_audit::{replay_audit, write_finding};
 use fy_cluster::Config;
 use fy_engine::Stop;
 use fy_lines::{OutputFault, write_bytes};
-use fy_locality::ProcSet;
 use std::alloc::Global;
 use std::io::{Read, Write};
 
-/// What the cluster bears as a text, after losses where there were some.
-fn report_text(
+/// Writes what is told of a configuration's cluster.
+fn write_told<W: Write>(
     alloc: Global,
     config: &Config,
-    before: Option<&LossesSoFar>,
+    told: &Told,
     form: Form,
-) -> Result<String, Stop>
-    ensures { IfErr result (λ stop. stop ≡ Stop.NoMemory) }
+    writer: &mut W,
+) -> Result<(), Stop>
+    ensures nothing_out { IfErr result (λ stop. stop ≢ Stop.Write →
+        W.contents writer.new ≡ W.contents writer.old) }
+    ensures no_other { IfErr result IsOutputStop }
 {
-    let nobody = LossesSoFar {
-        destroyed: ProcSet::empty(),
-        gone: ProcSet::empty(),
-        down: ProcSet::empty(),
-    };
-    let losses = before.unwrap_or(&nobody);
+    let before = told.before.as_ref();
     let (map, policies) = (config.map(), config.policies());
-    // All processes of a configuration satisfy its policies, so only memory can lack.
-    let Ok(dead) = book_of(alloc, map, policies, losses) else {
+    let Ok(text) = write_findings(alloc, map, policies, before, &told.findings, form) else {
         return Err(Stop::NoMemory);
     };
-    let Ok(findings) = findings_of(alloc, &dead, map, policies) else {
-        return Err(Stop::NoMemory);
-    };
-    match write_findings(alloc, map, policies, before, &findings, form) {
-        Ok(text) => Ok(text),
-        Err(_) => Err(Stop::NoMemory),
+    match write_bytes(writer, text.as_bytes()) {
+        Ok(()) => Ok(()),
+        Err(OutputFault) => Err(Stop::Write),
     }
 }
 
@@ -69,22 +60,14 @@ pub fn run_bears<W: Write>(
         W.contents writer.new ≡ W.contents writer.old) }
     ensures no_other { IfErr result IsOutputStop }
 {
-    let text = match report_text(alloc, config, None, form) {
-        Ok(text) => text,
+    let told = match told_at_start(alloc, config) {
+        Ok(told) => told,
         Err(stop) => return Err(stop),
     };
-    match write_bytes(writer, text.as_bytes()) {
+    match write_told(alloc, config, &told, form, writer) {
         Ok(()) => Ok(true),
-        Err(OutputFault) => Err(Stop::Write),
+        Err(stop) => Err(stop),
     }
-}
-
-/// Who is lost after the entries of a legal audit.
-fn losses_after(audit: &ReplayedAudit) -> LossesSoFar
-    ensures { (setup : Setup) (bytes : List ℕ) → IsReplayed setup bytes audit.now
-        → audit.now.replayer.first_bad ≡ None → HasLosses setup bytes result }
-{
-    losses_in(audit.replayer.cluster())
 }
 
 /// Reads an audit from the reader to its end, checks it, and writes what the cluster bears from
@@ -126,13 +109,12 @@ pub fn run_bears_after<R: Read, W: Write>(
     if finding.first_bad.is_some() {
         return write_finding(finding, writer);
     }
-    let losses = losses_after(&audit);
-    let text = match report_text(alloc, config, Some(&losses), form) {
-        Ok(text) => text,
+    let told = match told_after(alloc, &audit) {
+        Ok(told) => told,
         Err(stop) => return Err(stop),
     };
-    match write_bytes(writer, text.as_bytes()) {
+    match write_told(alloc, config, &told, form, writer) {
         Ok(()) => Ok(true),
-        Err(OutputFault) => Err(Stop::Write),
+        Err(stop) => Err(stop),
     }
 }

@@ -3,6 +3,8 @@
 
 mod bears;
 mod lost;
+mod told;
 
 pub use bears::{run_bears, run_bears_after};
 pub use lost::losses_in;
+pub use told::Told;

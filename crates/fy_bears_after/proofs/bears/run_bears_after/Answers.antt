@@ -1,6 +1,10 @@
-use Rattle.std.proofs.Common.{IfOk, subst}
+use Rattle.std.proofs.Common.{◌≡◌, ℕ, Bool, true, false, List, Option, Some, None, IfOk, IfSome, is_some, is_none, refl, sym, ◌∙◌, subst}
+use Rattle.std.proofs.lemmas.Bool.{false≢true}
 use Rattle.std.specs.Io.KnownBytes.{Appends}
-use Rattle.fy_check_audit.specs.CheckTexts.{HasVerdict}
+use Rattle.fy_check_audit.specs.declared.check.Finding.{Finding}
+use Rattle.fy_check_audit.specs.CheckTexts.{HasVerdict, IsFound}
+use Rattle.fy_check_audit.specs.Checked.{IsChecked}
+use Rattle.fy_cluster.specs.Setup.{Setup}
 use Rattle.fy_bears_after.proofs.bears.run_bears_after.Goals as goal
 
 pub returns-then-is_some-clause-refuted : goal.returns-then-is_some-clause-refuted
@@ -10,3 +14,21 @@ returns-then-is_some-clause-refuted g c = λ is.
     let found = c.finding-finding.ensures.found c.args.config.now known c.in-Ok.ensures.replayed in
     subst (λ r. IfOk r (λ legal. HasVerdict c.args.config.now known legal whole)) is
     (c.write_finding.ensures.out c.args.config.now known found)
+
+none_bad : (o : Option ℕ) → is_some o ≡ false → true ≡ is_none o
+none_bad None e = refl
+none_bad (Some x) e = absurd (false≢true (sym e))
+
+legal_found : (setup : Setup) (known : Option (List ℕ)) (finding : Finding) → IfSome known (λ bytes. IsFound setup bytes finding) → is_some finding.first_bad ≡ false → IfSome known (λ bytes. IsChecked setup bytes true)
+legal_found setup None finding found e = tt
+legal_found setup (Some bytes) finding found e = record {
+  finding = finding;
+  found = found;
+  legal_is = none_bad finding.first_bad e;
+}
+
+pub returns-in-Ok-write_told-clause-done : goal.returns-in-Ok-write_told-clause-done
+returns-in-Ok-write_told-clause-done g c =
+    legal_found c.args.config.now (g.R.Read.remaining c.args.reader.now) c.finding-finding.result
+    (c.finding-finding.ensures.found c.args.config.now (g.R.Read.remaining c.args.reader.now) c.in-Ok.ensures.replayed)
+    (sym c.is_some.ensures ∙ c.if-is_some.false)
