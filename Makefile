@@ -11,7 +11,7 @@
 #                         shared clusters, which `make test` does too, and in those of a buffer and of whole runs of actors
 #   make wrong-bodies     tries every wrong body again, which the prover has to refuse, and records those crates whose are all refused
 #   make try-stores       runs faultyard-nemesis on redis, etcd, PostgreSQL, ZooKeeper and RabbitMQ, a minute guarded and a minute
-#                         unguarded with two seeds each, and prints a table: guarded none may be lost; it takes half an hour
+#                         unguarded with two seeds each, and prints a table: guarded none may be lost; then with power cuts; an hour
 #   make slow-stores      runs faultyard-nemesis guarded for a minute on each store that boots slowly: ZooKeeper and RabbitMQ
 #   make lossy            builds the disk that forgets what isn't synced, bin/faultyard-lossy; it needs libfuse3-dev
 #   make try-disks        tests that disk by thousands of seeds, beside ext4 and xfs, and by longer loads; it needs to be root
@@ -98,6 +98,8 @@ wrong-bodies:
 
 try-stores: build
 	tests/stores/run --table bin/faultyard
+	$(MAKE) --no-print-directory lossy
+	tests/stores/run --power bin/faultyard
 
 slow-stores: $(UNPROVED)
 	tests/stores/run --slow $(UNPROVED)

@@ -256,7 +256,11 @@ class Mounted(Calls):
         return said
 
     def end(self):
-        self.order("unmount", self.top)
+        """Until it has called exec, a child of another thread holds what was open here: then it is busy."""
+        ended = time.monotonic() + 60
+        while (done := subprocess.run([self.program, "unmount", self.top], capture_output=True, text=True)).returncode:
+            assert "busy" in done.stderr and time.monotonic() < ended, done.stderr
+            time.sleep(0.02)
         assert self.process.wait() == 0, "the disk failed at its end"
 
     def kill(self):
