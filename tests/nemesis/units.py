@@ -210,6 +210,14 @@ class Cases(unittest.TestCase):
         self.assertEqual(struck, [(5, ["k0"]), (9, ["k3"])])
 
 
+class Histories(unittest.TestCase):
+    def test_a_read_that_is_answered_after_all_has_no_error(self):
+        operation = read(None, 0)
+        operation.fail("?")
+        operation.ok(VALUE)
+        self.assertEqual((operation.type, operation.value, operation.error), ("ok", VALUE, None))
+
+
 class Events(unittest.TestCase):
     def test_show_reads_events_whose_entries_rise(self):
         """Behind an entry that was asked for later, what others did has no time."""

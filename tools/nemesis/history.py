@@ -30,7 +30,7 @@ class Operation:
 
     def ok(self, value: str | None) -> None:
         """It was done; a read has found this, or nothing."""
-        self.type, self.value = "ok", value
+        self.type, self.value, self.error = "ok", value, None
 
     def fail(self, error: str) -> None:
         """It was not done."""
