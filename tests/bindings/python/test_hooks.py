@@ -181,6 +181,10 @@ class Clients(unittest.TestCase):
             one.ask("PING")
         self.assertEqual(one.ask("PING"), "PONG")
 
+    def test_where_there_is_none_to_ask_it_is_a_fault(self):
+        with self.assertRaises(OSError):
+            OneOf([]).ask("PING")
+
 
 class RespAnswers(unittest.TestCase):
     def asked(self, answer, *words):

@@ -71,7 +71,7 @@ AnyClient = TypeVar("AnyClient", bound=Client)
 
 
 class OneOf(Generic[AnyClient]):
-    """Asks one of several, and after a fault another. Each writer has a process of its own so."""
+    """Asks one of several. After a fault the next question goes to another."""
 
     def __init__(self, clients: Sequence[AnyClient]) -> None:
         self._clients = clients
@@ -83,6 +83,8 @@ class OneOf(Generic[AnyClient]):
 
     def of(self, ask: Callable[[AnyClient], Any]) -> Any:
         """What comes of a function of the one."""
+        if not self._clients:  # as where every process is destroyed
+            raise ConnectionError("there is no process to ask")
         try:
             return ask(self._clients[self._chosen])
         except OSError:
