@@ -1,4 +1,4 @@
-"""Verdicts of small histories that are written out by hand. Expected are the definitions of docs/GUARD.md."""
+"""Verdicts of small histories that are written out by hand. Expected are the definitions of docs/NEMESIS.md."""
 import json
 import tempfile
 import unittest

@@ -1,4 +1,4 @@
-"""What the hooks of stores have in common. docs/GUARD.md says which hooks there are.
+"""What the hooks of stores have in common. docs/NEMESIS.md says which hooks there are.
 
     from faultyard_hooks import at, folder, hook, main, port, start, writes
     from faultyard_hooks.resp import Resp
