@@ -14,6 +14,7 @@ OPEN, OPEN_OK, CHANNEL, CHANNEL_OK = (10, 40), (10, 41), (20, 10), (20, 11)
 DECLARE, DECLARE_OK, PUBLISH, RETURN = (50, 10), (50, 11), (60, 40), (60, 50)
 QOS, QOS_OK, CONSUME, CONSUME_OK = (60, 10), (60, 11), (60, 20), (60, 21)
 DELIVER, ACK, CONFIRM, CONFIRM_OK = (60, 60), (60, 80), (85, 10), (85, 11)
+GET, GET_OK, GET_EMPTY = (60, 70), (60, 71), (60, 72)
 METHOD, HEADER, BODY, HEARTBEAT, END = 1, 2, 3, 8, b"\xce"
 PASSIVE, DURABLE, PERSISTENT = 1, 2, 2
 MOST_OUT = 1000  # messages that are delivered and not yet acknowledged
@@ -29,8 +30,18 @@ class Amqp(Client):
         self.ask("publish", queue, text)
 
     def count(self, queue: str, **declared: object) -> int:
-        """How many messages are ready. With arguments the queue is declared, if it isn't there."""
+        """How many messages are ready. With arguments the queue is declared, if it isn't there.
+
+        A quorum queue without a leader has 0 too, by the broker: `is_empty` asks the leader.
+        """
         return int(self.ask("count", queue, declared))
+
+    def is_empty(self, queue: str) -> bool:
+        """Whether no message is ready, as the queue's leader says. `Refused` where it has none."""
+        is_empty = bool(self.ask("is_empty", queue))
+        if not is_empty:
+            self.close()  # what was got goes back
+        return is_empty
 
     def take(self, queue: str, count: int, keep: Callable[[List[str]], None]) -> None:
         """Takes so many messages out of a queue. They go for good once `keep` has them."""
@@ -69,6 +80,14 @@ class Amqp(Client):
         words = b"\0\0" + _short(queue) + bytes([flags]) + _long(table)
         told = self._call(1, DECLARE, words, DECLARE_OK)
         return int(struct.unpack_from(">I", told, 1 + told[0])[0])
+
+    def _is_empty(self, queue: str) -> bool:
+        self._method(1, GET, b"\0\0" + _short(queue) + b"\0")
+        _, data = self._next()
+        method = struct.unpack_from(">HH", data)
+        if method not in (GET_OK, GET_EMPTY):
+            raise Refused(f"method {method}: {data[4:].decode('latin-1')}")
+        return method == GET_EMPTY
 
     def _consume(self, queue: str) -> None:
         self._call(1, QOS, struct.pack(">IHB", 0, 2 * MOST_OUT, 0), QOS_OK)
