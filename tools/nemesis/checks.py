@@ -6,7 +6,7 @@ from pathlib import Path
 from typing import TYPE_CHECKING
 
 from faultyard import Key, Kind
-from faultyard.plans import Order
+from faultyard.plans import PAUSES, Order
 
 from . import HOOK, USAGE, Fault
 from .clients import pairs
@@ -175,7 +175,8 @@ class HookCheck:
         words, starts, heals = self.run.words, self.run.starts, self.run.ledger.healed
         start, heal = max(starts, default=0.0), max(heals, default=0.0)
         lines = [f"a start took up to {start:.1f} s, a heal up to {heal:.1f} s"]
-        pause = sum(words.pauses) / len(words.pauses)
+        pauses = words.pauses or PAUSES
+        pause = sum(pauses) / len(pauses)
         if pause < start:
             text = f"--pauses are {pause:.1f} s on average, shorter than a start"
             lines.append(f"{text}: take some like {start:.0f},{2 * start:.0f}")

@@ -12,7 +12,7 @@ from pathlib import Path
 
 import faultyard
 from faultyard import ConfigRefused, FaultyardError, Guard, InvalidAct, Kind, NotFound
-from faultyard.plans import PLANS
+from faultyard.plans import BLACKOUTS, PAUSES, PLANS
 from config_check.main import explain
 from keeper import adopt_orphans, end_children
 
@@ -28,7 +28,7 @@ from .run import Run
 from .summary import closing, tested_little
 from .verdicts import Verdict
 
-KINDS, PAUSES = "10,35,54,1,10", "0,0.2,0.5,1,2,4"
+KINDS = "10,35,54,1,10"
 LEAST = {"seed": 0, "seconds": 0, "writers": 1, "readers": 0, "hook_timeout": 0.1}
 SHOWN = 5  # cases that are told on the terminal; records.jsonl has all
 
@@ -61,8 +61,9 @@ def parsed() -> argparse.Namespace:
     add("--plan", choices=PLANS, default="mixed", help="how orders are drawn (mixed)")
     text = f"how often each kind that is granted is drawn, from the mildest; Clog last ({KINDS})"
     add("--kinds", type=weights, default=KINDS, metavar="WEIGHTS", help=text)
-    text = f"between mixed orders ({PAUSES})"
-    add("--pauses", type=numbers, default=PAUSES, metavar="SECONDS", help=text)
+    mixed, blackout = (",".join(f"{it:g}" for it in those) for those in (PAUSES, BLACKOUTS))
+    text = f"between the orders of mixed ({mixed}) and of blackout ({blackout})"
+    add("--pauses", type=numbers, metavar="SECONDS", help=text)
     text = "a disk for each process, whose power a Reboot cuts"
     add("--disks", choices=KINDS_OF_DISKS, help=text)
     text = "what a power cut keeps of what was unsynced: nothing, or what is drawn (draw)"

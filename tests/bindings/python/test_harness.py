@@ -68,6 +68,12 @@ class PlansTest(unittest.TestCase):
         only = self.drawn("mixed", weights={Kind.REBOOT: 1.0}, pauses=[0.25])
         self.assertEqual({(order.kind, order.pause) for order in only}, {(Kind.REBOOT, 0.25)})
 
+    def test_blackout_draws_its_own_pauses_or_those_given(self):
+        for pauses in (None, [20.0, 25.0]):
+            orders = self.drawn("blackout", pauses=pauses)
+            self.assertEqual({order.pause for order in orders}, set(pauses or (4.0, 6.0, 8.0)))
+            self.assertEqual({(order.kind, order.key) for order in orders}, {(Kind.REBOOT, Key.ZONE)})
+
     def test_attrition_only_destroys(self):
         self.assertTrue(all(order.kind.empties_disk for order in self.drawn("attrition")))
 

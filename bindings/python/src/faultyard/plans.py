@@ -11,6 +11,7 @@ from .enums import Key, Kind
 PLANS = ("mixed", "attrition", "swizzle", "rolling", "blackout", "partition")
 """The plans of `Draw`, each a call of it."""
 PAUSES = (0.0, 0.2, 0.5, 1.0, 2.0, 4.0)
+BLACKOUTS = (4.0, 6.0, 8.0)
 WEIGHTS = dict(zip(Kind, (10.0, 35.0, 54.0, 1.0, 10.0)))
 
 
@@ -89,14 +90,15 @@ class Draw(NamedTuple):
     places: Sequence[Mapping[Key, str]]
     weights: Mapping[Kind, float] = WEIGHTS
     """How often each kind is drawn; leave out those that aren't granted."""
-    pauses: Sequence[float] = PAUSES
-    """The pauses of `mixed`, one of which is drawn each time."""
+    pauses: Optional[Sequence[float]] = None
+    """The pauses of `mixed` and `blackout`, one of which is drawn each time; else `PAUSES` and
+    `BLACKOUTS`."""
 
     def mixed(self) -> Iterator[Order]:
         """Any kind of a random process, machine or zone, after a random pause."""
         keys = [Key.PROCESS, Key.PROCESS, Key.MACHINE, Key.ZONE]
         while True:
-            yield self._any(list(Kind), keys, self.pauses)
+            yield self._any(list(Kind), keys, self.pauses or PAUSES)
 
     def attrition(self) -> Iterator[Order]:
         """Destroys a process or machine after the other, faster than they are filled again."""
@@ -127,7 +129,7 @@ class Draw(NamedTuple):
         """Reboots everything at once, now and then; all have to share a place."""
         key, value = shared_place(self.places) or (Key.DATA_CENTER, "")
         while value:
-            yield Order(Kind.REBOOT, key, value, self.dice.choice([4.0, 6.0, 8.0]))
+            yield Order(Kind.REBOOT, key, value, self.dice.choice(self.pauses or BLACKOUTS))
 
     def partition(self) -> Iterator[Order]:
         """Cuts processes off from each other, in one of the shapes of `cuts_of`."""
