@@ -60,8 +60,8 @@ lib:
 	$(MAKE) --no-print-directory merged
 
 # The library is the crate's one object beside those of the toolchain's archive for memory, so that a program links with one
-# file. The shared library exports what the header declares. Without a C compiler there is none, and without Go no
-# faultyard-serve.
+# file. The shared library exports what the header declares. Without a C compiler there is none, without Go no
+# faultyard-serve, and without libfuse3-dev no faultyard-lossy.
 merged:
 	rm -rf bin/objects
 	mkdir -p bin/objects
@@ -77,6 +77,7 @@ merged:
 	if command -v $(CC) > /dev/null && command -v go > /dev/null && command -v pkg-config > /dev/null; then \
 		tools/serve/build bin/libfaultyard.a bin/faultyard-serve; \
 	fi
+	if command -v pkg-config > /dev/null && pkg-config --exists fuse3; then $(MAKE) --no-print-directory lossy; fi
 
 test:
 	tests/suites test
@@ -104,11 +105,13 @@ try-stores: build
 slow-stores: $(UNPROVED)
 	tests/stores/run --slow $(UNPROVED)
 
+# libfuse is linked in where its archive is there, so that a release runs without it, whichever version a machine has.
+lossy: FUSE = $(or $(patsubst %,% -pthread -ldl,$(wildcard $(shell pkg-config --variable=libdir fuse3)/libfuse3.a)),$(shell pkg-config --libs fuse3))
 lossy: bin/faultyard-lossy
 
 bin/faultyard-lossy: $(wildcard tools/lossy/*.[ch])
 	mkdir -p bin
-	$(CC) -std=gnu11 -D_GNU_SOURCE -O2 -Wall -Wextra -Werror $(shell pkg-config --cflags fuse3) -o $@ tools/lossy/*.c $(shell pkg-config --libs fuse3)
+	$(CC) -std=gnu11 -D_GNU_SOURCE -O2 -Wall -Wextra -Werror $(shell pkg-config --cflags fuse3) -o $@ tools/lossy/*.c $(FUSE)
 
 try-disks:
 	tests/disk/run --long

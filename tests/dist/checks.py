@@ -104,6 +104,10 @@ def options_of_tool(name: str) -> set[str]:
     tool = tools()[name]
     if name == "faultyard-serve":  # Its help is a file of its sources; only a release is built.
         text = (ROOT / "tools/serve/help.txt").read_text()
+    elif name == "faultyard-lossy":  # Its help is in its source.
+        source = (ROOT / "tools/lossy/main.c").read_text().partition("HELP_TEXT[] =")[2]
+        lines = re.findall(r'^    "(.*)\\n"', source.partition(";\n\n")[0], re.MULTILINE)
+        text = "\n".join(lines) + "\n"
     else:
         text = said(tool, "--help")
     block = text.partition("\noptions:\n")[2]

@@ -21,7 +21,7 @@ SHARED = f"libfaultyard.so.{version()}"
 
 # What a user of the archive looks for; release/layout isn't asked.
 COMMANDS = ("judge", "run", "check", "swarm", "guard", "show", "bears")
-TOOLS = ("nemesis", "serve", "config-check", "sweep", "shrink")
+TOOLS = ("nemesis", "serve", "lossy", "config-check", "sweep", "shrink")
 WANTED = [
     "bin/faultyard",
     *(f"bin/faultyard-{it}" for it in TOOLS),
@@ -218,7 +218,11 @@ def package_needs_what_its_files_need() -> None:
     tree = unpacked_package() / "usr"
     told = [
         said("objdump", "-p", path)
-        for path in (tree / "bin/faultyard", tree / "lib/x86_64-linux-gnu" / SHARED)
+        for path in (
+            tree / "bin/faultyard",
+            tree / "bin/faultyard-lossy",
+            tree / "lib/x86_64-linux-gnu" / SHARED,
+        )
     ]
     libraries = {it for text in told for it in re.findall(r"^  NEEDED +(\S+)", text, re.MULTILINE)}
     assert libraries <= {"libc.so.6", "ld-linux-x86-64.so.2"}, libraries

@@ -24,12 +24,29 @@ static const char USAGE_TEXT[] =
     "       faultyard-lossy cut MOUNT [TEAR]\n"
     "       faultyard-lossy unmount MOUNT\n";
 
+static const char HELP_TEXT[] =
+    "\n"
+    "A disk that forgets what wasn't synced once its power is cut. The folder DISK has what is\n"
+    "durable, and MOUNT shows the disk.\n"
+    "\n"
+    "options:\n"
+    "  --deaf               syncs do nothing, as on a disk that lies\n"
+    "  -f, --foreground     stay in the foreground\n"
+    "  --writeback SECONDS  what is so old is durable by itself (30); 0 for never\n"
+    "  -h, --help           print help\n";
+
 static const double WRITEBACK = 30;  // as Linux has it
 
 static int refuse(void)
 {
     fputs(USAGE_TEXT, stderr);
     return USAGE;
+}
+
+static int help(void)
+{
+    bool is_told = fputs(USAGE_TEXT, stdout) >= 0 && fputs(HELP_TEXT, stdout) >= 0;
+    return is_told && !fflush(stdout) ? DONE : FAILED;
 }
 
 static int fail(const char *what, int why)
@@ -269,7 +286,7 @@ int main(int count, char **texts)
 {
     const char *deed = count > 1 ? texts[1] : "";
     if (count == 2 && (strcmp(deed, "--help") == 0 || strcmp(deed, "-h") == 0))
-        return fputs(USAGE_TEXT, stdout) < 0 || fflush(stdout) ? FAILED : DONE;
+        return help();
     if (strcmp(deed, "mount") == 0)
         return mount_disk(count - 1, texts + 1);
     if (strcmp(deed, "sync") == 0 || strcmp(deed, "cut") == 0 || strcmp(deed, "unmount") == 0)
