@@ -9,6 +9,7 @@ STORE_FAULT in the environment plants a fault:
     unsynced    a record is acknowledged up to half a second before it is written
     lazy        a record is given to the kernel, and never synced: only a power cut loses it
     forgetful   an emptied server is said to be whole at once, and nothing is copied to it
+    shy         a server takes its time, and tells of a record only where it is asked for it again
     late        a server tells of a record half a second after it has it
     hole        server 1 tells that each seventh record isn't there
     corrupt     each ninth value is told backwards
@@ -53,6 +54,7 @@ class Server(socketserver.ThreadingTCPServer):
         self.lock, self.number = threading.Lock(), number
         self.records = read_log(path)
         self.came: dict[str, float] = {}  # when each record came
+        self.asked: set[str] = set()  # the records that it was asked for
         self.log = path.open("a", 1 << 20)
         # What a power cut tore was never acknowledged; it may not be a part of what comes.
         self.log.truncate(sum(len(line) + 1 for line in lines_of(path)))
@@ -77,6 +79,11 @@ class Server(socketserver.ThreadingTCPServer):
         """What it tells of a record. That there is none it knows if all were asked: one may be empty."""
         if FAULT == "hole" and self.number == 1 and not int(key[2:]) % 7:
             return "none"
+        if FAULT == "shy":
+            time.sleep(0.05)
+            if key not in self.asked:
+                self.asked.add(key)
+                return "none"
         told = [self.own(key)]
         for number in {0, 1, 2} - {self.number}:
             if told[-1] is None:

@@ -142,8 +142,8 @@ class Cases(unittest.TestCase):
     def test_unknown_disks_are_said_to_be_unknown(self):
         case = self.case(Left({}), losses=[(2, 6.0, 18), (3, 7.0, 20)])
         fault = (
-            "k0 k1 k4 could hold it and were never destroyed since, "
-            "and whether the disk of k0 k1 k4 has it is unknown: the store lost it"
+            "unknown: k0 k1 k4 could hold it and were never destroyed since, "
+            "and whether the disk of k0 k1 k4 has it is unknown: the store lost it, or `read` lags"
         )
         self.assertEqual(case.fault(), fault)
         case = self.case(Left(None, disks=self.disks(unknown=[3])))

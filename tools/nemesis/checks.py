@@ -9,12 +9,14 @@ from faultyard import Key, Kind
 from faultyard.plans import PAUSES, Order
 
 from . import HOOK, USAGE, Fault
-from .clients import pairs
+from .clients import Told, pairs
 
 if TYPE_CHECKING:
     from .run import Run
 
 BEFORE = 1.0  # seconds of writes before each order
+SOON = 0.02  # seconds until it is looked again whether a process was emptied
+EARLY = 1.0  # seconds before it is whole, in which a process may have a record already
 MOST = 200  # records for which a process is asked
 NEVER = "r/999999999"  # a key that is never written
 HEALS = 3  # so many a run should have time for
@@ -29,6 +31,7 @@ class HookCheck:
         self.run, self.hooks, self.clients = run, run.hooks, run.clients
         self.healed: list[int] = []  # whose `whole` was believed
         self.copies: dict[int, tuple[Path, Records]] = {}  # of folders, and what they have to have
+        self.notes: list[str] = []  # what looks wrong, and may be right
 
     async def whole(self) -> list[str]:
         """Calls each hook; how long a start and a heal take."""
@@ -41,13 +44,15 @@ class HookCheck:
                 await self._order(kind, name)
             await self._reboot(name, "setup")
             before = self._known()
+            asked = self.run.tasks.create_task(self._ask_the_emptied(number, before))
             await self._order(Kind.REBOOT_AND_DELETE, name)
+            self._note_passed_on(number, await asked)
             await self._healed(number, before)
             if self.run.disks:
                 await self._reboot(name, "join")
         if "leave" in self.hooks.names and Kind.KILL_INSTANTLY in granted:
             await self._order(Kind.KILL_INSTANTLY, self.run.names[-1])
-        return self.times()
+        return self.notes + self.times()
 
     async def _order(self, kind: Kind, name: str) -> None:
         """Has a process struck, and waits until it is back."""
@@ -130,6 +135,23 @@ class HookCheck:
                 self.copies[number] = (await self.hooks.copy(number), before)
             await self.run.calm()
 
+    async def _ask_the_emptied(self, number: int, before: Records) -> Told | None:
+        """What `check` tells first of a record's emptied process, before that is whole."""
+        if "check" not in self.hooks.names or not before:
+            return None
+        while number in self.run.ledger.able:
+            await asyncio.sleep(SOON)
+        key = next(iter(before))
+        return await self.clients.first_told(number, key, lambda: self.clients.is_whole(number))
+
+    def _note_passed_on(self, number: int, told: Told | None) -> None:
+        """A process that has a record long before it is whole may have asked another for it."""
+        early = self.run.ledger.heals[-1].t - told[0] if told and told[1] != "none" else 0.0
+        if early > EARLY:
+            name = self.run.names[number]
+            text = f"{name} was emptied, and told a record {early:.1f} s before `whole {number}`"
+            self.notes.append(f"{text} said yes: does `check` of {name} ask another process?")
+
     async def disks(self) -> None:
         """Looks at what each folder had after `whole` said yes, now that the store is down."""
         for number, (copy, before) in self.copies.items():
@@ -167,8 +189,7 @@ class HookCheck:
         """What a process tells by `check` of the newest records, once it had time for all."""
         if "check" not in self.hooks.names:
             return {}
-        until = time.monotonic() + self.hooks.seconds("read")
-        return await self.clients.check_all(number, list(known)[-MOST:], until)
+        return await self.clients.check_all(number, list(known)[-MOST:])
 
     def times(self) -> list[str]:
         """How long a start and a heal took, and whether a run leaves time for that."""

@@ -17,8 +17,10 @@ AGAIN = 0.1  # seconds until another client runs where one ended
 REFUSED = 0.05  # seconds until a writer goes on that was told no
 READ_PAUSE = 0.01  # seconds between two reads of a reader
 LAGS = 0.5  # seconds until a process is asked again at the end for what it lacks
+EACH = 0.01  # seconds for each record of those that a process is asked for at the end
 NEWEST = 10  # of the acknowledged records, one of which is read as often as one of all
 OVER = ("hung", "ended")  # the errors after which a co-process isn't asked any more
+Told = tuple[float, str]  # when, and what
 Once = Callable[[Process], Awaitable[str | None]]  # asks a co-process once; the error, if any
 
 
@@ -122,30 +124,58 @@ class Clients:
         """Whether a process counts as up, with all records."""
         return number in self._harness.up and number in self.ledger.able
 
-    async def check_all(self, number: int, keys: list[str], until: float) -> dict[str, str | None]:
+    async def check_all(self, number: int, keys: list[str]) -> dict[str, str | None]:
         """What a process has of these records in the end, as long as it is up and whole.
 
-        It is asked again for what it lacks until that time, since it may lag.
+        It may lag. So what it lacks is asked for again, and None is told only of a record that it
+        still lacks in a last round, a minute after it was first asked for all.
         """
-        client, found = self.history.client(), dict[str, str | None]()
-        while keys and self.is_whole(number):
-            queue, answered = list(reversed(keys)), list[str]()
-
-            async def once(process: Process) -> str | None:
-                operation = await self._check_one(process, client, number, queue[-1])
-                if operation.error not in OVER:
-                    queue.pop()
-                if operation.type == "ok" and operation.is_whole:
-                    found[operation.key] = operation.value
-                    answered.append(operation.key)
-                return operation.error
-
-            await self._talk("check", once, lambda: not queue or time.monotonic() > until)
-            keys = [key for key in keys if found.get(key) is None]
-            if time.monotonic() > until or not answered:
-                break
-            await asyncio.sleep(LAGS if keys else 0)
+        client, is_last = self.history.client(), False
+        found = await self._check_each(client, number, keys)
+        until = time.monotonic() + self.hooks.seconds("read")
+        while not is_last and (lacks := [key for key, it in found.items() if it is None]):
+            await asyncio.sleep(LAGS)
+            is_last = time.monotonic() > until or not self.is_whole(number)
+            again = await self._check_each(client, number, lacks)
+            if is_last:
+                found = {key: value for key, value in found.items() if value is not None}
+            found |= again
         return found
+
+    async def _check_each(
+        self, client: Client, number: int, keys: list[str]
+    ) -> dict[str, str | None]:
+        """What a process tells of each of these records, of as many as it answers for in time."""
+        queue, found = list(reversed(keys)), dict[str, str | None]()
+        until = time.monotonic() + max(self.hooks.seconds("read"), len(keys) * EACH)
+
+        async def once(process: Process) -> str | None:
+            operation = await self._check_one(process, client, number, queue[-1])
+            if operation.error not in OVER:
+                queue.pop()
+            if operation.type == "ok" and operation.is_whole:
+                found[operation.key] = operation.value
+            return operation.error
+
+        def is_over() -> bool:
+            return not queue or not self.is_whole(number) or time.monotonic() > until
+
+        await self._talk("check", once, is_over)
+        return found
+
+    async def first_told(self, number: int, key: str, is_over: Callable[[], bool]) -> Told | None:
+        """What a process tells first of a record, if it does before that; not for the history."""
+        told: list[Told] = []
+
+        async def once(process: Process) -> str | None:
+            words, error = await self._ask(process, f"{number} {key}")
+            if error is None and words != ["?"]:
+                told.append((self.ledger.now(), "".join(words)))
+            await asyncio.sleep(READ_PAUSE)
+            return error
+
+        await self._talk("check", once, lambda: bool(told) or is_over())
+        return told[0] if told else None
 
     async def ask_once(self, number: int, key: str) -> Operation:
         """Asks a process for one record, whatever it is."""

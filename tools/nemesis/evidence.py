@@ -135,12 +135,12 @@ class Case:
             return f"of those who could hold it {self._too_early(self.healed)}"
         were, none = ("were", "none has it") if len(self.never) > 1 else ("was", "doesn't have it")
         known = f"{told(self.never)} could hold it and {were} never destroyed since"
-        if self.counted <= self.lacks.keys():
-            known += f", and {none}"
-        else:
-            known += f", and {self._unknown(self.counted)}"
+        is_known = self.counted <= self.lacks.keys()
+        known += f", and {none if is_known else self._unknown(self.counted)}"
         if self.healed and not self._were_down_at_once():
             return f"{known}; {self._too_early(self.healed)}"
+        if not is_known:  # `read` alone lacks it
+            return f"unknown: {known}: the store lost it, or `read` lags"
         return f"{known}: the store lost it"
 
     def _were_down_at_once(self) -> bool:

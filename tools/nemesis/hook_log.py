@@ -12,6 +12,7 @@ class HookLog:
     def __init__(self, path: Path, now: Callable[[], float]) -> None:
         self._file = path.open("ab", buffering=0)
         self._now = now
+        self._last: dict[str, str] = {}  # line of each call, until it is asked for
 
     @contextmanager
     def of(self, call: str) -> Iterator[int]:
@@ -32,7 +33,13 @@ class HookLog:
             lines.end()
             os.close(source)
 
+    def said(self, call: str) -> str:
+        """The last line that a call wrote, which has ended."""
+        return self._last.pop(call, "")
+
     def _write(self, call: str, line: bytes) -> None:
+        if text := line.decode(errors="replace").strip():
+            self._last[call] = text
         self._file.write(f"{self._now():7.2f}  {call}: ".encode() + line + b"\n")
 
 

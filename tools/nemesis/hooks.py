@@ -26,6 +26,7 @@ KNOWN |= {"check", "salvage", "fresh"}  # fresh is no hook, but a promise of che
 SLOW = {"hooks", "setup", "join", "elect", "read", "salvage"}
 NEEDS = {"pause": "resume", "resume": "pause", "fresh": "check"}  # one without the other is wrong
 PORTS = 4  # for each process
+SAID = 160  # characters of what a hook said that are told
 SOURCES = str(Path(faultyard.__file__).parents[1])
 
 
@@ -34,10 +35,11 @@ class End(NamedTuple):
 
     call: str
     status: int | None  # None where it hung
+    said: str = ""  # the last line of its standard error
 
     def __str__(self) -> str:
         how = "hung" if self.status is None else f"ended with status {self.status}"
-        return f"{self.call} {how}"
+        return f"{self.call} {how}{f' ({self.said[:SAID]})' if self.said else ''}"
 
 
 class Hooks:
@@ -119,10 +121,11 @@ class Hooks:
         if name not in self.names:
             return ""
         status, text, env = None, "", self._variables(*numbers) | variables
-        with suppress(TimeoutError), self._log.of(called(name, numbers)) as log:
+        call = called(name, numbers)
+        with suppress(TimeoutError), self._log.of(call) as log:
             async with asyncio.timeout(self.seconds(name)):
                 status, text = await output(self._path, name, *numbers, env=env, stderr=log)
-        self.ends[numbers[0] if numbers else name] = End(called(name, numbers), status)
+        self.ends[numbers[0] if numbers else name] = End(call, status, self._log.said(call))
         return text if status == 0 else None
 
     async def copy(self, number: int) -> Path:

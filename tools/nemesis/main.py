@@ -25,7 +25,7 @@ from .disks import KINDS as KINDS_OF_DISKS
 from .net import WAYS
 from .picture import draw
 from .run import Run
-from .summary import closing, tested_little
+from .summary import MILD, closing, tested_little
 from .verdicts import Verdict
 
 KINDS = "10,35,54,1,10"
@@ -130,9 +130,9 @@ async def chaos(words: argparse.Namespace) -> int:
         run = Run(words, guard)
         try:
             await run.whole()
-        except asyncio.CancelledError:
+        except (asyncio.CancelledError, Fault):
             run.unread()
-            if run.ledger.has_begun():
+            if run.ledger.has_begun() and not words.check_hooks:
                 report(run, is_read=False)
             raise
         finally:
@@ -231,6 +231,8 @@ def report(run: Run, is_read: bool = True) -> int:
     if is_read and not words.check_hooks:
         healed, destroyed = len(run.ledger.healed), len(run.ledger.losses)
         lines += tested_little(acked, run.ledger.pauses(), destroyed, healed)
+        if words.unguarded and not counts["lost"] + counts["unreadable"]:
+            lines.append(MILD)
     lines += told_cases(run.cases, SHOWN)
     ending = closing(acked, counts) if is_read else f"{acked} acknowledged so far, not read"
     (words.out / "picture.svg").write_text(draw(words.out, run.file, [lines[0], ending]), "utf-8")

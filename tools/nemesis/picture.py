@@ -322,7 +322,7 @@ class _Picture:
         ):
             if event["rule"][0] == name and those:
                 rule += f", since {' '.join(self.names[it] for it in those)} {what_so}"
-        said = event["verdict"] or "nothing"
+        said = event["verdict"] or "no"
         guard = f"; the guard said {said}" if event["beyond"] else ""
         return f"{what}: {done} was done{guard}: {rule}"
 

@@ -107,7 +107,7 @@ class Run(Store):
             await asyncio.sleep(at - self.ledger.now())
             if order.cuts:
                 await self.partition(order)
-            else:
+            elif self.targets(order.key, order.value):  # who is gone can't be struck again
                 await self.obey(self.fault, order.act())
         if not words.check_hooks:
             await asyncio.sleep(words.seconds - self.ledger.now())
@@ -144,14 +144,13 @@ class Run(Store):
                     await asyncio.sleep(AGAIN)
         self.show(f"asks each process for {len(keys)} records")
         Random(self.words.seed).shuffle(keys)
-        until = time.monotonic() + self.hooks.seconds("read")
         numbers = [number for number in range(len(self.names)) if self.clients.is_whole(number)]
-        asked = (self.clients.check_all(number, keys, until) for number in numbers)
+        asked = (self.clients.check_all(number, keys) for number in numbers)
         checked = dict(zip(numbers, await asyncio.gather(*asked)))
         for number, found in checked.items():
             if len(found) < len(keys):
-                text = f"told of {len(found)} of {len(keys)} records by check"
-                self.notes.append(f"at the end {self.names[number]} {text}")
+                text = f"answered for {len(found)} of {len(keys)} records, and not for the others"
+                self.notes.append(f"at the end `check` of {self.names[number]} {text}")
         return checked
 
     async def _judge(self, left: Left) -> None:

@@ -4,6 +4,7 @@ from collections.abc import Mapping, Sequence
 from . import HOOK, LOST, NONE_LOST, STALE, UNREADABLE, WRONG
 
 FEW = 100  # acknowledged writes: with fewer a run says little
+MILD = "tested little: unguarded, and nothing was lost: --plan attrition destroys more"
 QUIET = 1.0  # seconds without an acknowledgement that count as a time without writes
 
 

@@ -172,7 +172,7 @@ class Harness(ABC):
         """An order and what was done, as a line."""
         done = "done" if event["does"] == event["order"] else event["does"] or "nothing"
         if event["beyond"]:
-            done += f"; the guard said {event['verdict'] or 'nothing'}"
+            done += f"; the guard said {event['verdict'] or 'no'}"
         if event["rule"]:
             done += f": {' '.join(map(str, event['rule']))}"
         names = " ".join(self.names[process] for process in event["targets"]) or "nobody"
@@ -238,7 +238,7 @@ class Harness(ABC):
             f"longest without a write {self.ledger.longest_pause():.1f} s"
         ]
         if beyond:
-            said, done = beyond["verdict"] or "nothing", f"{beyond['does']} of {beyond['value']}"
+            said, done = beyond["verdict"] or "no", f"{beyond['does']} of {beyond['value']}"
             entry = f"beyond the guard first: entry {beyond['entry']}"
             lines.append(f"{entry}: the guard said {said}, {done} was done")
         return lines
