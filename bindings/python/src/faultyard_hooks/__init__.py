@@ -20,12 +20,14 @@ longer to import than a hook may take.
 from __future__ import annotations
 
 import os
+import socket
 import sys
 import time
 from contextlib import contextmanager
 from typing import Any, Callable, Dict, Iterator, Optional, Tuple, TypeVar
 
 Hook = TypeVar("Hook", bound=Callable[..., Any])
+Answer = TypeVar("Answer")
 _hooks: Dict[str, Callable[..., Any]] = {}
 
 
@@ -70,7 +72,7 @@ def copied(*below: str) -> str:
 
 
 def hook(name: str) -> Callable[[Hook], Hook]:
-    """Makes a function a hook. False says no, as an OSError does; a text is printed."""
+    """Makes a function a hook. False says no, as an OSError does; a text or records are printed."""
 
     def register(function: Hook) -> Hook:
         _hooks[name] = function
@@ -110,8 +112,17 @@ def _answer(ask: Callable[[], str], otherwise: str) -> None:
     print(told, flush=True)
 
 
+def is_reachable(n: int) -> None:
+    """Whether the first port of a process takes a connection."""
+    socket.create_connection(at(n), 2).close()
+
+
 def main(*promises: str) -> None:
-    """Calls the hook that the command line names. `promises` are printed beside all names."""
+    """Calls the hook that the command line names. `promises` are printed beside all names.
+
+    Where there is no hook `ready`, a process is ready once it is reachable.
+    """
+    _hooks.setdefault("ready", is_reachable)
     name, *numbers = sys.argv[1:] or [""]
     if name == "hooks":
         print(*_hooks, *promises)
@@ -124,6 +135,8 @@ def main(*promises: str) -> None:
             sys.exit(f"{type(fault).__name__}: {fault}")
         if result is False:
             sys.exit(1)
+        if isinstance(result, dict):
+            result = "".join(f"{key} {value}\n" for key, value in result.items())
         if isinstance(result, str):
             sys.stdout.write(result)
 
@@ -181,6 +194,27 @@ def wait(ask: Callable[[], Any], seconds: float = 5.0, pause: float = 0.05) -> A
         if time.monotonic() > until:
             return False
         time.sleep(pause)
+
+
+def answered(ask: Callable[[], Answer], seconds: float = 30.0) -> Answer:
+    """The first answer that is no OSError; the last fault where there is none in time."""
+    until = time.monotonic() + seconds
+    while True:
+        try:
+            return ask()
+        except OSError:
+            if time.monotonic() > until:
+                raise
+        time.sleep(0.1)
+
+
+def paged(ask: Callable[[str], Dict[str, str]]) -> Dict[str, str]:
+    """All records of a store that tells some at once: `ask` answers those behind a key, at first
+    behind an empty one."""
+    found: Dict[str, str] = {}
+    while page := ask(max(found, default="")):
+        found.update(page)
+    return found
 
 
 def keep(path: str, text: str) -> None:

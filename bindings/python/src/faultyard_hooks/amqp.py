@@ -3,7 +3,7 @@
 from __future__ import annotations
 
 import struct
-from typing import Any, Callable, Dict, List, Tuple
+from typing import Any, Dict, List, Tuple
 
 from . import Refused
 from .client import Client
@@ -12,12 +12,11 @@ from .client import Client
 START, START_OK, TUNE, TUNE_OK = (10, 10), (10, 11), (10, 30), (10, 31)
 OPEN, OPEN_OK, CHANNEL, CHANNEL_OK = (10, 40), (10, 41), (20, 10), (20, 11)
 DECLARE, DECLARE_OK, PUBLISH, RETURN = (50, 10), (50, 11), (60, 40), (60, 50)
-QOS, QOS_OK, CONSUME, CONSUME_OK = (60, 10), (60, 11), (60, 20), (60, 21)
+CONSUME, CONSUME_OK = (60, 20), (60, 21)
 DELIVER, ACK, CONFIRM, CONFIRM_OK = (60, 60), (60, 80), (85, 10), (85, 11)
 GET, GET_OK, GET_EMPTY = (60, 70), (60, 71), (60, 72)
 METHOD, HEADER, BODY, HEARTBEAT, END = 1, 2, 3, 8, b"\xce"
 PASSIVE, DURABLE, PERSISTENT = 1, 2, 2
-MOST_OUT = 1000  # messages that are delivered and not yet acknowledged
 
 Method = Tuple[int, int]
 
@@ -29,29 +28,23 @@ class Amqp(Client):
         """Adds a durable message, and returns once the queue has confirmed it."""
         self.ask("publish", queue, text)
 
-    def count(self, queue: str, **declared: object) -> int:
-        """How many messages are ready. With arguments the queue is declared, if it isn't there.
+    def declare(self, queue: str, **arguments: object) -> None:
+        """Makes a queue, if it isn't there."""
+        self.ask("counts", queue, arguments)
 
-        A quorum queue without a leader has 0 too, by the broker: `is_empty` asks the leader.
+    def messages(self, queue: str) -> List[str]:
+        """All of a queue. They go back into it, as the connection is closed then.
+
+        A queue without a leader has none too, by the broker: so the leader is asked for one then.
         """
-        return int(self.ask("count", queue, declared))
-
-    def is_empty(self, queue: str) -> bool:
-        """Whether no message is ready, as the queue's leader says. `Refused` where it has none."""
-        is_empty = bool(self.ask("is_empty", queue))
-        if not is_empty:
+        count, consumers = self.ask("counts", queue, {})
+        if consumers or not count and not self.ask("is_empty", queue):
             self.close()  # what was got goes back
-        return is_empty
-
-    def take(self, queue: str, count: int, keep: Callable[[List[str]], None]) -> None:
-        """Takes so many messages out of a queue. They go for good once `keep` has them."""
+            raise Refused("another still has messages out, or the queue has no leader")
         self.ask("consume", queue)
-        while count > 0:
-            told = [self.ask("delivered") for _ in range(min(count, MOST_OUT))]
-            keep([text for _, text in told])
-            self.ask("done", told[-1][0])
-            count -= len(told)
+        told = [self.ask("delivered") for _ in range(count)]
         self.close()
+        return told
 
     def _greet(self) -> None:
         self._send(b"AMQP\0\0\x09\x01")
@@ -74,12 +67,14 @@ class Amqp(Client):
         self._send(_frame(HEADER, 1, head) + _frame(BODY, 1, data))
         self._wait(ACK)
 
-    def _count(self, queue: str, declared: Dict[str, object]) -> int:
+    def _counts(self, queue: str, declared: Dict[str, object]) -> Tuple[int, int]:
+        """How many messages are ready, and how many consumers there are."""
         table = b"".join(_field(name.replace("_", "-"), it) for name, it in declared.items())
         flags = DURABLE if declared else DURABLE | PASSIVE
         words = b"\0\0" + _short(queue) + bytes([flags]) + _long(table)
         told = self._call(1, DECLARE, words, DECLARE_OK)
-        return int(struct.unpack_from(">I", told, 1 + told[0])[0])
+        messages, consumers = struct.unpack_from(">II", told, 1 + told[0])
+        return messages, consumers
 
     def _is_empty(self, queue: str) -> bool:
         self._method(1, GET, b"\0\0" + _short(queue) + b"\0")
@@ -90,21 +85,16 @@ class Amqp(Client):
         return method == GET_EMPTY
 
     def _consume(self, queue: str) -> None:
-        self._call(1, QOS, struct.pack(">IHB", 0, 2 * MOST_OUT, 0), QOS_OK)
         self._call(1, CONSUME, b"\0\0" + _short(queue) + b"\0\0" + _long(b""), CONSUME_OK)
 
-    def _delivered(self) -> Tuple[int, str]:
-        told = self._wait(DELIVER)
-        (tag,) = struct.unpack_from(">Q", told, 1 + told[0])
+    def _delivered(self) -> str:
+        self._wait(DELIVER)
         _, head = self._next()
         (size,) = struct.unpack_from(">Q", head, 4)
         text = b""
         while len(text) < size:
             text += self._next()[1]
-        return tag, text.decode()
-
-    def _done(self, tag: int) -> None:
-        self._method(1, ACK, struct.pack(">QB", tag, 1))
+        return text.decode()
 
     def _call(self, channel: int, method: Method, words: bytes, answer: Method) -> bytes:
         self._method(channel, method, words)

@@ -5,7 +5,9 @@ from __future__ import annotations
 import random
 import socket
 from abc import ABC, abstractmethod
-from typing import Any, BinaryIO, Callable, Generic, Optional, Sequence, Tuple, TypeVar
+from typing import Any, BinaryIO, Callable, Generic, List, Optional, Sequence, Tuple, TypeVar
+
+from . import ABLE, COUNT, at
 
 
 class Client(ABC):
@@ -90,3 +92,11 @@ class OneOf(Generic[AnyClient]):
         except OSError:
             self._chosen = random.randrange(len(self._clients))
             raise
+
+
+def clients(
+    kind: Callable[[Tuple[str, int], float], AnyClient], seconds: float = 4.0, which: int = 0
+) -> Tuple[List[AnyClient], OneOf[AnyClient], OneOf[AnyClient]]:
+    """One of each process, one of any, and one of any that isn't destroyed."""
+    each = [kind(at(n, which), seconds) for n in range(COUNT)]
+    return each, OneOf(each), OneOf([each[n] for n in ABLE])

@@ -3,6 +3,7 @@
 from __future__ import annotations
 
 import json
+from base64 import b64decode, b64encode
 from typing import Any, Dict, Tuple
 
 from . import Refused
@@ -37,3 +38,13 @@ class Http(Client):
             self._line()
         self._line()
         return status, told
+
+
+def base64(text: str) -> str:
+    """A text as many stores have it in JSON."""
+    return b64encode(text.encode()).decode()
+
+
+def plain(text: str) -> str:
+    """The text that such a one stands for."""
+    return b64decode(text).decode()
