@@ -13,10 +13,11 @@ import threading
 import unittest
 from pathlib import Path
 
-from faultyard_hooks import Refused, keep, wait
+from faultyard_hooks import Refused, answered, keep, paged, wait
 from faultyard_hooks.amqp import Amqp
 from faultyard_hooks.client import OneOf
-from faultyard_hooks.http import Http
+from faultyard_hooks.http import Http, base64, plain
+from faultyard_hooks.nats import Nats, on_disk, text
 from faultyard_hooks.postgres import Postgres
 from faultyard_hooks.resp import Resp
 from faultyard_hooks.zookeeper import ZooKeeper, last_synced
@@ -50,6 +51,29 @@ def get(n, key):
     return {"a": "x"}.get(key)
 
 main("fresh")
+"""
+# A store with one primary, whose positions are in a file, a line for each time that all are asked.
+ELECTS = """
+from faultyard_hooks import COUNT, DIR, hook, main, text_of
+from faultyard_hooks.client import clients
+from faultyard_hooks.primary import elects, primary
+from faultyard_hooks.resp import Resp
+
+asked = []
+
+def position(n):
+    asked.append(n)
+    line = text_of(f"{DIR}/positions").splitlines()[asked.count(n) - 1]
+    return int(line.split()[n])
+
+elects(position, lambda n: print("promoted", n) or n != 3)
+
+@hook("read")
+def read():
+    servers, some, able = clients(Resp)
+    return {"servers": len(servers), "primary": primary()}
+
+main()
 """
 
 
@@ -95,8 +119,9 @@ class Dispatch(unittest.TestCase):
         self.path = Path(folder.name, "hooks.py")
         self.path.write_text(HOOKS)
 
-    def call(self, *words, told=""):
+    def call(self, *words, told="", **variables):
         more = {"FY_DIR": "/run", "FY_PORT": "20000", "FY_COUNT": "3", "FY_ABLE": "0 2"}
+        more.update(variables)
         command = [sys.executable, str(self.path), *words]
         ran = subprocess.run(
             command, input=told, env={**os.environ, **more}, capture_output=True, text=True
@@ -115,6 +140,39 @@ class Dispatch(unittest.TestCase):
 
     def test_a_text_is_printed_as_it_is(self):
         self.assertEqual(self.call("read"), (0, "/run/1/data 20009\n", ""))
+
+    def test_records_are_printed_as_lines(self):
+        self.path.write_text(ELECTS)
+        self.assertEqual(self.call("read"), (0, "servers 3\nprimary 0\n", ""))
+
+    def test_without_a_hook_ready_the_first_port_is_tried(self):
+        self.path.write_text(ELECTS)
+        self.assertIn("ready", self.call("hooks")[1].split())
+        with socket.create_server(("127.0.0.1", 0)) as server:
+            port = server.getsockname()[1]
+            self.assertEqual(self.call("ready", "1", FY_PORT=str(port - 4)), (0, "", ""))
+        status, told, said = self.call("ready", "1", FY_PORT=str(port - 4))
+        self.assertEqual((status, told), (1, ""))
+        self.assertIn("ConnectionRefusedError", said)
+
+    def elected(self, positions, able, first="0"):
+        self.path.write_text(ELECTS)
+        folder = self.path.parent
+        Path(folder, "positions").write_text(positions)
+        Path(folder, "primary").write_text(first)
+        called = self.call("elect", FY_DIR=str(folder), FY_ABLE=able, FY_COUNT="4")
+        return called[:2], Path(folder, "primary").read_text()
+
+    def test_the_one_with_most_is_elected_where_the_primary_is_destroyed(self):
+        same = "9 4 7 1\n9 4 7 1\n"
+        self.assertEqual(self.elected(same, "0 1"), ((0, ""), "0"))
+        printed = "promoted 2\nempty 0\nrestart 1\nempty 3\n"
+        self.assertEqual(self.elected(same, "1 2"), ((0, printed), "2"))
+
+    def test_none_is_elected_who_is_not_sure(self):
+        self.assertEqual(self.elected("9 4 7 1\n9 4 8 1\n", "1 2"), ((1, ""), "0"))
+        self.assertEqual(self.elected("0 0 0 1\n0 0 0 1\n", "3"), ((1, "promoted 3\n"), "0"))
+        self.assertEqual(self.elected("", ""), ((1, ""), "0"))
 
     def test_a_hook_that_there_is_not_ends_with_64(self):
         self.assertEqual(self.call("leave", "1")[0], 64)
@@ -143,6 +201,24 @@ class Helpers(unittest.TestCase):
         answers = iter([None, 0, "yes"])
         self.assertEqual(wait(lambda: next(answers)), "yes")
         self.assertIs(wait(lambda: None, 0.0), False)
+
+    def test_asking_ends_with_the_first_answer_or_the_last_fault(self):
+        answers = [0, Refused("one"), Refused("two")]
+
+        def ask():
+            answer = answers.pop()
+            if isinstance(answer, OSError):
+                raise answer
+            return answer
+
+        self.assertEqual(answered(ask), 0)
+        answers[:] = [Refused("last")]
+        with self.assertRaisesRegex(Refused, "last"):
+            answered(ask, -1.0)
+
+    def test_pages_are_asked_until_one_is_empty(self):
+        pages = {"": {"b": "1", "a": "2"}, "b": {"c": "3"}, "c": {}}
+        self.assertEqual(paged(pages.__getitem__), {"a": "2", "b": "1", "c": "3"})
 
     def test_waiting_goes_on_after_a_fault(self):
         def ask():
@@ -226,6 +302,9 @@ class HttpAnswers(unittest.TestCase):
         head = b"HTTP/1.1 200 OK\r\nTransfer-Encoding: chunked\r\n\r\n"
         chunked = head + b'3\r\n{"b\r\n4;x=y\r\n":3}\r\n0\r\n\r\n'
         self.assertEqual(self.asked(sized, chunked, sized), [{"b": 2}, {"b": 3}, {"b": 2}])
+
+    def test_texts_in_base64(self):
+        self.assertEqual((base64("r/1"), plain("ci8x")), ("ci8x", "r/1"))
 
     def test_a_refusal_has_its_status_and_text(self):
         with self.assertRaisesRegex(Refused, "503 no leader"):
@@ -319,21 +398,114 @@ def method(channel, number, words):
     return struct.pack(">BHI", 1, channel, len(data)) + data + b"\xce"
 
 
+def told(data):
+    """A message of NATS, as a server hands it to a subscriber."""
+    return b"MSG in.x 1 %d\r\n%s\r\n" % (len(data), data)
+
+
+class NatsAnswers(unittest.TestCase):
+    """Each question goes to an inbox that the client chose."""
+
+    def asked(self, *said):
+        """What a client of a server is told that says these, one after the other."""
+        with socket.create_server(("127.0.0.1", 0)) as server:
+            told = b"".join(said)
+            thread = threading.Thread(target=self.serve, args=(server, told), daemon=True)
+            thread.start()
+            client = Nats(server.getsockname(), 5)
+            try:
+                return client.ask(("r.k", "v"), ("$JS.API", {"seq": 7}))
+            finally:
+                client.close()
+                thread.join(5)
+
+    def serve(self, server, told):
+        connection, _ = server.accept()
+        with connection, connection.makefile("rb") as lines:
+            connection.sendall(b"INFO {}\r\n" + told)
+            self.heard = lines.readlines()
+
+    def test_answers_come_in_the_order_of_the_questions(self):
+        stored, found = told(b'{"seq":17}'), told(b'{"message":{"seq":7,"data":"dg"}}')
+        answers = self.asked(stored, b"PING\r\n", found)
+        self.assertEqual(answers, [{"seq": 17}, {"seq": 7, "data": "dg"}])
+        login, subscribed, *rest = self.heard
+        self.assertTrue(login.startswith(b"CONNECT {"))
+        inbox = subscribed.split()[1]
+        self.assertEqual(rest[:2], [b"PUB r.k %s 1\r\n" % inbox, b"v\r\n"])
+        self.assertEqual(rest[2:4], [b"PUB $JS.API %s 10\r\n" % inbox, b'{"seq": 7}\r\n'])
+        self.assertEqual(rest[4:], [b"PONG\r\n"])
+
+    def test_a_message_that_is_not_there_is_none_and_other_errors_refuse(self):
+        none = told(b'{"error":{"code":404,"err_code":10037,"description":"no message found"}}')
+        self.assertEqual(self.asked(none, none), [None, None])
+        with self.assertRaisesRegex(Refused, "no leader"):
+            self.asked(told(b'{"error":{"code":503,"err_code":10008,"description":"no leader"}}'))
+        with self.assertRaisesRegex(Refused, "503"):
+            self.asked(b"HMSG in.x 1 16 16\r\nNATS/1.0 503\r\n\r\n\r\n")
+
+    def test_a_text_is_in_base64(self):
+        self.assertEqual(text({"data": "dg=="}), "v")
+
+    def test_the_files_of_a_stream_have_its_messages(self):
+        def entry(number, subject, value):
+            size = 30 + len(subject) + len(value)
+            head = struct.pack("<IQqH", size, number, 1, len(subject))
+            return head + subject + value + bytes(8)
+
+        with tempfile.TemporaryDirectory() as folder:
+            self.assertEqual(on_disk(folder), {})
+            Path(folder, "msgs").mkdir()
+            Path(folder, "msgs/1.blk").write_bytes(entry(1, b"r.a", b"x") + entry(2, b"r.b", b"yz"))
+            torn = entry(4, b"r.d", b"v")[:-1]
+            Path(folder, "msgs/2.blk").write_bytes(entry(3, b"r.c", b"w") + torn)
+            self.assertEqual(on_disk(folder), {1: ("a", "x"), 2: ("b", "yz"), 3: ("c", "w")})
+
+
 class AmqpAnswers(unittest.TestCase):
-    def asked(self, answer):
+    def client(self, *talk):
+        """One that has logged in to a server that goes on so."""
         login = bytes(4) + b"\x05PLAIN" + frame(b"\0guest\0guest") + b"\x05en_US"
-        content = struct.pack(">HHQHB", 60, 0, 2, 4096, 2)
-        publish = method(1, (60, 40), b"\0\0\0\1q\1") + b"\2\0\1" + frame(content) + b"\xce"
-        talk = [
+        begun = [
             (b"AMQP\0\0\x09\x01", method(0, (10, 10), b"..")),
             (method(0, (10, 11), login), method(0, (10, 30), b"..")),
             (method(0, (10, 31), struct.pack(">HIH", 1, 131072, 0)), b""),
             (method(0, (10, 40), b"\1/\0\0"), method(0, (10, 41), b"\0")),
             (method(1, (20, 10), b"\0"), method(1, (20, 11), bytes(4))),
             (method(1, (85, 10), b"\0"), method(1, (85, 11), b"")),
-            (publish + b"\3\0\1" + frame(b"hi") + b"\xce", answer),
         ]
-        Talk(self, talk).client(Amqp).publish("q", "hi")
+        return Talk(self, [*begun, *talk]).client(Amqp)
+
+    def asked(self, answer):
+        content = struct.pack(">HHQHB", 60, 0, 2, 4096, 2)
+        publish = method(1, (60, 40), b"\0\0\0\1q\1") + b"\2\0\1" + frame(content) + b"\xce"
+        self.client((publish + b"\3\0\1" + frame(b"hi") + b"\xce", answer)).publish("q", "hi")
+
+    COUNTS = method(1, (50, 10), b"\0\0\1q\3" + bytes(4))  # passive and durable
+
+    def counted(self, messages, consumers):
+        return self.COUNTS, method(1, (50, 11), b"\1q" + struct.pack(">II", messages, consumers))
+
+    def test_all_messages_are_told_and_none_is_acknowledged(self):
+        body = struct.pack(">HHQH", 60, 0, 2, 0)
+        content = b"\2\0\1" + frame(body) + b"\xce\3\0\1" + frame(b"hi") + b"\xce"
+        delivered = method(1, (60, 60), b"\1c" + struct.pack(">Q", 1) + b"\0\0\1q") + content
+        consume = method(1, (60, 20), b"\0\0\1q\0\0" + bytes(4))
+        said = method(1, (60, 21), b"\1c") + delivered + delivered
+        client = self.client(self.counted(2, 0), (consume, said))
+        self.assertEqual(client.messages("q"), ["hi", "hi"])
+
+    def test_a_queue_of_which_another_has_messages_is_not_read(self):
+        with self.assertRaisesRegex(Refused, "messages out"):
+            self.client(self.counted(2, 1)).messages("q")
+
+    def test_an_empty_queue_is_asked_for_one_message(self):
+        get = method(1, (60, 70), b"\0\0\1q\0")
+        with self.assertRaisesRegex(Refused, "no leader"):
+            self.client(self.counted(0, 0), (get, method(1, (60, 71), b""))).messages("q")
+        consume = method(1, (60, 20), b"\0\0\1q\0\0" + bytes(4))
+        answers = [(get, method(1, (60, 72), b"\0")), (consume, method(1, (60, 21), b"\1c"))]
+        self.assertEqual(self.client(self.counted(0, 0), *answers).messages("q"), [])
 
     def test_a_publish_ends_once_it_is_confirmed(self):
         heartbeat = b"\x08\0\0" + bytes(4) + b"\xce"

@@ -24,7 +24,7 @@ class Nats(Client):
     _inbox = ""
 
     def message(self, stream: str, **which: object) -> Optional[Dict[str, Any]]:
-        """A message by its `seq`, or the last of a subject by `last_by_subj`, as the leader says."""
+        """A message by its `seq`, or the last by `last_by_subj`, as the stream's leader has it."""
         found: List[Optional[Dict[str, Any]]]
         found = self.ask((f"$JS.API.STREAM.MSG.GET.{stream}", which))
         return found[0]
