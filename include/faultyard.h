@@ -20,11 +20,18 @@
  * A guard may be moved to another thread, and one call at a time is made with it: threads that share
  * one take turns, by a mutex. Guards of different threads have nothing in common. Calls that take a
  * `const fy_guard *` write neither the struct nor what it points to, so they may be made at once
- * while no other call is. No call may come from a signal handler, nor from a child that a process
- * with threads forked.
+ * while no other call is.
  *
  * The struct may be moved in memory. Of a guard there is one copy that is used: a copy of the struct
  * is no second guard, which fy_guard_try_copy opens.
+ *
+ * What no call can notice is undefined: a second copy of a struct that is used, or closed, beside the
+ * first or after it; fy_close twice (fy_guard_close closes the struct, so a second call does nothing);
+ * a struct that was never opened and isn't all zeros; two calls at once, but for those above; a
+ * buffer for an answer that overlaps the struct, a text of the call or another answer; a text without
+ * its zero, or a length beyond its buffer; a call from a signal handler, or in a child that a process
+ * with threads forked. In the child of a process without threads a guard is a second one, whose
+ * journal goes its own way. All of it goes for a check too.
  */
 #ifndef FAULTYARD_H
 #define FAULTYARD_H
@@ -60,7 +67,7 @@ typedef enum fy_status {
     FY_NO_ENTRY = 6,        /* The journal has no entry at this place. */
     FY_ARGUMENT = 7,        /* A number for a key, a kind or a floor is that of none, or a bit of a set of
                                kinds is; members don't rise, or are too many; a payload is too long; there
-                               is no such process to kill. */
+                               is no such process to kill. Each call says which it means. */
     FY_NAME = 8,            /* The value of the target is no name: 1 to 32 of A-Z a-z 0-9 _ -, the
                                first not -. */
     FY_FLOOR = 9,           /* The floor of the kill is above its kind. */
@@ -408,8 +415,14 @@ static inline fy_status fy_guard_try_copy(const fy_guard *guard, fy_guard *other
  * (FY_NO_GRANT, FY_PROTECTED) or of the policy (FY_TOO_MANY_DESTROYED, FY_TOO_FEW_LEFT) that it
  * names. All three are 0 after any status but FY_DONE and FY_CLOSED.
  *
- * In this order: FY_CLOSED, FY_ARGUMENT, FY_NAME, FY_FLOOR, FY_JOURNAL_FULL, FY_NO_MEMORY.
- * FY_REFUSED where there is no actor with this number. */
+ * A process that died without an order is told as a kill of it, with the floor FY_REBOOT_PROCESS: by
+ * FY_REBOOT where its data is there, by FY_REBOOT_AND_DELETE where its data is gone. Where that is
+ * answered with less than FY_REBOOT_AND_DELETE, more was destroyed than the policies bear, and the
+ * guard doesn't know it: what it promises of records ends there. Open a new guard once every process
+ * has every record. A process that others kill, or whose data others remove, is such a death.
+ *
+ * In this order: FY_CLOSED; FY_ARGUMENT where the key, the kind or the floor is none; FY_NAME;
+ * FY_FLOOR; FY_JOURNAL_FULL; FY_NO_MEMORY. FY_REFUSED where there is no actor with this number. */
 static inline fy_status fy_guard_kill(fy_guard *guard, uint32_t actor, fy_key key, const char *value,
                                       fy_kind kind, fy_kind floor, uint64_t tear, uint32_t *struck,
                                       uint32_t *rule, uint64_t *named)
@@ -423,8 +436,8 @@ static inline fy_status fy_guard_kill(fy_guard *guard, uint32_t actor, fy_key ke
 /* What fy_guard_kill would answer now to the same order, if the journal had room. It enters nothing,
  * and asks for no memory. `*struck`, `*rule` and `*named` are those of fy_guard_kill.
  *
- * In this order: FY_CLOSED, FY_ARGUMENT, FY_NAME, FY_FLOOR; FY_REFUSED where there is no actor with
- * this number. */
+ * In this order: FY_CLOSED; FY_ARGUMENT where the key, the kind or the floor is none; FY_NAME;
+ * FY_FLOOR; FY_REFUSED where there is no actor with this number. */
 static inline fy_status fy_guard_judge(const fy_guard *guard, uint32_t actor, fy_key key,
                                        const char *value, fy_kind kind, fy_kind floor,
                                        uint32_t *struck, uint32_t *rule, uint64_t *named)
@@ -439,9 +452,9 @@ static inline fy_status fy_guard_judge(const fy_guard *guard, uint32_t actor, fy
  * process's name, and the same entry in the journal. No name is read or looked up, so it is quicker.
  * `*struck`, `*rule` and `*named` are those of fy_guard_kill.
  *
- * In this order: FY_CLOSED, FY_ARGUMENT, FY_FLOOR, FY_JOURNAL_FULL, FY_NO_MEMORY. FY_ARGUMENT also
- * where no process has this number: there is no name to enter, so nothing is entered. FY_REFUSED
- * where there is no actor with this number. */
+ * In this order: FY_CLOSED; FY_ARGUMENT where the kind or the floor is none, or no process has this
+ * number: there is no name to enter, so nothing is entered; FY_FLOOR; FY_JOURNAL_FULL; FY_NO_MEMORY.
+ * FY_REFUSED where there is no actor with this number. */
 static inline fy_status fy_guard_kill_process(fy_guard *guard, uint32_t actor, uint32_t process,
                                               fy_kind kind, fy_kind floor, uint64_t tear,
                                               uint32_t *struck, uint32_t *rule, uint64_t *named)
@@ -455,8 +468,8 @@ static inline fy_status fy_guard_kill_process(fy_guard *guard, uint32_t actor, u
 /* What fy_guard_kill_process would answer now to the same order, if the journal had room. It enters
  * nothing, and asks for no memory. `*struck`, `*rule` and `*named` are those of fy_guard_kill.
  *
- * In this order: FY_CLOSED, FY_ARGUMENT, FY_FLOOR; FY_REFUSED where there is no actor with this
- * number. FY_ARGUMENT also where no process has this number. */
+ * In this order: FY_CLOSED; FY_ARGUMENT where the kind or the floor is none, or no process has this
+ * number; FY_FLOOR; FY_REFUSED where there is no actor with this number. */
 static inline fy_status fy_guard_judge_process(const fy_guard *guard, uint32_t actor, uint32_t process,
                                                fy_kind kind, fy_kind floor, uint32_t *struck,
                                                uint32_t *rule, uint64_t *named)
@@ -508,7 +521,8 @@ static inline fy_status fy_guard_heal(fy_guard *guard, uint32_t actor, uint32_t 
  * so many ticks, at most up to the clock's end. By any actor.
  *
  * Sets `rule` and `named`: FY_NO_RULE where it is done, else the rule that bars it. Rules are no
- * refusals: the status is FY_DONE. FY_ARGUMENT, FY_NAME. Refusals: FY_STRANGER alone. */
+ * refusals: the status is FY_DONE. FY_ARGUMENT where the key is none; FY_NAME. Refusals: FY_STRANGER
+ * alone. */
 static inline fy_status fy_guard_clog(fy_guard *guard, uint32_t actor, fy_key key, const char *value,
                                       uint64_t ticks, fy_reply *reply)
 {
@@ -726,7 +740,7 @@ static inline fy_status fy_guard_process_count(const fy_guard *guard, uint32_t *
 /* Whom a kill of this key and value is about, as fy_guard_left writes a set: each process that has
  * the value and isn't gone for good, emptied or not.
  *
- * In this order: FY_CLOSED, FY_ARGUMENT, FY_NAME. Nothing is written then. */
+ * In this order: FY_CLOSED; FY_ARGUMENT where the key is none; FY_NAME. Nothing is written then. */
 static inline fy_status fy_guard_targets(const fy_guard *guard, fy_key key, const char *value,
                                          uint64_t set[FY_SET_WORDS])
 {
@@ -892,8 +906,8 @@ static inline fy_status fy_guard_swizzle_plan(const fy_guard *guard, uint64_t se
  * spared. Each is by the kind, with the floor and the tear. `faultyard swarm` gives it to the second,
  * fourth, .. of its fault actors, with 2, 1, FY_KILL_INSTANTLY, FY_REBOOT and 0.
  *
- * In this order: FY_CLOSED; FY_ARGUMENT; FY_FLOOR; FY_NO_MEMORY; FY_SHORT. `*told` and the buffer are
- * as fy_guard_swizzle_plan has them. */
+ * In this order: FY_CLOSED; FY_ARGUMENT where the kind or the floor is none; FY_FLOOR; FY_NO_MEMORY;
+ * FY_SHORT. `*told` and the buffer are as fy_guard_swizzle_plan has them. */
 static inline fy_status fy_guard_attrition_plan(const fy_guard *guard, uint64_t seed, uint64_t stream,
                                                 uint32_t to_kill, uint32_t to_leave, fy_kind kind,
                                                 fy_kind floor, uint64_t tear, fy_order *orders,

@@ -37,6 +37,9 @@ func BeginCheck(config []byte) (*Check, error) {
 
 // do makes a call of the library in its turn.
 func (check *Check) do(call func(*C.fy_check)) error {
+	if check == nil {
+		return ErrClosed
+	}
 	check.lock.Lock()
 	defer check.lock.Unlock()
 	if check.library.at == nil {
@@ -46,7 +49,8 @@ func (check *Check) do(call func(*C.fy_check)) error {
 	return nil
 }
 
-// Close frees what the check holds. Each later call answers ErrClosed, as does a second Close.
+// Close frees what the check holds. Each later call answers ErrClosed, as does a second Close, and
+// each call of a nil check.
 func (check *Check) Close() error {
 	return check.do(func(its *C.fy_check) {
 		runtime.SetFinalizer(check, nil)

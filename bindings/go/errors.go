@@ -26,8 +26,9 @@ const (
 	ErrUnwritten Status = C.FY_UNWRITTEN
 	// ErrNoEntry is: the journal has no entry at this place.
 	ErrNoEntry Status = C.FY_NO_ENTRY
-	// ErrArgument is: there is no such key, kind or floor, the members don't rise or are too many,
-	// the payload is too long, or no process has the number by which it is to be killed.
+	// ErrArgument is: there is no such key, kind, set of kinds or floor, the members don't rise or
+	// are too many, the payload is too long, no process has the number by which it is to be
+	// killed, or a count of words is below 0. Each call says which of them it means.
 	ErrArgument Status = C.FY_ARGUMENT
 	// ErrName is: the value of the target is no name.
 	ErrName Status = C.FY_NAME
@@ -69,7 +70,7 @@ var statusTexts = []string{
 	ErrRefused:       "the act is refused",
 	ErrUnwritten:     "the act is made, but its line could not be written",
 	ErrNoEntry:       "the journal has no entry at this place",
-	ErrArgument:      "there is no such key, kind or floor, or process to kill, members don't rise, or a payload is too long",
+	ErrArgument:      "there is no such key, kind or floor, or process to kill, members don't rise, a payload is too long, or a count is below 0",
 	ErrName:          "the value of the target is no name",
 	ErrFloor:         "the floor of the kill is above its kind",
 	ErrLineTooLong:   "the line has more than 65,536 bytes",

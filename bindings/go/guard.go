@@ -56,8 +56,12 @@ func freed(guard *Guard) *Guard {
 	return guard
 }
 
-// do makes a call of the library in its turn. Threads may take turns with a guard.
+// do makes a call of the library in its turn. Threads may take turns with a guard. A nil guard is
+// closed, so that a caller may defer Close before it looks at the error of Open.
 func (guard *Guard) do(call func(*C.fy_guard)) error {
+	if guard == nil {
+		return ErrClosed
+	}
 	guard.lock.Lock()
 	defer guard.lock.Unlock()
 	if guard.library.at == nil {
@@ -67,7 +71,8 @@ func (guard *Guard) do(call func(*C.fy_guard)) error {
 	return nil
 }
 
-// Close frees what the guard holds. Each later call answers ErrClosed, as does a second Close.
+// Close frees what the guard holds. Each later call answers ErrClosed, as does a second Close, and
+// each call of a nil guard.
 func (guard *Guard) Close() error {
 	return guard.do(func(its *C.fy_guard) {
 		runtime.SetFinalizer(guard, nil)

@@ -3,21 +3,27 @@ package faultyard
 // #include <faultyard.h>
 import "C"
 
+import "unsafe"
+
 // usualPlan is how many orders most plans have at most; a longer one is drawn again.
 const usualPlan = 64
 
 // Words answers the first words of a stream of a seed: pseudo-random words of ChaCha with eight
-// rounds. A swarm's actor draws from the stream of its number. Its error is ErrNoMemory.
+// rounds. A swarm's actor draws from the stream of its number.
+//
+// Its error is the first of ErrArgument, where the count is below 0, and ErrNoMemory.
 func Words(seed, stream uint64, count int) ([]uint32, error) {
-	// The library takes no null pointer, also for no words.
-	drawn := make([]C.uint32_t, count+1)
-	status := C.fy_words(C.uint64_t(seed), C.uint64_t(stream), &drawn[0], C.size_t(count))
-	if err := errorOf(status); err != nil {
-		return nil, err
+	if count <= 0 {
+		if count < 0 {
+			return nil, ErrArgument
+		}
+		return []uint32{}, nil
 	}
 	words := make([]uint32, count)
-	for at := range words {
-		words[at] = uint32(drawn[at])
+	first := (*C.uint32_t)(unsafe.Pointer(&words[0]))
+	status := C.fy_words(C.uint64_t(seed), C.uint64_t(stream), first, C.size_t(count))
+	if err := errorOf(status); err != nil {
+		return nil, err
 	}
 	return words, nil
 }

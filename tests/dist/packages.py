@@ -31,6 +31,7 @@ WANTED = [
     "lib/libfaultyard.so",
     "lib/libfaultyard.so.1",
     "lib/pkgconfig/faultyard.pc",
+    "lib/cmake/faultyard/faultyard-config.cmake",
     "lib/systemd/system/faultyard-serve@.service",
     "share/bash-completion/completions/faultyard",
     "share/zsh/site-functions/_faultyard",
@@ -176,7 +177,7 @@ def archive_has_its_layout() -> None:
 
 def package_has_the_files_of_the_archive() -> None:
     moved = [
-        (r"^lib/(libfaultyard|pkgconfig)", r"lib/x86_64-linux-gnu/\1"),
+        (r"^lib/(libfaultyard|pkgconfig|cmake)", r"lib/x86_64-linux-gnu/\1"),
         (r"^share/zsh/site-functions", "share/zsh/vendor-completions"),
         (r"^(share/man/.*)$", r"\1.gz"),
     ]
@@ -300,6 +301,33 @@ def archive_is_found_by_pkg_config() -> None:
     assert (Path(library.removeprefix("-L")) / "libfaultyard.so").is_file(), library
 
 
+def archive_is_found_by_cmake() -> None:
+    """And a program builds by each of its targets, and runs."""
+    need("cmake", "cc")
+    config = unpacked() / "share/doc/faultyard/examples/c6.toml"
+    (room() / "verdict.c").write_text((ROOT / "tests/dist/verdict.c").read_text())
+    for target, version_asked in (("faultyard", "1"), ("static", version())):
+        source, built = room() / f"CMakeLists.{target}", room() / f"by-{target}"
+        source.mkdir()
+        (source / "CMakeLists.txt").write_text(
+            "cmake_minimum_required(VERSION 3.13)\nproject(verdict C)\n"
+            f"find_package(faultyard {version_asked} REQUIRED)\n"
+            "add_executable(verdict ../verdict.c)\n"
+            f"target_link_libraries(verdict PRIVATE faultyard::{target})\n"
+        )
+        said("cmake", "-S", source, "-B", built, f"-DCMAKE_PREFIX_PATH={unpacked()}")
+        said("cmake", "--build", built)
+        told = subprocess.run([built / "verdict"], stdin=config.open(), capture_output=True)
+        assert told.stdout == b"a reboot, by policy 0\n", (target, told)
+    (source / "CMakeLists.txt").write_text(
+        "cmake_minimum_required(VERSION 3.13)\nproject(verdict C)\n"
+        "find_package(faultyard 2 QUIET)\n"
+        'message(STATUS "of a later version: ${faultyard_FOUND}")\n'
+    )
+    told = said("cmake", "-S", source, "-B", room() / "later", f"-DCMAKE_PREFIX_PATH={unpacked()}")
+    assert "of a later version: 0" in told, told
+
+
 def archive_serves_cpp_and_go() -> None:
     need("c++", "go", "pkg-config")
     env = environment(PKG_CONFIG_PATH=str(unpacked() / "lib/pkgconfig"))
@@ -395,6 +423,7 @@ CHECKS = [
     archive_runs_where_it_lies,
     archive_sweeps,
     archive_is_found_by_pkg_config,
+    archive_is_found_by_cmake,
     archive_serves_cpp_and_go,
     archive_builds_the_python_package,
     archive_builds_the_rust_crate,

@@ -102,6 +102,9 @@ func TestCheckFaults(t *testing.T) {
 	refuses(t, check, first, faultyard.ErrClosed)
 	_, err = check.Finding()
 	fails(t, err, faultyard.ErrClosed)
+	var none *faultyard.Check
+	fails(t, none.Close(), faultyard.ErrClosed)
+	refuses(t, none, first, faultyard.ErrClosed)
 }
 
 // TestCheckOfAClusterFile meets the fault of a cluster file.

@@ -666,6 +666,7 @@ func TestAfterItsEndAGuardAnswersThatItIsClosed(t *testing.T) {
 	equal(t, guard.Close(), nil)
 	assertClosed(t, guard)
 	assertClosed(t, new(faultyard.Guard))
+	assertClosed(t, nil)
 }
 
 func TestACloseBesideOtherCallsEndsThem(t *testing.T) {

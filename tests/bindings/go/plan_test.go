@@ -2,6 +2,7 @@ package faultyard_tests
 
 import (
 	"fmt"
+	"math"
 	"strings"
 	"testing"
 
@@ -22,6 +23,11 @@ func TestSeededWords(t *testing.T) {
 		words, err := faultyard.Words(it.seed, it.stream, len(it.words))
 		equal(t, err, nil)
 		equal(t, words, it.words)
+	}
+	for _, count := range []int{-1, math.MinInt} {
+		words, err := faultyard.Words(0, 0, count)
+		fails(t, err, faultyard.ErrArgument)
+		equal(t, len(words), 0)
 	}
 }
 

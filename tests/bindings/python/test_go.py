@@ -136,7 +136,7 @@ class Go(common.Folder, unittest.TestCase):
         wanted = dict.fromkeys(calls, "faultyard: there was no memory")
         wanted["Act"] = "faultyard: the act is made, but its line could not be written"
         no_key = "faultyard: there is no such key, kind or floor, or process to kill, "
-        no_key += "members don't rise, or a payload is too long"
+        no_key += "members don't rise, a payload is too long, or a count is below 0"
         wanted |= dict.fromkeys(["Judge", "Targets"], no_key)
         asked = ["IsDestroyed", "Left", "UpSet", "State", "Needed", "Destroyed", "Gone"]
         asked += ["Process", "ProcessCount", "IsAcked", "Keeper", "Sight", "Close"]

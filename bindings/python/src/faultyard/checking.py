@@ -21,7 +21,8 @@ FAULTS = {LINE_TOO_LONG: "TooLong", LINE_SYNTAX: "Syntax", NO_HEADER: "Header"}
 class Finding(NamedTuple):
     """What is found of an audit."""
 
-    count: int
+    # A tuple's method has this name too; the number of entries hides it.
+    count: int  # type: ignore[assignment]
     """How many entries were read."""
     first_bad: Optional[int]
     """The place of the first that isn't what the rules give, from 0."""

@@ -57,6 +57,11 @@ class Guard:
     call may come from a signal handler, nor from a forked child.
     """
 
+    _lock: threading.Lock
+    _opener: int
+    _closed: bool
+    _transport: Transport
+
     def __init__(
         self,
         config: StrPath,
