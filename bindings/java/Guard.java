@@ -304,11 +304,13 @@ public final class Guard implements AutoCloseable {
         }
     }
 
-    private final Process process;
+    private final Path config;
+    private final String program;
     private final Duration timeout;
-    private final OutputStream acts;
-    private final InputStream answers;
-    private final InputStream errors;
+    private Process process;
+    private OutputStream acts;
+    private InputStream answers;
+    private InputStream errors;
     private final ByteArrayOutputStream audit = new ByteArrayOutputStream();
     private int entries;
     private boolean closed;
@@ -326,7 +328,14 @@ public final class Guard implements AutoCloseable {
 
     /** Opens a guard by this program, which is ended where an answer takes longer than this. */
     public Guard(Path config, String program, Duration timeout) {
+        this.config = config;
+        this.program = program;
         this.timeout = timeout;
+        start();
+    }
+
+    /** Starts the program, whose first word is the header of an audit. */
+    private void start() {
         ProcessBuilder builder = new ProcessBuilder(program, "guard", config.toString());
         try {
             // A file can't fill up, as a pipe that nobody reads would. Its name goes at once.
@@ -512,6 +521,72 @@ public final class Guard implements AutoCloseable {
         done(by, "take", "\"actor\":" + number(actor) + ",\"index\":" + number(index));
     }
 
+    // Looking ahead, and beginning again.
+
+    /**
+     * What {@link #kill} would answer now to the same order, where the journal has room. It enters
+     * nothing. A {@linkplain #tryCopy second guard} is asked, so it takes as long as all acts took.
+     */
+    public Verdict judge(int by, Key key, String value, Kind kind, Kind floor) {
+        try (Guard ahead = tryCopy()) {
+            return ahead.kill(by, key, value, kind, floor, 0);
+        }
+    }
+
+    /**
+     * Opens a second guard with the same journal, to look ahead: what is done with one changes
+     * nothing of the other, and each is closed. Its program reads the cluster file, and makes the
+     * acts of the journal once more. Throws {@link GuardEnded} where that gives another journal, as
+     * where the file was changed.
+     */
+    public synchronized Guard tryCopy() {
+        requireOpen();
+        Guard other = new Guard(config, program, timeout);
+        String[] entries = audit().split("(?<=\n)");
+        for (int at = 1; at < entries.length; at++) {
+            if (!other.exchange(commandOf(entries[at])).equals(entries[at])) {
+                other.process.destroyForcibly();
+                throw other.ended("entry " + (at - 1) + " is another in the copy", null);
+            }
+            other.entries++;
+        }
+        return other;
+    }
+
+    /** The line of a script that makes an entry. No text of an act has a comma or a quote in it. */
+    private static String commandOf(String entry) {
+        int end = entry.indexOf(",\"at\":");
+        int by = entry.indexOf(",\"by\":", end) + 6;
+        String actor = entry.substring(by, entry.indexOf(',', by));
+        return "{\"by\":" + actor + ",\"act\":" + entry.substring("{\"act\":".length(), end) + "}\n";
+    }
+
+    /**
+     * Puts the guard back to where nothing happened yet, with no entry in its journal. Its program is
+     * ended and started again, and reads the cluster file again. Throws what a constructor throws,
+     * and is at its end then.
+     */
+    public synchronized void reset() {
+        requireOpen();
+        GuardException told = ended("the guard is reset", null);
+        if (process.exitValue() != 0) {
+            throw told;
+        }
+        end = null;
+        entries = 0;
+        audit.reset();
+        start();
+    }
+
+    private void requireOpen() {
+        if (closed) {
+            throw new GuardEnded("the guard is closed", "", null);
+        }
+        if (end != null) {
+            throw end;
+        }
+    }
+
     // Questions, and the end.
 
     /** The audit so far, with its header. It is answered after the end too. */
@@ -555,9 +630,7 @@ public final class Guard implements AutoCloseable {
         String act = "{\"" + name + "\":{" + members + "}}";
         String line = "{\"by\":" + number(by) + ",\"act\":" + act + "}";
         require(line.length() <= MOST_LINE, "the line would have over " + MOST_LINE + " bytes");
-        if (closed) {
-            throw new GuardEnded("the guard is closed", "", null);
-        }
+        requireOpen();
         Text entry = new Text(exchange(line + "\n"));
         try {
             entry.expect("{\"act\":" + act + ",\"at\":" + entries + ",\"by\":" + by + ",\"reply\":");
@@ -608,12 +681,15 @@ public final class Guard implements AutoCloseable {
     /** Waits for the end of the process, and tells why it ended. */
     private GuardException ended(String why, Throwable cause) {
         String fault = "";
-        try (acts; answers; errors) {
-            acts.close();
+        OutputStream input = acts;
+        InputStream output = answers;
+        InputStream faults = errors;
+        try (input; output; faults) {
+            input.close();
             if (!process.waitFor(PATIENCE.toSeconds(), TimeUnit.SECONDS)) {
                 process.destroyForcibly().waitFor();
             }
-            fault = new String(errors.readNBytes(MOST_FAULT), StandardCharsets.UTF_8).trim();
+            fault = new String(faults.readNBytes(MOST_FAULT), StandardCharsets.UTF_8).trim();
         } catch (IOException broken) {
             // What is closed or read here is of a process that has ended.
         } catch (InterruptedException interrupted) {

@@ -214,6 +214,7 @@ final class GuardTest {
         refusals();
         arguments();
         replies();
+        ahead();
         configs();
         fullJournal();
         ends();
@@ -292,6 +293,37 @@ final class GuardTest {
             guard.protect(4, 1, EnumSet.of(Guard.Kind.REBOOT));
             check(guard.kill(1, Guard.Key.PROCESS, "p1", Guard.Kind.REBOOT).rule().orElseThrow() == Guard.Rule.PROTECTED, "p1 is protected");
         }
+    }
+
+    private void ahead() throws IOException {
+        String text = Files.readString(config);
+        Path own = Files.writeString(folder.resolve("own.toml"), text);
+        try (Guard guard = new Guard(own, program)) {
+            guard.kill(1, Guard.Key.ZONE, "z0", Guard.Kind.KILL_INSTANTLY);
+            guard.protect(4, 4, EnumSet.of(Guard.Kind.REBOOT, Guard.Kind.CLOG));
+            thrown(Guard.ActRefused.class, () -> guard.up(0, 2));
+            String audit = guard.audit();
+            Guard.Verdict told = guard.judge(1, Guard.Key.ZONE, "z1", Guard.Kind.KILL_INSTANTLY, Guard.Kind.REBOOT);
+            check(told.struck().orElseThrow() == Guard.Kind.REBOOT, "z1 would be rebooted");
+            check(told.rule().orElseThrow() == Guard.Rule.TOO_MANY_DESTROYED, "since too many would be destroyed");
+            check(guard.audit().equals(audit) && children() == 1, "nothing is entered, and nothing is left running");
+            try (Guard other = guard.tryCopy()) {
+                check(other.audit().equals(audit) && other.journalLength() == 3, "the copy has the journal");
+                other.tick(0, 7);
+                check(guard.audit().equals(audit) && guard.tick(0, 1) == 1, "neither changes the other");
+                check(other.tick(0, 1) == 8, "and the copy goes on");
+            }
+            guard.reset();
+            check(guard.audit().equals("{\"audit\":2}\n") && guard.journalLength() == 0, "nothing happened yet");
+            check(guard.kill(1, Guard.Key.ZONE, "z1", Guard.Kind.KILL_INSTANTLY).rule().isEmpty(), "z1 goes now");
+            Files.writeString(own, text.replace("Across(2,", "Across(1,"));
+            Guard.GuardEnded another = thrown(Guard.GuardEnded.class, guard::tryCopy);
+            check(another.getMessage().equals("entry 0 is another in the copy"), another.getMessage());
+            Files.writeString(own, "=");
+            thrown(Guard.ConfigRefused.class, guard::reset);
+            thrown(Guard.ConfigRefused.class, () -> guard.tick(0, 1));
+        }
+        check(children() == 0, "nothing runs");
     }
 
     private void configs() throws IOException {
