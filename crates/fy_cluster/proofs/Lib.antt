@@ -1,4 +1,5 @@
 pub mod Acknowledging
+pub mod ByPlace
 pub mod Copied
 pub mod CopyTo
 pub mod Deliverable
@@ -30,6 +31,7 @@ pub mod Shown
 pub mod Starting
 pub mod Starts
 pub mod Still
+pub mod Stores
 pub mod Strikes
 pub mod Syncing
 pub mod Targets

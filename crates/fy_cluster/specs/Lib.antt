@@ -1,10 +1,12 @@
 pub mod Setup
 pub mod History
+pub mod Places
 pub mod Rules
 pub mod Replies
 pub mod Versions
 pub mod Earlier
 pub mod Survival
+pub mod Stores
 pub mod Execution
 pub mod Standing
 pub mod Sights

@@ -1,4 +1,9 @@
--- what every legal journal keeps
+-- What every legal journal keeps. How to read it:
+-- - `AllByRecursion P xs`: P holds of each element of xs.
+-- - `IsTrue b`, `IsFalse b`: the test b is true, or false. `→ ⊥`: not so.
+-- - `×`: and. `(x : A) × P`: there is an x of which P holds. `(x : A) → P`: P holds of each x.
+-- - `abbrev N` with a type below it: N stands for the statement behind the `=`.
+-- - a `record` of clauses: each of them holds.
 use Rattle.std.specs.Prelude.{◌≡◌, ◌↔◌, ℕ, not, List, [], ◌∷◌, ◌++◌, Contains, IsTrue, IsFalse, Some, None, is_some, ◌≤◌, ◌<◌, length, map, Bool, true, slice_get}
 use Rattle.std.specs.List.{list_any}
 use Rattle.fy_locality.specs.declared.ProcId.{ProcId}

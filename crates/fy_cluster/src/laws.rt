@@ -6,6 +6,8 @@ ghost use Rattle.fy_cluster.specs.Setup.{Setup};
 ghost use Rattle.fy_cluster.specs.History.{History, acked, step_of};
 ghost use Rattle.fy_cluster.specs.Replies.{reply};
 ghost use Rattle.fy_cluster.specs.Survival.{ClientsTold, DestroyedShort, LeftSatisfy, KillsJudged, RulesNamed, RecordsKept, KeepersFound, JournalsSurvive, FrontsLegal, EntryAddsStep, NextLegal, NoneUnmet, SameActsSameJournal};
+ghost use Rattle.fy_cluster.specs.Places.{AckedByPlace, CloggedByPlace};
+ghost use Rattle.fy_cluster.specs.Stores.{HoldersAreLeft};
 ghost use Rattle.fy_cluster.specs.Versions.{SecondKnowsAll, NextLegalUnder};
 ghost use Rattle.fy_cluster.specs.Earlier.{EarlierRulesHold};
 ghost use Rattle.fy_cluster.specs.declared.config.TheConstants.{MOST_ACTORS, MOST_JOURNAL_ENTRIES};
@@ -95,6 +97,23 @@ pub fn journals_survive()
     clients_told();
     records_kept();
 }
+
+/// Of a store of one's own that keeps the three premises, each acknowledged record has a holder that
+/// isn't destroyed, at every moment.
+pub fn holders_are_left()
+    ensures { HoldersAreLeft }
+{
+    fy_policy::laws::more_of_map_satisfies();
+    fy_policy::laws::some_holder_is_left();
+    destroyed_short();
+}
+
+/// Which records are acknowledged and who is clogged, by the places of entries.
+#[tactic(auto, using(crate::proofs::ByPlace::acked_by_place, crate::proofs::ByPlace::clogged_by_place))]
+pub fn by_place()
+    ensures acked { AckedByPlace }
+    ensures clogged { CloggedByPlace }
+{}
 
 /// A front of a legal journal is legal; one entry more is one step more; and a legal journal with
 /// one entry more is legal exactly where the entry may follow it.

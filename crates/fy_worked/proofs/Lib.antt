@@ -3,5 +3,6 @@ pub mod FromWords
 pub mod Illegal
 pub mod MetPolicy
 pub mod Played
+pub mod Stores
 pub mod Turned
 pub mod Unsafe

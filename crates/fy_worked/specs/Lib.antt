@@ -10,3 +10,4 @@ pub mod Targets
 pub mod Wrong
 pub mod Judged
 pub mod Told
+pub mod Stores

@@ -9,6 +9,7 @@ pub mod records;
 pub mod refused;
 pub mod replaced;
 pub mod safe;
+pub mod stores;
 pub mod strikes;
 pub mod targets;
 pub mod told;
