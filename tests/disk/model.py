@@ -7,6 +7,7 @@ import os
 
 SECTOR = 4096
 NAMES = "abcdef"
+LONGEST = 255  # bytes of a name
 PUNCH, ZERO, KEEP = 0x03, 0x10, 0x01  # modes of fallocate
 DATA = ("write", "size", "zero")  # items of a file's own chain
 SYNCED = ("dsync", "sync", "rwf_dsync", "msync")  # how a write is durable at once
@@ -115,6 +116,8 @@ class Model:
 
     def create(self, path, kind, mode, target=""):
         folder, name = self.parent(path)
+        if len(name) > LONGEST:
+            return "ENAMETOOLONG"
         if name in folder.live:
             return "kernel"
         node = folder.live[name] = Node(kind, mode, target)
@@ -165,6 +168,8 @@ class Model:
 
     def link(self, path, to_path):
         node, (folder, name) = self.at(path), self.parent(to_path)
+        if len(name) > LONGEST:
+            return "ENAMETOOLONG"
         if name in folder.live or node.kind == "folder":
             return "kernel"
         folder.live[name] = node
@@ -174,6 +179,8 @@ class Model:
     def rename(self, path, to_path, how=""):
         (folder, name), (to, to_name) = self.parent(path), self.parent(to_path)
         node, over = folder.live[name], to.live.get(to_name)
+        if len(to_name) > LONGEST:
+            return "ENAMETOOLONG"
         if f"{to_path}/".startswith(f"{path}/") and over is not node:
             return "kernel"
         if how == "exchange":
@@ -326,7 +333,8 @@ def draw(dice, model):
     deed = dice.choices(list(WEIGHTS), list(WEIGHTS.values()))[0]
     paths = [path for path, _ in model.paths()]
     files = [path for path in paths if model.at(path).kind == "file"]
-    fresh = f"{dice.choice(model.folders())}/{dice.choice(NAMES)}".lstrip("/")
+    name = dice.choice(NAMES) * dice.choices([1, LONGEST, LONGEST + 1], [60, 1, 2])[0]
+    fresh = f"{dice.choice(model.folders())}/{name}".lstrip("/")
     some = dice.choice(paths) if paths else None
     if deed == "cut":
         tears = [0, 2**64 - 1, dice.getrandbits(64), dice.getrandbits(64) | dice.getrandbits(64)]

@@ -14,6 +14,11 @@
 
 // ---- names ----
 
+int disk_check_name(const struct disk *disk, const char *text)
+{
+    return strlen(text) > disk->longest_name ? ENAMETOOLONG : 0;
+}
+
 // The inode of a new file has no name in the disk's folder until its first name is durable.
 static int open_nameless(const struct disk *disk, struct node *node)
 {
@@ -61,7 +66,9 @@ int disk_make(struct disk *disk, struct node *folder, const char *text, const st
     struct node **made)
 {
     struct node *node = node_of(disk, what);
-    int why = node ? begin_node(disk, node, what->target) : ENOMEM;
+    int why = node ? disk_check_name(disk, text) : ENOMEM;
+    if (!why)
+        why = begin_node(disk, node, what->target);
     if (!why)
         why = add_name(disk, node, folder, text);
     if (!why)
@@ -72,7 +79,10 @@ int disk_make(struct disk *disk, struct node *folder, const char *text, const st
 
 int disk_link(struct disk *disk, struct node *node, struct node *folder, const char *text)
 {
-    return S_ISREG(node->st.st_mode) ? add_name(disk, node, folder, text) : EPERM;
+    int why = disk_check_name(disk, text);
+    if (!why && !S_ISREG(node->st.st_mode))
+        why = EPERM;
+    return why ? why : add_name(disk, node, folder, text);
 }
 
 int disk_remove(struct disk *disk, struct node *folder, const char *text)
@@ -152,6 +162,9 @@ int disk_rename(struct disk *disk, struct node *folder, const char *text, struct
     const char *to_text, unsigned flags)
 {
     struct name *from = disk_find(disk, folder, text), *over = disk_find(disk, to, to_text);
+    int why = disk_check_name(disk, to_text);
+    if (why)
+        return why;
     if (flags != 0 && flags != RENAME_NOREPLACE && flags != RENAME_EXCHANGE)
         return EINVAL;
     if (!from || (!over && flags == RENAME_EXCHANGE))

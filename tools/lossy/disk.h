@@ -53,6 +53,7 @@ struct disk {
     struct chain names;  // those of names
     struct name **table;
     size_t table_size, name_count, unsynced_bytes;
+    size_t longest_name;  // that the disk's folder can have
     ino_t numbers;
     bool is_deaf;      // a sync does nothing
     double writeback;  // after so many seconds what was done is durable by itself; 0 for never
@@ -78,6 +79,8 @@ int disk_close(struct disk *disk);
 // A reference is held by each name, by each item, and by whom took one.
 void node_drop(struct node *node, unsigned long references);
 
+// Whether the disk's folder can have a name: 0, or ENAMETOOLONG. All calls ask first.
+int disk_check_name(const struct disk *disk, const char *text);
 struct name *disk_find(const struct disk *disk, const struct node *folder, const char *text);
 int disk_make(struct disk *disk, struct node *folder, const char *text, const struct inode *what,
     struct node **made);

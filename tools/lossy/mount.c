@@ -58,7 +58,7 @@ static void reply_entry(fuse_req_t request, int why, struct node *node)
 static void look_up(fuse_req_t request, fuse_ino_t folder, const char *text)
 {
     const struct name *name = disk_find(disk_of(request), node_at(request, folder), text);
-    reply_entry(request, 0, name ? name->node : NULL);
+    reply_entry(request, disk_check_name(disk_of(request), text), name ? name->node : NULL);
 }
 
 static void forget(fuse_req_t request, fuse_ino_t number, uint64_t count)

@@ -2,6 +2,7 @@
 #include <dirent.h>
 #include <errno.h>
 #include <fcntl.h>
+#include <limits.h>
 #include <stdlib.h>
 #include <string.h>
 #include <sys/file.h>
@@ -144,6 +145,12 @@ static int check_folder(const struct disk *disk)
     return 0;
 }
 
+static size_t longest_name_in(int folder)
+{
+    long found = fpathconf(folder, _PC_NAME_MAX);
+    return found > 0 ? (size_t)found : NAME_MAX;
+}
+
 static int load_root(struct disk *disk, const char *folder)
 {
     struct linked *linked = NULL;
@@ -159,6 +166,7 @@ static int load_root(struct disk *disk, const char *folder)
     disk->root->durable = open(folder, O_RDONLY | O_DIRECTORY | O_CLOEXEC);
     if (disk->root->durable < 0)
         return errno;
+    disk->longest_name = longest_name_in(disk->root->durable);
     why = check_folder(disk);
     if (!why)
         why = load_folder(disk, disk->root, &linked);
