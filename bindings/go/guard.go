@@ -567,9 +567,12 @@ func reportOf(status, refusal C.uint32_t) error {
 	return errorOf(status)
 }
 
-// bytesOf is a copy of a text for the library, whose pointer is never null, and its length.
+// bytesOf is a text for the library, whose pointer is never null, and its length.
 func bytesOf(text []byte) (*C.uint8_t, C.size_t) {
-	return pointerTo(append(append([]byte{}, text...), 0)), C.size_t(len(text))
+	if len(text) == 0 {
+		return pointerTo([]byte{0}), 0
+	}
+	return pointerTo(text), C.size_t(len(text))
 }
 
 // pointerTo is a pointer to the first byte of a text that has one.

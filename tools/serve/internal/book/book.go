@@ -74,11 +74,19 @@ type Turn struct {
 	Asks    []Ask
 	Answers []Answer
 	view    func()
-	woken   chan bool // true where the turn is to lead
 }
 
 // NewTurn is a turn without asks.
-func NewTurn() *Turn { return &Turn{woken: make(chan bool, 1)} }
+func NewTurn() *Turn { return new(Turn) }
+
+// Party is the turns of several clients for whom one goroutine asks. It may be used again and again.
+type Party struct {
+	Turns []*Turn
+	woken chan bool // true where the party is to lead
+}
+
+// NewParty is a party of these turns.
+func NewParty(turns ...*Turn) *Party { return &Party{turns, make(chan bool, 1)} }
 
 // Stats counts what a book did since it was opened.
 type Stats struct {
@@ -97,60 +105,84 @@ type Book struct {
 	events *events
 
 	lock    sync.Mutex
-	waiting []*Turn
+	waiting []*Party
 	led     bool
 	stop    error // why nothing is made any more
 	stopped chan struct{}
 	grown   chan struct{} // closed once there are more entries
 	stats   Stats
 	length  int64 // of the audit in bytes, as far as it is on the disk
-	// lastTurns and lastSync are how many turns the last commit served, and how long its sync took.
-	lastTurns int
-	lastSync  time.Duration
-	gathered  chan struct{} // closed once as many turns wait again
+	// lastParties and lastSync are how many the last commit served, and how long its sync took.
+	lastParties int
+	lastSync    time.Duration
+	gathered    chan struct{} // closed once as many wait again
+	spare       []*Party
 
 	// Who leads owns these.
 	count  int // of the entries that the guard has
 	buffer []byte
+	turns  []*Turn
 }
 
 // Submit makes the acts of a turn in their order, and returns once each entry is on the disk.
-func (book *Book) Submit(turn *Turn) {
+func (book *Book) Submit(turn *Turn) { book.SubmitAll(NewParty(turn)) }
+
+// SubmitAll does so for each turn of a party, in their order.
+func (book *Book) SubmitAll(party *Party) {
 	book.lock.Lock()
-	book.waiting = append(book.waiting, turn)
-	if book.gathered != nil && len(book.waiting) == book.lastTurns {
+	book.waiting = append(book.waiting, party)
+	if book.gathered != nil && len(book.waiting) == book.lastParties {
 		close(book.gathered)
 		book.gathered = nil
 	}
 	if book.led {
 		book.lock.Unlock()
-		if leads := <-turn.woken; !leads {
+		if leads := <-party.woken; !leads {
 			return
 		}
 		book.lock.Lock()
 	}
 	book.led = true
 	book.gather()
-	turns, stop := book.waiting, book.stop
-	book.waiting = nil
-	book.lastTurns = len(turns)
+	parties, stop := book.waiting, book.stop
+	book.waiting = book.spare[:0]
+	book.lastParties = len(parties)
 	book.lock.Unlock()
 
-	book.serve(turns, stop)
-	for _, other := range turns {
-		if other != turn {
+	book.turns = book.turns[:0]
+	for _, its := range parties {
+		book.turns = append(book.turns, its.Turns...)
+	}
+	book.serve(book.turns, stop)
+	for _, other := range parties {
+		if other != party {
 			other.woken <- false
 		}
 	}
-	book.handOn()
+	book.handOn(parties)
 }
 
-// gather waits for as many turns as the last sync served, at most for a part of its time: clients
+// Patience is how long it is worth to wait for others before a party is submitted.
+func (book *Book) Patience() time.Duration {
+	book.lock.Lock()
+	defer book.lock.Unlock()
+	return book.patience()
+}
+
+// patience is a part of the last sync's time, or nothing. The lock is held.
+func (book *Book) patience() time.Duration {
+	if patience := book.lastSync / gatherPart; patience >= leastGather {
+		return patience
+	}
+	return 0
+}
+
+// gather waits for as many parties as the last sync served, at most for a part of its time: clients
 // that were answered together ask together again, and then one sync serves all of them. The lock is
 // held before and after.
 func (book *Book) gather() {
-	patience := book.lastSync / gatherPart
-	if patience < leastGather || book.lastTurns <= len(book.waiting) {
+	patience := book.patience()
+	if patience == 0 || book.lastParties <= len(book.waiting) {
 		return
 	}
 	gathered := make(chan struct{})
@@ -164,10 +196,11 @@ func (book *Book) gather() {
 	book.gathered = nil
 }
 
-// handOn lets the first of those who wait lead.
-func (book *Book) handOn() {
+// handOn lets the first of those who wait lead. The list of those who were served is used again.
+func (book *Book) handOn(served []*Party) {
 	book.lock.Lock()
 	defer book.lock.Unlock()
+	book.spare = served
 	book.led = len(book.waiting) > 0
 	if book.led {
 		book.waiting[0].woken <- true

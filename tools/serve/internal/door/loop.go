@@ -1,0 +1,360 @@
+package door
+
+import (
+	"bytes"
+	"net"
+	"sync"
+	"syscall"
+	"time"
+	"unsafe"
+
+	"faultyard-serve/internal/book"
+)
+
+const (
+	// mostLine is how many bytes a line has at most, without its line feed.
+	mostLine = 65_536
+	// mostInput is how much of a client's input is held: what the guard finds too long at least.
+	mostInput = mostLine + 2
+	// firstInput is how much of it is held at first.
+	firstInput = 4096
+	// mostAtOnce is how many lines of one client one turn takes.
+	mostAtOnce = 1024
+	// enoughOutput is how much output of one client is made before the others are served.
+	enoughOutput = 1 << 16
+	// mostLoops is how many share the clients: while one syncs, the others read and answer.
+	mostLoops = 4
+	pollIn    = 1 // POLLIN of poll(2)
+)
+
+// tooLong is a line that the guard finds too long. It stands for one that isn't held.
+var tooLong = bytes.Repeat([]byte("x"), mostLine+1)
+
+// loop serves its share of a socket's clients by one thread, which waits for all of them at once. A
+// goroutine for each client would cost another change of threads for each line.
+type loop struct {
+	lines   *Lines
+	poll    int // the descriptor of epoll
+	lock    sync.Mutex
+	clients map[int]*client
+	// again are clients that have something to do without an event. lastReady is how many clients
+	// the last batch served.
+	again, ready []*client
+	lastReady    int
+	party        *book.Party
+	// looked and served are lists that are used again.
+	looked, served []*client
+}
+
+// client is one who is connected.
+type client struct {
+	descriptor int
+	input      []byte
+	from       int    // how much of the input was taken
+	output     []byte // what the client hasn't read yet
+	number     int    // of the next line, from 1
+	next, to   int    // the entries that are still to be told
+	turn       *book.Turn
+	skips      bool // the rest of a line that is too long is passed over
+	ends       bool // no more input comes
+	isReady    bool // it is in the batch that is gathered
+	isFull     bool // it has to read before more is done for it
+	failed     error
+}
+
+// newLoop is a loop without clients.
+func newLoop(lines *Lines) (*loop, error) {
+	poll, err := syscall.EpollCreate1(syscall.EPOLL_CLOEXEC)
+	if err != nil {
+		return nil, err
+	}
+	return &loop{
+		lines: lines, poll: poll, clients: map[int]*client{}, party: book.NewParty(),
+	}, nil
+}
+
+// add takes in a client, to whom the header was sent.
+func (its *loop) add(connection net.Conn) error {
+	descriptor, err := taken(connection)
+	if err != nil {
+		return err
+	}
+	client := &client{descriptor: descriptor, number: 1, turn: book.NewTurn()}
+	client.input = make([]byte, 0, firstInput)
+	its.lock.Lock()
+	its.clients[descriptor] = client
+	its.lock.Unlock()
+	event := syscall.EpollEvent{Events: syscall.EPOLLIN, Fd: int32(descriptor)}
+	err = syscall.EpollCtl(its.poll, syscall.EPOLL_CTL_ADD, descriptor, &event)
+	if err != nil {
+		its.forget(client)
+	}
+	return err
+}
+
+// taken is the descriptor of a connection, out of the runtime's hands.
+func taken(connection net.Conn) (descriptor int, err error) {
+	defer connection.Close()
+	raw, err := connection.(syscall.Conn).SyscallConn()
+	if err != nil {
+		return 0, err
+	}
+	var number syscall.Errno
+	var copied uintptr
+	err = raw.Control(func(descriptor uintptr) {
+		copied, _, number = syscall.Syscall(
+			syscall.SYS_FCNTL, descriptor, syscall.F_DUPFD_CLOEXEC, 0)
+	})
+	if err == nil && number != 0 {
+		err = number
+	}
+	return int(copied), err
+}
+
+// run serves until epoll fails, which it never does.
+func (its *loop) run() error {
+	for {
+		patience := -1
+		if len(its.again) > 0 {
+			patience = 0
+		}
+		if err := its.collect(patience); err != nil {
+			return err
+		}
+		its.gather()
+		its.serve()
+	}
+}
+
+// collect waits for events, and reads what came.
+func (its *loop) collect(milliseconds int) error {
+	var events [128]syscall.EpollEvent
+	count, err := syscall.EpollWait(its.poll, events[:], milliseconds)
+	if err != nil && err != syscall.EINTR {
+		return err
+	}
+	again := its.again
+	its.again, its.looked = its.looked[:0], again
+	for _, client := range again {
+		its.look(client)
+	}
+	for at := 0; at < count; at++ {
+		its.lock.Lock()
+		client := its.clients[int(events[at].Fd)]
+		its.lock.Unlock()
+		switch {
+		case client == nil, client.isReady: // It was let go just now, or its turn comes first.
+		case client.isFull:
+			its.finish(client)
+		default:
+			client.fill()
+			its.look(client)
+		}
+	}
+	return nil
+}
+
+// look puts a client into the batch where it has something to ask, and ends it where it ended.
+func (its *loop) look(client *client) {
+	if client.isReady || client.isFull {
+		return
+	}
+	if client.next < client.to || client.failed == nil && client.take() {
+		client.isReady = true
+		its.ready = append(its.ready, client)
+	} else if client.ends || client.failed != nil {
+		its.remove(client)
+	}
+}
+
+// gather waits for as many clients as the last batch served, as a book does for those who ask it:
+// one sync serves all of them.
+func (its *loop) gather() {
+	patience := its.lines.Book.Patience()
+	if patience == 0 || len(its.ready) == 0 {
+		return
+	}
+	until := time.Now().Add(patience)
+	for len(its.ready) < its.lastReady {
+		left, before := time.Until(until), len(its.ready)
+		if left <= 0 || !isReadable(its.poll, left) || its.collect(0) != nil {
+			return
+		}
+		if len(its.ready) == before {
+			return // Those who say more before they are answered are no reason to wait.
+		}
+	}
+}
+
+// isReadable waits until a descriptor has something to read, for so long at most.
+func isReadable(descriptor int, patience time.Duration) bool {
+	asked := struct {
+		descriptor   int32
+		events, told int16
+	}{int32(descriptor), pollIn, 0}
+	limit := syscall.NsecToTimespec(int64(patience))
+	ready, _, _ := syscall.Syscall6(syscall.SYS_PPOLL,
+		uintptr(unsafe.Pointer(&asked)), 1, uintptr(unsafe.Pointer(&limit)), 0, 0, 0)
+	return ready == 1
+}
+
+// serve answers the batch.
+func (its *loop) serve() {
+	if len(its.ready) == 0 {
+		return
+	}
+	ready := its.ready
+	its.ready, its.served, its.lastReady = its.served[:0], ready, len(ready)
+	its.party.Turns = its.party.Turns[:0]
+	for _, client := range ready {
+		if from, asked := readFrom(client.turn); asked {
+			client.number++
+			client.next, client.to = from, its.lines.Book.Stats().Entries
+			client.output, client.next = appendRange(client.output, from, client.to)
+			client.turn.Asks = client.turn.Asks[:0]
+		} else if len(client.turn.Asks) > 0 {
+			its.party.Turns = append(its.party.Turns, client.turn)
+		}
+	}
+	if len(its.party.Turns) > 0 {
+		its.lines.Book.SubmitAll(its.party)
+	}
+	for _, client := range ready {
+		client.isReady = false
+		its.answer(client)
+	}
+}
+
+// answer makes the output of a client, and sends it.
+func (its *loop) answer(client *client) {
+	if len(client.turn.Asks) > 0 {
+		client.output, client.failed =
+			appendAnswers(client.output, client.turn.Answers, client.number)
+		client.number += len(client.turn.Asks)
+		client.turn.Asks = client.turn.Asks[:0]
+	}
+	for client.next < client.to && len(client.output) < enoughOutput && client.failed == nil {
+		line, err := its.lines.Book.Entry(client.next)
+		client.output, client.failed = append(client.output, line...), err
+		client.next++
+	}
+	its.finish(client)
+}
+
+// finish sends what there is to send, and sees to it that the client is looked at again.
+func (its *loop) finish(client *client) {
+	sent, err := 0, error(nil)
+	if len(client.output) > 0 {
+		sent, err = syscall.Write(client.descriptor, client.output)
+	}
+	if err == syscall.EAGAIN || err == syscall.EINTR {
+		sent, err = 0, nil
+	}
+	if err != nil {
+		its.remove(client)
+		return
+	}
+	left := copy(client.output, client.output[sent:])
+	client.output = client.output[:left]
+	if isFull := left > 0; isFull != client.isFull {
+		client.isFull = isFull
+		event := syscall.EpollEvent{Events: syscall.EPOLLIN, Fd: int32(client.descriptor)}
+		if isFull {
+			event.Events = syscall.EPOLLOUT
+		}
+		_ = syscall.EpollCtl(its.poll, syscall.EPOLL_CTL_MOD, client.descriptor, &event)
+	}
+	if !client.isFull && client.isBusy() {
+		its.again = append(its.again, client)
+	}
+}
+
+// isBusy says whether there is something to do for a client before it says more.
+func (its *client) isBusy() bool {
+	return its.ends || its.failed != nil || its.next < its.to ||
+		bytes.IndexByte(its.input[its.from:], '\n') >= 0
+}
+
+// remove lets a client go.
+func (its *loop) remove(client *client) {
+	its.forget(client)
+	its.lines.count.Add(-1)
+}
+
+func (its *loop) forget(client *client) {
+	its.lock.Lock()
+	delete(its.clients, client.descriptor)
+	its.lock.Unlock()
+	_ = syscall.Close(client.descriptor)
+}
+
+// fill reads what is there.
+func (its *client) fill() {
+	if its.from > 0 {
+		its.input = its.input[:copy(its.input, its.input[its.from:])]
+		its.from = 0
+	}
+	if length := len(its.input); length == cap(its.input) && length < mostInput {
+		more := 2 * length
+		if more > mostInput {
+			more = mostInput
+		}
+		its.input = append(make([]byte, 0, more), its.input...)
+	}
+	read, err := syscall.Read(its.descriptor, its.input[len(its.input):cap(its.input)])
+	switch {
+	case err == syscall.EAGAIN, err == syscall.EINTR:
+	case err != nil:
+		its.failed = err
+	case read == 0 && len(its.input) < cap(its.input):
+		its.ends = true
+	default:
+		its.input = its.input[:len(its.input)+read]
+	}
+}
+
+// take takes lines of the input into the turn. It says whether there is any. A line that asks for
+// entries stands alone in its turn.
+func (its *client) take() bool {
+	its.turn.Asks = its.turn.Asks[:0]
+	for len(its.turn.Asks) < mostAtOnce {
+		line := its.line()
+		if line == nil || isRead(line) && len(its.turn.Asks) > 0 {
+			break
+		}
+		if its.skips {
+			line, its.skips = tooLong, false
+		} else {
+			its.from += len(line)
+		}
+		its.turn.Asks = append(its.turn.Asks, book.Ask{Line: line})
+		if isRead(line) {
+			break
+		}
+	}
+	return len(its.turn.Asks) > 0
+}
+
+// line is the next line that is whole, or nil. What is left of a line that is too long is passed
+// over.
+func (its *client) line() []byte {
+	rest := its.input[its.from:]
+	end := bytes.IndexByte(rest, '\n') + 1
+	isWhole := end > 0 || its.ends && (len(rest) > 0 || its.skips)
+	if end == 0 {
+		end = len(rest)
+	}
+	switch {
+	case its.skips:
+		its.from += end
+		if isWhole {
+			return tooLong
+		}
+	case isWhole:
+		return rest[:end]
+	case len(rest) == mostInput:
+		its.skips = true
+		its.from += end
+	}
+	return nil
+}
