@@ -183,6 +183,15 @@ def checked(config: Path, file: Path) -> tuple[int, str]:
     return ran.returncode, (ran.stdout + ran.stderr).strip()
 
 
+def certificate(folder: Path) -> tuple[str, str]:
+    """The files of a certificate of 127.0.0.1 that nobody has signed, and of its key."""
+    source = run("go", "env", "GOROOT").stdout.strip() + "/src/crypto/tls/generate_cert.go"
+    made = run("go", "run", source, "-host", "127.0.0.1", cwd=folder, env=go_environment())
+    if made.returncode:
+        raise AssertionError(made.stderr)
+    return str(folder / "cert.pem"), str(folder / "key.pem")
+
+
 def free_port() -> int:
     with socket.socket() as found:
         found.bind(("127.0.0.1", 0))

@@ -13,7 +13,7 @@ import xml.etree.ElementTree
 
 import common
 from common_serve import HEADER, PATIENCE, PROGRAM, REQUESTS
-from common_serve import Case, go_environment, kill, run, up
+from common_serve import Case, certificate, kill, run, up
 
 
 class Answers(Case):
@@ -165,12 +165,7 @@ class Doors(Case):
         self.assertFalse((self.folder / "audit").exists())
 
     def test_tls(self):
-        source = run("go", "env", "GOROOT").stdout.strip() + "/src/crypto/tls/generate_cert.go"
-        made = run(
-            "go", "run", source, "-host", "127.0.0.1", cwd=self.folder, env=go_environment()
-        )
-        self.assertEqual(made.returncode, 0, made.stderr)
-        files = [str(self.folder / it) for it in ("cert.pem", "key.pem")]
+        files = certificate(self.folder)
         server = self.server("--tls-cert", files[0], "--tls-key", files[1]).start()
         context = ssl.create_default_context(cafile=files[0])
         connection = http.client.HTTPSConnection(server.address, timeout=PATIENCE, context=context)

@@ -5,6 +5,7 @@ from __future__ import annotations
 import http.client
 import json
 import socket
+import ssl
 import time
 import uuid
 from abc import ABC, abstractmethod
@@ -210,6 +211,10 @@ class _Web(_Door):
             self._connection.request(method, path, body, named)
             answer = self._connection.getresponse()
             text = answer.read()
+        except ssl.SSLCertVerificationError as fault:
+            # Asked again, it would have the same certificate.
+            why = f"{fault.verify_message}; SSL_CERT_FILE names what is trusted"
+            raise ProtocolError(f"{method} {path}: {why}") from None
         except (OSError, http.client.HTTPException) as fault:
             raise Gone(str(fault)) from None
         if answer.status == 200:
