@@ -1,9 +1,9 @@
 -- What became of a write, read off the steps after it. The rules say the same by the fates of
--- writes (proofs/Places).
-use Rattle.std.specs.Prelude.{ℕ, ◌+◌, Bool, ◌&&◌, not, List, [], ◌∷◌, ◌++◌, find, None, is_some, is_none, option_to_list, if◌then◌else◌}
+-- writes.
+use Rattle.std.specs.Prelude.{◌≡◌, ℕ, ◌+◌, Bool, ◌&&◌, not, List, [], ◌∷◌, ◌++◌, find, None, is_some, is_none, option_to_list, if◌then◌else◌}
 use Rattle.std.specs.List.{list_any}
 use Rattle.fy_disk.specs.declared.item.Item.{Item}
-use Rattle.fy_cluster.specs.History.{History, Step, some_is, destroys, closes, close_keeps, writes, written_item}
+use Rattle.fy_cluster.specs.History.{History, Step, some_is, destroys, closes, close_keeps, writes, written_item, synced, unsynced}
 
 -- how many writes to the process there were since the last entry that closes
 abbrev pub place : History → ℕ → ℕ
@@ -26,3 +26,11 @@ written p passes later [] = []
 written p passes later (m ∷ h) =
     written p passes (m ∷ later) h
     ++ option_to_list (if passes later (place h p) then written_item h (writes m p) else None)
+
+-- what is synced are the writes that are kept
+abbrev pub SyncedByPlace : Type 0
+SyncedByPlace = (h : History) (p : ℕ) → synced h p ≡ written p (is_kept p) [] h
+
+-- what isn't are those that no entry closed
+abbrev pub UnsyncedByPlace : Type 0
+UnsyncedByPlace = (h : History) (p : ℕ) → unsynced h p ≡ written p (is_open p) [] h

@@ -9,6 +9,7 @@
 //! - `doing`: what an entry did.
 //! - `strikes`, `writes`, `teams`, `marks`, `needs`, `network`, `clock`, `rights`: what the entries
 //!   before say. What one entry did is `fy_cluster::effects`.
+//! - `laws`: what is synced, by the places of entries.
 //!
 //! A private function that answers a `Result` fails in one way: with `AllocError`, where there is
 //! no memory for a list that it reads off.
@@ -18,6 +19,7 @@ mod asked;
 mod checking;
 mod clock;
 mod doing;
+pub mod laws;
 mod marks;
 mod needs;
 mod network;
