@@ -167,6 +167,7 @@ bench: build lib
 	bench/run.py bin/faultyard $(BESIDE)
 	bench/check.py bin/faultyard $(BESIDE)
 	bench/check.py --largest --rounds 1 bin/faultyard $(BESIDE)
+	bench/cycles.py bin/faultyard $(BESIDE)
 	bench/swarm.py bin/faultyard $(BESIDE)
 	bench/guard.py bin/faultyard
 	-bench/growth --all --states 1000 bin/faultyard

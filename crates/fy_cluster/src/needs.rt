@@ -25,10 +25,7 @@ impl Machine {
     fn is_member_of(&self, p: ProcId, team: u32) -> bool
         ensures { result ≡ is_in_team_on self.now p.0 team }
     {
-        match self.teams.members(team) {
-            Some(members) => members.has(p),
-            None => false,
-        }
+        self.teams.is_member(team, p)
     }
 
     /// Of these records, the first acknowledged one that a process hasn't synced.

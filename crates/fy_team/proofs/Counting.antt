@@ -22,7 +22,7 @@ flag_number true = refl
 flag_number false = refl
 
 -- with one more member before the others
-missing_more : (marks : sets.FinSet nat_cmp) (q : ProcId) (ps : List ProcId) (b : Bool) → sets.contains marks q.0 ≡ b
+pub missing_more : (marks : sets.FinSet nat_cmp) (q : ProcId) (ps : List ProcId) (b : Bool) → sets.contains marks q.0 ≡ b
     → missing_among marks (q ∷ ps) ≡ cond b 0 1 + missing_among marks ps
 missing_more marks q ps b is =
     ap (λ c. length (cond (not c) (q ∷ rest) rest)) is ∙ go b

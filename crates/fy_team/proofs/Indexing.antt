@@ -67,6 +67,29 @@ places_within at t (n ∷ ns) = go (eqb n t) (All-weaker (λ r. r < at + 1 + len
     go true later = All-cons (λ r. r < at + suc (length ns)) at (places_from (at + 1) t ns) (omega arith) later
     go false later = later
 
+-- nor before the first
+places_from_first : (at t : ℕ) (ns : List ℕ) → All (λ r. at ≤ r) (places_from at t ns)
+places_from_first at t [] = All-nil (λ r. at ≤ r)
+places_from_first at t (n ∷ ns) = go (eqb n t) (All-weaker (λ r. at + 1 ≤ r) (λ r. at ≤ r) (λ r le. omega arith) (places_from (at + 1) t ns) (places_from_first (at + 1) t ns))
+  where
+    go : (b : Bool) → All (λ r. at ≤ r) (places_from (at + 1) t ns) → All (λ r. at ≤ r) (cond b (at ∷ places_from (at + 1) t ns) (places_from (at + 1) t ns))
+    go true later = All-cons (λ r. at ≤ r) at (places_from (at + 1) t ns) (omega arith) later
+    go false later = later
+
+-- each place stands once
+pub places_apart : (at t : ℕ) (ns : List ℕ) (k : ℕ) → k < length (places_from at t ns) → list_any (λ n. eqb n (get_or (places_from at t ns) k 0)) (take k (places_from at t ns)) ≡ false
+places_apart at t [] k within = absurd (omega arith)
+places_apart at t (n ∷ ns) k within = go (λ j less. places_apart (at + 1) t ns j less) (eqb n t) k within
+  where
+    go : ((j : ℕ) → j < length (places_from (at + 1) t ns) → list_any (λ n. eqb n (get_or (places_from (at + 1) t ns) j 0)) (take j (places_from (at + 1) t ns)) ≡ false) → (b : Bool) (k : ℕ) → k < length (cond b (at ∷ places_from (at + 1) t ns) (places_from (at + 1) t ns))
+        → list_any (λ n. eqb n (get_or (cond b (at ∷ places_from (at + 1) t ns) (places_from (at + 1) t ns)) k 0)) (take k (cond b (at ∷ places_from (at + 1) t ns) (places_from (at + 1) t ns))) ≡ false
+    go later true zero within = refl
+    go later true (suc j) within =
+        let above : at + 1 ≤ get_or (places_from (at + 1) t ns) j 0 = places_from_first (at + 1) t ns j 0 (omega arith) in
+        ap (λ b. b || list_any (λ n. eqb n (get_or (places_from (at + 1) t ns) j 0)) (take j (places_from (at + 1) t ns))) (let e : eqb at (get_or (places_from (at + 1) t ns) j 0) ≡ false = grind (arith, nat_tests) in e)
+        ∙ later j (omega arith)
+    go later false j within = later j within
+
 -- a record's number is listed for its team, and for no other
 abbrev pub teams_of : List Counted → List ℕ
 teams_of records = map (λ it. it.team) (map held records)

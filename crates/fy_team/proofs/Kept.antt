@@ -2,19 +2,22 @@
 use Rattle.std.proofs.Common.{◌≡◌, ◌≢◌, ℕ, zero, suc, ◌+◌, ◌*◌, ◌<◌, ◌≤◌, Bool, true, false, true≢false, cond, ◌&&◌, ◌||◌, not, eqb, leb, ltb, List, [], ◌∷◌, ◌++◌, length, length-append, map, get_or, set, refl, sym, ap, subst, ◌∙◌, arith, inl, inr}
 use mathlib.Core.Logic.{◌⊎◌}
 use Rattle.std.specs.Prelude.{Option, Some, None, option_map, slice_get}
-use Rattle.std.specs.List.{All}
+use Rattle.std.specs.List.{All, list_any}
+use Rattle.std.specs.Option.{option_map_or}
 use Rattle.std.specs.Ordering.{nat_cmp}
 use Rattle.std.specs.FinSet as sets
 use Rattle.std.proofs.lemmas.Bool.Decides.{nat_tests}
 use Rattle.std.proofs.lemmas.List.{length-map, length-set, map-append, map-set, get_or-map, get_or-set_same, get_or-set_other, get_or_default, set-get_or}
 use Rattle.std.proofs.lemmas.List.Elements.{All-weaker}
-use Rattle.std.proofs.lemmas.Option.{none-some, same_Some, slice_get-map, slice_get-get_or}
-use Rattle.fy_team.specs.Teams.{Team, Record, places_from, records_of, unmarked, healed_record}
+use Rattle.std.proofs.lemmas.Option.{slice_get_within, none-some, same_Some, slice_get-map, slice_get-get_or}
+use Rattle.fy_team.specs.Teams.{Team, Record, is_among, with_member, places_from, records_of, unmarked, healed_record}
 use Rattle.fy_team.specs.Counts.{Counted, TeamsInvariant, roster_of}
-use Rattle.fy_team.specs.Index.{MarksSeen, TeamsKept, set_of_block, HealedWithin}
+use Rattle.fy_locality.specs.declared.ProcId.{ProcId}
+use Rattle.fy_team.specs.Index.{SetsRight, MarksSeen, TeamsKept, set_of_block, HealedWithin}
 use Rattle.fy_team.specs.declared.blocks.TheConstants.{BLOCK}
 use Rattle.fy_team.proofs.Marking.{slice_get-set, same_number, healed_record-team}
 use Rattle.fy_team.proofs.Counting.{remove_absent, has_inserted, has_removed}
+use Rattle.fy_team.proofs.Swapping.{among-swapped}
 use Rattle.fy_team.proofs.Keeping.{held}
 use Rattle.fy_team.proofs.Indexing.{places_push, places_within, teams_of}
 
@@ -309,3 +312,61 @@ MarksSeen-healed was now marked block p s there value count healed before = reco
             outside b c r low high other false e u f = refl
             outside b c r low high other true e false f = refl
             outside b c r low high other true e true f = absurd (other (same_block b c r low high (grind (arith, nat_tests)) (grind (arith, nat_tests))))
+
+-- ---- the members of each team as a set
+
+abbrev pub member_of : List Team → ℕ → ℕ → Bool
+member_of teams team p = option_map_or (λ members. is_among members p) (option_map (λ (it : Team). it.members) (slice_get teams team)) false
+
+pub SetsRight-none : SetsRight [] []
+SetsRight-none = record { count = refl; each = λ team p. sets.contains-empty nat_cmp p }
+
+each_formed : (teams : List Team) (members : Sets) (team : Team) (s : sets.FinSet nat_cmp) → ((q : ℕ) → sets.contains s q ≡ is_among team.members q) → length members ≡ length teams
+    → ((t p : ℕ) → sets.contains (get_or members t sets.empty) p ≡ member_of teams t p)
+    → (t p : ℕ) → sets.contains (get_or (members ++ s ∷ []) t sets.empty) p ≡ member_of (teams ++ team ∷ []) t p
+each_formed [] [] team s is count each zero p = is p
+each_formed [] [] team s is count each (suc t) p = sets.contains-empty nat_cmp p
+each_formed [] (x ∷ xs) team s is count each t p = absurd (omega arith)
+each_formed (y ∷ ys) [] team s is count each t p = absurd (omega arith)
+each_formed (y ∷ ys) (x ∷ xs) team s is count each zero p = each 0 p
+each_formed (y ∷ ys) (x ∷ xs) team s is count each (suc t) p = each_formed ys xs team s is (omega arith) (λ u q. each (suc u) q) t p
+
+pub SetsRight-formed : (teams : List Team) (members : Sets) (team : Team) (s : sets.FinSet nat_cmp) → ((q : ℕ) → sets.contains s q ≡ is_among team.members q) → SetsRight teams members → SetsRight (teams ++ team ∷ []) (members ++ s ∷ [])
+SetsRight-formed teams members team s is right = record {
+  count = omega (arith, right.count, length-append teams (team ∷ []), length-append members (s ∷ []));
+  each = each_formed teams members team s is right.count right.each;
+}
+
+-- what is read for a team has its members
+pub set_read : (teams : List Team) (members : Sets) (team : ℕ) (was : Team) (s : sets.FinSet nat_cmp) (q : ℕ) → slice_get teams team ≡ Some was → s ≡ get_or members team s → SetsRight teams members → sets.contains s q ≡ is_among was.members q
+set_read teams members team was s q there value right =
+    let lt : team < length members = omega (arith, right.count, slice_get_within teams team was there) in
+    ap (λ z. sets.contains z q) (value ∙ get_or_default members team s sets.empty lt)
+    ∙ right.each team q
+    ∙ ap (λ found. option_map_or (λ ms. is_among ms q) (option_map (λ (it : Team). it.members) found) false) there
+
+pub SetsRight-replaced : (teams : List Team) (members : Sets) (team : ℕ) (out into : ProcId) (was : Team) (s new : sets.FinSet nat_cmp) → slice_get teams team ≡ Some was → s ≡ get_or members team s
+    → ((q : ℕ) → sets.contains new q ≡ (eqb q into.0 || (not (eqb q out.0) && sets.contains s q))) → SetsRight teams members → SetsRight (set teams team (with_member out into was)) (set members team new)
+SetsRight-replaced teams members team out into was s new there value swaps right = record {
+  count = length-set members team new ∙ right.count ∙ sym (length-set teams team (with_member out into was));
+  each = λ t p. go t p (eqb t team) refl;
+}
+  where
+    lt : team < length members
+    lt = omega (arith, right.count, slice_get_within teams team was there)
+
+    shown : (t : ℕ) → slice_get (set teams team (with_member out into was)) t ≡ cond (eqb t team) (Some (with_member out into was)) (slice_get teams t)
+    shown t = slice_get-set teams team t (with_member out into was) (slice_get_within teams team was there)
+
+    go : (t p : ℕ) (b : Bool) → eqb t team ≡ b → sets.contains (get_or (set members team new) t sets.empty) p ≡ member_of (set teams team (with_member out into was)) t p
+    go t p true e =
+        ap (λ n. sets.contains (get_or (set members team new) n sets.empty) p) (same_number t team e)
+        ∙ ap (λ z. sets.contains z p) (get_or-set_same members team new sets.empty lt)
+        ∙ swaps p
+        ∙ ap (λ b. eqb p into.0 || (not (eqb p out.0) && b)) (set_read teams members team was s p there value right)
+        ∙ sym (among-swapped out into was.members p)
+        ∙ ap (λ found. option_map_or (λ ms. is_among ms p) (option_map (λ (it : Team). it.members) found) false) (sym (shown t ∙ ap (λ b. cond b (Some (with_member out into was)) (slice_get teams t)) e))
+    go t p false e =
+        ap (λ z. sets.contains z p) (get_or-set_other members team t new sets.empty (let ne : t ≢ team = grind (arith, nat_tests) in ne))
+        ∙ right.each t p
+        ∙ ap (λ found. option_map_or (λ ms. is_among ms p) (option_map (λ (it : Team). it.members) found) false) (sym (shown t ∙ ap (λ b. cond b (Some (with_member out into was)) (slice_get teams t)) e))

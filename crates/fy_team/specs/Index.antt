@@ -4,7 +4,7 @@ use Rattle.std.specs.List.{list_any}
 use Rattle.std.specs.Ordering.{nat_cmp}
 use Rattle.std.specs.FinSet as sets
 use Rattle.fy_team.specs.declared.blocks.TheConstants.{BLOCK}
-use Rattle.fy_team.specs.Teams.{Team, Record, records_of, healed_record}
+use Rattle.fy_team.specs.Teams.{Team, Record, is_member, records_of, healed_record}
 use Rattle.fy_team.specs.Counts.{Counted, TeamsInvariant, roster_of}
 
 -- the set of a block of records: nobody if none was made
@@ -20,7 +20,7 @@ pub record MarksSeen (records : List Record) (marked : List (sets.FinSet nat_cmp
       slice_get records rec ≡ Some it → it.acked ≡ false → sets.contains it.marks p ≡ true →
       sets.contains (set_of_block marked block) p ≡ true
 
--- what always holds of the fields: they stand for a roster with right counts, each team has the
+-- the fields stand for a roster with right counts, each team has the
 -- numbers of its records, and each block the processes that have marks to lose in it
 pub record TeamsKept (teams : List Team) (records : List Counted) (numbers : List (List ℕ))
     (marked : List (sets.FinSet nat_cmp)) : Type 0 where
@@ -28,6 +28,18 @@ pub record TeamsKept (teams : List Team) (records : List Counted) (numbers : Lis
   pub lists : length teams ≤ length numbers
   pub each : (team : ℕ) → get_or numbers team [] ≡ records_of (roster_of teams records) team
   pub blocks : MarksSeen (map (λ it. it.held) records) marked
+
+-- each team has the set of its members
+pub record SetsRight (teams : List Team) (members : List (sets.FinSet nat_cmp)) : Type 0 where
+  pub count : length members ≡ length teams
+  pub each : (team p : ℕ) → sets.contains (get_or members team sets.empty) p
+      ≡ is_member (roster_of teams []) team p
+
+-- what always holds of the fields
+pub record TeamsHeld (teams : List Team) (records : List Counted) (numbers : List (List ℕ))
+    (marked members : List (sets.FinSet nat_cmp)) : Type 0 where
+  pub kept : TeamsKept teams records numbers marked
+  pub member_sets : SetsRight teams members
 
 -- the records with these numbers are changed, and no others
 abbrev pub ChangedAmong : List ℕ → (Counted → Counted) → List Counted → List Counted → Type 0

@@ -90,6 +90,10 @@ with_team members policy roster =
 abbrev pub members_in : Roster → ℕ → Option (List ProcId)
 members_in roster team = option_map (λ it. it.members) (slice_get roster.teams team)
 
+-- whether there is such a team and process p is a member
+abbrev pub is_member : Roster → ℕ → ℕ → Bool
+is_member roster team p = option_map_or (λ members. is_among members p) (members_in roster team) false
+
 -- the number of the policy that the team with a number names
 abbrev pub policy_in : Roster → ℕ → Option ℕ
 policy_in roster team = option_map (λ it. it.policy) (slice_get roster.teams team)

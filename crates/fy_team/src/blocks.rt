@@ -8,7 +8,7 @@ use fy_locality::ProcSet;
 use std::alloc::AllocError;
 
 /// How many records are in a block.
-pub(crate) const BLOCK: usize = 64;
+pub(crate) const BLOCK: usize = 256;
 
 /// Makes a set for the block of the next record, if it isn't there yet.
 ///

@@ -1,5 +1,5 @@
 //! Whether a team may be formed.
-ghost use Rattle.std.specs.Prelude.{◌≡◌, ◌≤◌, ℕ, false, nat_le, length, slice_get, Some};
+ghost use Rattle.std.specs.Prelude.{◌≡◌, ◌<◌, ◌≤◌, ◌==◌, ◌||◌, ◌&&◌, not, ℕ, true, false, nat_le, length, slice_get, Some};
 ghost use Rattle.std.specs.List.{list_any};
 ghost use Rattle.std.specs.FinSet as sets;
 ghost use Rattle.fy_team.specs.Teams.{is_among, unfit};
@@ -40,6 +40,29 @@ fn unfit_for(map: &Map, need: &Policy, gone: &ProcSet, team: &KeptTeam) -> Optio
         return Some(TeamFault::TeamShort { policy });
     }
     None
+}
+
+/// The members of a team, which are processes of the map, as a set.
+pub(crate) fn set_of_fit(map: &Map, team: &KeptTeam) -> ProcSet
+    requires { list_any (λ p. nat_le (length map.now) p.0) team.now.members ≡ false }
+    ensures { (q : ℕ) → sets.contains result q ≡ is_among team.now.members q }
+{
+    let members = team.members.as_slice();
+    let _known = has_unknown_process(map, members);
+    set_of(members)
+}
+
+/// Puts a process of the map into a set in the place of one that is there.
+pub(crate) fn swap_in(set: &mut ProcSet, map: &Map, out: ProcId, into: ProcId)
+    requires out { sets.contains set.old out.0 ≡ true }
+    requires into { into.0 < length map.now }
+    ensures { (q : ℕ) → sets.contains set.new q
+        ≡ (q == into.0 || (not (q == out.0) && sets.contains set.old q)) }
+{
+    set.invariant();
+    let _few = map.len();
+    set.drop_one(out);
+    set.put(into);
 }
 
 /// Whether some member is no process of the map.

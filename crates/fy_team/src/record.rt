@@ -1,8 +1,8 @@
 //! A record as it is kept, with how many members have not marked it.
-ghost use Rattle.std.specs.Prelude.{◌≡◌, ◌<◌, ◌&&◌, ◌||◌, not};
+ghost use Rattle.std.specs.Prelude.{◌≡◌, ◌<◌, ◌&&◌, ◌||◌, not, false};
 ghost use Rattle.std.specs.FinSet as sets;
 ghost use Rattle.fy_team.specs.Teams.{unmarked, all_marked, healed_record, is_among};
-ghost use Rattle.fy_team.specs.Counts.{CountsMissing, missing_among, recounted};
+ghost use Rattle.fy_team.specs.Counts.{CountsMissing, WasMissing, missing_among, recounted};
 
 use crate::Members;
 use fy_disk::Payload;
@@ -115,12 +115,13 @@ impl KeptRecord {
     }
 
     /// Counts the missing marks anew if it is of the team with this number, which now has these
-    /// members, and isn't acknowledged.
-    pub(crate) fn recount(&mut self, team: u32, members: &Members)
+    /// members, and isn't acknowledged. A process has come for one that was a member.
+    pub(crate) fn recount(&mut self, team: u32, out: ProcId, into: ProcId, members: &Members)
+        requires { self.old.held.team ≡ team → WasMissing out into members.now self.old }
         ensures { self.new ≡ recounted team members.now self.old }
     {
         if self.team == team && !self.acked {
-            self.missing = self.missing_among(members);
+            self.missing = self.missing_after(out, into, members);
         }
     }
 
@@ -146,11 +147,21 @@ impl KeptRecord {
         !self.has_mark(p) && members.has(p)
     }
 
-    /// How many of the members haven't marked it.
-    fn missing_among(&self, members: &Members) -> usize
+    /// How many of these members haven't marked it, once a process has come for one that was a
+    /// member. None of them is asked.
+    fn missing_after(&self, out: ProcId, into: ProcId, members: &Members) -> usize
+        requires right { WasMissing out into members.now self.now }
+        requires unacked { self.now.held.acked ≡ false }
         ensures { result ≡ missing_among self.now.held.marks members.now }
     {
-        let members = members.as_slice();
-        members.iter().filter(|p| !self.has_mark(**p)).count()
+        members.invariant();
+        self.missing + usize::from(self.lacks(into)) - usize::from(self.lacks(out))
+    }
+
+    /// Whether a process hasn't marked it.
+    fn lacks(&self, p: ProcId) -> bool
+        ensures { result ≡ not (sets.contains self.now.held.marks p.0) }
+    {
+        !self.has_mark(p)
     }
 }

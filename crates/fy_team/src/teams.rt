@@ -1,15 +1,15 @@
 //! The teams and their records.
-ghost use Rattle.std.specs.Prelude.{◌≡◌, ◌<◌, ◌≤◌, ◌+◌, ◌*◌, Some, None, length, map, option_map, slice_get, IfOk, IfErr, IsOk, OnOk, OnErr};
+ghost use Rattle.std.specs.Prelude.{◌≡◌, ◌==◌, ℕ, false, slice_index, take, ◌<◌, ◌≤◌, ◌+◌, ◌*◌, Some, None, length, map, option_map, slice_get, IfOk, IfErr, IsOk, OnOk, OnErr};
 ghost use Rattle.std.specs.Option.{option_copied};
-ghost use Rattle.fy_team.specs.Teams.{no_teams, IsFormed, AreFormed, unfit, form_refusal, with_team, team_number, members_in, policy_in, payload_in, begin_refusal, with_record, marked_by, is_marked, is_acked, replaced, MayReplace, healed, records_of, IsRoster};
-ghost use Rattle.std.specs.List.{All};
-ghost use Rattle.fy_team.specs.Counts.{recounted, TeamsInvariant};
+ghost use Rattle.fy_team.specs.Teams.{no_teams, IsFormed, AreFormed, unfit, form_refusal, with_team, team_number, members_in, is_member, policy_in, payload_in, begin_refusal, with_record, marked_by, is_marked, is_acked, replaced, MayReplace, healed, records_of, IsRoster};
+ghost use Rattle.std.specs.List.{All, list_any};
+ghost use Rattle.fy_team.specs.Counts.{recounted, TeamsInvariant, WasMissing};
 ghost use Rattle.fy_team.specs.Index.{ChangedAmong, HealedWithin, MarksSeen};
 ghost use Rattle.fy_team.specs.declared.fault.TeamFault.{TeamFault};
 ghost use Rattle.fy_team.specs.declared.fault.TeamFault.TheVariants.{NoMemory};
 
 use crate::blocks::{BLOCK, open_block};
-use crate::forming::unfit;
+use crate::forming::{set_of_fit, swap_in, unfit};
 use crate::limits::{MOST_BYTES, MOST_RECORDS, MOST_TEAMS};
 use crate::numbers::Numbers;
 use crate::record::KeptRecord;
@@ -26,12 +26,14 @@ use std::marker::Model;
 ///
 /// `numbers` has for each team the numbers of its records, so that a replacement looks at no others.
 /// `marked` has for each block of records the processes that may have marked one that isn't
-/// acknowledged, so that a heal passes over the blocks that a process has no mark in.
+/// acknowledged, so that a heal passes over the blocks that a process has no mark in. `member_sets` has the
+/// members of each team as a set.
 pub struct Teams {
     teams: Vec<KeptTeam>,
     records: Vec<KeptRecord>,
     numbers: Vec<Numbers>,
     marked: Vec<ProcSet>,
+    member_sets: Vec<ProcSet>,
 }
 
 impl Model for Teams {
@@ -40,7 +42,7 @@ impl Model for Teams {
     ghost use Rattle.std.specs.Ordering.{nat_cmp};
     ghost use Rattle.fy_team.specs.Teams.{Roster};
     ghost use Rattle.fy_team.specs.Counts.{roster_of};
-    ghost use Rattle.fy_team.specs.Index.{TeamsKept};
+    ghost use Rattle.fy_team.specs.Index.{TeamsHeld};
 
     ghost Value = { Roster };
 
@@ -48,7 +50,8 @@ impl Model for Teams {
 
     ghost view = { λ t. roster_of t.teams.items t.records.items };
 
-    ghost invariant = { λ t. TeamsKept t.teams.items t.records.items t.numbers.items t.marked.items };
+    ghost invariant = { λ t. TeamsHeld t.teams.items t.records.items t.numbers.items t.marked.items
+        t.member_sets.items };
 }
 
 // Written out and not derived: see `Drop` in docs/DECISIONS.md.
@@ -59,6 +62,7 @@ impl Drop for Teams {
             records: _,
             numbers: _,
             marked: _,
+            member_sets: _,
         } = self;
     }
 }
@@ -73,6 +77,7 @@ impl Teams {
             records: Vec::new(alloc),
             numbers: Vec::new(alloc),
             marked: Vec::new(alloc),
+            member_sets: Vec::new(alloc),
         }
     }
 
@@ -114,9 +119,12 @@ impl Teams {
             return Err(fault);
         }
         let number = self.teams.len() as u32;
+        let set = set_of_fit(map, &team);
+        self.teams.reserve(1)?;
         let alloc = *self.numbers.allocator();
         self.numbers.push(Numbers::make(alloc))?;
-        self.teams.push(team)?;
+        self.member_sets.push(set)?;
+        self.teams.push_reserved(team);
         Ok(number)
     }
 
@@ -210,10 +218,11 @@ impl Teams {
         ensures kept { AreFormed map.now policies.now self.old.teams →
             AreFormed map.now policies.now self.new.teams }
     {
+        swap_in(&mut self.member_sets[team as usize], map, out, into);
         self.teams[team as usize].replace(out, into);
         let numbers = self.numbers[team as usize].as_slice();
         let members = &self.teams[team as usize].members;
-        recount(&mut self.records, numbers, team, members);
+        recount(&mut self.records, numbers, team, out, into, members);
     }
 
     /// Takes a process's mark off each record that isn't acknowledged. Takes no memory.
@@ -288,6 +297,16 @@ impl Teams {
         }
     }
 
+    /// Whether there is such a team and a process, of any number, is a member.
+    pub fn is_member(&self, team: u32, p: ProcId) -> bool
+        ensures { result ≡ is_member self.now team p.0 }
+    {
+        match self.member_sets.get(team as usize) {
+            Some(set) => set.contains(p),
+            None => false,
+        }
+    }
+
     /// The number of the policy that a team names, if there is such a team.
     pub fn policy_of(&self, team: u32) -> Option<u32>
         ensures { result ≡ policy_in self.now team }
@@ -316,14 +335,25 @@ impl Teams {
 }
 
 /// Counts the missing marks anew in each unacknowledged record of a team, which now has these
-/// members. The numbers are those of its records.
-fn recount(records: &mut Vec<KeptRecord>, numbers: &[u32], team: u32, members: &Members)
-    requires { All (λ rec. rec < length records.old.items) numbers.now }
+/// members. The numbers are those of its records, each once.
+fn recount(
+    records: &mut Vec<KeptRecord>,
+    numbers: &[u32],
+    team: u32,
+    out: ProcId,
+    into: ProcId,
+    members: &Members,
+)
+    requires room { All (λ rec. rec < length records.old.items) numbers.now }
+    requires apart { (k : ℕ) → k < length numbers.now →
+        list_any (λ n. n == slice_index numbers.now k) (take k numbers.now) ≡ false }
+    requires right { All (λ it. it.held.team ≡ team → WasMissing out into members.now it)
+        records.old.items }
     ensures { ChangedAmong numbers.now (recounted team members.now)
         records.old.items records.new.items }
 {
     for rec in numbers {
-        records[*rec as usize].recount(team, members);
+        records[*rec as usize].recount(team, out, into, members);
     }
 }
 

@@ -9,6 +9,7 @@ abbrev pub invariant-loop-block : goal.invariant-loop-block
 invariant-loop-block l = record {
   teams : l.self-inside.teams.items ≡ l.initial.self-inside.teams.items;
   numbers : l.self-inside.numbers.items ≡ l.initial.self-inside.numbers.items;
+  member_sets : l.self-inside.member_sets.items ≡ l.initial.self-inside.member_sets.items;
   counts : TeamsInvariant l.self-inside.teams.items l.self-inside.records.items;
   blocks : length l.self-inside.marked.items ≡ length l.initial.self-inside.marked.items;
   count : length l.self-inside.records.items ≡ length l.initial.self-inside.records.items;
