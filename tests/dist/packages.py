@@ -328,6 +328,18 @@ def archive_is_found_by_cmake() -> None:
     assert "of a later version: 0" in told, told
 
 
+def archive_has_a_unit_that_systemd_accepts() -> None:
+    """With the path of the archive's server. And what it may do is little."""
+    need("systemd-analyze")
+    unit, made = "faultyard-serve@.service", room() / "faultyard-serve@x.service"
+    text = (unpacked() / "lib/systemd/system" / unit).read_text()
+    assert text.count("ExecStart=faultyard-serve ") == 1, text
+    made.write_text(text.replace("ExecStart=", f"ExecStart={unpacked()}/bin/"))
+    assert said("systemd-analyze", "verify", "--man=no", made) == ""
+    # In tenths: 20 of 100 is what systemd calls OK, and 90 a unit without a limit.
+    said("systemd-analyze", "security", "--offline=true", "--no-pager", "--threshold=25", made)
+
+
 def archive_serves_cpp_and_go() -> None:
     need("c++", "go", "pkg-config")
     env = environment(PKG_CONFIG_PATH=str(unpacked() / "lib/pkgconfig"))
@@ -424,6 +436,7 @@ CHECKS = [
     archive_sweeps,
     archive_is_found_by_pkg_config,
     archive_is_found_by_cmake,
+    archive_has_a_unit_that_systemd_accepts,
     archive_serves_cpp_and_go,
     archive_builds_the_python_package,
     archive_builds_the_rust_crate,

@@ -26,6 +26,14 @@ def two(folder):
     return common.written(folder, "two.toml", dict(blocks(common.ROOT / "docs/GUARD.md"))["toml"])
 
 
+class TypesTest(unittest.TestCase):
+    def test_mypy_finds_nothing(self):
+        common.need("the types of the Python package", "mypy")
+        words = ["mypy", "--strict", "--cache-dir=/dev/null", "src/faultyard", "src/faultyard_hooks"]
+        ran = subprocess.run(words, cwd=PACKAGE, capture_output=True, text=True)
+        self.assertEqual(ran.returncode, 0, ran.stdout + ran.stderr)
+
+
 class PageTest(common.Folder, unittest.TestCase):
     def shown(self, page):
         """The first example of a page, and what it prints."""
