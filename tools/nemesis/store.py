@@ -124,6 +124,8 @@ class Store(Harness):
         self, processes: Sequence[int], emptied: bool, is_cut: bool = False
     ) -> None:
         """Ends them all at once, with the hooks that work for them, to be brought back."""
+        if is_cut:
+            self._freeze(processes)
         await cancelled([self._keeping[number] for number in processes])
         if is_cut:
             await self._cut(processes)
@@ -145,6 +147,13 @@ class Store(Harness):
             yield
         finally:
             self._keeping[number] = self.tasks.create_task(self._keep(number))
+
+    def _freeze(self, processes: Sequence[int]) -> None:
+        """Stops them before any ends, since a power cut leaves nobody the time for one more sync."""
+        for number in processes:
+            process = self._started.get(number)
+            if process and process.returncode is None:
+                signal_below(process.pid, signal.SIGSTOP)
 
     async def _cut(self, processes: Sequence[int]) -> None:
         """Cuts the power of their disks: what the order's tear doesn't keep is lost."""
