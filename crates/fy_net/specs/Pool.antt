@@ -122,6 +122,11 @@ pub record IsPool (pool : Pool) : Type 0 where
   pub chained : IsChained (length pool.slots.items) pool
   pub noted : (p : ℕ) → BusyIsRight pool p
 
+-- no more slots than twice the messages in flight and the chains, and one
+abbrev pub IsTidy : Pool → Type 0
+IsTidy pool = let n = length (there_of pool.slots.items) + vec_len pool.ends in
+    vec_len pool.slots ≤ n + n + 1
+
 -- there is memory for n more messages
 abbrev pub HasRoom : ℕ → Pool → Type 0
 HasRoom n pool =

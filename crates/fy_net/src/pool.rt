@@ -8,7 +8,7 @@ ghost use Rattle.fy_net.specs.Places.{may_be_taken};
 ghost use Rattle.fy_net.specs.Slots.{there_of, vacated, IsThereAt};
 ghost use Rattle.fy_net.specs.declared.pool.Pool.{Pool};
 ghost use Rattle.fy_net.specs.declared.slot.Slot.{Slot};
-ghost use Rattle.fy_net.specs.Pool.{chain_of, chain_at, is_there, with_link, lower_of, IsFirst, IsThereOnChain, IsReachedOf, IsFreeOf, AreLinked, IsChained, BusyIsRight, IsPool, HasRoom, KeepsRoom};
+ghost use Rattle.fy_net.specs.Pool.{chain_of, chain_at, is_there, with_link, lower_of, IsFirst, IsThereOnChain, IsReachedOf, IsFreeOf, AreLinked, IsChained, BusyIsRight, IsPool, IsTidy, HasRoom, KeepsRoom};
 
 use crate::message_list::clog_lasts;
 use crate::slot::{Slot, place_there};
@@ -103,6 +103,7 @@ impl Pool {
         requires { IsPool self.old }
         ensures pool { IsPool self.new }
         ensures same { there_of self.new.slots.items ≡ there_of self.old.slots.items }
+        ensures tidy { IsTidy self.new }
         ensures like { KeepsRoom self.old self.new }
         ensures ok { OnOk result (HasRoom count self.new) }
         ensures there { HasRoom count self.old → IsOk result }
@@ -118,6 +119,7 @@ impl Pool {
         requires { IsPool self.old }
         ensures pool { IsPool self.new }
         ensures same { there_of self.new.slots.items ≡ there_of self.old.slots.items }
+        ensures tidy { IsTidy self.new }
         ensures like { KeepsRoom self.old self.new }
     {
         if self.slots.len() / 2 <= self.there.max(self.ends.len()) {
@@ -131,6 +133,7 @@ impl Pool {
         requires { IsPool self.old }
         ensures pool { IsPool self.new }
         ensures same { there_of self.new.slots.items ≡ there_of self.old.slots.items }
+        ensures few { vec_len self.new.slots ≡ length (there_of self.new.slots.items) }
         ensures like { KeepsRoom self.old self.new }
     {
         self.slots.retain(|slot| slot.there);

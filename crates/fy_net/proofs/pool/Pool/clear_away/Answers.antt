@@ -5,6 +5,7 @@ use Rattle.std.specs.Ordering.{nat_cmp}
 use Rattle.std.specs.Prelude.{vec_len}
 use Rattle.std.specs.Vec.{vec_capacity}
 use Rattle.std.proofs.lemmas.Fn.{filter_same}
+use Rattle.std.proofs.lemmas.List.{length-map}
 use Rattle.fy_net.specs.declared.pool.Pool.{Pool}
 use Rattle.fy_net.specs.declared.slot.Slot.{Slot}
 use Rattle.fy_net.specs.Net.{process_of}
@@ -73,6 +74,16 @@ pub returns-clause-same : goal.returns-clause-same
 returns-clause-same c =
     let left : c.retain.new.self.items ≡ filter (λ (s : Slot). s.there) c.args.self.now.slots.items = filter_same _ (λ (s : Slot). s.there) _ (λ s b f' called. search rules) _ _ c.retain.ensures.filtered in
     ap (λ v. there_of v.items) c.loop-place.invariant.1 ∙ ap there_of left ∙ there_kept c.args.self.now.slots.items
+
+pub returns-clause-few : goal.returns-clause-few
+returns-clause-few c =
+    let pool = c.loop-place.self in
+    let old = c.args.self.now.slots.items in
+    let left : c.retain.new.self.items ≡ filter (λ (s : Slot). s.there) old = filter_same _ (λ (s : Slot). s.there) _ (λ s b f' called. search rules) _ _ c.retain.ensures.filtered in
+    let slots : length pool.slots.items ≡ length (filter (λ (s : Slot). s.there) old) = ap (λ v. length v.items) c.loop-place.invariant.1 ∙ ap length left in
+    let counted : length (there_of old) ≡ length (filter (λ (s : Slot). s.there) old) = length-map (filter (λ (s : Slot). s.there) old) (λ s. s.message) in
+    let same : length (there_of pool.slots.items) ≡ length (there_of old) = ap length (returns-clause-same c) in
+    omega (arith, pool.slots.ok.0, slots, counted, same)
 
 pub returns-clause-pool : goal.returns-clause-pool
 returns-clause-pool c =
