@@ -12,6 +12,7 @@ import tempfile
 import threading
 import unittest
 from pathlib import Path
+from unittest import mock
 
 from faultyard_hooks import Refused, answered, keep, paged, wait
 from faultyard_hooks.amqp import Amqp
@@ -483,29 +484,35 @@ class AmqpAnswers(unittest.TestCase):
 
     COUNTS = method(1, (50, 10), b"\0\0\1q\3" + bytes(4))  # passive and durable
 
-    def counted(self, messages, consumers):
-        return self.COUNTS, method(1, (50, 11), b"\1q" + struct.pack(">II", messages, consumers))
+    def messages(self, *told, consumers=0):
+        """What a queue tells of which these are delivered, and then the last one."""
+        last = b"last 61" + b"61" * 7
 
-    def test_all_messages_are_told_and_none_is_acknowledged(self):
-        body = struct.pack(">HHQH", 60, 0, 2, 0)
-        content = b"\2\0\1" + frame(body) + b"\xce\3\0\1" + frame(b"hi") + b"\xce"
-        delivered = method(1, (60, 60), b"\1c" + struct.pack(">Q", 1) + b"\0\0\1q") + content
-        consume = method(1, (60, 20), b"\0\0\1q\0\0" + bytes(4))
-        said = method(1, (60, 21), b"\1c") + delivered + delivered
-        client = self.client(self.counted(2, 0), (consume, said))
-        self.assertEqual(client.messages("q"), ["hi", "hi"])
+        def delivered(text):
+            head = struct.pack(">HHQH", 60, 0, len(text), 0)
+            words = method(1, (60, 60), b"\1c" + bytes(9) + b"\0\1q")
+            return words + b"\2\0\1" + frame(head) + b"\xce\3\0\1" + frame(text) + b"\xce"
+
+        head = struct.pack(">HHQHB", 60, 0, len(last), 4096, 2)
+        publish = method(1, (60, 40), b"\0\0\0\1q\1") + b"\2\0\1" + frame(head) + b"\xce"
+        publish += b"\3\0\1" + frame(last) + b"\xce"
+        counted = method(1, (50, 11), b"\1q" + struct.pack(">II", 9, consumers))
+        talk = [(publish, method(1, (60, 80), struct.pack(">QB", 1, 0))), (self.COUNTS, counted)]
+        if not consumers:
+            qos = method(1, (60, 10), struct.pack(">IHB", 0, 65535, 0))
+            consume = method(1, (60, 20), b"\0\0\1q\0\0" + bytes(4))
+            said = method(1, (60, 21), b"\1c") + b"".join(map(delivered, (*told, last)))
+            talk += [(qos, method(1, (60, 11), b"")), (consume, said)]
+        with mock.patch("os.urandom", lambda count: b"a" * count):
+            return self.client(*talk).messages("q")
+
+    def test_all_messages_are_told_up_to_one_that_is_published_last(self):
+        self.assertEqual(self.messages(b"hi", b"there"), ["hi", "there"])
+        self.assertEqual(self.messages(), [])
 
     def test_a_queue_of_which_another_has_messages_is_not_read(self):
         with self.assertRaisesRegex(Refused, "messages out"):
-            self.client(self.counted(2, 1)).messages("q")
-
-    def test_an_empty_queue_is_asked_for_one_message(self):
-        get = method(1, (60, 70), b"\0\0\1q\0")
-        with self.assertRaisesRegex(Refused, "no leader"):
-            self.client(self.counted(0, 0), (get, method(1, (60, 71), b""))).messages("q")
-        consume = method(1, (60, 20), b"\0\0\1q\0\0" + bytes(4))
-        answers = [(get, method(1, (60, 72), b"\0")), (consume, method(1, (60, 21), b"\1c"))]
-        self.assertEqual(self.client(self.counted(0, 0), *answers).messages("q"), [])
+            self.messages(consumers=1)
 
     def test_a_publish_ends_once_it_is_confirmed(self):
         heartbeat = b"\x08\0\0" + bytes(4) + b"\xce"

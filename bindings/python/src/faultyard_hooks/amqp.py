@@ -2,6 +2,7 @@
 
 from __future__ import annotations
 
+import os
 import struct
 from typing import Any, Dict, List, Tuple
 
@@ -12,11 +13,11 @@ from .client import Client
 START, START_OK, TUNE, TUNE_OK = (10, 10), (10, 11), (10, 30), (10, 31)
 OPEN, OPEN_OK, CHANNEL, CHANNEL_OK = (10, 40), (10, 41), (20, 10), (20, 11)
 DECLARE, DECLARE_OK, PUBLISH, RETURN = (50, 10), (50, 11), (60, 40), (60, 50)
-CONSUME, CONSUME_OK = (60, 20), (60, 21)
+QOS, QOS_OK, CONSUME, CONSUME_OK = (60, 10), (60, 11), (60, 20), (60, 21)
 DELIVER, ACK, CONFIRM, CONFIRM_OK = (60, 60), (60, 80), (85, 10), (85, 11)
-GET, GET_OK, GET_EMPTY = (60, 70), (60, 71), (60, 72)
 METHOD, HEADER, BODY, HEARTBEAT, END = 1, 2, 3, 8, b"\xce"
 PASSIVE, DURABLE, PERSISTENT = 1, 2, 2
+MOST_OUT = 65535  # messages that a consumer may have out; 0 would be 2,000 for a quorum queue
 
 Method = Tuple[int, int]
 
@@ -33,18 +34,21 @@ class Amqp(Client):
         self.ask("counts", queue, arguments)
 
     def messages(self, queue: str) -> List[str]:
-        """All of a queue. They go back into it, as the connection is closed then.
+        """All of a queue, of at most 65,535. They go back into it, as the connection closes then.
 
-        A queue without a leader has none too, by the broker: so the leader is asked for one then.
+        A new leader may count too few. So a last message is added: what was confirmed before stands
+        before it, and is counted by a leader that has it.
         """
-        count, consumers = self.ask("counts", queue, {})
-        if consumers or not count and not self.ask("is_empty", queue):
-            self.close()  # what was got goes back
-            raise Refused("another still has messages out, or the queue has no leader")
+        last = f"last {os.urandom(8).hex()}"
+        self.publish(queue, last)
+        if self.ask("counts", queue, {})[1]:
+            raise Refused("another consumer still has messages out")
         self.ask("consume", queue)
-        told = [self.ask("delivered") for _ in range(count)]
+        told = [self.ask("delivered")]
+        while told[-1] != last:
+            told.append(self.ask("delivered"))
         self.close()
-        return told
+        return told[:-1]
 
     def _greet(self) -> None:
         self._send(b"AMQP\0\0\x09\x01")
@@ -76,15 +80,8 @@ class Amqp(Client):
         messages, consumers = struct.unpack_from(">II", told, 1 + told[0])
         return messages, consumers
 
-    def _is_empty(self, queue: str) -> bool:
-        self._method(1, GET, b"\0\0" + _short(queue) + b"\0")
-        _, data = self._next()
-        method = struct.unpack_from(">HH", data)
-        if method not in (GET_OK, GET_EMPTY):
-            raise Refused(f"method {method}: {data[4:].decode('latin-1')}")
-        return method == GET_EMPTY
-
     def _consume(self, queue: str) -> None:
+        self._call(1, QOS, struct.pack(">IHB", 0, MOST_OUT, 0), QOS_OK)
         self._call(1, CONSUME, b"\0\0" + _short(queue) + b"\0\0" + _long(b""), CONSUME_OK)
 
     def _delivered(self) -> str:
