@@ -7,6 +7,7 @@ import (
 	"errors"
 	"fmt"
 	"io"
+	"math/rand"
 	"net"
 	"net/http"
 	"net/http/httptest"
@@ -16,6 +17,7 @@ import (
 	"sort"
 	"strconv"
 	"strings"
+	"sync"
 	"testing"
 	"time"
 
@@ -554,6 +556,98 @@ func TestALineIsAnsweredAsAGuardDoes(test *testing.T) {
 	full := talk(test, begin(test, 1), up+"\n"+up+"\n")
 	wanted := book.Header + entry(0) + `{"refused":"script: JournalFull"}` + "\n"
 	same(test, "a full journal", full, wanted)
+}
+
+// TestMuchIsAskedBeforeAnythingIsRead has clients ask for more than a socket holds, in pieces of any
+// length, and read late. Each is answered all of it in its order, and none waits for another.
+func TestMuchIsAskedBeforeAnythingIsRead(test *testing.T) {
+	const clients, acts = 6, 1000
+	web := begin(test, clients*(acts+1))
+	path := filepath.Join(test.TempDir(), "socket")
+	listener, err := ListenSocket(path)
+	if err != nil {
+		test.Fatal(err)
+	}
+	defer listener.Close()
+	go func() { _ = web.Lines.Serve(listener) }()
+	var all sync.WaitGroup
+	for number := 0; number < clients; number++ {
+		connection, err := net.Dial("unix", path)
+		if err != nil {
+			test.Fatal(err)
+		}
+		defer connection.Close()
+		_ = connection.SetDeadline(time.Now().Add(time.Minute))
+		all.Add(1)
+		go func(number int) {
+			defer all.Done()
+			dice := rand.New(rand.NewSource(int64(number)))
+			text := strings.Repeat(up+"\nx\n", acts) + "{\"from\":0}\n" + up
+			go func() {
+				for len(text) > 0 {
+					length := 1 + dice.Intn(20_000)
+					if len(text) < length {
+						length = len(text)
+					}
+					if _, err := io.WriteString(connection, text[:length]); err != nil {
+						test.Error(err)
+					}
+					text = text[length:]
+				}
+				_ = connection.(*net.UnixConn).CloseWrite()
+			}()
+			time.Sleep(time.Duration(dice.Intn(300)) * time.Millisecond)
+			told, err := io.ReadAll(connection)
+			if err != nil {
+				test.Error(err)
+			}
+			hears(test, strings.Split(string(told), "\n"), acts)
+		}(number)
+	}
+	all.Wait()
+	if last := web.Book.Stats().Entries; last != clients*(acts+1) {
+		test.Errorf("%d entries", last)
+	}
+	for web.Lines.Count() > 0 {
+		time.Sleep(time.Millisecond)
+	}
+}
+
+// hears says that the lines of a client of the test above are right: the header, then an entry and a
+// fault for each act, the entries that there are, and the answer to the last act.
+func hears(test *testing.T, lines []string, acts int) {
+	last := -1
+	place := func(line string) int {
+		at := -1
+		_, _ = fmt.Sscanf(line, `{"act":{"up":{"process":0}},"at":%d,`, &at)
+		return at
+	}
+	for act := 0; act < acts; act++ {
+		entry, fault := lines[1+2*act], lines[2+2*act]
+		wanted := fmt.Sprintf(`{"refused":"script: line %d: Syntax"}`, 2+2*act)
+		if place(entry) <= last || fault != wanted {
+			test.Errorf("act %d behind entry %d: %s, %s", act, last, entry, fault)
+			return
+		}
+		last = place(entry)
+	}
+	from, to := 0, 0
+	told := lines[1+2*acts:]
+	_, err := fmt.Sscanf(told[0], `{"from":%d,"to":%d}`, &from, &to)
+	if err != nil || from != 0 || to <= last || len(told) != to+3 {
+		test.Errorf("%s, and %d lines, behind entry %d", told[0], len(told), last)
+		return
+	}
+	for at := 0; at < to; at++ {
+		if place(told[1+at]) != at {
+			test.Errorf("entry %d is %s", at, told[1+at])
+			return
+		}
+	}
+	if place(told[1+to]) < to {
+		test.Errorf("the last act is answered %s", told[1+to])
+		return
+	}
 }
 
 func TestASocketIsItsOwnersAndTakesTheRoomOfADeadOne(test *testing.T) {
