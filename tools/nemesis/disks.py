@@ -50,6 +50,7 @@ class Disks(ABC):
     def __init__(self, out: Path, count: int) -> None:
         self._out, self._count = out, count
         self._turns = [asyncio.Lock() for _ in range(count)]
+        self._deeds = set[asyncio.Task[Cut]]()
 
     async def begin(self) -> None:
         """Mounts all of them, with nothing on them."""
@@ -63,7 +64,7 @@ class Disks(ABC):
             await self._insert(number)
             return found
 
-        done = [asyncio.shield(self._alone(number, one(number))) for number in numbers]
+        done = [self._begun(number, one(number)) for number in numbers]
         return sum(await asyncio.gather(*done), Cut(0, 0))
 
     async def replace(self, number: int) -> None:
@@ -75,11 +76,25 @@ class Disks(ABC):
             await self._insert(number)
             return Cut()
 
-        await asyncio.shield(self._alone(number, one()))
+        await self._begun(number, one())
+
+    async def settle(self) -> None:
+        """Waits for what is still being done, though who asked for it is cancelled.
+
+        A command that is cancelled as it starts would hang Python 3.11.2, which Debian 12 has.
+        """
+        await asyncio.gather(*self._deeds, return_exceptions=True)
 
     async def end(self) -> None:
         """Takes all of them off in order, so that the run's folder has what is on them."""
         await asyncio.gather(*map(self._end, range(self._count)))
+
+    def _begun(self, number: int, deed: Coroutine[None, None, Cut]) -> asyncio.Future[Cut]:
+        """A deed that goes on though who asked for it is cancelled."""
+        task = asyncio.create_task(self._alone(number, deed))
+        self._deeds.add(task)
+        task.add_done_callback(self._deeds.discard)
+        return asyncio.shield(task)
 
     async def _alone(self, number: int, deed: Coroutine[None, None, Cut]) -> Cut:
         async with self._turns[number]:

@@ -56,8 +56,8 @@ class Run(Store):
         """The run from its first process to what could be read."""
         await self.hooks.learn()
         orders = list(self._planned())
-        await self.lay_out()
         try:
+            await self.lay_out()
             async with self.hooks.set_up(), asyncio.TaskGroup() as tasks:
                 await self.begin(tasks)
                 self.ledger.begin()
@@ -71,6 +71,9 @@ class Run(Store):
                     await self.disks.end()
         except ExceptionGroup as faults:
             raise first_of(faults) from None
+        finally:
+            if self.disks:
+                await self.disks.settle()
 
     def _planned(self) -> Iterator[Timed]:
         """Orders and their times: of another run, or of a plan."""
