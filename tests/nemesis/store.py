@@ -80,7 +80,7 @@ class Server(socketserver.ThreadingTCPServer):
         if FAULT == "hole" and self.number == 1 and not int(key[2:]) % 7:
             return "none"
         if FAULT == "shy":
-            time.sleep(0.1)
+            time.sleep(0.2)
             if key not in self.asked:
                 self.asked.add(key)
                 return "none"
