@@ -118,7 +118,7 @@ known_task s words known other none =
       )
       | inr (inr (inr (inr (inl guard)))) ↦ inr (
         inr (inr (inr (inl (ap (λ t. t.name) guard)))),
-        config_given s _ words guard ((refl, refl, refl), ((refl, refl, refl), tt)) (inl (refl, refl)) refl none,
+        config_given s _ words guard ((refl, refl, refl), ((refl, refl, refl), ((refl, refl, refl), tt))) (inl (refl, refl)) refl none,
         λ swarm. absurd (no_swarm s.name (codes "guard") (ap (λ t. t.name) guard) (λ e. omega arith) swarm),
       )
       | inr (inr (inr (inr (inr (inl show))))) ↦ inr (

@@ -50,10 +50,6 @@ check_command = with_rule (new_app (codes "check")) config_rule
 abbrev pub swarm_command : App
 swarm_command = with_rule (with_rule (new_app (codes "swarm")) config_rule) seed_rule
 
--- the subcommand `guard`, which takes a cluster file
-abbrev pub guard_command : App
-guard_command = with_rule (new_app (codes "guard")) config_rule
-
 -- the option `--times`, which has the file of events
 abbrev pub times_rule : Rule
 times_rule = record (new_rule (codes "times")) {
@@ -80,6 +76,10 @@ after_rule = record (new_rule (codes "after")) {
   action = Some Set;
   value_names = 1;
 }
+
+-- the subcommand `guard`, which takes a cluster file, and may take the audit
+abbrev pub guard_command : App
+guard_command = with_rule (with_rule (new_app (codes "guard")) config_rule) after_rule
 
 -- the subcommand `bears`, which takes a cluster file, and may take the two
 abbrev pub bears_command : App
@@ -123,8 +123,9 @@ StandsFor met (Check config) =
 StandsFor met (Swarm config seed) =
     (met.0 ≡ codes "swarm") × (first_of (codes "CONFIG") met.1 ≡ Some config.now)
     × (option_map seed_in (one_of (codes "seed") met.1) ≡ Some seed)
-StandsFor met (Guard config) =
+StandsFor met (Guard config after) =
     (met.0 ≡ codes "guard") × (first_of (codes "CONFIG") met.1 ≡ Some config.now)
+    × (option_map (λ audit. audit.now) after ≡ first_of (codes "after") met.1)
 StandsFor met (Show config times) =
     (met.0 ≡ codes "show") × (first_of (codes "CONFIG") met.1 ≡ Some config.now)
     × (option_map (λ events. events.now) times ≡ first_of (codes "times") met.1)

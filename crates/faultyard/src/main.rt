@@ -13,6 +13,7 @@ use fy_bears_after::{run_bears, run_bears_after};
 use fy_check_audit::run_check;
 use fy_cluster::Config;
 use fy_engine::{Stop, load_config, write_stop};
+use fy_guard_after::run_guard_after;
 use fy_judge::run_judge;
 use fy_run::{run_guard, run_script};
 use fy_show::{run_show, run_show_by_time};
@@ -26,7 +27,7 @@ use task::{Task, read_task};
 /// The status of a program whose words are no command.
 const USAGE: u8 = 2;
 
-/// The status of `check`, `show` and `bears` where an entry isn't what the rules give.
+/// The status of `check`, `show`, `bears` and `guard` where an entry isn't what the rules give.
 const REFUTED: u8 = 5;
 
 fn main(rt: HostRuntime) -> ExitCode {
@@ -38,7 +39,7 @@ fn main(rt: HostRuntime) -> ExitCode {
         Ok(Task::Judge) => judge_input(&rt),
         Ok(Task::Run(path)) => run_file(&rt, path),
         Ok(Task::Check(path)) => check_file(&rt, path),
-        Ok(Task::Guard(path)) => guard_file(&rt, path),
+        Ok(Task::Guard(path, after)) => guard_file(&rt, path, after),
         Ok(Task::Show(path, times)) => show_file(&rt, path, times),
         Ok(Task::Bears(path, form, after)) => bears_file(&rt, path, form, after),
         // Threads are main's to give.
@@ -118,17 +119,37 @@ fn bears_file(rt: &HostRuntime, path: &str, form: Form, after: Option<&str>) -> 
     }
 }
 
-/// Answers the script on standard input, line by line, on the cluster of a file.
-fn guard_file(rt: &HostRuntime, path: &str) -> Result<bool, Stop> {
+/// Answers the script on standard input, line by line, on the cluster of a file, from the end of an
+/// audit on where one is named.
+fn guard_file(rt: &HostRuntime, path: &str, after: Option<&str>) -> Result<bool, Stop> {
     let config = match open_config(rt, path) {
         Ok(config) => config,
         Err(stop) => return Err(stop),
     };
+    let alloc = rt.alloc();
     // It holds what `read` gave beyond a line, and waits for no more than there is.
-    let Ok(mut lines) = BufReader::new(rt.alloc(), rt.stdin()) else {
+    let Ok(mut lines) = BufReader::new(alloc, rt.stdin()) else {
         return Err(Stop::NoMemory);
     };
-    run_guard(rt.alloc(), &config, &mut lines, &mut rt.stdout())
+    let mut output = rt.stdout();
+    let Some(after) = after else {
+        return run_guard(alloc, &config, &mut lines, &mut output);
+    };
+    // What is written may stand behind the audit, so what is found of it goes elsewhere.
+    let mut found = rt.stderr();
+    match open_file(rt, after) {
+        Ok(mut audit) => {
+            run_guard_after(
+                alloc,
+                &config,
+                &mut audit,
+                &mut lines,
+                &mut output,
+                &mut found,
+            )
+        }
+        Err(stop) => Err(stop),
+    }
 }
 
 /// A file to read, by its path.

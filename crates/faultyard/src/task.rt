@@ -27,7 +27,7 @@ Exit status:
   2  the command line is refused
   3  a read or a write failed, or a file can't be opened
   4  memory was refused
-  5  check, show, bears: an entry of the audit isn't what the rules give"
+  5  check, show, bears, guard: an entry of the audit isn't what the rules give"
         )
     };
 }
@@ -57,8 +57,8 @@ pub enum Task<'a> {
     /// a plan that is drawn from the seed.
     Swarm(&'a str, u64),
     /// `faultyard guard CONFIG`: answer each line of the script on standard input at once, on the
-    /// cluster of a file.
-    Guard(&'a str),
+    /// cluster of a file, with `--after AUDIT` from the end of an audit on.
+    Guard(&'a str, Option<&'a str>),
     /// `faultyard show CONFIG`: draw the audit on standard input on the cluster of a file, with
     /// `--times EVENTS` by the times of a file of events.
     Show(&'a str, Option<&'a str>),
@@ -145,7 +145,11 @@ fn guard<'a>(alloc: Global) -> Result<Command<'a>, AllocError>
         .after_help(with_statuses!(
             "Example:\n  faultyard guard examples/c6.toml < examples/two-zones.jsonl"
         ))
-        .arg(config(alloc))
+        .arg(config(alloc))?
+        .arg(after(
+            alloc,
+            "The audit, a file, behind whose last entry the guard goes on",
+        ))
 }
 
 /// The option with the file of events.
@@ -184,8 +188,8 @@ fn json<'a>(alloc: Global) -> Arg<'a>
         .help("Writes one JSON object")
 }
 
-/// The option with the audit's file.
-fn after<'a>(alloc: Global) -> Arg<'a>
+/// The option with the audit's file, which means this.
+fn after<'a>(alloc: Global, help: &'static str) -> Arg<'a>
     ensures rule { rule_of result ≡ after_rule }
     ensures own { result.global ≡ false }
 {
@@ -193,7 +197,7 @@ fn after<'a>(alloc: Global) -> Arg<'a>
         .long("after")
         .value_name("AUDIT")
         .action(ArgAction::Set)
-        .help("The audit, a file, from whose last entry on losses are counted")
+        .help(help)
 }
 
 /// The subcommand `bears`, with its help.
@@ -207,7 +211,10 @@ fn bears<'a>(alloc: Global) -> Result<Command<'a>, AllocError>
         ))
         .arg(config(alloc))?
         .arg(json(alloc))?
-        .arg(after(alloc))
+        .arg(after(
+            alloc,
+            "The audit, a file, from whose last entry on losses are counted",
+        ))
 }
 
 /// The command line without its subcommands, of which one is wanted.
@@ -260,7 +267,7 @@ pub fn read_task<'a>(alloc: Global, words: &'a [String]) -> Result<Task<'a>, cla
         "run" => Ok(Task::Run(config_of(given))),
         "check" => Ok(Task::Check(config_of(given))),
         "swarm" => Ok(Task::Swarm(config_of(given), seed_of(given))),
-        "guard" => Ok(Task::Guard(config_of(given))),
+        "guard" => Ok(Task::Guard(config_of(given), after_of(given))),
         "show" => Ok(Task::Show(config_of(given), times_of(given))),
         "bears" => Ok(Task::Bears(config_of(given), form_of(given), after_of(given))),
         _ => unreachable!(),

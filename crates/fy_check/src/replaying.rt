@@ -82,12 +82,32 @@ impl Replayer {
         })
     }
 
+    /// The version of the journal.
+    pub fn version(&self) -> Version
+        ensures { result ≡ self.now.version }
+    {
+        let Replayer { version, .. } = self;
+        *version
+    }
+
     /// The cluster that makes the acts. While no entry is bad, its journal is the entries so far; a
     /// bad entry's act may have been made.
     pub fn cluster(&self) -> &ClusterState
         ensures { result.now ≡ self.now.execution }
     {
         &self.state
+    }
+
+    /// Gives away the cluster that makes the acts, as [`Replayer::cluster`] shows it.
+    pub fn into_cluster(self) -> ClusterState
+        ensures { result ≡ self.execution }
+    {
+        let Replayer {
+            state,
+            version: _,
+            first_bad: _,
+        } = self;
+        state
     }
 
     /// The place of the first bad entry so far; `None` where the entries are a legal journal.

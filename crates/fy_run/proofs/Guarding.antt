@@ -1,11 +1,12 @@
 -- the lines of a script that is still being written, and what was answered to them
-use Rattle.std.proofs.Common.{arith, Bool, true, ◌&&◌, nat_le, ◌≡◌, ◌∙◌, ◌≤◌, ◌+◌, ℕ, List, [], ◌∷◌, ◌++◌, map, length, refl, sym, ap, subst, suc, append_assoc, append-nil, Option, Some, None}
+use Rattle.std.proofs.Common.{arith, Bool, true, ◌&&◌, nat_le, ◌≡◌, ◌∙◌, ◌≤◌, ◌+◌, ◌-◌, ℕ, List, [], ◌∷◌, ◌++◌, map, length, refl, sym, ap, subst, suc, append_assoc, append-nil, length-append, Option, Some, None}
+use Rattle.std.proofs.lemmas.List.{map-append}
 use Rattle.std.proofs.lemmas.Bool.{and_parts}
 use Rattle.std.proofs.lemmas.Bool.Decides.{nat_tests}
 use Rattle.std.specs.Prelude.{IfSome, Result, Ok, Err}
 use Rattle.std.specs.List.{flat_map}
 use Rattle.std.specs.Io.KnownBytes.{Appends, IsAtEnd}
-use Rattle.std.proofs.KnownBytes.{Appends-trans, Appends-kept}
+use Rattle.std.proofs.KnownBytes.{Appends-nil, Appends-trans, Appends-kept}
 use Rattle.fy_lines.specs.Lines.{lines_of}
 use Rattle.fy_lines.specs.Prefixes.{AppendsProperPrefix}
 use Rattle.fy_lines.specs.Readings.{ReadsLine}
@@ -17,53 +18,51 @@ use Rattle.fy_spelling.specs.declared.command.LineFault.{LineFault}
 use Rattle.fy_spelling.specs.declared.command.CommandFault.{CommandFault}
 use Rattle.fy_spelling.specs.declared.command.CommandFault.TheVariants as command_fault
 use Rattle.fy_journal.specs.declared.version.Version.TheVariants.{Second}
-use Rattle.fy_audit.specs.AuditText.{header, entry_line, audit_text}
+use Rattle.fy_audit.specs.AuditText.{header, entry_line}
 use Rattle.fy_audit.specs.Script.{AreCommands}
 use Rattle.fy_audit.specs.declared.script.ScriptFault.TheVariants.{Line}
 use Rattle.fy_cluster.specs.Setup.{Setup, is_between, is_in_range}
 use Rattle.fy_cluster.specs.Replies.{Legal}
 use Rattle.fy_cluster.specs.Survival.{by_and_act}
-use Rattle.fy_cluster.specs.Execution.{Execution, opened, entered, after_acts}
-use Rattle.fy_run.specs.RunTexts.{asked, IfRunRefusal}
-use Rattle.fy_run.specs.GuardTexts.{Answered, StopsAtLine, AnswersAll, AnswersBefore, AnswersSome, AreInTurn, AppendsAtLeast, entry_of, GivesCommand, NoCommand, NoAnswer}
+use Rattle.fy_cluster.specs.Execution.{Execution, opened, entered}
+use Rattle.fy_run.specs.RunTexts.{asked, lines_of_entries, IfRunRefusal}
+use Rattle.fy_run.specs.GuardTexts.{Answered, AnsweredFrom, room_in, StopsAtLine, AllAnswered, AreBefore, AnsweredBefore, FirstAnswered, AreInTurn, AnswersAll, AnswersBefore, AnswersSome, AppendsAtLeast, entry_of, GivesCommand, NoCommand, NoAnswer}
 use Rattle.fy_engine.specs.Stops.{command_stop, IsRunStop}
 use Rattle.fy_engine.specs.declared.stop.Stop.{Stop}
-use Rattle.fy_engine.specs.declared.stop.Stop.TheVariants.{Script, JournalFull, Read, Write, NoMemory}
-use Rattle.fy_run.proofs.Acting.{acts_after, audit_of}
+use Rattle.fy_engine.specs.declared.stop.Stop.TheVariants.{JudgeTooLong, JudgeLine, Config, Script, JournalFull, Audit, Events, SwarmClose, Read, Write, NoMemory}
 
--- some first lines were read and no byte behind them, and the cluster is the one after their acts
-abbrev pub HasRead : Setup → Option (List ℕ) → Option (List ℕ) → Execution → Type 0
-HasRead setup old left execution =
+-- some first lines were read and no byte behind them, and the entries that were made are of their acts
+abbrev pub HasRead : Option (List ℕ) → Option (List ℕ) → List Entry → Type 0
+HasRead old left made =
     IfSome old (λ bytes. (front : List (List ℕ)) × (rest : List ℕ) × (commands : List Command)
     × (left ≡ Some rest) × (lines_of bytes ≡ front ++ lines_of rest) × AreCommands front commands
-    × (execution ≡ after_acts (opened setup) (map asked commands)))
+    × (map by_and_act made ≡ map asked commands))
 
--- and the audit of its journal is out
-pub record HasAnswered (setup : Setup) (old left : Option (List ℕ)) (before out : Option (List ℕ))
+-- and the lines of these entries are out; they stand in the journal behind those of before
+pub record HasAnswered (from : Execution) (old left : Option (List ℕ)) (before out : Option (List ℕ))
     (execution : Execution) : Type 0 where
-  pub same : execution.setup ≡ setup
+  pub same : execution.setup ≡ from.setup
   pub legal : Legal execution.setup execution.journal
-  pub read : HasRead setup old left execution
-  pub written : Appends before out (audit_text Second execution.journal)
+  pub made : List Entry
+  pub grown : execution.journal ≡ from.journal ++ made
+  pub read : HasRead old left made
+  pub written : Appends before out (lines_of_entries made)
 
-unread : (setup : Setup) (known : Option (List ℕ)) → HasRead setup known known (opened setup)
-unread setup None = tt
-unread setup (Some bytes) = ([], bytes, [], refl, refl, tt, refl)
+unread : (known : Option (List ℕ)) → HasRead known known []
+unread None = tt
+unread (Some bytes) = ([], bytes, [], refl, refl, tt, refl)
 
--- nothing is read yet, and the header is out
-pub opens : (setup : Setup) (known : Option (List ℕ)) (before out : Option (List ℕ)) →
-    Appends before out (header Second) → HasAnswered setup known known before out (opened setup)
-opens setup known before out written = record {
+-- nothing is read yet, and nothing is out
+pub opens : (from : Execution) (known : Option (List ℕ)) (before : Option (List ℕ)) →
+    Legal from.setup from.journal → HasAnswered from known known before before from
+opens from known before legal = record {
   same = refl;
-  legal = (omega arith, tt);
-  read = unread setup known;
-  written = subst (Appends before out) (sym (append-nil (header Second))) written;
+  legal = legal;
+  made = [];
+  grown = sym (append-nil from.journal);
+  read = unread known;
+  written = Appends-nil before;
 }
-
-after_one_more : (execution : Execution) (acts : List (ℕ × Act)) (one : ℕ × Act) →
-    after_acts execution (acts ++ one ∷ []) ≡ entered (after_acts execution acts) one.0 one.1
-after_one_more execution [] one = refl
-after_one_more execution (a ∷ acts) one = after_one_more (entered execution a.0 a.1) acts one
 
 asked_one_more : (commands : List Command) (command : Command) →
     map asked (commands ++ command ∷ []) ≡ map asked commands ++ asked command ∷ []
@@ -86,17 +85,11 @@ lines_one_more (e ∷ es) entry =
     ap (λ l. entry_line e ++ l) (lines_one_more es entry)
     ∙ sym (append_assoc (entry_line e) (flat_map entry_line es) (entry_line entry))
 
-text_one_more : (entries : List Entry) (entry : Entry) →
-    audit_text Second (entries ++ entry ∷ []) ≡ audit_text Second entries ++ entry_line entry
-text_one_more entries entry =
-    ap (λ l. header Second ++ l) (lines_one_more entries entry)
-    ∙ sym (append_assoc (header Second) (flat_map entry_line entries) (entry_line entry))
-
-read_one_more : (setup : Setup) (old left next : Option (List ℕ)) (execution now : Execution)
-    (command : Command) → HasRead setup old left execution → GivesCommand left next command →
-    now ≡ entered execution command.by command.act → HasRead setup old next now
-read_one_more setup None left next execution now command read gives enters = tt
-read_one_more setup (Some bytes) left next execution now command read gives enters =
+read_one_more : (old left next : Option (List ℕ)) (made : List Entry) (execution : Execution)
+    (command : Command) → HasRead old left made → GivesCommand left next command →
+    HasRead old next (made ++ entry_of execution command ∷ [])
+read_one_more None left next made execution command read gives = tt
+read_one_more (Some bytes) left next made execution command read gives =
     let (front, rest, commands, is, split, each, same) = read in
     let given = subst (λ o. GivesCommand o next command) is gives in
     let (line, more, left_is, first, spelled) = given in (
@@ -106,9 +99,9 @@ read_one_more setup (Some bytes) left next execution now command read gives ente
       left_is,
       split ∙ ap (λ ls. front ++ ls) first ∙ sym (append_assoc front (line ∷ []) (lines_of more)),
       one_command_more front commands line command each spelled,
-      enters ∙ ap (λ c. entered c command.by command.act) same
-          ∙ sym (after_one_more (opened setup) (map asked commands) (asked command))
-          ∙ ap (after_acts (opened setup)) (sym (asked_one_more commands command)),
+      map-append by_and_act made (entry_of execution command ∷ [])
+          ∙ ap (λ l. l ++ asked command ∷ []) same
+          ∙ sym (asked_one_more commands command),
     )
 
 -- what a reader of commands gave is the command that it was found to be
@@ -116,67 +109,88 @@ pub gave : (left next : Option (List ℕ)) {found : Option Command} {command : C
     found ≡ Some command → IfSome found (GivesCommand left next) → GivesCommand left next command
 gave left next is gives = subst (λ o. IfSome o (GivesCommand left next)) is gives
 
+-- the journal has one entry more then
+grown_more : (command : Command) {from : Execution} {old left before out : Option (List ℕ)}
+    {execution now : Execution} → (has : HasAnswered from old left before out execution) →
+    now ≡ entered execution command.by command.act →
+    now.journal ≡ from.journal ++ (has.made ++ entry_of execution command ∷ [])
+grown_more command {from} {old} {left} {before} {out} {execution} {now} has enters =
+    ap (λ (c : Execution). c.journal) enters
+    ∙ ap (λ l. l ++ entry_of execution command ∷ []) has.grown
+    ∙ append_assoc from.journal has.made (entry_of execution command ∷ [])
+
 -- one line more is read and answered
-pub goes_on : (command : Command) {setup : Setup} {old left next before out longer : Option (List ℕ)}
-    {execution now : Execution} → HasAnswered setup old left before out execution →
+pub goes_on : (command : Command) {from : Execution} {old left next before out longer : Option (List ℕ)}
+    {execution now : Execution} → HasAnswered from old left before out execution →
     GivesCommand left next command → now ≡ entered execution command.by command.act →
     Legal now.setup now.journal → Appends out longer (entry_line (entry_of execution command)) →
-    HasAnswered setup old next before longer now
-goes_on command {setup} {old} {left} {next} {before} {out} {longer} {execution} {now} has gives enters legal written =
+    HasAnswered from old next before longer now
+goes_on command {from} {old} {left} {next} {before} {out} {longer} {execution} {now} has gives enters legal written =
     record {
       same = ap (λ (c : Execution). c.setup) enters ∙ has.same;
       legal = legal;
-      read = read_one_more setup old left next execution now command has.read gives enters;
-      written = subst (Appends before longer)
-          (sym (ap (λ (c : Execution). audit_text Second c.journal) enters
-          ∙ text_one_more execution.journal (entry_of execution command)))
-          (Appends-trans before out longer (audit_text Second execution.journal)
+      made = has.made ++ entry_of execution command ∷ [];
+      grown = grown_more command has enters;
+      read = read_one_more old left next has.made execution command has.read gives;
+      written = subst (Appends before longer) (sym (lines_one_more has.made (entry_of execution command)))
+          (Appends-trans before out longer (lines_of_entries has.made)
           (entry_line (entry_of execution command)) has.written written);
     }
 
--- the lines that were read are answered by the audit of the cluster's journal
-answered_by : (setup : Setup) (front : List (List ℕ)) (commands : List Command) (execution : Execution) →
-    AreCommands front commands → execution ≡ after_acts (opened setup) (map asked commands) →
-    Legal execution.setup execution.journal → Answered setup front (audit_text Second execution.journal)
-answered_by setup front commands execution each is legal = record {
+-- the journal is legal behind that of before
+legal_behind : (from now : Execution) (made : List Entry) → now.setup ≡ from.setup →
+    now.journal ≡ from.journal ++ made → Legal now.setup now.journal →
+    Legal from.setup (from.journal ++ made)
+legal_behind from now made same grown legal =
+    subst (Legal from.setup) grown (subst (λ s. Legal s now.journal) same legal)
+
+-- the lines that were read are answered by the lines of the entries that were made
+answered_by : (from : Execution) (front : List (List ℕ)) (commands : List Command)
+    (made : List Entry) → Legal from.setup (from.journal ++ made) → AreCommands front commands →
+    map by_and_act made ≡ map asked commands → AnsweredFrom from front (lines_of_entries made)
+answered_by from front commands made legal each same = record {
   commands = commands;
   each = each;
-  audit = audit_of setup commands execution is legal;
+  made = made;
+  legal = legal;
+  acts = same;
+  written = refl;
 }
 
 -- all lines are answered
-pub answers_all : {setup : Setup} (old : Option (List ℕ)) {left before out : Option (List ℕ)}
-    {execution : Execution}
-    (P : List ℕ → Type 0) → HasAnswered setup old left before out execution → IsAtEnd left →
-    P (audit_text Second execution.journal) → AnswersAll setup old P
-answers_all {setup} None {left} {before} {out} {execution} P has ends holds = tt
-answers_all {setup} (Some bytes) {left} {before} {out} {execution} P has ends holds =
+pub answers_all : {from : Execution} (old : Option (List ℕ)) {left before out : Option (List ℕ)}
+    {execution : Execution} (P : List ℕ → Type 0) →
+    (has : HasAnswered from old left before out execution) → IsAtEnd left →
+    P (lines_of_entries has.made) → AllAnswered (AnsweredFrom from) old P
+answers_all {from} None {left} {before} {out} {execution} P has ends holds = tt
+answers_all {from} (Some bytes) {left} {before} {out} {execution} P has ends holds =
     let (front, rest, commands, is, split, each, same) = has.read in
     let none : rest ≡ [] = subst IsAtEnd is ends in
     let whole : lines_of bytes ≡ front =
     split ∙ ap (λ r. front ++ lines_of r) none ∙ append-nil front in (
-      audit_text Second execution.journal,
-      subst (λ ls. Answered setup ls (audit_text Second execution.journal)) (sym whole)
-          (answered_by setup front commands execution each same has.legal),
+      lines_of_entries has.made,
+      subst (λ ls. AnsweredFrom from ls (lines_of_entries has.made)) (sym whole)
+          (answered_by from front commands has.made (legal_behind from execution has.made has.same has.grown has.legal) each same),
       holds,
     )
 
 -- the lines that were read are answered, and of the next no more was read than the line
-pub in_turn : {setup : Setup} (Reads : Option (List ℕ) → Option (List ℕ) → Type 0)
+pub in_turn : {from : Execution} (Reads : Option (List ℕ) → Option (List ℕ) → Type 0)
     (old : Option (List ℕ)) {left next before out : Option (List ℕ)} {execution : Execution}
-    (P : List ℕ → Type 0) → HasAnswered setup old left before out execution → Reads left next →
-    P (audit_text Second execution.journal) →
-    IfSome old (λ bytes. AreInTurn setup Reads bytes next P)
-in_turn {setup} Reads None {left} {next} {before} {out} {execution} P has within holds = tt
-in_turn {setup} Reads (Some bytes) {left} {next} {before} {out} {execution} P has within holds =
+    (P : List ℕ → Type 0) → (has : HasAnswered from old left before out execution) →
+    Reads left next → P (lines_of_entries has.made) →
+    IfSome old (λ bytes. AreInTurn (AnsweredFrom from) Reads bytes next P)
+in_turn {from} Reads None {left} {next} {before} {out} {execution} P has within holds = tt
+in_turn {from} Reads (Some bytes) {left} {next} {before} {out} {execution} P has within holds =
     let (front, rest, commands, is, split, each, same) = has.read in
     record {
       front = front;
       rest = rest;
-      text = audit_text Second execution.journal;
+      text = lines_of_entries has.made;
       lines = split;
       within = subst (λ o. Reads o next) is within;
-      answered = answered_by setup front commands execution each same has.legal;
+      answered = answered_by from front commands has.made
+          (legal_behind from execution has.made has.same has.grown has.legal) each same;
       out = holds;
     }
 
@@ -202,15 +216,19 @@ mapped_length : {A B : Type 0} (f : A → B) (xs : List A) → length (map f xs)
 mapped_length f [] = refl
 mapped_length f (x ∷ xs) = ap suc (mapped_length f xs)
 
-as_many_entries : (setup : Setup) (front : List (List ℕ)) (commands : List Command)
-    (execution : Execution) → AreCommands front commands →
-    execution ≡ after_acts (opened setup) (map asked commands) →
-    length front ≡ length execution.journal
-as_many_entries setup front commands execution each is =
+as_many_entries : (front : List (List ℕ)) (commands : List Command) (made : List Entry) →
+    AreCommands front commands → map by_and_act made ≡ map asked commands →
+    length front ≡ length made
+as_many_entries front commands made each same =
     as_many front commands each ∙ sym (mapped_length asked commands)
-    ∙ ap length (sym (acts_after (opened setup) (map asked commands)))
-    ∙ mapped_length by_and_act (after_acts (opened setup) (map asked commands)).journal
-    ∙ ap (λ (c : Execution). length c.journal) (sym is)
+    ∙ ap length (sym same) ∙ mapped_length by_and_act made
+
+-- the journal has grown by the entries that were made
+pub longer_by : {from : Execution} {old left before out : Option (List ℕ)} {execution : Execution} →
+    (has : HasAnswered from old left before out execution) →
+    length execution.journal ≡ length from.journal + length has.made
+longer_by {from} {old} {left} {before} {out} {execution} has =
+    ap length has.grown ∙ length-append from.journal has.made
 
 -- ---- where it stops
 
@@ -230,114 +248,132 @@ by_fault known next line number (command_fault.Line fault) stop gives faulty is 
 by_fault known next line number command_fault.NoMemory stop gives answers is =
     NoCommand.no_memory is
 
+-- the next line has no answer, for this reason
+abbrev HasNone : ℕ → ℕ → Stop → Option (List ℕ) → Type 0
+HasNone room answered stop known =
+    IfSome known (λ bytes. (line : List ℕ) × (more : List (List ℕ)) × (lines_of bytes ≡ line ∷ more)
+    × StopsAtLine room answered line stop)
+
+-- the number of the next line, by how many entries were made
+pub made_so_far : {from : Execution} {old left before out : Option (List ℕ)} {execution : Execution}
+    {number : ℕ} → (has : HasAnswered from old left before out execution) →
+    number + length from.journal ≡ length execution.journal + 1 → number ≡ length has.made + 1
+made_so_far {from} {old} {left} {before} {out} {execution} {number} has is =
+    let longer = longer_by has in
+    omega arith
+
 -- the line behind those that were answered has no answer
-stops_before : (setup : Setup) (old left before out : Option (List ℕ)) (execution : Execution) (stop : Stop)
-    (P : List ℕ → Type 0) → HasAnswered setup old left before out execution →
-    IfSome left (λ bytes. (line : List ℕ) × (more : List (List ℕ)) × (lines_of bytes ≡ line ∷ more)
-    × StopsAtLine setup (length execution.journal) line stop) →
-    P (audit_text Second execution.journal) → AnswersBefore setup old stop P
-stops_before setup None left before out execution stop P has at_line holds = tt
-stops_before setup (Some bytes) left before out execution stop P has at_line holds =
+stops_before : (from : Execution) (old left before out : Option (List ℕ)) (execution : Execution)
+    (stop : Stop) (P : List ℕ → Type 0) → (has : HasAnswered from old left before out execution) →
+    HasNone (room_in from) (length has.made) stop left → P (lines_of_entries has.made) →
+    AnsweredBefore (AnsweredFrom from) (room_in from) old stop P
+stops_before from None left before out execution stop P has at_line holds = tt
+stops_before from (Some bytes) left before out execution stop P has at_line holds =
     let (front, rest, commands, is, split, each, same) = has.read in
-    let here = subst
-    (λ o. IfSome o (λ bytes. (line : List ℕ) × (more : List (List ℕ)) × (lines_of bytes ≡ line ∷ more)
-    × StopsAtLine setup (length execution.journal) line stop)) is at_line in
+    let here = subst (HasNone (room_in from) (length has.made) stop) is at_line in
     let (line, more, first, stops) = here in
     record {
       front = front;
       line = line;
       more = more;
-      text = audit_text Second execution.journal;
+      text = lines_of_entries has.made;
       lines = split ∙ ap (λ ls. front ++ ls) first;
-      answered = answered_by setup front commands execution each same has.legal;
-      stops = subst (λ n. StopsAtLine setup n line stop)
-          (sym (as_many_entries setup front commands execution each same)) stops;
+      answered = answered_by from front commands has.made
+          (legal_behind from execution has.made has.same has.grown has.legal) each same;
+      stops = subst (λ n. StopsAtLine (room_in from) n line stop)
+          (sym (as_many_entries front commands has.made each same)) stops;
       out = holds;
     }
 
-is_faulty : (setup : Setup) (known : Option (List ℕ)) (answered number : ℕ) (fault : LineFault) →
+is_faulty : (room : ℕ) (known : Option (List ℕ)) (answered number : ℕ) (fault : LineFault) →
     number ≡ answered + 1 → IfSome known (λ bytes. (line : List ℕ) × (more : List (List ℕ))
     × (lines_of bytes ≡ line ∷ more) × LineOf line (Err fault)) →
-    IfSome known (λ bytes. (line : List ℕ) × (more : List (List ℕ)) × (lines_of bytes ≡ line ∷ more)
-    × StopsAtLine setup answered line (Script (Line number fault)))
-is_faulty setup None answered number fault is line = tt
-is_faulty setup (Some bytes) answered number fault is (line, more, first, faulty) = (
+    HasNone room answered (Script (Line number fault)) known
+is_faulty room None answered number fault is line = tt
+is_faulty room (Some bytes) answered number fault is (line, more, first, faulty) = (
   line,
   more,
   first,
-  subst (λ n. StopsAtLine setup answered line (Script (Line n fault))) (sym is)
+  subst (λ n. StopsAtLine room answered line (Script (Line n fault))) (sym is)
       (StopsAtLine.faulty fault faulty),
 )
 
 -- the next line is no command
-pub refused_line : {setup : Setup} {old left before out : Option (List ℕ)} {execution : Execution}
-    {number : ℕ} {stop : Stop} (P : List ℕ → Type 0) → HasAnswered setup old left before out execution →
-    number ≡ length execution.journal + 1 → NoCommand left number stop →
-    P (audit_text Second execution.journal) → IfRunRefusal stop (AnswersBefore setup old stop P)
-refused_line {setup} {old} {left} {before} {out} {execution} {number} {stop} P has is (NoCommand.faulty fault told line) holds =
-    subst (λ s. IfRunRefusal s (AnswersBefore setup old s P)) (sym told)
-    (stops_before setup old left before out execution (Script (Line number fault)) P has
-    (is_faulty setup left (length execution.journal) number fault is line) holds)
-refused_line {setup} {old} {left} {before} {out} {execution} {number} {stop} P has is (NoCommand.read told) holds =
-    subst (λ s. IfRunRefusal s (AnswersBefore setup old s P)) (sym told) tt
-refused_line {setup} {old} {left} {before} {out} {execution} {number} {stop} P has is (NoCommand.no_memory told) holds =
-    subst (λ s. IfRunRefusal s (AnswersBefore setup old s P)) (sym told) tt
+pub refused_line : {from : Execution} {old left before out : Option (List ℕ)} {execution : Execution}
+    {number : ℕ} {stop : Stop} (P : List ℕ → Type 0) →
+    (has : HasAnswered from old left before out execution) →
+    number ≡ length has.made + 1 → NoCommand left number stop → P (lines_of_entries has.made) →
+    IfRunRefusal stop (AnsweredBefore (AnsweredFrom from) (room_in from) old stop P)
+refused_line {from} {old} {left} {before} {out} {execution} {number} {stop} P has is (NoCommand.faulty fault told line) holds =
+    subst (λ s. IfRunRefusal s (AnsweredBefore (AnsweredFrom from) (room_in from) old s P)) (sym told)
+    (stops_before from old left before out execution (Script (Line number fault)) P has
+    (is_faulty (room_in from) left (length has.made) number fault is line) holds)
+refused_line {from} {old} {left} {before} {out} {execution} {number} {stop} P has is (NoCommand.read told) holds =
+    subst (λ s. IfRunRefusal s (AnsweredBefore (AnsweredFrom from) (room_in from) old s P)) (sym told) tt
+refused_line {from} {old} {left} {before} {out} {execution} {number} {stop} P has is (NoCommand.no_memory told) holds =
+    subst (λ s. IfRunRefusal s (AnsweredBefore (AnsweredFrom from) (room_in from) old s P)) (sym told) tt
 
-is_full : (setup : Setup) (known next : Option (List ℕ)) (answered : ℕ) (command : Command) →
-    GivesCommand known next command → setup.limit ≤ answered →
-    IfSome known (λ bytes. (line : List ℕ) × (more : List (List ℕ)) × (lines_of bytes ≡ line ∷ more)
-    × StopsAtLine setup answered line JournalFull)
-is_full setup None next answered command gives full = tt
-is_full setup (Some bytes) next answered command (line, rest, is, first, spelled) full =
+is_full : (room : ℕ) (known next : Option (List ℕ)) (answered : ℕ) (command : Command) →
+    GivesCommand known next command → room ≤ answered → HasNone room answered JournalFull known
+is_full room None next answered command gives full = tt
+is_full room (Some bytes) next answered command (line, rest, is, first, spelled) full =
     (line, lines_of rest, first, StopsAtLine.full command spelled full)
 
--- the command of the next line has no answer
-pub refused_command : (next : Option (List ℕ)) {setup : Setup} {old left before out short : Option (List ℕ)}
-    {execution now : Execution} {command : Command} {stop : Stop} →
-    HasAnswered setup old left before out execution → GivesCommand left next command →
-    NoAnswer execution command now out short stop →
-    IfRunRefusal stop (AnswersBefore setup old stop (Appends before short))
-refused_command next {setup} {old} {left} {before} {out} {short} {execution} {now} {command} {stop} has gives (NoAnswer.full told full keeps) =
-    let limit : setup.limit ≤ length execution.journal =
+-- where the journal is full, as many entries were made as it had room for
+no_room : {from : Execution} {old left before out : Option (List ℕ)} {execution : Execution} →
+    (has : HasAnswered from old left before out execution) →
+    execution.setup.limit ≤ length execution.journal → room_in from ≤ length has.made
+no_room {from} {old} {left} {before} {out} {execution} has full =
+    let limit : from.setup.limit ≤ length execution.journal =
     subst (λ (s : Setup). s.limit ≤ length execution.journal) has.same full in
-    subst (λ s. IfRunRefusal s (AnswersBefore setup old s (Appends before short))) (sym told)
-    (stops_before setup old left before out execution JournalFull (Appends before short) has
-    (is_full setup left next (length execution.journal) command gives limit)
-    (Appends-kept before out short (audit_text Second execution.journal) has.written keeps))
-refused_command next {setup} {old} {left} {before} {out} {short} {execution} {now} {command} {stop} has gives (NoAnswer.no_memory told keeps) =
-    subst (λ s. IfRunRefusal s (AnswersBefore setup old s (Appends before short))) (sym told) tt
-refused_command next {setup} {old} {left} {before} {out} {short} {execution} {now} {command} {stop} has gives (NoAnswer.short told enters legal stops) =
-    subst (λ s. IfRunRefusal s (AnswersBefore setup old s (Appends before short))) (sym told) tt
+    let longer = longer_by has in
+    omega arith
+
+-- the command of the next line has no answer
+pub refused_command : (next : Option (List ℕ)) {from : Execution} {old left before out short : Option (List ℕ)}
+    {execution now : Execution} {command : Command} {stop : Stop} →
+    HasAnswered from old left before out execution → GivesCommand left next command →
+    NoAnswer execution command now out short stop →
+    IfRunRefusal stop (AnsweredBefore (AnsweredFrom from) (room_in from) old stop (Appends before short))
+refused_command next {from} {old} {left} {before} {out} {short} {execution} {now} {command} {stop} has gives (NoAnswer.full told full keeps) =
+    subst (λ s. IfRunRefusal s (AnsweredBefore (AnsweredFrom from) (room_in from) old s (Appends before short))) (sym told)
+    (stops_before from old left before out execution JournalFull (Appends before short) has
+    (is_full (room_in from) left next (length has.made) command gives (no_room has full))
+    (Appends-kept before out short (lines_of_entries has.made) has.written keeps))
+refused_command next {from} {old} {left} {before} {out} {short} {execution} {now} {command} {stop} has gives (NoAnswer.no_memory told keeps) =
+    subst (λ s. IfRunRefusal s (AnsweredBefore (AnsweredFrom from) (room_in from) old s (Appends before short))) (sym told) tt
+refused_command next {from} {old} {left} {before} {out} {short} {execution} {now} {command} {stop} has gives (NoAnswer.short told enters legal stops) =
+    subst (λ s. IfRunRefusal s (AnsweredBefore (AnsweredFrom from) (room_in from) old s (Appends before short))) (sym told) tt
 
 pub at_least : (old new : Option (List ℕ)) (text : List ℕ) → Appends old new text →
     AppendsAtLeast old new text
 at_least old new text written = ([], subst (Appends old new) (sym (append-nil text)) written)
 
 -- what is out where an answer isn't whole: all answers before it
-pub still_out : {setup : Setup} {old left before out short : Option (List ℕ)} {execution now : Execution}
-    {command : Command} {stop : Stop} → HasAnswered setup old left before out execution →
+pub still_out : {from : Execution} {old left before out short : Option (List ℕ)} {execution now : Execution}
+    {command : Command} {stop : Stop} → (has : HasAnswered from old left before out execution) →
     NoAnswer execution command now out short stop →
-    AppendsAtLeast before short (audit_text Second execution.journal)
-still_out {setup} {old} {left} {before} {out} {short} {execution} {now} {command} {stop} has (NoAnswer.full told full keeps) =
-    at_least before short (audit_text Second execution.journal)
-    (Appends-kept before out short (audit_text Second execution.journal) has.written keeps)
-still_out {setup} {old} {left} {before} {out} {short} {execution} {now} {command} {stop} has (NoAnswer.no_memory told keeps) =
-    at_least before short (audit_text Second execution.journal)
-    (Appends-kept before out short (audit_text Second execution.journal) has.written keeps)
-still_out {setup} {old} {left} {before} {out} {short} {execution} {now} {command} {stop} has (NoAnswer.short told enters legal stops) =
+    AppendsAtLeast before short (lines_of_entries has.made)
+still_out {from} {old} {left} {before} {out} {short} {execution} {now} {command} {stop} has (NoAnswer.full told full keeps) =
+    at_least before short (lines_of_entries has.made)
+    (Appends-kept before out short (lines_of_entries has.made) has.written keeps)
+still_out {from} {old} {left} {before} {out} {short} {execution} {now} {command} {stop} has (NoAnswer.no_memory told keeps) =
+    at_least before short (lines_of_entries has.made)
+    (Appends-kept before out short (lines_of_entries has.made) has.written keeps)
+still_out {from} {old} {left} {before} {out} {short} {execution} {now} {command} {stop} has (NoAnswer.short told enters legal stops) =
     let (front, rest, is, grown, some) = stops in
-    (front, Appends-trans before out short (audit_text Second execution.journal) front has.written grown)
+    (front, Appends-trans before out short (lines_of_entries has.made) front has.written grown)
 
 -- and where there was no memory, nothing more
-pub none_out : {setup : Setup} {old left before out short : Option (List ℕ)} {execution now : Execution}
-    {command : Command} {stop : Stop} → HasAnswered setup old left before out execution →
+pub none_out : {from : Execution} {old left before out short : Option (List ℕ)} {execution now : Execution}
+    {command : Command} {stop : Stop} → (has : HasAnswered from old left before out execution) →
     NoAnswer execution command now out short stop → stop ≡ NoMemory →
-    Appends before short (audit_text Second execution.journal)
-none_out {setup} {old} {left} {before} {out} {short} {execution} {now} {command} {stop} has (NoAnswer.full told full keeps) is =
-    Appends-kept before out short (audit_text Second execution.journal) has.written keeps
-none_out {setup} {old} {left} {before} {out} {short} {execution} {now} {command} {stop} has (NoAnswer.no_memory told keeps) is =
-    Appends-kept before out short (audit_text Second execution.journal) has.written keeps
-none_out {setup} {old} {left} {before} {out} {short} {execution} {now} {command} {stop} has (NoAnswer.short told enters legal stops) is =
+    Appends before short (lines_of_entries has.made)
+none_out {from} {old} {left} {before} {out} {short} {execution} {now} {command} {stop} has (NoAnswer.full told full keeps) is =
+    Appends-kept before out short (lines_of_entries has.made) has.written keeps
+none_out {from} {old} {left} {before} {out} {short} {execution} {now} {command} {stop} has (NoAnswer.no_memory told keeps) is =
+    Appends-kept before out short (lines_of_entries has.made) has.written keeps
+none_out {from} {old} {left} {before} {out} {short} {execution} {now} {command} {stop} has (NoAnswer.short told enters legal stops) is =
     let bad : ⊥ = cc in absurd bad
 
 pub short_behind : (first second third : Option (List ℕ)) (done piece : List ℕ) →
@@ -351,47 +387,162 @@ short_behind first second third done piece written (front, rest, is, grown, some
   some,
 )
 
-some_answered : (setup : Setup) (old left : Option (List ℕ)) (execution : Execution)
-    (P : List ℕ → Type 0) → HasRead setup old left execution → Legal execution.setup execution.journal →
-    P (audit_text Second execution.journal) → AnswersSome setup old P
-some_answered setup None left execution P read legal holds = tt
-some_answered setup (Some bytes) left execution P read legal holds =
+first_answered : (from : Execution) (old left : Option (List ℕ)) (made : List Entry)
+    (P : List ℕ → Type 0) → HasRead old left made → Legal from.setup (from.journal ++ made) →
+    P (lines_of_entries made) → FirstAnswered (AnsweredFrom from) old P
+first_answered from None left made P read legal holds = tt
+first_answered from (Some bytes) left made P read legal holds =
     let (front, rest, commands, is, split, each, same) = read in
     record {
       front = front;
       more = lines_of rest;
-      text = audit_text Second execution.journal;
+      text = lines_of_entries made;
       lines = split;
-      answered = answered_by setup front commands execution each same legal;
+      answered = answered_by from front commands made legal each same;
       out = holds;
     }
+
+-- an answer isn't out whole
+pub answer_short : (next : Option (List ℕ)) {from : Execution} {old left before out short : Option (List ℕ)}
+    {execution now : Execution} {command : Command} {stop : Stop} →
+    HasAnswered from old left before out execution → GivesCommand left next command →
+    NoAnswer execution command now out short stop → stop ≡ Write →
+    FirstAnswered (AnsweredFrom from) old (AppendsProperPrefix before short)
+answer_short next {from} {old} {left} {before} {out} {short} {execution} {now} {command} {stop} has gives (NoAnswer.full told full keeps) is =
+    let bad : ⊥ = cc in absurd bad
+answer_short next {from} {old} {left} {before} {out} {short} {execution} {now} {command} {stop} has gives (NoAnswer.no_memory told keeps) is =
+    let bad : ⊥ = cc in absurd bad
+answer_short next {from} {old} {left} {before} {out} {short} {execution} {now} {command} {stop} has gives (NoAnswer.short told enters legal stops) is =
+    let entry = entry_of execution command in
+    let same = ap (λ (c : Execution). c.setup) enters ∙ has.same in
+    first_answered from old next (has.made ++ entry ∷ []) (AppendsProperPrefix before short)
+    (read_one_more old left next has.made execution command has.read gives)
+    (legal_behind from now (has.made ++ entry ∷ []) same (grown_more command has enters) legal)
+    (subst (AppendsProperPrefix before short) (sym (lines_one_more has.made entry))
+    (short_behind before out short (lines_of_entries has.made) (entry_line entry) has.written stops))
+
+-- ---- the header before it
+
+-- what answers lines on a new cluster is, behind the header, an audit
+audited : (setup : Setup) (lines : List (List ℕ)) (text : List ℕ) → AnsweredFrom (opened setup) lines text →
+    Answered setup lines (header Second ++ text)
+audited setup lines text answered = record {
+  commands = answered.commands;
+  each = answered.each;
+  audit = record {
+    journal = answered.made;
+    legal = answered.legal;
+    acts = answered.acts;
+    written = ap (λ l. header Second ++ l) answered.written;
+  };
+}
+
+-- what holds of a text behind the header, by what holds of the text
+abbrev pub Headed : (List ℕ → Type 0) → (List ℕ → Type 0) → Type 0
+Headed P Q = (text : List ℕ) → P text → Q (header Second ++ text)
+
+pub all_headed : (setup : Setup) (known : Option (List ℕ)) (P Q : List ℕ → Type 0) → Headed P Q →
+    AllAnswered (AnsweredFrom (opened setup)) known P → AnswersAll setup known Q
+all_headed setup None P Q headed all = tt
+all_headed setup (Some bytes) P Q headed all =
+    (header Second ++ all.0, audited setup (lines_of bytes) all.0 all.1, headed all.0 all.2)
+
+room_at_start : (setup : Setup) → room_in (opened setup) ≡ setup.limit
+room_at_start setup = omega arith
+
+one_headed : (setup : Setup) (bytes : List ℕ) (stop : Stop) (P Q : List ℕ → Type 0) → Headed P Q →
+    AreBefore (AnsweredFrom (opened setup)) (room_in (opened setup)) bytes stop P →
+    AreBefore (Answered setup) setup.limit bytes stop Q
+one_headed setup bytes stop P Q headed before = record {
+  front = before.front;
+  line = before.line;
+  more = before.more;
+  text = header Second ++ before.text;
+  lines = before.lines;
+  answered = audited setup before.front before.text before.answered;
+  stops = subst (λ r. StopsAtLine r (length before.front) before.line stop) (room_at_start setup)
+      before.stops;
+  out = headed before.text before.out;
+}
+
+each_headed : (setup : Setup) (known : Option (List ℕ)) (stop : Stop) (P Q : List ℕ → Type 0) →
+    Headed P Q →
+    AnsweredBefore (AnsweredFrom (opened setup)) (room_in (opened setup)) known stop P →
+    AnswersBefore setup known stop Q
+each_headed setup None stop P Q headed before = tt
+each_headed setup (Some bytes) stop P Q headed before = one_headed setup bytes stop P Q headed before
+
+pub before_headed : (setup : Setup) (known : Option (List ℕ)) (stop : Stop) (P Q : List ℕ → Type 0) →
+    Headed P Q → IfRunRefusal stop
+    (AnsweredBefore (AnsweredFrom (opened setup)) (room_in (opened setup)) known stop P) →
+    IfRunRefusal stop (AnswersBefore setup known stop Q)
+before_headed setup known (Script fault) P Q headed before =
+    each_headed setup known (Script fault) P Q headed before
+before_headed setup known JournalFull P Q headed before =
+    each_headed setup known JournalFull P Q headed before
+before_headed setup known JudgeTooLong P Q headed before = tt
+before_headed setup known (JudgeLine line fault) P Q headed before = tt
+before_headed setup known (Config fault) P Q headed before = tt
+before_headed setup known (Audit fault) P Q headed before = tt
+before_headed setup known (Events fault) P Q headed before = tt
+before_headed setup known SwarmClose P Q headed before = tt
+before_headed setup known Read P Q headed before = tt
+before_headed setup known Write P Q headed before = tt
+before_headed setup known NoMemory P Q headed before = tt
+
+pub some_headed : (setup : Setup) (known : Option (List ℕ)) (P Q : List ℕ → Type 0) → Headed P Q →
+    FirstAnswered (AnsweredFrom (opened setup)) known P → AnswersSome setup known Q
+some_headed setup None P Q headed first = tt
+some_headed setup (Some bytes) P Q headed first = record {
+  front = first.front;
+  more = first.more;
+  text = header Second ++ first.text;
+  lines = first.lines;
+  answered = audited setup first.front first.text first.answered;
+  out = headed first.text first.out;
+}
+
+pub turn_headed : (setup : Setup) (Reads : Option (List ℕ) → Option (List ℕ) → Type 0)
+    (known left : Option (List ℕ)) (P Q : List ℕ → Type 0) → Headed P Q →
+    IfSome known (λ bytes. AreInTurn (AnsweredFrom (opened setup)) Reads bytes left P) →
+    IfSome known (λ bytes. AreInTurn (Answered setup) Reads bytes left Q)
+turn_headed setup Reads None left P Q headed turn = tt
+turn_headed setup Reads (Some bytes) left P Q headed turn = record {
+  front = turn.front;
+  rest = turn.rest;
+  text = header Second ++ turn.text;
+  lines = turn.lines;
+  within = turn.within;
+  answered = audited setup turn.front turn.text turn.answered;
+  out = headed turn.text turn.out;
+}
 
 -- the header isn't out whole
 pub header_short : (setup : Setup) (known before short : Option (List ℕ)) →
     AppendsProperPrefix before short (header Second) → AnswersSome setup known (AppendsProperPrefix before short)
 header_short setup known before short stops =
-    some_answered setup known known (opened setup) (AppendsProperPrefix before short)
-    (unread setup known) (omega arith, tt)
-    (subst (AppendsProperPrefix before short) (sym (append-nil (header Second))) stops)
+    some_headed setup known (λ text. text ≡ []) (AppendsProperPrefix before short)
+    (λ text none. subst (λ t. AppendsProperPrefix before short (header Second ++ t)) (sym none)
+    (subst (AppendsProperPrefix before short) (sym (append-nil (header Second))) stops))
+    (first_answered (opened setup) known known [] (λ text. text ≡ []) (unread known)
+    (omega arith, tt) refl)
 
--- an answer isn't out whole
-pub answer_short : (next : Option (List ℕ)) {setup : Setup} {old left before out short : Option (List ℕ)}
-    {execution now : Execution} {command : Command} {stop : Stop} →
-    HasAnswered setup old left before out execution → GivesCommand left next command →
-    NoAnswer execution command now out short stop → stop ≡ Write →
-    AnswersSome setup old (AppendsProperPrefix before short)
-answer_short next {setup} {old} {left} {before} {out} {short} {execution} {now} {command} {stop} has gives (NoAnswer.full told full keeps) is =
-    let bad : ⊥ = cc in absurd bad
-answer_short next {setup} {old} {left} {before} {out} {short} {execution} {now} {command} {stop} has gives (NoAnswer.no_memory told keeps) is =
-    let bad : ⊥ = cc in absurd bad
-answer_short next {setup} {old} {left} {before} {out} {short} {execution} {now} {command} {stop} has gives (NoAnswer.short told enters legal stops) is =
-    some_answered setup old next now (AppendsProperPrefix before short)
-    (read_one_more setup old left next execution now command has.read gives enters) legal
-    (subst (AppendsProperPrefix before short)
-    (sym (ap (λ (c : Execution). audit_text Second c.journal) enters
-    ∙ text_one_more execution.journal (entry_of execution command)))
-    (short_behind before out short (audit_text Second execution.journal)
-    (entry_line (entry_of execution command)) has.written stops))
+pub appends_headed : (first second third : Option (List ℕ)) → Appends first second (header Second) →
+    Headed (Appends second third) (Appends first third)
+appends_headed first second third head text written =
+    Appends-trans first second third (header Second) text head written
+
+pub at_least_headed : (first second third : Option (List ℕ)) → Appends first second (header Second) →
+    Headed (AppendsAtLeast second third) (AppendsAtLeast first third)
+at_least_headed first second third head text (more, written) = (
+  more,
+  subst (Appends first third) (sym (append_assoc (header Second) text more))
+      (Appends-trans first second third (header Second) (text ++ more) head written),
+)
+
+pub short_headed : (first second third : Option (List ℕ)) → Appends first second (header Second) →
+    Headed (AppendsProperPrefix second third) (AppendsProperPrefix first third)
+short_headed first second third head text stops = short_behind first second third (header Second) text head stops
 
 pub no_command_write : {known : Option (List ℕ)} {number : ℕ} {stop : Stop} →
     NoCommand known number stop → stop ≡ Write → ⊥

@@ -1,5 +1,5 @@
 -- what a guard answers to the lines of a script that is still being written
-use Rattle.std.specs.Prelude.{◌≡◌, ◌≤◌, ◌+◌, ℕ, List, ◌∷◌, ◌++◌, length, Option, Some, IfSome, Ok, Err}
+use Rattle.std.specs.Prelude.{◌≡◌, ◌≤◌, ◌+◌, ◌-◌, ℕ, List, ◌∷◌, ◌++◌, length, map, Option, Some, IfSome, Ok, Err}
 use Rattle.std.specs.Io.KnownBytes.{Appends, Keeps}
 use Rattle.fy_lines.specs.Lines.{lines_of}
 use Rattle.fy_lines.specs.Prefixes.{AppendsProperPrefix}
@@ -15,7 +15,8 @@ use Rattle.fy_audit.specs.declared.script.ScriptFault.TheVariants.{Line}
 use Rattle.fy_cluster.specs.Setup.{Setup}
 use Rattle.fy_cluster.specs.Replies.{Legal}
 use Rattle.fy_cluster.specs.Execution.{Execution, replied, entered}
-use Rattle.fy_run.specs.RunTexts.{IsAuditOf}
+use Rattle.fy_cluster.specs.Survival.{by_and_act}
+use Rattle.fy_run.specs.RunTexts.{asked, lines_of_entries, IsAuditOf}
 use Rattle.fy_engine.specs.declared.stop.Stop.{Stop}
 use Rattle.fy_engine.specs.declared.stop.Stop.TheVariants.{Script, JournalFull, Read, Write, NoMemory}
 
@@ -25,69 +26,113 @@ pub record Answered (setup : Setup) (lines : List (List ℕ)) (text : List ℕ) 
   pub each : AreCommands lines commands
   pub audit : IsAuditOf setup commands text
 
--- why the line behind so many answered ones has no answer: it is no command, or the journal is full
-pub data StopsAtLine (setup : Setup) (answered : ℕ) (line : List ℕ) : Stop → Type 0 where
-  faulty : (fault : LineFault) → LineOf line (Err fault) →
-      StopsAtLine setup answered line (Script (Line (answered + 1) fault))
-  full : (command : Command) → LineOf line (Ok command) → setup.limit ≤ answered →
-      StopsAtLine setup answered line JournalFull
+-- each line is a command, and the text are the lines of the entries of their acts, which make a
+-- legal journal behind those of a cluster
+pub record AnsweredFrom (from : Execution) (lines : List (List ℕ)) (text : List ℕ) : Type 0 where
+  pub commands : List Command
+  pub each : AreCommands lines commands
+  pub made : List Entry
+  pub legal : Legal from.setup (from.journal ++ made)
+  pub acts : map by_and_act made ≡ map asked commands
+  pub written : text ≡ lines_of_entries made
 
--- GUARD: all lines of the known bytes are answered, by a text of which this holds
-abbrev pub AnswersAll : Setup → Option (List ℕ) → (List ℕ → Type 0) → Type 0
-AnswersAll setup known P =
-    IfSome known (λ bytes. (text : List ℕ) × Answered setup (lines_of bytes) text × P text)
+-- how many entries more the journal of a cluster may have
+abbrev pub room_in : Execution → ℕ
+room_in from = from.setup.limit - length from.journal
+
+-- why the line behind so many answered ones has no answer: it is no command, or the journal, which
+-- had room for so many entries more, is full
+pub data StopsAtLine (room answered : ℕ) (line : List ℕ) : Stop → Type 0 where
+  faulty : (fault : LineFault) → LineOf line (Err fault) →
+      StopsAtLine room answered line (Script (Line (answered + 1) fault))
+  full : (command : Command) → LineOf line (Ok command) → room ≤ answered →
+      StopsAtLine room answered line JournalFull
+
+-- what is said of lines and the text that answers them
+abbrev pub Answering : Type 1
+Answering = List (List ℕ) → List ℕ → Type 0
+
+-- all lines of the known bytes are answered, by a text of which this holds
+abbrev pub AllAnswered : Answering → Option (List ℕ) → (List ℕ → Type 0) → Type 0
+AllAnswered Answers known P =
+    IfSome known (λ bytes. (text : List ℕ) × Answers (lines_of bytes) text × P text)
 
 -- the lines before one that has no answer are answered, by a text of which this holds
-pub record AreBefore (setup : Setup) (bytes : List ℕ) (stop : Stop) (P : List ℕ → Type 0)
-    : Type 0 where
+pub record AreBefore (Answers : Answering) (room : ℕ) (bytes : List ℕ) (stop : Stop)
+    (P : List ℕ → Type 0) : Type 0 where
   pub front : List (List ℕ)
   pub line : List ℕ
   pub more : List (List ℕ)
   pub text : List ℕ
   pub lines : lines_of bytes ≡ front ++ line ∷ more
-  pub answered : Answered setup front text
-  pub stops : StopsAtLine setup (length front) line stop
+  pub answered : Answers front text
+  pub stops : StopsAtLine room (length front) line stop
   pub out : P text
 
--- GUARD: the lines of the known bytes before the one that has no answer are answered
-abbrev pub AnswersBefore : Setup → Option (List ℕ) → Stop → (List ℕ → Type 0) → Type 0
-AnswersBefore setup known stop P = IfSome known (λ bytes. AreBefore setup bytes stop P)
+-- the lines of the known bytes before the one that has no answer are answered
+abbrev pub AnsweredBefore : Answering → ℕ → Option (List ℕ) → Stop → (List ℕ → Type 0) → Type 0
+AnsweredBefore Answers room known stop P =
+    IfSome known (λ bytes. AreBefore Answers room bytes stop P)
 
 -- some first lines are answered, by a text of which this holds
-pub record AreFirst (setup : Setup) (bytes : List ℕ) (P : List ℕ → Type 0) : Type 0 where
+pub record AreFirst (Answers : Answering) (bytes : List ℕ) (P : List ℕ → Type 0) : Type 0 where
   pub front : List (List ℕ)
   pub more : List (List ℕ)
   pub text : List ℕ
   pub lines : lines_of bytes ≡ front ++ more
-  pub answered : Answered setup front text
+  pub answered : Answers front text
   pub out : P text
 
--- GUARD: some first lines of the known bytes are answered
-abbrev pub AnswersSome : Setup → Option (List ℕ) → (List ℕ → Type 0) → Type 0
-AnswersSome setup known P = IfSome known (λ bytes. AreFirst setup bytes P)
+-- some first lines of the known bytes are answered
+abbrev pub FirstAnswered : Answering → Option (List ℕ) → (List ℕ → Type 0) → Type 0
+FirstAnswered Answers known P = IfSome known (λ bytes. AreFirst Answers bytes P)
 
 -- some first lines were read and are answered, by a text of which this holds; and the rest was read
 -- so far
-pub record AreInTurn (setup : Setup) (Reads : Option (List ℕ) → Option (List ℕ) → Type 0)
+pub record AreInTurn (Answers : Answering) (Reads : Option (List ℕ) → Option (List ℕ) → Type 0)
     (bytes : List ℕ) (left : Option (List ℕ)) (P : List ℕ → Type 0) : Type 0 where
   pub front : List (List ℕ)
   pub rest : List ℕ
   pub text : List ℕ
   pub lines : lines_of bytes ≡ front ++ lines_of rest
   pub within : Reads (Some rest) left
-  pub answered : Answered setup front text
+  pub answered : Answers front text
   pub out : P text
+
+-- of the known bytes so many were read that the lines before the last one are answered; of that one
+-- no byte behind its feed was read
+abbrev pub AnsweredInTurn : Answering → Option (List ℕ) → Option (List ℕ) → (List ℕ → Type 0)
+    → Type 0
+AnsweredInTurn Answers old new P =
+    IfSome old (λ bytes. AreInTurn Answers ReadsWithinLine bytes new P)
+
+-- so many were read, and of the last line not its feed, nor more bytes than a line may have
+abbrev pub AnsweredBeforeCut : Answering → Option (List ℕ) → Option (List ℕ) → (List ℕ → Type 0)
+    → Type 0
+AnsweredBeforeCut Answers old new P = IfSome old (λ bytes.
+    AreInTurn Answers (λ rest left. ReadsInsideLine rest left MOST_LINE_BYTES) bytes new P)
+
+-- GUARD: all lines of the known bytes are answered, by a text of which this holds
+abbrev pub AnswersAll : Setup → Option (List ℕ) → (List ℕ → Type 0) → Type 0
+AnswersAll setup known P = AllAnswered (Answered setup) known P
+
+-- GUARD: the lines of the known bytes before the one that has no answer are answered
+abbrev pub AnswersBefore : Setup → Option (List ℕ) → Stop → (List ℕ → Type 0) → Type 0
+AnswersBefore setup known stop P = AnsweredBefore (Answered setup) setup.limit known stop P
+
+-- GUARD: some first lines of the known bytes are answered
+abbrev pub AnswersSome : Setup → Option (List ℕ) → (List ℕ → Type 0) → Type 0
+AnswersSome setup known P = FirstAnswered (Answered setup) known P
 
 -- GUARD: of the known bytes so many were read that the lines before the last one are answered; of
 -- that one no byte behind its feed was read
 abbrev pub AnswersInTurn : Setup → Option (List ℕ) → Option (List ℕ) → (List ℕ → Type 0) → Type 0
-AnswersInTurn setup old new P = IfSome old (λ bytes. AreInTurn setup ReadsWithinLine bytes new P)
+AnswersInTurn setup old new P = AnsweredInTurn (Answered setup) old new P
 
 -- GUARD: so many were read, and of the last line not its feed, nor more bytes than a line may have
 abbrev pub AnswersBeforeCut : Setup → Option (List ℕ) → Option (List ℕ) → (List ℕ → Type 0)
     → Type 0
-AnswersBeforeCut setup old new P = IfSome old (λ bytes.
-    AreInTurn setup (λ rest left. ReadsInsideLine rest left MOST_LINE_BYTES) bytes new P)
+AnswersBeforeCut setup old new P = AnsweredBeforeCut (Answered setup) old new P
 
 -- GUARD: nothing was read
 abbrev pub ReadNothing : Option (List ℕ) → Option (List ℕ) → Type 0

@@ -9,7 +9,7 @@ ghost use Rattle.fy_audit.specs.AuditText.{entry_line};
 ghost use Rattle.fy_audit.specs.declared.script.ScriptFault.TheVariants.{Line};
 ghost use Rattle.fy_cluster.specs.Execution.{entered};
 ghost use Rattle.fy_cluster.specs.Replies.{Legal};
-ghost use Rattle.fy_run.specs.GuardTexts.{AnswersAll, AnswersBefore, AnswersSome, AnswersInTurn, AnswersBeforeCut, ReadNothing, AppendsAtLeast, entry_of, GivesCommand, NoCommand, NoAnswer};
+ghost use Rattle.fy_run.specs.GuardTexts.{AllAnswered, AnsweredBefore, FirstAnswered, AnsweredInTurn, AnsweredBeforeCut, AnsweredFrom, room_in, AnswersAll, AnswersBefore, AnswersSome, AnswersInTurn, AnswersBeforeCut, ReadNothing, AppendsAtLeast, entry_of, GivesCommand, NoCommand, NoAnswer};
 ghost use Rattle.fy_run.specs.RunTexts.{IfRunRefusal};
 ghost use Rattle.fy_engine.specs.Stops.{command_stop, IsRunStop};
 
@@ -107,10 +107,62 @@ fn answer<W: Write>(
     Ok(())
 }
 
-/// Reads a script line by line, and answers each line at once: its command is applied to a cluster
-/// of this configuration, and its entry is written before the next line is asked for. The header of
-/// the audit comes first, so that what is out is an audit at every moment. Each line goes out with
-/// one call of `write`, where the writer takes it whole.
+/// Reads a script line by line, and answers each line at once: its command is applied to the
+/// cluster, and its entry is written before the next line is asked for. Each line goes out with one
+/// call of `write`, where the writer takes it whole.
+///
+/// # Errors
+///
+/// `Script` at the first line that is no command, and `JournalFull` at the first command for which
+/// the journal has no place: what is out are then the entries of the lines before. `Read` where the
+/// reader fails: they are then those of the lines before the one that was being read. `NoMemory`
+/// where memory is refused: so are they then. `Write` where the writer fails or takes no byte: a
+/// front of such entries is out, and never all of them.
+pub fn answer_lines<R: BufRead, W: Write>(
+    alloc: Global,
+    mut cluster: ClusterState,
+    reader: &mut R,
+    writer: &mut W,
+) -> Result<bool, Stop>
+    ensures answered { IfOk result (λ done. (done ≡ true)
+        × AllAnswered (AnsweredFrom cluster) (R.remaining reader.old)
+        (Appends (W.contents writer.old) (W.contents writer.new))) }
+    ensures refused { IfErr result (λ stop. IfRunRefusal stop
+        (AnsweredBefore (AnsweredFrom cluster) (room_in cluster) (R.remaining reader.old) stop
+        (Appends (W.contents writer.old) (W.contents writer.new)))) }
+    ensures in_turn { AnsweredInTurn (AnsweredFrom cluster)
+        (R.remaining reader.old) (R.remaining reader.new)
+        (AppendsAtLeast (W.contents writer.old) (W.contents writer.new)) }
+    ensures read_fault { result ≡ Err Stop.Read → AnsweredBeforeCut (AnsweredFrom cluster)
+        (R.remaining reader.old) (R.remaining reader.new)
+        (Appends (W.contents writer.old) (W.contents writer.new)) }
+    ensures no_memory { result ≡ Err Stop.NoMemory → AnsweredInTurn (AnsweredFrom cluster)
+        (R.remaining reader.old) (R.remaining reader.new)
+        (Appends (W.contents writer.old) (W.contents writer.new)) }
+    ensures front_out { result ≡ Err Stop.Write →
+        FirstAnswered (AnsweredFrom cluster) (R.remaining reader.old)
+        (AppendsProperPrefix (W.contents writer.old) (W.contents writer.new)) }
+    ensures no_other { IfErr result IsRunStop }
+{
+    cluster.survives();
+    cluster.config().invariant();
+    let (mut line, mut text) = (Vec::new(alloc), Vec::new(alloc));
+    let mut number = 1;
+    'lines: loop {
+        let command = match next_command(alloc, reader, &mut line, number) {
+            Ok(Some(command)) => command,
+            Ok(None) => return Ok(true),
+            Err(stop) => return Err(stop),
+        };
+        match answer(&mut cluster, command, &mut text, writer) {
+            Ok(()) => number += 1,
+            Err(stop) => return Err(stop),
+        }
+    }
+}
+
+/// Answers the lines of a script as [`answer_lines`] does, on a new cluster of this configuration.
+/// The header of the audit comes first, so that what is out is an audit at every moment.
 ///
 /// # Errors
 ///
@@ -145,27 +197,14 @@ pub fn run_guard<R: BufRead, W: Write>(
         (AppendsProperPrefix (W.contents writer.old) (W.contents writer.new)) }
     ensures no_other { IfErr result IsRunStop }
 {
-    config.invariant();
     let Ok(config) = config.try_copy(alloc) else {
         return Err(Stop::NoMemory);
     };
-    let Ok(mut cluster) = ClusterState::make(alloc, config) else {
+    let Ok(cluster) = ClusterState::make(alloc, config) else {
         return Err(Stop::NoMemory);
     };
     let Ok(()) = write_bytes(writer, header_text(Version::Second).as_bytes()) else {
         return Err(Stop::Write);
     };
-    let (mut line, mut text) = (Vec::new(alloc), Vec::new(alloc));
-    let mut number = 1;
-    'lines: loop {
-        let command = match next_command(alloc, reader, &mut line, number) {
-            Ok(Some(command)) => command,
-            Ok(None) => return Ok(true),
-            Err(stop) => return Err(stop),
-        };
-        match answer(&mut cluster, command, &mut text, writer) {
-            Ok(()) => number += 1,
-            Err(stop) => return Err(stop),
-        }
-    }
+    answer_lines(alloc, cluster, reader, writer)
 }

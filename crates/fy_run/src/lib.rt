@@ -6,5 +6,5 @@ mod entering;
 mod guard;
 mod run;
 
-pub use guard::run_guard;
+pub use guard::{answer_lines, run_guard};
 pub use run::run_script;

@@ -16,6 +16,7 @@ complete -c faultyard -n "not __fish_seen_subcommand_from $commands" -a help -d 
 complete -c faultyard -n "__fish_seen_subcommand_from run check swarm guard show bears" -k -a "(__fish_complete_suffix .toml)"
 complete -c faultyard -n "__fish_seen_subcommand_from swarm" -l seed -x -d "What the plans of the actors are drawn from, from 0 to 2^64 - 1"
 complete -c faultyard -n "__fish_seen_subcommand_from show" -l times -r -F -d "The events of the run, a file: columns are laid by their times"
+complete -c faultyard -n "__fish_seen_subcommand_from guard" -l after -r -F -d "The audit, a file, behind whose last entry the guard goes on"
 complete -c faultyard -n "__fish_seen_subcommand_from bears" -l json -d "Writes one JSON object"
 complete -c faultyard -n "__fish_seen_subcommand_from bears" -l after -r -F -d "The audit, a file, from whose last entry on losses are counted"
 complete -c faultyard -n "__fish_seen_subcommand_from help" -a "judge run check swarm guard show bears"

@@ -45,16 +45,16 @@ returns-in-swarm-clause-task c = is_task_of _ (map string_bytes c.args.words.now
     c.in-Ok.ensures.matches c.in-Some.ensures.name c.in-Some.ensures.rows (c.in-swarm.is, c.config_of-in-swarm.ensures, c.seed_of.ensures)
 
 pub returns-in-guard-clause-task : goal.returns-in-guard-clause-task
-returns-in-guard-clause-task c = is_task_of _ (map string_bytes c.args.words.now) c.in-Ok.matches c.in-Some.name.now c.in-Some.given.now (Guard c.config_of-in-guard.result) c.in_ok-faultyard.ensures
-    c.in-Ok.ensures.matches c.in-Some.ensures.name c.in-Some.ensures.rows (c.in-guard.is, c.config_of-in-guard.ensures)
+returns-in-guard-clause-task c = is_task_of _ (map string_bytes c.args.words.now) c.in-Ok.matches c.in-Some.name.now c.in-Some.given.now (Guard c.config_of-in-guard.result c.after_of.result) c.in_ok-faultyard.ensures
+    c.in-Ok.ensures.matches c.in-Some.ensures.name c.in-Some.ensures.rows (c.in-guard.is, c.config_of-in-guard.ensures, c.after_of.ensures)
 
 pub returns-in-show-clause-task : goal.returns-in-show-clause-task
 returns-in-show-clause-task c = is_task_of _ (map string_bytes c.args.words.now) c.in-Ok.matches c.in-Some.name.now c.in-Some.given.now (Show c.config_of-in-show.result c.times_of.result) c.in_ok-faultyard.ensures
     c.in-Ok.ensures.matches c.in-Some.ensures.name c.in-Some.ensures.rows (c.in-show.is, c.config_of-in-show.ensures, c.times_of.ensures)
 
 pub returns-in-bears-clause-task : goal.returns-in-bears-clause-task
-returns-in-bears-clause-task c = is_task_of _ (map string_bytes c.args.words.now) c.in-Ok.matches c.in-Some.name.now c.in-Some.given.now (Bears c.config_of-in-bears.result c.form_of.result c.after_of.result) c.in_ok-faultyard.ensures
-    c.in-Ok.ensures.matches c.in-Some.ensures.name c.in-Some.ensures.rows (c.in-bears.is, c.config_of-in-bears.ensures, c.form_of.ensures, c.after_of.ensures)
+returns-in-bears-clause-task c = is_task_of _ (map string_bytes c.args.words.now) c.in-Ok.matches c.in-Some.name.now c.in-Some.given.now (Bears c.config_of-in-bears.result c.form_of.result c.after_of-in-bears.result) c.in_ok-faultyard.ensures
+    c.in-Ok.ensures.matches c.in-Some.ensures.name c.in-Some.ensures.rows (c.in-bears.is, c.config_of-in-bears.ensures, c.form_of.ensures, c.after_of-in-bears.ensures)
 
 pub config_of-requires-in-check : goal.config_of-requires-in-check
 config_of-requires-in-check c = has_config c.in-Some.name.now c.in-Some.given.now c.in-check.not-judge

@@ -1,16 +1,15 @@
-use Rattle.std.proofs.Common.{arith, inr, ◌≡◌, ◌+◌, ◌∙◌, length, refl, sym, ap, subst}
-use Rattle.std.specs.Prelude.{IfNone, Err}
-use Rattle.std.specs.Io.KnownBytes.{Appends, IsAtEnd}
+use Rattle.std.proofs.Common.{inr, ◌≡◌, ◌∙◌, ap, subst}
+use Rattle.std.proofs.lemmas.Result.{IfOk-weaker, IfErr-weaker}
+use Rattle.std.specs.Io.KnownBytes.{Appends}
+use Rattle.fy_cluster.specs.Execution.{opened}
 use Rattle.fy_lines.specs.Prefixes.{AppendsProperPrefix}
 use Rattle.fy_lines.specs.Readings.{ReadsWithinLine, ReadsInsideLine}
 use Rattle.fy_spelling.specs.declared.command.TheConstants.{MOST_LINE_BYTES}
-use Rattle.fy_cluster.specs.Setup.{Setup}
-use Rattle.fy_cluster.specs.Execution.{Execution, opened}
 use Rattle.fy_audit.specs.AuditText.{header}
 use Rattle.fy_journal.specs.declared.version.Version.TheVariants.{Second}
-use Rattle.fy_engine.specs.declared.stop.Stop.TheVariants.{Read, Write, NoMemory}
-use Rattle.fy_run.proofs.Acting.{one_longer}
-use Rattle.fy_run.proofs.Guarding.{HasAnswered, opens, goes_on, gave, limit_is_small, answers_all, in_turn, refused_line, refused_command, at_least, still_out, none_out, header_short, answer_short, no_command_write, no_answer_read, no_command_own, no_answer_own, same_stop}
+use Rattle.fy_run.specs.RunTexts.{IfRunRefusal}
+use Rattle.fy_run.specs.GuardTexts.{AllAnswered, AnsweredBefore, AnsweredBeforeCut, AnsweredFrom, AnsweredInTurn, AppendsAtLeast, FirstAnswered, room_in}
+use Rattle.fy_run.proofs.Guarding.{all_headed, appends_headed, at_least_headed, before_headed, header_short, short_headed, some_headed, turn_headed}
 use Rattle.fy_run.proofs.guard.run_guard.Goals as goal
 
 pub returns-in_default-write_bytes-clause-front_out :
@@ -24,126 +23,119 @@ returns-in_default-write_bytes-clause-front_out g c _ =
     header_short c.args.config.now (g.R.Read.remaining c.args.reader.now) before after
     (subst (AppendsProperPrefix before after) head c.in_default-write_bytes.ensures.short)
 
-pub lines-init : goal.lines-init
-lines-init g c =
+pub returns-clause-answered : goal.returns-clause-answered
+returns-clause-answered g c =
+    let setup = c.args.config.now in
     let known = g.R.Read.remaining c.args.reader.now in
     let before = g.W.Write.contents c.args.writer.now in
-    let after = g.W.Write.contents c.write_bytes.new.writer in
+    let mid = g.W.Write.contents c.write_bytes.new.writer in
+    let after = g.W.Write.contents c.answer_lines.new.writer in
     let bytes = c.as_bytes.ensures.value in
     let text = c.header_text.ensures in
     let head : c.as_bytes.result.now ≡ header Second = cc in
-    let same : c.in-Ok-make.cluster ≡ opened c.args.config.now =
-    c.in-Ok-make.ensures ∙ ap opened c.in-Ok.ensures in
-    let none : length c.in-Ok-make.cluster.journal ≡ 0 =
-    ap (λ (execution : Execution). length execution.journal) same in (
-      omega (arith, none),
-      subst (HasAnswered c.args.config.now known known before after) (sym same)
-          (opens c.args.config.now known before after
-          (subst (Appends before after) head c.in-Ok-write_bytes.ensures.ok)),
-    )
+    let out : Appends before mid (header Second) =
+    subst (Appends before mid) head c.in-Ok-write_bytes.ensures.ok in
+    let same : c.in-Ok-make.cluster ≡ opened setup = c.in-Ok-make.ensures ∙ ap opened c.in-Ok.ensures in
+    IfOk-weaker c.answer_lines.result _ _
+    (λ done those. (
+      those.0,
+      all_headed setup known (Appends mid after) (Appends before after)
+          (appends_headed before mid after out)
+          (subst (λ from. AllAnswered (AnsweredFrom from) known (Appends mid after)) same those.1),
+    ))
+    c.answer_lines.ensures.answered
 
-pub returns-in-Ok-None-clause-answered : goal.returns-in-Ok-None-clause-answered
-returns-in-Ok-None-clause-answered g c =
-    let left = g.R.Read.remaining c.lines.reader in
-    let ends : IsAtEnd left =
-    subst (λ o. IfNone o (IsAtEnd left)) c.in-Ok-None.field-0-is c.in-Ok-None.ensures.none in
-    (refl, answers_all _ _ c.lines.invariant.1 ends c.lines.invariant.1.written)
+pub returns-clause-refused : goal.returns-clause-refused
+returns-clause-refused g c =
+    let setup = c.args.config.now in
+    let known = g.R.Read.remaining c.args.reader.now in
+    let before = g.W.Write.contents c.args.writer.now in
+    let mid = g.W.Write.contents c.write_bytes.new.writer in
+    let after = g.W.Write.contents c.answer_lines.new.writer in
+    let bytes = c.as_bytes.ensures.value in
+    let text = c.header_text.ensures in
+    let head : c.as_bytes.result.now ≡ header Second = cc in
+    let out : Appends before mid (header Second) =
+    subst (Appends before mid) head c.in-Ok-write_bytes.ensures.ok in
+    let same : c.in-Ok-make.cluster ≡ opened setup = c.in-Ok-make.ensures ∙ ap opened c.in-Ok.ensures in
+    IfErr-weaker c.answer_lines.result _ _
+    (λ stop those. before_headed setup known stop (Appends mid after) (Appends before after)
+    (appends_headed before mid after out)
+    (subst (λ from. IfRunRefusal stop
+    (AnsweredBefore (AnsweredFrom from) (room_in from) known stop (Appends mid after))) same those))
+    c.answer_lines.ensures.refused
 
-pub returns-in-Ok-None-clause-in_turn : goal.returns-in-Ok-None-clause-in_turn
-returns-in-Ok-None-clause-in_turn g c =
-    let has = c.lines.invariant.1 in
-    inr (in_turn ReadsWithinLine _ _ has c.next_command.ensures.no_further (at_least (g.W.Write.contents c.args.writer.now)
-    (g.W.Write.contents c.lines.writer) _ has.written))
+pub returns-clause-in_turn : goal.returns-clause-in_turn
+returns-clause-in_turn g c =
+    let setup = c.args.config.now in
+    let known = g.R.Read.remaining c.args.reader.now in
+    let left = g.R.Read.remaining c.answer_lines.new.reader in
+    let before = g.W.Write.contents c.args.writer.now in
+    let mid = g.W.Write.contents c.write_bytes.new.writer in
+    let after = g.W.Write.contents c.answer_lines.new.writer in
+    let bytes = c.as_bytes.ensures.value in
+    let text = c.header_text.ensures in
+    let head : c.as_bytes.result.now ≡ header Second = cc in
+    let out : Appends before mid (header Second) =
+    subst (Appends before mid) head c.in-Ok-write_bytes.ensures.ok in
+    let same : c.in-Ok-make.cluster ≡ opened setup = c.in-Ok-make.ensures ∙ ap opened c.in-Ok.ensures in
+    inr (turn_headed setup ReadsWithinLine known left (AppendsAtLeast mid after)
+    (AppendsAtLeast before after) (at_least_headed before mid after out)
+    (subst (λ from. AnsweredInTurn (AnsweredFrom from) known left (AppendsAtLeast mid after)) same
+    c.answer_lines.ensures.in_turn))
 
-pub returns-in-Err-clause-refused : goal.returns-in-Err-clause-refused
-returns-in-Err-clause-refused g c =
-    let has = c.lines.invariant.1 in
-    refused_line _ has c.lines.invariant.0 c.in-Err.ensures.err has.written
+pub returns-clause-read_fault : goal.returns-clause-read_fault
+returns-clause-read_fault g c is =
+    let setup = c.args.config.now in
+    let known = g.R.Read.remaining c.args.reader.now in
+    let left = g.R.Read.remaining c.answer_lines.new.reader in
+    let before = g.W.Write.contents c.args.writer.now in
+    let mid = g.W.Write.contents c.write_bytes.new.writer in
+    let after = g.W.Write.contents c.answer_lines.new.writer in
+    let bytes = c.as_bytes.ensures.value in
+    let text = c.header_text.ensures in
+    let head : c.as_bytes.result.now ≡ header Second = cc in
+    let out : Appends before mid (header Second) =
+    subst (Appends before mid) head c.in-Ok-write_bytes.ensures.ok in
+    let same : c.in-Ok-make.cluster ≡ opened setup = c.in-Ok-make.ensures ∙ ap opened c.in-Ok.ensures in
+    turn_headed setup (λ rest left. ReadsInsideLine rest left MOST_LINE_BYTES) known left
+    (Appends mid after) (Appends before after) (appends_headed before mid after out)
+    (subst (λ from. AnsweredBeforeCut (AnsweredFrom from) known left (Appends mid after)) same
+    (c.answer_lines.ensures.read_fault is))
 
-pub returns-in-Err-clause-in_turn : goal.returns-in-Err-clause-in_turn
-returns-in-Err-clause-in_turn g c =
-    let has = c.lines.invariant.1 in
-    inr (in_turn ReadsWithinLine _ _ has c.next_command.ensures.no_further (at_least (g.W.Write.contents c.args.writer.now)
-    (g.W.Write.contents c.lines.writer) _ has.written))
+pub returns-clause-no_memory : goal.returns-clause-no_memory
+returns-clause-no_memory g c is =
+    let setup = c.args.config.now in
+    let known = g.R.Read.remaining c.args.reader.now in
+    let left = g.R.Read.remaining c.answer_lines.new.reader in
+    let before = g.W.Write.contents c.args.writer.now in
+    let mid = g.W.Write.contents c.write_bytes.new.writer in
+    let after = g.W.Write.contents c.answer_lines.new.writer in
+    let bytes = c.as_bytes.ensures.value in
+    let text = c.header_text.ensures in
+    let head : c.as_bytes.result.now ≡ header Second = cc in
+    let out : Appends before mid (header Second) =
+    subst (Appends before mid) head c.in-Ok-write_bytes.ensures.ok in
+    let same : c.in-Ok-make.cluster ≡ opened setup = c.in-Ok-make.ensures ∙ ap opened c.in-Ok.ensures in
+    inr (turn_headed setup ReadsWithinLine known left (Appends mid after) (Appends before after)
+    (appends_headed before mid after out)
+    (subst (λ from. AnsweredInTurn (AnsweredFrom from) known left (Appends mid after)) same
+    (c.answer_lines.ensures.no_memory is)))
 
-pub returns-in-Err-clause-read_fault : goal.returns-in-Err-clause-read_fault
-returns-in-Err-clause-read_fault g c is =
-    let has = c.lines.invariant.1 in
-    in_turn (λ rest left. ReadsInsideLine rest left MOST_LINE_BYTES) _ _ has
-    (c.in-Err.ensures.cut (same_stop (Err c.in-Err.stop) c.in-Err.stop Read refl is)) has.written
-
-pub returns-in-Err-clause-no_memory : goal.returns-in-Err-clause-no_memory
-returns-in-Err-clause-no_memory g c _ =
-    let has = c.lines.invariant.1 in
-    inr (in_turn ReadsWithinLine _ _ has c.next_command.ensures.no_further has.written)
-
-pub returns-in-Err-clause-front_out : goal.returns-in-Err-clause-front_out
-returns-in-Err-clause-front_out g c is =
-    absurd (no_command_write c.in-Err.ensures.err
-    (same_stop (Err c.in-Err.stop) c.in-Err.stop Write refl is))
-
-pub returns-in-Err-clause-no_other : goal.returns-in-Err-clause-no_other
-returns-in-Err-clause-no_other g c = no_command_own c.in-Err.ensures.err
-
-pub returns-in-Err-answer-clause-refused : goal.returns-in-Err-answer-clause-refused
-returns-in-Err-answer-clause-refused g c =
-    let left = g.R.Read.remaining c.lines.reader in
-    let next = g.R.Read.remaining c.next_command.new.reader in
-    refused_command next c.lines.invariant.1
-    (gave left next c.in-Ok-Some.field-0-is c.in-Ok-Some.ensures.some)
-    c.in-Err-answer.ensures.err
-
-pub returns-in-Err-answer-clause-in_turn : goal.returns-in-Err-answer-clause-in_turn
-returns-in-Err-answer-clause-in_turn g c =
-    let has = c.lines.invariant.1 in
-    inr (in_turn ReadsWithinLine _ _ has c.next_command.ensures.no_further (still_out has c.in-Err-answer.ensures.err))
-
-pub returns-in-Err-answer-clause-read_fault : goal.returns-in-Err-answer-clause-read_fault
-returns-in-Err-answer-clause-read_fault g c is =
-    absurd (no_answer_read c.in-Err-answer.ensures.err
-    (same_stop (Err c.in-Err-answer.stop) c.in-Err-answer.stop Read refl is))
-
-pub returns-in-Err-answer-clause-no_memory : goal.returns-in-Err-answer-clause-no_memory
-returns-in-Err-answer-clause-no_memory g c is =
-    let has = c.lines.invariant.1 in
-    inr (in_turn ReadsWithinLine _ _ has c.next_command.ensures.no_further
-    (none_out has c.in-Err-answer.ensures.err
-    (same_stop (Err c.in-Err-answer.stop) c.in-Err-answer.stop NoMemory refl is)))
-
-pub returns-in-Err-answer-clause-front_out : goal.returns-in-Err-answer-clause-front_out
-returns-in-Err-answer-clause-front_out g c is =
-    let left = g.R.Read.remaining c.lines.reader in
-    let next = g.R.Read.remaining c.next_command.new.reader in
-    answer_short next c.lines.invariant.1
-    (gave left next c.in-Ok-Some.field-0-is c.in-Ok-Some.ensures.some)
-    c.in-Err-answer.ensures.err
-    (same_stop (Err c.in-Err-answer.stop) c.in-Err-answer.stop Write refl is)
-
-pub returns-in-Err-answer-clause-no_other : goal.returns-in-Err-answer-clause-no_other
-returns-in-Err-answer-clause-no_other g c = no_answer_own c.in-Err-answer.ensures.err
-
-pub overflow_add-number : goal.overflow_add-number
-overflow_add-number g c =
-    let number = c.lines.invariant.0 in
-    let room = c.in-Ok-answer.ensures.room in
-    let same : c.lines.cluster.setup.limit ≡ c.args.config.now.limit =
-    ap (λ (setup : Setup). setup.limit) c.lines.invariant.1.same in
-    let small = limit_is_small c.args.config.now c.invariant.ensures.in_range in
-    omega arith
-
-pub lines-preserved : goal.lines-preserved
-lines-preserved g c =
-    let left = g.R.Read.remaining c.lines.reader in
-    let next = g.R.Read.remaining c.next_command.new.reader in
-    let execution = c.lines.cluster in
-    let command = c.in-Ok-Some.command in
-    let number = c.lines.invariant.0 in
-    let enters = c.in-Ok-answer.ensures.entered in
-    let more : length c.answer.new.cluster.journal ≡ length execution.journal + 1 =
-    ap (λ (execution : Execution). length execution.journal) enters
-    ∙ one_longer execution command.by command.act in (
-      omega arith,
-      goes_on command c.lines.invariant.1
-          (gave left next c.in-Ok-Some.field-0-is c.in-Ok-Some.ensures.some) enters
-          c.in-Ok-answer.ensures.legal c.in-Ok-answer.ensures.out,
-    )
+pub returns-clause-front_out : goal.returns-clause-front_out
+returns-clause-front_out g c is =
+    let setup = c.args.config.now in
+    let known = g.R.Read.remaining c.args.reader.now in
+    let before = g.W.Write.contents c.args.writer.now in
+    let mid = g.W.Write.contents c.write_bytes.new.writer in
+    let after = g.W.Write.contents c.answer_lines.new.writer in
+    let bytes = c.as_bytes.ensures.value in
+    let text = c.header_text.ensures in
+    let head : c.as_bytes.result.now ≡ header Second = cc in
+    let out : Appends before mid (header Second) =
+    subst (Appends before mid) head c.in-Ok-write_bytes.ensures.ok in
+    let same : c.in-Ok-make.cluster ≡ opened setup = c.in-Ok-make.ensures ∙ ap opened c.in-Ok.ensures in
+    some_headed setup known (AppendsProperPrefix mid after) (AppendsProperPrefix before after)
+    (short_headed before mid after out)
+    (subst (λ from. FirstAnswered (AnsweredFrom from) known (AppendsProperPrefix mid after)) same
+    (c.answer_lines.ensures.front_out is))

@@ -1,0 +1,8 @@
+//! The engine of `guard --after`: a guard that goes on where an audit ends.
+#![tactic(auto)]
+
+mod after;
+mod going_on;
+pub mod laws;
+
+pub use after::run_guard_after;

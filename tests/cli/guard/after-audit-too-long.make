@@ -1,0 +1,1 @@
+head -c 268435457 /dev/zero
