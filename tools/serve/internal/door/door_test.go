@@ -582,6 +582,7 @@ func TestMuchIsAskedBeforeAnythingIsRead(test *testing.T) {
 		go func(number int) {
 			defer all.Done()
 			dice := rand.New(rand.NewSource(int64(number)))
+			pause := time.Duration(dice.Intn(300)) * time.Millisecond
 			text := strings.Repeat(up+"\nx\n", acts) + "{\"from\":0}\n" + up
 			go func() {
 				for len(text) > 0 {
@@ -596,7 +597,7 @@ func TestMuchIsAskedBeforeAnythingIsRead(test *testing.T) {
 				}
 				_ = connection.(*net.UnixConn).CloseWrite()
 			}()
-			time.Sleep(time.Duration(dice.Intn(300)) * time.Millisecond)
+			time.Sleep(pause)
 			told, err := io.ReadAll(connection)
 			if err != nil {
 				test.Error(err)
