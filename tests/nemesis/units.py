@@ -1,14 +1,18 @@
 """Verdicts of small histories that are written out by hand. Expected are the definitions of docs/NEMESIS.md."""
+import asyncio
 import json
 import tempfile
 import unittest
 from pathlib import Path
+from unittest.mock import patch
 
+from faultyard.enums import Kind
 from faultyard.ledger import Heal, Loss, Record
 from nemesis import summary
 from nemesis.evidence import Case, Course
 from nemesis.history import Operation
 from nemesis.main import rising
+from nemesis.store import Store
 from nemesis.verdicts import Left, Verdict, judged, wrong
 
 KEY, VALUE = "r/000000001", "a"
@@ -225,3 +229,28 @@ class Events(unittest.TestCase):
             events = Path(folder, "events.jsonl")
             events.write_text("".join(f'{{"entry":{it}}}\n' for it in (0, 2, 1, 2, 3)))
             self.assertEqual([json.loads(it)["entry"] for it in rising(events)], [0, 2, 3])
+
+
+class Strikes(unittest.IsolatedAsyncioTestCase):
+    """A strike on slow disks, as `--disks` has them."""
+
+    async def asyncSetUp(self):
+        self.store = store = Store.__new__(Store)
+        store.disks, store.emptied, store.joined, self.begun = None, set(), {}, []
+        store.hooks = unittest.mock.Mock(ends={})
+        store.tasks = asyncio.get_running_loop()
+        store._keeping = {it: asyncio.create_task(asyncio.sleep(60)) for it in range(3)}
+
+    async def keep(self, number):
+        self.begun.append(number)
+
+    async def empty(self, number):
+        await asyncio.sleep(0.01)
+
+    async def test_nobody_comes_back_before_the_losses_of_all_are_told(self):
+        with patch.multiple(self.store, _keep=self.keep, _empty=self.empty, create=True):
+            await self.store.strike([0, 2], Kind.REBOOT_AND_DELETE)
+            self.assertEqual(self.begun, [])  # the losses are told before the next await
+            await asyncio.sleep(0)
+            self.assertEqual(self.begun, [0, 2])
+        self.store._keeping[1].cancel()

@@ -134,6 +134,9 @@ class Store(Harness):
             self.joined.pop(number, None)
             if emptied:
                 await self._empty(number)
+        # Nobody waits from here until the losses are told, or one that is empty would join before
+        # an election, perhaps as the primary that it was.
+        for number in processes:
             self._keeping[number] = self.tasks.create_task(self._keep(number))
 
     @asynccontextmanager
