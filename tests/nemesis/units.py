@@ -9,6 +9,7 @@ from unittest.mock import patch
 from faultyard.enums import Kind
 from faultyard.ledger import Heal, Loss, Record
 from nemesis import summary
+from nemesis.crashes import Crashes
 from nemesis.evidence import Case, Course
 from nemesis.history import Operation
 from nemesis.main import rising
@@ -229,6 +230,13 @@ class Events(unittest.TestCase):
             events = Path(folder, "events.jsonl")
             events.write_text("".join(f'{{"entry":{it}}}\n' for it in (0, 2, 1, 2, 3)))
             self.assertEqual([json.loads(it)["entry"] for it in rising(events)], [0, 2, 3])
+
+
+class Pauses(unittest.TestCase):
+    def test_what_never_comes_up_is_started_less_and_less_often(self):
+        crashes = Crashes()
+        pauses = [(crashes.add(was_up, 1, []), crashes.pause())[1] for was_up in [False] * 8 + [True, False]]
+        self.assertEqual(pauses, [0.1, 0.2, 0.4, 0.8, 1.6, 3.2, 5, 5, 0.1, 0.1])
 
 
 class Strikes(unittest.IsolatedAsyncioTestCase):

@@ -239,6 +239,7 @@ class Store(Harness):
                         await self._ask_after(number, process)
                         await asyncio.sleep(AGAIN)
             self._end_by_itself(number, process.returncode, begin)
+            await asyncio.sleep(self.crashes[number].pause())
 
     def _end_by_itself(self, number: int, status: int, begin: int) -> None:
         """Notes that a process ended which nobody struck, with the end of what it wrote."""
