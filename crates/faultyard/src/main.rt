@@ -1,4 +1,4 @@
-//! `faultyard`: a fault injector for a simulated storage cluster.
+//! The program `faultyard`: its command line, its files and streams, its exit statuses.
 #![tactic(auto)]
 
 ghost use Rattle.std.specs.Prelude.{◌≡◌, ◌⊎◌, IfErr};

@@ -77,10 +77,11 @@ order_of _ = no_order
 abbrev pub orders_of : List Act → List FyOrder
 orders_of acts = map order_of acts
 
--- the orders to clog a process, and to end its clogs
+-- the order to clog a process for so many ticks
 abbrev pub clog_of : List Locality → ℕ → ProcId → FyOrder
 clog_of processes ticks p = order_of (Clog (process_target processes p) ticks)
 
+-- the order to end the clogs of a process
 abbrev pub unclog_of : List Locality → ProcId → FyOrder
 unclog_of processes p = order_of (Unclog (process_target processes p))
 

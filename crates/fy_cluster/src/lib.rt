@@ -1,4 +1,5 @@
-//! What a cluster is made of, and what every journal of one keeps.
+//! The cluster, which replies to acts and keeps the journal; what it begins with, what a journal
+//! says of it, and what every legal journal keeps.
 #![tactic(auto)]
 
 mod acts;

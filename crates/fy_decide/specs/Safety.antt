@@ -44,9 +44,11 @@ MayDestroy processes policies destroyed left s Gone =
 abbrev pub all_short : List Locality → List Tree → (ℕ → Bool) → Bool
 all_short processes policies s = list_all (λ P. not (satisfies processes P s)) policies
 
+-- each policy is satisfied, as a test
 abbrev pub all_satisfied : List Locality → List Tree → (ℕ → Bool) → Bool
 all_satisfied processes policies s = list_all (λ P. satisfies processes P s) policies
 
+-- what `MayDestroy` says, as a test that computes
 abbrev pub may_destroy : List Locality → List Tree → (destroyed left s : ℕ → Bool) → Loss → Bool
 may_destroy processes policies destroyed left s Emptied =
     all_short processes policies (with_set destroyed s)

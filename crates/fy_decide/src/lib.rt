@@ -1,4 +1,5 @@
-//! What may be destroyed.
+//! What may be destroyed: the dead book, which keeps who is destroyed and who is left, and the
+//! verdict on an order.
 #![tactic(auto)]
 
 mod dead_book;

@@ -1,4 +1,5 @@
-//! Simulated disks. What is synced stays through a crash, what isn't may be torn off.
+//! Simulated disks. What is synced stays through a crash, what isn't may be torn off. All disks
+//! together know the holders of each record.
 #![tactic(auto)]
 
 mod disk;

@@ -57,6 +57,7 @@ parse_arguments (Some KeywordProcess) (id ∷ machine ∷ zone ∷ hall ∷ cent
     then Some (process (locality_of id machine zone (known hall) (known center))) else None
 parse_arguments _ _ = None
 
+-- what words say, the first of which is the keyword
 abbrev pub parse_tokens : List (List ℕ) → Option ParsedLine
 parse_tokens [] = None
 parse_tokens (word ∷ words) = parse_arguments (keyword_of word) words
@@ -71,6 +72,7 @@ pub record Input : Type 0 where
   pub processes : List Locality
   pub asks : List Ask
 
+-- nothing said yet
 abbrev pub empty_input : Input
 empty_input = record { policies = []; processes = []; asks = [] }
 

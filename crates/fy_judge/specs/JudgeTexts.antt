@@ -22,10 +22,11 @@ abbrev pub destroys_for_good : Loss → Bool
 destroys_for_good Emptied = false
 destroys_for_good Gone = true
 
--- the processes of the asks that were answered yes: those destroyed, and of these those gone
+-- the processes destroyed by the asks that were answered yes
 abbrev pub destroyed_by : List Ask → ℕ → Bool
 destroyed_by granted p = list_any (λ a. a.process.0 == p) granted
 
+-- those of them that are gone
 abbrev pub gone_by : List Ask → ℕ → Bool
 gone_by granted p = list_any (λ a. destroys_for_good a.loss && a.process.0 == p) granted
 
@@ -51,6 +52,7 @@ answers_of i granted [] = []
 answers_of i granted (a ∷ later) =
     answer_of i granted a ∷ answers_of i (granted_after granted a (answer_of i granted a)) later
 
+-- the line of an answer
 abbrev pub answer_line : Answer → List ℕ
 answer_line Yes = codes "yes\n"
 answer_line No = codes "no\n"
@@ -102,6 +104,7 @@ abbrev pub unmet_stop : MakeFault → JudgeStop
 unmet_stop (Unmet k) = Line (k + 1) PolicyUnmet
 unmet_stop NoMemory = StopNoMemory
 
+-- what holds of the place of a policy that isn't met
 abbrev pub IfUnmet : MakeFault → (ℕ → Type 0) → Type 0
 IfUnmet (Unmet k) P = P k
 IfUnmet NoMemory P = Unit {0}

@@ -13,6 +13,7 @@ unfoldable mutual
   capped (across n key q) = across (min n (MOST_COUNT + 1)) key (capped q)
   capped (every qs) = every (capped_parts qs)
 
+  -- the same of each part
   pub capped_parts : Parts → Parts
   capped_parts none = none
   capped_parts (part q qs) = part (capped q) (capped_parts qs)

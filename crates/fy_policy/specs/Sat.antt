@@ -35,6 +35,7 @@ unfoldable mutual
       AtLeast n (λ v. IsValueOf processes key v × Sat processes q (group processes key v s))
   Sat processes (every qs) s = SatAll processes qs s
 
+  -- each part is satisfied
   pub SatAll : List Locality → Parts → (ℕ → Bool) → Type 0
   SatAll processes none s = Unit {0}
   SatAll processes (part q qs) s = Sat processes q s × SatAll processes qs s
@@ -48,6 +49,7 @@ unfoldable mutual
       (filter (λ v. satisfies processes q (group processes key v s)) (values_of processes key)))
   satisfies processes (every qs) s = all_satisfy processes qs s
 
+  -- the same as a test
   pub all_satisfy : List Locality → Parts → (ℕ → Bool) → Bool
   all_satisfy processes none s = true
   all_satisfy processes (part q qs) s = satisfies processes q s && all_satisfy processes qs s

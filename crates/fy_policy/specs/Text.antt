@@ -9,6 +9,7 @@ unfoldable pub numeral : ℕ → List ℕ
 numeral n = if n == 0 then codes "0" else map (λ d. 48 + d) (digits_of 10 n)
 
 abbrev mutual
+  -- the one text of a policy
   pub text : Tree → List ℕ
   text one = codes "One()"
   text (across n key q) =
@@ -20,6 +21,7 @@ abbrev mutual
   parts_text none = []
   parts_text (part q qs) = text q ++ more_text qs
 
+  -- the parts behind the first, a comma before each
   pub more_text : Parts → List ℕ
   more_text none = []
   more_text (part q qs) = codes "," ++ text q ++ more_text qs

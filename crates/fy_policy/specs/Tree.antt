@@ -20,6 +20,7 @@ abbrev mutual
   depth (across n key q) = depth q + 1
   depth (every qs) = greatest_depth qs + 1
 
+  -- the depth of the deepest part, or 0
   pub greatest_depth : Parts → ℕ
   greatest_depth none = 0
   greatest_depth (part q qs) = max (depth q) (greatest_depth qs)
@@ -31,6 +32,7 @@ abbrev mutual
   nodes (across n key q) = nodes q + 1
   nodes (every qs) = all_nodes qs + 1
 
+  -- the nodes of all parts
   pub all_nodes : Parts → ℕ
   all_nodes none = 0
   all_nodes (part q qs) = nodes q + all_nodes qs
@@ -47,6 +49,7 @@ unfoldable mutual
   HasParts (across n key q) = HasParts q
   HasParts (every qs) = HasPart qs × HaveParts qs
 
+  -- each And below has a part
   pub HaveParts : Parts → Type 0
   HaveParts none = Unit {0}
   HaveParts (part q qs) = HasParts q × HaveParts qs
@@ -58,6 +61,7 @@ unfoldable mutual
   HasFitCounts (across n key q) = (LEAST_COUNT ≤ n) × (n ≤ MOST_COUNT) × HasFitCounts q
   HasFitCounts (every qs) = HaveFitCounts qs
 
+  -- each count below is within its limits
   pub HaveFitCounts : Parts → Type 0
   HaveFitCounts none = Unit {0}
   HaveFitCounts (part q qs) = HasFitCounts q × HaveFitCounts qs
@@ -69,6 +73,7 @@ abbrev mutual
   IsWellFormed (across n key q) = (LEAST_COUNT ≤ n) × (n ≤ MOST_COUNT) × IsWellFormed q
   IsWellFormed (every qs) = HasPart qs × AreWellFormed qs
 
+  -- each part is well formed
   pub AreWellFormed : Parts → Type 0
   AreWellFormed none = Unit {0}
   AreWellFormed (part q qs) = IsWellFormed q × AreWellFormed qs

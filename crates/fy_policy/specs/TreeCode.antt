@@ -32,6 +32,7 @@ abbrev mutual
   stored (across n key q) = 1 ∷ n ∷ key_number key ∷ stored q
   stored (every qs) = 2 ∷ all_stored qs
 
+  -- the numbers of all parts, each behind a 1, and a 0 at the end
   pub all_stored : Parts → List ℕ
   all_stored none = 0 ∷ []
   all_stored (part q qs) = 1 ∷ (stored q ++ all_stored qs)

@@ -1,4 +1,5 @@
-//! Replication policies: what sets of processes satisfy one.
+//! Replication policies: their text, their limits, and what sets of processes satisfy one; tallies,
+//! which keep the answer while a set changes.
 #![tactic(auto)]
 
 mod build_counters;

@@ -126,9 +126,11 @@ members_from d = do
 abbrev pub kind_from : Data → Option Kind
 kind_from d = as_str d >>= kind_named
 
+-- a key by its text
 abbrev pub key_from : Data → Option Key
 key_from d = as_str d >>= key_named
 
+-- a text that is a name
 abbrev pub name_from : Data → Option (List ℕ)
 name_from d = as_str d >>= λ text. if is_name text then Some text else None
 
@@ -210,6 +212,7 @@ abbrev pub scope_by : Option (List ℕ) → Data → Option Scope
 scope_by (Some word) d = if bytes_eq word (codes "all") then Some All else None
 scope_by None d = option_map Where (target_in d)
 
+-- a scope: a word, or a target
 abbrev pub scope_from : Data → Option Scope
 scope_from d = scope_by (as_str d) d
 

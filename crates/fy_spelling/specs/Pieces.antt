@@ -29,12 +29,15 @@ use Rattle.fy_spelling.specs.declared.command.Command.{Command}
 
 -- ---- one, two and three numbers, each behind what stands before it
 
+-- one number behind a text, and the end of two objects
 abbrev pub one_text : List ℕ → ℕ → List ℕ
 one_text a m = a ++ (decimal m ++ codes "}}")
 
+-- two numbers, each behind a text, and the end of two objects
 abbrev pub two_text : List ℕ → ℕ → List ℕ → ℕ → List ℕ
 two_text a m b n = a ++ (decimal m ++ (b ++ (decimal n ++ codes "}}")))
 
+-- three numbers, each behind a text, and the end of two objects
 abbrev pub three_text : List ℕ → ℕ → List ℕ → ℕ → List ℕ → ℕ → List ℕ
 three_text a m b n c k = a ++ (decimal m ++ (b ++ (decimal n ++ (c ++ (decimal k ++ codes "}}")))))
 
@@ -58,11 +61,13 @@ keys_text key kind = codes "\",\"key\":\"" ++ (key ++ (codes "\",\"kind\":\"" ++
 abbrev pub words_text : List ℕ → List ℕ → List ℕ → List ℕ
 words_text floor key kind = codes "{\"kill\":{\"floor\":\"" ++ (floor ++ keys_text key kind)
 
+-- an order to kill
 abbrev pub order_text : Order → List ℕ
 order_text o =
     words_text (kind_text o.floor) (key_text o.target.key) (kind_text o.kind)
     ++ valued_text (codes "\",\"tear\":") o.tear o.target.value
 
+-- a clog of a target, for so many ticks
 abbrev pub clog_text : Target → ℕ → List ℕ
 clog_text target ticks =
     codes "{\"clog\":{\"key\":\"" ++ (key_text target.key
@@ -79,31 +84,37 @@ deeds_text later [] = []
 deeds_text later (d ∷ ds) =
     comma_if later ++ (codes "\"" ++ (deed_text d ++ (codes "\"" ++ deeds_text true ds)))
 
+-- a team that is formed: its members and its policy
 abbrev pub form_text : List ProcId → ℕ → List ℕ
 form_text members policy =
     codes "{\"form\":{\"members\":[" ++ (processes_text false members
     ++ one_text (codes "],\"policy\":") policy)
 
+-- a record that is begun: its payload and its team
 abbrev pub begin_text : ℕ → List ℕ → List ℕ
 begin_text team payload =
     codes "{\"begin\":{\"payload\":\"" ++ (encode_lower payload
     ++ one_text (codes "\",\"team\":") team)
 
+-- the scope of a grant, which is all or a target
 abbrev pub scope_text : Scope → List ℕ
 scope_text All = codes "],\"scope\":\"all\"}}"
 scope_text (Where target) = target_text (codes "],\"scope\":{\"key\":\"") target (codes "\"}}}")
 
+-- a grant that is given
 abbrev pub give_text : Grant → List ℕ
 give_text grant =
     codes "{\"give\":{\"actor\":" ++ (decimal grant.actor ++ (codes ",\"kinds\":["
     ++ (deeds_text false (in_order grant.kinds) ++ scope_text grant.scope)))
 
+-- a protection, behind the word that gives or ends it
 abbrev pub protection_text : List ℕ → Members → ProcId → List ℕ
 protection_text head kinds process =
     head ++ (deeds_text false (in_order kinds) ++ one_text (codes "],\"process\":") process.0)
 
 -- ---- acts
 
+-- an act, as an object with one member
 abbrev pub act_text : Act → List ℕ
 act_text (Kill order) = order_text order
 act_text (Clog target ticks) = clog_text target ticks
@@ -164,6 +175,7 @@ asked_text command =
 abbrev pub between_text : List ℕ → ℕ → List ℕ → List ℕ
 between_text head n tail = head ++ (decimal n ++ tail)
 
+-- a rule, with the process or policy that it names, or null
 abbrev pub rule_text : Option Rule → List ℕ
 rule_text None = codes "null"
 rule_text (Some NoTarget) = codes "[\"NoTarget\"]"
@@ -173,23 +185,28 @@ rule_text (Some (TooManyDestroyed policy)) =
     between_text (codes "[\"TooManyDestroyed\",") policy (codes "]")
 rule_text (Some (TooFewLeft policy)) = between_text (codes "[\"TooFewLeft\",") policy (codes "]")
 
+-- what struck, or null, up to the entry's end
 abbrev pub struck_text : Option Kind → List ℕ
 struck_text None = codes ",\"struck\":null}}}"
 struck_text (Some kind) = codes ",\"struck\":\"" ++ (kind_text kind ++ codes "\"}}}")
 
+-- the verdict on a kill
 abbrev pub verdict_text : Verdicts → List ℕ
 verdict_text verdict =
     codes ",\"reply\":{\"verdict\":{\"rule\":" ++ (rule_text verdict.rule
     ++ struck_text verdict.struck)
 
+-- the rule that bars a clog, or null
 abbrev pub ruled_text : Option Rule → List ℕ
 ruled_text rule = codes ",\"reply\":{\"ruled\":" ++ (rule_text rule ++ codes "}}")
 
+-- a record that was begun: its number and its first message
 abbrev pub begun_text : ℕ → ℕ → List ℕ
 begun_text rec first =
     codes ",\"reply\":{\"begun\":{\"first\":" ++ (decimal first
     ++ between_text (codes ",\"record\":") rec (codes "}}}"))
 
+-- what was synced: the first message and how many
 abbrev pub synced_text : ℕ → ℕ → List ℕ
 synced_text first count =
     codes ",\"reply\":{\"synced\":{\"count\":" ++ (decimal count
@@ -229,14 +246,17 @@ refusal_end (TeamShort policy) = between_text (codes "\",") policy (codes "]}}")
 refusal_end (StillNeeds rec) = between_text (codes "\",") rec (codes "]}}")
 refusal_end _ = codes "\"]}}"
 
+-- a refusal
 abbrev pub refusal_text : Refusal → List ℕ
 refusal_text refusal =
     codes ",\"reply\":{\"no\":[\"" ++ (refusal_word refusal ++ refusal_end refusal)
 
+-- whether a delivered acknowledgement acknowledged its record
 abbrev pub marked_text : Bool → List ℕ
 marked_text true = codes ",\"reply\":{\"marked\":true}}"
 marked_text false = codes ",\"reply\":{\"marked\":false}}"
 
+-- any reply
 abbrev pub reply_text : Reply → List ℕ
 reply_text (Verdict verdict) = verdict_text verdict
 reply_text (Ruled rule) = ruled_text rule
@@ -258,5 +278,6 @@ front_text entry =
     codes "{\"act\":" ++ (act_text entry.act
     ++ (codes ",\"at\":" ++ (decimal entry.at ++ (codes ",\"by\":" ++ decimal entry.by))))
 
+-- an entry: its act, its place and actor, its reply
 abbrev pub entry_pieces : Entry → List ℕ
 entry_pieces entry = front_text entry ++ reply_text entry.reply

@@ -19,14 +19,17 @@ use Rattle.fy_acts.specs.declared.reply.Reply.TheVariants as reply
 abbrev pub first_word : Data → Option (List ℕ)
 first_word d = at 0 d >>= as_str
 
+-- the number behind that word
 abbrev pub second_number : Data → Option ℕ
 second_number d = at 1 d >>= u32_from
 
+-- the process behind that word
 abbrev pub second_process : Data → Option ProcId
 second_process d = at 1 d >>= process_from
 
 -- ---- rules
 
+-- a rule by its word, with what it names
 abbrev pub rule_by : List ℕ → Data → Option Rule
 rule_by word d =
     if bytes_eq word (codes "NoTarget") then Some rule.NoTarget
@@ -88,6 +91,7 @@ refusal_by word d =
     else if bytes_eq word (codes "NotDestroyed") then Some NotDestroyed
     else refusal_up_to_actors word
 
+-- the refusal of a list
 abbrev pub refusal_from : Data → Option Refusal
 refusal_from d = first_word d >>= λ word. refusal_by word d
 
@@ -99,6 +103,7 @@ verdict_from d = do
   values ← two (codes "rule") (codes "struck") d
   Some (record { struck = kind_from values.1; rule = rule_from values.0 })
 
+-- a record that was begun, by its two numbers
 abbrev pub begun_from : Data → Option Reply
 begun_from d = do
   values ← two (codes "first") (codes "record") d
@@ -106,6 +111,7 @@ begun_from d = do
   rec ← u32_from values.1
   Some (reply.Begun rec first)
 
+-- what was synced, by its two numbers
 abbrev pub synced_from : Data → Option Reply
 synced_from d = do
   values ← two (codes "count") (codes "first") d
@@ -140,6 +146,7 @@ reply_at (Some word) d =
     else None
 reply_at None d = sole d >>= λ named. reply_by named.0 named.1
 
+-- any reply
 abbrev pub reply_from : Data → Option Reply
 reply_from d = reply_at (as_str d) d
 

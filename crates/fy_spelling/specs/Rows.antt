@@ -76,6 +76,7 @@ pub record ReplyTexts : Type 0 where
 abbrev pub text_of_act : Act → List ℕ
 text_of_act act = compact_text (act_data act)
 
+-- the process with a number
 abbrev process : ℕ → ProcId
 process n = record { 0 = n }
 

@@ -49,6 +49,7 @@ storing processes = record {
 abbrev pub actor_words : List Locality → ℕ → ℕ → List ℕ
 actor_words processes seed actor = stream_outputs seed actor (2 * length processes)
 
+-- whether a role is that of fault actors
 abbrev pub is_fault : Role → Bool
 is_fault Fault = true
 is_fault _ = false

@@ -28,6 +28,7 @@ micros_from text =
 abbrev pub is_whole : Parts → Bool
 is_whole p = nat_lt 0 (length p.whole) && not p.point && (length p.exponent == 0)
 
+-- the whole number that digits write, if it is below another
 abbrev pub whole_from : (below : ℕ) → List ℕ → Option ℕ
 whole_from below text =
     if is_whole (scan text) && nat_lt (digits_of (scan text)) below

@@ -272,6 +272,7 @@ Looks m n m' =
     (n ≡ m.0.ticket % 2 ^ 64 → (desk : DeskState) × Took m m' desk)
     × (n ≢ m.0.ticket % 2 ^ 64 → m' ≡ m)
 
+-- what a look at the ticket served tells, whatever the table was
 abbrev pub Looked : TableStep → SeatView → ℕ → SeatView → Type 0
 Looked st m n m' = Looks m n m'
 
