@@ -6,6 +6,7 @@
 #   make test             all that CI runs: the unit tests, every proof from nothing, the suites of tests on the proved program and
 #                         the C library, and the mutants of crates that changed
 #   make format           lays out each crate as the gate wants it
+#   make pages            makes what pages say of the source: definitions, contracts, limits, crates, faults, strikes
 #   make swarm-seeds      holds the swarms of 200 seeds on each cluster file of examples/ against the rules
 #   make refused-memory   makes each allocation fail once, one run each, in the short tests of commands, texts, acts, actors, checks and
 #                         shared clusters, which `make test` does too, and in those of a buffer and of whole runs of actors
@@ -37,7 +38,7 @@ BUILT := crates/faultyard/out/faultyard
 UNPROVED := bin/unproved/faultyard
 KIT = $(dir $(shell rt doc))
 
-.PHONY: build run lib merged test quick format swarm-seeds refused-memory wrong-bodies try-stores slow-stores lossy try-disks nemesis-aborts serve-many serve-speed look install installed uninstall static dist packaged try-dist bench clean
+.PHONY: build run lib merged test quick format pages swarm-seeds refused-memory wrong-bodies try-stores slow-stores lossy try-disks nemesis-aborts serve-many serve-speed look install installed uninstall static dist packaged try-dist bench clean
 
 # `rt run` proves what changed, builds the program beside its crate and runs it once.
 build:
@@ -87,6 +88,10 @@ quick:
 
 format:
 	for crate in crates/*; do (cd "$$crate" && rt fmt) || exit 1; done
+
+pages:
+	tools/pages/make
+	release/pages tables
 
 swarm-seeds: build
 	tests/swarm/run bin/faultyard --seeds 200

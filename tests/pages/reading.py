@@ -1,0 +1,181 @@
+"""Tests of what reads the source, on a small repository that is written out here."""
+
+from __future__ import annotations
+
+import tempfile
+import unittest
+from pathlib import Path
+
+import contracts
+import definitions
+import layers
+import limits
+import made
+import source
+
+FILES = {
+    "crates.txt": "# two crates, and a program\nlow: memchr\nhigh: low\nfy_c staticlib: low\nfaultyard: high low\n",
+    "include/faultyard.h": "",
+    "crates/low/specs/Lib.antt": "pub mod Sets\n",
+    "crates/low/specs/Sets.antt": """\
+-- sets
+use Rattle.std.specs.Prelude.{ℕ}
+
+-- what is seen
+pub record Seen : Type 0 where
+  pub count : ℕ
+
+-- ---- a part of the file
+
+-- the first,
+-- and more of it | apart
+abbrev pub First : Seen → Type 0
+First s = Below s
+
+-- cited by First alone
+unfoldable pub Below : Seen → Type 0
+Below s = Unit {0}
+
+-- cited by a private function
+abbrev pub Kept : Seen → Type 0
+Kept s = Below s
+
+-- a block
+abbrev mutual
+  pub one : Seen → ℕ
+  one s = 1
+
+  pub other : Seen → ℕ
+  other s = 2
+""",
+    "crates/low/src/lib.rt": """\
+//! The lower crate: what
+//! it has.
+//!
+//! More of it.
+mod hidden;
+pub mod laws;
+
+pub use hidden::{Shown, MOST_SEEN};
+""",
+    "crates/low/src/hidden.rt": """\
+ghost use Rattle.low.specs.Sets.{Seen, First, Kept, one as single};
+
+/// Half of the most.
+pub const HALF: usize = 8;
+
+/// How many may be seen.
+pub const MOST_SEEN: usize = 2 * HALF as usize;
+
+/// A type that is handed out.
+pub struct Shown {
+    count: u32,
+}
+
+impl Model for Shown {
+    ghost Value = { Seen };
+}
+
+impl Shown {
+    /// Looks at it. Then it looks again.
+    ///
+    /// # Errors
+    pub fn look(&self) -> u32
+        requires room { 0 < self.now.count }
+        ensures first { First self.now }
+        ensures { result ≡ self.now.count }
+    {
+        self.helper()
+    }
+
+    /// No caller sees it.
+    fn helper(&self) -> u32
+        ensures { Kept self.now }
+    {
+        self.count
+    }
+}
+
+/// A type that stays in.
+pub struct Hidden;
+
+impl Hidden {
+    pub fn look(&self) -> u32
+        ensures { single self.now }
+    {
+        0
+    }
+}
+""",
+    "crates/low/src/laws.rt": "/// A law.\npub fn fact()\n    ensures said { 1 ≡ 1 }\n{\n}\n",
+    "crates/high/src/lib.rt": "//! The upper one.\n",
+    "crates/fy_c/src/lib.rt": "//! For C.\n",
+    "crates/faultyard/src/main.rt": "//! The program.\n",
+}
+
+
+class Reading(unittest.TestCase):
+    def setUp(self) -> None:
+        folder = tempfile.TemporaryDirectory()
+        self.addCleanup(folder.cleanup)
+        for name, text in FILES.items():
+            path = Path(folder.name) / name
+            path.parent.mkdir(parents=True, exist_ok=True)
+            path.write_text(text)
+        for module in (source, contracts):
+            self.addCleanup(setattr, module, "ROOT", source.ROOT)
+            setattr(module, "ROOT", Path(folder.name))
+        source.files_of.cache_clear()
+        self.addCleanup(source.files_of.cache_clear)
+
+    def test_a_comment_is_that_above_without_what_parts_a_file(self) -> None:
+        said = {it.name: it.comment for it in source.Specs.read().found.values()}
+        self.assertEqual(said["Seen"], "what is seen")
+        self.assertEqual(said["First"], "the first, and more of it | apart")
+
+    def test_a_block_has_one_comment_and_each_other_needs_its_own(self) -> None:
+        said = {it.name: it.comment for it in source.Specs.read().found.values()}
+        self.assertEqual((said["one"], said["other"]), ("a block", ""))
+        told = ["crates/low/specs/Sets.antt:28: other has no comment"]
+        self.assertEqual([*definitions.without_comment()], told)
+
+    def test_private_is_what_no_public_contract_reaches(self) -> None:
+        public = {name for _, _, name in definitions.cited_in_public(source.Specs.read())}
+        self.assertEqual(public, {"Seen", "First", "Below"})
+
+    def test_definitions_stand_in_the_order_of_their_file(self) -> None:
+        page = definitions.made()
+        self.assertIn("## `low`\n\nThe lower crate: what it has.\n\n### `low/specs/Sets`", page)
+        self.assertIn("| `First` | the first, and more of it \\| apart |\n| `Below` |", page)
+        self.assertIn("| `Kept` | *private*: cited by a private function |", page)
+
+    def test_a_public_function_has_its_clauses_and_what_they_cite(self) -> None:
+        page = contracts.made()
+        row = "| `Shown::look` | Looks at it. | requires `room`; ensures `first` | `First` |"
+        self.assertIn(row, page)
+        self.assertIn("| `laws::fact` | A law. | ensures `said` | |", page)
+        self.assertIn("| `Shown` | `Seen` |", page)
+        self.assertNotIn("Hidden", page)
+        self.assertNotIn("helper", page)
+
+    def test_a_limit_is_a_number(self) -> None:
+        self.assertIn("| 16 | How many may be seen | `MOST_SEEN` | `low` |", limits.made())
+        self.assertNotIn("HALF", limits.made())
+
+    def test_a_crate_ships_where_it_is_below(self) -> None:
+        table = layers.crate_table()
+        self.assertIn("| `low` | P, L | memchr | The lower crate: what it has. |", table)
+        self.assertIn("| `high` | P | | The upper one. |", table)
+
+    def test_the_diagram_leaves_out_what_follows(self) -> None:
+        drawn = layers.diagram()
+        self.assertIn('data-from="faultyard" data-to="high"', drawn)
+        self.assertNotIn('data-from="faultyard" data-to="low"', drawn)
+
+
+class Marks(unittest.TestCase):
+    def test_a_part_is_made_between_its_marks(self) -> None:
+        page = "a\n<!-- begin: x, made from the source by make pages -->\nold\n<!-- end of what is made -->\nb\n"
+        self.assertIn("-->\n\nnew\n\n<!-- end", made.with_part(page, "x", "new"))
+        self.assertEqual(made.by_hand(page), "a\n\nb\n")
+        self.assertRaises(made.PagesError, made.with_part, page, "y", "new")

@@ -1,0 +1,52 @@
+"""What is made of the source, and where it stands."""
+
+from __future__ import annotations
+
+import re
+from collections.abc import Callable
+from pathlib import Path
+
+import contracts
+import definitions
+import layers
+import limits
+from source import ROOT
+
+BEGIN = "<!-- begin: {}, made from the source by make pages -->"
+END = "<!-- end of what is made -->"
+
+# A page, the part of it that is made, and what makes it.
+PARTS: tuple[tuple[str, str, Callable[[], str]], ...] = (
+    ("docs/DEFINITIONS.md", "definitions", definitions.made),
+    ("docs/CONTRACTS.md", "limits", limits.made),
+    ("docs/CONTRACTS.md", "contracts", contracts.made),
+    ("docs/ARCHITECTURE.md", "crates", layers.crate_table),
+)
+
+
+class PagesError(Exception):
+    """A page can't be made."""
+
+
+def with_part(page: str, name: str, part: str) -> str:
+    """The page with this part between its marks."""
+    before, begin, rest = page.partition(BEGIN.format(name))
+    _, end, after = rest.partition(END)
+    if not begin or not end:
+        raise PagesError(f"a page has no marks for its {name}")
+    return f"{before}{begin}\n\n{part}\n\n{end}{after}"
+
+
+def by_hand(page: str) -> str:
+    """What of a page is written by hand: all that stands outside such marks, and those of
+    release/pages."""
+    return re.sub(r"(?s)<!-- begin: .*?<!-- end of .*?-->", "", page)
+
+
+def pages() -> dict[Path, str]:
+    """Each page that has a made part, and the diagram, as they should be."""
+    found: dict[Path, str] = {ROOT / "docs/layers.svg": layers.diagram()}
+    for name, part, make in PARTS:
+        path = ROOT / name
+        found[path] = with_part(found.get(path) or path.read_text(), part, make())
+    return found
