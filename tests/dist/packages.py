@@ -38,6 +38,8 @@ WANTED = [
     "share/fish/vendor_completions.d/faultyard.fish",
     "share/doc/faultyard/README.md",
     "share/doc/faultyard/CHANGELOG.md",
+    "share/doc/faultyard/LICENSE",
+    "share/doc/faultyard/SECURITY.md",
     "share/doc/faultyard/docs/FORMATS.md",
     "share/doc/faultyard/docs/GUARD.md",
     "share/doc/faultyard/examples/c6.toml",
@@ -210,7 +212,11 @@ def package_tells_the_truth() -> None:
     links = {f"usr/lib/x86_64-linux-gnu/{it}" for it in ("libfaultyard.so", "libfaultyard.so.1")}
     assert set(sums) == set(files) - links
     assert all(hashlib.md5(files[name]).hexdigest() == told for name, told in sums.items())
-    assert "\nCopyright: " in (unpacked_package() / "usr/share/doc/faultyard/copyright").read_text()
+    rights = (unpacked_package() / "usr/share/doc/faultyard/copyright").read_text()
+    assert "\nCopyright: " in rights and "\nFiles: *\n" in rights
+    files = rights.partition("\nFiles: *\n")[2].partition("\n\n")[0]
+    assert "\nLicense: Apache-2.0" in files, f"the package's licence isn't that of LICENSE: {files}"
+    assert "Apache License" in (unpacked_package() / "usr/share/doc/faultyard/LICENSE").read_text()
 
 
 def package_needs_what_its_files_need() -> None:
