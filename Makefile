@@ -1,35 +1,62 @@
 # faultyard: proved, built and tested by the command `rt` of the Rattle toolchain.
 #
-#   make                  proves and builds the program, and leaves it at bin/faultyard
-#   make run              builds the program without its proofs, and shows judge, run and check on the examples
-#   make quick            all tests that need no proof, on the program built without proofs
-#   make test             all that CI runs: the unit tests, every proof from nothing, the suites of tests on the proved program and
-#                         the C library, and the mutants of crates that changed
-#   make format           lays out each crate as the gate wants it
-#   make pages            makes what pages say of the source: definitions, contracts, limits, crates, faults, strikes
-#   make swarm-seeds      holds the swarms of 200 seeds on each cluster file of examples/ against the rules
-#   make refused-memory   makes each allocation fail once, one run each, in the short tests of commands, texts, acts, actors, checks and
-#                         shared clusters, which `make test` does too, and in those of a buffer and of whole runs of actors
-#   make wrong-bodies     tries every wrong body again, which the prover has to refuse, and records those crates whose are all refused
-#   make try-stores       runs faultyard-nemesis on redis, etcd, PostgreSQL, ZooKeeper and RabbitMQ, a minute guarded and a minute
-#                         unguarded with two seeds each, and prints a table: guarded none may be lost; then with power cuts; an hour
-#   make slow-stores      runs faultyard-nemesis guarded for a minute on each store that boots slowly: ZooKeeper and RabbitMQ
-#   make lossy            builds the disk that forgets what isn't synced, bin/faultyard-lossy; it needs libfuse3-dev
-#   make try-disks        tests that disk by thousands of seeds, beside ext4 and xfs, and by longer loads; it needs to be root
-#   make nemesis-aborts   aborts a hundred runs of faultyard-nemesis at random moments: no process may be left
-#   make serve-many       kills faultyard-serve a hundred times while a nemesis and two testers ask it over an etcd of five, and sends
-#                         it a hundred thousand wrong requests
-#   make serve-speed      times faultyard-serve beside the pipe of `guard` and a server that echoes, on a machine with nothing else to do
-#   make look             draws a picture, and takes screenshots of it and of the page of faultyard-serve; it needs chromium
-#   make lib              proves and builds the C library, and leaves it at bin/libfaultyard.a and bin/libfaultyard.so
-#   make install          puts the program, its tools, the library, man pages, completions and pages below $(PREFIX), which is
-#                         /usr/local by default; `make uninstall` takes them away
-#   make dist             proves and builds all, and leaves a release in dist/: an archive, a Debian package, SHA256SUMS
-#   make static           proves the program, and links it with the C library of Debian's libc6-dev into bin/faultyard-static, which
-#                         needs no library of the machine that it runs on
-#   make try-dist         tries what is in dist/ in bare roots without the toolchain; it needs mmdebstrap, and to be root
-#   make bench            times the program on generated inputs, beside another if BESIDE is its path; and verdicts, acts,
-#                         turns, orders, cluster files and kills from C by programs of their own
+#   make help             prints this list
+#   make build            proves the program with the crates that it stands on, and leaves it at
+#                         `bin/faultyard`; `make` alone does so
+#   make run              builds the program without proofs, and shows `judge`, `run` and `check` on
+#                         the examples
+#   make quick            runs all tests that need no proof, on the program built without proofs
+#   make test             all that CI runs: the unit tests, every proof from nothing, all suites on
+#                         the proved program and the C library, and the mutants of the crates that
+#                         changed
+#   make lib              proves the C library, and leaves it at `bin/libfaultyard.a` and
+#                         `bin/libfaultyard.so`
+#   make merged           makes these two of the crate's object and the toolchain's; `make lib` and
+#                         `make test` call it
+#   make format           formats all crates
+#   make pages            makes what pages say of the source: DEFINITIONS.md, CONTRACTS.md, the
+#                         crates of ARCHITECTURE and their diagram, the tables of faults and of what
+#                         to do
+#   make swarm-seeds      runs 200 seeds on each cluster file of `examples/` and checks each audit
+#   make refused-memory   makes each allocation fail once, one run each, in short tests of
+#                         each command, act and check
+#   make wrong-bodies     tries every mutant again, and records the crates whose mutants are all
+#                         refused; run it before a release
+#   make try-stores       runs `faultyard-nemesis` on redis, etcd, PostgreSQL, ZooKeeper and
+#                         RabbitMQ, a minute guarded and a minute unguarded with two seeds each, and
+#                         prints a table; then a minute each with partitions, and with power cuts on
+#                         `lossy` and `ext4` in a durable setting and a lax one; takes over an hour,
+#                         and has to be root
+#   make slow-stores      runs it guarded for a minute on each store that boots slowly: ZooKeeper
+#                         and RabbitMQ
+#   make lossy            builds the disk that forgets what isn't synced, `bin/faultyard-lossy`;
+#                         needs libfuse3-dev
+#   make try-disks        tests that disk by thousands of seeds, beside ext4 and xfs, and by longer
+#                         loads; needs to be root
+#   make nemesis-aborts   aborts a hundred runs of `faultyard-nemesis` at random moments: no process
+#                         may be left
+#   make serve-many       kills `faultyard-serve` a hundred times while a nemesis and two testers
+#                         ask it over an etcd of five, and sends it a hundred thousand wrong
+#                         requests; takes a quarter of an hour
+#   make serve-speed      times `faultyard-serve` beside the pipe of `guard` and a server that
+#                         echoes; needs a machine with nothing else to do
+#   make look             draws a picture, and takes screenshots of it and of the page of
+#                         `faultyard-serve`; needs `chromium`
+#   make install PREFIX=..
+#                         puts the program, its tools, the library, man pages, completions and pages
+#                         below PREFIX, by the list `release/layout`; PREFIX is `/usr/local` if left
+#                         out
+#   make installed        does so with what stands in `bin`; `make install` calls it
+#   make uninstall PREFIX=..
+#                         removes them
+#   make dist             proves and builds all, and leaves a release in `dist/`: an archive, a
+#                         Debian package, `SHA256SUMS`. Two builds of one commit give the same bytes
+#   make packaged         does so with what stands in `bin`; `make dist` calls it
+#   make static           proves the program, and links it statically into `bin/faultyard-static`,
+#                         which runs on any Linux on x86-64; needs Debian's `libc6-dev`
+#   make try-dist         tries what is in `dist/` in bare roots without the toolchain; needs
+#                         `mmdebstrap`, and to be root
+#   make bench            times the program, the verdicts and the cluster (PERFORMANCE.md)
 #   make clean            removes what was built, and what earlier checks kept
 
 PREFIX ?= /usr/local
@@ -38,13 +65,16 @@ BUILT := crates/faultyard/out/faultyard
 UNPROVED := bin/unproved/faultyard
 KIT = $(dir $(shell rt doc))
 
-.PHONY: build run lib merged test quick format pages swarm-seeds refused-memory wrong-bodies try-stores slow-stores lossy try-disks nemesis-aborts serve-many serve-speed look install installed uninstall static dist packaged try-dist bench clean
+.PHONY: help build run lib merged test quick format pages swarm-seeds refused-memory wrong-bodies try-stores slow-stores lossy try-disks nemesis-aborts serve-many serve-speed look install installed uninstall static dist packaged try-dist bench clean
 
 # `rt run` proves what changed, builds the program beside its crate and runs it once.
 build:
 	cd crates/faultyard && rt run -- --help > /dev/null
 	mkdir -p bin
 	cp $(BUILT) bin/faultyard
+
+help:
+	@sed -n 's/^#   //p; s/^# \{20\}/                    /p' Makefile
 
 # One build serves all that is shown, and what is tested without proofs.
 run:

@@ -10,6 +10,7 @@ import contracts
 import definitions
 import layers
 import limits
+import targets
 from source import ROOT
 
 BEGIN = "<!-- begin: {}, made from the source by make pages -->"
@@ -21,6 +22,7 @@ PARTS: tuple[tuple[str, str, Callable[[], str]], ...] = (
     ("docs/CONTRACTS.md", "limits", limits.made),
     ("docs/CONTRACTS.md", "contracts", contracts.made),
     ("docs/ARCHITECTURE.md", "crates", layers.crate_table),
+    ("docs/CONTRIBUTING.md", "targets", targets.made),
 )
 
 
