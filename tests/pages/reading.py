@@ -2,6 +2,7 @@
 
 from __future__ import annotations
 
+import subprocess
 import tempfile
 import unittest
 from pathlib import Path
@@ -11,8 +12,10 @@ import definitions
 import layers
 import limits
 import made
+import names
 import source
 
+REAL = source.ROOT
 FILES = {
     "crates.txt": "# two crates, and a program\nlow: memchr\nhigh: low\nfy_c staticlib: low\nfaultyard: high low\n",
     "include/faultyard.h": "",
@@ -122,8 +125,8 @@ class Reading(unittest.TestCase):
             path = Path(folder.name) / name
             path.parent.mkdir(parents=True, exist_ok=True)
             path.write_text(text)
-        for module in (source, contracts):
-            self.addCleanup(setattr, module, "ROOT", source.ROOT)
+        for module in (source, contracts, names):
+            self.addCleanup(setattr, module, "ROOT", REAL)
             setattr(module, "ROOT", Path(folder.name))
         source.files_of.cache_clear()
         self.addCleanup(source.files_of.cache_clear)
@@ -171,6 +174,13 @@ class Reading(unittest.TestCase):
         drawn = layers.diagram()
         self.assertIn('data-from="faultyard" data-to="high"', drawn)
         self.assertNotIn('data-from="faultyard" data-to="low"', drawn)
+
+    def test_a_name_on_a_page_is_one_of_the_source(self) -> None:
+        subprocess.run(["git", "init", "--quiet", source.ROOT], check=True)
+        page = source.ROOT / "page.md"
+        page.write_text("`Shown::look`, `Shown::listen`, `low/specs/Sets`, `{gone: 1}`\n")
+        told = "page.md: the source has no listen, which it names as `Shown::listen`"
+        self.assertEqual([*names.unknown([page])], [told])
 
 
 class Marks(unittest.TestCase):
