@@ -17,7 +17,13 @@ import source
 
 REAL = source.ROOT
 FILES = {
-    "crates.txt": "# two crates, and a program\nlow: memchr\nhigh: low\nfy_c staticlib: low\nfaultyard: high low\n",
+    "crates.txt": """\
+# two crates, the C library and the program
+low: memchr
+high: low
+fy_c staticlib: low
+faultyard: high low
+""",
     "include/faultyard.h": "",
     "crates/low/specs/Lib.antt": "pub mod Sets\n",
     "crates/low/specs/Sets.antt": """\
@@ -185,7 +191,7 @@ class Reading(unittest.TestCase):
 
 class Marks(unittest.TestCase):
     def test_a_part_is_made_between_its_marks(self) -> None:
-        page = "a\n<!-- begin: x, made from the source by make pages -->\nold\n<!-- end of what is made -->\nb\n"
+        page = f"a\n{made.BEGIN.format('x')}\nold\n{made.END}\nb\n"
         self.assertIn("-->\n\nnew\n\n<!-- end", made.with_part(page, "x", "new"))
         self.assertEqual(made.by_hand(page), "a\n\nb\n")
         self.assertRaises(made.PagesError, made.with_part, page, "y", "new")

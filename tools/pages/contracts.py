@@ -20,6 +20,11 @@ def calls_of_the_header() -> dict[str, str]:
     return found
 
 
+def named_for_c(text: str, inline: dict[str, str]) -> str:
+    """A text that names calls as the header has them for C programs."""
+    return re.sub(r"\bfy_\w+", lambda found: inline.get(found[0], found[0]), text)
+
+
 def clauses(function: Function) -> str:
     """The clauses by kind, each by its name if it has one."""
     parts = []
@@ -37,7 +42,7 @@ def shown(place: Place, crate: str) -> str:
 
 def row(function: Function, inline: dict[str, str]) -> tuple[str, ...]:
     name = inline.get(function.name, "")
-    says = cell(function.says)
+    says = cell(named_for_c(function.says, inline))
     cited = sorted(function.cites, key=lambda it: (it[0] != function.crate, it[2]))
     return (
         f"`{name}` (export `{function.name}`)" if name else f"`{function.name}`",

@@ -17,7 +17,8 @@ WIDTH, HEIGHT, ROW, GAP, EDGE, LEGEND_WIDTH = 130, 28, 74, 14, 24, 260
 
 @dataclass
 class Ground:
-    """What each crate of the repository stands on: all of it, and the edges that no others imply."""
+    """What each crate of the repository stands on: all of it, and the edges that no others
+    imply."""
 
     below: dict[str, set[str]] = field(default_factory=dict)
     edges: dict[str, set[str]] = field(default_factory=dict)
@@ -91,7 +92,8 @@ class Grid:
         count = 0
         for low, high in zip(self.rows, self.rows[1:], strict=False):
             place = {it: at for at, it in enumerate(low)}
-            ends = [place[it] for name in high for it in sorted(self.under.get(name, []), key=place.__getitem__)]
+            beneath = (sorted(place[it] for it in self.under.get(name, [])) for name in high)
+            ends = [it for places in beneath for it in places]
             count += sum(b < a for at, a in enumerate(ends) for b in ends[at + 1 :])
         return count
 
@@ -118,7 +120,7 @@ class Grid:
         return self
 
     def places(self) -> dict[str, float]:
-        """The middle of each crate and bend from the left, without overlap and near its neighbours."""
+        """The middle of each crate and bend from the left, without overlap, near its neighbours."""
         x: dict[str, float] = {}
         for row in self.rows:
             at = 0.0

@@ -14,6 +14,10 @@ ROOT = Path(__file__).resolve().parents[2]
 # A crate, a file of its specs/ without the suffix, and a name there.
 Place = tuple[str, str, str]
 
+# What a file of specs/ or src/ takes from another of specs/.
+IMPORT = re.compile(
+    r"(?m)^[ \t]*(?:pub )?(?:ghost )?use Rattle\.(\w+)\.specs\.(\w+)(?: as (\w+)|\.\{([^}]*)\})"
+)
 # A name of antt: letters, digits, and what stands between the words of an operator.
 WORD = re.compile(r"[\w◌'-]+(?:\.[\w']+)?")
 
@@ -65,8 +69,7 @@ class Imports:
     @classmethod
     def of(cls, text: str) -> Imports:
         found = cls()
-        lines = r"(?m)^[ \t]*(?:pub )?(?:ghost )?use Rattle\.(\w+)\.specs\.(\w+)(?: as (\w+)|\.\{([^}]*)\})"
-        for crate, module, short, names in re.findall(lines, text):
+        for crate, module, short, names in IMPORT.findall(text):
             if short:
                 found.modules[short] = (crate, module)
             for it in (it.strip() for it in names.split(",") if it.strip()):
@@ -124,7 +127,7 @@ def defined_at(lines: list[str], at: int, in_mutual: bool) -> re.Match[str] | No
 
 
 def definitions_of(crate: str, path: Path) -> Iterator[Definition]:
-    """The definitions of a file of specs/; of a block of several the comment above is the first's."""
+    """The definitions of a file of specs/. The comment above a block is that of its first."""
     lines = path.read_text().split("\n")
     starts: list[tuple[int, str, str]] = []
     in_mutual, block = False, ""
@@ -197,6 +200,7 @@ class Specs:
 
 # ---- src/
 
+MODEL = re.compile(r"(?ms)^impl(?:<[^\n]*?>)? Model for (\w+).*?\{$(.*?)^\}")
 FUNCTION = re.compile(
     r"(?P<indent> *)(?P<pub>pub (?:\((?:crate|super|in [\w:]+)\) )?|pub\([\w :]+\) )?"
     r"(?:const |unsafe )*(?P<c>extern \"C\" )?fn (?P<name>\w+)"
@@ -206,8 +210,9 @@ BLOCK = re.compile(r"(?:unsafe )?impl(?:<.*?>)? (?:(?P<of>[\w:]+)(?:<.*?>)? for 
 
 def first_sentence(lines: list[str]) -> str:
     """The first sentence of a comment that stands in these lines without their marks."""
-    text = " ".join(lines).partition("  ")[0] if "" not in lines else " ".join(lines[: lines.index("")])
-    return re.split(r"(?<=[.!?]) (?=[A-Z`])", text, maxsplit=1)[0].strip()
+    text = " ".join(lines[: lines.index("")] if "" in lines else lines)
+    linked = re.sub(r"\[(`[^`]+`)\]", r"\1", text)
+    return re.split(r"(?<=[.!?]) (?=[A-Z`])", linked, maxsplit=1)[0].strip()
 
 
 def docs_above(lines: list[str], at: int) -> list[str]:
@@ -349,7 +354,7 @@ class Crate:
         for path in files_of(self.name, "src", ".rt"):
             text = path.read_text()
             imports = Imports.of(text)
-            for name, body in re.findall(r"(?ms)^impl(?:<[^\n]*?>)? Model for (\w+).*?\{$(.*?)^\}", text):
+            for name, body in MODEL.findall(text):
                 value = re.search(r"ghost Value = \{(.*?)\};", body, re.S)
                 if value and self.is_reached(self.module_of(path), name):
                     yield name, specs.all_resolved(imports.cited_in(value[1]))
