@@ -18,6 +18,7 @@ from faultyard_hooks import Refused, answered, keep, paged, wait
 from faultyard_hooks.amqp import Amqp
 from faultyard_hooks.client import OneOf
 from faultyard_hooks.http import Http, base64, plain
+from faultyard_hooks.jsonrpc import JsonRpc
 from faultyard_hooks.nats import Nats, on_disk, text
 from faultyard_hooks.postgres import Postgres
 from faultyard_hooks.resp import Resp
@@ -235,6 +236,13 @@ class Helpers(unittest.TestCase):
 PING, PONG = b"*1\r\n$4\r\nPING\r\n", b"+PONG\r\n"
 
 
+def answer(connection, _):
+    """Says what it is asked to on a connection, once it is asked."""
+    with connection:
+        if connection.recv(len(PING), socket.MSG_WAITALL) == PING:
+            connection.sendall(PONG)
+
+
 class Clients(unittest.TestCase):
     def test_a_connection_is_kept(self):
         client = Talk(self, [(PING, PONG), (PING, PONG)]).client(Resp)
@@ -245,6 +253,23 @@ class Clients(unittest.TestCase):
         with self.assertRaises(OSError):
             client.ask("PING")
         self.assertEqual(client.ask("PING"), "PONG")
+
+    def test_a_unix_socket_is_asked_by_its_path(self):
+        folder = self.enterContext(tempfile.TemporaryDirectory())
+        with socket.socket(socket.AF_UNIX) as server:
+            server.bind(f"{folder}/control")
+            client = Resp(f"{folder}/control", 0.1)
+            self.addCleanup(client.close)
+            with self.assertRaises(ConnectionRefusedError):
+                client.ask("PING")
+            server.listen()
+            with self.assertRaises(socket.timeout):
+                client.ask("PING")
+            server.accept()[0].close()
+            asked = threading.Thread(target=lambda: answer(*server.accept()))
+            asked.start()
+            self.assertEqual(client.ask("PING"), "PONG")
+            asked.join(10)
 
     def test_silence_is_a_fault(self):
         with socket.create_server(("127.0.0.1", 0)) as silent, self.assertRaises(socket.timeout):
@@ -310,6 +335,29 @@ class HttpAnswers(unittest.TestCase):
     def test_a_refusal_has_its_status_and_text(self):
         with self.assertRaisesRegex(Refused, "503 no leader"):
             self.asked(b"HTTP/1.1 503 Unavailable\r\nContent-Length: 9\r\n\r\nno leader")
+
+
+class JsonRpcAnswers(unittest.TestCase):
+    SENT = b'{"method": "transact", "params": ["R", {"op": "select"}], "id": 0}'
+
+    def asked(self, *answers):
+        client = Talk(self, [(self.SENT, answer) for answer in answers]).client(JsonRpc)
+        return [client.ask("transact", "R", {"op": "select"}) for _ in answers]
+
+    def test_an_answer_ends_with_its_own_brace_and_not_with_one_in_a_text(self):
+        one = b'{"id":0,"result":[{"rows":[]},{}],"error":null}'
+        two = rb'{"id":0,"result":"a \"{\\","error":null}'
+        rows = [{"rows": []}, {}]
+        self.assertEqual(self.asked(one, two, one), [rows, 'a "{\\', rows])
+
+    def test_what_the_store_asks_is_passed_over(self):
+        echo = b'{"method":"echo","params":[],"id":"echo"}'
+        answer = b'{"id":0,"result":[],"error":null}'
+        self.assertEqual(self.asked(echo + b"\n" + answer, answer + b"\n"), [[], []])
+
+    def test_an_error_is_refused_with_its_text(self):
+        with self.assertRaisesRegex(Refused, "transact: .*unknown database"):
+            self.asked(b'{"id":0,"result":null,"error":{"error":"unknown database"}}')
 
 
 def message(kind, body):

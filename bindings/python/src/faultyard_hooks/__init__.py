@@ -224,11 +224,11 @@ def keep(path: str, text: str) -> None:
         file.flush()
         os.fsync(file.fileno())
     os.replace(f"{path}.new", path)
-    sync_folder(os.path.dirname(path))
+    sync(os.path.dirname(path))
 
 
-def sync_folder(path: str) -> None:
-    """Has the names in a folder on the disk."""
+def sync(path: str) -> None:
+    """Has a file, or the names in a folder, on the disk."""
     place = os.open(path, os.O_RDONLY)
     try:
         os.fsync(place)

@@ -5,7 +5,7 @@ from __future__ import annotations
 import random
 import socket
 from abc import ABC, abstractmethod
-from typing import Any, BinaryIO, Callable, Generic, List, Optional, Sequence, Tuple, TypeVar
+from typing import Any, BinaryIO, Callable, Generic, List, Optional, Sequence, Tuple, TypeVar, Union
 
 from . import ABLE, COUNT, at
 
@@ -13,8 +13,8 @@ from . import ABLE, COUNT, at
 class Client(ABC):
     """Connects when it is first asked, and again after a fault, which is an OSError."""
 
-    def __init__(self, address: Tuple[str, int], seconds: float = 2.0) -> None:
-        """`seconds` is how long the store may be silent."""
+    def __init__(self, address: Union[Tuple[str, int], str], seconds: float = 2.0) -> None:
+        """The path of a Unix socket is an address too. The store may be silent for `seconds`."""
         self._address, self._seconds = address, seconds
         self._socket: Optional[socket.socket] = None
         self._file: Optional[BinaryIO] = None
@@ -38,8 +38,13 @@ class Client(ABC):
         self._socket = self._file = None
 
     def _connect(self) -> None:
-        self._socket = socket.create_connection(self._address, self._seconds)
-        self._socket.setsockopt(socket.IPPROTO_TCP, socket.TCP_NODELAY, 1)
+        if isinstance(self._address, str):
+            self._socket = socket.socket(socket.AF_UNIX)
+            self._socket.settimeout(self._seconds)
+            self._socket.connect(self._address)
+        else:
+            self._socket = socket.create_connection(self._address, self._seconds)
+            self._socket.setsockopt(socket.IPPROTO_TCP, socket.TCP_NODELAY, 1)
         self._file = self._socket.makefile("rb")
         self._greet()
 
