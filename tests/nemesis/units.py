@@ -102,6 +102,7 @@ class Summaries(unittest.TestCase):
             summary.tested_little(100, [0.5], 1, 0),
             ["tested little: nothing that was destroyed was healed"],
         )
+        self.assertEqual(summary.tested_little(100, [0.5], 0, 0, partitions=1), [])
 
 
 class Cases(unittest.TestCase):
@@ -167,6 +168,8 @@ class Cases(unittest.TestCase):
         losses = [(2, 6.0, 7), (3, 6.0, 7)]
         case = self.case(Left({}, disks=self.disks()), losses, orders=[mild, order])
         self.assertEqual(case.fault(), "beyond the guard since entry 7, which destroyed k2 k3 who could hold it")
+        case = self.case(Left({}, disks=self.disks()), losses, orders=[order], able=(0, 3))
+        self.assertEqual(case.fault(), "beyond the guard since entry 7, which destroyed k3 who could hold it")
         case = self.case(Left({}, disks=self.disks(4)), losses, orders=[order])
         self.assertTrue(case.fault().endswith("; k4 has it"))
         case = self.case(Left({}, disks=self.disks()), orders=[order | {"entry": 2, "t": 1.0}])

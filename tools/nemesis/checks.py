@@ -16,7 +16,7 @@ if TYPE_CHECKING:
 
 BEFORE = 1.0  # seconds of writes before each order
 SOON = 0.02  # seconds until it is looked again whether a process was emptied
-EARLY = 1.0  # seconds before it is whole, in which a process may have a record already
+EARLY = 1.0  # seconds until it is asked and whole, in which a process may have a record already
 MOST = 200  # records for which a process is asked
 NEVER = "r/999999999"  # a key that is never written
 HEALS = 3  # so many a run should have time for
@@ -146,11 +146,12 @@ class HookCheck:
 
     def _note_passed_on(self, number: int, told: Told | None) -> None:
         """A process that has a record long before it is whole may have asked another for it."""
-        early = self.run.ledger.heals[-1].t - told[0] if told and told[1] != "none" else 0.0
+        early = self.run.asked[number] - told[0] if told and told[1] != "none" else 0.0
         if early > EARLY:
             name = self.run.names[number]
-            text = f"{name} was emptied, and told a record {early:.1f} s before `whole {number}`"
-            self.notes.append(f"{text} said yes: does `check` of {name} ask another process?")
+            text = f"{name} was emptied, and told a record {early:.1f} s before"
+            asks = f"does `check` of {name} ask another process?"
+            self.notes.append(f"{text} the `whole {number}` was asked that said yes: {asks}")
 
     async def disks(self) -> None:
         """Looks at what each folder had after `whole` said yes, now that the store is down."""
@@ -198,7 +199,7 @@ class HookCheck:
         lines = [f"a start took up to {start:.1f} s, a heal up to {heal:.1f} s"]
         pauses = words.pauses or PAUSES
         pause = sum(pauses) / len(pauses)
-        if pause < start:
+        if round(pause, 1) < round(start, 1):  # as they are told
             text = f"--pauses are {pause:.1f} s on average, shorter than a start"
             lines.append(f"{text}: take some like {start:.0f},{2 * start:.0f}")
         if words.seconds < HEALS * heal:

@@ -147,7 +147,7 @@ class Clients:
     ) -> dict[str, str | None]:
         """What a process tells of each of these records, of as many as it answers for in time."""
         queue, found = list(reversed(keys)), dict[str, str | None]()
-        until = time.monotonic() + max(self.hooks.seconds("read"), len(keys) * EACH)
+        until = time.monotonic() + self.patience(len(keys))
 
         async def once(process: Process) -> str | None:
             operation = await self._check_one(process, client, number, queue[-1])
@@ -162,6 +162,10 @@ class Clients:
 
         await self._talk("check", once, is_over)
         return found
+
+    def patience(self, count: int) -> float:
+        """For how many seconds a process is asked at the end for so many records."""
+        return max(self.hooks.seconds("read"), count * EACH)
 
     async def first_told(self, number: int, key: str, is_over: Callable[[], bool]) -> Told | None:
         """What a process tells first of a record, if it does before that; not for the history."""

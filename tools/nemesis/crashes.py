@@ -23,7 +23,7 @@ class Crashes:
 
     def pause(self) -> float:
         """How long to wait: twice as long each time that it has ended before it was up."""
-        return min(SHORTEST * 2 ** max(self._in_a_row - 1, 0), LONGEST)
+        return min(SHORTEST * 2.0 ** max(self._in_a_row - 1, 0), LONGEST)
 
     def __str__(self) -> str:
         counts = f"{self.up} times while it was up, {self.before} times before"

@@ -86,7 +86,7 @@ class Case:
             return ""
         told, entry = self.course.told, order["entry"]
         text = f"beyond the guard since entry {entry}"
-        took = [n for n, entries in self.destroyed.items() if entry in entries]
+        took = [n for n in self.record.able if entry in self.destroyed.get(n, ())]
         if took:
             text += f", which destroyed {told(took)} who could hold it"
         return f"{text}; {told(self.holds)} has it" if self.holds else text

@@ -12,7 +12,7 @@ from pathlib import Path
 
 import faultyard
 from faultyard import ConfigRefused, FaultyardError, Guard, InvalidAct, Kind, NotFound
-from faultyard.plans import BLACKOUTS, PAUSES, PLANS
+from faultyard.plans import BLACKOUTS, PARTITIONS, PAUSES, PLANS
 from config_check.main import explain
 from keeper import adopt_orphans, end_children
 
@@ -61,8 +61,10 @@ def parsed() -> argparse.Namespace:
     add("--plan", choices=PLANS, default="mixed", help="how orders are drawn (mixed)")
     text = f"how often each kind that is granted is drawn, from the mildest; Clog last ({KINDS})"
     add("--kinds", type=weights, default=KINDS, metavar="WEIGHTS", help=text)
-    mixed, blackout = (",".join(f"{it:g}" for it in those) for those in (PAUSES, BLACKOUTS))
-    text = f"between the orders of mixed ({mixed}) and of blackout ({blackout})"
+    mixed, blackout, partition = (
+        ",".join(f"{it:g}" for it in those) for those in (PAUSES, BLACKOUTS, PARTITIONS)
+    )
+    text = f"between the orders of mixed ({mixed}), blackout ({blackout}), partition ({partition})"
     add("--pauses", type=numbers, metavar="SECONDS", help=text)
     text = "a disk for each process, whose power a Reboot cuts"
     add("--disks", choices=KINDS_OF_DISKS, help=text)
@@ -225,12 +227,15 @@ def after_cuts(run: Run) -> list[str]:
 def report(run: Run, is_read: bool = True) -> int:
     """Prints what a run comes to, and says how the tool ends."""
     words, counts, checked = run.words, run.counts(), write_files(run)
-    lines = run.summary(f"seed {words.seed}") + run.notes + run.power() + after_cuts(run)
+    title = f"seed {words.seed}"
+    title += f", {run.partitions} partitions" if run.partitions else ""
+    lines = run.summary(title) + run.notes + run.power() + after_cuts(run)
     lines += [f"{run.names[number]} {crashes}" for number, crashes in sorted(run.crashes.items())]
     acked = len(run.ledger.records)
     if is_read and not words.check_hooks:
         healed, destroyed = len(run.ledger.healed), len(run.ledger.losses)
-        lines += tested_little(acked, run.ledger.pauses(), destroyed, healed)
+        pauses = run.ledger.pauses()
+        lines += tested_little(acked, pauses, destroyed, healed, run.partitions)
         if words.unguarded and not counts["lost"] + counts["unreadable"]:
             lines.append(MILD)
     lines += told_cases(run.cases, SHOWN)

@@ -91,12 +91,13 @@ class _Picture:
         self.names = [place[Key.PROCESS] for place in file.places]
         self.high = 34 if len(self.names) <= 12 else 24 if len(self.names) <= 30 else 16
         lost = (it for it in run.records if it.verdict == "lost")
-        self.takers = {entry for record in lost for entry in record.entries}
+        self.takers = {taken for record in lost for taken in record.taken}
         self.top = 20 + 18 * len(told) + 48  # of the chart
         strips = {record.verdict for record in run.records}
         order = ("lost", "wrong", "stale", "unreadable")
         self.strips = [it for it in order if it in strips]
-        rows = len(self.strips) + bool(run.partitions)
+        self.rows = rows_of(run.partitions)
+        rows = len(self.strips) + max(self.rows, default=-1) + 1
         self.lanes_top = self.top + CHART + 18 + 16 * rows + 12
         self.zones = zones(file)
         self.bottom = self.lanes_top + len(self.names) * self.high + 6 * len(self.zones)
@@ -215,11 +216,11 @@ class _Picture:
 
     def partitions(self) -> Iterator[str]:
         """When some didn't hear others."""
-        y = self.top + CHART + 18 + 16 * len(self.strips)
+        top = self.top + CHART + 18 + 16 * len(self.strips)
         if self.run.partitions:
-            yield f'<text x="16" y="{y + 4}">partitions</text>'
-        for it in self.run.partitions:
-            told = self.sides(it)
+            yield f'<text x="16" y="{top + 4}">partitions</text>'
+        for it, row in zip(self.run.partitions, self.rows):
+            told, y = self.sides(it), top + 16 * row
             x, wide = self.x(it.begin), round(self.x(it.end) - self.x(it.begin), 1)
             place = f'x="{x}" y="{y - 7}" width="{wide}" height="14"'
             yield f'<rect {place} class="clog"><title>{escape(told)}</title></rect>'
@@ -227,11 +228,11 @@ class _Picture:
                 yield f'<text x="{x + 4}" y="{y + 4}" class="word">{escape(it.shape)}</text>'
 
     def sides(self, it: Partition) -> str:
-        """A partition, and who isn't heard by whom."""
+        """A partition, and who is unheard by whom."""
         heard: dict[str, list[str]] = {}
         for sender, receiver in it.cuts:
             heard.setdefault(self.names[sender], []).append(self.names[receiver])
-        sides = "; ".join(f"{name} not to {' '.join(to)}" for name, to in heard.items())
+        sides = "; ".join(f"{name} unheard by {' '.join(to)}" for name, to in heard.items())
         return f"{it.begin:.1f} to {it.end:.1f} s, {it.shape}: {sides}"
 
     # The processes.
@@ -263,7 +264,7 @@ class _Picture:
             yield f'<rect {place} class="clog"><title>{told}</title></rect>'
         xs = [self.x(it.t) for it in lane.orders] + [WIDE - RIGHT + 20.0]
         for place_of, order in enumerate(lane.orders):
-            yield from self.order(order, xs[place_of], middle)
+            yield from self.order(order, name, xs[place_of], middle)
             word = word_of(order)
             if with_words and LETTER * len(word) < xs[place_of + 1] - xs[place_of]:
                 where = f'x="{xs[place_of] - 6}" y="{y + 10}"'
@@ -280,7 +281,7 @@ class _Picture:
         title = f"<title>{escape(told)}</title>"
         return f'<rect {place} height="{high}" class="{state}">{title if told else ""}</rect>'
 
-    def order(self, order: Struck, x: float, y: float) -> Iterator[str]:
+    def order(self, order: Struck, name: str, x: float, y: float) -> Iterator[str]:
         kind = order.does or Kind(order.event["order"])
         words = ["order"]
         if order.event["beyond"]:
@@ -289,7 +290,7 @@ class _Picture:
             words.append("barred")
         elif order.is_lessened:
             words.append("lessened")
-        if order.event["entry"] in self.takers:
+        if (name, order.event["entry"]) in self.takers:
             words.append("taker")
         yield from self.circle(x, y, " ".join(words), SHORT[kind][0], self.told_by(order))
 
@@ -344,13 +345,24 @@ class _Picture:
             ("Records that are not kept", [*self.faults()], "records.jsonl"),
             ("Beyond the guard", [*map(self.told_by, beyond)], "events.jsonl"),
             ("Why no harder", [*map(self.told_by, less)], "events.jsonl"),
-            ("Who did not hear whom", [*map(self.sides, self.run.partitions)], "events.jsonl"),
+            ("Partitions", [*map(self.sides, self.run.partitions)], "events.jsonl"),
         ):
             if texts:
                 yield head
                 yield from (f" {text}" for text in texts[:LISTED])
                 if len(texts) > LISTED:
                     yield f" and {len(texts) - LISTED} more, in {name}"
+
+
+def rows_of(partitions: Sequence[Partition]) -> list[int]:
+    """The row of each, so that none covers another that isn't over yet."""
+    ends: list[float] = []
+    rows = []
+    for it in partitions:
+        row = next((row for row, end in enumerate(ends) if end <= it.begin), len(ends))
+        ends[row : row + 1] = [it.end]
+        rows.append(row)
+    return rows
 
 
 def word_of(order: Struck) -> str:

@@ -152,7 +152,8 @@ class Run(Store):
         checked = dict(zip(numbers, await asyncio.gather(*asked)))
         for number, found in checked.items():
             if len(found) < len(keys):
-                text = f"answered for {len(found)} of {len(keys)} records, and not for the others"
+                text = f"answered for {len(found)} of {len(keys)} records"
+                text += f" in at most {self.clients.patience(len(keys)):g} s, not for the others"
                 self.notes.append(f"at the end `check` of {self.names[number]} {text}")
         return checked
 

@@ -50,6 +50,8 @@ class Store(Harness):
         self.crashes: dict[int, Crashes] = {}  # of those that ended by themselves
         self.emptied: set[int] = set()  # until they have joined, or left
         self._ended: dict[int, str] = {}  # how each last ended by itself, until it is up
+        self.partitions = 0  # how many there were
+        self.asked: dict[int, float] = {}  # when each was last asked whether it is whole
         self.joined: dict[int, str] = {}  # what the last join of each has done, until it is struck
         self.idle: set[int] = set()  # those whose last join left the folder empty
         self._elected = 0  # how many of the losses an election has seen
@@ -205,6 +207,7 @@ class Store(Harness):
     async def partition(self, order: Order) -> None:
         """Loses what some processes send to others, until the order's time is over."""
         assert self.net
+        self.partitions += 1
         async with self.turn:
             self.note("partition", shape=order.value, cuts=order.cuts, clogged=order.clogged)
             self.show(f"partition {order.value}: {self._sides(order)}, {order.clogged:g} s")
@@ -219,11 +222,11 @@ class Store(Harness):
         await self.net.cut(order.cuts, False)
 
     def _sides(self, order: Order) -> str:
-        """Who is not heard by whom."""
+        """Who is unheard by whom."""
         to: dict[str, list[str]] = {}
         for sender, receiver in order.cuts:
             to.setdefault(self.names[sender], []).append(self.names[receiver])
-        return "; ".join(f"{name} not to {' '.join(others)}" for name, others in to.items())
+        return "; ".join(f"{name} unheard by {' '.join(others)}" for name, others in to.items())
 
     async def _keep(self, number: int) -> None:
         """Brings a process back, and again each time that it ends by itself."""
@@ -290,6 +293,7 @@ class Store(Harness):
                 self.starts.append(time.monotonic() - self._began[number])
                 self.tell_up(number)
         elif number in self.ledger.destroyed and self._is_elected():
+            self.asked[number] = self.ledger.now()
             whole = await self.hooks.says("whole", number, self.ledger.due(number))
             if whole and process.returncode is None and self._is_elected():
                 self.tell_healed(number)

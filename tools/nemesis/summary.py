@@ -8,17 +8,19 @@ MILD = "tested little: unguarded, and nothing was lost: --plan attrition destroy
 QUIET = 1.0  # seconds without an acknowledgement that count as a time without writes
 
 
-def tested_little(acked: int, pauses: Sequence[float], destroyed: int, healed: int) -> list[str]:
-    """Why a run that lost nothing says little."""
+def tested_little(
+    acked: int, pauses: Sequence[float], destroyed: int, healed: int, partitions: int = 0
+) -> list[str]:
+    """Why a run that lost nothing says little. One of partitions needn't destroy anything."""
     seconds, quiet = sum(pauses), sum(pause for pause in pauses if pause >= QUIET)
     lines = []
     if acked < FEW:
         lines.append(f"{acked} writes were acknowledged, fewer than {FEW}")
     if quiet > seconds / 2:
         lines.append(f"for {quiet:.1f} of {seconds:.1f} seconds no write was acknowledged")
-    if not destroyed:
+    if not destroyed and not partitions:
         lines.append("nothing was destroyed")
-    elif not healed:
+    elif destroyed and not healed:
         lines.append("nothing that was destroyed was healed")
     return [f"tested little: {line}" for line in lines]
 

@@ -83,14 +83,15 @@ class Partition:
 
 @dataclass(frozen=True)
 class Record:
-    """A record that isn't kept, and the entries that first destroyed those who could hold it."""
+    """A record that isn't kept."""
 
     t: float
     """When it was acknowledged; or when a read told a value that was never written."""
     key: str
     verdict: str
     fault: str
-    entries: frozenset[int]
+    taken: frozenset[tuple[str, int]]
+    """Those who could hold it, each with the entry that first destroyed it."""
 
 
 @dataclass
@@ -148,10 +149,10 @@ def acknowledged(history: Iterable[Event]) -> Iterator[float]:
 def not_kept(records: Iterable[Event]) -> Iterator[Record]:
     """The records that have another verdict than kept."""
     for line in records:
-        destroyed = line.get("destroyed", {}).values()
-        entries = frozenset(min(those) for those in destroyed if those)
+        destroyed, able = line.get("destroyed", {}), line.get("able", ())
+        taken = frozenset((name, min(destroyed[name])) for name in able if destroyed.get(name))
         t = line["acked"] if "acked" in line else line["t"]
-        yield Record(t, line["key"], line["verdict"], line["fault"], entries)
+        yield Record(t, line["key"], line["verdict"], line["fault"], taken)
 
 
 def gaps(acks: Sequence[float], until: float, least: float = QUIET) -> list[tuple[float, float]]:

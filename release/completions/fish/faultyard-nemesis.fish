@@ -5,7 +5,7 @@ complete -c faultyard-nemesis -l seed -x -d "The orders are drawn from this seed
 complete -c faultyard-nemesis -l seconds -x -d "How long records are written"
 complete -c faultyard-nemesis -l plan -x -a "mixed attrition swizzle rolling blackout partition" -d "How orders are drawn"
 complete -c faultyard-nemesis -l kinds -x -d "How often each kind is drawn"
-complete -c faultyard-nemesis -l pauses -x -d "Pauses between orders of mixed and blackout"
+complete -c faultyard-nemesis -l pauses -x -d "Pauses between orders of mixed, blackout and partition"
 complete -c faultyard-nemesis -l replay -r -d "Do the orders of this events.jsonl"
 complete -c faultyard-nemesis -l disks -x -a "ext4 xfs lossy" -d "A disk for each process, whose power a Reboot cuts"
 complete -c faultyard-nemesis -l tear -x -a "none draw" -d "What a power cut keeps of what was unsynced"

@@ -74,6 +74,11 @@ class PlansTest(unittest.TestCase):
             self.assertEqual({order.pause for order in orders}, set(pauses or (4.0, 6.0, 8.0)))
             self.assertEqual({(order.kind, order.key) for order in orders}, {(Kind.REBOOT, Key.ZONE)})
 
+    def test_partition_draws_its_own_pauses_or_those_given(self):
+        for pauses in (None, [6.0, 10.0]):
+            orders = self.drawn("partition", pauses=pauses)
+            self.assertEqual({order.pause for order in orders}, set(pauses or (1.0, 2.0, 4.0)))
+
     def test_attrition_only_destroys(self):
         self.assertTrue(all(order.kind.empties_disk for order in self.drawn("attrition")))
 

@@ -12,6 +12,7 @@ PLANS = ("mixed", "attrition", "swizzle", "rolling", "blackout", "partition")
 """The plans of `Draw`, each a call of it."""
 PAUSES = (0.0, 0.2, 0.5, 1.0, 2.0, 4.0)
 BLACKOUTS = (4.0, 6.0, 8.0)
+PARTITIONS = (1.0, 2.0, 4.0)
 WEIGHTS = dict(zip(Kind, (10.0, 35.0, 54.0, 1.0, 10.0)))
 
 
@@ -91,8 +92,8 @@ class Draw(NamedTuple):
     weights: Mapping[Kind, float] = WEIGHTS
     """How often each kind is drawn; leave out those that aren't granted."""
     pauses: Optional[Sequence[float]] = None
-    """The pauses of `mixed` and `blackout`, one of which is drawn each time; else `PAUSES` and
-    `BLACKOUTS`."""
+    """The pauses of `mixed`, `blackout` and `partition`, one of which is drawn each time; else
+    `PAUSES`, `BLACKOUTS` and `PARTITIONS`."""
 
     def mixed(self) -> Iterator[Order]:
         """Any kind of a random process, machine or zone, after a random pause."""
@@ -137,7 +138,8 @@ class Draw(NamedTuple):
             shape = self.dice.choice(SHAPES)
             ring = self.dice.sample(range(len(self.places)), len(self.places))
             fewer = self.dice.randint(1, max(1, (len(ring) - 1) // 2))
-            pause, clogged = self.dice.choice([1.0, 2.0, 4.0]), self.dice.choice([1.0, 3.0, 8.0])
+            pause = self.dice.choice(self.pauses or PARTITIONS)
+            clogged = self.dice.choice([1.0, 3.0, 8.0])
             if cuts := cuts_of(shape, ring, fewer):
                 yield Order(Kind.CLOG, Key.PROCESS, shape, pause, clogged, cuts=cuts)
 
