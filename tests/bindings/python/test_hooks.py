@@ -20,6 +20,7 @@ from faultyard_hooks.client import OneOf
 from faultyard_hooks.http import Http, base64, plain
 from faultyard_hooks.jsonrpc import JsonRpc
 from faultyard_hooks.nats import Nats, on_disk, text
+from faultyard_hooks.ovsdb import Ovsdb
 from faultyard_hooks.postgres import Postgres
 from faultyard_hooks.resp import Resp
 from faultyard_hooks.zookeeper import ZooKeeper, last_synced
@@ -358,6 +359,16 @@ class JsonRpcAnswers(unittest.TestCase):
     def test_an_error_is_refused_with_its_text(self):
         with self.assertRaisesRegex(Refused, "transact: .*unknown database"):
             self.asked(b'{"id":0,"result":null,"error":{"error":"unknown database"}}')
+
+    def test_an_operation_of_ovsdb_that_fails_is_refused(self):
+        fault = b'{"error":"constraint violation","details":"it is there"}'
+        for result in (b"[{}," + fault + b"]", b"[{},null," + fault + b"]"):
+            answer = b'{"id":0,"result":' + result + b',"error":null}'
+            with self.assertRaisesRegex(Refused, "it is there"):
+                Talk(self, [(self.SENT, answer)]).client(Ovsdb).ask("R", {"op": "select"})
+        answer = b'{"id":0,"result":[{"rows":[]},null],"error":null}'
+        client = Talk(self, [(self.SENT, answer)]).client(Ovsdb)
+        self.assertEqual(client.ask("R", {"op": "select"}), [{"rows": []}, None])
 
 
 def message(kind, body):
