@@ -8,7 +8,7 @@ from unittest.mock import patch
 
 from faultyard.enums import Kind
 from faultyard.ledger import Heal, Loss, Record
-from nemesis import summary
+from nemesis import checks, summary
 from nemesis.crashes import Crashes
 from nemesis.evidence import Case, Course
 from nemesis.history import Operation
@@ -103,6 +103,20 @@ class Summaries(unittest.TestCase):
             ["tested little: nothing that was destroyed was healed"],
         )
         self.assertEqual(summary.tested_little(100, [0.5], 0, 0, partitions=1), [])
+
+
+class Whole(unittest.TestCase):
+    def test_a_whole_that_takes_its_time_accuses_no_check(self):
+        for told, not_whole, seconds in (
+            ((5.0, "x"), None, 0.0),  # it said yes at once, whenever that was
+            ((5.0, "x"), (6.0, 6.0), 0.0),
+            ((5.0, "x"), (6.0, 7.5), 1.5),
+            ((7.0, "x"), (6.0, 7.5), 0.5),
+            ((5.0, "none"), (6.0, 7.5), 0.0),
+            (None, (6.0, 7.5), 0.0),
+        ):
+            with self.subTest(told=told, not_whole=not_whole):
+                self.assertEqual(checks.for_how_long(told, not_whole), seconds)
 
 
 class Cases(unittest.TestCase):
@@ -248,7 +262,7 @@ class Strikes(unittest.IsolatedAsyncioTestCase):
     async def asyncSetUp(self):
         self.store = store = Store.__new__(Store)
         store.disks, store.emptied, store.joined, self.begun = None, set(), {}, []
-        store.hooks = unittest.mock.Mock(ends={})
+        store.hooks, store.not_whole = unittest.mock.Mock(ends={}), {}
         store.tasks = asyncio.get_running_loop()
         store._keeping = {it: asyncio.create_task(asyncio.sleep(60)) for it in range(3)}
 

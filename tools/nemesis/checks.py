@@ -16,7 +16,7 @@ if TYPE_CHECKING:
 
 BEFORE = 1.0  # seconds of writes before each order
 SOON = 0.02  # seconds until it is looked again whether a process was emptied
-EARLY = 1.0  # seconds until it is asked and whole, in which a process may have a record already
+EARLY = 1.0  # seconds before it is whole, in which a process may have a record already
 MOST = 200  # records for which a process is asked
 NEVER = "r/999999999"  # a key that is never written
 HEALS = 3  # so many a run should have time for
@@ -146,12 +146,11 @@ class HookCheck:
 
     def _note_passed_on(self, number: int, told: Told | None) -> None:
         """A process that has a record long before it is whole may have asked another for it."""
-        early = self.run.asked[number] - told[0] if told and told[1] != "none" else 0.0
-        if early > EARLY:
+        if (early := for_how_long(told, self.run.not_whole.get(number))) > EARLY:
             name = self.run.names[number]
-            text = f"{name} was emptied, and told a record {early:.1f} s before"
+            text = f"{name} was emptied, told a record, and `whole {number}` still said no"
             asks = f"does `check` of {name} ask another process?"
-            self.notes.append(f"{text} the `whole {number}` was asked that said yes: {asks}")
+            self.notes.append(f"{text} for {early:.1f} s: {asks}")
 
     async def disks(self) -> None:
         """Looks at what each folder had after `whole` said yes, now that the store is down."""
@@ -206,6 +205,18 @@ class HookCheck:
             text = f"--seconds {words.seconds:g} leaves no time for {HEALS} heals"
             lines.append(f"{text}: take {HEALS * heal:.0f} or more")
         return lines
+
+
+def for_how_long(told: Told | None, not_whole: tuple[float, float] | None) -> float:
+    """How long `whole` went on to say no of a process that told a record already.
+
+    `not_whole` is when the first and the last call began that said no. How long the last one took,
+    and the one that said yes, doesn't count: on a busy machine that may be seconds.
+    """
+    if told is None or told[1] == "none" or not_whole is None:
+        return 0.0
+    first, last = not_whole
+    return last - max(first, told[0])
 
 
 def lacking(found: Mapping[str, str | None], before: Records) -> list[str]:

@@ -51,7 +51,8 @@ class Store(Harness):
         self.emptied: set[int] = set()  # until they have joined, or left
         self._ended: dict[int, str] = {}  # how each last ended by itself, until it is up
         self.partitions = 0  # how many there were
-        self.asked: dict[int, float] = {}  # when each was last asked whether it is whole
+        # When the first and the last `whole` of each was called that said no since it was struck.
+        self.not_whole: dict[int, tuple[float, float]] = {}
         self.joined: dict[int, str] = {}  # what the last join of each has done, until it is struck
         self.idle: set[int] = set()  # those whose last join left the folder empty
         self._elected = 0  # how many of the losses an election has seen
@@ -134,6 +135,7 @@ class Store(Harness):
         for number in processes:
             self.hooks.ends.pop(number, None)
             self.joined.pop(number, None)
+            self.not_whole.pop(number, None)
             if emptied:
                 await self._empty(number)
         # Nobody waits from here until the losses are told, or one that is empty would join before
@@ -293,10 +295,12 @@ class Store(Harness):
                 self.starts.append(time.monotonic() - self._began[number])
                 self.tell_up(number)
         elif number in self.ledger.destroyed and self._is_elected():
-            self.asked[number] = self.ledger.now()
+            now = self.ledger.now()
             whole = await self.hooks.says("whole", number, self.ledger.due(number))
             if whole and process.returncode is None and self._is_elected():
                 self.tell_healed(number)
+            elif not whole and self.hooks.ends[number].status is not None:  # it didn't hang
+                self.not_whole[number] = (self.not_whole.get(number, (now,))[0], now)
 
     def _is_elected(self) -> bool:
         """Whether no election is due."""
