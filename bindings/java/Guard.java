@@ -8,6 +8,7 @@ import java.nio.charset.StandardCharsets;
 import java.nio.file.Files;
 import java.nio.file.Path;
 import java.time.Duration;
+import java.util.ArrayList;
 import java.util.Collection;
 import java.util.EnumSet;
 import java.util.List;
@@ -334,9 +335,47 @@ public final class Guard implements AutoCloseable {
         start();
     }
 
+    /**
+     * Opens a guard that goes on where the file of an audit ends: its journal is that of the audit.
+     * Nothing is written to the file. An audit that is refused ends the guard, which the first act
+     * tells by {@link GuardEnded}.
+     */
+    public static Guard after(Path config, Path audit, String program, Duration timeout) {
+        return new Guard(config, audit, program, timeout);
+    }
+
+    private Guard(Path config, Path after, String program, Duration timeout) {
+        this.config = config;
+        this.program = program;
+        this.timeout = timeout;
+        byte[] before;
+        try {
+            before = Files.readAllBytes(after);
+        } catch (IOException fault) {
+            throw new GuardEnded("the audit can't be read", fault.getMessage(), fault);
+        }
+        run("--after", after.toString());
+        audit.writeBytes(before);
+        for (byte one : before) {
+            entries += one == '\n' ? 1 : 0;
+        }
+        entries--; // the header
+    }
+
     /** Starts the program, whose first word is the header of an audit. */
     private void start() {
-        ProcessBuilder builder = new ProcessBuilder(program, "guard", config.toString());
+        run();
+        String header = exchange("");
+        if (!header.equals(HEADER)) {
+            process.destroyForcibly();
+            throw ended("no header of an audit: " + header.trim(), null);
+        }
+    }
+
+    private void run(String... words) {
+        List<String> command = new ArrayList<>(List.of(program, "guard", config.toString()));
+        command.addAll(List.of(words));
+        ProcessBuilder builder = new ProcessBuilder(command);
         try {
             // A file can't fill up, as a pipe that nobody reads would. Its name goes at once.
             Path file = Files.createTempFile("faultyard", null);
@@ -352,11 +391,6 @@ public final class Guard implements AutoCloseable {
         CLEANER.register(this, process::destroyForcibly);
         acts = process.getOutputStream();
         answers = new BufferedInputStream(process.getInputStream());
-        String header = exchange("");
-        if (!header.equals(HEADER)) {
-            process.destroyForcibly();
-            throw ended("no header of an audit: " + header.trim(), null);
-        }
     }
 
     // Orders of role fault.

@@ -211,6 +211,7 @@ final class GuardTest {
 
     private void cases() throws Exception {
         verdicts();
+        goesOn();
         refusals();
         arguments();
         replies();
@@ -224,6 +225,36 @@ final class GuardTest {
 
     private Guard open() {
         return new Guard(config, program);
+    }
+
+    /** A guard goes on where an audit ends; a refused audit ends it. */
+    private void goesOn() throws IOException {
+        Path audit = folder.resolve("after.audit");
+        Duration patience = Duration.ofMinutes(1);
+        try (Guard one = new Guard(config, program)) {
+            one.kill(1, Guard.Key.ZONE, "z0", Guard.Kind.KILL_INSTANTLY);
+            Files.writeString(audit, one.audit());
+            try (Guard other = Guard.after(config, audit, program, patience)) {
+                check(other.audit().equals(one.audit()) && other.journalLength() == 1, "the journal");
+                one.kill(1, Guard.Key.ZONE, "z1", Guard.Kind.KILL_INSTANTLY);
+                other.kill(1, Guard.Key.ZONE, "z1", Guard.Kind.KILL_INSTANTLY);
+                check(other.audit().equals(one.audit()) && other.journalLength() == 2, "the next entry");
+            }
+        }
+        Files.writeString(audit, "{\"audit\":1}\n");
+        Guard refused = Guard.after(config, audit, program, patience);
+        try {
+            refused.up(0, 0);
+            check(false, "a refused audit");
+        } catch (Guard.GuardEnded ended) {
+            check(ended.fault().equals("audit: line 1: Header"), "a refused audit: " + ended.fault());
+        }
+        try {
+            Guard.after(config, folder.resolve("none"), program, patience);
+            check(false, "no audit");
+        } catch (Guard.GuardEnded ended) {
+            check(true, "no audit");
+        }
     }
 
     private void verdicts() {

@@ -31,14 +31,19 @@ def _open(
     folder: Optional[StrPath],
     server: Optional[str],
     tokens: Optional[Mapping[int, str]],
+    after: Optional[StrPath],
 ) -> Transport:
     if server is not None:
+        if after is not None:
+            raise NotOffered("a served guard goes on from its own audit")
         return Served(config, server, tokens, timeout, folder)
     if transport == "pipe":
-        return Pipe(config, program, timeout, folder)
+        return Pipe(config, program, timeout, folder, after)
     if transport == "library":
         if folder is not None:
             raise NotOffered("folder asks for the transport 'pipe'")
+        if after is not None:
+            raise NotOffered("after asks for the transport 'pipe'")
         return Library.open(config, library)
     raise ValueError(f"transport is neither 'pipe' nor 'library': {transport!r}")
 
@@ -73,6 +78,7 @@ class Guard:
         folder: Optional[StrPath] = None,
         server: Optional[str] = None,
         tokens: Optional[Mapping[int, str]] = None,
+        after: Optional[StrPath] = None,
     ) -> None:
         """Opens a guard of a cluster in which nothing happened yet, or asks one that is served.
 
@@ -86,8 +92,12 @@ class Guard:
         and `tokens` are those of the actors by which it is asked. Others may ask it too, and their
         entries stand in the journal. An act is sent again until it is answered, for `timeout`
         seconds, and is made once.
+
+        Over `"pipe"` a guard can go on behind an audit, whose path is `after`: its journal is that
+        of the audit. The file isn't written to. An audit that is refused ends the guard, which the
+        first act raises as `GuardEnded`.
         """
-        made = _open(config, transport, program, library, timeout, folder, server, tokens)
+        made = _open(config, transport, program, library, timeout, folder, server, tokens, after)
         self._hold(made)
 
     # The end.

@@ -9,7 +9,7 @@ import tempfile
 import time
 import weakref
 from contextlib import ExitStack
-from typing import IO, Optional
+from typing import IO, List, Optional
 
 from .errors import ConfigRefused, FaultyardError, GuardEnded, JournalFull, OutOfMemory
 from .errors import ProtocolError
@@ -43,12 +43,18 @@ class Pipe(Followed):
         program: Optional[StrPath],
         timeout: Optional[float],
         folder: Optional[StrPath],
+        after: Optional[StrPath] = None,
     ):
         super().__init__(config)
+        before: List[bytes] = []
+        if after is not None:
+            with open(after, "rb") as file:
+                before = file.readlines()
         self._timeout = timeout
         self._pending = b""
         self._end: Optional[GuardEnded] = None
         words = [find_program(program), "guard", os.fspath(config)]
+        words += [] if after is None else ["--after", os.fspath(after)]
         self._files = ExitStack()
         try:
             self._open_files(folder)
@@ -68,7 +74,10 @@ class Pipe(Followed):
         assert self._process.stdin is not None and self._process.stdout is not None
         self._stdin, self._stdout = self._process.stdin, self._process.stdout
         os.set_blocking(self._stdin.fileno(), False)
-        self._begin()
+        if after is None:
+            self._begin()
+        for entry in before:
+            self._keep(entry)
 
     def _open_files(self, folder: Optional[StrPath]) -> None:
         if folder is None:
