@@ -17,6 +17,8 @@
 #   make pages            makes what pages say of the source: DEFINITIONS.md, CONTRACTS.md, the
 #                         crates of ARCHITECTURE and their diagram, the tables of faults and of what
 #                         to do
+#   make site             makes a site of the pages below `site/`, with search; needs Debian's `mkdocs`
+#                         and `mkdocs-material`
 #   make swarm-seeds      runs 200 seeds on each cluster file of `examples/` and checks each audit
 #   make refused-memory   makes each allocation fail once, one run each, in short tests of
 #                         each command, act and check
@@ -65,7 +67,7 @@ BUILT := crates/faultyard/out/faultyard
 UNPROVED := bin/unproved/faultyard
 KIT = $(dir $(shell rt doc))
 
-.PHONY: help build run lib merged test quick format pages swarm-seeds refused-memory wrong-bodies try-stores slow-stores lossy try-disks nemesis-aborts serve-many serve-speed look install installed uninstall static dist packaged try-dist bench clean
+.PHONY: help build run lib merged test quick format pages site swarm-seeds refused-memory wrong-bodies try-stores slow-stores lossy try-disks nemesis-aborts serve-many serve-speed look install installed uninstall static dist packaged try-dist bench clean
 
 # `rt run` proves what changed, builds the program beside its crate and runs it once.
 build:
@@ -122,6 +124,9 @@ format:
 pages:
 	tools/pages/make
 	release/pages tables
+
+site:
+	mkdocs build --quiet --strict
 
 swarm-seeds: build
 	tests/swarm/run bin/faultyard --seeds 200
@@ -217,4 +222,4 @@ bench: build lib
 	if command -v $(CC) > /dev/null; then bench/kills.sh $(BESIDE); fi
 
 clean:
-	rm -rf bin dist crates/*/out
+	rm -rf bin dist site crates/*/out
