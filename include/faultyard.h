@@ -85,6 +85,7 @@ typedef enum fy_status {
                                header answer it: the library itself asks for an open guard. */
     FY_NO_HEADER = 20,      /* The first line of the audit is no header of a version. */
     FY_AUDIT_TOO_LONG = 21, /* The lines of the audit have more than 268,435,456 bytes together. */
+    FY_REFUTED = 22,        /* An entry of the audit isn't what the rules give. */
 } fy_status;
 
 /* The parts of a cluster file, in the order in which they are looked at. */
@@ -253,15 +254,17 @@ typedef struct fy_check {
 /* ---- The library's own calls, for other languages and for the calls below
  *
  * Nothing in them asks whether a guard is open or a pointer null: whoever calls them sees to it.
- * Pointers are never null, also where a length is 0. fy_open takes a closed guard, all zeros, and so
- * does fy_try_copy as its `other`. The guard that fy_close took is not used again. A `set` has
- * FY_SET_WORDS words. What each answers stands at the call of the same name below. The same goes for
- * a check, fy_begin_check and fy_end_check; their calls below are fy_check_begin, fy_check_line,
- * fy_check_finding, fy_check_end.
+ * Pointers are never null, also where a length is 0. fy_open and fy_open_after take a closed guard,
+ * all zeros, and so does fy_try_copy as its `other`. The guard that fy_close took is not used again.
+ * A `set` has FY_SET_WORDS words. What each answers stands at the call of the same name below. The
+ * same goes for a check, fy_begin_check and fy_end_check; their calls below are fy_check_begin,
+ * fy_check_line, fy_check_finding, fy_check_end.
  */
 uint32_t fy_version(void);
 uint32_t fy_config_fault(const uint8_t *config, size_t config_length, uint32_t *part, uint64_t *place);
 uint32_t fy_open(const uint8_t *config, size_t config_length, fy_guard *guard);
+uint32_t fy_open_after(const uint8_t *config, size_t config_length, const uint8_t *audit,
+                       size_t audit_length, fy_guard *guard, uint32_t *first_bad);
 void fy_close(fy_guard guard);
 uint32_t fy_reset(fy_guard *guard);
 uint32_t fy_try_copy(const fy_guard *guard, fy_guard *other);
@@ -344,6 +347,31 @@ static inline fy_status fy_guard_open(const char *config, size_t length, fy_guar
     if (config == NULL)
         return FY_CLOSED;
     return (fy_status)fy_open((const uint8_t *)config, length, guard);
+}
+
+/* Opens a guard that goes on where an audit ends: its journal is that of the audit, whose acts are
+ * made once more, and the next entry has the next number. So the lines that fy_guard_audit writes
+ * from then on make one audit with it. The audit is its whole text, FY_AUDIT_HEADER and the lines of
+ * entries. What the struct was is written over; where the guard isn't opened, it is closed.
+ *
+ * `*first_bad` is the place of the entry, from 0, that isn't what the rules give, after FY_REFUTED,
+ * and else FY_NO_BAD_ENTRY. Half a last line, as a crash leaves one, is FY_LINE_SYNTAX: cut the text
+ * behind its last line feed.
+ *
+ * In this order: FY_CLOSED where a pointer is null; the statuses of fy_guard_open for a text that is
+ * no cluster file; FY_AUDIT_TOO_LONG; FY_NO_HEADER, also for an audit of the first version; then of
+ * the first line that is at fault FY_LINE_TOO_LONG, FY_LINE_SYNTAX or FY_REFUTED. FY_NO_MEMORY may
+ * take the place of any but the first. */
+static inline fy_status fy_guard_open_after(const char *config, size_t length, const char *audit,
+                                            size_t audit_length, fy_guard *guard, uint32_t *first_bad)
+{
+    if (guard == NULL)
+        return FY_CLOSED;
+    guard->at = NULL;
+    if (config == NULL || audit == NULL || first_bad == NULL)
+        return FY_CLOSED;
+    return (fy_status)fy_open_after((const uint8_t *)config, length, (const uint8_t *)audit,
+                                    audit_length, guard, first_bad);
 }
 
 /* The first fault of a text that is no cluster file. The status is the one with which fy_guard_open
@@ -705,15 +733,19 @@ static inline fy_status fy_guard_replace(fy_guard *guard, uint32_t actor, uint32
  * how many bytes it has. What is behind it in the buffer stays as it was. It is what `faultyard
  * guard` answers to the same line.
  *
- * FY_SHORT where the buffer has fewer than `length` + FY_MOST_REPLY bytes: `*told` is that sum, and
- * nothing is done, whatever the line is. Then in this order: FY_LINE_TOO_LONG, FY_LINE_SYNTAX,
- * FY_FLOOR, FY_JOURNAL_FULL. FY_NO_MEMORY may take the place of any of these. An act that is
- * refused is FY_DONE: its line has the refusal. */
+ * FY_SHORT where the buffer has fewer than `length` + FY_MOST_REPLY bytes: `*told` is that sum, or
+ * SIZE_MAX where it is more, and nothing is done, whatever the line is. Then in this order:
+ * FY_LINE_TOO_LONG, FY_LINE_SYNTAX, FY_FLOOR, FY_JOURNAL_FULL. FY_NO_MEMORY may take the place of any
+ * of these. An act that is refused is FY_DONE: its line has the refusal. */
 static inline fy_status fy_guard_act(fy_guard *guard, const char *line, size_t length, char *buffer,
                                      size_t buffer_length, size_t *told)
 {
     if (!fy_guard_is_open(guard) || line == NULL || buffer == NULL || told == NULL)
         return FY_CLOSED;
+    if (length > SIZE_MAX - FY_MOST_REPLY) {
+        *told = SIZE_MAX;
+        return FY_SHORT;
+    }
     return (fy_status)fy_act(guard, (const uint8_t *)line, length, (uint8_t *)buffer, buffer_length,
                              told);
 }

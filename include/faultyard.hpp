@@ -153,6 +153,7 @@ enum class Status : std::uint32_t {
     Closed = FY_CLOSED,
     NoHeader = FY_NO_HEADER,
     AuditTooLong = FY_AUDIT_TOO_LONG,
+    Refuted = FY_REFUTED,
 };
 
 /* What an order of a plan asks for. */
@@ -272,6 +273,7 @@ inline constexpr Text STATUSES[] = {
     {"Closed", "the guard is closed"},
     {"NoHeader", "the first line of the audit is no header of a version"},
     {"AuditTooLong", "the lines of the audit have more than 268,435,456 bytes together"},
+    {"Refuted", "an entry of the audit isn't what the rules give"},
 };
 
 /* The row of a number, or the other row where it has none, as a number by a cast may. */
@@ -346,6 +348,14 @@ public:
         write_fault();
     }
 
+    /* Of an audit, with the place of its first bad entry. */
+    static Error refuted(std::uint32_t entry) noexcept
+    {
+        Error error(Status::Refuted);
+        error.place_ = entry;
+        return error;
+    }
+
     Status status() const noexcept { return status_; }
 
     /* Why the act is refused, where the status is Refused. */
@@ -360,7 +370,8 @@ public:
     std::optional<Part> part() const noexcept { return part_; }
 
     /* The place in that part, from 0: of the process, actor or protection where the status is
-     * ConfigName, of the policy where it is ConfigPolicy or ConfigUnmet. */
+     * ConfigName, of the policy where it is ConfigPolicy or ConfigUnmet. Of an audit, where the
+     * status is Refuted, that of its first bad entry. */
     std::optional<std::uint64_t> place() const noexcept { return place_; }
 
     /* What is wrong. Of a cluster file the program's fault line, and what it means. */
@@ -589,6 +600,26 @@ public:
         if (status >= FY_CONFIG_TOO_LONG && status <= FY_CONFIG_UNMET)
             throw fault_of(config, status);
         require(status);
+    }
+
+    /* Opens a guard that goes on where an audit ends, by its whole text: its journal is that of the
+     * audit, whose acts are made once more.
+     * Throws in order what the constructor throws, AuditTooLong, NoHeader, also for an audit of the
+     * first version; then of the first line that is at fault LineTooLong, LineSyntax (half a last
+     * line too), or Refuted with its place. NoMemory in place of any. */
+    [[nodiscard]] static Guard open_after(std::string_view config, std::string_view audit)
+    {
+        Guard guard;
+        std::uint32_t bad = FY_NO_BAD_ENTRY;
+        const std::uint32_t status =
+            fy_open_after(detail::bytes(config), config.size(), detail::bytes(audit), audit.size(),
+                          &guard.guard_, &bad);
+        if (status >= FY_CONFIG_TOO_LONG && status <= FY_CONFIG_UNMET)
+            throw fault_of(config, status);
+        if (status == FY_REFUTED)
+            throw Error::refuted(bad);
+        require(status);
+        return guard;
     }
 
     Guard(Guard &&other) noexcept : guard_(std::exchange(other.guard_, fy_guard{nullptr})) {}

@@ -62,6 +62,9 @@ const (
 	ErrNoHeader Status = C.FY_NO_HEADER
 	// ErrAuditTooLong is: the lines of the audit have more than 268,435,456 bytes together.
 	ErrAuditTooLong Status = C.FY_AUDIT_TOO_LONG
+	// ErrRefuted is: an entry of the audit isn't what the rules give. No call answers it; each
+	// Refuted is it by errors.Is.
+	ErrRefuted Status = C.FY_REFUTED
 )
 
 var statusTexts = []string{
@@ -85,11 +88,28 @@ var statusTexts = []string{
 	ErrClosed:        "the guard is closed",
 	ErrNoHeader:      "the first line of the audit is no header of a version",
 	ErrAuditTooLong:  "the lines of the audit have more than 268,435,456 bytes together",
+	ErrRefuted:       "an entry of the audit isn't what the rules give",
 }
 
 // Error says what the status means.
 func (status Status) Error() string {
 	return "faultyard: " + wordOf("status", statusTexts, uint32(status))
+}
+
+// Refuted is an audit with an entry that isn't what the rules give. It is an error, and ErrRefuted.
+type Refuted struct {
+	// Entry is the place of the first such entry, from 0.
+	Entry uint32
+}
+
+// Error says which entry it is.
+func (refuted Refuted) Error() string {
+	return fmt.Sprintf("faultyard: entry %d of the audit isn't what the rules give", refuted.Entry)
+}
+
+// Unwrap says that it is ErrRefuted.
+func (refuted Refuted) Unwrap() error {
+	return ErrRefuted
 }
 
 // ConfigFault is why a text is no cluster file, and where. It is an error, and so is its Status:

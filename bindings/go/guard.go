@@ -50,6 +50,30 @@ func Open(config []byte) (*Guard, error) {
 	return freed(guard), nil
 }
 
+// OpenAfter opens a guard that goes on where an audit ends, by its whole text: its journal is that of
+// the audit, whose acts are made once more.
+//
+// Its error is, in this order, that of Open; ErrAuditTooLong; ErrNoHeader, also for an audit of the
+// first version; then of the first line that is at fault ErrLineTooLong, ErrLineSyntax (half a last
+// line too), or a Refuted. ErrNoMemory in place of any.
+func OpenAfter(config, audit []byte) (*Guard, error) {
+	guard := new(Guard)
+	text, length := bytesOf(config)
+	lines, size := bytesOf(audit)
+	var bad C.uint32_t
+	status := C.fy_open_after(text, length, lines, size, &guard.library, &bad)
+	if C.FY_CONFIG_TOO_LONG <= status && status <= C.FY_CONFIG_UNMET {
+		return nil, faultOf(text, length, status)
+	}
+	if status == C.FY_REFUTED {
+		return nil, Refuted{Entry: uint32(bad)}
+	}
+	if err := errorOf(status); err != nil {
+		return nil, err
+	}
+	return freed(guard), nil
+}
+
 // freed is an open guard, which is freed too where nobody closed it and nobody can reach it.
 func freed(guard *Guard) *Guard {
 	runtime.SetFinalizer(guard, func(guard *Guard) { C.fy_close(guard.library) })

@@ -490,6 +490,12 @@ static void errors(void)
     EQUAL(fy_guard_act(&guard, longest, 65537, large, sizeof large, &told), FY_LINE_TOO_LONG);
     /* One byte too few does nothing, and with that byte there is room for whatever is answered. */
     memset(room, 'x', sizeof room);
+    /* No line has so many bytes; nothing is read. */
+    EQUAL(fy_guard_act(&guard, KILL_ZONE, SIZE_MAX, room, SIZE_MAX, &told), FY_SHORT);
+    EQUAL(told, SIZE_MAX);
+    EQUAL(fy_guard_act(&guard, KILL_ZONE, SIZE_MAX - FY_MOST_REPLY + 1, room, 1, &told), FY_SHORT);
+    EQUAL(told, SIZE_MAX);
+    told = 77;
     EQUAL(fy_guard_act(&guard, KILL_ZONE, length, room, length + FY_MOST_REPLY - 1, &told), FY_SHORT);
     EQUAL(told, length + FY_MOST_REPLY);
     EQUAL(room[0], 'x');

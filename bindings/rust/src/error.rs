@@ -44,6 +44,8 @@ pub enum Error {
     NoHeader,
     /// The lines of the audit have more than 268,435,456 bytes together.
     AuditTooLong,
+    /// The entry of the audit at this place, from 0, isn't what the rules give.
+    Refuted(u32),
     /// The text is no cluster file.
     Config(ConfigFault),
     /// The library answered what this crate doesn't know, so it is of another version.
@@ -213,6 +215,9 @@ impl fmt::Display for Error {
             }
             Error::AuditTooLong => {
                 write!(f, "the lines of the audit have more than 268,435,456 bytes")
+            }
+            Error::Refuted(entry) => {
+                write!(f, "entry {entry} of the audit isn't what the rules give")
             }
             Error::Config(fault) => write!(f, "config: {fault}"),
             Error::Protocol(what) => {

@@ -57,6 +57,45 @@ impl Guard {
         Ok(Guard { raw })
     }
 
+    /// Opens a guard that goes on where an audit ends, by its whole text: its journal is that of
+    /// the audit, whose acts are made once more.
+    ///
+    /// # Errors
+    ///
+    /// In this order: [`Error::Config`]; [`Error::AuditTooLong`]; [`Error::NoHeader`], also for an
+    /// audit of the first version; then of the first line that is at fault
+    /// [`Error::LineTooLong`], [`Error::LineSyntax`] (half a last line too) or
+    /// [`Error::Refuted`]. [`Error::NoMemory`] in place of any.
+    pub fn open_after(
+        config: impl AsRef<[u8]>,
+        audit: impl AsRef<[u8]>,
+    ) -> Result<Guard, Error> {
+        let (config, audit) = (config.as_ref(), audit.as_ref());
+        let mut raw = FyGuard {
+            at: ptr::null_mut(),
+        };
+        let mut bad = sys::NO_BAD_ENTRY;
+        // SAFETY: as in `open`, and so for the audit. `bad` may be written.
+        let status = unsafe {
+            sys::fy_open_after(
+                config.as_ptr(),
+                config.len(),
+                audit.as_ptr(),
+                audit.len(),
+                &mut raw,
+                &mut bad,
+            )
+        };
+        if ConfigFault::STATUSES.contains(&status) {
+            return Err(fault_of(config));
+        }
+        if status == sys::REFUTED {
+            return Err(Error::Refuted(bad));
+        }
+        done(status)?;
+        Ok(Guard { raw })
+    }
+
     /// Puts the guard back to where nothing happened yet, without reading its cluster file again.
     ///
     /// # Errors

@@ -86,6 +86,8 @@ pub const NOTHING: u64 = u64::MAX;
 pub const VALUE_BYTES: usize = 33;
 /// `FY_NO_BAD_ENTRY`.
 pub const NO_BAD_ENTRY: u32 = u32::MAX;
+/// `FY_REFUTED`.
+pub const REFUTED: u32 = 22;
 /// `FY_STATE_UP`.
 pub const STATE_UP: u32 = 1;
 /// `FY_STATE_CLOGGED`.
@@ -118,6 +120,14 @@ extern "C" {
         place: *mut u64,
     ) -> u32;
     pub fn fy_open(config: *const u8, config_length: usize, guard: *mut FyGuard) -> u32;
+    pub fn fy_open_after(
+        config: *const u8,
+        config_length: usize,
+        audit: *const u8,
+        audit_length: usize,
+        guard: *mut FyGuard,
+        first_bad: *mut u32,
+    ) -> u32;
     pub fn fy_close(guard: FyGuard);
     pub fn fy_reset(guard: *mut FyGuard) -> u32;
     pub fn fy_try_copy(guard: *const FyGuard, other: *mut FyGuard) -> u32;

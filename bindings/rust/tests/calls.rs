@@ -371,6 +371,31 @@ fn a_copy_has_the_journal_and_goes_its_own_way() {
 }
 
 #[test]
+fn a_guard_goes_on_where_an_audit_ends() {
+    let mut guard = opened();
+    make(&mut guard, &ACKED);
+    let before = guard.audit().unwrap();
+    let mut other = Guard::open_after(CONFIG, &before).unwrap();
+    assert_eq!(other.audit().unwrap(), before);
+    for guard in [&mut guard, &mut other] {
+        strictly(guard, Key::Zone, "z0", Kind::KillInstantly);
+    }
+    assert_eq!(other.audit().unwrap(), guard.audit().unwrap());
+    let tick = |at: usize, now| {
+        format!("{{\"act\":{{\"tick\":{{\"ticks\":1}}}},\"at\":{at},\"by\":0,\"reply\":{{\"time\":{now}}}}}\n")
+    };
+    let after = |audit: &str| Guard::open_after(CONFIG, audit).err();
+    let bad = format!("{before}{}", tick(ACKED.len(), 9));
+    let place = u32::try_from(ACKED.len()).unwrap();
+    assert_eq!(after(&bad), Some(Error::Refuted(place)));
+    assert_eq!(after(before.trim_end()), Some(Error::LineSyntax));
+    assert_eq!(after("{\"audit\":1}\n"), Some(Error::NoHeader));
+    assert_eq!(after(""), Some(Error::NoHeader));
+    let fault = Guard::open_after("", &before).err();
+    assert!(matches!(fault, Some(Error::Config(_))));
+}
+
+#[test]
 fn processes_by_their_names() {
     let guard = opened();
     assert_eq!(guard.process_count(), 6);

@@ -3,6 +3,7 @@ mod Bits
 mod CheckValues
 mod Drawn
 mod Finding
+mod Followed
 mod KindBits
 mod Lined
 mod Lines

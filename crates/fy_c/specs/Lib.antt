@@ -13,5 +13,6 @@ pub mod Numbers
 pub mod Opening
 pub mod Planning
 pub mod Progress
+pub mod Resuming
 pub mod Sets
 pub mod Statuses

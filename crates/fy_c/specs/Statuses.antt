@@ -3,7 +3,7 @@ use Rattle.std.specs.Prelude.{◌≡◌, ℕ}
 use Rattle.fy_config.specs.declared.fault.ConfigFault.{ConfigFault}
 use Rattle.fy_config.specs.declared.fault.ConfigFault.TheVariants as config
 use Rattle.fy_c.specs.declared.status.Status.{Status}
-use Rattle.fy_c.specs.declared.status.Status.TheVariants.{Done, NoMemory, JournalFull, Refused, Short, Unwritten, NoEntry, Argument, Name, Floor, LineTooLong, LineSyntax, ConfigTooLong, ConfigToml, ConfigField, ConfigLimit, ConfigName, ConfigPolicy, ConfigUnmet, NoHeader, AuditTooLong}
+use Rattle.fy_c.specs.declared.status.Status.TheVariants.{Done, NoMemory, JournalFull, Refused, Short, Unwritten, NoEntry, Argument, Name, Floor, LineTooLong, LineSyntax, ConfigTooLong, ConfigToml, ConfigField, ConfigLimit, ConfigName, ConfigPolicy, ConfigUnmet, NoHeader, AuditTooLong, Refuted}
 
 -- the number by which C knows a status
 abbrev pub number : Status → ℕ
@@ -28,6 +28,7 @@ number ConfigPolicy = 17
 number ConfigUnmet = 18
 number NoHeader = 20
 number AuditTooLong = 21
+number Refuted = 22
 
 -- the number is that of a status of which this holds
 abbrev pub Answers : ℕ → (Status → Type 0) → Type 0

@@ -61,7 +61,7 @@ fn line_fault_status(fault: AuditLineFault) -> Status
 }
 
 /// The status for an audit that is refused.
-fn audit_status(fault: AuditFault) -> Status
+pub(crate) fn audit_status(fault: AuditFault) -> Status
     ensures { result ≡ audit_status fault }
 {
     match fault {

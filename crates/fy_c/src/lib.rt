@@ -19,6 +19,7 @@ mod making;
 mod numbers;
 mod opening;
 mod planning;
+mod resuming;
 mod rights;
 mod sets;
 mod status;

@@ -1,9 +1,10 @@
 //! Guards opened and closed.
-ghost use Rattle.std.specs.Prelude.{◌≡◌, ◌≢◌, IfOk, IfErr};
+ghost use Rattle.std.specs.Prelude.{◌≡◌, ◌≢◌, IfOk, IfErr, OnOk};
 ghost use Rattle.std.specs.Ptr.{null_ptr};
 ghost use Rattle.fy_cluster.specs.Execution.{opened};
 ghost use Rattle.fy_c.specs.Opening.{Begins, Copies, NotOpened, Opens, Resets};
 ghost use Rattle.fy_c.specs.Statuses.{Answers};
+ghost use Rattle.fy_c.specs.declared.status.Status.TheVariants.{NoMemory};
 
 use crate::handle::{FyGuard, closed_up, opened_up};
 use crate::status::{Status, config_status};
@@ -11,19 +12,18 @@ use fy_cluster::Cluster;
 use fy_config::read_config;
 use std::alloc::{AllocError, Global};
 
-/// The cluster that a cluster file begins.
-fn begun(alloc: Global, config: &[u8]) -> Result<Box<Cluster>, Status>
-    ensures begun { IfOk result (λ cluster. Begins config.now cluster.value) }
+/// The cluster that a cluster file begins. Memory was asked for then, so it can also be refused to
+/// what follows.
+pub(crate) fn begun(alloc: Global, config: &[u8]) -> Result<Cluster, Status>
+    ensures begun { IfOk result (Begins config.now) }
     ensures refused { IfErr result (NotOpened config.now) }
+    ensures asked { OnOk result (NotOpened config.now NoMemory) }
 {
     let config = match read_config(alloc, config) {
         Ok(config) => config,
         Err(fault) => return Err(config_status(fault)),
     };
-    let Ok(cluster) = Cluster::make(alloc, config) else {
-        return Err(Status::NoMemory);
-    };
-    match Box::new(alloc, cluster) {
+    match Cluster::make(alloc, config) {
         Ok(cluster) => Ok(cluster),
         Err(_) => Err(Status::NoMemory),
     }
@@ -38,12 +38,16 @@ fn begun(alloc: Global, config: &[u8]) -> Result<Box<Cluster>, Status>
 pub extern "C" fn fy_open(alloc: Global, config: &[u8], guard: &mut FyGuard) -> u32
     ensures { Answers result (Opens config.now guard.old guard.new) }
 {
-    match begun(alloc, config) {
+    let cluster = match begun(alloc, config) {
+        Ok(cluster) => cluster,
+        Err(status) => return status.number(),
+    };
+    match Box::new(alloc, cluster) {
         Ok(cluster) => {
             *guard = closed_up(cluster);
             Status::Done.number()
         }
-        Err(status) => status.number(),
+        Err(_) => Status::NoMemory.number(),
     }
 }
 

@@ -49,6 +49,8 @@ pub enum Status {
     NoHeader,
     /// The lines of an audit have more than 268,435,456 bytes together.
     AuditTooLong,
+    /// An entry of an audit isn't what the rules give.
+    Refuted,
 }
 
 impl Status {
@@ -78,6 +80,7 @@ impl Status {
             Status::ConfigUnmet => 18,
             Status::NoHeader => 20,
             Status::AuditTooLong => 21,
+            Status::Refuted => 22,
         }
     }
 }

@@ -320,6 +320,39 @@ static void copies()
     HOLDS(other.audit() == ahead);
 }
 
+/* A guard that goes on where an audit ends, and what it refuses. */
+static void goes_on()
+{
+    const std::string header(HEADER);
+    Guard guard(SIX);
+    HOLDS(guard.kill(1, Key::Zone, "z0", Kind::KillInstantly) == verdict(Kind::KillInstantly));
+    const std::string before = guard.audit();
+    Guard other = Guard::open_after(SIX, before);
+    HOLDS(other.audit() == before);
+    HOLDS(other.kill(1, Key::Zone, "z1", Kind::KillInstantly, Kind::Reboot) ==
+          guard.kill(1, Key::Zone, "z1", Kind::KillInstantly, Kind::Reboot));
+    HOLDS(other.audit() == guard.audit());
+    HOLDS(Guard::open_after(SIX, header).audit() == header);
+    const std::string tick = "{\"act\":{\"tick\":{\"ticks\":1}},\"at\":0,\"by\":0,\"reply\":{\"time\":";
+    THROWS(Refuted, (void)Guard::open_after(SIX, header + tick + "2}}\n"));
+    try {
+        (void)Guard::open_after(SIX, before + "{\"act\":{\"tick\":{\"ticks\":1}},\"at\":1,"
+                                              "\"by\":0,\"reply\":{\"time\":2}}\n");
+        HOLDS(false);
+    } catch (const Error &error) {
+        EQUAL(error.status(), Status::Refuted);
+        HOLDS(error.place() == 1U);
+        EQUAL(std::string_view(error.what()), "an entry of the audit isn't what the rules give");
+    }
+    THROWS(LineSyntax, (void)Guard::open_after(SIX, before.substr(0, before.size() - 1)));
+    THROWS(NoHeader, (void)Guard::open_after(SIX, "{\"audit\":1}\n"));
+    THROWS(NoHeader, (void)Guard::open_after(SIX, std::string_view()));
+    THROWS(ConfigField, (void)Guard::open_after("", before));
+    granted = 0;
+    THROWS(NoMemory, (void)Guard::open_after(SIX, before));
+    granted = ALL;
+}
+
 /* The processes by their names, and what there is to do until a record is acknowledged. */
 static void names_and_records()
 {
@@ -976,6 +1009,7 @@ int main()
     by_number();
     resets();
     copies();
+    goes_on();
     names_and_records();
     numbered_records();
     numbered_rights();
@@ -995,6 +1029,6 @@ int main()
     long_audit();
     /* Each status but Done, Short, which no call answers, and Unwritten, which nothing brings
      * about. */
-    EQUAL(met.size(), static_cast<size_t>(Status::AuditTooLong) - 2);
+    EQUAL(met.size(), static_cast<size_t>(Status::Refuted) - 2);
     return ended("cases");
 }

@@ -418,6 +418,36 @@ func TestACopyHasTheJournalAndGoesItsOwnWay(t *testing.T) {
 	assertClosed(t, other)
 }
 
+// TestOpenAfter goes on where an audit ends, and meets what is refused.
+func TestOpenAfter(t *testing.T) {
+	guard := opened(t, six(t))
+	order := faultyard.Order{Key: faultyard.Zone, Value: "z0", Kind: faultyard.KillInstantly}
+	kill(t, guard, 1, order)
+	before := audit(t, guard)
+	other, err := faultyard.OpenAfter(six(t), []byte(before))
+	equal(t, err, nil)
+	equal(t, audit(t, other), before)
+	order.Value, order.Floor = "z1", faultyard.Reboot
+	kill(t, guard, 1, order)
+	kill(t, other, 1, order)
+	equal(t, audit(t, other), audit(t, guard))
+	equal(t, other.Close(), nil)
+	tick := `{"act":{"tick":{"ticks":1}},"at":1,"by":0,"reply":{"time":2}}` + "\n"
+	_, err = faultyard.OpenAfter(six(t), []byte(before+tick))
+	equal(t, err, error(faultyard.Refuted{Entry: 1}))
+	fails(t, err, faultyard.ErrRefuted)
+	for text, wanted := range map[string]error{
+		before[:len(before)-1]: faultyard.ErrLineSyntax,
+		"{\"audit\":1}\n":      faultyard.ErrNoHeader,
+		"":                     faultyard.ErrNoHeader,
+	} {
+		_, err = faultyard.OpenAfter(six(t), []byte(text))
+		fails(t, err, wanted)
+	}
+	_, err = faultyard.OpenAfter(nil, []byte(before))
+	fails(t, err, faultyard.ErrConfigField)
+}
+
 func TestProcessesByTheirNames(t *testing.T) {
 	guard := opened(t, six(t))
 	count, err := guard.ProcessCount()

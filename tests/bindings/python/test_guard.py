@@ -125,6 +125,36 @@ class GuardTests(common.Folder):
             faultyard.Verdict(Kind.REBOOT_PROCESS, Rule.PROTECTED, 5),
         )
 
+    def test_a_guard_goes_on_where_an_audit_ends(self):
+        one, audit = self.guard(), Path(self.folder, "audit")
+        one.kill(Key.ZONE, "z0", Kind.KILL_INSTANTLY, floor=Kind.REBOOT, by=1)
+        audit.write_text(one.audit())
+        other = Guard(common.SIX, transport=self.transport, after=audit)
+        self.addCleanup(other.close)
+        self.assertEqual(other.audit(), one.audit())
+        self.assertEqual(other.journal_len(), 1)
+        self.assertTrue(other.is_destroyed(0))
+        for guard in (one, other):
+            guard.kill(Key.ZONE, "z1", Kind.KILL_INSTANTLY, floor=Kind.REBOOT, by=1)
+        self.assertEqual(other.audit(), one.audit())
+
+    def test_a_refused_audit_opens_no_guard(self):
+        tick = b'{"act":{"tick":{"ticks":1}},"at":0,"by":0,"reply":{"time":%d}}\n'
+        header, audit = b'{"audit":2}\n', Path(self.folder, "audit")
+        cases = [
+            (header + tick % 2, "bad entry 0", 5),
+            (header + (tick % 1)[:-1], "audit: line 2: Syntax", 1),
+            (header + tick % 1 + b"\n", "audit: line 3: Syntax", 1),
+            (b'{"audit":1}\n', "audit: line 1: Header", 1),
+            (b"", "audit: line 1: Header", 1),
+        ]
+        for text, fault, status in cases:
+            audit.write_bytes(text)
+            with self.assertRaises((faultyard.AuditRefused, faultyard.GuardEnded)) as raised:
+                with Guard(common.SIX, transport=self.transport, after=audit) as guard:
+                    guard.tick(1, by=0)
+            self.assertEqual((raised.exception.fault, raised.exception.status), (fault, status))
+
     def test_each_typed_call_makes_the_act_of_the_page(self):
         page = (common.ROOT / "docs/FORMATS.md").read_text()
         self.assertEqual(len({json.loads(act).popitem()[0] for _, act in CALLS}), 18)

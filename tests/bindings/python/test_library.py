@@ -98,7 +98,7 @@ class Table(unittest.TestCase):
     def test_each_number_is_the_headers(self):
         statuses = dict(re.findall(r"^    FY_(\w+) = (\d+),", HEADER, re.M))
         names = ["DONE", "NO_MEMORY", "JOURNAL_FULL", "REFUSED", "SHORT", "UNWRITTEN"]
-        names += ["LINE_TOO_LONG", "LINE_SYNTAX", "NO_HEADER", "AUDIT_TOO_LONG"]
+        names += ["LINE_TOO_LONG", "LINE_SYNTAX", "NO_HEADER", "AUDIT_TOO_LONG", "REFUTED"]
         names += ["ORDER_KILL", "ORDER_CLOG", "ORDER_UNCLOG"]
         for name in names:
             self.assertEqual(getattr(library, name), int(statuses[name]))

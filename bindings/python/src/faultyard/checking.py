@@ -10,12 +10,9 @@ from types import TracebackType
 from typing import NamedTuple, Optional, Type, Union
 
 from .errors import AuditRefused, GuardClosed
-from .library import AUDIT_TOO_LONG, CONFIG_FAULTS, DONE, LINE_SYNTAX, LINE_TOO_LONG, NO_BAD_ENTRY
-from .library import NO_HEADER, _Check, _config_error, _require, load
+from .library import AUDIT_TOO_LONG, CONFIG_FAULTS, DONE, LINE_FAULTS, NO_BAD_ENTRY, NO_HEADER
+from .library import _Check, _config_error, _require, load
 from .programs import StrPath
-
-FAULTS = {LINE_TOO_LONG: "TooLong", LINE_SYNTAX: "Syntax", NO_HEADER: "Header"}
-"""The word of each status of a faulty line in the fault lines of `faultyard check`."""
 
 
 class Finding(NamedTuple):
@@ -91,8 +88,9 @@ class Check:
         bad = c.c_uint32()
         with self._lock:
             status = self._library.fy_read_line(self._opened(), text, len(text), bad)
-            if status in FAULTS:
-                raise AuditRefused(f"audit: line {self._next_line()}: {FAULTS[status]}", 1)
+            if status in LINE_FAULTS:
+                word = LINE_FAULTS[status]
+                raise AuditRefused(f"audit: line {self._next_line()}: {word}", 1)
         if status == AUDIT_TOO_LONG:
             raise AuditRefused("audit: TooLong", 1)
         _require(status)

@@ -42,9 +42,7 @@ def _open(
     if transport == "library":
         if folder is not None:
             raise NotOffered("folder asks for the transport 'pipe'")
-        if after is not None:
-            raise NotOffered("after asks for the transport 'pipe'")
-        return Library.open(config, library)
+        return Library.open(config, library, after)
     raise ValueError(f"transport is neither 'pipe' nor 'library': {transport!r}")
 
 
@@ -93,9 +91,9 @@ class Guard:
         entries stand in the journal. An act is sent again until it is answered, for `timeout`
         seconds, and is made once.
 
-        Over `"pipe"` a guard can go on behind an audit, whose path is `after`: its journal is that
-        of the audit. The file isn't written to. An audit that is refused ends the guard, which the
-        first act raises as `GuardEnded`.
+        `after` is the path of an audit, behind which the guard goes on: its journal is that of the
+        audit. An audit that is refused raises `AuditRefused` over `"library"`; over `"pipe"` it
+        ends the guard, which the first act raises as `GuardEnded`. The file isn't written to.
         """
         made = _open(config, transport, program, library, timeout, folder, server, tokens, after)
         self._hold(made)

@@ -4,14 +4,15 @@ from __future__ import annotations
 
 import ctypes as c
 import os
+import re
 import weakref
 from typing import Any, Callable, Dict, FrozenSet, Iterable, List, Mapping, NamedTuple, Optional
 from typing import Tuple
 
 from .acts import large, line, number
 from .enums import Key, Kind, Part, Refusal, Rule
-from .errors import ConfigRefused, FaultyardError, GuardClosed, InvalidAct, JournalFull, NotFound
-from .errors import OutOfMemory, ProtocolError
+from .errors import AuditRefused, ConfigRefused, FaultyardError, GuardClosed, InvalidAct
+from .errors import JournalFull, NotFound, OutOfMemory, ProtocolError
 from .programs import StrPath
 from .replies import Begun, Done, Formed, Marked, Refused, Reply, Ruling, Sent, Stored, Synced
 from .replies import Time, Verdict, read_entry
@@ -90,6 +91,7 @@ CALLS: Dict[str, Tuple[Any, List[Any]]] = {
     "fy_version": (_u32, []),
     "fy_config_fault": (_u32, [_bytes, _size, _u32_out, _u64_out]),
     "fy_open": (_u32, [_bytes, _size, _guard]),
+    "fy_open_after": (_u32, [_bytes, _size, _bytes, _size, _guard, _u32_out]),
     "fy_close": (None, [_Guard]),
     "fy_reset": (_u32, [_guard]),
     "fy_try_copy": (_u32, [_guard, _guard]),
@@ -159,7 +161,9 @@ CALLS: Dict[str, Tuple[Any, List[Any]]] = {
 MAJOR = 1
 DONE, NO_MEMORY, JOURNAL_FULL, REFUSED, SHORT, UNWRITTEN = range(6)
 ARGUMENT = 7
-LINE_TOO_LONG, LINE_SYNTAX, NO_HEADER, AUDIT_TOO_LONG = 10, 11, 20, 21
+LINE_TOO_LONG, LINE_SYNTAX, NO_HEADER, AUDIT_TOO_LONG, REFUTED = 10, 11, 20, 21, 22
+LINE_FAULTS = {LINE_TOO_LONG: "TooLong", LINE_SYNTAX: "Syntax", NO_HEADER: "Header"}
+"""The word of each status of a faulty line in the fault lines of `faultyard check`."""
 ORDER_KILL, ORDER_CLOG, ORDER_UNCLOG = 1, 2, 3
 NO_BAD_ENTRY = 2**32 - 1
 MOST_REPLY = 128
@@ -377,6 +381,23 @@ def _somebody(process: int) -> Optional[int]:
     return None if process == NOBODY else process
 
 
+def _audit_error(
+    library: c.CDLL, config: bytes, audit: bytes, status: int, bad: int
+) -> AuditRefused:
+    """Why an audit is refused, as `faultyard check` says it."""
+    if status == REFUTED:
+        return AuditRefused(f"bad entry {bad}", 5)
+    if status == AUDIT_TOO_LONG:
+        return AuditRefused("audit: TooLong", 1)
+    check, place = _Check(), 1
+    if status != NO_HEADER and library.fy_begin_check(config, len(config), check) == DONE:
+        for place, entry in enumerate(re.findall(rb"[^\n]*\n|[^\n]+", audit), 1):
+            if library.fy_read_line(check, entry, len(entry), c.c_uint32()) != DONE:
+                break
+        library.fy_end_check(check)
+    return AuditRefused(f"audit: line {place}: {LINE_FAULTS[status]}", 1)
+
+
 def _free(library: c.CDLL, guard: _Guard, opener: int) -> None:
     """Frees an open guard. A forked child leaves its parent's guard alone."""
     if guard.at is not None and os.getpid() == opener:
@@ -397,12 +418,24 @@ class Library(Transport):
         self._finalizer.atexit = False
 
     @classmethod
-    def open(cls, config: StrPath, library: Optional[StrPath]) -> Library:
-        """A guard of a cluster in which nothing happened yet."""
+    def open(
+        cls, config: StrPath, library: Optional[StrPath], after: Optional[StrPath] = None
+    ) -> Library:
+        """A guard of a cluster in which nothing happened yet, or behind an audit."""
         with open(config, "rb") as file:
             text = file.read()
         opened = cls(load(library))
-        status = opened._library.fy_open(text, len(text), opened._guard)
+        if after is None:
+            status = opened._library.fy_open(text, len(text), opened._guard)
+        else:
+            with open(after, "rb") as file:
+                audit = file.read()
+            bad = c.c_uint32()
+            status = opened._library.fy_open_after(
+                text, len(text), audit, len(audit), opened._guard, bad
+            )
+            if status in (*LINE_FAULTS, AUDIT_TOO_LONG, REFUTED):
+                raise _audit_error(opened._library, text, audit, status, bad.value)
         if status in CONFIG_FAULTS:
             raise _config_error(opened._library, text, status)
         _require(status)

@@ -9,12 +9,12 @@ returns-in-Err-clause-refused c =
     (not_begun c.args.config.now c.read_config.result c.in-Err.fault c.in-Err.is
     c.read_config.ensures.too_long c.read_config.ensures.not_text c.in-Err.ensures.answers)
 
-pub returns-in_default-clause-refused : goal.returns-in_default-clause-refused
-returns-in_default-clause-refused c =
+pub returns-in-Ok-make-clause-asked : goal.returns-in-Ok-make-clause-asked
+returns-in-Ok-make-clause-asked c =
     had_none_left c.args.config.now c.read_config.result c.in-Ok.config c.in-Ok.is
     c.read_config.ensures.too_long c.read_config.ensures.not_text
 
-pub returns-clause-refused : goal.returns-clause-refused
-returns-clause-refused c =
+pub returns-in-Err-make-clause-refused : goal.returns-in-Err-make-clause-refused
+returns-in-Err-make-clause-refused c =
     had_none_left c.args.config.now c.read_config.result c.in-Ok.config c.in-Ok.is
     c.read_config.ensures.too_long c.read_config.ensures.not_text
