@@ -718,8 +718,8 @@ public final class Guard implements AutoCloseable {
         OutputStream input = acts;
         InputStream output = answers;
         InputStream faults = errors;
-        try (input; output; faults) {
-            input.close();
+        try (output; faults) {
+            closeQuietly(input);
             if (!process.waitFor(PATIENCE.toSeconds(), TimeUnit.SECONDS)) {
                 process.destroyForcibly().waitFor();
             }
@@ -738,6 +738,15 @@ public final class Guard implements AutoCloseable {
             end = new GuardEnded(why, fault, cause);
         }
         return end;
+    }
+
+    /** Closes what a process that has ended may not have read to its end. */
+    private static void closeQuietly(OutputStream input) {
+        try (input) {
+            input.flush();
+        } catch (IOException broken) {
+            // What wasn't read is no fault by itself: the process says why it ended.
+        }
     }
 
     private static ScheduledThreadPoolExecutor watch() {

@@ -66,10 +66,7 @@ impl Guard {
     /// audit of the first version; then of the first line that is at fault
     /// [`Error::LineTooLong`], [`Error::LineSyntax`] (half a last line too) or
     /// [`Error::Refuted`]. [`Error::NoMemory`] in place of any.
-    pub fn open_after(
-        config: impl AsRef<[u8]>,
-        audit: impl AsRef<[u8]>,
-    ) -> Result<Guard, Error> {
+    pub fn open_after(config: impl AsRef<[u8]>, audit: impl AsRef<[u8]>) -> Result<Guard, Error> {
         let (config, audit) = (config.as_ref(), audit.as_ref());
         let mut raw = FyGuard {
             at: ptr::null_mut(),

@@ -377,9 +377,11 @@ fn a_guard_goes_on_where_an_audit_ends() {
     let before = guard.audit().unwrap();
     let mut other = Guard::open_after(CONFIG, &before).unwrap();
     assert_eq!(other.audit().unwrap(), before);
-    for guard in [&mut guard, &mut other] {
-        strictly(guard, Key::Zone, "z0", Kind::KillInstantly);
-    }
+    let verdict = strictly(&mut guard, Key::Zone, "z0", Kind::KillInstantly);
+    assert_eq!(
+        strictly(&mut other, Key::Zone, "z0", Kind::KillInstantly),
+        verdict
+    );
     assert_eq!(other.audit().unwrap(), guard.audit().unwrap());
     let tick = |at: usize, now| {
         format!("{{\"act\":{{\"tick\":{{\"ticks\":1}}}},\"at\":{at},\"by\":0,\"reply\":{{\"time\":{now}}}}}\n")

@@ -323,7 +323,7 @@ static void copies()
 /* A guard that goes on where an audit ends, and what it refuses. */
 static void goes_on()
 {
-    const std::string header(HEADER);
+    const std::string header(FY_AUDIT_HEADER);
     Guard guard(SIX);
     HOLDS(guard.kill(1, Key::Zone, "z0", Kind::KillInstantly) == verdict(Kind::KillInstantly));
     const std::string before = guard.audit();
@@ -342,7 +342,7 @@ static void goes_on()
     } catch (const Error &error) {
         EQUAL(error.status(), Status::Refuted);
         HOLDS(error.place() == 1U);
-        EQUAL(std::string_view(error.what()), "an entry of the audit isn't what the rules give");
+        HOLDS(std::string_view(error.what()) == "an entry of the audit isn't what the rules give");
     }
     THROWS(LineSyntax, (void)Guard::open_after(SIX, before.substr(0, before.size() - 1)));
     THROWS(NoHeader, (void)Guard::open_after(SIX, "{\"audit\":1}\n"));
@@ -832,7 +832,7 @@ static void texts()
           "the journal has as many entries as the cluster file allows");
     HOLDS(std::string_view(Error(Status::Refused, Refusal::IsUp).what()) ==
           "refused: the process is up already");
-    HOLDS(std::string_view(Error(static_cast<Status>(22)).what()) == "unknown to this header");
+    HOLDS(std::string_view(Error(static_cast<Status>(23)).what()) == "unknown to this header");
     const Error longest(Status::ConfigName, Part::JournalLimit, UINT64_MAX);
     HOLDS(std::string_view(longest.what()) ==
           "config: Name JournalLimit 18446744073709551615: a text of the cluster file is no name, "

@@ -467,40 +467,9 @@ def listed(word, number):
 class OverThePipe(GuardTests, unittest.TestCase):
     transport = "pipe"
 
-    def test_a_guard_goes_on_where_an_audit_ends(self):
-        one, audit = self.guard(), Path(self.folder, "audit")
-        one.kill(Key.ZONE, "z0", Kind.KILL_INSTANTLY, floor=Kind.REBOOT, by=1)
-        audit.write_text(one.audit())
-        other = Guard(common.SIX, transport=self.transport, after=audit)
-        self.addCleanup(other.close)
-        self.assertEqual(other.audit(), one.audit())
-        self.assertEqual(other.journal_len(), 1)
-        self.assertTrue(other.is_destroyed(0))
-        for guard in (one, other):
-            guard.kill(Key.ZONE, "z1", Kind.KILL_INSTANTLY, floor=Kind.REBOOT, by=1)
-        self.assertEqual(other.audit(), one.audit())
-
-    def test_a_refused_audit_opens_no_guard(self):
-        tick = b'{"act":{"tick":{"ticks":1}},"at":0,"by":0,"reply":{"time":%d}}\n'
-        header, audit = b'{"audit":2}\n', Path(self.folder, "audit")
-        cases = [
-            (header + tick % 2, "bad entry 0", 5),
-            (header + (tick % 1)[:-1], "audit: line 2: Syntax", 1),
-            (header + tick % 1 + b"\n", "audit: line 3: Syntax", 1),
-            (b'{"audit":1}\n', "audit: line 1: Header", 1),
-            (b"", "audit: line 1: Header", 1),
-        ]
-        for text, fault, status in cases:
-            audit.write_bytes(text)
-            with self.assertRaises(faultyard.GuardEnded) as raised:
-                with Guard(common.SIX, transport=self.transport, after=audit) as guard:
-                    guard.tick(1, by=0)
-            self.assertEqual((raised.exception.fault, raised.exception.status), (fault, status))
-
-    def test_only_a_guard_over_the_pipe_goes_on(self):
-        for other in ({"transport": "library"}, {"server": "http://127.0.0.1:1"}):
-            with self.assertRaises(faultyard.NotOffered):
-                Guard(common.SIX, after="audit", **other)
+    def test_a_server_goes_on_by_itself(self):
+        with self.assertRaises(faultyard.NotOffered):
+            Guard(common.SIX, after="audit", server="http://127.0.0.1:1")
 
 
 @unittest.skipUnless(common.LIBRARY, common.WITHOUT)

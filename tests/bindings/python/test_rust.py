@@ -40,7 +40,7 @@ TYPES = {
     "const fy_check *": "*const FyCheck",
 }
 # Statuses that no error of the crate tells; `accepted` tells REFUSED with its refusal.
-UNTOLD = {"Done": 0, "Refused": 3, "Short": 4, "Closed": 19}
+UNTOLD = {"Done": 0, "Refused": 3, "Short": 4, "Closed": 19, "Refuted": 22}
 # Seeds in which the simulator has to find something.
 SEEDS = 60
 
@@ -109,12 +109,13 @@ class Table(unittest.TestCase):
     def test_each_constant_is_the_headers(self):
         wanted = dict(re.findall(r"^#define FY_(\w+) (\w+?)u?(?: +/\*.*)?$", HEADER, re.M))
         wanted["SHORT"] = str(header_numbers("fy_status")["Short"])
+        wanted["REFUTED"] = str(header_numbers("fy_status")["Refuted"])
         wanted["EVERYONE"] = str(header_numbers("fy_key")["Everyone"])
         greatest = {"u32::MAX": "UINT32_MAX", "u64::MAX": "UINT64_MAX"}
         found = re.findall(r"^pub const (\w+): \w+ = (.*);$", source("sys.rs"), re.M)
         told = [(name, greatest.get(value, value)) for name, value in found]
         self.assertEqual(told, [(name, wanted[name]) for name, _ in found])
-        self.assertEqual(len(found), 19)
+        self.assertEqual(len(found), 20)
 
     def test_each_field_is_the_headers(self):
         for struct, its, count in (

