@@ -53,7 +53,9 @@ WANTED = [
 ]
 TAKEN = [
     "CHANGELOG.md",
+    "LICENSE",
     "README.md",
+    "SECURITY.md",
     "bin",
     "bindings",
     "docs",
