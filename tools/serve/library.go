@@ -1,10 +1,9 @@
 package main
 
 import (
-	"bufio"
+	"bytes"
 	"errors"
 	"fmt"
-	"io"
 	"strings"
 
 	"faultyard"
@@ -14,13 +13,12 @@ import (
 
 // The statuses by which the server ends, which are those of the program.
 const (
-	ended      = 0
-	refused    = 1
-	usage      = 2
-	ioFailed   = 3
-	noMemory   = 4
-	badEntry   = 5
-	mostOfLine = 65_536 + 2
+	ended    = 0
+	refused  = 1
+	usage    = 2
+	ioFailed = 3
+	noMemory = 4
+	badEntry = 5
 )
 
 // failure is why the server ends, and its status.
@@ -106,26 +104,38 @@ func (its places) State(process int) cluster.State {
 	return cluster.State(state)
 }
 
+// ofAudit is why no guard goes on with an audit, in the words of `faultyard check`: a faulty line is
+// told before a bad entry, wherever it stands.
+func ofAudit(config, audit []byte, err error) error {
+	_, isFault := auditFaults[err]
+	if !isFault && err != faultyard.ErrAuditTooLong && !errors.Is(err, faultyard.ErrRefuted) {
+		return ofLibrary(err)
+	}
+	if err := check(config, audit); err != nil {
+		return err
+	}
+	// It is of an earlier version, which `check` takes.
+	return book.Refusal{Status: refused, Why: "audit: line 1: Header"}
+}
+
 // check refuses an audit as `faultyard check` does.
-func check(config []byte, audit io.Reader) error {
+func check(config, audit []byte) error {
 	check, err := faultyard.BeginCheck(config)
 	if err != nil {
 		return ofLibrary(err)
 	}
 	defer check.Close()
-	reader := bufio.NewReaderSize(audit, mostOfLine)
-	for number := 1; ; number++ {
-		line, err := reader.ReadSlice('\n')
-		if err == io.EOF && len(line) == 0 && number > 1 {
-			return found(check)
+	for number := 1; len(audit) > 0 || number == 1; number++ {
+		length := bytes.IndexByte(audit, '\n') + 1
+		if length == 0 {
+			length = len(audit)
 		}
-		if err != nil && err != io.EOF && err != bufio.ErrBufferFull {
-			return err
-		}
-		if _, err := check.Line(line); err != nil {
+		if _, err := check.Line(audit[:length]); err != nil {
 			return ofLine(err, number)
 		}
+		audit = audit[length:]
 	}
+	return found(check)
 }
 
 var auditFaults = map[error]string{

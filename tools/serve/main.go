@@ -7,7 +7,6 @@ import (
 	"crypto/tls"
 	"errors"
 	"fmt"
-	"io"
 	"net"
 	"net/http"
 	"os"
@@ -106,19 +105,22 @@ func (its *server) open() (err error) {
 	if its.config, err = os.ReadFile(its.words.config); err != nil {
 		return err
 	}
-	if its.guard, err = faultyard.Open(its.config); err != nil {
+	// A wrong cluster file is told before the audit is touched.
+	begun, err := faultyard.Open(its.config)
+	if err != nil {
 		return ofLibrary(err)
 	}
+	begun.Close()
 	var tokens *door.Tokens
 	if its.words.tokens != "" {
 		if tokens, err = door.ReadTokens(its.words.tokens); err != nil {
 			return failure{refused, err.Error()}
 		}
 	}
-	processes := cluster.Processes(its.config, places{its.guard})
 	if err := its.goOn(); err != nil {
 		return err
 	}
+	processes := cluster.Processes(its.config, places{its.guard})
 	its.lines = &door.Lines{Book: its.book, Most: mostConnected}
 	its.web = &door.Web{
 		Book: its.book, Processes: processes, Guard: places{its.guard}, Tokens: tokens,
@@ -131,17 +133,23 @@ func (its *server) open() (err error) {
 // goOn goes on with the audit, or begins it.
 func (its *server) goOn() (err error) {
 	path := its.words.audit
-	its.book, err = book.Open(book.Files{
-		Audit: path,
-		Check: func(audit io.Reader) error { return check(its.config, audit) },
-		Say:   say,
-	}, library{its.guard})
+	its.book, err = book.Open(book.Files{Audit: path, After: its.after, Say: say})
 	var refusal book.Refusal
 	if errors.As(err, &refusal) {
 		refusal.Why = path + ": " + refusal.Why
 		return refusal
 	}
 	return err
+}
+
+// after opens the guard behind an audit.
+func (its *server) after(audit []byte) (book.Guard, error) {
+	guard, err := faultyard.OpenAfter(its.config, audit)
+	if err != nil {
+		return nil, ofAudit(its.config, audit, err)
+	}
+	its.guard = guard
+	return library{guard}, nil
 }
 
 // listen opens the doors.

@@ -5,7 +5,6 @@ import (
 	"encoding/json"
 	"regexp"
 	"sort"
-	"strconv"
 )
 
 var (
@@ -88,54 +87,4 @@ func sortedOnce(list any) []string {
 	}
 	sort.Strings(sorted)
 	return sorted
-}
-
-// scriptOf is the line of a script that asks for the act of an entry's line, or nothing where the
-// line can't be an entry's.
-func scriptOf(entry []byte) []byte {
-	const before = `{"act":`
-	if !bytes.HasPrefix(entry, []byte(before)) {
-		return nil
-	}
-	// No text of an act has a brace or an escaped quote in it.
-	depth, end := 0, -1
-	for at := len(before); at < len(entry) && end < 0; at++ {
-		switch entry[at] {
-		case '{':
-			depth++
-		case '}':
-			depth--
-			if depth == 0 {
-				end = at + 1
-			}
-		}
-	}
-	if end < 0 {
-		return nil
-	}
-	by := numberAfter(entry[end:], `,"by":`)
-	if by == "" {
-		return nil
-	}
-	line := make([]byte, 0, len(entry))
-	line = append(append(append(line, `{"by":`...), by...), `,"act":`...)
-	return append(append(line, entry[len(before):end]...), '}')
-}
-
-// numberAfter is the number behind a text, as it is spelled.
-func numberAfter(line []byte, text string) string {
-	at := bytes.Index(line, []byte(text))
-	if at < 0 {
-		return ""
-	}
-	digits := line[at+len(text):]
-	for end := 0; end <= len(digits); end++ {
-		if end == len(digits) || digits[end] < '0' || '9' < digits[end] {
-			if _, err := strconv.ParseUint(string(digits[:end]), 10, 32); err != nil {
-				return ""
-			}
-			return string(digits[:end])
-		}
-	}
-	return ""
 }

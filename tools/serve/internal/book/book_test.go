@@ -4,9 +4,9 @@ import (
 	"bytes"
 	"errors"
 	"fmt"
-	"io"
 	"os"
 	"path/filepath"
+	"regexp"
 	"strings"
 	"sync"
 	"testing"
@@ -37,16 +37,33 @@ func begin(test *testing.T) *kept {
 	return &kept{T: test, path: filepath.Join(test.TempDir(), "audit")}
 }
 
-// open opens the book anew, with a guard that starts from nothing.
+var entries = regexp.MustCompile(`^{"act":(.*),"at":\d+,"by":(\d+),"reply":"done"}\n$`)
+
+// after is a guard that makes the acts of an audit again.
+func after(audit []byte) (Guard, error) {
+	its := &guard{Scribe: scribe.Scribe{Most: 1000}}
+	isAudit := bytes.HasPrefix(audit, []byte(Header))
+	text := bytes.TrimPrefix(audit, []byte(Header))
+	for _, line := range bytes.SplitAfter(text, []byte("\n")) {
+		if isAudit && len(line) > 0 {
+			act := entries.ReplaceAll(line, []byte(`{"by":$2,"act":$1}`))
+			made, err := its.Act(act)
+			isAudit = err == nil && bytes.Equal(made, line)
+		}
+	}
+	if !isAudit {
+		return nil, Refusal{5, fmt.Sprintf("bad entry, in %d bytes", len(audit))}
+	}
+	return its, nil
+}
+
+// open opens the book anew.
 func (its *kept) open() (*Book, error) {
 	return Open(Files{
 		Audit: its.path,
-		Check: func(audit io.Reader) error {
-			text, _ := io.ReadAll(audit)
-			return Refusal{5, fmt.Sprintf("bad entry, in %d bytes", len(text))}
-		},
-		Say: func(what string) { its.said = append(its.said, what) },
-	}, &guard{Scribe: scribe.Scribe{Most: 1000}})
+		After: after,
+		Say:   func(what string) { its.said = append(its.said, what) },
+	})
 }
 
 func (its *kept) must() *Book {
@@ -310,19 +327,6 @@ func TestADiskThatTakesNoMoreEndsTheBook(test *testing.T) {
 	<-book.Stopped()
 	same(test, "a later act has the same error", ask(book, up(3, "")).Err, book.Stop())
 	same(test, "the audit", its.read(its.path), Header+entry(0, 1))
-}
-
-func TestTheLineOfAnEntryIsItsScript(test *testing.T) {
-	const give = `{"give":{"actor":3,"kinds":["Clog"],"scope":{"key":"zoneid","value":"z0"}}}`
-	for entry, wanted := range map[string]string{
-		entry(7, 3): `{"by":0,"act":{"up":{"process":3}}}`,
-		`{"act":` + give + `,"at":1,"by":12,"reply":"done"}`: `{"by":12,"act":` + give + `}`,
-		`{"act":{"up":{"process":3}},"at":0,"by":x}`:         "",
-		`{"act":{"up":{"process":3}`:                         "",
-		`x`:                                                  "",
-	} {
-		same(test, entry, string(scriptOf([]byte(entry))), wanted)
-	}
 }
 
 func TestAnActIsKnownAgainWhateverTheOrderOfItsKinds(test *testing.T) {

@@ -1,18 +1,22 @@
 package book
 
 import (
-	"bufio"
 	"bytes"
 	"errors"
 	"fmt"
 	"io"
 	"os"
 	"path/filepath"
+	"strings"
 	"syscall"
 )
 
-// mostLine is how many bytes a line of an audit has at most, with its line feed.
-const mostLine = 65_536 + 1
+const (
+	// mostAudit is how many bytes an audit has at most.
+	mostAudit = 268_435_456
+	// mostLine is how many bytes a line of an audit has at most, with its line feed.
+	mostLine = 65_536 + 1
+)
 
 // Refusal is why an audit isn't gone on with. Status is that of `faultyard check`.
 type Refusal struct {
@@ -33,23 +37,23 @@ func (held HeldError) Error() string { return held.Path + " is held by another p
 type Files struct {
 	// Audit is the path of the audit. Its events stand beside it.
 	Audit string
-	// Check answers the refusal of `faultyard check` of an audit, or nil for a legal one.
-	Check func(audit io.Reader) error
+	// After opens a guard that goes on where an audit ends, by its whole text. Where the audit isn't
+	// one that a guard of this cluster wrote, the error is a Refusal.
+	After func(audit []byte) (Guard, error)
 	// Say tells what was cut.
 	Say func(what string)
 }
 
-// Open goes on with an audit, or begins one, by a guard in which nothing happened yet. It holds the
-// file until the book is closed.
+// Open goes on with an audit, or begins one. It holds the file until the book is closed.
 //
-// A last line without its line feed was never answered, and is cut. Every other line has to be what
-// the guard answers to the same act: else the error is a Refusal.
-func Open(files Files, guard Guard) (*Book, error) {
+// A last line without its line feed was never answered, and is cut. Whatever else Files.After refuses
+// is left as it is, and the error is its Refusal.
+func Open(files Files) (*Book, error) {
 	audit, err := openFile(files.Audit)
 	if err != nil {
 		return nil, err
 	}
-	book := &Book{guard: guard, audit: audit, stopped: make(chan struct{})}
+	book := &Book{audit: audit, stopped: make(chan struct{})}
 	if err := book.goOn(files); err != nil {
 		_ = audit.Close()
 		return nil, err
@@ -76,9 +80,9 @@ func openFile(path string) (*os.File, error) {
 	return nil, fmt.Errorf("%s: %w", path, err)
 }
 
-// goOn replays the audit, cuts half a last line, and opens the events.
+// goOn opens the guard, cuts half a last line, and opens the events.
 func (book *Book) goOn(files Files) error {
-	if err := book.replay(files); err != nil {
+	if err := book.openGuard(files); err != nil {
 		return err
 	}
 	if err := book.cut(files); err != nil {
@@ -116,87 +120,51 @@ func (book *Book) cut(files Files) error {
 	return onDisk(book.audit)
 }
 
-// replay has the guard make the acts of the audit again.
-func (book *Book) replay(files Files) error {
-	reader := bufio.NewReaderSize(book.audit, mostLine+1)
-	for {
-		line, err := reader.ReadSlice('\n')
-		switch {
-		case err == io.EOF:
-			return book.endsIn(line, files)
-		case err == bufio.ErrBufferFull:
-			return book.refused(files)
-		case err != nil:
-			return err
-		}
-		if !book.isNext(line) {
-			return book.refused(files)
-		}
-		if book.length > 0 {
-			book.count++
-		}
-		book.length += int64(len(line))
-	}
-}
-
-// isNext says whether the line is the one that may come next.
-func (book *Book) isNext(line []byte) bool {
-	if book.length == 0 {
-		return string(line) == Header
-	}
-	script := scriptOf(line)
-	if script == nil {
-		return false
-	}
-	answer, err := book.guard.Act(script)
-	return err == nil && bytes.Equal(answer, line)
-}
-
-// endsIn refuses what can't be the front of a line that a crash left.
-func (book *Book) endsIn(rest []byte, files Files) error {
-	front := Header
-	if book.length > 0 {
-		front = `{"act":{"`
-	}
-	length := len(rest)
-	if length > len(front) {
-		length = len(front)
-	}
-	if string(rest[:length]) != front[:length] {
-		return book.refused(files)
-	}
-	return nil
-}
-
-// refused is why `faultyard check` refuses the audit, without half a last line.
-func (book *Book) refused(files Files) error {
-	whole, err := wholeLines(book.audit)
+// openGuard opens a guard behind the whole lines of the audit. A file without any is as one with the
+// header alone.
+func (book *Book) openGuard(files Files) (err error) {
+	text, err := book.text()
 	if err != nil {
 		return err
 	}
-	if err := files.Check(io.NewSectionReader(book.audit, 0, whole)); err != nil {
+	if length := bytes.LastIndexByte(text, '\n') + 1; mayBeHalf(text[length:], length) {
+		text = text[:length]
+	}
+	book.length = int64(len(text))
+	if len(text) == 0 {
+		text = []byte(Header)
+	}
+	if book.guard, err = files.After(text); err != nil {
 		return err
 	}
-	return Refusal{1, "audit: line 1: Header"} // of an earlier version, which `check` takes
+	book.count = bytes.Count(text, []byte("\n")) - 1
+	return nil
 }
 
-// wholeLines is how many bytes stand up to the last line feed.
-func wholeLines(file *os.File) (int64, error) {
-	end, err := file.Seek(0, io.SeekEnd)
-	part := make([]byte, 1<<16)
-	for err == nil && end > 0 {
-		from := end - int64(len(part))
-		if from < 0 {
-			from = 0
-		}
-		var read int
-		read, err = file.ReadAt(part[:end-from], from)
-		if at := bytes.LastIndexByte(part[:read], '\n'); at >= 0 {
-			return from + int64(at) + 1, nil
-		}
-		end = from
+// text is all that the audit's file has.
+func (book *Book) text() ([]byte, error) {
+	info, err := book.audit.Stat()
+	if err != nil {
+		return nil, err
 	}
-	return 0, err
+	if info.Size() > mostAudit+mostLine {
+		return nil, Refusal{1, "audit: TooLong"}
+	}
+	text := make([]byte, info.Size())
+	_, err = io.ReadFull(book.audit, text)
+	return text, err
+}
+
+// mayBeHalf says whether this can be the front of a line that a crash left behind so many bytes.
+func mayBeHalf(rest []byte, before int) bool {
+	front := Header
+	if before > 0 {
+		front = `{"act":{"`
+	}
+	if len(front) > len(rest) {
+		front = front[:len(rest)]
+	}
+	return len(rest) < mostLine && strings.HasPrefix(string(rest), front)
 }
 
 // cut makes a file so long, and has it written to from there on.

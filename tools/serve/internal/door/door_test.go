@@ -57,7 +57,11 @@ func (its *guard) Targets(key, value string) ([]int, error) {
 func begin(test *testing.T, most int) *Web {
 	its := &guard{scribe.Scribe{Most: most}}
 	path := filepath.Join(test.TempDir(), "audit")
-	kept, err := book.Open(book.Files{Audit: path, Say: func(string) {}}, its)
+	kept, err := book.Open(book.Files{
+		Audit: path,
+		After: func([]byte) (book.Guard, error) { return its, nil },
+		Say:   func(string) {},
+	})
 	if err != nil {
 		test.Fatal(err)
 	}
