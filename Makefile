@@ -1,65 +1,5 @@
-# faultyard: proved, built and tested by the command `rt` of the Rattle toolchain.
-#
-#   make help             prints this list
-#   make build            proves the program with the crates that it stands on, and leaves it at
-#                         `bin/faultyard`; `make` alone does so
-#   make run              builds the program without proofs, and shows `judge`, `run` and `check` on
-#                         the examples
-#   make quick            runs all tests that need no proof, on the program built without proofs
-#   make test             all that CI runs: the unit tests, every proof from nothing, all suites on
-#                         the proved program and the C library, and the mutants of the crates that
-#                         changed
-#   make lib              proves the C library, and leaves it at `bin/libfaultyard.a` and
-#                         `bin/libfaultyard.so`
-#   make merged           makes these two of the crate's object and the toolchain's; `make lib` and
-#                         `make test` call it
-#   make format           formats all crates
-#   make pages            makes what pages say of the source: DEFINITIONS.md, CONTRACTS.md, the
-#                         crates of ARCHITECTURE and their diagram, the tables of faults and of what
-#                         to do
-#   make site             makes a site of the pages below `site/`, with search; needs Debian's `mkdocs`
-#                         and `mkdocs-material`
-#   make swarm-seeds      runs 200 seeds on each cluster file of `examples/` and checks each audit
-#   make refused-memory   makes each allocation fail once, one run each, in short tests of
-#                         each command, act and check
-#   make wrong-bodies     tries every mutant again, and records the crates whose mutants are all
-#                         refused; run it before a release
-#   make try-stores       runs `faultyard-nemesis` on redis, etcd, PostgreSQL, ZooKeeper and
-#                         RabbitMQ, a minute guarded and a minute unguarded with two seeds each, and
-#                         prints a table; then a minute each with partitions, and with power cuts on
-#                         `lossy` and `ext4` in a durable setting and a lax one; takes over an hour,
-#                         and has to be root
-#   make slow-stores      runs it guarded for a minute on each store that boots slowly: ZooKeeper
-#                         and RabbitMQ
-#   make lossy            builds the disk that forgets what isn't synced, `bin/faultyard-lossy`;
-#                         needs libfuse3-dev
-#   make try-disks        tests that disk by thousands of seeds, beside ext4 and xfs, and by longer
-#                         loads; needs to be root
-#   make nemesis-aborts   aborts a hundred runs of `faultyard-nemesis` at random moments: no process
-#                         may be left
-#   make serve-many       kills `faultyard-serve` a hundred times while a nemesis and two testers
-#                         ask it over an etcd of five, and sends it a hundred thousand wrong
-#                         requests; takes a quarter of an hour
-#   make serve-speed      times `faultyard-serve` beside the pipe of `guard` and a server that
-#                         echoes; needs a machine with nothing else to do
-#   make look             draws a picture, and takes screenshots of it and of the page of
-#                         `faultyard-serve`; needs `chromium`
-#   make install PREFIX=..
-#                         puts the program, its tools, the library, man pages, completions and pages
-#                         below PREFIX, by the list `release/layout`; PREFIX is `/usr/local` if left
-#                         out
-#   make installed        does so with what stands in `bin`; `make install` calls it
-#   make uninstall PREFIX=..
-#                         removes them
-#   make dist             proves and builds all, and leaves a release in `dist/`: an archive, a
-#                         Debian package, `SHA256SUMS`. Two builds of one commit give the same bytes
-#   make packaged         does so with what stands in `bin`; `make dist` calls it
-#   make static           proves the program, and links it statically into `bin/faultyard-static`,
-#                         which runs on any Linux on x86-64; needs Debian's `libc6-dev`
-#   make try-dist         tries what is in `dist/` in bare roots without the toolchain; needs
-#                         `mmdebstrap`, and to be root
-#   make bench            times the program, the verdicts and the cluster (PERFORMANCE.md)
-#   make clean            removes what was built, and what earlier checks kept
+# faultyard: proved, built and tested by the command `rt` of the Rattle toolchain. `make help` lists the targets: the lines with
+# two signs above one say what it does.
 
 PREFIX ?= /usr/local
 VERSION := $(shell release/version)
@@ -70,15 +10,18 @@ KIT = $(dir $(shell rt doc))
 .PHONY: help build run lib merged test quick format pages site swarm-seeds refused-memory wrong-bodies try-stores slow-stores lossy try-disks nemesis-aborts serve-many serve-speed look install installed uninstall static dist packaged try-dist bench clean
 
 # `rt run` proves what changed, builds the program beside its crate and runs it once.
+## proves the program with the crates that it stands on, and leaves it at `bin/faultyard`; `make` alone does so
 build:
 	cd crates/faultyard && rt run -- --help > /dev/null
 	mkdir -p bin
 	cp $(BUILT) bin/faultyard
 
+## prints this list
 help:
-	@sed -n 's/^#   //p; s/^# \{20\}/                    /p' Makefile
+	@awk -f tools/help.awk Makefile
 
 # One build serves all that is shown, and what is tested without proofs.
+## builds the program without proofs, and shows `judge`, `run`, `check` and `simulate` on the examples
 run:
 	@echo "make run: builds the program without its proofs, once, as $(UNPROVED): some two minutes on four processors"
 	@$(MAKE) --no-print-directory --silent $(UNPROVED)
@@ -88,6 +31,7 @@ $(UNPROVED): $(shell find crates -name '*.rt' -not -path '*/out/*') crates.txt t
 	@tests/build-unproved $@
 
 # `rt lib` proves what changed.
+## proves the C library, and leaves it at `bin/libfaultyard.a` and `bin/libfaultyard.so`
 lib:
 	cd crates/fy_c && rt lib > /dev/null
 	$(MAKE) --no-print-directory merged
@@ -95,6 +39,7 @@ lib:
 # The library is the crate's one object beside those of the toolchain's archive for memory, so that a program links with one
 # file. The shared library exports what the header declares. Without a C compiler there is none, without Go no
 # faultyard-serve, and without libfuse3-dev no faultyard-lossy.
+## makes these two of the crate's object and the toolchain's; `make lib` and `make test` call it
 merged:
 	rm -rf bin/objects
 	mkdir -p bin/objects
@@ -112,40 +57,55 @@ merged:
 	fi
 	if command -v pkg-config > /dev/null && pkg-config --exists fuse3; then $(MAKE) --no-print-directory lossy; fi
 
+## all that CI runs: the unit tests, every proof from nothing, all suites on the proved program and the C library, and
+## the mutants of the crates that changed
 test:
 	tests/suites test
 
+## runs all tests that need no proof, on the program built without proofs
 quick:
 	tests/suites quick
 
+## formats all crates
 format:
 	for crate in crates/*; do (cd "$$crate" && rt fmt) || exit 1; done
 
+## makes what pages say of the source: DEFINITIONS.md, CONTRACTS.md, the crates of ARCHITECTURE and their diagram, the
+## lines of hooks, the tables of faults and of what to do
 pages:
 	tools/pages/make
 	release/pages tables
 
+## makes a site of the pages below `site/`, with search; needs Debian's `mkdocs` and `mkdocs-material`
 site:
 	mkdocs build --quiet --strict
 
+## runs 200 seeds on each cluster file of `examples/` and checks each audit
 swarm-seeds: build
 	tests/swarm/run bin/faultyard --seeds 200
 
+## makes each allocation fail once, one run each, in short tests of each command, act and check
 refused-memory:
 	tests/refused-memory faultyard/short:: fy_tests/a_buffer_keeps fy_cluster_tests/short::,actors::played::,actors::stored::
 
+## tries every mutant again, and records the crates whose mutants are all refused; run it before a release
 wrong-bodies:
 	tests/wrong-bodies --all --record
 
+## runs `faultyard-nemesis` on redis, etcd, PostgreSQL, ZooKeeper and RabbitMQ, a minute guarded and a minute unguarded
+## with two seeds each, and prints a table; then a minute each with partitions, and with power cuts on `lossy` and
+## `ext4` in a durable setting and a lax one; takes over an hour, and has to be root
 try-stores: build
 	tests/stores/run --table bin/faultyard
 	$(MAKE) --no-print-directory lossy
 	tests/stores/run --power bin/faultyard
 
+## runs it guarded for a minute on each store that boots slowly: ZooKeeper and RabbitMQ
 slow-stores: $(UNPROVED)
 	tests/stores/run --slow $(UNPROVED)
 
 # libfuse is linked in where its archive is there, so that a release runs without it, whichever version a machine has.
+## builds the disk that forgets what isn't synced, `bin/faultyard-lossy`; needs libfuse3-dev
 lossy: FUSE = $(or $(patsubst %,% -pthread -ldl,$(wildcard $(shell pkg-config --variable=libdir fuse3)/libfuse3.a)),$(shell pkg-config --libs fuse3))
 lossy: bin/faultyard-lossy
 
@@ -153,52 +113,66 @@ bin/faultyard-lossy: $(wildcard tools/lossy/*.[ch])
 	mkdir -p bin
 	$(CC) -std=gnu11 -D_GNU_SOURCE -O2 -Wall -Wextra -Werror $(shell pkg-config --cflags fuse3) -o $@ tools/lossy/*.c $(FUSE)
 
+## tests that disk by thousands of seeds, beside ext4 and xfs, and by longer loads; needs to be root
 try-disks:
 	tests/disk/run --long
 
+## aborts a hundred runs of `faultyard-nemesis` at random moments: no process may be left
 nemesis-aborts:
 	tests/nemesis/run --aborts 100 bin/faultyard Trees.test_aborted_runs_leave_nothing
 	tests/power/run --aborts 100 bin/faultyard Aborts
 
+## kills `faultyard-serve` a hundred times while a nemesis and two testers ask it over an etcd of five, and sends it a
+## hundred thousand wrong requests; takes a quarter of an hour
 serve-many: build lib
 	tests/serve/many bin/faultyard bin/faultyard-serve
 	tests/serve/run --kills 100 --requests 100000 bin/faultyard bin/libfaultyard.a test_serve.Crashes test_http.Wrong
 
+## times `faultyard-serve` beside the pipe of `guard` and a server that echoes; needs a machine with nothing else to do
 serve-speed: build lib
 	cd tests/serve/echo && go build -buildvcs=false -o ../../../bin/echo .
 	tests/serve/speed bin/faultyard bin/faultyard-serve bin/echo bin
 
+## draws a picture, and takes screenshots of it and of the page of `faultyard-serve`; needs `chromium`
 look: build lib
 	tests/show/look bin/faultyard
 	tests/serve/look bin/faultyard bin/faultyard-serve
 
+## PREFIX=.. puts the program, its tools, the library, man pages, completions, pages and their site below PREFIX, by the
+## list `release/layout`; PREFIX is `/usr/local` if left out
 install: build lib
 	$(MAKE) --no-print-directory installed
 
-# Puts into place what stands in bin, by the list release/layout.
+## does so with what stands in `bin`; `make install` calls it
 installed:
 	release/install "$(DESTDIR)" "$(PREFIX)"
 
+## PREFIX=.. removes them
 uninstall:
 	release/install --remove "$(DESTDIR)" "$(PREFIX)"
 
 # `rt run` leaves the proved object beside the program.
+## proves the program, and links it statically into `bin/faultyard-static`, which runs on any Linux on x86-64; needs
+## Debian's `libc6-dev`
 static: build
 	$(CC) -static -o bin/faultyard-static crates/faultyard/out/faultyard.o $(KIT)/c/libos_c.a $(KIT)/c/liblibc_c.a
 
-# Two builds of one commit give the same bytes.
+## proves and builds all, and leaves a release in `dist/`: an archive, a Debian package, `SHA256SUMS`. Two builds of one
+## commit give the same bytes
 dist: build lib
 	$(MAKE) --no-print-directory packaged
 
-# Packages what stands in bin.
+## does so with what stands in `bin`; `make dist` calls it
 packaged:
 	release/dist dist
 
+## tries what is in `dist/` in bare roots without the toolchain; needs `mmdebstrap`, and to be root
 try-dist:
 	tests/dist/try dist
 
 # Beside the same command in plain Rust, where there is a rustc; and where BESIDE is the path of
 # another program of this command line, `run`, `check` and `swarm` beside its own.
+## times the program, the verdicts and the cluster (PERFORMANCE.md)
 bench: build lib
 	if command -v rustc > /dev/null; then rustc --edition 2024 -C opt-level=3 -o bin/judge_by_hand bench/judge_by_hand.rs; fi
 	if command -v rustc > /dev/null; then rustc --edition 2024 -C opt-level=3 -o bin/door bench/door.rs && bin/door; fi
@@ -221,5 +195,6 @@ bench: build lib
 	bench/configs.sh
 	if command -v $(CC) > /dev/null; then bench/kills.sh $(BESIDE); fi
 
+## removes what was built, and what earlier checks kept
 clean:
 	rm -rf bin dist site crates/*/out

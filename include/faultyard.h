@@ -46,8 +46,8 @@ extern "C" {
 
 /* The version of this header: 10,000 times its first number, 100 times the second, and the third.
  * fy_version answers that of the library. */
-#define FAULTYARD_VERSION 10000
-#define FAULTYARD_VERSION_TEXT "1.0.0"
+#define FAULTYARD_VERSION 10100
+#define FAULTYARD_VERSION_TEXT "1.1.0"
 
 /* A guard. Only the calls below write it; all zeros, it is closed. */
 typedef struct fy_guard {
@@ -199,6 +199,15 @@ typedef struct fy_seen {
     uint32_t sleeping;    /* The least process that is neither up nor gone, or FY_NOBODY. */
 } fy_seen;
 
+/* How much of the cluster may still be lost: any so many processes together, whichever they are. */
+typedef struct fy_borne {
+    uint32_t emptied;       /* So many may be emptied, as by FY_REBOOT_AND_DELETE. */
+    uint32_t gone;          /* So many may be killed for good, as by FY_KILL_INSTANTLY. */
+    uint32_t emptied_exact; /* 1 where some set of one more may not be emptied; 0 where the search,
+                               which is bounded, found none: more may be borne then. */
+    uint32_t gone_exact;    /* The same of those killed for good. */
+} fy_borne;
+
 /* What became of an act that is made by numbers. The call says which fields it sets; all others are
  * 0. */
 typedef struct fy_reply {
@@ -279,6 +288,7 @@ uint32_t fy_kill_process(fy_guard *guard, uint32_t actor, uint32_t process, uint
                          uint64_t *named);
 uint32_t fy_judge_process(const fy_guard *guard, uint32_t actor, uint32_t process, uint32_t kind,
                           uint32_t floor, uint32_t *struck, uint32_t *rule, uint64_t *named);
+uint32_t fy_killable(const fy_guard *guard, uint32_t actor, uint8_t *kinds, size_t room, size_t *told);
 uint32_t fy_up(fy_guard *guard, uint32_t actor, uint32_t process, uint32_t *refusal);
 uint32_t fy_heal(fy_guard *guard, uint32_t actor, uint32_t process, uint32_t *refusal);
 uint32_t fy_clog(fy_guard *guard, uint32_t actor, uint32_t key, const uint8_t *value, size_t value_length,
@@ -319,6 +329,7 @@ void fy_gone_set(const fy_guard *guard, uint64_t *set, size_t words);
 uint32_t fy_is_acked(const fy_guard *guard, uint32_t record);
 uint32_t fy_keeper(const fy_guard *guard, uint32_t record);
 void fy_sight(const fy_guard *guard, fy_seen *seen);
+uint32_t fy_bears(const fy_guard *guard, fy_borne *borne);
 size_t fy_journal_len(const fy_guard *guard);
 uint32_t fy_audit(const fy_guard *guard, size_t at, uint8_t *buffer, size_t buffer_length, size_t *told);
 uint32_t fy_words(uint64_t seed, uint64_t stream, uint32_t *words, size_t count);
@@ -361,7 +372,7 @@ static inline fy_status fy_guard_open(const char *config, size_t length, fy_guar
  * In this order: FY_CLOSED where a pointer is null; the statuses of fy_guard_open for a text that is
  * no cluster file; FY_AUDIT_TOO_LONG; FY_NO_HEADER, also for an audit of the first version; then of
  * the first line that is at fault FY_LINE_TOO_LONG, FY_LINE_SYNTAX or FY_REFUTED. FY_NO_MEMORY may
- * take the place of any but the first. */
+ * take the place of any but FY_CLOSED, FY_AUDIT_TOO_LONG and FY_NO_HEADER. */
 static inline fy_status fy_guard_open_after(const char *config, size_t length, const char *audit,
                                             size_t audit_length, fy_guard *guard, uint32_t *first_bad)
 {
@@ -506,6 +517,24 @@ static inline fy_status fy_guard_judge_process(const fy_guard *guard, uint32_t a
         return FY_CLOSED;
     return (fy_status)fy_judge_process(guard, actor, process, (uint32_t)kind, (uint32_t)floor, struck,
                                        rule, named);
+}
+
+/* Which processes may still be killed, and how hard. Byte p of the buffer is the fy_kind by which a
+ * kill of process p alone would strike now, ordered by this actor by FY_KILL_INSTANTLY with the floor
+ * FY_REBOOT_PROCESS: FY_NONE where nothing would strike. It is what fy_guard_judge_process tells of
+ * that order. Each process is judged by itself: once one is killed, fewer may be.
+ *
+ * `*told` is how many processes there are. The buffer has room for so many bytes, and what is behind
+ * the processes in it stays as it was. It enters nothing, and asks for no memory.
+ *
+ * In this order: FY_CLOSED; FY_REFUSED where there is no actor with this number; FY_SHORT where the
+ * buffer has fewer bytes than there are processes. Nothing is written to the buffer then. */
+static inline fy_status fy_guard_killable(const fy_guard *guard, uint32_t actor, uint8_t *kinds,
+                                          size_t room, size_t *told)
+{
+    if (!fy_guard_is_open(guard) || kinds == NULL || told == NULL)
+        return FY_CLOSED;
+    return (fy_status)fy_killable(guard, actor, kinds, room, told);
 }
 
 /* Says that a process runs again, by an actor whose role is storage. `*refusal` is the fy_refusal.
@@ -736,7 +765,8 @@ static inline fy_status fy_guard_replace(fy_guard *guard, uint32_t actor, uint32
  * FY_SHORT where the buffer has fewer than `length` + FY_MOST_REPLY bytes: `*told` is that sum, or
  * SIZE_MAX where it is more, and nothing is done, whatever the line is. Then in this order:
  * FY_LINE_TOO_LONG, FY_LINE_SYNTAX, FY_FLOOR, FY_JOURNAL_FULL. FY_NO_MEMORY may take the place of any
- * of these. An act that is refused is FY_DONE: its line has the refusal. */
+ * of these. After each of them `*told` is that sum. An act that is refused is FY_DONE: its line has
+ * the refusal. */
 static inline fy_status fy_guard_act(fy_guard *guard, const char *line, size_t length, char *buffer,
                                      size_t buffer_length, size_t *told)
 {
@@ -822,9 +852,9 @@ static inline fy_status fy_guard_state(const fy_guard *guard, uint32_t process, 
     return FY_DONE;
 }
 
-/* The record that a process still needs before it may be healed, the one that FY_STILL_NEEDS is
- * about: of its teams' records, the least acknowledged one that it hasn't synced. FY_NO_SUCH_RECORD
- * where there is none, or no process with this number. FY_CLOSED, else FY_DONE. */
+/* The record that a process still needs before it may be healed, the one that FY_STILL_NEEDS of
+ * fy_guard_heal is about: of its teams' records, the least acknowledged one that it hasn't synced.
+ * FY_NO_SUCH_RECORD where there is none, or no process with this number. FY_CLOSED, else FY_DONE. */
 static inline fy_status fy_guard_needed(const fy_guard *guard, uint32_t process, uint32_t *record)
 {
     if (!fy_guard_is_open(guard) || record == NULL)
@@ -880,6 +910,19 @@ static inline fy_status fy_guard_sight(const fy_guard *guard, fy_seen *seen)
     return FY_DONE;
 }
 
+/* How much of the cluster may still be lost, as the journal left it: the numbers that `faultyard
+ * bears CONFIG --after AUDIT` tells first. By all policies any so many processes may be lost together,
+ * those lost already among them. Grants and protections don't count. 0 is always exact: some single
+ * process is too many then. It enters nothing.
+ *
+ * In this order: FY_CLOSED; FY_NO_MEMORY: nothing is written then. */
+static inline fy_status fy_guard_bears(const fy_guard *guard, fy_borne *borne)
+{
+    if (!fy_guard_is_open(guard) || borne == NULL)
+        return FY_CLOSED;
+    return (fy_status)fy_bears(guard, borne);
+}
+
 /* How many entries the journal has. FY_CLOSED, else FY_DONE. */
 static inline fy_status fy_guard_journal_len(const fy_guard *guard, size_t *count)
 {
@@ -894,7 +937,7 @@ static inline fy_status fy_guard_journal_len(const fy_guard *guard, size_t *coun
  * and these lines are the audit that `faultyard check` reads.
  *
  * In this order: FY_CLOSED; FY_NO_ENTRY; FY_NO_MEMORY; FY_SHORT where the buffer has fewer bytes than
- * the line, and `*told` is how many that has. */
+ * the line, and `*told` is how many that has. After the first three nothing is written to it. */
 static inline fy_status fy_guard_audit(const fy_guard *guard, size_t at, char *buffer,
                                        size_t buffer_length, size_t *told)
 {

@@ -537,6 +537,29 @@ struct State {
     }
 };
 
+/* How much of the cluster may still be lost: any so many processes together, whichever they are. */
+struct Borne {
+    /* So many may be emptied. */
+    std::uint32_t emptied = 0;
+    /* So many may be killed for good. */
+    std::uint32_t gone = 0;
+    /* Whether some set of one more may not be emptied; where none was found, more may be borne. */
+    bool emptied_exact = false;
+    /* The same of those killed for good. */
+    bool gone_exact = false;
+
+    friend constexpr bool operator==(const Borne &one, const Borne &other) noexcept
+    {
+        return one.emptied == other.emptied && one.gone == other.gone &&
+               one.emptied_exact == other.emptied_exact && one.gone_exact == other.gone_exact;
+    }
+
+    friend constexpr bool operator!=(const Borne &one, const Borne &other) noexcept
+    {
+        return !(one == other);
+    }
+};
+
 /* An order of a plan that is drawn from a seed. */
 struct Order {
     OrderAct act = OrderAct::Kill;
@@ -718,6 +741,26 @@ public:
             static_cast<std::uint32_t>(floor), &struck, &rule, &named);
         require(status, FY_STRANGER);
         return verdict_of(struck, rule, named);
+    }
+
+    /* Of each process, by its number, the kind by which a kill of it alone would strike now, ordered
+     * by this actor by KillInstantly; empty where nothing would strike. Once one is killed, fewer may
+     * be. It enters nothing.
+     * Throws in order Closed; Refused where there is no such actor; NoMemory. */
+    [[nodiscard]] std::vector<std::optional<Kind>> killable(std::uint32_t actor) const
+    {
+        std::uint8_t kinds[Processes().size()] = {};
+        std::size_t told = 0;
+        require(fy_killable(opened(), actor, kinds, sizeof kinds, &told), FY_STRANGER);
+        try {
+            std::vector<std::optional<Kind>> answer(told);
+            for (std::size_t process = 0; process < told; process++)
+                if (kinds[process] != FY_NONE)
+                    answer[process] = static_cast<Kind>(kinds[process]);
+            return answer;
+        } catch (const std::bad_alloc &) {
+            throw Error(Status::NoMemory);
+        }
     }
 
     /* Reports that a process runs again, by an actor whose role is storage.
@@ -992,6 +1035,15 @@ public:
         sight.unsynced = somebody(seen.unsynced);
         sight.sleeping = somebody(seen.sleeping);
         return sight;
+    }
+
+    /* How much of the cluster may still be lost, as the journal left it: the numbers that `faultyard
+     * bears` tells first. Throws in order Closed, NoMemory. */
+    Borne bears() const
+    {
+        fy_borne told = {};
+        require(fy_bears(opened(), &told));
+        return {told.emptied, told.gone, told.emptied_exact != 0, told.gone_exact != 0};
     }
 
     /* How many entries the journal has. Throws Closed. */

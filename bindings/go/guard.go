@@ -226,6 +226,31 @@ func (guard *Guard) JudgeProcess(actor uint32, order ProcessOrder) (Verdict, err
 	})
 }
 
+// Killable answers of each process, by its number, the kind by which a kill of it alone would strike
+// now, ordered by this actor by KillInstantly with the floor RebootProcess; None where nothing would
+// strike. Once one is killed, fewer may be. It enters nothing.
+//
+// Its error is ErrClosed, or RefusalStranger where there is no such actor.
+func (guard *Guard) Killable(actor uint32) ([]Kind, error) {
+	var bytes [64 * C.FY_SET_WORDS]C.uint8_t
+	var status C.uint32_t
+	var told C.size_t
+	err := guard.do(func(its *C.fy_guard) {
+		status = C.fy_killable(its, C.uint32_t(actor), &bytes[0], C.size_t(len(bytes)), &told)
+	})
+	if err == nil {
+		err = reportOf(status, C.FY_STRANGER)
+	}
+	if err != nil {
+		return nil, err
+	}
+	kinds := make([]Kind, told)
+	for process := range kinds {
+		kinds[process] = Kind(bytes[process])
+	}
+	return kinds, nil
+}
+
 // floorOf is RebootProcess where an order leaves its floor out.
 func floorOf(floor Kind) C.uint32_t {
 	if floor == None {
@@ -498,6 +523,42 @@ func (guard *Guard) Sight() (Sight, error) {
 		Deliverable: uint64(seen.deliverable),
 		Unsynced:    uint32(seen.unsynced),
 		Sleeping:    uint32(seen.sleeping),
+	}, nil
+}
+
+// Borne is how much of the cluster may still be lost: any so many processes together, whichever they
+// are.
+type Borne struct {
+	// Emptied is how many may be emptied.
+	Emptied uint32
+	// Gone is how many may be killed for good.
+	Gone uint32
+	// EmptiedExact is: some set of one more may not be emptied. Where none was found, more may be
+	// borne.
+	EmptiedExact bool
+	// GoneExact is the same of those killed for good.
+	GoneExact bool
+}
+
+// Bears answers how much of the cluster may still be lost, as the journal left it: the numbers that
+// `faultyard bears` tells first. Its error is ErrClosed or ErrNoMemory.
+func (guard *Guard) Bears() (Borne, error) {
+	var told C.fy_borne
+	var status C.uint32_t
+	err := guard.do(func(its *C.fy_guard) {
+		status = C.fy_bears(its, &told)
+	})
+	if err == nil {
+		err = errorOf(status)
+	}
+	if err != nil {
+		return Borne{}, err
+	}
+	return Borne{
+		Emptied:      uint32(told.emptied),
+		Gone:         uint32(told.gone),
+		EmptiedExact: told.emptied_exact != 0,
+		GoneExact:    told.gone_exact != 0,
 	}, nil
 }
 

@@ -21,6 +21,7 @@ import java.util.concurrent.Future;
 import java.util.concurrent.ScheduledThreadPoolExecutor;
 import java.util.concurrent.TimeUnit;
 import java.util.function.Function;
+import java.util.regex.Matcher;
 import java.util.regex.Pattern;
 import java.util.stream.Collectors;
 
@@ -50,6 +51,8 @@ public final class Guard implements AutoCloseable {
     private static final int MOST_FAULT = 65_536;
     private static final Duration PATIENCE = Duration.ofSeconds(10);
     private static final Pattern NAME = Pattern.compile("[A-Za-z0-9_][A-Za-z0-9_-]{0,31}");
+    private static final Pattern LOSS =
+        Pattern.compile("\"any\":(\\d{1,9}),\"policies\":\\[(.*?)\\],\"groups\"");
     private static final Cleaner CLEANER = Cleaner.create();
     private static final ScheduledThreadPoolExecutor WATCH = watch();
 
@@ -236,6 +239,31 @@ public final class Guard implements AutoCloseable {
         private Synced(int count, long first) {
             this.count = count;
             this.first = first;
+        }
+    }
+
+    /** How much of the cluster may still be lost: any so many processes, whichever they are. */
+    public static final class Borne {
+        /** So many may be emptied. */
+        public final int emptied;
+        /** So many may be killed for good. */
+        public final int gone;
+        /** Some set of one more may not be emptied; where none was found, more may be borne. */
+        public final boolean emptiedExact;
+        /** The same of those killed for good. */
+        public final boolean goneExact;
+
+        private Borne(Loss emptied, Loss gone) {
+            this.emptied = emptied.any;
+            this.gone = gone.any;
+            this.emptiedExact = emptied.isExact;
+            this.goneExact = gone.isExact;
+        }
+
+        @Override
+        public String toString() {
+            return "emptied " + (emptiedExact ? "" : "at least ") + emptied
+                + ", gone " + (goneExact ? "" : "at least ") + gone;
         }
     }
 
@@ -631,6 +659,65 @@ public final class Guard implements AutoCloseable {
     /** How many entries the journal has. */
     public synchronized int journalLength() {
         return entries;
+    }
+
+    /**
+     * How much of the cluster may still be lost, as the journal left it: the numbers that {@code
+     * faultyard bears} tells first. That program is started for each call, and reads the cluster file
+     * and the audit so far. It enters nothing.
+     */
+    public synchronized Borne bears() {
+        requireOpen();
+        try {
+            Path file = Files.createTempFile("faultyard", null);
+            try {
+                Files.write(file, audit.toByteArray());
+                return borne(told("bears", config.toString(), "--after", file.toString(), "--json"));
+            } finally {
+                Files.delete(file);
+            }
+        } catch (IOException fault) {
+            throw new GuardEnded("bears can't be asked", fault.getMessage(), fault);
+        } catch (Misread fault) {
+            String told = fault.getMessage();
+            throw told.startsWith("config: ") ? new ConfigRefused(told) : new GuardEnded("bears can't be asked", told, fault);
+        }
+    }
+
+    /** What the program writes that is started with these words. It is ended where that takes too long. */
+    private String told(String... words) throws IOException {
+        List<String> command = new ArrayList<>(List.of(program));
+        command.addAll(List.of(words));
+        Process asked = new ProcessBuilder(command).redirectErrorStream(true).start();
+        Future<?> watch = WATCH.schedule(asked::destroyForcibly, timeout.toMillis(), TimeUnit.MILLISECONDS);
+        try (InputStream output = asked.getInputStream()) {
+            closeQuietly(asked.getOutputStream());
+            return new String(output.readAllBytes(), StandardCharsets.UTF_8);
+        } finally {
+            watch.cancel(false);
+            asked.destroyForcibly();
+        }
+    }
+
+    private static Borne borne(String told) {
+        Matcher losses = LOSS.matcher(told);
+        Loss emptied = new Loss(losses, told);
+        return new Borne(emptied, new Loss(losses, told));
+    }
+
+    /** The next of the two losses that {@code bears} tells, in its one line of JSON. */
+    private static final class Loss {
+        final int any;
+        final boolean isExact;
+
+        Loss(Matcher losses, String told) {
+            if (!losses.find()) {
+                throw new Misread(told.trim());
+            }
+            any = Integer.parseInt(losses.group(1));
+            // A policy that bears no more than this has the number and this word behind it.
+            isExact = losses.group(2).contains("\"any\":" + any + ",\"exact\":true");
+        }
     }
 
     /**

@@ -28,7 +28,7 @@ static size_t audit_of(fy_guard *guard, char *text)
     return length;
 }
 
-enum { OPEN, FAULT, RESET, COPY, KILL, KILL_PROCESS, UP, HEAL, ACT, AUDIT, CALLS };
+enum { OPEN, FAULT, RESET, COPY, KILL, KILL_PROCESS, UP, HEAL, ACT, BEARS, AUDIT, CALLS };
 
 static fy_status call(int which, fy_guard *guard, size_t line)
 {
@@ -37,6 +37,7 @@ static fy_status call(int which, fy_guard *guard, size_t line)
     uint32_t refusal, part = 77;
     uint64_t place = 77;
     fy_guard other;
+    fy_borne borne = {77, 77, 77, 77};
     fy_status status;
     switch (which) {
     case OPEN:
@@ -67,6 +68,12 @@ static fy_status call(int which, fy_guard *guard, size_t line)
         return fy_guard_heal(guard, 0, 4, &refusal);
     case ACT:
         return fy_guard_act(guard, LINES[line], strlen(LINES[line]), buffer, sizeof buffer, &told);
+    case BEARS:
+        status = fy_guard_bears(guard, &borne);
+        EQUAL(status, answered < 0 ? FY_NO_MEMORY : FY_DONE);
+        EQUAL(borne.emptied, status == FY_DONE ? 0 : 77);
+        EQUAL(borne.gone_exact, status == FY_DONE ? 1 : 77);
+        return status;
     default:
         return fy_guard_audit(guard, 0, buffer, sizeof buffer, &told);
     }
@@ -156,9 +163,12 @@ static void ask(void)
     fy_guard guard = open_guard(SIX);
     uint64_t set[FY_SET_WORDS];
     uint32_t told;
+    uint8_t kinds[6];
+    size_t count;
     answered = 0;
     EQUAL(fy_guard_judge(&guard, 1, FY_ZONE, "z0", FY_KILL_INSTANTLY, FY_REBOOT, &struck, &rule, &named), FY_DONE);
     EQUAL(fy_guard_judge_process(&guard, 1, 0, FY_KILL_INSTANTLY, FY_REBOOT, &struck, &rule, &named), FY_DONE);
+    EQUAL(fy_guard_killable(&guard, 1, kinds, sizeof kinds, &count), FY_DONE);
     EQUAL(fy_guard_up_set(&guard, set), FY_DONE);
     EQUAL(fy_guard_state(&guard, 0, &told), FY_DONE);
     EQUAL(fy_guard_needed(&guard, 0, &told), FY_DONE);

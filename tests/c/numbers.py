@@ -45,8 +45,9 @@ assert bits == known | {"ALL": sum(known.values())}, (bits, known)
 assert limit_of("fy_c/src/rights.rt", "EVERYONE") == found["FY_EVERYONE"]
 assert f"#define FY_MOST_PAYLOAD {limit_of('fy_c/src/storing.rt', 'MOST_PAYLOAD')}\n" in text
 assert f"#define FY_MOST_MEMBERS {limit_of('fy_team/src/limits.rt', 'MOST_MEMBERS')}\n" in text
-struct = re.search(r"pub struct FyReply \{(.*?)\n\}", source("fy_c/src/making.rt"), re.S)[1]
-fields = [("record" if name == "rec" else name, bits) for name, bits in re.findall(r"pub (\w+): u(\d+),", struct)]
-struct = re.search(r"typedef struct fy_reply \{(.*?)\n\}", text, re.S)[1]
-assert [(name, bits) for bits, name in re.findall(r"^    uint(\d+)_t (\w+);", struct, re.M)] == fields, fields
+for rust, file, name in (("FyReply", "making", "fy_reply"), ("FyBorne", "bearing", "fy_borne")):
+    struct = re.search(rf"pub struct {rust} \{{(.*?)\n\}}", source(f"fy_c/src/{file}.rt"), re.S)[1]
+    fields = [("record" if it == "rec" else it, bits) for it, bits in re.findall(r"pub (\w+): u(\d+),", struct)]
+    struct = re.search(rf"typedef struct {name} \{{(.*?)\n\}}", text, re.S)[1]
+    assert [(it, bits) for bits, it in re.findall(r"^    uint(\d+)_t (\w+);", struct, re.M)] == fields, fields
 print(f"numbers.py: {len(found)} numbers")

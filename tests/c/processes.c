@@ -12,6 +12,9 @@ static uint32_t below(uint32_t most)
     return (uint32_t)(state >> 33) % most;
 }
 
+/* How many processes might have been killed by each kind. */
+static unsigned long killable[FY_KILL_INSTANTLY + 1];
+
 static const char *const NAMES[PROCESSES] = {"p0", "p1", "p2", "p3", "p4", "p5"};
 
 /* What is asked of a process, by an actor that may not be there. */
@@ -61,6 +64,22 @@ static fy_status both(fy_guard *by_name, fy_guard *by_number, asked order)
     return killed;
 }
 
+/* Each process has the kind that a judgement of it alone tells, and what is behind them stays. */
+static void same_kinds(const fy_guard *guard, uint32_t actor)
+{
+    uint8_t kinds[PROCESSES + 2];
+    size_t told = 77;
+    memset(kinds, 77, sizeof kinds);
+    fy_status status = fy_guard_killable(guard, actor, kinds, sizeof kinds, &told);
+    EQUAL(told, PROCESSES);
+    for (uint32_t p = 0; p < PROCESSES; p++) {
+        EQUAL(fy_guard_judge_process(guard, actor, p, FY_KILL_INSTANTLY, FY_REBOOT_PROCESS, &struck, &rule, &named), status);
+        EQUAL(kinds[p], status == FY_DONE ? struck : 77);
+        killable[struck]++;
+    }
+    EQUAL(kinds[PROCESSES] == 77 && kinds[PROCESSES + 1] == 77, 1);
+}
+
 /* Both journals have the same bytes. */
 static void same_audit(const fy_guard *by_name, const fy_guard *by_number)
 {
@@ -89,6 +108,7 @@ static void random_orders(void)
         seen[status]++;
         struck_by[struck]++;
         barred_by[rule]++;
+        same_kinds(&by_number, order.actor);
         EQUAL(fy_guard_up(&by_number, 0, order.process, &again), fy_guard_up(&by_name, 0, order.process, &refusal));
         EQUAL(again, refusal);
         EQUAL(fy_guard_heal(&by_number, 0, order.process, &again), fy_guard_heal(&by_name, 0, order.process, &refusal));
@@ -97,6 +117,7 @@ static void random_orders(void)
     EQUAL(seen[FY_DONE] > 0 && seen[FY_REFUSED] > 0 && seen[FY_FLOOR] > 0, 1);
     for (int kind = FY_NONE; kind <= FY_KILL_INSTANTLY; kind++)
         EQUAL(struck_by[kind] > 0, 1);
+    EQUAL(killable[FY_NONE] > 0 && killable[FY_REBOOT] > 0 && killable[FY_KILL_INSTANTLY] > 0, 1);
     EQUAL(barred_by[FY_NO_RULE] > 0 && barred_by[FY_NO_TARGET] > 0 && barred_by[FY_NO_GRANT] > 0, 1);
     same_audit(&by_name, &by_number);
     fy_guard_close(&by_name);
@@ -151,9 +172,55 @@ static void statuses(void)
     fy_guard_close(&guard);
 }
 
+/* Which of the six may still be killed, by grants, protections and a loss, and each status. */
+static void killable_of_six(void)
+{
+    fy_guard guard = open_guard(SIX), none = {NULL};
+    uint8_t kinds[PROCESSES] = {77, 77, 77, 77, 77, 77};
+    size_t told = 77;
+    fy_reply reply;
+    EQUAL(fy_guard_killable(&guard, 1, kinds, PROCESSES, &told), FY_DONE);
+    EQUAL(told, PROCESSES);
+    EQUAL(memcmp(kinds, "\4\4\4\4\4\4", PROCESSES), 0);
+    /* The second fault actor has the kinds KillInstantly and Reboot, the third none. */
+    EQUAL(fy_guard_protect(&guard, 4, 3, FY_KINDS_KILL_INSTANTLY | FY_KINDS_REBOOT_AND_DELETE, &reply), FY_DONE);
+    EQUAL(fy_guard_protect(&guard, 4, 4, FY_KINDS_KILL_INSTANTLY | FY_KINDS_REBOOT, &reply), FY_DONE);
+    EQUAL(fy_guard_killable(&guard, 1, kinds, PROCESSES, &told), FY_DONE);
+    EQUAL(memcmp(kinds, "\4\4\4\2\3\4", PROCESSES), 0);
+    EQUAL(fy_guard_killable(&guard, 2, kinds, PROCESSES, &told), FY_DONE);
+    EQUAL(memcmp(kinds, "\4\4\4\2\0\4", PROCESSES), 0);
+    EQUAL(fy_guard_killable(&guard, 3, kinds, PROCESSES, &told), FY_DONE);
+    EQUAL(memcmp(kinds, "\0\0\0\0\0\0", PROCESSES), 0);
+    /* With p0 gone, p1 of its zone may go too, and none of another zone may be emptied. */
+    EQUAL(fy_guard_kill_process(&guard, 1, 0, FY_KILL_INSTANTLY, FY_REBOOT, 0, &struck, &rule, &named), FY_DONE);
+    EQUAL(struck, FY_KILL_INSTANTLY);
+    EQUAL(fy_guard_killable(&guard, 1, kinds, PROCESSES, &told), FY_DONE);
+    EQUAL(memcmp(kinds, "\0\4\2\2\1\2", PROCESSES), 0);
+    /* What is refused writes nothing but how many there are. */
+    memset(kinds, 77, sizeof kinds);
+    told = 77;
+    EQUAL(fy_guard_killable(&guard, 5, kinds, 0, &told), FY_REFUSED);
+    EQUAL(told, PROCESSES);
+    told = 77;
+    EQUAL(fy_guard_killable(&guard, 1, kinds, PROCESSES - 1, &told), FY_SHORT);
+    EQUAL(told, PROCESSES);
+    told = 77;
+    EQUAL(fy_guard_killable(&none, 1, kinds, PROCESSES, &told), FY_CLOSED);
+    EQUAL(fy_guard_killable(&guard, 1, NULL, PROCESSES, &told), FY_CLOSED);
+    EQUAL(fy_guard_killable(&guard, 1, kinds, PROCESSES, NULL), FY_CLOSED);
+    EQUAL(told, 77);
+    for (int p = 0; p < PROCESSES; p++)
+        EQUAL(kinds[p], 77);
+    /* It entered nothing. */
+    EQUAL(fy_guard_journal_len(&guard, &told), FY_DONE);
+    EQUAL(told, 3);
+    fy_guard_close(&guard);
+}
+
 int main(void)
 {
     random_orders();
     statuses();
+    killable_of_six();
     return ended("processes");
 }

@@ -92,6 +92,7 @@ static void ask(const fy_guard *guard)
     uint32_t process = 77;
     int is = 77;
     fy_seen seen = {77, 77, 77, 77};
+    fy_borne borne = {77, 77, 77, 77};
     char buffer[512];
     size_t told = 77;
     EQUAL(fy_guard_is_open(guard), 1);
@@ -121,10 +122,16 @@ static void ask(const fy_guard *guard)
     EQUAL(fy_guard_judge_process(guard, 1, 2, FY_KILL_INSTANTLY, FY_REBOOT, &struck, &rule, &named), FY_DONE);
     EQUAL(struck, FY_REBOOT);
     EQUAL(rule, FY_TOO_MANY_DESTROYED);
+    uint8_t kinds[6] = {77, 77, 77, 77, 77, 77};
+    EQUAL(fy_guard_killable(guard, 1, kinds, 6, &told), FY_DONE);
+    EQUAL(memcmp(kinds, "\0\0\2\2\2\2", 6), 0);
     EQUAL(fy_guard_is_acked(guard, 0, &is), FY_DONE);
     EQUAL(is, 0);
     EQUAL(fy_guard_keeper(guard, 0, &process), FY_DONE);
     EQUAL(process, FY_NOBODY);
+    EQUAL(fy_guard_bears(guard, &borne), FY_DONE);
+    EQUAL(borne.emptied | borne.gone, 0);
+    EQUAL(borne.emptied_exact & borne.gone_exact, 1);
     EQUAL(fy_guard_sight(guard, &seen), FY_DONE);
     EQUAL(seen.sleeping, FY_NOBODY);
     EQUAL(fy_guard_journal_len(guard, &told), FY_DONE);

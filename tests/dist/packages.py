@@ -12,7 +12,7 @@ import tarfile
 import tempfile
 from pathlib import Path
 
-from checks import ROOT, need, programs, said, version
+from checks import ROOT, Skip, need, programs, said, version
 
 EPOCH = 1_700_000_000
 ARCHIVE = f"faultyard-{version()}-linux-x86_64"
@@ -20,7 +20,7 @@ PACKAGE = f"faultyard_{version()}_amd64.deb"
 SHARED = f"libfaultyard.so.{version()}"
 
 # What a user of the archive looks for; release/layout isn't asked.
-COMMANDS = ("judge", "run", "check", "swarm", "guard", "show", "bears")
+COMMANDS = ("judge", "run", "check", "swarm", "simulate", "guard", "show", "bears")
 TOOLS = ("nemesis", "serve", "lossy", "config-check", "sweep", "shrink")
 WANTED = [
     "bin/faultyard",
@@ -61,7 +61,9 @@ TAKEN = [
     "docs",
     "examples",
     "include",
+    "mkdocs.yml",
     "release",
+    "tests/README.md",
     "tools",
     "crates/faultyard/src/task.rt",
 ]
@@ -177,6 +179,45 @@ def archive_has_its_layout() -> None:
             (0o755,) if runs else (0o644, 0o755)
         ), f"{name}: {it.mode:o}"
     assert members[f"{ARCHIVE}/lib/libfaultyard.so.1"].linkname == SHARED
+
+
+def need_mkdocs() -> None:
+    need("mkdocs")
+    if "material" not in said("mkdocs", "build", "--help"):
+        raise Skip("mkdocs-material")
+
+
+def archive_has_the_site() -> None:
+    """Each page and what it needs, and little else."""
+    need_mkdocs()
+    site = unpacked() / "share/doc/faultyard/html"
+    there = {name: held.decode(errors="replace") for name, held in files_below(site).items()}
+    for name in ("index", "docs/GUARD", "docs/CONTRIBUTING", "examples/etcd/index"):
+        assert f"{name}.html" in there, f"the site has no {name}.html"
+    for name in filter(lambda it: it.endswith(".html"), there):
+        for link in re.findall(r' (?:href|src)="([^"#?:&]+)["#?]', there[name]):
+            target = (site / name).parent / link
+            assert target.exists(), f"{name}: {link} isn't in the site"
+    assert "search/search_index.json" in there
+    useless = [it for it in there if it.endswith(".map") or "sitemap" in it]
+    assert not useless, useless
+    assert sum(map(len, there.values())) < 5 << 20, "the site has over 5 MiB"
+
+
+def without_mkdocs_there_is_no_site() -> None:
+    """And all else is there, and a line says why."""
+    folder = room() / "no mkdocs"
+    folder.mkdir()
+    (folder / "mkdocs").write_text("#!/bin/sh\nexit 1\n")
+    (folder / "mkdocs").chmod(0o755)
+    env = environment(PATH=f"{folder}:{os.environ['PATH']}")
+    words = ["release/install", room() / "no site", ""]
+    ran = subprocess.run(words, cwd=ROOT, env=env, capture_output=True, text=True)
+    assert ran.returncode == 0 and "without the pages as a site" in ran.stderr, ran
+    html = "share/doc/faultyard/html/"
+    wanted = {it for it in files_below(unpacked()) if not it.startswith(html)}
+    found = set(files_below(room() / "no site"))
+    assert found == wanted, found ^ wanted
 
 
 def package_has_the_files_of_the_archive() -> None:
@@ -435,6 +476,8 @@ CHECKS = [
     same_bytes_twice,
     sums_are_those_of_the_files,
     archive_has_its_layout,
+    archive_has_the_site,
+    without_mkdocs_there_is_no_site,
     package_has_the_files_of_the_archive,
     package_tells_the_truth,
     package_needs_what_its_files_need,

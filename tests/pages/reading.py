@@ -9,6 +9,7 @@ from pathlib import Path
 
 import contracts
 import definitions
+import hook_lines
 import layers
 import limits
 import made
@@ -187,6 +188,47 @@ class Reading(unittest.TestCase):
         page.write_text("`Shown::look`, `Shown::listen`, `low/specs/Sets`, `{gone: 1}`\n")
         told = "page.md: the source has no listen, which it names as `Shown::listen`"
         self.assertEqual([*names.unknown([page])], [told])
+
+
+HOOKS = '''#!/usr/bin/env python3
+"""What documents
+is no code."""
+import faultyard_hooks as fy
+from faultyard_hooks.http import plain
+
+# a comment
+WORDS = """one
+
+two"""
+
+
+def find(key):
+    """It documents too."""
+    return plain(key)
+
+
+def start(n):
+    return "store", WORDS
+
+
+check = find
+
+
+def salvage(n):
+    return {}
+
+
+fy.main()
+'''
+
+
+class HookLines(unittest.TestCase):
+    def test_a_line_counts_that_has_code(self) -> None:
+        self.assertEqual(hook_lines.counted(HOOKS)[1], 12)
+
+    def test_check_and_salvage_and_what_they_alone_use_are_not_needed(self) -> None:
+        self.assertEqual(hook_lines.counted(HOOKS)[0], 6)
+        self.assertEqual(hook_lines.counted(HOOKS.replace("check = find", "read = find"))[0], 10)
 
 
 class Marks(unittest.TestCase):

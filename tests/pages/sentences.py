@@ -7,16 +7,18 @@ from pathlib import Path
 ROOT = Path(__file__).resolve().parents[2]
 MOST = 30
 USE = (
-    "README.md CHANGELOG.md SECURITY.md docs/GUARD.md docs/NEMESIS.md docs/POLICIES.md "
-    "docs/FINDINGS.md docs/COMMANDS.md docs/COOKBOOK.md docs/FORMATS.md docs/LIBRARY.md "
-    "docs/GLOSSARY.md docs/KUBERNETES.md bindings/*/README.md examples/*/README.md"
+    "README.md CHANGELOG.md SECURITY.md docs/GUARD.md docs/HOOKS.md docs/NEMESIS.md "
+    "docs/POLICIES.md docs/FINDINGS.md docs/STORES.md docs/COMMANDS.md docs/COOKBOOK.md "
+    "docs/FORMATS.md docs/LIBRARY.md docs/GLOSSARY.md docs/KUBERNETES.md "
+    "bindings/*/README.md examples/*/README.md"
 )
 
 
 def blocks(text: str) -> Iterator[str]:
-    """Paragraphs and items of lists, without code, tables and headings."""
+    """Paragraphs, items of lists and cells of tables, without code and headings."""
     prose = re.sub(r"(?ms)^ *```.*?^ *```$|<!--.*?-->", "", text)
-    prose = re.sub(r"(?m)^\s*(\||#).*", "", prose)
+    prose = re.sub(r"(?m)^\s*#.*", "", prose)
+    prose = re.sub(r"(?m)^\|.*", lambda row: re.sub(r"(?<!\\)\|", "\n\n", row.group()), prose)
     items = re.sub(r"(?m)^\s*([-*]|\d+\.) ", "\n\n", prose)
     yield from re.split(r"\n\s*\n", items)
 
@@ -45,6 +47,11 @@ class Sentences(unittest.TestCase):
         self.assertEqual([*long_in("it " * 28 + "[so](a/b.md) `a b c`.")], [])
         self.assertEqual(len([*long_in("it " * 29 + "[so is](a/b.md).")]), 1)
 
-    def test_tables_and_blocks_of_code_have_none(self) -> None:
+    def test_headings_and_blocks_of_code_have_none(self) -> None:
         words = "it " * 31
-        self.assertEqual([*long_in(f"| {words} |\n\n```\n{words}\n```\n\n# {words}")], [])
+        self.assertEqual([*long_in(f"```\n{words}\n```\n\n# {words}")], [])
+
+    def test_each_cell_of_a_table_stands_alone(self) -> None:
+        words = "it " * 20
+        self.assertEqual([*long_in(f"| {words}| {words}|\n| {words}| `|` |")], [])
+        self.assertEqual(len([*long_in(f"| a | {words * 2}|")]), 1)

@@ -8,6 +8,7 @@ from pathlib import Path
 
 import contracts
 import definitions
+import hook_lines
 import layers
 import limits
 import targets
@@ -23,6 +24,7 @@ PARTS: tuple[tuple[str, str, Callable[[], str]], ...] = (
     ("docs/CONTRACTS.md", "contracts", contracts.made),
     ("docs/ARCHITECTURE.md", "crates", layers.crate_table),
     ("docs/CONTRIBUTING.md", "targets", targets.made),
+    ("docs/HOOKS.md", "hooks", hook_lines.made),
 )
 
 

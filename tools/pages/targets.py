@@ -1,4 +1,4 @@
-"""The table of make's targets: the list at the top of the Makefile."""
+"""The table of make's targets, from the lines with two signs above each in the Makefile."""
 
 from __future__ import annotations
 
@@ -10,11 +10,13 @@ from tables import cell, table
 
 
 def listed() -> Iterator[tuple[str, str]]:
-    """Each command of the list with what it does, which may go on in further lines."""
+    """Each target, with the variable that it takes, and what it does."""
     text = (ROOT / "Makefile").read_text()
-    rows = r"(?m)^#   (make(?: \S+)*)((?:  .*)?(?:\n# {20,}\S.*)*)"
-    for command, says in re.findall(rows, text):
-        yield command, says.replace("\n#", " ")
+    for says, name in re.findall(r"(?m)^((?:## .*\n)+)(?:# .*\n)*([a-z-]+):", text):
+        words = " ".join(it.removeprefix("## ") for it in says.splitlines())
+        taken = re.match(r"\w+=\S+ ", words)
+        variable = taken.group() if taken else ""
+        yield f"make {name} {variable}".strip(), words.removeprefix(variable)
 
 
 def made() -> str:

@@ -68,8 +68,9 @@ def on_config(config: Any) -> Any:
 
 
 def on_files(files: Files, config: Any) -> Files:
-    """The pages of the navigation and what they link to, beside the theme's own files."""
-    found = dict.fromkeys(pages_of(config["nav"]))
+    """The pages of the navigation, what they link to, our style and script, beside the theme's own files."""
+    own = [*config["extra_css"], *config["extra_javascript"]]
+    found = dict.fromkeys([*pages_of(config["nav"]), *own])
     waiting = list(found)
     while waiting:
         page = waiting.pop()

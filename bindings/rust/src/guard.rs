@@ -1,9 +1,11 @@
 //! The guard.
 
 use crate::error::{accepted, done};
+use crate::set::MOST_PROCESSES;
 use crate::sight::somebody;
-use crate::sys::{self, FyGuard, FySeen};
-use crate::{ConfigFault, Error, Key, Kind, ProcessSet, Refusal, Sight, State, Verdict};
+use crate::sys::{self, FyBorne, FyGuard, FySeen};
+use crate::verdict::struck_by;
+use crate::{Borne, ConfigFault, Error, Key, Kind, ProcessSet, Refusal, Sight, State, Verdict};
 use std::ops::Range;
 use std::{fmt, io, ptr};
 
@@ -265,6 +267,26 @@ impl Guard {
         Verdict::of(struck, rule, named)
     }
 
+    /// Of each process, by its number, the kind by which a kill of it alone would strike now,
+    /// ordered by this actor by [`Kind::KillInstantly`] with the floor [`Kind::RebootProcess`];
+    /// `None` where nothing would strike. Once one is killed, fewer may be. It enters nothing.
+    ///
+    /// # Errors
+    ///
+    /// [`Refusal::Stranger`] where there is no such actor.
+    pub fn killable(&self, actor: u32) -> Result<Vec<Option<Kind>>, Error> {
+        let mut kinds = [0; MOST_PROCESSES as usize];
+        let mut told = 0;
+        // SAFETY: as in `process`. The room has this length, and the count goes to a variable of
+        // its own.
+        let status = unsafe {
+            sys::fy_killable(&self.raw, actor, kinds.as_mut_ptr(), kinds.len(), &mut told)
+        };
+        accepted(status, Refusal::Stranger.into())?;
+        let front = kinds.get(..told).ok_or(Error::Protocol("a number"))?;
+        front.iter().map(|it| struck_by(u32::from(*it))).collect()
+    }
+
     /// Reports that a process runs again, by an actor whose role is storage.
     ///
     /// # Errors
@@ -435,6 +457,24 @@ impl Guard {
         // SAFETY: as in `process`. The answer goes to a variable of its own.
         unsafe { sys::fy_sight(&self.raw, &mut seen) };
         Sight::of(&seen)
+    }
+
+    /// How much of the cluster may still be lost, as the journal left it: the numbers that
+    /// `faultyard bears` tells first.
+    ///
+    /// # Errors
+    ///
+    /// [`Error::NoMemory`].
+    pub fn bears(&self) -> Result<Borne, Error> {
+        let mut told = FyBorne {
+            emptied: 0,
+            gone: 0,
+            emptied_exact: 0,
+            gone_exact: 0,
+        };
+        // SAFETY: as in `process`. The answer goes to a variable of its own.
+        done(unsafe { sys::fy_bears(&self.raw, &mut told) })?;
+        Ok(Borne::of(&told))
     }
 
     /// How many entries the journal has.

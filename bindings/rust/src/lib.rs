@@ -92,6 +92,7 @@
 #![deny(clippy::undocumented_unsafe_blocks)]
 
 mod acts;
+mod borne;
 mod check;
 mod error;
 mod guard;
@@ -105,6 +106,7 @@ mod version;
 mod words;
 
 pub use acts::{Begun, Delivered, Kinds, Scope, Synced};
+pub use borne::Borne;
 pub use check::{Check, Finding};
 pub use error::{ConfigFault, Error};
 pub use guard::{Guard, AUDIT_HEADER};

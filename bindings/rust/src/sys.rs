@@ -21,6 +21,15 @@ pub struct FySeen {
     pub sleeping: u32,
 }
 
+/// `fy_borne`.
+#[repr(C)]
+pub struct FyBorne {
+    pub emptied: u32,
+    pub gone: u32,
+    pub emptied_exact: u32,
+    pub gone_exact: u32,
+}
+
 /// `fy_reply`.
 #[repr(C)]
 #[derive(Default)]
@@ -177,6 +186,13 @@ extern "C" {
         rule: *mut u32,
         named: *mut u64,
     ) -> u32;
+    pub fn fy_killable(
+        guard: *const FyGuard,
+        actor: u32,
+        kinds: *mut u8,
+        room: usize,
+        told: *mut usize,
+    ) -> u32;
     pub fn fy_up(guard: *mut FyGuard, actor: u32, process: u32, refusal: *mut u32) -> u32;
     pub fn fy_heal(guard: *mut FyGuard, actor: u32, process: u32, refusal: *mut u32) -> u32;
     pub fn fy_clog(
@@ -298,6 +314,7 @@ extern "C" {
     pub fn fy_is_acked(guard: *const FyGuard, record: u32) -> u32;
     pub fn fy_keeper(guard: *const FyGuard, record: u32) -> u32;
     pub fn fy_sight(guard: *const FyGuard, seen: *mut FySeen);
+    pub fn fy_bears(guard: *const FyGuard, borne: *mut FyBorne) -> u32;
     pub fn fy_journal_len(guard: *const FyGuard) -> usize;
     pub fn fy_audit(
         guard: *const FyGuard,

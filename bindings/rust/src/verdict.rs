@@ -24,12 +24,19 @@ pub struct Verdict {
 impl Verdict {
     /// The verdict that `fy_kill` tells by these three numbers.
     pub(crate) fn of(struck: u32, rule: u32, named: u64) -> Result<Verdict, Error> {
-        let struck = match struck {
-            0 => None,
-            number => Some(by_number(Kind::ALL, number).ok_or(Error::Protocol("a kind"))?),
-        };
+        let struck = struck_by(struck)?;
         let rule = Rule::of(rule, named)?;
         Ok(Verdict { struck, rule })
+    }
+}
+
+/// The kind with this number; none with 0.
+pub(crate) fn struck_by(number: u32) -> Result<Option<Kind>, Error> {
+    match number {
+        0 => Ok(None),
+        number => by_number(Kind::ALL, number)
+            .map(Some)
+            .ok_or(Error::Protocol("a kind")),
     }
 }
 

@@ -1,8 +1,8 @@
 //! Each call, and each error that a test can meet.
 
 use faultyard::{
-    ConfigFault, Error, Guard, Key, Kind, Part, ProcessSet, Refusal, Rule, Sight, State, Verdict,
-    Version, AUDIT_HEADER,
+    Borne, ConfigFault, Error, Guard, Key, Kind, Kinds, Part, ProcessSet, Refusal, Rule, Sight,
+    State, Verdict, Version, AUDIT_HEADER,
 };
 
 const CONFIG: &str = include_str!("cluster.toml");
@@ -288,6 +288,51 @@ fn by_number_as_by_name() {
     let stranger = numbered.judge_process(9, 0, kind, kind);
     assert_eq!(stranger, refused(Refusal::Stranger));
     assert_eq!(numbered.journal_len(), entries);
+}
+
+/// Each process has the kind of its own judgement.
+#[test]
+fn which_may_be_killed() {
+    let mut guard = opened();
+    let (hard, mild) = (Some(Kind::KillInstantly), Some(Kind::Reboot));
+    let kinds = Kinds::KILL_INSTANTLY | Kinds::REBOOT;
+    guard.protect(3, 5, kinds).unwrap();
+    let emptied = Some(Kind::RebootAndDelete);
+    let wanted = vec![hard, hard, hard, hard, hard, emptied];
+    assert_eq!(guard.killable(1), Ok(wanted));
+    assert_eq!(guard.killable(0), Ok(vec![None; 6]));
+    let (kind, floor) = (Kind::KillInstantly, Kind::RebootProcess);
+    let killed = guard.kill_process(1, 0, kind, floor, 0).unwrap();
+    assert_eq!(killed.struck, hard);
+    let restarted = Some(Kind::RebootProcess);
+    let wanted = vec![None, hard, mild, mild, mild, restarted];
+    assert_eq!(guard.killable(1), Ok(wanted));
+    let found = guard.killable(2).unwrap();
+    for (process, struck) in (0..).zip(found) {
+        let judged = guard.judge_process(2, process, kind, floor).unwrap();
+        assert_eq!(judged.struck, struck);
+    }
+    assert_eq!(guard.killable(9), Err(Error::Refused(Refusal::Stranger)));
+    assert_eq!(guard.journal_len(), 2);
+}
+
+/// Any one of six may go, and none once a zone has gone.
+#[test]
+fn how_much_may_be_lost() {
+    let mut guard = opened();
+    let exactly = |emptied, gone| {
+        Ok(Borne {
+            emptied,
+            gone,
+            emptied_exact: true,
+            gone_exact: true,
+        })
+    };
+    assert_eq!(guard.bears(), exactly(1, 1));
+    let lost = strictly(&mut guard, Key::Zone, "z1", Kind::KillInstantly);
+    assert_eq!(lost.struck, Some(Kind::KillInstantly));
+    assert_eq!(guard.bears(), exactly(0, 0));
+    assert_eq!(guard.journal_len(), 1);
 }
 
 #[test]

@@ -1,7 +1,7 @@
 -- The words of the program that have no fault name one of its subcommands, with the cluster file
 -- where the subcommand takes one; and the matches of a parse hold both.
 use Rattle.std.proofs.Common.{rules, arith, ◌≡◌, ◌∙◌, ◌⊎◌, ◌&&◌, not, inl, inr, ℕ, Bool, true, false, List, [], ◌∷◌, length, Option, None, Some, codes, refl, sym, ap, subst, is_some, option_map}
-use Rattle.std.specs.Prelude.{IsSomeAnd, Result, Ok, Err}
+use Rattle.std.specs.Prelude.{IsSomeAnd, Result, Ok, Err, unwrap_or}
 use Rattle.std.specs.Str.Parse.{ParsesUnsigned}
 use Rattle.std.specs.Box.{box_value}
 use Rattle.clap.specs.Words.{App, Row, Shape, Text, app_of, built, fault_of, first_of, found_of, is_simple, is_simple_and_free, matches_of, one_of, rows_of, subcommand_name_of, subcommand_of, subcommand_rows, subcommand_rows_of}
@@ -19,7 +19,7 @@ use Rattle.clap.proofs.ValueTestLemmas.{accepts-Accepts}
 use Rattle.clap.specs.Kinds.{HasKind}
 use Rattle.clap.specs.declared.error.Error.{Error}
 use Rattle.faultyard.specs.declared.task.Task.{Task}
-use Rattle.faultyard.specs.Commands.{faultyard_command, IsSeed, IsTaskOf, StandsFor, largest_seed, seed_in}
+use Rattle.faultyard.specs.Commands.{faultyard_command, IsActsOf, IsSeed, IsTaskOf, StandsFor, largest_seed, seed_in, usual_acts}
 use Rattle.faultyard.proofs.RowLemmas.{AreFilling, HasValue, Requires, required_value}
 use Rattle.faultyard.proofs.EnterLemmas.{IsIn, words_enter}
 
@@ -48,7 +48,12 @@ plain_is_local c plain = by (is_empty (out-Command c).groups.items) (out-Command
 -- the subcommand takes a cluster file
 abbrev TakesConfig : Text → Type 0
 TakesConfig name =
-    (name ≡ codes "run") ⊎ ((name ≡ codes "check") ⊎ ((name ≡ codes "swarm") ⊎ ((name ≡ codes "guard") ⊎ ((name ≡ codes "show") ⊎ (name ≡ codes "bears")))))
+    (name ≡ codes "run")
+    ⊎ ((name ≡ codes "check") ⊎ ((name ≡ codes "swarm") ⊎ ((name ≡ codes "simulate") ⊎ ((name ≡ codes "guard") ⊎ ((name ≡ codes "show") ⊎ (name ≡ codes "bears"))))))
+
+-- the subcommand takes a seed
+abbrev pub TakesSeed : Text → Type 0
+TakesSeed name = (name ≡ codes "swarm") ⊎ (name ≡ codes "simulate")
 
 abbrev HasConfig : List Row → Type 0
 HasConfig rows = is_some (first_of (codes "CONFIG") rows) ≡ true
@@ -61,7 +66,7 @@ HasSeed rows = IsSomeAnd (one_of (codes "seed") rows) IsSeed
 abbrev pub IsTask : Text × List Row → Type 0
 IsTask met =
     (met.0 ≡ codes "judge")
-    ⊎ (TakesConfig met.0 × HasConfig met.1 × (met.0 ≡ codes "swarm" → HasSeed met.1))
+    ⊎ (TakesConfig met.0 × HasConfig met.1 × (TakesSeed met.0 → HasSeed met.1))
 
 some_is_some : {A : Type 0} (o : Option A) (x : A) → o ≡ Some x → is_some o ≡ true
 some_is_some o x is = ap is_some is
@@ -87,13 +92,18 @@ abbrev first_letter : Text → ℕ
 first_letter [] = 0
 first_letter (x ∷ xs) = x
 
-no_swarm : (name other : Text) → name ≡ other → (first_letter other ≡ 115 → ⊥) → name ≡ codes "swarm" → ⊥
-no_swarm name other is differs swarm = differs (ap first_letter (sym is) ∙ ap first_letter swarm)
+no_seed : (name other : Text) → name ≡ other → (first_letter other ≡ 115 → ⊥) → TakesSeed name → ⊥
+no_seed name other is differs (inl swarm) = differs (ap first_letter (sym is) ∙ ap first_letter swarm)
+no_seed name other is differs (inr simulate) = differs (ap first_letter (sym is) ∙ ap first_letter simulate)
 
-no_show : (name : Text) → name ≡ codes "show" → name ≡ codes "swarm" → ⊥
-no_show name show swarm = by (ap length (sym show ∙ swarm))
+no_show : (name : Text) → name ≡ codes "show" → TakesSeed name → ⊥
+no_show name show (inl swarm) = by (ap length (sym show ∙ swarm))
   where
     by : length (codes "show") ≡ length (codes "swarm") → ⊥
+    by e = omega arith
+no_show name show (inr simulate) = by (ap length (sym show ∙ simulate))
+  where
+    by : length (codes "show") ≡ length (codes "simulate") → ⊥
     by e = omega arith
 
 known_task : (s : Shape) (words : List Text) → IsIn s (built faultyard_command).subs → (s.name ≡ codes "help" → s.aliases ≡ [] → ⊥) → level_fault s [] nothing_held words false [] ≡ []
@@ -104,35 +114,40 @@ known_task s words known other none =
       | inr (inl run) ↦ inr (
         inl (ap (λ t. t.name) run),
         config_given s _ words run ((refl, refl, refl), ((refl, refl, refl), tt)) (inl (refl, refl)) refl none,
-        λ swarm. absurd (no_swarm s.name (codes "run") (ap (λ t. t.name) run) (λ e. omega arith) swarm),
+        λ seed. absurd (no_seed s.name (codes "run") (ap (λ t. t.name) run) (λ e. omega arith) seed),
       )
       | inr (inr (inl check)) ↦ inr (
         inr (inl (ap (λ t. t.name) check)),
         config_given s _ words check ((refl, refl, refl), ((refl, refl, refl), tt)) (inl (refl, refl)) refl none,
-        λ swarm. absurd (no_swarm s.name (codes "check") (ap (λ t. t.name) check) (λ e. omega arith) swarm),
+        λ seed. absurd (no_seed s.name (codes "check") (ap (λ t. t.name) check) (λ e. omega arith) seed),
       )
       | inr (inr (inr (inl swarm))) ↦ inr (
         inr (inr (inl (ap (λ t. t.name) swarm))),
         config_given s _ words swarm ((refl, refl, refl), ((refl, refl, refl), ((refl, refl, refl), tt))) (inl (refl, refl)) refl none,
         λ is. seed_given s _ words swarm ((refl, refl, refl), ((refl, refl, refl), ((refl, refl, refl), tt))) (inr (inl (refl, refl))) refl none,
       )
-      | inr (inr (inr (inr (inl guard)))) ↦ inr (
-        inr (inr (inr (inl (ap (λ t. t.name) guard)))),
+      | inr (inr (inr (inr (inl simulate)))) ↦ inr (
+        inr (inr (inr (inl (ap (λ t. t.name) simulate)))),
+        config_given s _ words simulate ((refl, refl, refl), ((refl, refl, refl), ((refl, refl, refl), ((refl, refl, refl), ((refl, refl, refl), tt))))) (inl (refl, refl)) refl none,
+        λ is. seed_given s _ words simulate ((refl, refl, refl), ((refl, refl, refl), ((refl, refl, refl), ((refl, refl, refl), ((refl, refl, refl), tt))))) (inr (inl (refl, refl))) refl none,
+      )
+      | inr (inr (inr (inr (inr (inl guard))))) ↦ inr (
+        inr (inr (inr (inr (inl (ap (λ t. t.name) guard))))),
         config_given s _ words guard ((refl, refl, refl), ((refl, refl, refl), ((refl, refl, refl), tt))) (inl (refl, refl)) refl none,
-        λ swarm. absurd (no_swarm s.name (codes "guard") (ap (λ t. t.name) guard) (λ e. omega arith) swarm),
+        λ seed. absurd (no_seed s.name (codes "guard") (ap (λ t. t.name) guard) (λ e. omega arith) seed),
       )
-      | inr (inr (inr (inr (inr (inl show))))) ↦ inr (
-        inr (inr (inr (inr (inl (ap (λ t. t.name) show))))),
+      | inr (inr (inr (inr (inr (inr (inl show)))))) ↦ inr (
+        inr (inr (inr (inr (inr (inl (ap (λ t. t.name) show)))))),
         config_given s _ words show ((refl, refl, refl), ((refl, refl, refl), ((refl, refl, refl), tt))) (inl (refl, refl)) refl none,
-        λ swarm. absurd (no_show s.name (ap (λ t. t.name) show) swarm),
+        λ seed. absurd (no_show s.name (ap (λ t. t.name) show) seed),
       )
-      | inr (inr (inr (inr (inr (inr (inl bears)))))) ↦ inr (
-        inr (inr (inr (inr (inr (ap (λ t. t.name) bears))))),
+      | inr (inr (inr (inr (inr (inr (inr (inl bears))))))) ↦ inr (
+        inr (inr (inr (inr (inr (inr (ap (λ t. t.name) bears)))))),
         config_given s _ words bears ((refl, refl, refl), ((refl, refl, refl), ((refl, refl, refl), ((refl, refl, refl), tt)))) (inl (refl, refl)) refl none,
-        λ swarm. absurd (no_swarm s.name (codes "bears") (ap (λ t. t.name) bears) (λ e. omega arith) swarm),
+        λ seed. absurd (no_seed s.name (codes "bears") (ap (λ t. t.name) bears) (λ e. omega arith) seed),
       )
-      | inr (inr (inr (inr (inr (inr (inr (inl help))))))) ↦ absurd (other (ap (λ t. t.name) help) (ap (λ t. t.aliases) help))
-      | inr (inr (inr (inr (inr (inr (inr (inr none))))))) ↦ absurd none
+      | inr (inr (inr (inr (inr (inr (inr (inr (inl help)))))))) ↦ absurd (other (ap (λ t. t.name) help) (ap (λ t. t.aliases) help))
+      | inr (inr (inr (inr (inr (inr (inr (inr (inr none)))))))) ↦ absurd none
     ]
 
 meets_task : (words : List Text) → fault_of faultyard_command words ≡ [] → IsSomeAnd (subcommand_of faultyard_command words) IsTask
@@ -183,9 +198,9 @@ fails_by command words error is has = subst (λ a. HasKind (fault_of a words) er
 pub has_config : (name : Text) (given : ArgMatches) → (name ≡ codes "judge" → ⊥) → IsTask (name, rows_of (found_of given)) → is_some (first_of (codes "CONFIG") (rows_of (found_of given))) ≡ true
 has_config name given other task = elim task [ inl judge ↦ absurd (other judge) | inr has ↦ has.1 ]
 
--- and `swarm` has its seed
-pub has_seed : (name : Text) (given : ArgMatches) → name ≡ codes "swarm" → IsTask (name, rows_of (found_of given)) → IsSomeAnd (one_of (codes "seed") (rows_of (found_of given))) IsSeed
-has_seed name given is task = elim task [ inl judge ↦ absurd (no_swarm name (codes "judge") judge (λ e. omega arith) is) | inr has ↦ has.2 is ]
+-- and one that takes a seed has it
+pub has_seed : (name : Text) (given : ArgMatches) → TakesSeed name → IsTask (name, rows_of (found_of given)) → IsSomeAnd (one_of (codes "seed") (rows_of (found_of given))) IsSeed
+has_seed name given is task = elim task [ inl judge ↦ absurd (no_seed name (codes "judge") judge (λ e. omega arith) is) | inr has ↦ has.2 is ]
 
 -- what `u64` makes of a text that is a seed, by how its reader reads
 pub seed_read : {E : Type 0} (gives : List ℕ → Result ℕ E → Type 0) (o : Option Text) (r : Option ℕ) → IsSomeAnd o IsSeed → ((t : Text) → o ≡ Some t → ReadsOne gives t r)
@@ -195,3 +210,12 @@ seed_read gives (Some t) None is reads parses =
     let refused = reads t refl in
     absurd (parses t (Err refused.0) refused.1 (is.0, is.1))
 seed_read gives (Some t) (Some seed) is reads parses = (seed, refl, ap Some (sym (parses t (Ok seed) (reads t refl)).1))
+
+-- what `u64` makes of a text, if one is there, or else the usual number
+pub acts_read : {E : Type 0} (gives : List ℕ → Result ℕ E → Type 0) (o : Option Text) (r : Option ℕ) → (o ≡ None → r ≡ None) → ((t : Text) → o ≡ Some t → ReadsOne gives t r)
+    → ((t : Text) (x : Result ℕ E) → gives t x → ParsesUnsigned 64 10 t x) → IsActsOf o (unwrap_or r usual_acts)
+acts_read gives None r none reads parses = ap (λ x. unwrap_or x usual_acts) (none refl)
+acts_read gives (Some t) None none reads parses = λ is.
+    let refused = reads t refl in
+    absurd (parses t (Err refused.0) refused.1 (is.0, is.1))
+acts_read gives (Some t) (Some acts) none reads parses = λ is. (parses t (Ok acts) (reads t refl)).1

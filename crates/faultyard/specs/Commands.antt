@@ -1,12 +1,14 @@
 -- The program's command line: one level of subcommands, of which one is wanted.
-use Rattle.std.specs.Prelude.{◌≡◌, ◌↔◌, ℕ, true, List, Option, Some, IsSomeAnd, codes, option_map}
+use Rattle.std.specs.Prelude.{◌≡◌, ◌≢◌, ◌↔◌, ◌⊎◌, ℕ, true, List, Option, Some, None, IsSomeAnd, codes, option_map}
 use Rattle.std.specs.Str.Parse.{digits_value, without_leading_plus}
 use Rattle.clap.specs.Words.{App, IsUnsignedIn, Row, Rule, Text, first_of, one_of, new_app}
 use Rattle.clap.specs.Words.{new_rule, with_rule, with_subcommand}
 use Rattle.clap.specs.declared.builder.action.ArgAction.TheVariants.{Set, SetTrue}
 use Rattle.clap.specs.declared.builder.value_parser.ValueParser.TheVariants.{Unsigned}
 use Rattle.faultyard.specs.declared.task.Task.{Task}
-use Rattle.faultyard.specs.declared.task.Task.TheVariants.{Judge, Run, Check, Swarm, Guard, Show, Bears}
+use Rattle.faultyard.specs.declared.task.Task.TheVariants.{Judge, Run, Check, Swarm, Simulate, Guard, Show, Bears}
+use Rattle.fy_players.specs.declared.faults.Plan.{Plan}
+use Rattle.fy_players.specs.declared.faults.Plan.TheVariants.{Mixed, Attrition, Swizzle, Rolling}
 use Rattle.fy_bears.specs.declared.reports.Form.{Form}
 use Rattle.fy_bears.specs.declared.reports.Form.TheVariants.{Json}
 
@@ -49,6 +51,34 @@ check_command = with_rule (new_app (codes "check")) config_rule
 -- the subcommand `swarm`, which takes a cluster file and a seed
 abbrev pub swarm_command : App
 swarm_command = with_rule (with_rule (new_app (codes "swarm")) config_rule) seed_rule
+
+-- how many acts a simulation makes where the words don't say
+abbrev pub usual_acts : ℕ
+usual_acts = 10000
+
+-- the option `--acts`, which has a whole number of 64 bits
+abbrev pub acts_rule : Rule
+acts_rule = record (new_rule (codes "acts")) {
+  long = Some (codes "acts");
+  action = Some Set;
+  value_names = 1;
+  parser = Some (Unsigned 0 largest_seed);
+}
+
+-- the option `--plan`, which has a plan's name
+abbrev pub plan_rule : Rule
+plan_rule = record (new_rule (codes "plan")) {
+  long = Some (codes "plan");
+  action = Some Set;
+  value_names = 1;
+}
+
+-- the subcommand `simulate`, which takes a cluster file and a seed, and may take the other two
+abbrev pub simulate_command : App
+simulate_command =
+    with_rule
+    (with_rule (with_rule (with_rule (new_app (codes "simulate")) config_rule) seed_rule) acts_rule)
+    plan_rule
 
 -- the option `--times`, which has the file of events
 abbrev pub times_rule : Rule
@@ -94,9 +124,11 @@ faultyard_command =
     (with_subcommand
     (with_subcommand
     (with_subcommand
+    (with_subcommand
     (with_subcommand (with_subcommand bare_command judge_command.top) run_command.top)
     check_command.top)
     swarm_command.top)
+    simulate_command.top)
     guard_command.top)
     show_command.top)
     bears_command.top
@@ -113,6 +145,21 @@ seed_in text = digits_value 10 (without_leading_plus text)
 abbrev pub IsFormOf : Option Text → Form → Type 0
 IsFormOf flag form = (flag ≡ Some (codes "true")) ↔ (form ≡ Json)
 
+-- the number of acts that a text says, or the usual one
+abbrev pub IsActsOf : Option Text → ℕ → Type 0
+IsActsOf None acts = acts ≡ usual_acts
+IsActsOf (Some text) acts = IsSeed text → acts ≡ seed_in text
+
+-- the plan of a name, and the mixed one where no name is given; no other name has a plan
+abbrev pub IsPlanOf : Option Text → Option Plan → Type 0
+IsPlanOf name (Some Mixed) = (name ≡ None) ⊎ (name ≡ Some (codes "mixed"))
+IsPlanOf name (Some Attrition) = name ≡ Some (codes "attrition")
+IsPlanOf name (Some Swizzle) = name ≡ Some (codes "swizzle")
+IsPlanOf name (Some Rolling) = name ≡ Some (codes "rolling")
+IsPlanOf name None =
+    (name ≢ None) × (name ≢ Some (codes "mixed")) × (name ≢ Some (codes "attrition"))
+    × (name ≢ Some (codes "swizzle")) × (name ≢ Some (codes "rolling"))
+
 -- a subcommand's name and its rows, as the matches hold them, stand for the task
 abbrev pub StandsFor : Text × List Row → Task → Type 0
 StandsFor met Judge = met.0 ≡ codes "judge"
@@ -123,6 +170,11 @@ StandsFor met (Check config) =
 StandsFor met (Swarm config seed) =
     (met.0 ≡ codes "swarm") × (first_of (codes "CONFIG") met.1 ≡ Some config.now)
     × (option_map seed_in (one_of (codes "seed") met.1) ≡ Some seed)
+StandsFor met (Simulate config seed acts plan) =
+    (met.0 ≡ codes "simulate") × (first_of (codes "CONFIG") met.1 ≡ Some config.now)
+    × (option_map seed_in (one_of (codes "seed") met.1) ≡ Some seed)
+    × IsActsOf (one_of (codes "acts") met.1) acts
+    × IsPlanOf (first_of (codes "plan") met.1) plan
 StandsFor met (Guard config after) =
     (met.0 ≡ codes "guard") × (first_of (codes "CONFIG") met.1 ≡ Some config.now)
     × (option_map (λ audit. audit.now) after ≡ first_of (codes "after") met.1)

@@ -1,10 +1,11 @@
 //! The program `faultyard`: its command line, its files and streams, its exit statuses.
 #![tactic(auto)]
 
-ghost use Rattle.std.specs.Prelude.{◌≡◌, ◌⊎◌, IfErr};
+ghost use Rattle.std.specs.Prelude.{◌≡◌, ◌≢◌, ◌⊎◌, IfErr};
 ghost use Rattle.std.specs.Process.{exit_status};
 ghost use Rattle.fy_engine.specs.Stops.{stop_status, IsConfigStop};
-ghost use Rattle.faultyard.specs.Statuses.{done_status};
+ghost use Rattle.clap.specs.Values.{kind_of};
+ghost use Rattle.faultyard.specs.Statuses.{done_status, IsAnsweredStatus, IsUnreadStatus};
 
 mod task;
 
@@ -15,8 +16,10 @@ use fy_cluster::Config;
 use fy_engine::{Stop, load_config, write_stop};
 use fy_guard_after::run_guard_after;
 use fy_judge::run_judge;
+use fy_players::Plan;
 use fy_run::{run_guard, run_script};
 use fy_show::{run_show, run_show_by_time};
+use fy_simulate::run_simulate;
 use fy_swarm::run_swarm;
 use std::fs::File;
 use std::io::{BufReader, ErrorKind};
@@ -30,6 +33,12 @@ const USAGE: u8 = 2;
 /// The status of `check`, `show`, `bears` and `guard` where an entry isn't what the rules give.
 const REFUTED: u8 = 5;
 
+/// What is said of a plan that there isn't.
+const NO_PLAN: &str = "error: invalid value for '--plan <PLAN>'
+  [possible values: mixed, attrition, swizzle, rolling]
+
+For more information, try '--help'.";
+
 fn main(rt: HostRuntime) -> ExitCode {
     let words = match arguments(&rt) {
         Ok(words) => words,
@@ -39,6 +48,10 @@ fn main(rt: HostRuntime) -> ExitCode {
         Ok(Task::Judge) => judge_input(&rt),
         Ok(Task::Run(path)) => run_file(&rt, path),
         Ok(Task::Check(path)) => check_file(&rt, path),
+        Ok(Task::Simulate(path, seed, acts, Some(plan))) => {
+            simulate_file(&rt, path, seed, acts, plan)
+        }
+        Ok(Task::Simulate(_, _, _, None)) => return unplanned(&rt),
         Ok(Task::Guard(path, after)) => guard_file(&rt, path, after),
         Ok(Task::Show(path, times)) => show_file(&rt, path, times),
         Ok(Task::Bears(path, form, after)) => bears_file(&rt, path, form, after),
@@ -79,6 +92,20 @@ fn run_file(rt: &HostRuntime, path: &str) -> Result<bool, Stop> {
     }
 }
 
+/// Lets the actors of the cluster of a file take turns, as a seed says.
+fn simulate_file(
+    rt: &HostRuntime,
+    path: &str,
+    seed: u64,
+    acts: u64,
+    plan: Plan,
+) -> Result<bool, Stop> {
+    match open_config(rt, path) {
+        Ok(config) => run_simulate(rt.alloc(), &config, seed, plan, acts, &mut rt.stdout()),
+        Err(stop) => Err(stop),
+    }
+}
+
 /// Checks the audit on standard input against the cluster of a file.
 fn check_file(rt: &HostRuntime, path: &str) -> Result<bool, Stop> {
     match open_config(rt, path) {
@@ -111,10 +138,10 @@ fn bears_file(rt: &HostRuntime, path: &str, form: Form, after: Option<&str>) -> 
         Err(stop) => return Err(stop),
     };
     let Some(after) = after else {
-        return run_bears(rt.alloc(), &config, form, &mut rt.stdout());
+        return run_bears(rt.alloc(), &config, &form, &mut rt.stdout());
     };
     match open_file(rt, after) {
-        Ok(mut audit) => run_bears_after(rt.alloc(), &config, form, &mut audit, &mut rt.stdout()),
+        Ok(mut audit) => run_bears_after(rt.alloc(), &config, &form, &mut audit, &mut rt.stdout()),
         Err(stop) => Err(stop),
     }
 }
@@ -158,8 +185,19 @@ fn open_file(rt: &HostRuntime, path: &str) -> Result<File, Stop>
 {
     match fs::open(rt, path) {
         Ok(file) => Ok(file),
-        Err(error) if error.kind() == ErrorKind::OutOfMemory => Err(Stop::NoMemory),
-        Err(_) => Err(Stop::Read),
+        Err(error) => Err(unopened(error.kind())),
+    }
+}
+
+/// The stop for a file that can't be opened, by the kind of the error.
+fn unopened(kind: ErrorKind) -> Stop
+    ensures memory { kind ≡ ErrorKind.OutOfMemory → result ≡ Stop.NoMemory }
+    ensures other { kind ≢ ErrorKind.OutOfMemory → result ≡ Stop.Read }
+    ensures either { (result ≡ Stop.Read) ⊎ (result ≡ Stop.NoMemory) }
+{
+    match kind {
+        ErrorKind::OutOfMemory => Stop::NoMemory,
+        _ => Stop::Read,
     }
 }
 
@@ -174,7 +212,9 @@ fn open_config(rt: &HostRuntime, path: &str) -> Result<Config, Stop>
 }
 
 /// The words of the command line, the program's name first, or the status to end with.
-fn arguments(rt: &HostRuntime) -> Result<Vec<String>, ExitCode> {
+fn arguments(rt: &HostRuntime) -> Result<Vec<String>, ExitCode>
+    ensures { IfErr result (λ code. IsUnreadStatus (exit_status code)) }
+{
     match env::args(rt) {
         Ok(words) => words
             .collect(rt.alloc())
@@ -188,15 +228,31 @@ fn arguments(rt: &HostRuntime) -> Result<Vec<String>, ExitCode> {
     }
 }
 
+/// Says that there is no plan of the name that was given. `clap` would, but its list of names has no
+/// value that a contract can name.
+fn unplanned(rt: &HostRuntime) -> ExitCode
+    ensures { exit_status result ≡ 2 }
+{
+    let _ = rt.eprintln(NO_PLAN);
+    ExitCode::from(USAGE)
+}
+
 /// Prints what the command line answers in place of a task: help, or what is wrong with the words.
-fn answered(rt: &HostRuntime, error: &clap::Error) -> ExitCode {
-    if error.kind() == clap::error::ErrorKind::OutOfMemory {
-        return stopped(rt, Stop::NoMemory);
-    }
-    match error.print(rt) {
-        Err(_) if !error.use_stderr() => stopped(rt, Stop::Write),
-        _ if error.use_stderr() => ExitCode::from(USAGE),
-        _ => ExitCode::SUCCESS,
+fn answered(rt: &HostRuntime, error: &clap::Error) -> ExitCode
+    ensures { IsAnsweredStatus (kind_of error.now) (exit_status result) }
+{
+    match error.kind() {
+        clap::error::ErrorKind::OutOfMemory => stopped(rt, Stop::NoMemory),
+        clap::error::ErrorKind::DisplayHelp | clap::error::ErrorKind::DisplayVersion => {
+            match error.print(rt) {
+                Ok(()) => ExitCode::SUCCESS,
+                Err(_) => stopped(rt, Stop::Write),
+            }
+        }
+        _ => {
+            let _ = error.print(rt);
+            ExitCode::from(USAGE)
+        }
     }
 }
 

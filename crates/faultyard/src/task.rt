@@ -3,15 +3,17 @@
 ghost use Rattle.std.specs.Prelude.{◌≡◌, IfOk, IsSomeAnd, Some, codes, is_some, map};
 ghost use Rattle.std.specs.Prelude.{option_map, string_bytes, true, false};
 ghost use Rattle.clap.specs.Words.{FailsBy, app_of, fault_of, first_of, found_of, rows_of};
-ghost use Rattle.clap.specs.Words.{one_of, subcommand_of};
+ghost use Rattle.clap.specs.Words.{new_app, one_of, subcommand_of, with_rule};
 ghost use Rattle.clap.specs.Walk.{rule_of};
 ghost use Rattle.faultyard.specs.Commands.{IsTaskOf, faultyard_command, bare_command, judge_command};
 ghost use Rattle.faultyard.specs.Commands.{config_rule, run_command, check_command};
 ghost use Rattle.faultyard.specs.Commands.{seed_rule, swarm_command, guard_command, show_command, IsSeed, seed_in};
+ghost use Rattle.faultyard.specs.Commands.{acts_rule, plan_rule, simulate_command, IsActsOf, IsPlanOf};
 ghost use Rattle.faultyard.specs.Commands.{times_rule, json_rule, after_rule, bears_command, IsFormOf};
 
 use clap::{Arg, ArgAction, ArgMatches, Command, value_parser};
 use fy_bears::Form;
+use fy_players::Plan;
 use std::alloc::{AllocError, Global};
 
 /// Examples, and behind them the exit statuses, which each help ends with.
@@ -39,6 +41,7 @@ const EXAMPLES: &str = with_statuses!(
   faultyard run examples/c6.toml < examples/two-zones.jsonl
   faultyard check examples/c6.toml < examples/two-zones.audit
   faultyard swarm examples/c6.toml --seed 7
+  faultyard simulate examples/c6.toml --seed 7
   faultyard guard examples/c6.toml < examples/two-zones.jsonl
   faultyard show examples/c6.toml < examples/bad-day.audit > bad-day.svg
   faultyard bears examples/c6.toml"
@@ -56,6 +59,10 @@ pub enum Task<'a> {
     /// `faultyard swarm CONFIG --seed N`: let every actor of the cluster of a file loose, each by
     /// a plan that is drawn from the seed.
     Swarm(&'a str, u64),
+    /// `faultyard simulate CONFIG --seed N`: let the actors of the cluster of a file take turns, as
+    /// the seed says, with `--acts A` so many, and with `--plan PLAN` by another plan, if there is
+    /// one of that name.
+    Simulate(&'a str, u64, u64, Option<Plan>),
     /// `faultyard guard CONFIG`: answer each line of the script on standard input at once, on the
     /// cluster of a file, with `--after AUDIT` from the end of an audit on.
     Guard(&'a str, Option<&'a str>),
@@ -134,6 +141,53 @@ fn swarm<'a>(alloc: Global) -> Result<Command<'a>, AllocError>
         .after_help(with_statuses!("Example:\n  faultyard swarm examples/c6.toml --seed 7"))
         .arg(config(alloc))?
         .arg(seed(alloc))
+}
+
+/// How many acts a simulation makes, where the words don't say.
+const ACTS: u64 = 10_000;
+
+/// The option with the number of acts.
+fn acts<'a>(alloc: Global) -> Arg<'a>
+    ensures rule { rule_of result ≡ acts_rule }
+    ensures own { result.global ≡ false }
+{
+    Arg::new(alloc, "acts")
+        .long("acts")
+        .value_name("A")
+        .action(ArgAction::Set)
+        .value_parser(value_parser!(u64))
+        .help("How many acts are made, if the journal has room for them (10000)")
+}
+
+/// The option with the plan of the fault actors.
+fn plan<'a>(alloc: Global) -> Arg<'a>
+    ensures rule { rule_of result ≡ plan_rule }
+    ensures own { result.global ≡ false }
+{
+    Arg::new(alloc, "plan")
+        .long("plan")
+        .value_name("PLAN")
+        .action(ArgAction::Set)
+        .help("How kills and clogs are drawn: mixed, attrition, swizzle or rolling (mixed)")
+}
+
+/// The subcommand `simulate` with its help, and of its arguments the two that it needs.
+fn simulate_by_seed<'a>(alloc: Global) -> Result<Command<'a>, AllocError>
+    ensures { IfOk result (λ command. app_of command
+        ≡ with_rule (with_rule (new_app (codes "simulate")) config_rule) seed_rule) }
+{
+    Command::new(alloc, "simulate")
+        .about("Lets the actors of a cluster file take turns, as a seed says, and writes the audit")
+        .after_help(with_statuses!("Example:\n  faultyard simulate examples/c6.toml --seed 7"))
+        .arg(config(alloc))?
+        .arg(seed(alloc))
+}
+
+/// The subcommand `simulate`, with its help.
+fn simulate<'a>(alloc: Global) -> Result<Command<'a>, AllocError>
+    ensures { IfOk result (λ command. app_of command ≡ simulate_command) }
+{
+    simulate_by_seed(alloc)?.arg(acts(alloc))?.arg(plan(alloc))
 }
 
 /// The subcommand `guard`, with its help.
@@ -226,7 +280,7 @@ fn bare<'a>(alloc: Global) -> Command<'a>
             "Injects faults into a simulated storage cluster, as far as its replication bears them",
         )
         .after_help(EXAMPLES)
-        .version("1.0.0")
+        .version("1.1.0")
         .subcommand_required(true)
 }
 
@@ -239,6 +293,7 @@ fn faultyard<'a>(alloc: Global) -> Result<Command<'a>, AllocError>
         .subcommand(run(alloc)?)?
         .subcommand(check(alloc)?)?
         .subcommand(swarm(alloc)?)?
+        .subcommand(simulate(alloc)?)?
         .subcommand(guard(alloc)?)?
         .subcommand(show(alloc)?)?
         .subcommand(bears(alloc)?)
@@ -267,6 +322,14 @@ pub fn read_task<'a>(alloc: Global, words: &'a [String]) -> Result<Task<'a>, cla
         "run" => Ok(Task::Run(config_of(given))),
         "check" => Ok(Task::Check(config_of(given))),
         "swarm" => Ok(Task::Swarm(config_of(given), seed_of(given))),
+        "simulate" => {
+            Ok(Task::Simulate(
+                config_of(given),
+                seed_of(given),
+                acts_of(given),
+                plan_of(given),
+            ))
+        }
         "guard" => Ok(Task::Guard(config_of(given), after_of(given))),
         "show" => Ok(Task::Show(config_of(given), times_of(given))),
         "bears" => Ok(Task::Bears(config_of(given), form_of(given), after_of(given))),
@@ -294,6 +357,27 @@ fn seed_of(given: &ArgMatches<'_>) -> u64
     match given.get_one::<u64>("seed") {
         Some(seed) => seed,
         None => unreachable!(),
+    }
+}
+
+/// The number of acts among the words of a subcommand.
+fn acts_of(given: &ArgMatches<'_>) -> u64
+    ensures { IsActsOf (one_of (codes "acts") (rows_of (found_of given.now))) result }
+{
+    given.get_one::<u64>("acts").unwrap_or(ACTS)
+}
+
+/// The plan among the words of a subcommand; `None` where no plan has the name.
+fn plan_of(given: &ArgMatches<'_>) -> Option<Plan>
+    ensures { IsPlanOf (first_of (codes "plan") (rows_of (found_of given.now))) result }
+{
+    match given.get_str("plan") {
+        Some("mixed") => Some(Plan::Mixed),
+        Some("attrition") => Some(Plan::Attrition),
+        Some("swizzle") => Some(Plan::Swizzle),
+        Some("rolling") => Some(Plan::Rolling),
+        Some(_) => None,
+        None => Some(Plan::Mixed),
     }
 }
 

@@ -1,10 +1,11 @@
 -- how many processes sets have, and what parts of a group take together
-use Rattle.std.proofs.Common.{zero, suc, inl, inr, ◌≡◌, ◌≢◌, ℕ, ◌+◌, ◌*◌, ◌-◌, ◌<◌, ◌≤◌, Bool, true, false, cond, eqb, ltb, ◌&&◌, ◌||◌, not, List, [], ◌∷◌, ◌++◌, length, refl, sym, ap, subst, ◌∙◌, arith}
+use Rattle.std.proofs.Common.{zero, suc, ◌≡◌, ℕ, ◌+◌, ◌*◌, ◌-◌, ◌<◌, ◌≤◌, Bool, true, false, cond, List, [], ◌∷◌, ◌++◌, refl, sym, ap, ◌∙◌, arith}
 use Rattle.std.specs.Prelude.{sum_by}
 use Rattle.std.proofs.Math.Nat.{mul-le-mul_right}
 use Rattle.std.proofs.lemmas.List.Sums.{sum_by_push}
 use Rattle.fy_policy.specs.Counted.{number_of}
 use Rattle.fy_bears.specs.Costs.{IsLeastOf}
+use Rattle.fy_bears.specs.declared.parts.Part.{Part}
 
 -- ---- how many numbers below n are in a set
 pub number-more : (f g : ℕ → Bool) (n : ℕ) → ((q : ℕ) → q < n → f q ≡ true → g q ≡ true) → number_of f n ≤ number_of g n
@@ -48,20 +49,20 @@ none-number f n p none h = go (f p) refl
     go false e = refl
 
 -- ---- what falls short of a level
-pub short-push : (level count : ℕ) (counts : List ℕ) → sum_by (λ c. level - c) (counts ++ count ∷ []) ≡ sum_by (λ c. level - c) counts + (level - count)
-short-push level count counts = sum_by_push (λ c. level - c) counts count
+pub short-push : (level : ℕ) (part : Part) (parts : List Part) → sum_by (λ x. level - x.least) (parts ++ part ∷ []) ≡ sum_by (λ x. level - x.least) parts + (level - part.least)
+short-push level part parts = sum_by_push (λ x. level - x.least) parts part
 
 -- so many parts that each take their count take together the least of so many
-pub least-taken : (counts : List ℕ) (many least passed cost : ℕ) → IsLeastOf counts many least → many ≤ passed → ((level : ℕ) → passed * level ≤ cost + sum_by (λ c. level - c) counts) → least ≤ cost
-least-taken counts many least passed cost is enough each =
+pub least-taken : (parts : List Part) (many least passed cost : ℕ) → IsLeastOf parts many least → many ≤ passed → ((level : ℕ) → passed * level ≤ cost + sum_by (λ part. level - part.least) parts) → least ≤ cost
+least-taken parts many least passed cost is enough each =
     let level : ℕ = is.level in
     let taken : ℕ = is.taken in
     let few : taken ≤ many = is.few in
     let more : taken ≤ passed = omega arith in
     let scaled : taken * level ≤ passed * level = mul-le-mul_right level more in
-    let total : passed * level ≤ cost + sum_by (λ c. level - c) counts = each level in
-    let within : least ≤ taken * level - sum_by (λ c. level - c) counts = is.within in
-    ends (taken * level) (passed * level) cost (sum_by (λ c. level - c) counts) least scaled total within
+    let total : passed * level ≤ cost + sum_by (λ part. level - part.least) parts = each level in
+    let within : least ≤ taken * level - sum_by (λ part. level - part.least) parts = is.within in
+    ends (taken * level) (passed * level) cost (sum_by (λ part. level - part.least) parts) least scaled total within
   where
     ends : (a b c s l : ℕ) → a ≤ b → b ≤ c + s → l ≤ a - s → l ≤ c
     ends a b c s l f g h = omega arith

@@ -1,16 +1,16 @@
 -- why no loss is dropped that a legal journal has
-use Rattle.std.proofs.Common.{◌≡◌, ℕ, Bool, true, false, not, ◌&&◌, ◌||◌, cond, nat_lt, List, [], ◌∷◌, length, refl, sym, ap, ap₂, subst, ◌∙◌, true≢false}
+use Rattle.std.proofs.Common.{◌≡◌, ℕ, Bool, true, false, not, ◌&&◌, ◌||◌, cond, List, [], ◌∷◌, refl, sym, ap, ap₂, subst, ◌∙◌, true≢false}
 use Rattle.std.specs.FinSet as sets
 use Rattle.std.specs.Ordering.{nat_cmp}
 use Rattle.std.specs.Cmp.{nat_cmp_total}
 use Rattle.fy_locality.specs.declared.locality.Locality.{Locality}
 use Rattle.fy_policy.specs.Laws.{MoreSatisfies, TestIsSatisfaction}
-use Rattle.fy_policy.specs.Sat.{Sat, satisfies}
+use Rattle.fy_policy.specs.Sat.{satisfies}
 use Rattle.fy_policy.specs.Tree.{Tree}
 use Rattle.fy_decide.specs.declared.dead_book.Loss.TheVariants.{Emptied, Gone}
-use Rattle.fy_decide.specs.DeadBook.{Losses, IsFresh, may_lose, struck}
+use Rattle.fy_decide.specs.DeadBook.{Losses, IsFresh, struck}
 use Rattle.fy_decide.specs.Safety.{AreShort, AreSatisfied, all_short, all_satisfied, everyone, with_set, without_set}
-use Rattle.fy_bears.specs.Bears.{IsAfterLosses, NothingIsDropped, HasLost, lost_as_allowed}
+use Rattle.fy_bears.specs.Bears.{NothingIsDropped, lost_as_allowed}
 use Rattle.fy_bears.specs.Costs.{IsWithin}
 
 module _ (tested : TestIsSatisfaction) (more : MoreSatisfies) where

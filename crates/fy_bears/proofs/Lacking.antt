@@ -1,5 +1,5 @@
 -- what the loop over the values of a key knows of those who don't satisfy the policy
-use Rattle.std.proofs.Common.{zero, suc, inl, inr, ◌≡◌, ◌≢◌, ℕ, ◌+◌, ◌*◌, ◌-◌, ◌<◌, ◌≤◌, Bool, true, false, cond, ◌&&◌, not, List, [], ◌∷◌, ◌++◌, length, Some, None, refl, sym, ap, subst, ◌∙◌, true≢false, arith}
+use Rattle.std.proofs.Common.{inl, inr, ◌≡◌, ◌≢◌, ℕ, ◌+◌, ◌*◌, ◌-◌, ◌<◌, ◌≤◌, Bool, true, false, cond, ◌&&◌, not, List, [], ◌∷◌, ◌++◌, length, Some, None, refl, sym, ap, subst, ◌∙◌, true≢false, arith}
 use Rattle.std.specs.Prelude.{sum_by}
 use Rattle.std.proofs.Common.{length-append}
 use Rattle.std.proofs.lemmas.Bool.{cases_eq, cases_lt}
@@ -11,6 +11,7 @@ use Rattle.fy_policy.specs.Sat.{Sat, group, outside, satisfies}
 use Rattle.fy_policy.specs.Laws.{KeylessPassNothing, NobodyPasses, TestIsSatisfaction, ValuesPassApart}
 use Rattle.fy_policy.specs.Tree.{Tree, one, across, IsWellFormed}
 use Rattle.fy_bears.specs.Costs.{IsWithin, LacksAtLeast, IsLeastOf}
+use Rattle.fy_bears.specs.declared.parts.Part.{Part}
 use Rattle.fy_bears.proofs.Costing.{number-more, number-split, short-push, least-taken}
 use Rattle.fy_bears.proofs.Values.{satisfies-across, too_few}
 
@@ -20,10 +21,10 @@ module _ (processes : List Locality) (key : Key) (q : Tree) where
   lack all s = number_of (λ p. all p && not (s p)) (length processes)
 
   -- each value that the loop has passed and whose group doesn't satisfy the policy lacks its count
-  abbrev pub LackSoFar : (all rest : ℕ → Bool) → List ℕ → (s : ℕ → Bool) → ℕ → Type 0
+  abbrev pub LackSoFar : (all rest : ℕ → Bool) → List Part → (s : ℕ → Bool) → ℕ → Type 0
   LackSoFar all rest counts s level =
       (length counts + passing processes key q (λ p. s p && rest p)) * level + lack rest s
-      ≤ lack all s + sum_by (λ c. level - c) counts + passing processes key q s * level
+      ≤ lack all s + sum_by (λ part. level - part.least) counts + passing processes key q s * level
 
   both_are : (a b : Bool) → (a ≡ true → b ≡ true) → (a && b) ≡ a
   both_are true b h = h refl
@@ -63,28 +64,28 @@ module _ (processes : List Locality) (key : Key) (q : Tree) where
     sums n g l cp cr σ x s k d true e take h = let h' : (n + (1 + x)) * l + (cp + cr) ≤ g + s + d = subst (λ z. (n + (z + x)) * l + (cp + cr) ≤ g + s + d) e h in let r : (n + (1 + x)) * l ≡ ((n + 1) + x) * l = omega arith in omega arith
     sums n g l cp cr σ x s k d false e take h = let low : k ≤ cp = take refl in let h' : (n + (0 + x)) * l + (cp + cr) ≤ g + s + d = subst (λ z. (n + (z + x)) * l + (cp + cr) ≤ g + s + d) e h in let r : (n + (0 + x)) * l + l ≡ ((n + 1) + x) * l = omega arith in omega arith
 
-    pub lack-goes-on : (counts : List ℕ) (count : ℕ) → LacksAtLeast processes q members count → (all s : ℕ → Bool) (level : ℕ) → LackSoFar all rest counts s level → LackSoFar all rest' (counts ++ count ∷ []) s level
+    pub lack-goes-on : (counts : List Part) (count : Part) → LacksAtLeast processes q members count.least → (all s : ℕ → Bool) (level : ℕ) → LackSoFar all rest counts s level → LackSoFar all rest' (counts ++ count ∷ []) s level
     lack-goes-on counts count lacked all s level so_far =
         let here : ℕ → Bool = λ x. s x && rest x in
         let split : passing processes key q here ≡ cond (satisfies processes q (group processes key v here)) 1 0 + passing processes key q (outside processes key v here) = splits processes key q v here counted (p, at) in
         let rest_is : passing processes key q (outside processes key v here) ≡ passing processes key q (λ x. s x && rest' x) = (λ i. passing processes key q (λ x. apart (s x) (rest x) (has_value processes key v x) (rest' x) (left x) i)) in
         let lacks : lack rest s ≡ lack members (group processes key v here) + lack rest' s = number-split _ _ _ (length processes) (λ x. parts (s x) (rest x) (has_value processes key v x) (members x) (rest' x) (found x) (left x)) in
-        let taken : satisfies processes q (group processes key v here) ≡ false → count ≤ lack members (group processes key v here) = (λ e. lacked (group processes key v here) (λ x h. inside (s x) (rest x) (has_value processes key v x) (members x) (found x) h) e) in
+        let taken : satisfies processes q (group processes key v here) ≡ false → count.least ≤ lack members (group processes key v here) = (λ e. lacked (group processes key v here) (λ x h. inside (s x) (rest x) (has_value processes key v x) (members x) (found x) h) e) in
         let pass : passing processes key q here ≡ cond (satisfies processes q (group processes key v here)) 1 0 + passing processes key q (λ x. s x && rest' x) = split ∙ ap (λ n. cond (satisfies processes q (group processes key v here)) 1 0 + n) rest_is in
         let longer : length (counts ++ count ∷ []) ≡ length counts + 1 = length-append counts (count ∷ []) in
-        let before : (length counts + (cond (satisfies processes q (group processes key v here)) 1 0 + passing processes key q (λ x. s x && rest' x))) * level + (lack members (group processes key v here) + lack rest' s) ≤ lack all s + sum_by (λ c. level - c) counts + passing processes key q s * level =
-        subst (λ n. (length counts + (cond (satisfies processes q (group processes key v here)) 1 0 + passing processes key q (λ x. s x && rest' x))) * level + n ≤ lack all s + sum_by (λ c. level - c) counts + passing processes key q s * level) lacks
-        (subst (λ n. (length counts + n) * level + lack rest s ≤ lack all s + sum_by (λ c. level - c) counts + passing processes key q s * level) pass so_far) in
-        subst (λ n. (n + passing processes key q (λ x. s x && rest' x)) * level + lack rest' s ≤ lack all s + sum_by (λ c. level - c) (counts ++ count ∷ []) + passing processes key q s * level) (sym longer)
+        let before : (length counts + (cond (satisfies processes q (group processes key v here)) 1 0 + passing processes key q (λ x. s x && rest' x))) * level + (lack members (group processes key v here) + lack rest' s) ≤ lack all s + sum_by (λ part. level - part.least) counts + passing processes key q s * level =
+        subst (λ n. (length counts + (cond (satisfies processes q (group processes key v here)) 1 0 + passing processes key q (λ x. s x && rest' x))) * level + n ≤ lack all s + sum_by (λ part. level - part.least) counts + passing processes key q s * level) lacks
+        (subst (λ n. (length counts + n) * level + lack rest s ≤ lack all s + sum_by (λ part. level - part.least) counts + passing processes key q s * level) pass so_far) in
+        subst (λ n. (n + passing processes key q (λ x. s x && rest' x)) * level + lack rest' s ≤ lack all s + sum_by (λ part. level - part.least) (counts ++ count ∷ []) + passing processes key q s * level) (sym longer)
         (subst (λ n. ((length counts + 1) + passing processes key q (λ x. s x && rest' x)) * level + lack rest' s ≤ lack all s + n + passing processes key q s * level) (sym (short-push level count counts))
-        (sums (length counts) (lack all s) level (lack members (group processes key v here)) (lack rest' s) (cond (satisfies processes q (group processes key v here)) 1 0) (passing processes key q (λ x. s x && rest' x)) (sum_by (λ c. level - c) counts) count (passing processes key q s * level) (satisfies processes q (group processes key v here)) refl taken before))
+        (sums (length counts) (lack all s) level (lack members (group processes key v here)) (lack rest' s) (cond (satisfies processes q (group processes key v here)) 1 0) (passing processes key q (λ x. s x && rest' x)) (sum_by (λ part. level - part.least) counts) count.least (passing processes key q s * level) (satisfies processes q (group processes key v here)) refl taken before))
 
-  pub lack-skips : KeylessPassNothing → (rest rest' : ℕ → Bool) (p : ℕ) → value_of processes key p ≡ None → ((x : ℕ) → x ≢ p → rest' x ≡ rest x) → rest' p ≡ false → (counts : List ℕ) (all s : ℕ → Bool) (level : ℕ) → LackSoFar all rest counts s level → LackSoFar all rest' counts s level
+  pub lack-skips : KeylessPassNothing → (rest rest' : ℕ → Bool) (p : ℕ) → value_of processes key p ≡ None → ((x : ℕ) → x ≢ p → rest' x ≡ rest x) → rest' p ≡ false → (counts : List Part) (all s : ℕ → Bool) (level : ℕ) → LackSoFar all rest counts s level → LackSoFar all rest' counts s level
   lack-skips nothing rest rest' p keyless same gone counts all s level so_far =
       let pass : passing processes key q (λ x. s x && rest x) ≡ passing processes key q (λ x. s x && rest' x) = nothing processes key q p _ _ keyless (λ x other. ap (λ b. s x && b) (sym (same x other))) in
       let fewer : lack rest' s ≤ lack rest s = number-more _ _ (length processes) (λ x below h. kept x h) in
-      let before : (length counts + passing processes key q (λ x. s x && rest' x)) * level + lack rest s ≤ lack all s + sum_by (λ c. level - c) counts + passing processes key q s * level =
-      subst (λ n. (length counts + n) * level + lack rest s ≤ lack all s + sum_by (λ c. level - c) counts + passing processes key q s * level) pass so_far in
+      let before : (length counts + passing processes key q (λ x. s x && rest' x)) * level + lack rest s ≤ lack all s + sum_by (λ part. level - part.least) counts + passing processes key q s * level =
+      subst (λ n. (length counts + n) * level + lack rest s ≤ lack all s + sum_by (λ part. level - part.least) counts + passing processes key q s * level) pass so_far in
       ends _ _ _ _ fewer before
     where
       ends : (a b c d : ℕ) → a ≤ b → c + b ≤ d → c + a ≤ d
@@ -100,15 +101,15 @@ module _ (processes : List Locality) (key : Key) (q : Tree) where
         | inr other ↦ ap (λ b. b && not (s x)) (sym (same x other)) ∙ h
       ]
 
-  pub lack-ends : NobodyPasses → IsWellFormed q → (all rest : ℕ → Bool) → ((x : ℕ) → rest x ≡ false) → (counts : List ℕ) (wanted broken least : ℕ) → broken ≡ length counts - (wanted - 1) → IsLeastOf counts broken least
+  pub lack-ends : NobodyPasses → IsWellFormed q → (all rest : ℕ → Bool) → ((x : ℕ) → rest x ≡ false) → (counts : List Part) (wanted broken least : ℕ) → broken ≡ length counts - (wanted - 1) → IsLeastOf counts broken least
       → ((s : ℕ → Bool) (level : ℕ) → IsWithin s all → LackSoFar all rest counts s level) → LacksAtLeast processes (across wanted key q) all least
   lack-ends nobody counted all rest empty counts wanted broken least many is so_far = λ s within unsat.
       let few : passing processes key q s < wanted = too_few _ _ (sym (satisfies-across processes wanted key q s) ∙ unsat) in
       least-taken counts broken least (length counts - passing processes key q s) (lack all s) is (omega arith) (λ level.
       let zero_left : passing processes key q (λ x. s x && rest x) ≡ 0 = nobody processes key q _ counted (λ x. off (s x) (rest x) (empty x)) in
-      let all_passed : (length counts + 0) * level + lack rest s ≤ lack all s + sum_by (λ c. level - c) counts + passing processes key q s * level =
-      subst (λ n. (length counts + n) * level + lack rest s ≤ lack all s + sum_by (λ c. level - c) counts + passing processes key q s * level) zero_left (so_far s level within) in
-      ends (length counts) (passing processes key q s) level (lack rest s) (lack all s + sum_by (λ c. level - c) counts) all_passed)
+      let all_passed : (length counts + 0) * level + lack rest s ≤ lack all s + sum_by (λ part. level - part.least) counts + passing processes key q s * level =
+      subst (λ n. (length counts + n) * level + lack rest s ≤ lack all s + sum_by (λ part. level - part.least) counts + passing processes key q s * level) zero_left (so_far s level within) in
+      ends (length counts) (passing processes key q s) level (lack rest s) (lack all s + sum_by (λ part. level - part.least) counts) all_passed)
     where
       off : (a b : Bool) → b ≡ false → (a && b) ≡ false
       off true b e = e

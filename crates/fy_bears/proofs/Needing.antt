@@ -13,6 +13,7 @@ use Rattle.fy_policy.specs.Sat.{Sat, group, outside, satisfies}
 use Rattle.fy_policy.specs.Laws.{KeylessPassNothing, NobodyPasses, TestIsSatisfaction, ValuesPassApart}
 use Rattle.fy_policy.specs.Tree.{Tree, one, across, IsWellFormed}
 use Rattle.fy_bears.specs.Costs.{IsWithin, NeedsAtLeast, IsLeastOf}
+use Rattle.fy_bears.specs.declared.parts.Part.{Part}
 use Rattle.fy_bears.proofs.Costing.{number-more, number-split, number-some, short-push, least-taken}
 use Rattle.fy_bears.proofs.Values.{satisfies-across, at_least}
 
@@ -23,10 +24,10 @@ module _ (processes : List Locality) (key : Key) (q : Tree) (free : ℕ → Bool
 
   -- each value that the loop has passed and whose group satisfies the policy costs its count; the
   -- others are in the rest
-  abbrev pub NeedSoFar : (rest : ℕ → Bool) → List ℕ → (s : ℕ → Bool) → ℕ → Type 0
+  abbrev pub NeedSoFar : (rest : ℕ → Bool) → List Part → (s : ℕ → Bool) → ℕ → Type 0
   NeedSoFar rest counts s level =
       passing processes key q s * level + cost (λ p. s p && rest p)
-      ≤ cost s + sum_by (λ c. level - c) counts + passing processes key q (λ p. s p && rest p) * level
+      ≤ cost s + sum_by (λ part. level - part.least) counts + passing processes key q (λ p. s p && rest p) * level
 
   both_are : (a b : Bool) → (a ≡ true → b ≡ true) → (a && b) ≡ a
   both_are true b h = h refl
@@ -68,27 +69,27 @@ module _ (processes : List Locality) (key : Key) (q : Tree) (free : ℕ → Bool
     sums a c l cp cr σ x s k true e take h = let low : k ≤ cp = take refl in let one : σ ≡ 1 = e in let h' : a + (cp + cr) ≤ c + s + (1 + x) * l = subst (λ z. a + (cp + cr) ≤ c + s + (z + x) * l) one h in omega arith
     sums a c l cp cr σ x s k false e take h = let one : σ ≡ 0 = e in let h' : a + (cp + cr) ≤ c + s + (0 + x) * l = subst (λ z. a + (cp + cr) ≤ c + s + (z + x) * l) one h in omega arith
 
-    pub fewest_to_satisfy-goes-on : (counts : List ℕ) (count : ℕ) → NeedsAtLeast processes q members free count → (s : ℕ → Bool) (level : ℕ) → NeedSoFar rest counts s level → NeedSoFar rest' (counts ++ count ∷ []) s level
+    pub fewest_to_satisfy-goes-on : (counts : List Part) (count : Part) → NeedsAtLeast processes q members free count.least → (s : ℕ → Bool) (level : ℕ) → NeedSoFar rest counts s level → NeedSoFar rest' (counts ++ count ∷ []) s level
     fewest_to_satisfy-goes-on counts count needed s level so_far =
         let here : ℕ → Bool = λ x. s x && rest x in
         let split : passing processes key q here ≡ cond (satisfies processes q (group processes key v here)) 1 0 + passing processes key q (outside processes key v here) = splits processes key q v here counted (p, at) in
         let rest_is : passing processes key q (outside processes key v here) ≡ passing processes key q (λ x. s x && rest' x) = (λ i. passing processes key q (λ x. apart (s x) (rest x) (has_value processes key v x) (rest' x) (left x) i)) in
         let costs : cost here ≡ cost (group processes key v here) + cost (λ x. s x && rest' x) = number-split _ _ _ (length processes) (λ x. parts_cost (s x) (rest x) (has_value processes key v x) (free x) (rest' x) (left x)) in
-        let taken : satisfies processes q (group processes key v here) ≡ true → count ≤ cost (group processes key v here) = (λ e. needed (group processes key v here) (λ x h. inside (s x) (rest x) (has_value processes key v x) (members x) (found x) h) e) in
+        let taken : satisfies processes q (group processes key v here) ≡ true → count.least ≤ cost (group processes key v here) = (λ e. needed (group processes key v here) (λ x h. inside (s x) (rest x) (has_value processes key v x) (members x) (found x) h) e) in
         let pass : passing processes key q here ≡ cond (satisfies processes q (group processes key v here)) 1 0 + passing processes key q (λ x. s x && rest' x) = split ∙ ap (λ n. cond (satisfies processes q (group processes key v here)) 1 0 + n) rest_is in
-        let before : passing processes key q s * level + (cost (group processes key v here) + cost (λ x. s x && rest' x)) ≤ cost s + sum_by (λ c. level - c) counts + (cond (satisfies processes q (group processes key v here)) 1 0 + passing processes key q (λ x. s x && rest' x)) * level =
-        subst (λ n. passing processes key q s * level + n ≤ cost s + sum_by (λ c. level - c) counts + (cond (satisfies processes q (group processes key v here)) 1 0 + passing processes key q (λ x. s x && rest' x)) * level) costs
-        (subst (λ n. passing processes key q s * level + cost here ≤ cost s + sum_by (λ c. level - c) counts + n * level) pass so_far) in
+        let before : passing processes key q s * level + (cost (group processes key v here) + cost (λ x. s x && rest' x)) ≤ cost s + sum_by (λ part. level - part.least) counts + (cond (satisfies processes q (group processes key v here)) 1 0 + passing processes key q (λ x. s x && rest' x)) * level =
+        subst (λ n. passing processes key q s * level + n ≤ cost s + sum_by (λ part. level - part.least) counts + (cond (satisfies processes q (group processes key v here)) 1 0 + passing processes key q (λ x. s x && rest' x)) * level) costs
+        (subst (λ n. passing processes key q s * level + cost here ≤ cost s + sum_by (λ part. level - part.least) counts + n * level) pass so_far) in
         subst (λ n. passing processes key q s * level + cost (λ x. s x && rest' x) ≤ cost s + n + passing processes key q (λ x. s x && rest' x) * level) (sym (short-push level count counts))
-        (sums (passing processes key q s * level) (cost s) level (cost (group processes key v here)) (cost (λ x. s x && rest' x)) (cond (satisfies processes q (group processes key v here)) 1 0) (passing processes key q (λ x. s x && rest' x)) (sum_by (λ c. level - c) counts) count (satisfies processes q (group processes key v here)) refl taken before)
+        (sums (passing processes key q s * level) (cost s) level (cost (group processes key v here)) (cost (λ x. s x && rest' x)) (cond (satisfies processes q (group processes key v here)) 1 0) (passing processes key q (λ x. s x && rest' x)) (sum_by (λ part. level - part.least) counts) count.least (satisfies processes q (group processes key v here)) refl taken before)
 
   -- ---- a process without the key is dropped
-  pub fewest_to_satisfy-skips : KeylessPassNothing → (rest rest' : ℕ → Bool) (p : ℕ) → value_of processes key p ≡ None → ((x : ℕ) → x ≢ p → rest' x ≡ rest x) → rest' p ≡ false → (counts : List ℕ) (s : ℕ → Bool) (level : ℕ) → NeedSoFar rest counts s level → NeedSoFar rest' counts s level
+  pub fewest_to_satisfy-skips : KeylessPassNothing → (rest rest' : ℕ → Bool) (p : ℕ) → value_of processes key p ≡ None → ((x : ℕ) → x ≢ p → rest' x ≡ rest x) → rest' p ≡ false → (counts : List Part) (s : ℕ → Bool) (level : ℕ) → NeedSoFar rest counts s level → NeedSoFar rest' counts s level
   fewest_to_satisfy-skips nothing rest rest' p keyless same gone counts s level so_far =
       let pass : passing processes key q (λ x. s x && rest x) ≡ passing processes key q (λ x. s x && rest' x) = nothing processes key q p _ _ keyless (λ x other. ap (λ b. s x && b) (sym (same x other))) in
       let fewer : cost (λ x. s x && rest' x) ≤ cost (λ x. s x && rest x) = number-more _ _ (length processes) (λ x below h. kept x h) in
-      let before : passing processes key q s * level + cost (λ x. s x && rest x) ≤ cost s + sum_by (λ c. level - c) counts + passing processes key q (λ x. s x && rest' x) * level =
-      subst (λ n. passing processes key q s * level + cost (λ x. s x && rest x) ≤ cost s + sum_by (λ c. level - c) counts + n * level) pass so_far in
+      let before : passing processes key q s * level + cost (λ x. s x && rest x) ≤ cost s + sum_by (λ part. level - part.least) counts + passing processes key q (λ x. s x && rest' x) * level =
+      subst (λ n. passing processes key q s * level + cost (λ x. s x && rest x) ≤ cost s + sum_by (λ part. level - part.least) counts + n * level) pass so_far in
       ends _ _ _ _ fewer before
     where
       ends : (a b c d : ℕ) → a ≤ b → c + b ≤ d → c + a ≤ d
@@ -108,14 +109,14 @@ module _ (processes : List Locality) (key : Key) (q : Tree) (free : ℕ → Bool
       ]
 
   -- ---- nothing is left
-  pub fewest_to_satisfy-ends : NobodyPasses → IsWellFormed q → (all rest : ℕ → Bool) → ((x : ℕ) → rest x ≡ false) → (counts : List ℕ) (wanted least : ℕ) → IsLeastOf counts wanted least
+  pub fewest_to_satisfy-ends : NobodyPasses → IsWellFormed q → (all rest : ℕ → Bool) → ((x : ℕ) → rest x ≡ false) → (counts : List Part) (wanted least : ℕ) → IsLeastOf counts wanted least
       → ((s : ℕ → Bool) (level : ℕ) → IsWithin s all → NeedSoFar rest counts s level) → NeedsAtLeast processes (across wanted key q) all free least
   fewest_to_satisfy-ends nobody counted all rest empty counts wanted least is so_far = λ s within sat.
       let enough : wanted ≤ passing processes key q s = at_least _ _ (sym (satisfies-across processes wanted key q s) ∙ sat) in
       least-taken counts wanted least (passing processes key q s) (cost s) is enough (λ level.
       let zero_left : passing processes key q (λ x. s x && rest x) ≡ 0 = nobody processes key q _ counted (λ x. off (s x) (rest x) (empty x)) in
-      let all_passed : passing processes key q s * level + cost (λ x. s x && rest x) ≤ cost s + sum_by (λ c. level - c) counts + 0 * level =
-      subst (λ n. passing processes key q s * level + cost (λ x. s x && rest x) ≤ cost s + sum_by (λ c. level - c) counts + n * level) zero_left (so_far s level within) in
+      let all_passed : passing processes key q s * level + cost (λ x. s x && rest x) ≤ cost s + sum_by (λ part. level - part.least) counts + 0 * level =
+      subst (λ n. passing processes key q s * level + cost (λ x. s x && rest x) ≤ cost s + sum_by (λ part. level - part.least) counts + n * level) zero_left (so_far s level within) in
       ends _ _ _ _ level all_passed)
     where
       off : (a b : Bool) → b ≡ false → (a && b) ≡ false

@@ -1,5 +1,5 @@
 -- the parts of a shape
-use Rattle.std.proofs.Common.{◌≡◌, List, [], ◌∷◌, ◌++◌, Global, Vec, Bool, true, false, ◌&&◌, ℕ, ◌<◌, ◌≤◌, Box, zero, suc, length, get_or, refl, sym, ap, subst, ◌∙◌, arith}
+use Rattle.std.proofs.Common.{◌≡◌, List, [], ◌∷◌, Global, Vec, Bool, true, false, ◌&&◌, ℕ, ◌<◌, ◌≤◌, Box, zero, suc, length, get_or, refl, sym, ap, subst, ◌∙◌, arith}
 use Rattle.std.specs.List.{list_all}
 use Rattle.std.proofs.lemmas.List.Folds.{list_all_at}
 use Rattle.fy_locality.specs.declared.locality.Locality.{Locality}
@@ -9,6 +9,7 @@ use Rattle.fy_policy.specs.Sat.{satisfies}
 use Rattle.fy_policy.specs.Shape.{tree_of}
 use Rattle.fy_policy.specs.Tree.{IsWellFormed}
 use Rattle.fy_policy.specs.Laws.{AndIsEach, PartsAreWellFormed}
+use Rattle.fy_bears.specs.Costs.{HasNoAnd}
 
 pub all_pass : (test : Shape → Bool) (qs : List Shape) → ((k : ℕ) (d : Shape) → k < length qs → test (get_or qs k d) ≡ true) → list_all test qs ≡ true
 all_pass test [] each = refl
@@ -19,6 +20,12 @@ one_fails test qs k q within is fails = list_all_at test qs k q within (ap test 
 
 pub inner_counted : (shape : Shape) (wanted : ℕ) (key : Key) (inner : Box Shape Global) → shape ≡ Across wanted key inner → IsWellFormed (tree_of shape) → (1 ≤ wanted) × IsWellFormed (tree_of inner.value)
 inner_counted shape wanted key inner is h = let c : IsWellFormed (tree_of (Across wanted key inner)) = subst (λ q. IsWellFormed (tree_of q)) is h in (c.0, c.2)
+
+pub count_within : (shape : Shape) (wanted : ℕ) (key : Key) (inner : Box Shape Global) → shape ≡ Across wanted key inner → IsWellFormed (tree_of shape) → wanted ≤ 1024
+count_within shape wanted key inner is h = let c : IsWellFormed (tree_of (Across wanted key inner)) = subst (λ q. IsWellFormed (tree_of q)) is h in c.1
+
+pub inner_has_no_and : (shape : Shape) (wanted : ℕ) (key : Key) (inner : Box Shape Global) → shape ≡ Across wanted key inner → HasNoAnd (tree_of shape) → HasNoAnd (tree_of inner.value)
+inner_has_no_and shape wanted key inner is h = let c : HasNoAnd (tree_of (Across wanted key inner)) = subst (λ q. HasNoAnd (tree_of q)) is h in c
 
 -- the part at a place of the loop's list
 pub part_is_counted' : PartsAreWellFormed → (shape : Shape) (parts : Vec Shape Global) (items : List Shape) (k : ℕ) (q : Shape) → shape ≡ And parts → items ≡ parts.items → IsWellFormed (tree_of shape) → k < length items → q ≡ get_or items k q → IsWellFormed (tree_of q)

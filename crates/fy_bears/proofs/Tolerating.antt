@@ -1,5 +1,5 @@
 -- why a tolerance is right
-use Rattle.std.proofs.Common.{◌≡◌, ◌↔◌, ℕ, ◌+◌, ◌-◌, ◌<◌, ◌≤◌, zero, suc, ◌⊎◌, inl, inr, Bool, true, false, not, ◌&&◌, ◌||◌, ◌==◌, cond, List, [], ◌∷◌, ◌++◌, get_or, length, map, take, drop, min, append_assoc, Some, refl, sym, ap, ap₂, subst, ◌∙◌, true≢false, arith}
+use Rattle.std.proofs.Common.{◌≡◌, ℕ, ◌+◌, ◌-◌, ◌<◌, ◌≤◌, zero, suc, ◌⊎◌, inl, inr, Bool, true, false, not, ◌&&◌, ◌||◌, ◌==◌, cond, List, [], ◌∷◌, ◌++◌, get_or, length, map, take, drop, min, append_assoc, Some, refl, sym, ap, ap₂, subst, ◌∙◌, true≢false, arith}
 use Rattle.std.specs.List.{AllZip}
 use Rattle.std.specs.Prelude.{slice_get}
 use Rattle.std.proofs.lemmas.Option.{get_or_from_slice_get, slice_get-get_or}
@@ -15,6 +15,7 @@ use Rattle.fy_policy.specs.Counted.{number_of}
 use Rattle.fy_policy.specs.Laws.{MoreOfMapSatisfies}
 use Rattle.fy_policy.specs.Sat.{Sat}
 use Rattle.fy_policy.specs.Tree.{Tree}
+use Rattle.fy_policy.proofs.Toggling.{number-len}
 use Rattle.fy_decide.specs.Safety.{with_set, without_set, MayDestroy}
 use Rattle.fy_decide.specs.declared.dead_book.Loss.{Loss}
 use Rattle.fy_decide.specs.declared.dead_book.Loss.TheVariants.{Emptied, Gone}
@@ -122,6 +123,15 @@ is_in_one p q h = either (eq_by_cmp nat_cmp q p) (sets.contains (sets.empty {R =
     either true b e f is = tied_is q p is
     either false b e f is = absurd (true≢false (sym f ∙ e))
 
+pub in_one : (p : ℕ) → sets.contains (sets.insert (sets.empty {R = nat_cmp}) p) p ≡ true
+in_one p = sets.contains-insert nat_cmp_total (sets.empty {R = nat_cmp}) p p ∙ ap (λ b. b || sets.contains (sets.empty {R = nat_cmp}) p) (is_tied p p refl)
+
+pub len_one : (p : ℕ) → sets.len (sets.insert (sets.empty {R = nat_cmp}) p) ≡ 1
+len_one p =
+    sets.len-insert nat_cmp_total (sets.empty {R = nat_cmp}) p
+    ∙ ap (λ b. cond b (sets.len (sets.empty {R = nat_cmp})) (sets.len (sets.empty {R = nat_cmp}) + 1)) (sets.contains-empty nat_cmp p)
+    ∙ ap (λ n. n + 1) (sets.len-empty nat_cmp)
+
 -- where each one may be lost alone, so may any one
 pub any_one : MoreOfMapSatisfies → (processes : List Locality) (policy : Tree) (d l : ℕ → Bool) (loss : Loss) → (Sat processes policy d → ⊥) → Sat processes policy l
     → ((p : ℕ) → p < length processes → MayDestroy processes (policy ∷ []) d l (sets.contains (sets.insert (sets.empty {R = nat_cmp}) p)) loss)
@@ -129,11 +139,8 @@ pub any_one : MoreOfMapSatisfies → (processes : List Locality) (policy : Tree)
 any_one more processes policy d l loss short met each s few =
     elim (one_at_most s (length processes) few) [
       | inl none ↦ less more processes policy d l s (λ p. false) loss (λ p below h. absurd (true≢false (sym h ∙ none p below))) (nobody more processes policy d l (λ p. false) loss short met (λ p. refl))
-      | inr one ↦ less more processes policy d l s (sets.contains (sets.insert (sets.empty {R = nat_cmp}) one.0)) loss (λ q below h. in_one one.0 q (one.2 q below h)) (each one.0 one.1)
+      | inr one ↦ less more processes policy d l s (sets.contains (sets.insert (sets.empty {R = nat_cmp}) one.0)) loss (λ q below h. ap (sets.contains (sets.insert (sets.empty {R = nat_cmp}) one.0)) (one.2 q below h) ∙ in_one one.0) (each one.0 one.1)
     ]
-  where
-    in_one : (p q : ℕ) → q ≡ p → sets.contains (sets.insert (sets.empty {R = nat_cmp}) p) q ≡ true
-    in_one p q same = sets.contains-insert nat_cmp_total (sets.empty {R = nat_cmp}) p q ∙ ap (λ b. b || sets.contains (sets.empty {R = nat_cmp}) q) (is_tied q p same)
 
 -- a set has no fewer members than there are below a bound
 pub number_in_set : (s : sets.FinSet nat_cmp) (n : ℕ) → number_of (sets.contains s) n ≤ sets.len s
@@ -267,3 +274,32 @@ pairs_on dead loss sets' i rows more row one whole below at push is before =
     map_of_map : {A B C : Type 0} (f : B → C) (g : A → B) (xs : List A) → map f (map g xs) ≡ map (λ x. f (g x)) xs
     map_of_map f g [] = refl
     map_of_map f g (x ∷ xs) = ap (λ ys. f (g x) ∷ ys) (map_of_map f g xs)
+
+-- ---- the least set
+-- each member that matters is a process of the map
+pub of_map : MoreOfMapSatisfies → (processes : List Locality) (policy : Tree) (d l : ℕ → Bool) (set : sets.FinSet nat_cmp) (loss : Loss)
+    → (MayDestroy processes (policy ∷ []) d l (sets.contains set) loss → ⊥)
+    → ((p : ℕ) → sets.contains set p ≡ true → MayDestroy processes (policy ∷ []) d l (sets.contains (sets.remove set p)) loss)
+    → (p : ℕ) → sets.contains set p ≡ true → p < length processes
+of_map more processes policy d l set loss never each p is = elim (cases_lt p (length processes)) [
+  | inl below ↦ below
+  | inr past ↦ absurd (never (less more processes policy d l (sets.contains set) (sets.contains (sets.remove set p)) loss
+      (λ q below h. sets.contains-remove nat_cmp_total set p q ∙ ap₂ (λ a b. not a && b) (untied q p (λ same. (let under : q < length processes = below in omega arith))) h)
+      (each p is)))
+]
+
+-- a set within one of no more than it takes, that is itself too many, has just so many
+pub just_so_many : MoreOfMapSatisfies → (processes : List Locality) (policy : Tree) (d l : ℕ → Bool) (set given : sets.FinSet nat_cmp) (least : ℕ) (loss : Loss)
+    → (MayDestroy processes (policy ∷ []) d l (sets.contains set) loss → ⊥)
+    → ((p : ℕ) → sets.contains set p ≡ true → MayDestroy processes (policy ∷ []) d l (sets.contains (sets.remove set p)) loss)
+    → ((p : ℕ) → sets.contains set p ≡ true → sets.contains given p ≡ true)
+    → number_of (sets.contains given) (length processes) ≤ least
+    → ((s : ℕ → Bool) → number_of s (length processes) ≤ least - 1 → MayDestroy processes (policy ∷ []) d l s loss)
+    → sets.len set ≡ least - 1 + 1
+just_so_many more processes policy d l set given least loss never each within few any =
+    let here : number_of (sets.contains set) (length processes) ≡ sets.len set = number-len set (length processes) (of_map more processes policy d l set loss never each) in
+    let small : number_of (sets.contains set) (length processes) ≤ number_of (sets.contains given) (length processes) = number-more (sets.contains set) (sets.contains given) (length processes) (λ q below h. within q h) in
+    elim (cases_lt (least - 1) (number_of (sets.contains set) (length processes))) [
+      | inl over ↦ omega arith
+      | inr under ↦ absurd (never (any (sets.contains set) under))
+    ]

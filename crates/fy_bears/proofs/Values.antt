@@ -1,5 +1,5 @@
 -- the values of a key within a set, one after another
-use Rattle.std.proofs.Common.{zero, suc, inl, inr, ◌≡◌, ◌≢◌, ℕ, ◌+◌, ◌*◌, ◌-◌, ◌<◌, ◌≤◌, Bool, true, false, cond, leb, eqb, ltb, ◌&&◌, ◌||◌, not, List, [], ◌∷◌, length, filter, Option, Some, None, refl, sym, ap, subst, ◌∙◌, arith}
+use Rattle.std.proofs.Common.{zero, suc, ◌≡◌, ◌≢◌, ℕ, ◌+◌, ◌<◌, ◌≤◌, Bool, true, false, cond, leb, eqb, ◌&&◌, not, List, Option, Some, None, refl, sym, ap, ◌∙◌, arith}
 use Rattle.std.specs.Prelude.{IfNone}
 use Rattle.std.specs.Ordering.{nat_cmp, eq_by_cmp}
 use Rattle.std.specs.FinSet as sets
@@ -8,11 +8,10 @@ use Rattle.std.specs.Option.{option_eq}
 use Rattle.std.specs.Str.{bytes_eq}
 use Rattle.std.proofs.lemmas.Bool.Decides.{nat_tests}
 use Rattle.std.proofs.lemmas.Cmp.{nat_list_eq_equiv}
-use Rattle.std.proofs.lemmas.Slice.Eq.{bytes_eq-Decides}
 use Rattle.fy_locality.specs.declared.locality.Locality.{Locality}
 use Rattle.fy_locality.specs.declared.key.Key.{Key}
 use Rattle.fy_locality.specs.declared.ProcId.{ProcId}
-use Rattle.fy_locality.specs.Locality.{has_value, value_of, values_of}
+use Rattle.fy_locality.specs.Locality.{has_value, value_of}
 use Rattle.fy_policy.specs.Counted.{passing}
 use Rattle.fy_policy.specs.Sat.{group, outside, satisfies}
 use Rattle.fy_policy.specs.Tree.{Tree, across}
@@ -63,6 +62,16 @@ fewer f g more (suc n) p h e d = go (λ lower. fewer f g more n p lower e d) (g 
     go later true ga false fb = let x : f n ≡ true = more n ga in absurd (let y : ⊥ = cc in y)
     go later false ga true fb = omega (arith, rest)
     go later false ga false fb = let less : present g n < present f n = later (lower (λ same. let y : f n ≡ true = ap f (sym same) ∙ e in let x : ⊥ = cc in x)) in omega arith
+
+-- no more than there are
+pub few_present : (f : ℕ → Bool) (n : ℕ) → present f n ≤ n
+unfolding present
+few_present f zero = omega arith
+few_present f (suc n) = go (f n) (few_present f n)
+  where
+    go : (b : Bool) → present f n ≤ n → cond b 1 0 + present f n ≤ suc n
+    go true h = omega arith
+    go false h = omega arith
 
 -- one dropped
 pub fewer-dropped : (rest rest' : sets.FinSet nat_cmp) (p : ℕ) → rest' ≡ sets.remove rest p → sets.contains rest p ≡ true → p < 1024 → present (sets.contains rest') 1024 < present (sets.contains rest) 1024

@@ -13,10 +13,11 @@ use Rattle.fy_decide.specs.declared.dead_book.Loss.{Loss}
 use Rattle.fy_decide.specs.declared.dead_book.Loss.TheVariants.{Emptied, Gone}
 use Rattle.fy_decide.specs.DeadBook.{Losses, IsFresh, MayLose, may_lose, struck}
 use Rattle.fy_decide.specs.Safety.{AreShort, AreSatisfied, MayDestroy, everyone, with_set, without_set}
-use Rattle.fy_bears.specs.Costs.{IsWithin}
+use Rattle.fy_bears.specs.Costs.{HasNoAnd, IsWithin}
 use Rattle.fy_bears.specs.declared.borne.Borne.{Borne}
 use Rattle.fy_bears.specs.declared.borne.Findings.{Findings}
 use Rattle.fy_bears.specs.declared.groups.Group.{Group}
+use Rattle.fy_bears.specs.declared.parts.Part.{Part}
 use Rattle.fy_bears.specs.declared.tolerance.Tolerance.{Tolerance}
 
 -- as far as one policy of a dead book goes, a set may be lost
@@ -40,8 +41,14 @@ PartsMayBeLost dead policy loss s =
     (part : ℕ → Bool) (p : ℕ) → IsWithin part s → s p ≡ true → part p ≡ false
     → MayLoseBy dead policy part loss
 
+-- a set that may not be lost by a policy has no more processes than the least number found
+pub record IsWitness (dead : Losses) (policy : Tree) (loss : Loss) (found : Part) : Type 0 where
+  pub too_many : IsTooMany dead policy loss (sets.contains found.set)
+  pub small : number_of (sets.contains found.set) (length dead.processes) ≤ found.least
+
 -- What one policy bears. Any so many processes may be lost. Those named may not, and every proper
--- part of them may. Where they are one more, no greater number is borne; beside 0 they are one.
+-- part of them may. Where they are one more, no greater number is borne: they are so beside 0, and
+-- for every policy that has no And.
 pub record IsTolerance (dead : Losses) (policy : Tree) (loss : Loss) (found : Tolerance) : Type 0
   where
     pub any : ToleratesAny dead policy loss found.any
@@ -50,6 +57,7 @@ pub record IsTolerance (dead : Losses) (policy : Tree) (loss : Loss) (found : To
     pub greatest : sets.len found.too_many ≡ found.any + 1
         → (count : ℕ) → ToleratesAny dead policy loss count → count ≤ found.any
     pub none : found.any ≡ 0 → sets.len found.too_many ≡ 1
+    pub exact : HasNoAnd policy → sets.len found.too_many ≡ found.any + 1
 
 -- the processes left that have a value of a key: those of a machine, a zone, a hall or a data centre
 abbrev pub left_with_value : Losses → Key → List ℕ → ℕ → Bool

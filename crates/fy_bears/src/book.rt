@@ -1,5 +1,7 @@
 //! The dead book with the losses so far, from which further losses are counted.
-ghost use Rattle.std.specs.Prelude.{◌≡◌, IfOk};
+ghost use Rattle.std.specs.Prelude.{◌≡◌, ℕ, Some, None, Err, IfOk, IfErr};
+ghost use Rattle.fy_decide.specs.declared.dead_book.MakeFault.TheVariants.{Unmet, NoMemory};
+ghost use Rattle.fy_decide.specs.Safety.{first_unmet};
 ghost use Rattle.fy_bears.specs.Bears.{IsAfterLosses, lost_as_allowed};
 
 use fy_decide::{DeadBook, Loss, MakeFault};
@@ -33,6 +35,9 @@ pub fn book_of(
     ensures policies { IfOk result (λ dead. dead.policies ≡ policies.now) }
     ensures losses { IfOk result (IsAfterLosses map.now policies.now
         losses.now.destroyed losses.now.gone) }
+    ensures unmet { (i : ℕ) → first_unmet map.now policies.now ≡ Some i → result ≡ Err (Unmet i) }
+    ensures memory { first_unmet map.now policies.now ≡ None →
+        IfErr result (λ fault. fault ≡ NoMemory) }
 {
     let mut dead = DeadBook::make(alloc, map, policies)?;
     strike_as_allowed(&mut dead, &losses.gone, Loss::Gone);

@@ -1,18 +1,18 @@
 //! How many processes have to go at least until those left don't satisfy a policy.
-ghost use Rattle.std.specs.Prelude.{◌≡◌, ◌≤◌, ◌-◌, IfOk, length};
+ghost use Rattle.std.specs.Prelude.{◌≡◌, ◌≤◌, ◌-◌, IfOk, cond, length, nat_lt};
 ghost use Rattle.std.specs.FinSet as sets;
 ghost use Rattle.fy_policy.specs.Counted.{number_of};
 ghost use Rattle.fy_policy.specs.Shape.{tree_of};
 ghost use Rattle.fy_policy.specs.Tree.{IsWellFormed};
-ghost use Rattle.fy_bears.specs.Costs.{LacksAtLeast};
+ghost use Rattle.fy_bears.specs.Costs.{IsBreaking, LacksAtLeast};
 
 use crate::parts::{MORE_THAN_ALL, Part, least_of};
-use fy_locality::{Map, ProcId, ProcSet};
+use fy_locality::{MOST_PROCESSES, Map, ProcId, ProcSet};
 use fy_policy::{Shape, laws};
 use std::alloc::{AllocError, Global};
 
 /// How many processes of a group have to go at least until the others don't satisfy the policy,
-/// and such a set.
+/// and a set of no more, where there is one.
 ///
 /// # Errors
 ///
@@ -23,8 +23,11 @@ pub(crate) fn fewest_to_break(
     map: &Map,
     group: &ProcSet,
 ) -> Result<Part, AllocError>
-    ensures { IfOk result (λ part. IsWellFormed (tree_of shape.now)
+    ensures least { IfOk result (λ part. IsWellFormed (tree_of shape.now)
         → LacksAtLeast map.now (tree_of shape.now) (sets.contains group.now) part.least) }
+    ensures breaking { IfOk result (λ part. IsWellFormed (tree_of shape.now)
+        → part.least ≤ MOST_PROCESSES
+        → IsBreaking map.now (tree_of shape.now) (sets.contains group.now) part) }
 {
     match shape {
         Shape::One => {
@@ -35,12 +38,13 @@ pub(crate) fn fewest_to_break(
             })
         }
         Shape::Across(wanted, key, inner) => {
+            laws::test_is_satisfaction();
+            laws::more_satisfies();
             laws::values_pass_apart();
             laws::keyless_pass_nothing();
             laws::nobody_passes();
             let wanted = *wanted;
-            let mut counts = Vec::new(alloc);
-            let mut sets = Vec::new(alloc);
+            let mut values = Vec::new(alloc);
             let mut rest = *group;
             while let Some(p) = rest.least() {
                 let Some(peers) = map.peers(p, *key) else {
@@ -50,12 +54,11 @@ pub(crate) fn fewest_to_break(
                 let with_value = rest.intersection(&peers);
                 rest = rest.difference(&with_value);
                 let part = fewest_to_break(alloc, inner, map, &with_value)?;
-                counts.push(part.least)?;
-                sets.push(part.set)?;
+                values.push(part)?;
             }
             // Once so many values are broken, the other values are too few.
-            let broken = all_but(&counts, wanted);
-            Ok(least_of(&counts, &sets, broken))
+            let broken = all_but(&values, wanted);
+            Ok(least_of(&values, broken))
         }
         Shape::And(parts) => {
             laws::and_is_each();
@@ -74,10 +77,10 @@ pub(crate) fn fewest_to_break(
 }
 
 /// How many of the parts have to go until fewer than are wanted stay.
-fn all_but(counts: &[u32], wanted: u32) -> usize
-    ensures { result ≡ length counts.now - (wanted - 1) }
+fn all_but(parts: &[Part], wanted: u32) -> usize
+    ensures { result ≡ length parts.now - (wanted - 1) }
 {
-    counts
+    parts
         .len()
         .saturating_sub(wanted.saturating_sub(1) as usize)
 }
@@ -86,6 +89,7 @@ fn all_but(counts: &[u32], wanted: u32) -> usize
 pub(crate) fn lesser(first: Part, second: Part) -> Part
     ensures first { result.least ≤ first.least }
     ensures second { result.least ≤ second.least }
+    ensures which { result ≡ cond (nat_lt second.least first.least) second first }
 {
     if second.least < first.least {
         second

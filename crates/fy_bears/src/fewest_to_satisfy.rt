@@ -1,19 +1,21 @@
 //! How many processes it takes at least to satisfy a policy, counted up the policy's tree.
-ghost use Rattle.std.specs.Prelude.{◌≡◌, IfOk, List};
+ghost use Rattle.std.specs.Prelude.{◌≡◌, ◌≤◌, IfOk, List};
 ghost use Rattle.std.specs.FinSet as sets;
 ghost use Rattle.fy_locality.specs.declared.locality.Locality.{Locality};
+ghost use Rattle.fy_decide.specs.Safety.{everyone};
 ghost use Rattle.fy_policy.specs.Shape.{tree_of};
 ghost use Rattle.fy_policy.specs.Tree.{IsWellFormed, one};
-ghost use Rattle.fy_bears.specs.Costs.{NeedsAtLeast};
+ghost use Rattle.fy_bears.specs.Costs.{HasNoAnd, IsEnough, IsWithin, NeedsAtLeast};
 
 use crate::parts::{MORE_THAN_ALL, Part, least_of};
-use fy_locality::{Map, ProcSet};
+use fy_locality::{MOST_PROCESSES, Map, ProcSet};
 use fy_policy::{Shape, laws};
 use std::alloc::{AllocError, Global};
 
 /// How many processes of a group it takes at least to satisfy the policy, the free ones not
-/// counted, and such a set. Of an `Across` the group is parted by the key's values: each round asks
-/// about the processes that have the value of the least process of the rest.
+/// counted, and such a set, which has no more where the policy has no `And`. Of an `Across` the
+/// group is parted by the key's values: each round asks about the processes that have the value of
+/// the least process of the rest.
 ///
 /// # Errors
 ///
@@ -25,18 +27,26 @@ pub(crate) fn fewest_to_satisfy(
     group: &ProcSet,
     free: &ProcSet,
 ) -> Result<Part, AllocError>
-    ensures { IfOk result (λ part. IsWellFormed (tree_of shape.now)
+    ensures least { IfOk result (λ part. IsWellFormed (tree_of shape.now)
         → NeedsAtLeast map.now (tree_of shape.now) (sets.contains group.now) (sets.contains free.now)
         part.least) }
+    ensures within { IfOk result (λ part. IsWithin (sets.contains part.set)
+        (sets.contains group.now)) }
+    ensures enough { IfOk result (λ part. IsWellFormed (tree_of shape.now)
+        → HasNoAnd (tree_of shape.now) → IsWithin (sets.contains group.now) (everyone map.now)
+        → part.least ≤ MOST_PROCESSES
+        → IsEnough map.now (tree_of shape.now) (sets.contains group.now) (sets.contains free.now)
+        part) }
 {
     match shape {
         Shape::One => Ok(one_needed(group, free)),
         Shape::Across(wanted, key, inner) => {
+            laws::test_is_satisfaction();
+            laws::more_satisfies();
             laws::values_pass_apart();
             laws::keyless_pass_nothing();
             laws::nobody_passes();
-            let mut counts = Vec::new(alloc);
-            let mut sets = Vec::new(alloc);
+            let mut values = Vec::new(alloc);
             let mut rest = *group;
             while let Some(p) = rest.least() {
                 let Some(peers) = map.peers(p, *key) else {
@@ -46,10 +56,9 @@ pub(crate) fn fewest_to_satisfy(
                 let with_value = rest.intersection(&peers);
                 rest = rest.difference(&with_value);
                 let part = fewest_to_satisfy(alloc, inner, map, &with_value, free)?;
-                counts.push(part.least)?;
-                sets.push(part.set)?;
+                values.push(part)?;
             }
-            Ok(least_of(&counts, &sets, *wanted as usize))
+            Ok(least_of(&values, *wanted as usize))
         }
         Shape::And(parts) => {
             laws::and_is_each();
@@ -68,12 +77,17 @@ pub(crate) fn fewest_to_satisfy(
 
 /// How many processes of a group it takes at least to have one, and such a set.
 fn one_needed(group: &ProcSet, free: &ProcSet) -> Part
-    ensures { (processes : List Locality)
+    ensures least { (processes : List Locality)
         → NeedsAtLeast processes one (sets.contains group.now) (sets.contains free.now) result.least }
+    ensures within { IsWithin (sets.contains result.set) (sets.contains group.now) }
+    ensures enough { (processes : List Locality)
+        → IsWithin (sets.contains group.now) (everyone processes)
+        → result.least ≤ MOST_PROCESSES
+        → IsEnough processes one (sets.contains group.now) (sets.contains free.now) result }
 {
     laws::test_is_satisfaction();
     let both = group.intersection(free);
-    if !both.is_empty() {
+    if let Some(_free) = both.least() {
         return Part {
             least: 0,
             set: ProcSet::empty(),

@@ -6,8 +6,8 @@ ghost use Rattle.fy_policy.specs.Counted.{number_of};
 ghost use Rattle.fy_policy.specs.Sat.{Sat};
 ghost use Rattle.fy_policy.specs.Tree.{Tree};
 ghost use Rattle.fy_decide.specs.Safety.{MayDestroy};
-ghost use Rattle.fy_bears.specs.Bears.{IsTolerance, ToleratesAny};
-ghost use Rattle.fy_bears.specs.Costs.{IsWithin};
+ghost use Rattle.fy_bears.specs.Bears.{IsTolerance, IsWitness, ToleratesAny};
+ghost use Rattle.fy_bears.specs.Costs.{HasNoAnd, IsWithin};
 
 use crate::fewest_to_break::{fewest_to_break, lesser};
 use crate::fewest_to_satisfy::fewest_to_satisfy;
@@ -28,8 +28,8 @@ pub struct Tolerance {
 
 impl Tolerance {
     /// Whether `any` is exact: the set that is too many has one process more. It always is where
-    /// `any` is 0. With an `And`, the least set that is too many is a problem of covering, and the
-    /// search is bounded; so `any` may be less than what is borne.
+    /// `any` is 0, and for a policy without an `And`. With one, the least set that is too many is a
+    /// problem of covering, and the search is bounded; so `any` may be less than what is borne.
     pub fn is_exact(&self) -> bool
         ensures { IsTrue result ↔ (sets.len self.now.too_many ≡ self.now.any + 1) }
     {
@@ -67,7 +67,7 @@ pub fn tolerance_of(
 }
 
 /// How many processes it takes at least until the policy at a place doesn't bear their loss, and a
-/// set that may do.
+/// set of so many where the policy has no `And`.
 fn fewest_of(
     alloc: Global,
     dead: &DeadBook,
@@ -79,9 +79,12 @@ fn fewest_of(
     requires map { map.now ≡ dead.now.processes }
     requires policies { policies.now ≡ dead.now.policies }
     requires index { index < length policies.now }
-    ensures { IfOk result (λ part. (policy : Tree)
+    ensures any { IfOk result (λ part. (policy : Tree)
         → slice_get dead.now.policies index ≡ Some policy
         → ToleratesAny dead.now policy loss (part.least - 1)) }
+    ensures witness { IfOk result (λ part. (policy : Tree)
+        → slice_get dead.now.policies index ≡ Some policy → HasNoAnd policy
+        → IsWitness dead.now policy loss part) }
 {
     let policy = &policies[index];
     let destroyed = dead.destroyed();
@@ -89,6 +92,7 @@ fn fewest_of(
     let shape = policy.shape();
     let needed = fewest_to_satisfy(alloc, shape, map, &map.everyone(), &destroyed)?;
     let lacked = fewest_to_break(alloc, shape, map, &left)?;
+    let _few = map.len();
     laws::test_is_satisfaction();
     laws::more_of_map_satisfies();
     let part = match loss {
@@ -113,6 +117,11 @@ fn settled(
     requires any { (s : ℕ → Bool) → number_of s (length map.now) ≤ part.now.least - 1
         → MayDestroy map.now (policy.now ∷ [])
         (sets.contains destroyed.now) (sets.contains left.now) s loss }
+    requires too_many { HasNoAnd policy.now → MayDestroy map.now (policy.now ∷ [])
+        (sets.contains destroyed.now) (sets.contains left.now)
+        (sets.contains part.now.set) loss → ⊥ }
+    requires exact { HasNoAnd policy.now
+        → number_of (sets.contains part.now.set) (length map.now) ≤ part.now.least }
     ensures any { (s : ℕ → Bool) → number_of s (length map.now) ≤ result.any
         → MayDestroy map.now (policy.now ∷ [])
         (sets.contains destroyed.now) (sets.contains left.now) s loss }
@@ -122,7 +131,9 @@ fn settled(
         → MayDestroy map.now (policy.now ∷ []) (sets.contains destroyed.now)
         (sets.contains left.now) (sets.contains (sets.remove result.too_many p)) loss }
     ensures none { result.any ≡ 0 → sets.len result.too_many ≡ 1 }
+    ensures exact { HasNoAnd policy.now → sets.len result.too_many ≡ result.any + 1 }
 {
+    laws::more_of_map_satisfies();
     let too_many = least_found(policy, map, destroyed, left, &part.set, loss);
     let any = part.least.saturating_sub(1);
     if any > 0 || too_many.len() == 1 {
@@ -201,6 +212,9 @@ fn least_found(
     requires { Sat map.now policy.now (sets.contains left.now) }
     ensures too_many { MayDestroy map.now (policy.now ∷ [])
         (sets.contains destroyed.now) (sets.contains left.now) (sets.contains result) loss → ⊥ }
+    ensures within { (MayDestroy map.now (policy.now ∷ []) (sets.contains destroyed.now)
+        (sets.contains left.now) (sets.contains set.now) loss → ⊥)
+        → IsWithin (sets.contains result) (sets.contains set.now) }
     ensures least { (p : ℕ) → sets.contains result p ≡ true
         → MayDestroy map.now (policy.now ∷ []) (sets.contains destroyed.now)
         (sets.contains left.now) (sets.contains (sets.remove result p)) loss }

@@ -1,7 +1,8 @@
 //! The engine behind `faultyard bears`: what a cluster bears, from its start or from the end of an
 //! audit on.
-ghost use Rattle.std.specs.Prelude.{◌≡◌, ◌≢◌, ◌+◌, IfOk, IfErr, IfSome, Ok, Err, false, true};
+ghost use Rattle.std.specs.Prelude.{◌≡◌, ◌≢◌, ◌+◌, IfOk, IfErr, IfSome, OnOk, Ok, Err, false, true};
 ghost use Rattle.std.specs.Io.KnownBytes.{Appends};
+ghost use Rattle.fy_lines.specs.Prefixes.{AppendsProperPrefix};
 ghost use Rattle.fy_lines.specs.Readings.{ReadsAtMost};
 ghost use Rattle.fy_audit.specs.Audit.{AuditOf};
 ghost use Rattle.fy_audit.specs.declared.audit.TheConstants.{MOST_AUDIT_BYTES};
@@ -9,10 +10,11 @@ ghost use Rattle.fy_check_audit.specs.CheckTexts.{HasVerdict};
 ghost use Rattle.fy_engine.specs.Outputs.{IsOutputStop};
 ghost use Rattle.fy_check_audit.specs.Checked.{IsChecked};
 ghost use Rattle.fy_engine.specs.Stops.{IfAuditFault, IsCheckStop};
+ghost use Rattle.fy_bears_after.specs.BearsTexts.{IsSpelledOut, IsToldAtStart, IsToldOf, Tells};
 
+use crate::spelling::Spelling;
 use crate::told::{Told, told_after, told_at_start};
 use fy_audit::MOST_AUDIT_BYTES;
-use fy_bears::{Form, write_findings};
 use fy_check_audit::{replay_audit, write_finding};
 use fy_cluster::Config;
 use fy_engine::Stop;
@@ -21,20 +23,22 @@ use std::alloc::Global;
 use std::io::{Read, Write};
 
 /// Writes what is told of a configuration's cluster.
-fn write_told<W: Write>(
+fn write_told<S: Spelling, W: Write>(
     alloc: Global,
     config: &Config,
     told: &Told,
-    form: Form,
+    form: &S,
     writer: &mut W,
 ) -> Result<(), Stop>
+    ensures written { OnOk result (IsSpelledOut (S.spells form.now config.now told.now)
+        (Appends (W.contents writer.old) (W.contents writer.new))) }
+    ensures short { result ≡ Err Stop.Write → IsSpelledOut (S.spells form.now config.now told.now)
+        (AppendsProperPrefix (W.contents writer.old) (W.contents writer.new)) }
     ensures nothing_out { IfErr result (λ stop. stop ≢ Stop.Write →
         W.contents writer.new ≡ W.contents writer.old) }
     ensures no_other { IfErr result IsOutputStop }
 {
-    let before = told.before.as_ref();
-    let (map, policies) = (config.map(), config.policies());
-    let Ok(text) = write_findings(alloc, map, policies, before, &told.findings, form) else {
+    let Ok(text) = form.spell(alloc, config, told) else {
         return Err(Stop::NoMemory);
     };
     match write_bytes(writer, text.as_bytes()) {
@@ -49,13 +53,18 @@ fn write_told<W: Write>(
 ///
 /// `NoMemory` where memory is refused: nothing is written then. `Write` where the writer fails or
 /// takes no byte: a front of the text is out, and never all of it.
-pub fn run_bears<W: Write>(
+pub fn run_bears<S: Spelling, W: Write>(
     alloc: Global,
     config: &Config,
-    form: Form,
+    form: &S,
     writer: &mut W,
 ) -> Result<bool, Stop>
     ensures done { IfOk result (λ done. done ≡ true) }
+    ensures written { OnOk result (Tells (IsToldAtStart config.now) (S.spells form.now config.now)
+        (Appends (W.contents writer.old) (W.contents writer.new))) }
+    ensures short { result ≡ Err Stop.Write →
+        Tells (IsToldAtStart config.now) (S.spells form.now config.now)
+        (AppendsProperPrefix (W.contents writer.old) (W.contents writer.new)) }
     ensures nothing_out { IfErr result (λ stop. stop ≢ Stop.Write →
         W.contents writer.new ≡ W.contents writer.old) }
     ensures no_other { IfErr result IsOutputStop }
@@ -80,15 +89,18 @@ pub fn run_bears<W: Write>(
 ///
 /// The stops of `run_check`: nothing is written but after `Write`, when a front of the text is out,
 /// and never all of it.
-pub fn run_bears_after<R: Read, W: Write>(
+pub fn run_bears_after<S: Spelling, R: Read, W: Write>(
     alloc: Global,
     config: &Config,
-    form: Form,
+    form: &S,
     reader: &mut R,
     writer: &mut W,
 ) -> Result<bool, Stop>
     ensures done { IfOk result (λ legal. IfSome (R.remaining reader.old)
         (λ bytes. IsChecked config.now bytes legal)) }
+    ensures written { result ≡ Ok true → IfSome (R.remaining reader.old)
+        (λ bytes. Tells (IsToldOf config.now bytes) (S.spells form.now config.now)
+        (Appends (W.contents writer.old) (W.contents writer.new))) }
     ensures refuted { result ≡ Ok false → HasVerdict config.now (R.remaining reader.old) false
         (Appends (W.contents writer.old) (W.contents writer.new)) }
     ensures refused { IfErr result (λ stop. IfAuditFault stop

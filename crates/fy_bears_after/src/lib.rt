@@ -3,8 +3,10 @@
 
 mod bears;
 mod lost;
+mod spelling;
 mod told;
 
 pub use bears::{run_bears, run_bears_after};
 pub use lost::losses_in;
+pub use spelling::Spelling;
 pub use told::Told;

@@ -1,15 +1,15 @@
 -- the entries of an audit, whose acts are made once more
-use Rattle.std.proofs.Common.{◌≡◌, ◌↔◌, ℕ, ◌<◌, ◌≤◌, inl, inr, List, [], ◌∷◌, ◌++◌, length, Some, None, Ok, Err, Option, Result, Bool, IsTrue, refl, sym, ◌∙◌, ap, subst, append-nil}
+use Rattle.std.proofs.Common.{◌≡◌, ◌≢◌, ◌↔◌, ℕ, ◌<◌, ◌≤◌, inl, inr, List, [], ◌∷◌, ◌++◌, length, Ok, Err, Result, Bool, IsTrue, sym, ◌∙◌, ap, subst, append-nil}
 use Rattle.std.specs.Bool.{Decides}
 use Rattle.std.proofs.lemmas.Bool.{cases_lt}
-use Rattle.fy_acts.specs.declared.act.Act.{Act}
 use Rattle.fy_acts.specs.declared.reply.Reply.{Reply}
 use Rattle.fy_acts.specs.declared.entry.Entry.{Entry}
-use Rattle.fy_audit.specs.Audit.{AuditOf, AuditAnswers}
+use Rattle.fy_audit.specs.Audit.{AuditOf, BeginsFaulty, BeginsWith, MayStandFrom}
 use Rattle.fy_audit.specs.AuditText.{header, audit_text}
-use Rattle.fy_audit.specs.Reading.{EndsAsAudit, HasRead, ReaderState}
+use Rattle.fy_audit.specs.Reading.{EndsAsAudit, HasRead, ReaderState, ReadsEntry, Stops}
 use Rattle.fy_audit.specs.declared.audit.AuditFault.{AuditFault}
 use Rattle.fy_audit.specs.declared.audit.AuditFault.TheVariants.{TooLong, Line, NoMemory}
+use Rattle.fy_audit.specs.declared.audit.AuditLineFault.TheVariants.{Header}
 use Rattle.fy_cluster.specs.declared.fault.Fault.{Fault}
 use Rattle.fy_cluster.specs.declared.fault.Fault.TheVariants.{JournalFull}
 use Rattle.fy_cluster.specs.Setup.{Setup}
@@ -19,8 +19,7 @@ use Rattle.fy_cluster.specs.Replies.{Legal, reply}
 use Rattle.fy_cluster.specs.Survival.{NextLegal}
 use Rattle.fy_journal.specs.declared.version.Version.TheVariants.{First, Second}
 use Rattle.fy_c.specs.Checking.{audit_status}
-use Rattle.fy_c.specs.Resuming.{Follows, NotFollowed, Refutes}
-use Rattle.fy_c.specs.declared.status.Status.{Status}
+use Rattle.fy_c.specs.Resuming.{BeginsLegal, Follows, NotFollowed, Refutes}
 use Rattle.fy_c.specs.declared.status.Status.TheVariants.{NoHeader}
 
 -- the entry with its journal is legal just where it got the reply that it tells
@@ -45,28 +44,59 @@ pub entered_is : (execution new : Execution) (e : Entry) (answered : Reply) → 
 entered_is execution new e answered place same right is =
     is ∙ ap (λ (x : Entry). let more : Execution = record { setup = execution.setup; journal = execution.journal ++ x ∷ [] } in more) (of_parts e (length execution.journal) (replied execution e.by e.act) place (sym same ∙ right))
 
--- what a reader may answer, as the status of an audit that isn't followed
-pub not_read : (audit : List ℕ) (fault : AuditFault) (status : Status) → AuditAnswers audit (Err fault) → status ≡ audit_status fault → NotFollowed audit status
-not_read audit TooLong status is told = subst (NotFollowed audit) (sym told) (NotFollowed.faulty TooLong is)
-not_read audit (Line number fault) status is told = subst (NotFollowed audit) (sym told) (NotFollowed.faulty (Line number fault) is)
-not_read audit NoMemory status is told = subst (NotFollowed audit) (sym told) NotFollowed.no_memory
+-- no header was given
+pub no_header : (setup : Setup) (audit : List ℕ) (fault : AuditFault) → (fault ≢ TooLong → fault ≡ Line 1 Header) → AuditOf audit (Err fault) → NotFollowed setup audit (audit_status fault)
+no_header setup audit TooLong first told = NotFollowed.too_long told
+no_header setup audit (Line number fault) first told =
+    let is = first (λ same. let wrong : ⊥ = cc in wrong) in
+    subst (λ f. NotFollowed setup audit (audit_status f)) (sym is) (NotFollowed.no_header (subst (λ f. AuditOf audit (Err f)) is told))
+no_header setup audit NoMemory first told = absurd told
 
 -- an audit of the first version
-pub of_first : (audit : List ℕ) (reader_state : ReaderState) → HasRead audit [] reader_state → reader_state.version ≡ First → NotFollowed audit NoHeader
-of_first audit reader_state has first = NotFollowed.of_first reader_state.rest
+pub of_first : (setup : Setup) (audit : List ℕ) (reader_state : ReaderState) → HasRead audit [] reader_state → reader_state.version ≡ First → NotFollowed setup audit NoHeader
+of_first setup audit reader_state has first = NotFollowed.of_first has.bound reader_state.rest
     (has.split ∙ ap (λ v. audit_text v [] ++ reader_state.rest) first ∙ ap (λ text. text ++ reader_state.rest) (append-nil (header First)))
 
--- the first bad entry of an audit of which it was read, and those before it
-pub refuted : (setup : Setup) (audit : List ℕ) (before : Execution) (bad : Entry) (reader_state : ReaderState) → before.setup ≡ setup → HasRead audit (before.journal ++ bad ∷ []) reader_state
-    → reader_state.version ≡ Second → Legal before.setup before.journal → (Legal before.setup (before.journal ++ bad ∷ []) → ⊥) → bad.at ≡ length before.journal → Refutes setup audit bad.at
-refuted setup audit before bad reader_state same has version legal wrong place = record {
+-- the entries that were read are those of a cluster, which are a legal journal
+pub begins_legal : (setup : Setup) (audit : List ℕ) (now : Execution) (reader_state : ReaderState) → HasRead audit now.journal reader_state → reader_state.version ≡ Second → now.setup ≡ setup
+    → Legal now.setup now.journal → BeginsLegal setup audit now.journal reader_state.rest
+begins_legal setup audit now reader_state has second same legal = record {
+  bound = has.bound;
+  split = has.split ∙ ap (λ v. audit_text v now.journal ++ reader_state.rest) second;
+  faultless = subst (λ v. MayStandFrom v 0 now.journal) second has.faultless;
+  legal = subst (λ c. Legal c now.journal) same legal;
+}
+
+-- a reader stopped behind them
+pub not_read : (setup : Setup) (audit : List ℕ) (now : Execution) (reader_state : ReaderState) (fault : AuditFault) → BeginsLegal setup audit now.journal reader_state.rest
+    → reader_state.version ≡ Second → reader_state.place ≡ length now.journal → Stops reader_state fault → NotFollowed setup audit (audit_status fault)
+not_read setup audit now reader_state TooLong begins second place none = absurd none
+not_read setup audit now reader_state (Line number fault) begins second place stops =
+    NotFollowed.faulty now.journal reader_state.rest begins fault
+    (subst (λ v. BeginsFaulty v (length now.journal) reader_state.rest fault) second (subst (λ n. BeginsFaulty reader_state.version n reader_state.rest fault) place stops.1))
+not_read setup audit now reader_state NoMemory begins second place stops = NotFollowed.no_memory now.journal reader_state.rest begins
+
+-- the entry that was read behind them is no part of a legal journal
+pub refuted : (setup : Setup) (audit : List ℕ) (before : Execution) (bad : Entry) (reader_state now : ReaderState) → before.setup ≡ setup → BeginsLegal setup audit before.journal reader_state.rest
+    → reader_state.version ≡ Second → reader_state.place ≡ length before.journal → ReadsEntry bad reader_state now → (Legal before.setup (before.journal ++ bad ∷ []) → ⊥) → Refutes setup audit bad.at
+refuted setup audit before bad reader_state now same begins second place read wrong = record {
   before = before.journal;
-  bad = bad;
   rest = reader_state.rest;
-  begins = has.split ∙ ap (λ v. audit_text v (before.journal ++ bad ∷ []) ++ reader_state.rest) version;
-  legal = subst (λ c. Legal c before.journal) same legal;
+  begins = begins;
+  bad = bad;
+  after = now.rest;
+  next = subst (λ v. BeginsWith v (length before.journal) reader_state.rest bad now.rest) second (subst (λ n. BeginsWith reader_state.version n reader_state.rest bad now.rest) place read.front);
   wrong = λ more. wrong (subst (λ c. Legal c (before.journal ++ bad ∷ [])) (sym same) more);
-  place = place;
+  place = read.front.may.at ∙ place;
+}
+
+-- all of an audit that is followed
+pub followed_whole : (setup : Setup) (audit : List ℕ) (now : Execution) → Follows setup audit now → BeginsLegal setup audit now.journal []
+followed_whole setup audit now follows = record {
+  bound = follows.read.0;
+  split = follows.read.1 ∙ sym (append-nil (audit_text Second now.journal));
+  faultless = follows.read.2;
+  legal = follows.legal;
 }
 
 -- one entry more was read, and it is the cluster's

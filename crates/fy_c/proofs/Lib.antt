@@ -1,12 +1,15 @@
 mod Begun
 mod Bits
 mod CheckValues
+mod Checked
 mod Drawn
+mod Exact
 mod Finding
 mod Followed
 mod KindBits
 mod Lined
 mod Lines
+mod Lost
 mod Made
 mod Orders
 mod Processes

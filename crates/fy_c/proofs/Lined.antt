@@ -4,7 +4,7 @@ use Rattle.std.specs.Prelude.{◌≢◌, true, false, ◌==◌, Option, Some, No
 use Rattle.std.proofs.lemmas.Bool.Decides.{nat_tests}
 use Rattle.fy_acts.specs.declared.entry.Entry.{Entry}
 use Rattle.fy_audit.specs.Audit.{Audit, AuditOf, AuditAnswers, MayStandFrom, BeginsWith}
-use Rattle.fy_audit.specs.AuditText.{audit_text, entry_line}
+use Rattle.fy_audit.specs.AuditText.{audit_text, entry_line, header}
 use Rattle.fy_audit.specs.Reading.{ReaderState, HasRead, ReadsEntry, Stops, EntryExtendsRead, EndsAsAudit}
 use Rattle.fy_audit.specs.declared.audit.TheConstants.{MOST_AUDIT_BYTES}
 use Rattle.fy_audit.specs.declared.audit.AuditFault.{AuditFault}
@@ -12,13 +12,15 @@ use Rattle.fy_audit.specs.declared.audit.AuditFault.TheVariants.{TooLong, Line, 
 use Rattle.fy_audit.specs.declared.audit.AuditLineFault.TheVariants.{Header}
 use Rattle.fy_check.specs.Replayed.{HasReplayed}
 use Rattle.fy_cluster.specs.Setup.{Setup}
+use Rattle.fy_lines.specs.Lines.{lines_of}
 use Rattle.fy_journal.specs.declared.version.Version.{Version}
 use Rattle.fy_journal.specs.declared.version.Version.TheVariants.{First, Second}
 use Rattle.fy_spelling.specs.Values.{text_of}
+use Rattle.fy_spelling.specs.declared.command.TheConstants.{MOST_LINE_BYTES}
 use Rattle.fy_c.specs.InStep.{progress}
 use Rattle.fy_c.specs.Progress.{Progress}
 use Rattle.fy_c.specs.declared.checking.Begun.TheInside.{Inside}
-use Rattle.fy_c.specs.Checking.{HasProgress, HasBegun, HasChecked, Refuses, audit_status, next_number}
+use Rattle.fy_c.specs.Checking.{HasProgress, HasBegun, HasChecked, MayBeRead, Refuses, audit_status, next_number}
 use Rattle.fy_c.specs.declared.checking.Check.{Check}
 use Rattle.fy_c.specs.declared.status.Status.{Status}
 use Rattle.fy_c.specs.declared.status.Status.TheVariants.{LineSyntax}
@@ -66,14 +68,49 @@ some_bytes line some = grind (arith, nat_tests, some)
 
 -- a reader stopped at the line
 pub stopped : (WasRead : List ℕ → Type 0) (state : ReaderState) (line : List ℕ) (fault : AuditFault) →
-    Stops state fault →
+    Stops state fault → MayBeRead WasRead (state.place + 2) line →
     ((bytes : List ℕ) → WasRead bytes → AuditAnswers (bytes ++ line) (Err fault)) →
     Refuses WasRead (state.place + 2) line (audit_status fault)
-stopped WasRead state line TooLong none told = absurd none
-stopped WasRead state line (Line number fault) stops told =
+stopped WasRead state line TooLong none may told = absurd none
+stopped WasRead state line (Line number fault) stops may told =
     Refuses.faulty fault (λ bytes has. subst (λ n. AuditOf (bytes ++ line) (Err (Line n fault)))
     stops.0 (told bytes has))
-stopped WasRead state line NoMemory stops told = Refuses.no_memory
+stopped WasRead state line NoMemory stops may told = Refuses.no_memory may
+
+-- bytes have one first line
+same_first : (lines : List (List ℕ)) (front other : List ℕ) (after rest : List (List ℕ)) →
+    lines ≡ front ∷ after → lines ≡ other ∷ rest → front ≡ other
+same_first lines front other after rest is too = cc
+
+-- the first line is the header of a version, which is short
+short_header : (version : Version) (front : List ℕ) (after : List (List ℕ)) →
+    lines_of (audit_text version []) ≡ front ∷ after → length front ≤ MOST_LINE_BYTES
+short_header First front after is =
+    subst (λ (l : List ℕ). length l ≤ MOST_LINE_BYTES)
+    (same_first (lines_of (audit_text First [])) (codes "{\"audit\":1}") front [] after refl is)
+    (omega arith)
+short_header Second front after is =
+    subst (λ (l : List ℕ). length l ≤ MOST_LINE_BYTES)
+    (same_first (lines_of (audit_text Second [])) (codes "{\"audit\":2}") front [] after refl is)
+    (omega arith)
+
+-- a header alone may be read
+pub header_may_be_read : (line : List ℕ) (state : ReaderState) → HasRead line [] state →
+    state.rest ≡ [] → MayBeRead (λ bytes. bytes ≡ []) 1 line
+header_may_be_read line state read none =
+    let bound = read.bound in
+    let whole = read.split ∙ ap (λ rest. audit_text state.version [] ++ rest) none
+    ∙ append-nil (audit_text state.version []) in record {
+      fits = λ bytes empty.
+          subst (λ before. length (before ++ line) ≤ MOST_AUDIT_BYTES) (sym empty) bound;
+      short = λ front after is.
+          short_header state.version front after (ap lines_of (sym whole) ∙ is);
+      begins = λ one. (
+        state.version,
+        state.rest,
+        read.split ∙ ap (λ text. text ++ state.rest) (append-nil (header state.version)),
+      );
+    }
 
 -- whether the whole audit is too long
 IsTooLong : AuditFault → Type 0
@@ -109,7 +146,11 @@ refuses_more Less More number line _ is (Refuses.empty none whole) =
 refuses_more Less More number line _ is (Refuses.more front after split some fits whole) =
     Refuses.more front after split some (λ bytes has. fits bytes (is bytes has))
     (λ bytes has. whole bytes (is bytes has))
-refuses_more Less More number line _ is Refuses.no_memory = Refuses.no_memory
+refuses_more Less More number line _ is (Refuses.no_memory may) = Refuses.no_memory (record {
+  fits = λ bytes has. may.fits bytes (is bytes has);
+  short = may.short;
+  begins = may.begins;
+})
 
 -- so an entry is refused behind what a check has read, and a header where it has read nothing
 pub refuses_entry : (check : Check) (now : Progress) (line : List ℕ) (status : Status) →
@@ -136,6 +177,19 @@ refuses_header check line status is refused =
 pub has_room : (bytes line : List ℕ) (long : ℕ) → long ≡ length bytes → long ≤ MOST_AUDIT_BYTES →
     length line ≤ MOST_AUDIT_BYTES - long → length (bytes ++ line) ≤ MOST_AUDIT_BYTES
 has_room bytes line long is few fits = let both = length-append bytes line in omega arith
+
+-- a line with room and no long first line may be read behind entries
+pub may_be_read : (line front : List ℕ) (after : List (List ℕ)) (now : Progress) →
+    length line ≤ MOST_AUDIT_BYTES - now.bytes → lines_of line ≡ front ∷ after →
+    length front ≤ MOST_LINE_BYTES →
+    MayBeRead (λ bytes. (setup : Setup) × HasProgress setup bytes now) (now.count + 2) line
+may_be_read line front after now fits first few = record {
+  fits = λ bytes has. has_room bytes line now.bytes has.1.long
+      (let short = has.1.audit.0 in let long = has.1.long in omega arith) fits;
+  short = λ other rest is. subst (λ (l : List ℕ). length l ≤ MOST_LINE_BYTES)
+      (same_first (lines_of line) front other after rest first is) few;
+  begins = λ one. absurd (omega arith);
+}
 
 -- a line has no room behind what was read
 pub has_no_room : (bytes line : List ℕ) (long : ℕ) → long ≡ length bytes →

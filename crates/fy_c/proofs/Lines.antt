@@ -1,9 +1,7 @@
 -- why a line has no answer, and an entry no line
-use Rattle.std.proofs.Common.{◌≡◌, ◌≤◌, ◌<◌, ◌+◌, ℕ, zero, suc, List, [], ◌∷◌, length, refl, arith, slice_get, Option, Some, None, inl, inr}
+use Rattle.std.proofs.Common.{◌≡◌, ◌≤◌, ◌<◌, ℕ, zero, suc, List, [], ◌∷◌, length, refl, arith, slice_get, Some, None, inl, inr}
 use Rattle.std.proofs.lemmas.Bool.{cases_lt}
-use Rattle.std.specs.Prelude.{Result, Ok, Err, IfErr}
-use Rattle.fy_acts.specs.declared.entry.Entry.{Entry}
-use Rattle.fy_acts.specs.declared.reply.Reply.{Reply}
+use Rattle.std.specs.Prelude.{Result, Ok, Err}
 use Rattle.fy_spelling.specs.Command.{LineOf, LineAnswers}
 use Rattle.fy_spelling.specs.declared.command.Command.{Command}
 use Rattle.fy_spelling.specs.declared.command.CommandFault.{CommandFault}
@@ -39,12 +37,12 @@ no_answer old new line command _ is (NoAnswer.unwritten room made) =
 
 -- a line that has no answer, in a buffer with room for one
 pub acts_none : (old new : Execution) (line before after : List ℕ) (told : ℕ) (why : Status) →
-    room_for line ≤ length before → after ≡ before → NoLine old new line why →
-    Acts old new line before after told why
-acts_none old new line before after told _ room same (NoLine.not_entered why none kept) =
-    Acts.not_entered room why none kept same
-acts_none old new line before after told _ room same (NoLine.unwritten command is left made) =
-    Acts.unwritten room command is left made same
+    room_for line ≤ length before → after ≡ before → told ≡ room_for line →
+    NoLine old new line why → Acts old new line before after told why
+acts_none old new line before after told _ room same asked (NoLine.not_entered why none kept) =
+    Acts.not_entered room why none kept same asked
+acts_none old new line before after told _ room same asked (NoLine.unwritten command is left made) =
+    Acts.unwritten room command is left made same asked
 
 -- a place where nothing is found is past the end
 pub past_end : {X : Type 0} (xs : List X) (i : ℕ) → None ≡ slice_get xs i → length xs ≤ i

@@ -93,18 +93,23 @@ abbrev pub room_for : List ℕ → ℕ
 room_for line = length line + MOST_REPLY_BYTES
 
 -- what a line came to. Where the buffer has too few bytes, nothing else is looked at. Else it came
--- to an act whose entry's line is told; to an act whose entry's line could not be had; or to none,
--- and nothing changed
+-- to an act whose entry's line is told; to an act whose entry's line could not be had, as there was no
+-- memory for it, or is longer than the buffer; or to none, and nothing changed. But for a line that is
+-- told, or longer than the buffer, what is told is how many bytes the buffer has to have
 pub data Acts (old new : Execution) (line before after : List ℕ) (told : ℕ) : Status → Type 0 where
   short : IsShort before (room_for line) told → new ≡ old → after ≡ before →
       Acts old new line before after told Short
   answered : room_for line ≤ length before → (text : List ℕ) → IsAnswered old new line text →
       Tells before after told text → Acts old new line before after told Done
   unwritten : room_for line ≤ length before → (command : Command) → LineOf line (Ok command) →
-      HasRoom old → IsMade old new command → after ≡ before →
+      HasRoom old → IsMade old new command → after ≡ before → told ≡ room_for line →
+      Acts old new line before after told Unwritten
+  too_long : room_for line ≤ length before → (text : List ℕ) → IsAnswered old new line text →
+      IsShort before (length text) told → after ≡ before →
       Acts old new line before after told Unwritten
   not_entered : room_for line ≤ length before → (status : Status) → NotEntered old line status →
-      new ≡ old → after ≡ before → Acts old new line before after told status
+      new ≡ old → after ≡ before → told ≡ room_for line →
+      Acts old new line before after told status
 
 -- the journal has an entry at this place, and this is its line
 pub record HasLine (journal : List Entry) (at : ℕ) (line : List ℕ) : Type 0 where
@@ -117,12 +122,12 @@ pub data NotRead (journal : List Entry) (at : ℕ) : Status → Type 0 where
   no_entry : length journal ≤ at → NotRead journal at NoEntry
   no_memory : at < length journal → NotRead journal at NoMemory
 
--- the line of an entry is told, or why not
-pub data Reads (journal : List Entry) (at : ℕ) (before after : List ℕ) (told : ℕ)
+-- the line of an entry is told, or why not: what was told before is then told still
+pub data Reads (journal : List Entry) (at : ℕ) (before after : List ℕ) (was told : ℕ)
     : Status → Type 0 where
   read : (line : List ℕ) → HasLine journal at line → Tells before after told line →
-      Reads journal at before after told Done
+      Reads journal at before after was told Done
   short : (line : List ℕ) → HasLine journal at line → IsShort before (length line) told →
-      after ≡ before → Reads journal at before after told Short
-  not_read : (status : Status) → NotRead journal at status → after ≡ before →
-      Reads journal at before after told status
+      after ≡ before → Reads journal at before after was told Short
+  not_read : (status : Status) → NotRead journal at status → after ≡ before → told ≡ was →
+      Reads journal at before after was told status

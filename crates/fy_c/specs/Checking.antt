@@ -3,6 +3,7 @@ use Rattle.std.specs.Prelude.{◌≡◌, ◌≢◌, ◌≤◌, ◌+◌, ℕ, Lis
 use Rattle.std.specs.Ptr.{null_ptr}
 use Rattle.fy_acts.specs.declared.entry.Entry.{Entry}
 use Rattle.fy_audit.specs.Audit.{Audit, AuditOf}
+use Rattle.fy_audit.specs.AuditText.{header}
 use Rattle.fy_audit.specs.declared.audit.TheConstants.{MOST_AUDIT_BYTES}
 use Rattle.fy_audit.specs.declared.audit.AuditFault.{AuditFault}
 use Rattle.fy_audit.specs.declared.audit.AuditFault.TheVariants as audit
@@ -11,6 +12,9 @@ use Rattle.fy_audit.specs.declared.audit.AuditLineFault.TheVariants as of_line
 use Rattle.fy_cluster.specs.Setup.{Setup}
 use Rattle.fy_config.specs.Config.{ConfigOf}
 use Rattle.fy_check.specs.Replayed.{HasReplayed}
+use Rattle.fy_journal.specs.declared.version.Version.{Version}
+use Rattle.fy_lines.specs.Lines.{lines_of}
+use Rattle.fy_spelling.specs.declared.command.TheConstants.{MOST_LINE_BYTES}
 use Rattle.fy_c.specs.Opening.{NotOpened}
 use Rattle.fy_c.specs.Progress.{Progress}
 use Rattle.fy_c.specs.declared.check_handle.FyCheck.{FyCheck}
@@ -76,8 +80,18 @@ abbrev pub IsAuditWith : (List ℕ → Type 0) → List ℕ → Type 0
 IsAuditWith WasRead front =
     (bytes : List ℕ) → WasRead bytes → (it : Audit) × AuditOf (bytes ++ front) (Ok it)
 
+-- what is asked of a line of this number before memory is: with it there aren't too many bytes behind
+-- those that were read; no more stand before its line feed than a line may have; and a first line
+-- begins with the header of a version
+pub record MayBeRead (WasRead : List ℕ → Type 0) (number : ℕ) (line : List ℕ) : Type 0 where
+  pub fits : (bytes : List ℕ) → WasRead bytes → length (bytes ++ line) ≤ MOST_AUDIT_BYTES
+  pub short : (front : List ℕ) (after : List (List ℕ)) → lines_of line ≡ front ∷ after →
+      length front ≤ MOST_LINE_BYTES
+  pub begins : number ≡ 1 → (version : Version) × (rest : List ℕ) × (line ≡ header version ++ rest)
+
 -- why a line of this number isn't read behind bytes that were read, in order: there are too many
--- with it; it is faulty; nothing is given; more follows its line feed. Or there was no memory
+-- with it; it is faulty; nothing is given; more follows its line feed. Or there was no memory, and all
+-- that is asked before holds
 pub data Refuses (WasRead : List ℕ → Type 0) (number : ℕ) (line : List ℕ) : Status → Type 0 where
   too_long : ((bytes : List ℕ) → WasRead bytes → AuditOf (bytes ++ line) (Err audit.TooLong)) →
       Refuses WasRead number line AuditTooLong
@@ -88,7 +102,7 @@ pub data Refuses (WasRead : List ℕ → Type 0) (number : ℕ) (line : List ℕ
   more : (front after : List ℕ) → line ≡ front ++ 10 ∷ after → after ≢ [] →
       ((bytes : List ℕ) → WasRead bytes → length (bytes ++ line) ≤ MOST_AUDIT_BYTES) →
       IsAuditWith WasRead (front ++ 10 ∷ []) → Refuses WasRead number line LineSyntax
-  no_memory : Refuses WasRead number line NoMemory
+  no_memory : MayBeRead WasRead number line → Refuses WasRead number line NoMemory
 
 -- the line was read: whatever was read before, it was read behind that
 pub record ReadsOn (old new : Check) (line : List ℕ) : Type 0 where

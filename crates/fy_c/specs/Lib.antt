@@ -1,11 +1,14 @@
 pub mod Acting
 pub mod Asking
+pub mod Bearing
 pub mod CheckHandles
+pub mod Checked
 pub mod Checking
 pub mod Entering
 pub mod Faults
 pub mod Handles
 pub mod InStep
+pub mod Killable
 pub mod Killing
 pub mod KillingProcess
 pub mod Making

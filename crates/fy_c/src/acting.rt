@@ -131,7 +131,9 @@ fn tell(text: &[u8], buffer: &mut [u8], told: &mut usize) -> bool
 /// `Short` where the buffer is shorter than that, and its length goes to `told`. Then in order:
 /// `LineTooLong`, `LineSyntax` and `Floor` for a line that is no command, and `JournalFull`.
 /// `NoMemory` can take the place of any but the first. Nothing changed then. `Unwritten` where the
-/// act is made and stands in the journal, and its line couldn't be had.
+/// act is made and stands in the journal, and its line couldn't be had: there was no memory for it,
+/// or it is longer than the buffer. Its length goes to `told` where it is longer, and after each
+/// other error the length that the buffer has to have.
 #[unsafe(no_mangle)]
 pub extern "C" fn fy_act(
     alloc: Global,
@@ -186,7 +188,7 @@ fn line_of(alloc: Global, journal: &Journal, at: usize) -> Result<Vec<u8>, Statu
 /// # Errors
 ///
 /// In order: `NoEntry`; `NoMemory`; `Short` where the buffer is shorter than the line, whose length
-/// goes to `told`. Nothing changes.
+/// goes to `told`. Nothing else changes, and after the first two `told` doesn't either.
 #[unsafe(no_mangle)]
 pub extern "C" fn fy_audit(
     alloc: Global,
@@ -199,7 +201,7 @@ pub extern "C" fn fy_audit(
     ensures kept { guard.new.value ≡ guard.old.value }
     ensures place { guard.new.at ≡ guard.old.at }
     ensures read { Answers result (Reads guard.old.value.journal at
-        buffer.old buffer.new told.new) }
+        buffer.old buffer.new told.old told.new) }
 {
     let line = match line_of(alloc, guard.cluster().journal(), at) {
         Ok(line) => line,

@@ -5,9 +5,12 @@ ghost use Rattle.fy_c.specs.Checking.{HasProgress, HasChecked, bad_number, count
 
 use crate::status::Status;
 use fy_audit::laws::an_audit_is_read_entry_by_entry;
-use fy_audit::{AuditFault, AuditLineFault, AuditReader, MOST_AUDIT_BYTES, Version};
+use fy_audit::{
+    AuditFault, AuditLineFault, AuditReader, MOST_AUDIT_BYTES, MOST_LINE_BYTES, Version,
+};
 use fy_check::Replayer;
 use fy_cluster::Config;
+use fy_lines::first_line;
 use std::alloc::Global;
 use std::marker::Model;
 
@@ -117,8 +120,8 @@ fn read_header(alloc: Global, config: &Config, line: &[u8]) -> Result<Begun, Sta
 ///
 /// # Errors
 ///
-/// In order: `AuditTooLong`; `LineTooLong` or `LineSyntax`. `NoMemory` can take the place of either
-/// of the last two. Nothing changes.
+/// In order: `AuditTooLong`; `LineTooLong`; `LineSyntax`. `NoMemory` can take the place of the last.
+/// Nothing changes.
 fn read_entry(alloc: Global, begun: &mut Begun, line: &[u8]) -> Result<(), Status>
     ensures read { OnOk result ((setup : Setup) (bytes : List ℕ) →
         HasProgress setup bytes begun.old → HasProgress setup (bytes ++ line.now) begun.new) }
@@ -133,6 +136,11 @@ fn read_entry(alloc: Global, begun: &mut Begun, line: &[u8]) -> Result<(), Statu
     }
     if line.is_empty() {
         return Err(Status::LineSyntax);
+    }
+    // The reader doesn't say that it looks at the length before it asks for memory.
+    let (front, _) = first_line(line);
+    if front.len() > MOST_LINE_BYTES {
+        return Err(Status::LineTooLong);
     }
     let mut reader = AuditReader::resume(alloc, begun.version, begun.count, line);
     let entry = match reader.next_entry() {

@@ -151,7 +151,7 @@ pub extern "C" fn fy_kill_process(
 }
 
 /// What a kill of one process by an actor would get now.
-fn judge_process(
+pub(crate) fn judge_process(
     cluster: &Cluster,
     actor: u32,
     process: u32,

@@ -7,6 +7,7 @@ ghost use Rattle.fy_c.specs.declared.planning.TheConstants.{VALUE_BYTES};
 ghost use Rattle.fy_c.specs.declared.rights.TheConstants.{EVERYONE};
 ghost use Rattle.fy_c.specs.declared.storing.TheConstants.{MOST_PAYLOAD};
 ghost use denote.Param.Send.{IsSend};
+ghost use Rattle.fy_c.specs.Checked.{WhatWasReadIsFound};
 ghost use Rattle.fy_c.specs.contracts.check_handle.FyCheck as check;
 ghost use Rattle.fy_c.specs.contracts.handle.FyGuard as guard;
 
@@ -18,6 +19,11 @@ pub fn guards_are_sent()
 /// A check of an audit may be moved to another thread.
 pub fn checks_are_sent()
     ensures { IsSend check.the_row }
+{}
+
+/// What a check finds is found of all lines that it was given and read, from its begin on.
+pub fn what_was_read_is_found()
+    ensures { WhatWasReadIsFound }
 {}
 
 /// The number for no process, no record, no message, no bad entry and every process, the most bytes of

@@ -4,6 +4,7 @@
 
 mod acting;
 mod asking;
+mod bearing;
 mod check_calls;
 mod check_handle;
 mod checking;
@@ -11,6 +12,7 @@ mod clogging;
 mod entering;
 mod faults;
 mod handle;
+mod killable;
 mod killing;
 mod killing_process;
 pub mod laws;

@@ -45,12 +45,12 @@ fn comes_next(cluster: &mut Cluster, entry: Entry) -> Result<bool, AllocError>
 /// # Errors
 ///
 /// In order: `AuditTooLong`; `NoHeader`, for an audit of the first version too; `LineTooLong` or
-/// `LineSyntax` of a line before the first bad entry. `NoMemory` can take the place of any.
+/// `LineSyntax` of a line before the first bad entry. `NoMemory` can take the place of the last two.
 fn follow(alloc: Global, cluster: &mut Cluster, audit: &[u8]) -> Result<Option<u32>, Status>
     requires { cluster.old.journal ≡ [] }
     ensures followed { result ≡ Ok None → Follows cluster.old.setup audit.now cluster.new }
     ensures refuted { IfOk result (λ bad. IfSome bad (Refutes cluster.old.setup audit.now)) }
-    ensures refused { IfErr result (NotFollowed audit.now) }
+    ensures refused { IfErr result (NotFollowed cluster.old.setup audit.now) }
 {
     an_audit_is_read_entry_by_entry();
     let mut reader = match AuditReader::begin(alloc, audit) {
@@ -86,7 +86,7 @@ fn follow(alloc: Global, cluster: &mut Cluster, audit: &[u8]) -> Result<Option<u
 /// In order: the statuses for a cluster file that is refused; `AuditTooLong`; `NoHeader`, for an
 /// audit of the first version too; and of the lines, the first that isn't so: `LineTooLong` or
 /// `LineSyntax`, or `Refuted` where its reply isn't what the rules give. `NoMemory` can take the
-/// place of any. The guard is then what it was.
+/// place of any but `AuditTooLong` and `NoHeader`. The guard is then what it was.
 #[unsafe(no_mangle)]
 pub extern "C" fn fy_open_after(
     alloc: Global,

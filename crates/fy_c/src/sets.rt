@@ -76,7 +76,7 @@ pub extern "C" fn fy_destroyed_set(guard: &mut FyGuard, set: &mut [u64])
 }
 
 /// The processes that are gone for good.
-fn gone(cluster: &Cluster) -> ProcSet
+pub(crate) fn gone(cluster: &Cluster) -> ProcSet
     ensures { (p : ℕ) → sets.contains result p ≡ gone_in cluster.now p }
 {
     cluster

@@ -1,4 +1,4 @@
--- who asks, and after which entries
+-- the situation in which the answer of a case is judged
 use Rattle.fy_decide.specs.Verdicts.{Situation}
 use Rattle.fy_cluster.specs.Rules.{situation}
 use Rattle.fy_check_by_rules.specs.declared.rules.Case.{Case}

@@ -1,5 +1,6 @@
 -- what a cluster shows of its processes is what the machine's parts say
-use Rattle.std.proofs.Common.{◌≡◌, ℕ, ◌+◌, ◌==◌, ◌<◌, Bool, true, false, ◌&&◌, ◌||◌, Option, Some, None, refl, sym, ◌∙◌, ap, ap₂, arith, nat_lt, length, slice_get, lt-ltb}
+use Rattle.std.proofs.Common.{◌≡◌, ℕ, ◌+◌, ◌==◌, ◌<◌, ◌≤◌, Bool, true, false, ◌&&◌, ◌||◌, Option, Some, None, refl, sym, ◌∙◌, ap, ap₂, arith, nat_lt, length, slice_get, lt-ltb}
+use Rattle.std.proofs.lemmas.List.{get_or_past}
 use Rattle.std.proofs.lemmas.Bool.{eqb-true, false≢true, le-ltb}
 use Rattle.std.proofs.lemmas.Bool.Decides.{nat_tests}
 use Rattle.std.specs.FinSet as sets
@@ -36,52 +37,22 @@ up_is c h m k everyone out all is p = ap (λ s. sets.contains s p) is ∙ sets.c
 
 -- ---- a set that is made process by process
 
-pub none_yet : (f : ℕ → Bool) (q : ℕ) → false ≡ (nat_lt q 0 && f q)
-none_yet f q = ap (λ b. b && f q) (nothing_below q)
-  where
-    nothing_below : (q : ℕ) → false ≡ nat_lt q 0
-    nothing_below q = grind (arith, nat_tests)
-
-one_further : (q n : ℕ) → (q == n) ≡ false → nat_lt q n ≡ nat_lt q (n + 1)
-one_further q n apart = grind (arith, nat_tests)
-
--- one more, where it is in it
-pub one_next : (f : ℕ → Bool) (q n : ℕ) → ((q == n && f n) || (nat_lt q n && f q)) ≡ (nat_lt q (n + 1) && f q)
-one_next f q n = at (q == n) refl
-  where
-    own : (a b : Bool) → a ≡ false → (b || (a && b)) ≡ b
-    own a true e = refl
-    own true false e = absurd (false≢true (sym e))
-    own false false e = refl
-
-    at : (b : Bool) → (q == n) ≡ b → ((b && f n) || (nat_lt q n && f q)) ≡ (nat_lt q (n + 1) && f q)
-    at true e =
-        let same : q ≡ n = eqb-true q n e in
-        ap (λ k. f k || (nat_lt q n && f q)) (sym same)
-        ∙ own (nat_lt q n) (f q) (le-ltb q n (omega arith))
-        ∙ ap (λ b. b && f q) (sym (lt-ltb q (n + 1) (omega arith)))
-    at false e = ap (λ b. b && f q) (one_further q n e)
-
-pub put_true : (own holds had : Bool) → holds ≡ true → (own || had) ≡ ((own && holds) || had)
-put_true true true had e = refl
-put_true false true had e = refl
-put_true own false had e = absurd (false≢true e)
-
-pub put_false : (own holds had : Bool) → holds ≡ false → had ≡ ((own && holds) || had)
-put_false true false had e = refl
-put_false false false had e = refl
-put_false own true had e = absurd (false≢true (sym e))
+-- nothing is below 0
+nothing_below : (n : ℕ) → nat_lt n 0 ≡ false
+nothing_below n = grind (arith, nat_tests)
 
 -- who is clogged, among those that are there
-pub clogged_is : (c : Setup) (h : History) (m : Machine) → Refines c h m → (out : sets.FinSet nat_cmp) (count : ℕ) → count ≡ length c.processes → ((q : ℕ) → sets.contains out q ≡ (nat_lt q count && is_clogged m.net q))
+pub clogged_is : (c : Setup) (h : History) (m : Machine) → Refines c h m → (out : sets.FinSet nat_cmp) → ((q : ℕ) → sets.contains out q ≡ is_clogged m.net q)
     → (p : ℕ) → sets.contains out p ≡ clogged_in c h p
-clogged_is c h m k out count all each p = each p ∙ ap (λ n. nat_lt p n && is_clogged m.net p) all ∙ at (nat_lt p (length c.processes)) refl
+clogged_is c h m k out each p = each p ∙ at (nat_lt p (length c.processes)) refl
   where
-    at : (b : Bool) → nat_lt p (length c.processes) ≡ b → (b && is_clogged m.net p) ≡ (b && clogged h p)
+    at : (b : Bool) → nat_lt p (length c.processes) ≡ b → is_clogged m.net p ≡ (b && clogged h p)
     at true e =
         let there : p < length c.processes = grind (arith, nat_tests) in
         ap₂ (λ now end. nat_lt now end) k.net.clock (k.net.ends p there)
-    at false e = refl
+    at false e =
+        let past : length m.net.until ≤ p = (let count = k.net.count in let over : length c.processes ≤ p = grind (arith, nat_tests) in omega (arith, count, over)) in
+        ap (nat_lt m.net.clock) (get_or_past m.net.until p 0 past) ∙ nothing_below m.net.clock
 
 -- the least record that a process which is there still needs
 pub needed_is_at : (c : Setup) (h : History) (m : Machine) → Refines c h m → (p : ℕ) → p < length c.processes → (found : Option ℕ) → found ≡ needed_on m p (is_member_on m p) → found ≡ needed_at h p

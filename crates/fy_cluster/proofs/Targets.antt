@@ -111,6 +111,17 @@ lone_member set p alone = ap (λ s. sets.contains s p) alone ∙ sets.contains-i
     itself : ((p == p) || false) ≡ true
     itself = let e : (p == p) ≡ true = grind (arith, nat_tests) in rw e refl
 
+-- those of a set that are passed over would have stayed as they were
+pub passed_over : {X : Type 0} {set part : ℕ → Bool} {change : X → X} {empty_disk : X} {old new : List X} → ((p : ℕ) → part p ≡ true → set p ≡ true)
+    → ((p : ℕ) → set p ≡ true → part p ≡ false → change (get_or old p empty_disk) ≡ get_or old p empty_disk) → ChangesAt part change empty_disk old new → ChangesAt set change empty_disk old new
+passed_over {X} {set} {part} {change} {empty_disk} {old} {new} within same k = record { count = k.count; each = λ p l. k.each p l ∙ either p (part p) refl (set p) refl }
+  where
+    either : (p : ℕ) (b : Bool) → part p ≡ b → (s : Bool) → set p ≡ s → (if b then change (get_or old p empty_disk) else get_or old p empty_disk) ≡ (if s then change (get_or old p empty_disk) else get_or old p empty_disk)
+    either p true e true f = refl
+    either p false e false f = refl
+    either p true e false f = absurd (true≢false (sym (within p e) ∙ f))
+    either p false e true f = sym (same p f e)
+
 -- what changes nothing changes nothing at a set
 pub unchanged : {X : Type 0} {set : ℕ → Bool} {change : X → X} {empty_disk : X} {old : List X} → ((x : X) → change x ≡ x) → ChangesAt set change empty_disk old old
 unchanged {X} {set} {change} {empty_disk} {old} same = record {

@@ -30,7 +30,8 @@ use Rattle.fy_cluster.specs.Versions.{LegalUnder}
 abbrev pub by_and_act : Entry → ℕ × Act
 by_and_act e = (e.by, e.act)
 
--- some member of the record's team isn't destroyed, and every such member has the record synced
+-- some member of the record's team isn't destroyed, and every such member has the record synced,
+-- with the payload that it was begun with
 pub record Kept (h : History) (r : ℕ) : Type 0 where
   pub someone : IsTrue (list_any (λ p. not (destroyed h p.0)) (members_for h r))
   pub everyone : (p : ProcId) → Contains (members_for h r) p → IsFalse (destroyed h p.0) →
@@ -118,9 +119,8 @@ SameActsSameJournal =
     (version : Version) (c : Setup) (xs ys : List Entry) → LegalUnder version c xs →
     LegalUnder version c ys → map by_and_act xs ≡ map by_and_act ys → xs ≡ ys
 
--- who delivers a process's acknowledgement of a record is told whether the record is acknowledged
--- from then on; an entry from which a record is acknowledged is such an answer; and an acknowledged
--- record stays acknowledged
+-- the reply to a delivered acknowledgement says whether the record is now acknowledged; no other
+-- entry acknowledges one; an acknowledged record stays acknowledged
 pub record IsTold (c : Setup) (h : History) (e : Entry) : Type 0 where
   pub answered : (n r : ℕ) (from : ProcId) (told : Bool) → e.act ≡ Deliver n →
       slice_get (sent h) n ≡ Some (Synced r from) → e.reply ≡ Marked told →

@@ -182,12 +182,12 @@ impl ClusterState {
         self.config.map().everyone().intersection(&self.machine.up)
     }
 
-    /// The processes whose messages are held back. Each process is looked at.
+    /// The processes whose messages are held back.
     pub fn clogged(&self) -> ProcSet
         ensures { (p : ℕ) → sets.contains result p
             ≡ clogged_in self.now.setup (history_of self.now) p }
     {
-        self.machine.clogged(self.config.map().len())
+        self.machine.net.all_clogged()
     }
 
     /// The state of the process with this number; `None` where there is no such process.

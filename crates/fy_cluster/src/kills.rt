@@ -1,5 +1,5 @@
 //! The act Kill: the targets of an order are struck, and recorded as lost where the kind destroys.
-ghost use Rattle.std.specs.Prelude.{◌≡◌, ◌<◌, ℕ, true, [], length, slice_set, Some, Ok};
+ghost use Rattle.std.specs.Prelude.{◌≡◌, ◌<◌, ℕ, true, false, [], length, slice_set, Some, Ok};
 ghost use Rattle.std.specs.FinSet as sets;
 ghost use Rattle.fy_decide.specs.declared.dead_book.Loss.{Loss};
 ghost use Rattle.fy_decide.specs.Targets.{targeted};
@@ -45,6 +45,20 @@ fn strike_disks(disks: &mut Disks, targets: &ProcSet, kind: Kind, tear: u64)
     }
 }
 
+/// Of these processes those whose disks a strike may change: a reboot leaves a disk as it is that has
+/// nothing to sync.
+fn changed_by(disks: &Disks, targets: &ProcSet, kind: Kind) -> ProcSet
+    ensures within { (p : ℕ) → sets.contains result p ≡ true → sets.contains targets.now p ≡ true }
+    ensures same { (p tear : ℕ) → sets.contains targets.now p ≡ true
+        → sets.contains result p ≡ false
+        → disk_after_strike kind tear (disk_of disks.now p) ≡ disk_of disks.now p }
+{
+    match kind {
+        Kind::Reboot => targets.intersection(disks.with_unsynced()),
+        Kind::RebootProcess | Kind::RebootAndDelete | Kind::KillInstantly => *targets,
+    }
+}
+
 /// Strikes the disk of each target. Of a lone one no set is made.
 fn strike_targets(disks: &mut Disks, targets: &Targets, kind: Kind, tear: u64)
     requires { (p : ℕ) → sets.contains (targeted targets.now) p ≡ true → p < length disks.old }
@@ -57,7 +71,10 @@ fn strike_targets(disks: &mut Disks, targets: &Targets, kind: Kind, tear: u64)
     }
     match targets.alone() {
         Some(p) => strike_disk(disks, p, kind, tear),
-        None => strike_disks(disks, &targets.set(), kind, tear),
+        None => {
+            let changed = changed_by(disks, &targets.set(), kind);
+            strike_disks(disks, &changed, kind, tear);
+        }
     }
 }
 

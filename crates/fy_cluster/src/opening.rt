@@ -1,6 +1,7 @@
 //! A machine before anything happened.
 ghost use Rattle.std.specs.Prelude.{◌≡◌, ◌≤◌, ◌<◌, ◌+◌, ◌++◌, ◌==◌, ◌&&◌, ◌||◌, ℕ, [], length, filter, IfOk, OnOk};
 ghost use Rattle.std.specs.List.{All, list_any};
+ghost use Rattle.fy_locality.specs.declared.TheConstants.{MOST_PROCESSES};
 ghost use Rattle.fy_kinds.specs.Kinds.{Deed, has};
 ghost use Rattle.fy_grants.specs.declared.book.TheConstants.{MOST_GRANTS};
 ghost use Rattle.fy_grants.specs.Rights.{grants_of, protections_of, grant_count};
@@ -84,6 +85,7 @@ fn first_rights(alloc: Global, config: &Config) -> Result<Book, AllocError>
 
 /// A network in which nothing was sent.
 fn quiet_net(alloc: Global, processes: u32) -> Result<Net, AllocError>
+    requires { processes ≤ MOST_PROCESSES }
     ensures { IfOk result (λ net. net ≡ quiet processes) }
 {
     match Net::make(alloc, processes) {

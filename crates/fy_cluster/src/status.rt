@@ -1,15 +1,12 @@
 //! The state of a process.
-ghost use Rattle.std.specs.Prelude.{◌≡◌, ◌<◌, ◌≤◌, ◌==◌, ◌&&◌, ◌||◌, ℕ, length, nat_lt};
-ghost use Rattle.std.specs.FinSet as sets;
-ghost use Rattle.fy_locality.specs.declared.TheConstants.{MOST_PROCESSES};
-ghost use Rattle.fy_net.specs.Net.{is_clogged};
+ghost use Rattle.std.specs.Prelude.{◌≡◌, ◌<◌, length};
 ghost use Rattle.fy_cluster.specs.Setup.{Setup};
 ghost use Rattle.fy_cluster.specs.History.{History};
 ghost use Rattle.fy_cluster.specs.Standing.{Refines};
 ghost use Rattle.fy_cluster.specs.Sights.{status_at, needed_at};
 
 use crate::machine::Machine;
-use fy_locality::{ProcId, ProcSet};
+use fy_locality::ProcId;
 
 /// The state of a process.
 #[derive(Clone, Copy, PartialEq, Eq, Debug)]
@@ -24,17 +21,6 @@ pub struct Status {
     pub gone: bool,
 }
 
-/// Puts a process into a set, where this holds of it.
-fn put_where(set: &mut ProcSet, p: ProcId, holds: bool)
-    requires { p.0 < MOST_PROCESSES }
-    ensures { (q : ℕ) → sets.contains set.new q
-        ≡ ((q == p.0 && holds) || sets.contains set.old q) }
-{
-    if holds {
-        set.put(p);
-    }
-}
-
 impl Machine {
     /// The state of a process that is there.
     pub(crate) fn status(&self, p: ProcId) -> Status
@@ -47,19 +33,5 @@ impl Machine {
             destroyed: self.dead.destroyed().contains(p),
             gone: !self.dead.left().contains(p),
         }
-    }
-
-    /// Of the first processes, up to so many, those that are clogged.
-    pub(crate) fn clogged(&self, count: u32) -> ProcSet
-        requires there { count ≤ length self.now.net.until }
-        requires few { count ≤ MOST_PROCESSES }
-        ensures { (p : ℕ) → sets.contains result p
-            ≡ (nat_lt p count && is_clogged self.now.net p) }
-    {
-        let mut clogged = ProcSet::empty();
-        for p in 0..count {
-            put_where(&mut clogged, ProcId(p), self.net.clogged(ProcId(p)));
-        }
-        clogged
     }
 }

@@ -61,7 +61,8 @@ least situation set test =
 abbrev pub is_granted_to : Situation → Deed → ℕ → Bool
 is_granted_to situation deed p = is_covered situation.processes situation.grants (only deed) p
 
--- the first three rules, of leave: each where it bars the deed at these processes
+-- the first three rules, of permission, each where it bars the deed at these processes: there is no
+-- target; the least process that no grant with the deed covers; the least that is protected from it
 abbrev pub permission_rules : Situation → Deed → (ℕ → Bool) → List (Option Rule)
 permission_rules situation deed s =
     (if list_any s (numbers situation) then None else Some NoTarget)
@@ -79,7 +80,8 @@ abbrev pub too_few_left : Situation → (ℕ → Bool) → Option ℕ
 too_few_left situation s =
     first_short situation.processes situation.policies (without_set situation.left s)
 
--- the last two, of replication
+-- the last two, of replication: the least policy that the destroyed with these processes satisfy;
+-- the least that those left without them are short of
 abbrev pub loss_rules : Situation → Deed → (ℕ → Bool) → List (Option Rule)
 loss_rules situation deed s =
     (if is_kill_which is_destroying deed
@@ -88,7 +90,7 @@ loss_rules situation deed s =
     then option_map TooFewLeft (too_few_left situation s) else None)
     ∷ []
 
--- the first that bars
+-- the first of some rules that bars
 abbrev pub first_rule : List (Option Rule) → Option Rule
 first_rule [] = None
 first_rule (None ∷ rest) = first_rule rest

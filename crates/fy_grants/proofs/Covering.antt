@@ -1,12 +1,14 @@
 -- the least process of a set that passes a test, from sets of processes
-use Rattle.std.proofs.Common.{◌==◌, eqb-true, ◌≡◌, ℕ, zero, suc, ◌+◌, ◌<◌, ◌≤◌, Bool, true, false, ◌&&◌, ◌||◌, not, cond, Option, Some, None, List, get_or, take, length, refl, sym, ap, ◌∙◌, arith, inl, inr}
-use Rattle.std.specs.Prelude.{◌↔◌, IfSome, IfNone, slice_index_or}
+use Rattle.std.proofs.Common.{true≢false, replicate, ◌==◌, eqb-true, ◌≡◌, ℕ, zero, suc, ◌+◌, ◌<◌, ◌≤◌, Bool, true, false, ◌&&◌, ◌||◌, not, cond, Option, Some, None, List, get_or, take, length, refl, sym, ap, ◌∙◌, arith, inl, inr}
+use Rattle.std.specs.Prelude.{◌↔◌, IfSome, IfNone, slice_index_or, slice_set}
 use Rattle.std.specs.Option.{option_map}
 use Rattle.std.specs.List.{find, range_with_len}
 use Rattle.std.specs.Ordering.{nat_cmp}
 use Rattle.std.specs.FinSet as sets
 use Rattle.std.specs.Cmp.{nat_cmp_total, unsigned_tied}
 use Rattle.std.proofs.lemmas.Bool.{cases_lt}
+use Rattle.std.proofs.lemmas.Bool.Decides.{nat_tests}
+use Rattle.std.proofs.lemmas.List.{length-set, length-replicate, get_or-set_other}
 use Rattle.std.proofs.lemmas.List.Folds.{list_any_more}
 use Rattle.fy_locality.specs.declared.ProcId.{ProcId}
 use Rattle.fy_locality.specs.declared.locality.Locality.{Locality}
@@ -15,6 +17,7 @@ use Rattle.fy_kinds.specs.declared.kind_set.KindSet.{KindSet}
 use Rattle.fy_kinds.specs.Kinds.{no_deed, has_all, has_some}
 use Rattle.fy_grants.specs.declared.grant.Grant.{Grant}
 use Rattle.fy_grants.specs.Least.{LeastWith, least_with}
+use Rattle.fy_grants.specs.Protections.{AreNoted}
 use Rattle.fy_grants.specs.Rights.{is_in_scope, is_covered}
 
 pub and_true : (b : Bool) → b ≡ (b && true)
@@ -96,6 +99,48 @@ passed_over {s} {rest} {next} {test} {p} before is fails = record {
     at : (q : ℕ) → sets.contains s q ≡ true → (b : Bool) → (q == p) ≡ b → (not b && sets.contains rest q) ≡ false → test q ≡ false
     at q member true same gone = ap test (eqb-true q p same) ∙ fails
     at q member false other gone = before.none_passes q member gone
+
+-- those of a set that aren't noted pass no test of protection
+pub noted_alone : (s noted : sets.FinSet nat_cmp) (protections : List KindSet) (kinds : KindSet) → AreNoted protections noted → PassedOver s (sets.intersection s noted) (shielded protections kinds)
+noted_alone s noted protections kinds are = record {
+  within = λ q both. (both_true _ _ (sym (sets.contains-intersection nat_cmp_total s noted q) ∙ both)).0;
+  none_passes = λ q member gone. are.others q kinds (second_false _ _ (sym (sets.contains-intersection nat_cmp_total s noted q) ∙ gone) member);
+}
+
+-- a process that is noted may be protected from anything
+pub noted_more : (protections : List KindSet) (noted : sets.FinSet nat_cmp) (p : ℕ) (kinds : KindSet) → AreNoted protections noted → AreNoted (slice_set protections p kinds) (sets.insert noted p)
+noted_more protections noted p kinds are = record {
+  few = omega (arith, are.few, length-set protections p kinds);
+  others = λ q asked out.
+      let out-either : ((q == p) || sets.contains noted q) ≡ false = sym (sets.contains-insert nat_cmp_total noted p q ∙ ap (λ b. b || sets.contains noted q) (unsigned_tied q p)) ∙ out in
+      let apart = neither (q == p) _ out-either in
+      ap (λ own. has_some own asked) (get_or-set_other protections p q kinds no_deed (λ same. true≢false (sym (eqb-refl_of q p same) ∙ apart.0))) ∙ are.others q asked apart.1;
+}
+  where
+    neither : (a b : Bool) → (a || b) ≡ false → (a ≡ false) × (b ≡ false)
+    neither false b e = (refl, e)
+    neither true b e = absurd (let x : ⊥ = cc in x)
+
+    eqb-refl_of : (q p : ℕ) → q ≡ p → (q == p) ≡ true
+    eqb-refl_of q p same = grind (arith, nat_tests)
+
+none_noted : (n p : ℕ) → slice_index_or (replicate n no_deed) p no_deed ≡ no_deed
+none_noted zero p = refl
+none_noted (suc n) zero = refl
+none_noted (suc n) (suc p) = none_noted n p
+
+none_more : (a rest : Bool) → rest ≡ false → (a && false || rest) ≡ false
+none_more true rest e = e
+none_more false rest e = e
+
+has_none : (kinds : KindSet) → has_some no_deed kinds ≡ false
+has_none kinds = none_more kinds.reboot_process _ (none_more kinds.reboot _ (none_more kinds.reboot_and_delete _ (none_more kinds.kill_instantly _ (none_more kinds.clog _ refl))))
+
+pub noted_none : (n : ℕ) (protections : List KindSet) → n ≤ 1024 → protections ≡ replicate n no_deed → AreNoted protections sets.empty
+noted_none n protections few is = record {
+  few = let e : length protections ≡ n = ap length is ∙ length-replicate n no_deed in omega arith;
+  others = λ p kinds out. ap (λ own. has_some own kinds) (ap (λ all. slice_index_or all p no_deed) is ∙ none_noted n p) ∙ has_none kinds;
+}
 
 -- ---- the least as the first that is found
 

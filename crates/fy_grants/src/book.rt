@@ -10,7 +10,8 @@ ghost use Rattle.fy_grants.specs.declared.book.BookFault.TheVariants.{NoMemory};
 use crate::Grant;
 use crate::cover::Cover;
 use crate::grant::push_last;
-use crate::scopes::{is_covered, is_shielded, least_protected, left_uncovered};
+use crate::protections::Protections;
+use crate::scopes::{is_covered, left_uncovered};
 use fy_kinds::KindSet;
 use fy_locality::{Map, ProcId, ProcSet};
 use std::alloc::{AllocError, Global};
@@ -28,7 +29,7 @@ pub struct Book {
     grants: Vec<Vec<Grant>>,
     given: usize,
     covers: Vec<Cover>,
-    protections: Vec<KindSet>,
+    protections: Protections,
 }
 
 impl Model for Book {
@@ -40,7 +41,7 @@ impl Model for Book {
     ghost view = { λ b. record {
       processes = b.processes;
       grants = map (λ own. own.items) b.grants.items;
-      protections = b.protections.items;
+      protections = b.protections;
     } };
 
     ghost use Rattle.fy_grants.specs.Covers.{IsGrantBook};
@@ -78,7 +79,7 @@ impl Book {
             grants: no_grants(alloc, actors)?,
             given: 0,
             covers: bare_covers(alloc, actors)?,
-            protections: no_protections(alloc, map.len())?,
+            protections: Protections::make(alloc, map.len())?,
         })
     }
 
@@ -155,8 +156,8 @@ impl Book {
         ensures { self.new
             ≡ with_protection self.old p.0 (in_either (protections_of self.old p.0) kinds) }
     {
-        let place = p.0 as usize;
-        self.protections[place] = self.protections[place].union(kinds);
+        let kinds = self.protections.at(p).union(kinds);
+        self.protections.put(p, kinds);
     }
 
     /// Takes out of the kinds from which a process is protected.
@@ -165,8 +166,8 @@ impl Book {
         ensures { self.new
             ≡ with_protection self.old p.0 (in_first_alone (protections_of self.old p.0) kinds) }
     {
-        let place = p.0 as usize;
-        self.protections[place] = self.protections[place].difference(kinds);
+        let kinds = self.protections.at(p).difference(kinds);
+        self.protections.put(p, kinds);
     }
 
     /// The grants of an actor; an actor that isn't there has none.
@@ -184,7 +185,7 @@ impl Book {
         requires { p.0 < length self.now.protections }
         ensures { result ≡ protections_of self.now p.0 }
     {
-        self.protections[p.0 as usize]
+        self.protections.at(p)
     }
 
     /// The least process of a set that no grant of the actor with all these kinds covers. An actor
@@ -230,7 +231,7 @@ impl Book {
     pub fn protects(&self, kinds: KindSet, p: ProcId) -> bool
         ensures { result ≡ is_protected self.now kinds p.0 }
     {
-        is_shielded(&self.protections, kinds, p)
+        self.protections.shields(kinds, p)
     }
 
     /// The least process of a set that is protected from some of these kinds. A process that isn't
@@ -238,7 +239,7 @@ impl Book {
     pub fn barred(&self, kinds: KindSet, set: &ProcSet) -> Option<ProcId>
         ensures { LeastWith (sets.contains set.now) (is_protected self.now kinds) result }
     {
-        least_protected(&self.protections, kinds, set)
+        self.protections.least(kinds, set)
     }
 }
 
@@ -285,15 +286,4 @@ fn bare_covers(alloc: Global, actors: u32) -> Result<Vec<Cover>, AllocError>
         covers.push(Cover::bare())?;
     }
     Ok(covers)
-}
-
-/// As many empty sets of kinds as there are processes.
-fn no_protections(alloc: Global, processes: u32) -> Result<Vec<KindSet>, AllocError>
-    ensures { IfOk result (λ sets. sets.items ≡ replicate processes no_deed) }
-{
-    let mut sets = Vec::new(alloc);
-    for _process in 0..processes {
-        sets.push(KindSet::empty())?;
-    }
-    Ok(sets)
 }

@@ -5,6 +5,7 @@ mod book;
 mod cover;
 mod grant;
 pub mod laws;
+mod protections;
 mod scopes;
 
 pub use book::{Book, BookFault, MOST_GRANTS};

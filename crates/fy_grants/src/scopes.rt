@@ -1,9 +1,7 @@
-//! Which processes grants leave uncovered and protections shield, by a look at each grant. A
+//! Which processes grants leave uncovered, by a look at each grant. A
 //! question about one kind alone is answered by the cover (`cover.rt`) instead.
-ghost use Rattle.std.specs.Prelude.{◌≡◌, ◌&&◌, not, ℕ, slice_index_or};
-ghost use Rattle.fy_kinds.specs.Kinds.{no_deed, has_some};
+ghost use Rattle.std.specs.Prelude.{◌≡◌, ◌&&◌, not, ℕ};
 ghost use Rattle.std.specs.FinSet as sets;
-ghost use Rattle.fy_grants.specs.Least.{LeastWith};
 ghost use Rattle.fy_grants.specs.Rights.{is_in_scope, is_granted, is_covered};
 
 use crate::{Grant, Scope};
@@ -60,32 +58,4 @@ pub(crate) fn is_covered(grants: &[Grant], kinds: KindSet, map: &Map, p: ProcId)
     ensures { result ≡ is_covered map.now grants.now kinds p.0 }
 {
     grants.iter().any(|grant| grant.kinds.contains(kinds) && is_in_scope(grant.scope, map, p))
-}
-
-/// Whether a process is protected from some of these kinds. A process that isn't there is protected
-/// from none.
-pub(crate) fn is_shielded(protections: &[KindSet], kinds: KindSet, p: ProcId) -> bool
-    ensures { result ≡ has_some (slice_index_or protections.now p.0 no_deed) kinds }
-{
-    match protections.get(p.0 as usize) {
-        Some(own) => own.intersects(kinds),
-        None => false,
-    }
-}
-
-/// The least process of a set that is protected from some of these kinds.
-pub(crate) fn least_protected(
-    protections: &[KindSet],
-    kinds: KindSet,
-    set: &ProcSet,
-) -> Option<ProcId>
-    ensures { LeastWith (sets.contains set.now)
-        (λ q. has_some (slice_index_or protections.now q no_deed) kinds) result }
-{
-    for p in set.iter() {
-        if is_shielded(protections, kinds, p) {
-            return Some(p);
-        }
-    }
-    None
 }

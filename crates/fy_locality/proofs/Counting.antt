@@ -1,5 +1,5 @@
 -- how many members sixteen words have, and the least
-use Rattle.std.proofs.Common.{◌≡◌, ◌≢◌, ℕ, ◌+◌, ◌*◌, ◌-◌, ◌/◌, ◌%◌, ◌^◌, ◌<◌, ◌≤◌, Bool, true, false, ◌&&◌, List, inl, inr, zero, suc, refl, sym, ap, ◌∙◌, arith, cond, eqb, ltb, get_or}
+use Rattle.std.proofs.Common.{◌≡◌, ◌≢◌, ℕ, ◌+◌, ◌*◌, ◌-◌, ◌/◌, ◌%◌, ◌^◌, ◌<◌, ◌≤◌, Bool, true, false, ◌&&◌, not, List, inl, inr, zero, suc, refl, sym, ap, ◌∙◌, arith, cond, eqb, ltb, get_or}
 use Rattle.std.specs.Ordering.{nat_cmp}
 use Rattle.std.specs.Prelude.{count_ones}
 use lib.Count.{ones, ones_in}
@@ -11,7 +11,7 @@ use Rattle.std.proofs.lemmas.Nat.{ones_cat, mod-pow-add, mod_below}
 use Rattle.std.proofs.Math.Pow.{pow_pos}
 use Rattle.std.proofs.lemmas.Bool.{cases_lt, cases_eq}
 use Rattle.std.proofs.lemmas.Bool.Decides.{nat_tests}
-use Rattle.fy_locality.specs.Members.{has_bit, members, members_below, AreWords, IsLeast}
+use Rattle.fy_locality.specs.Members.{has_bit, members, members_below, AreWords, IsLeast, StartsAt}
 use Rattle.fy_locality.specs.MembersInverse.{contains-members, contains-members_below, contains-members_at}
 use Rattle.fy_locality.proofs.Sizes.{members_are}
 
@@ -94,13 +94,17 @@ bit_of_zero w i e = ap (λ n. eqb (bit_at n i) 1) e ∙ ap (λ n. eqb n 1) (bit_
 off : (q : ℕ) (b : Bool) → b ≡ false → (ltb q 1024 && b) ≡ false
 off q b e = grind (arith, nat_tests)
 
--- where the first n words are 0, nothing below them is a member
-pub none_below_zeros : (ws : List ℕ) (n : ℕ) → ((k : ℕ) → k < n → get_or ws k 0 ≡ 0) → (q : ℕ) → q < n * 64 → sets.contains (members ws) q ≡ false
-none_below_zeros ws n zeros q h = contains-members ws q ∙ off q _ (bit_of_zero _ (q % 64) (zeros (q / 64) (omega arith)))
+-- where nothing below word `first` is a member and the words from there to word n are 0, nothing below
+-- word n is
+pub none_below_zeros : (ws : List ℕ) (first n : ℕ) → StartsAt first (members ws) → ((k : ℕ) → first ≤ k → k < n → get_or ws k 0 ≡ 0) → StartsAt n (members ws)
+none_below_zeros ws first n starts zeros q h = elim (cases_lt q (first * 64)) [
+  | inl early ↦ starts q early
+  | inr late ↦ contains-members ws q ∙ off q _ (bit_of_zero _ (q % 64) (zeros (q / 64) (omega arith) (omega arith)))
+]
 
-pub all_zeros : (ws : List ℕ) → ((k : ℕ) → k < 16 → get_or ws k 0 ≡ 0) → members ws ≡ sets.empty
-all_zeros ws zeros = sets.same_set nat_cmp_total sets.nat_cmp-IsAntisymmetric _ _ (λ q. (elim (cases_lt q 1024) [
-  | inl h ↦ none_below_zeros ws 16 zeros q (omega arith)
+pub nobody : (ws : List ℕ) → StartsAt 16 (members ws) → members ws ≡ sets.empty
+nobody ws none = sets.same_set nat_cmp_total sets.nat_cmp-IsAntisymmetric _ _ (λ q. (elim (cases_lt q 1024) [
+  | inl h ↦ none q (omega arith)
   | inr h ↦ contains-members ws q ∙ past q _ h
 ]) ∙ sym (sets.contains-empty nat_cmp q))
   where
@@ -108,8 +112,8 @@ all_zeros ws zeros = sets.same_set nat_cmp_total sets.nat_cmp-IsAntisymmetric _ 
     past q b h = grind (arith, nat_tests)
 
 -- the lowest bit of the first word that isn't 0
-pub least-first_word : (ws : List ℕ) (n : ℕ) → AreWords ws → n < 16 → ((k : ℕ) → k < n → get_or ws k 0 ≡ 0) → get_or ws n 0 ≢ 0 → (trailing_zeros w64 (get_or ws n 0) < 64) × IsLeast (members ws) (n * 64 + trailing_zeros w64 (get_or ws n 0))
-least-first_word ws n are below zeros some =
+pub least-first_word : (ws : List ℕ) (n : ℕ) → AreWords ws → n < 16 → StartsAt n (members ws) → get_or ws n 0 ≢ 0 → (trailing_zeros w64 (get_or ws n 0) < 64) × IsLeast (members ws) (n * 64 + trailing_zeros w64 (get_or ws n 0))
+least-first_word ws n are below none some =
     let w = get_or ws n 0 in
     let positive : 0 < get_or ws n 0 = omega arith in
     let low = bit_at-trailing_zeros w64 w positive (are.fit n) in (
@@ -117,7 +121,7 @@ least-first_word ws n are below zeros some =
       record {
         present = contains-members_at ws n _ below low.0 ∙ ap (λ b. eqb b 1) low.1;
         none_below = λ q h. elim (cases_lt q (n * 64)) [
-          | inl early ↦ none_below_zeros ws n zeros q early
+          | inl early ↦ none q early
           | inr here ↦
               let i : q ≡ n * 64 + (q - n * 64) = omega arith in
               let within : q - n * 64 < trailing_zeros w64 w = omega arith in
@@ -144,3 +148,10 @@ len-without_least s p least =
       | inl none ↦ absurd (IsLeast-some s p least (sets.empty_of_len s none))
       | inr some ↦ omega arith
     ]
+
+-- and nothing below the word in which it was
+pub starts-without_least : (s : sets.FinSet nat_cmp) (p : ℕ) → IsLeast s p → StartsAt (p / 64) (sets.remove s p)
+starts-without_least s p least q h = sets.contains-remove nat_cmp_total s p q ∙ neither _ _ (least.none_below q (omega arith))
+  where
+    neither : (a b : Bool) → b ≡ false → (not a && b) ≡ false
+    neither a b e = grind (arith, nat_tests)

@@ -1,5 +1,6 @@
 pub mod Counting
 pub mod Indexes
+pub mod Lowest
 pub mod Merging
 pub mod NameLemmas
 pub mod ValueIndexes

@@ -34,6 +34,10 @@ TakesLeast s item t =
     ((s ≡ set.empty) × (t ≡ set.empty))
     (λ p. IsLeast s p.0 × (t ≡ set.remove s p.0))
 
+-- nothing below a word's first number is in the set
+abbrev pub StartsAt : ℕ → set.FinSet nat_cmp → Type 0
+StartsAt first s = (q : ℕ) → q < first * 64 → set.contains s q ≡ false
+
 -- each member is the number of a process
 abbrev pub AreSmall : set.FinSet nat_cmp → Type 0
 AreSmall s = (q : ℕ) → set.contains s q ≡ true → q < MOST_PROCESSES

@@ -171,11 +171,7 @@ impl Map {
     pub fn everyone(&self) -> ProcSet
         ensures { (q : ℕ) → sets.contains result q ≡ nat_lt q (length self.now) }
     {
-        let mut all = ProcSet::empty();
-        for p in 0..self.len() {
-            all.put(ProcId(p));
-        }
-        all
+        ProcSet::below(self.len())
     }
 
     /// The process with a name.

@@ -1,8 +1,9 @@
 //! A set of processes, a bit for each.
-ghost use Rattle.std.specs.Prelude.{◌≡◌, ◌↔◌, ◌<◌, ◌≤◌, ℕ, true, false, IsTrue, IfSome, IfNone};
+ghost use Rattle.std.specs.Prelude.{◌≡◌, ◌↔◌, ◌<◌, ◌≤◌, ◌==◌, nat_lt, ℕ, true, IsTrue, IfSome, IfNone};
+ghost use Rattle.std.specs.Int.{bit_at};
 ghost use Rattle.std.specs.Ordering.{nat_cmp};
 ghost use Rattle.std.specs.FinSet as sets;
-ghost use Rattle.fy_locality.specs.Members.{IsLeast, AreSmall, members};
+ghost use Rattle.fy_locality.specs.Members.{IsLeast, StartsAt, AreSmall, members};
 
 use crate::{MOST_PROCESSES, ProcId, Processes};
 use std::marker::Model;
@@ -45,6 +46,18 @@ impl ProcSet {
         ProcSet {
             words: [0; SET_WORDS],
         }
+    }
+
+    /// The processes with a number below this one.
+    pub(crate) fn below(count: u32) -> Self
+        requires { count ≤ MOST_PROCESSES }
+        ensures { (q : ℕ) → sets.contains result q ≡ nat_lt q count }
+    {
+        let mut words = [0; SET_WORDS];
+        for k in 0..SET_WORDS {
+            words[k] = low_bits(count.saturating_sub(k as u32 * 64));
+        }
+        ProcSet { words }
     }
 
     /// Puts a process in.
@@ -114,7 +127,17 @@ impl ProcSet {
         ensures small { IfSome result (λ p. p.0 < MOST_PROCESSES) }
         ensures none { IfNone result (self.now ≡ sets.empty) }
     {
-        for k in 0..SET_WORDS {
+        self.least_from(0)
+    }
+
+    /// The least process in the set, which has none below the word at this place.
+    pub(crate) fn least_from(&self, first: usize) -> Option<ProcId>
+        requires { StartsAt first self.now }
+        ensures some { IfSome result (λ p. IsLeast self.now p.0) }
+        ensures small { IfSome result (λ p. p.0 < MOST_PROCESSES) }
+        ensures none { IfNone result (self.now ≡ sets.empty) }
+    {
+        for k in first..SET_WORDS {
             let word = self.words[k];
             if word != 0 {
                 return Some(ProcId(k as u32 * 64 + word.trailing_zeros()));
@@ -127,7 +150,10 @@ impl ProcSet {
     pub fn iter(&self) -> Processes
         ensures { result ≡ self.now }
     {
-        Processes { rest: *self }
+        Processes {
+            rest: *self,
+            first: 0,
+        }
     }
 
     /// The processes of either set.
@@ -168,5 +194,16 @@ impl ProcSet {
         ensures { AreSmall self.now }
     {
         let _words = &self.words;
+    }
+}
+
+/// A word whose lowest bits are 1, so many of them, or all if it hasn't so many.
+fn low_bits(count: u32) -> u64
+    ensures { (i : ℕ) → i < 64 → (bit_at result i == 1) ≡ nat_lt i count }
+{
+    if count < 64 {
+        (1u64 << count) - 1
+    } else {
+        u64::MAX
     }
 }

@@ -6,10 +6,12 @@ ghost use Rattle.fy_locality.specs.Members.{TakesLeast};
 use crate::{ProcId, ProcSet};
 use std::marker::Model;
 
-/// What is left of a set, by rising number. `ProcSet::iter` makes one.
+/// What is left of a set, by rising number. `ProcSet::iter` makes one. No process of it is below the
+/// word at the place `first`, so that the words before it are passed over once.
 #[derive(Drop)]
 pub struct Processes {
     pub(crate) rest: ProcSet,
+    pub(crate) first: usize,
 }
 
 impl Model for Processes {
@@ -22,6 +24,10 @@ impl Model for Processes {
     ghost coded = { sets.code coded_ℕ };
 
     ghost view = { λ it. it.rest };
+
+    ghost use Rattle.fy_locality.specs.Members.{StartsAt};
+
+    ghost invariant = { λ it. StartsAt it.first it.rest };
 }
 
 impl Iterator for Processes {
@@ -32,8 +38,9 @@ impl Iterator for Processes {
     ghost remaining = { λ s. at_most (sets.len s) };
 
     fn next(&mut self) -> Option<ProcId> {
-        match self.rest.least() {
+        match self.rest.least_from(self.first) {
             Some(least) => {
+                self.first = least.0 as usize / 64;
                 self.rest.drop_one(least);
                 Some(least)
             }

@@ -1,6 +1,7 @@
 -- what holds of a network's fields as messages come and go
-use Rattle.std.proofs.Common.{◌≡◌, ℕ, ◌+◌, ◌-◌, ◌^◌, ◌<◌, ◌≤◌, true, false, not, List, [], ◌∷◌, ◌++◌, length, filter, sym, ◌∙◌}
+use Rattle.std.proofs.Common.{◌≡◌, ℕ, ◌+◌, ◌-◌, ◌^◌, ◌<◌, ◌≤◌, true, false, not, List, [], ◌∷◌, ◌++◌, length, filter, sym, ◌∙◌, subst}
 use Rattle.std.proofs.lemmas.List.{get_or-map}
+use Rattle.fy_locality.specs.declared.TheConstants.{MOST_PROCESSES}
 use Rattle.fy_net.specs.declared.limits.TheConstants.{MOST_IN_FLIGHT}
 use Rattle.fy_net.specs.declared.message.Body.{Body}
 use Rattle.fy_net.specs.declared.net.Net.TheInside.{Inside}
@@ -23,7 +24,9 @@ module _ (net : Inside) (kept : NetInvariant net) (new : Pool) (pool : IsPool ne
     sound = rw (there, like.sent) (sound_left (net_state net) number kept.sound);
     pool = pool;
     processes = kept.processes ∙ sym like.processes;
+    few = subst (λ n. n ≤ MOST_PROCESSES) (sym like.processes) kept.few;
     spare = like.room net.room kept.spare;
+    clogs = kept.clogs;
   }
 
   pub kept_voided : (p : ℕ) → KeepsRoom net.pool new → there_of new.slots.items ≡ filter (λ m. not (is_ack_from p m.body)) (there_of net.pool.slots.items) → NetInvariant (record net { pool = new })
@@ -31,7 +34,9 @@ module _ (net : Inside) (kept : NetInvariant net) (new : Pool) (pool : IsPool ne
     sound = rw (there, like.sent) (sound_filtered (λ m. not (is_ack_from p m.body)) (net_state net) kept.sound);
     pool = pool;
     processes = kept.processes ∙ sym like.processes;
+    few = subst (λ n. n ≤ MOST_PROCESSES) (sym like.processes) kept.few;
     spare = like.room net.room kept.spare;
+    clogs = kept.clogs;
   }
 
   pub kept_sent : (body : Body) → 0 < net.room → process_of body < length net.until.items → new.sent ≡ net.pool.sent + 1 → new.processes ≡ net.pool.processes
@@ -40,7 +45,9 @@ module _ (net : Inside) (kept : NetInvariant net) (new : Pool) (pool : IsPool ne
     sound = rw (there, sent) (sound_sent (net_state net) body room known kept.sound);
     pool = pool;
     processes = kept.processes ∙ sym processes;
+    few = subst (λ n. n ≤ MOST_PROCESSES) (sym processes) kept.few;
     spare = spare;
+    clogs = kept.clogs;
   }
 
   pub kept_reserved : (room : ℕ) → KeepsRoom net.pool new → there_of new.slots.items ≡ there_of net.pool.slots.items → length (there_of net.pool.slots.items) + room ≤ MOST_IN_FLIGHT → net.pool.sent + room < 2 ^ 64 → HasRoom room new → NetInvariant (record net { pool = new; room = room })
@@ -55,5 +62,7 @@ module _ (net : Inside) (kept : NetInvariant net) (new : Pool) (pool : IsPool ne
     });
     pool = pool;
     processes = kept.processes ∙ sym like.processes;
+    few = subst (λ n. n ≤ MOST_PROCESSES) (sym like.processes) kept.few;
     spare = spare;
+    clogs = kept.clogs;
   }

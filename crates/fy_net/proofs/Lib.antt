@@ -2,6 +2,7 @@ pub mod Busy
 pub mod Candidates
 pub mod Chaining
 pub mod Chains
+pub mod Clogs
 pub mod Flights
 pub mod Keeping
 pub mod Numbers

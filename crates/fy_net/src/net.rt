@@ -2,6 +2,7 @@
 ghost use Rattle.std.specs.Prelude.{◌≡◌, ◌+◌, ◌^◌, ◌<◌, ◌≤◌, ℕ, max, length, Some, None, IfOk, IfErr, IfSome, OnOk, OnErr, IsOk, IsOkAnd, IsTrue};
 ghost use Rattle.std.specs.List.{All};
 ghost use Rattle.std.specs.FinSet as sets;
+ghost use Rattle.fy_locality.specs.declared.TheConstants.{MOST_PROCESSES};
 ghost use Rattle.fy_net.specs.declared.fault.NetFault.{NetFault};
 ghost use Rattle.fy_net.specs.declared.fault.NetFault.TheVariants.{NoMemory};
 ghost use Rattle.fy_net.specs.Net.{quiet, process_of, body_of, without_message, with_sent, without_acks_of, is_clogged, clogged_for, unclogged, is_free, first_free_of, reserve_refusal, take_refusal, lose_refusal, advance_refusal, NoneFreeBelow, IsNetState};
@@ -15,12 +16,13 @@ use std::alloc::Global;
 use std::marker::Model;
 
 /// The messages in flight between the processes and the client, which processes are clogged, and
-/// the time.
+/// the time. `may_be_clogged` has everyone who was clogged and not unclogged since.
 #[derive(Drop)]
 pub struct Net {
     pool: Pool,
     clock: u64,
     until: Vec<u64>,
+    may_be_clogged: ProcSet,
     room: usize,
 }
 
@@ -37,12 +39,14 @@ impl Model for Net {
 }
 
 impl Net {
-    /// Makes a network of so many processes at time 0, with no clog and nothing in flight.
+    /// Makes a network of so many processes, at most 1,024, at time 0, with no clog and nothing in
+    /// flight.
     ///
     /// # Errors
     ///
     /// `NoMemory` only if an allocation fails.
     pub fn make(alloc: Global, processes: u32) -> Result<Net, NetFault>
+        requires { processes ≤ MOST_PROCESSES }
         ensures made { IfOk result (λ net. net ≡ quiet processes) }
         ensures memory { IfErr result (λ fault. fault ≡ NoMemory) }
     {
@@ -51,6 +55,7 @@ impl Net {
             pool: Pool::make(alloc, processes)?,
             clock: 0,
             until,
+            may_be_clogged: ProcSet::empty(),
             room: 0,
         })
     }
@@ -158,6 +163,7 @@ impl Net {
         let end = self.clock.saturating_add(ticks).min(LAST_TICK);
         let until = &mut self.until[p.0 as usize];
         *until = (*until).max(end);
+        self.may_be_clogged.put(p);
     }
 
     /// Ends a process's clog now, if it has one.
@@ -167,6 +173,7 @@ impl Net {
     {
         let until = &mut self.until[p.0 as usize];
         *until = (*until).min(self.clock);
+        self.may_be_clogged.drop_one(p);
     }
 
     /// Whether a process is clogged.
@@ -175,6 +182,20 @@ impl Net {
         ensures { result ≡ is_clogged self.now p.0 }
     {
         clog_lasts(&self.until, self.clock, p)
+    }
+
+    /// The processes that are clogged.
+    pub fn all_clogged(&self) -> ProcSet
+        ensures { (p : ℕ) → sets.contains result p ≡ is_clogged self.now p }
+    {
+        self.may_be_clogged.invariant();
+        let mut clogged = ProcSet::empty();
+        for p in self.may_be_clogged.iter() {
+            if clog_lasts(&self.until, self.clock, p) {
+                clogged.put(p);
+            }
+        }
+        clogged
     }
 
     /// The time, in ticks from 0 to 2^40.

@@ -1,7 +1,7 @@
 -- a journal that is checked and recorded
-use Rattle.std.proofs.Common.{◌≡◌, ◌∙◌, ◌+◌, ◌<◌, ◌≤◌, ℕ, inl, inr, Option, Some, None, List, [], ◌∷◌, ◌++◌, length, take, get_or, refl, sym, ap, subst, arith}
+use Rattle.std.proofs.Common.{◌≡◌, ◌∙◌, ◌+◌, ◌<◌, ◌≤◌, ℕ, inl, inr, Option, Some, None, List, [], ◌∷◌, ◌++◌, length, take, drop, get_or, refl, sym, ap, subst, arith}
 use Rattle.std.specs.Prelude.{Bool, true, false, not, is_some, unwrap_or, IfSome, IsSome}
-use Rattle.std.proofs.lemmas.List.{take_all, take-append-le}
+use Rattle.std.proofs.lemmas.List.{take_all, take-append-drop, take-append-le}
 use Rattle.std.proofs.lemmas.Bool.{cases_lt, false≢true}
 use Rattle.fy_acts.specs.declared.entry.Entry.{Entry}
 use Rattle.fy_journal.specs.declared.version.Version.{Version}
@@ -10,6 +10,7 @@ use Rattle.fy_cluster.specs.Execution.{Execution}
 use Rattle.fy_cluster.specs.Versions.{LegalUnder}
 use Rattle.fy_check.specs.Check.{IsFirstBad}
 use Rattle.fy_check.specs.Replayed.{HasFirstBad, HasReplayed, Replayed}
+use Rattle.fy_check.proofs.Entering.{bad_in_front}
 use Rattle.fy_picture.specs.Recording.{HasRecorded, Recording}
 use Rattle.fy_picture.proofs.Afters.{one_more}
 
@@ -123,3 +124,28 @@ pub one_more_recorded : (c : Setup) (entries : List Entry) (i : ℕ) (e given : 
 one_more_recorded c entries i e given new l is same entered =
     subst (λ es. HasRecorded c es new) (sym (one_more entries i e l is))
     (subst (λ (x : Entry). HasRecorded c (take i entries ++ x ∷ []) new) same entered)
+
+-- where all were recorded and none is bad, they are a legal journal
+pub all_are_legal : (version : Version) (c : Setup) (entries : List Entry) (i : ℕ) (recording : Recording) → length entries ≤ i → HasRecorded c (take i entries) recording → recording.first_bad ≡ None → recording.version ≡ version → LegalUnder version c entries
+all_are_legal version c entries i recording l has none same =
+    let first = subst (HasFirstBad recording.version c (take i entries)) none has.first in
+    let whole = subst (LegalUnder recording.version c) (take_all i entries l) first in
+    subst (λ v. LegalUnder v c entries) same whole
+
+-- a first bad one of the first entries is that of all
+pub bad_of_all : (version : Version) (c : Setup) (entries : List Entry) (n at : ℕ) (recording : Recording) → HasRecorded c (take n entries) recording → recording.first_bad ≡ Some at → recording.version ≡ version → IsFirstBad version c entries at
+bad_of_all version c entries n at recording has some same =
+    let first = subst (HasFirstBad recording.version c (take n entries)) some has.first in
+    let whole = bad_in_front recording.version c (take n entries) (drop n entries) at first in
+    subst (λ v. IsFirstBad v c entries at) same
+    (subst (λ es. IsFirstBad recording.version c es at) (take-append-drop n entries) whole)
+
+-- what was recorded doesn't hang on the columns
+pub recorded_alike : (c : Setup) (entries : List Entry) (old new : Recording) → new ≡ record old { columns = new.columns } → HasRecorded c entries old → HasRecorded c entries new
+recorded_alike c entries old new same has = record {
+  first = subst (λ v. HasFirstBad v c entries new.first_bad) (sym (ap (λ (r : Recording). r.version) same))
+      (subst (HasFirstBad old.version c entries) (sym (ap (λ (r : Recording). r.first_bad) same)) has.first);
+  execution =
+      ap (λ (r : Recording). r.execution) same ∙ has.execution
+      ∙ ap (λ o. upto c (take (unwrap_or o (length entries)) entries)) (sym (ap (λ (r : Recording). r.first_bad) same));
+}

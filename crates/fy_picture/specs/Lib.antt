@@ -7,3 +7,4 @@ pub mod Pictures
 pub mod Recorded
 pub mod Recorder
 pub mod Recording
+pub mod SoFar

@@ -8,6 +8,11 @@ use Rattle.fy_picture.specs.Keeping.{AreAckedAt}
 use Rattle.fy_picture.specs.Columns.{AreCounts, AreStates}
 use Rattle.fy_picture.specs.Layouts.{AreSoFar}
 use Rattle.fy_picture.specs.Pictures.{ShowEnds}
+use Rattle.fy_picture.specs.SoFar.{ColumnsSoFar, columns_in}
+
+-- the columns as a caller sees them
+abbrev pub columns_of : Recorded → ColumnsSoFar
+columns_of recorded = columns_in recorded.plan recorded.columns.items
 
 -- the columns show the cluster's entries and end where they are to end; the counts are those of the
 -- last losses; the entries that acknowledged records are noted

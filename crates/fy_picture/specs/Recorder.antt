@@ -1,8 +1,7 @@
 -- a recorder as its fields keep it
 use Rattle.std.specs.Prelude.{◌≡◌, None, true}
 use Rattle.fy_cluster.specs.Versions.{LegalUnder}
-use Rattle.fy_picture.specs.Layouts.{laid_by}
-use Rattle.fy_picture.specs.Recorded.{IsRecorded}
+use Rattle.fy_picture.specs.Recorded.{IsRecorded, columns_of}
 use Rattle.fy_picture.specs.Recording.{Recording}
 use Rattle.fy_picture.specs.declared.recorder.Recorder.TheInside.{Inside}
 
@@ -12,7 +11,7 @@ recording recorder = record {
   version = recorder.replayer.version;
   execution = recorder.recorded.state;
   first_bad = recorder.replayer.first_bad;
-  laid = laid_by recorder.recorded.plan;
+  columns = columns_of recorder.recorded;
 }
 
 -- the good entries are a legal journal and recorded, and while no entry is bad, all are good

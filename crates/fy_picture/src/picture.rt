@@ -1,5 +1,7 @@
 //! The picture of a journal.
-ghost use Rattle.std.specs.Prelude.{IfOk, length};
+ghost use Rattle.std.specs.Prelude.{Err, IfErr, IfOk, OnOk, length};
+ghost use Rattle.fy_cluster.specs.Versions.{LegalUnder};
+ghost use Rattle.fy_check.specs.Check.{ChecksOrOom};
 ghost use Rattle.fy_picture.specs.Layouts.{AreEven};
 ghost use Rattle.fy_picture.specs.Pictures.{IsPicture};
 
@@ -36,6 +38,10 @@ pub fn draw(alloc: Global, config: &Config, journal: &Journal) -> Result<Picture
     ensures picture { IfOk result (IsPicture config.now journal.now.entries) }
     ensures even { IfOk result (λ picture.
         AreEven (length journal.now.entries) picture.columns.items) }
+    ensures legal { OnOk result
+        (LegalUnder journal.now.version config.now journal.now.entries) }
+    ensures bad { IfErr result (λ fault.
+        ChecksOrOom journal.now.version config.now journal.now.entries (Err fault)) }
 {
     journal.invariant();
     let mut recorder = Recorder::begin(alloc, config.try_copy(alloc)?, journal.version())?;

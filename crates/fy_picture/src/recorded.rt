@@ -5,7 +5,8 @@ ghost use Rattle.fy_cluster.specs.Replies.{Legal};
 ghost use Rattle.fy_picture.specs.Killable.{IsKnown};
 ghost use Rattle.fy_picture.specs.Layouts.{AreAllMade, AreEnded, AreEven, AreInOrder, HasRoom, IsFresh, IsLate, IsWidth, laid_by};
 ghost use Rattle.fy_picture.specs.Pictures.{IsPicture, ShowEnds};
-ghost use Rattle.fy_picture.specs.Recorded.{EndsColumn, IsRecorded, IsSameBut};
+ghost use Rattle.fy_picture.specs.Recorded.{EndsColumn, IsRecorded, IsSameBut, columns_of};
+ghost use Rattle.fy_picture.specs.SoFar.{DueHaveEnded, is_full, with_room};
 
 use crate::column::{Column, states_of};
 use crate::keeping::{begins_next, keepers_of, note_entry};
@@ -38,6 +39,7 @@ impl Recorded {
         ensures recorded { IfOk result IsRecorded }
         ensures state { IfOk result (λ recorded. recorded.state ≡ opened config) }
         ensures plan { IfOk result (λ recorded. recorded.plan ≡ plan) }
+        ensures none { IfOk result (λ recorded. recorded.columns.items ≡ []) }
     {
         let state = ClusterState::make(alloc, config)?;
         let killable = Killable::begin(alloc, &state)?;
@@ -74,6 +76,8 @@ impl Recorded {
         ensures state { self.new.state ≡ self.old.state }
         ensures laid { laid_by self.new.plan ≡ laid_by self.old.plan }
         ensures room { HasRoom self.new.plan (length self.new.columns.items) self.new.entries }
+        ensures columns { columns_of self.new ≡ with_room self.old.entries (columns_of self.old) }
+        ensures folded { result ≡ is_full self.old.entries (columns_of self.old) }
     {
         match full_width(&self.plan, self.ended(), self.entries) {
             Some(width) => {
@@ -110,6 +114,8 @@ impl Recorded {
             (HasRoom self.new.plan (length self.new.columns.items) self.new.entries) }
         ensures late { OnOk result
             (IsLate self.new.plan (length self.new.columns.items) self.new.entries) }
+        ensures ended { OnOk result
+            (DueHaveEnded self.old.entries (columns_of self.old) (columns_of self.new)) }
     {
         self.make_room();
         while is_due(&self.plan, self.ended(), self.entries) {
@@ -144,6 +150,8 @@ impl Recorded {
           journal = self.old.state.journal ++ entry ∷ [];
         }) }
         ensures laid { OnOk result (laid_by self.new.plan ≡ laid_by self.old.plan) }
+        ensures ended { OnOk result
+            (DueHaveEnded self.old.entries (columns_of self.old) (columns_of self.new)) }
     {
         fy_cluster::laws::one_entry_more();
         fy_cluster::laws::acknowledged_by_reply();

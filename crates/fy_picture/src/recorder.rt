@@ -1,10 +1,11 @@
 //! Records the picture of a journal while it is checked entry by entry.
-ghost use Rattle.std.specs.Prelude.{◌≡◌, ◌++◌, ◌∷◌, [], List, ℕ, None, Some, IfOk, OnOk, IsSome, IsSomeAnd, length};
+ghost use Rattle.std.specs.Prelude.{◌≡◌, ◌++◌, ◌∷◌, [], List, ℕ, None, Some, IfOk, OnOk, OnErr, IsSome, IsSomeAnd, length};
 ghost use Rattle.fy_acts.specs.declared.entry.Entry.{Entry};
 ghost use Rattle.fy_cluster.specs.Setup.{Setup};
 ghost use Rattle.fy_picture.specs.Layouts.{AreAllMade, AreEven, AreInOrder, IsFresh, IsWidth, laid_by};
 ghost use Rattle.fy_picture.specs.Pictures.{IsPicture};
-ghost use Rattle.fy_picture.specs.Recording.{HasRecorded, begun};
+ghost use Rattle.fy_picture.specs.Recording.{HasEndedDue, HasRecorded, begun, roomed};
+ghost use Rattle.fy_picture.specs.SoFar.{DueHaveEnded, is_full};
 
 use crate::Picture;
 use crate::layout::Plan;
@@ -114,7 +115,9 @@ impl Recorder {
     }
 
     /// How many columns have ended.
-    pub fn columns(&self) -> usize {
+    pub fn columns(&self) -> usize
+        ensures { result ≡ length self.now.columns.ends }
+    {
         self.recorded.ended()
     }
 
@@ -125,7 +128,10 @@ impl Recorder {
     ///
     /// `AllocError` where an earlier call left the two clusters apart.
     pub fn make_room(&mut self) -> Result<bool, AllocError>
-        ensures { self.new ≡ self.old }
+        ensures room { OnOk result (self.new ≡ roomed self.old) }
+        ensures folded { IfOk result (λ folded.
+            folded ≡ is_full (length self.old.execution.journal) self.old.columns) }
+        ensures kept { OnErr result (self.new ≡ self.old) }
     {
         if !self.is_whole {
             return Err(AllocError);
@@ -140,7 +146,7 @@ impl Recorder {
     /// `AllocError` where there is no memory for it, or where an earlier call left the two clusters
     /// apart.
     pub fn end_due(&mut self) -> Result<(), AllocError>
-        ensures { OnOk result (self.new ≡ self.old) }
+        ensures { OnOk result (HasEndedDue self.old self.new) }
     {
         if !self.is_whole {
             return Err(AllocError);
@@ -164,8 +170,12 @@ impl Recorder {
             → HasRecorded setup so_far self.old
             → HasRecorded setup (so_far ++ entry ∷ []) self.new) }
         ensures version { OnOk result (self.new.version ≡ self.old.version) }
-        ensures laid { OnOk result (self.new.laid ≡ self.old.laid) }
+        ensures laid { OnOk result (self.new.columns.laid ≡ self.old.columns.laid) }
         ensures past { IsSome self.old.first_bad → OnOk result (self.new ≡ self.old) }
+        ensures good { self.new.first_bad ≡ None → OnOk result (DueHaveEnded
+            (length self.old.execution.journal) self.old.columns self.new.columns) }
+        ensures bad { IsSome self.new.first_bad → OnOk result
+            (self.new ≡ record self.old { first_bad = self.new.first_bad }) }
     {
         if !self.is_whole {
             return Err(AllocError);
@@ -191,10 +201,10 @@ impl Recorder {
     /// apart.
     pub fn finish(self) -> Result<Picture, AllocError>
         ensures picture { IfOk result (IsPicture self.execution.setup self.execution.journal) }
-        ensures even { self.laid ≡ None → IfOk result (λ picture.
+        ensures even { self.columns.laid ≡ None → IfOk result (λ picture.
             AreEven (length self.execution.journal) picture.columns.items
             × IsSomeAnd picture.width (IsWidth (length self.execution.journal))) }
-        ensures laid { (ends : List ℕ) → self.laid ≡ Some ends → AreInOrder ends
+        ensures laid { (ends : List ℕ) → self.columns.laid ≡ Some ends → AreInOrder ends
             → IfOk result (λ picture.
             AreAllMade ends (length self.execution.journal) picture.columns.items) }
     {

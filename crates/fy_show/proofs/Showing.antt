@@ -14,10 +14,10 @@ use Rattle.fy_check.specs.Replayed.{HasFirstBad}
 use Rattle.fy_check_audit.specs.Checked.{IsChecked}
 use Rattle.fy_engine.specs.declared.stop.Stop.{Stop}
 use Rattle.fy_engine.specs.Stops.{audit_stop, IfAuditFault}
-use Rattle.fy_svg.specs.Documents.{EndsDocument}
+use Rattle.fy_svg.specs.Documents.{IsDocument}
 use Rattle.fy_picture.specs.Recording.{HasRecorded, Recording}
 use Rattle.fy_show.specs.declared.show.Drawn.{Drawn}
-use Rattle.fy_show.specs.Shows.{HasDocument, IsDrawn}
+use Rattle.fy_show.specs.Shows.{HasDocument, IsDrawn, IsDrawnEvenly}
 
 -- the stop for what a reader of an audit answers
 pub stop_is_told : (bytes : List ℕ) (fault : AuditFault) (stop : Stop) →
@@ -37,16 +37,18 @@ next_place setup entries recording has none =
 -- an audit whose bytes are known was drawn
 pub drawn_known : (setup : Setup) (known : Option (List ℕ)) (version : Version) (entries : List Entry) (drawn : Drawn)
     → IfSome known (λ bytes. AuditOf bytes (Ok (record { version = version; entries = entries })))
-    → drawn.count ≡ length entries → drawn.drawing.version ≡ version → HasRecorded setup entries drawn.drawing → drawn.drawing.laid ≡ None
-    → IfSome known (λ bytes. IsDrawn setup bytes drawn)
+    → drawn.count ≡ length entries → drawn.drawing.version ≡ version → HasRecorded setup entries drawn.drawing → drawn.drawing.columns.laid ≡ None
+    → IfSome known (λ bytes. IsDrawnEvenly setup bytes drawn)
 drawn_known setup None version entries drawn read count same those even = tt
 drawn_known setup (Some bytes) version entries drawn read count same those even = record {
-  audit = record { version = version; entries = entries };
-  read = read;
+  is = record {
+    audit = record { version = version; entries = entries };
+    read = read;
+    version = same;
+    those = those;
+    laid_is = even;
+  };
   count = count;
-  version = same;
-  those = those;
-  even = even;
 }
 
 pub none_is : (o : Option ℕ) (none : Bool) → not none ≡ is_some o → none ≡ is_none o
@@ -57,22 +59,27 @@ none_is (Some at) false is = refl
 
 -- and so it is checked
 pub checked_known : (setup : Setup) (known : Option (List ℕ)) (drawn : Drawn) (legal : Bool) → legal ≡ is_none drawn.drawing.first_bad
-    → IfSome known (λ bytes. IsDrawn setup bytes drawn) → IfSome known (λ bytes. IsChecked setup bytes legal)
+    → IfSome known (λ bytes. IsDrawnEvenly setup bytes drawn) → IfSome known (λ bytes. IsChecked setup bytes legal × IsDrawn setup bytes None drawn.drawing)
 checked_known setup None drawn legal is holds = tt
-checked_known setup (Some bytes) drawn legal is holds = record {
-  finding = record { count = drawn.count; first_bad = drawn.drawing.first_bad };
-  found = record {
-    audit = holds.audit;
-    read = holds.read;
-    count = holds.count;
-    first = subst (λ v. HasFirstBad v setup holds.audit.entries drawn.drawing.first_bad) holds.version holds.those.first;
-  };
-  legal_is = is;
-}
+checked_known setup (Some bytes) drawn legal is holds = (
+  record {
+    finding = record { count = drawn.count; first_bad = drawn.drawing.first_bad };
+    found = record {
+      audit = holds.is.audit;
+      read = holds.is.read;
+      count = holds.count;
+      first = subst (λ v. HasFirstBad v setup holds.is.audit.entries drawn.drawing.first_bad) holds.is.version holds.is.those.first;
+    };
+    legal_is = is;
+  },
+  holds.is,
+)
 
 -- an audit that was read and checked has a document that was drawn to its end
-pub has_document : (setup : Setup) (known : Option (List ℕ)) (legal : Bool) (P : List ℕ → Type 0) →
-    IfSome known (λ bytes. IsChecked setup bytes legal) → (text : List ℕ) → EndsDocument text →
-    P text → HasDocument setup known legal P
-has_document setup None legal P is text ends holds = tt
-has_document setup (Some bytes) legal P is text ends holds = (is, text, ends, holds)
+pub has_document : (setup : Setup) (known : Option (List ℕ)) (legal : Bool) (drawing : Recording)
+    (P : List ℕ → Type 0) →
+    IfSome known (λ bytes. IsChecked setup bytes legal × IsDrawn setup bytes None drawing) →
+    (text : List ℕ) → IsDocument drawing text → P text → HasDocument setup known legal P
+has_document setup None legal drawing P is text of holds = tt
+has_document setup (Some bytes) legal drawing P is text of holds =
+    (is.0, drawing, is.1, text, of, holds)

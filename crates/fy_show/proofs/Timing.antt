@@ -15,8 +15,9 @@ use Rattle.fy_check_audit.specs.declared.check.Finding.{Finding}
 use Rattle.fy_engine.specs.declared.stop.Stop.{Stop}
 use Rattle.fy_engine.specs.declared.stop.Stop.TheVariants.{JudgeTooLong, JudgeLine, Config, Script, JournalFull, Audit as AuditStop, Events, SwarmClose, Read, Write, NoMemory}
 use Rattle.fy_engine.specs.Stops.{IfAuditFault, IfEventsFault, IsCheckStop, IsTimesStop}
-use Rattle.fy_svg.specs.Documents.{EndsDocument}
-use Rattle.fy_show.specs.Shows.{HasTimedDocument, AreRefused}
+use Rattle.fy_picture.specs.Recording.{Recording}
+use Rattle.fy_svg.specs.Documents.{IsDocument}
+use Rattle.fy_show.specs.Shows.{HasTimedDocument, AreRefused, IsDrawnByTime}
 
 -- what follows of a fault of the events, whichever it is
 pub map_events : (stop : Stop) (P Q : EventsFault → Type 0) →
@@ -85,18 +86,21 @@ pub has_timed_document : (setup : Setup) (audit events : Option (List ℕ)) (byt
     (finding : Finding) (legal : Bool) (P : List ℕ → Type 0) → IfSome audit (λ known. bytes ≡ known) →
     IfSome events (λ known. lines ≡ known) → IsFound setup bytes finding →
     legal ≡ is_none finding.first_bad → (told : List Event) → EventsOf finding.count lines (Ok told) →
-    (text : List ℕ) → EndsDocument text → P text → HasTimedDocument setup audit events legal P
-has_timed_document setup None events bytes lines finding legal P read_audit read found is told are text ends holds = tt
-has_timed_document setup (Some known) None bytes lines finding legal P read_audit read found is told are text ends holds = tt
-has_timed_document setup (Some known) (Some known_lines) bytes lines finding legal P read_audit read found is told are text ends holds = (
+    (drawing : Recording) → IsDrawnByTime setup bytes finding told drawing →
+    (text : List ℕ) → IsDocument drawing text → P text → HasTimedDocument setup audit events legal P
+has_timed_document setup None events bytes lines finding legal P read_audit read found is told are drawing drawn text of holds = tt
+has_timed_document setup (Some known) None bytes lines finding legal P read_audit read found is told are drawing drawn text of holds = tt
+has_timed_document setup (Some known) (Some known_lines) bytes lines finding legal P read_audit read found is told are drawing drawn text of holds = (
   finding,
   subst (λ xs. IsFound setup xs finding) read_audit found,
   (
     is,
     told,
     subst (λ xs. EventsOf finding.count xs (Ok told)) read are,
+    drawing,
+    subst (λ xs. IsDrawnByTime setup xs finding told drawing) read_audit drawn,
     text,
-    ends,
+    of,
     holds,
   ),
 )

@@ -10,70 +10,66 @@ use Rattle.fy_times.specs.Events.{EventsOf}
 use Rattle.fy_times.specs.declared.columns.TimeColumns.{TimeColumns}
 use Rattle.fy_times.specs.declared.event.Event.{Event}
 use Rattle.fy_times.specs.declared.events.EventsFault.{EventsFault}
-use Rattle.fy_picture.specs.Recording.{HasRecorded}
+use Rattle.fy_picture.specs.Recording.{HasRecorded, Recording}
 use Rattle.fy_picture.specs.declared.TheConstants.{MOST_COLUMNS}
-use Rattle.fy_svg.specs.declared.drawing.Drawing.{Drawing}
-use Rattle.fy_svg.specs.Documents.{EndsDocument}
+use Rattle.fy_svg.specs.Documents.{IsDocument}
 use Rattle.fy_show.specs.declared.show.Drawn.{Drawn}
-
--- SHOW: known bytes of an audit that was read and checked, whether it is legal, and what holds of
--- its document
-abbrev pub HasDocument : Setup → Option (List ℕ) → Bool → (List ℕ → Type 0) → Type 0
-HasDocument setup known legal P =
-    IfSome known (λ bytes. IsChecked setup bytes legal
-    × (text : List ℕ) × EndsDocument text × P text)
-
--- known bytes of an audit that was read and checked, what was found of it, and known bytes of a file
--- of events
-abbrev pub IfBothKnown : Setup → (audit events : Option (List ℕ)) → (Finding → List ℕ → Type 0)
-    → Type 0
-IfBothKnown setup audit events P =
-    IfSome audit (λ bytes. IfSome events (λ lines. (finding : Finding)
-    × IsFound setup bytes finding × P finding lines))
-
--- SHOW by time: the audit is said to be legal where it is, the file has events of its entries, and
--- this holds of the document
-abbrev pub HasTimedDocument : Setup → (audit events : Option (List ℕ)) → Bool → (List ℕ → Type 0)
-    → Type 0
-HasTimedDocument setup audit events legal P =
-    IfBothKnown setup audit events (λ finding lines. (legal ≡ is_none finding.first_bad)
-    × (told : List Event) × EventsOf finding.count lines (Ok told)
-    × (text : List ℕ) × EndsDocument text × P text)
-
--- the audit was read and checked, and the file of events is refused by this fault
-abbrev pub AreRefused : Setup → (audit events : Option (List ℕ)) → EventsFault → Type 0
-AreRefused setup audit events fault =
-    IfBothKnown setup audit events (λ finding lines. EventsOf finding.count lines (Err fault))
 
 -- how many entries are before the first bad one
 abbrev pub good_of : Finding → ℕ
 good_of finding = unwrap_or finding.first_bad finding.count
 
 -- the bytes are an audit, and the drawing is that of its entries before the first bad one, or of
--- all, in even columns
-pub record IsDrawn (setup : Setup) (bytes : List ℕ) (drawn : Drawn) : Type 0 where
+-- all, in columns that end as listed, or else are even
+pub record IsDrawn (setup : Setup) (bytes : List ℕ) (laid : Option (List ℕ)) (drawing : Recording) :
+    Type 0 where
   pub audit : Audit
   pub read : AuditOf bytes (Ok audit)
-  pub count : drawn.count ≡ length audit.entries
-  pub version : drawn.drawing.version ≡ audit.version
-  pub those : HasRecorded setup audit.entries drawn.drawing
-  pub even : drawn.drawing.laid ≡ None
-
--- the bytes are an audit, and the drawing is that of its entries before the first bad one, or of
--- all, in columns that end so
-pub record IsDrawnIn (setup : Setup) (bytes : List ℕ) (ends : List ℕ) (drawing : Drawing) : Type 0
-  where
-    pub audit : Audit
-    pub read : AuditOf bytes (Ok audit)
-    pub version : drawing.version ≡ audit.version
-    pub those : HasRecorded setup audit.entries drawing
-    pub laid : drawing.laid ≡ Some ends
+  pub version : drawing.version ≡ audit.version
+  pub those : HasRecorded setup audit.entries drawing
+  pub laid_is : drawing.columns.laid ≡ laid
 
 -- the bytes are an audit, and the drawing is that of its entries before the first bad one, in the
 -- columns that the events of these entries give
 pub record IsDrawnByTime (setup : Setup) (bytes : List ℕ) (finding : Finding) (events : List Event)
-    (drawing : Drawing) : Type 0 where
+    (drawing : Recording) : Type 0 where
   pub columns : TimeColumns
   pub are_columns : AreTimeColumns (events_before events (good_of finding)) (good_of finding)
       MOST_COLUMNS columns
-  pub drawn : IsDrawnIn setup bytes columns.ends.items drawing
+  pub drawn : IsDrawn setup bytes (Some columns.ends.items) drawing
+
+-- an audit in even columns, and how many entries it has
+pub record IsDrawnEvenly (setup : Setup) (bytes : List ℕ) (drawn : Drawn) : Type 0 where
+  pub is : IsDrawn setup bytes None drawn.drawing
+  pub count : drawn.count ≡ length is.audit.entries
+
+-- SHOW: known bytes of an audit that was read and checked, whether it is legal, its drawing in even
+-- columns, and what holds of the document of that
+abbrev pub HasDocument : Setup → Option (List ℕ) → Bool → (List ℕ → Type 0) → Type 0
+HasDocument setup known legal P =
+    IfSome known (λ bytes. IsChecked setup bytes legal
+    × (drawing : Recording) × IsDrawn setup bytes None drawing
+    × (text : List ℕ) × IsDocument drawing text × P text)
+
+-- known bytes of an audit that was read and checked, what was found of it, and known bytes of a file
+-- of events
+abbrev pub IfBothKnown : Setup → (audit events : Option (List ℕ))
+    → (List ℕ → Finding → List ℕ → Type 0) → Type 0
+IfBothKnown setup audit events P =
+    IfSome audit (λ bytes. IfSome events (λ lines. (finding : Finding)
+    × IsFound setup bytes finding × P bytes finding lines))
+
+-- SHOW by time: the audit is said to be legal where it is, the file has events of its entries, and
+-- this holds of the document of the drawing in the columns that they give
+abbrev pub HasTimedDocument : Setup → (audit events : Option (List ℕ)) → Bool → (List ℕ → Type 0)
+    → Type 0
+HasTimedDocument setup audit events legal P =
+    IfBothKnown setup audit events (λ bytes finding lines. (legal ≡ is_none finding.first_bad)
+    × (told : List Event) × EventsOf finding.count lines (Ok told)
+    × (drawing : Recording) × IsDrawnByTime setup bytes finding told drawing
+    × (text : List ℕ) × IsDocument drawing text × P text)
+
+-- the audit was read and checked, and the file of events is refused by this fault
+abbrev pub AreRefused : Setup → (audit events : Option (List ℕ)) → EventsFault → Type 0
+AreRefused setup audit events fault =
+    IfBothKnown setup audit events (λ _ finding lines. EventsOf finding.count lines (Err fault))

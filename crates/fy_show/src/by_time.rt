@@ -1,5 +1,5 @@
 //! An audit and the events of its run in, a picture by time out.
-ghost use Rattle.std.specs.Prelude.{◌≡◌, ◌≢◌, ◌⊎◌, ◌+◌, ℕ, Bool, List, None, IfOk, IfErr, IfSome, Ok, Err, string_bytes};
+ghost use Rattle.std.specs.Prelude.{◌≡◌, ◌≢◌, ◌⊎◌, ◌+◌, ℕ, Bool, List, None, Some, IfOk, IfErr, IfSome, Ok, Err, string_bytes};
 ghost use Rattle.std.specs.Io.KnownBytes.{Appends};
 ghost use Rattle.fy_lines.specs.Prefixes.{AppendsProperPrefix};
 ghost use Rattle.fy_lines.specs.Readings.{ReadsAtMost};
@@ -10,8 +10,9 @@ ghost use Rattle.fy_times.specs.declared.event.Event.{Event};
 ghost use Rattle.fy_times.specs.declared.TheConstants.{MOST_EVENTS_BYTES};
 ghost use Rattle.fy_engine.specs.Stops.{IfAuditFault, IfEventsFault, IsCheckStop, IsTimesStop};
 ghost use Rattle.fy_check_audit.specs.CheckTexts.{IsFound};
-ghost use Rattle.fy_svg.specs.Documents.{EndsDocument};
-ghost use Rattle.fy_show.specs.Shows.{AreRefused, HasTimedDocument, IsDrawnByTime, IsDrawnIn};
+ghost use Rattle.fy_picture.specs.Recording.{Recording};
+ghost use Rattle.fy_svg.specs.Documents.{IsDocument};
+ghost use Rattle.fy_show.specs.Shows.{AreRefused, HasTimedDocument, IsDrawn, IsDrawnByTime};
 
 use fy_audit::laws::{an_audit_is_read_entry_by_entry, audits_are_unambiguous};
 use fy_audit::{AuditReader, MOST_AUDIT_BYTES};
@@ -91,7 +92,7 @@ fn draw_in(
     columns: TimeColumns,
     events: Vec<Event>,
 ) -> Result<Drawing, Stop>
-    ensures drawn { IfOk result (IsDrawnIn config.now bytes.now columns.ends.items) }
+    ensures drawn { IfOk result (IsDrawn config.now bytes.now (Some columns.ends.items)) }
     ensures refused { IfErr result (λ stop. IfAuditFault stop
         (λ fault. AuditOf bytes.now (Err fault))) }
     ensures own { IfErr result IsCheckStop }
@@ -152,7 +153,9 @@ fn document(
 ) -> Result<String, Stop>
     requires { IsFound config.now bytes.now finding }
     ensures done { IfOk result (λ text. (told : List Event)
-        × EventsOf finding.count lines.now (Ok told) × EndsDocument (string_bytes text)) }
+        × EventsOf finding.count lines.now (Ok told) × (drawing : Recording)
+        × IsDrawnByTime config.now bytes.now finding told drawing
+        × IsDocument drawing (string_bytes text)) }
     ensures no_audit { IfErr result (λ stop. IfAuditFault stop (λ _. ⊥)) }
     ensures events_refused { IfErr result (λ stop. IfEventsFault stop
         (λ fault. EventsOf finding.count lines.now (Err fault))) }

@@ -1,5 +1,5 @@
 //! The engine behind `faultyard show`: an audit in, a picture of it out.
-ghost use Rattle.std.specs.Prelude.{◌≡◌, ◌≢◌, ◌+◌, Bool, IfOk, IfErr, IfSome, Err, string_bytes};
+ghost use Rattle.std.specs.Prelude.{◌≡◌, ◌≢◌, ◌+◌, Bool, None, IfOk, IfErr, IfSome, Err, string_bytes};
 ghost use Rattle.std.specs.Io.KnownBytes.{Appends};
 ghost use Rattle.fy_lines.specs.Prefixes.{AppendsProperPrefix};
 ghost use Rattle.fy_lines.specs.Readings.{ReadsAtMost};
@@ -8,8 +8,9 @@ ghost use Rattle.fy_audit.specs.declared.audit.TheConstants.{MOST_AUDIT_BYTES};
 ghost use Rattle.fy_engine.specs.Stops.{IfAuditFault, IsCheckStop};
 ghost use Rattle.fy_check_audit.specs.Checked.{IsChecked};
 ghost use Rattle.fy_check_audit.specs.Inputs.{IsInputStop};
-ghost use Rattle.fy_svg.specs.Documents.{EndsDocument};
-ghost use Rattle.fy_show.specs.Shows.{HasDocument, IsDrawn};
+ghost use Rattle.fy_picture.specs.Recording.{Recording};
+ghost use Rattle.fy_svg.specs.Documents.{IsDocument};
+ghost use Rattle.fy_show.specs.Shows.{HasDocument, IsDrawn, IsDrawnEvenly};
 
 use fy_audit::MOST_AUDIT_BYTES;
 use fy_check_audit::AuditInput;
@@ -32,7 +33,7 @@ pub(crate) struct Drawn {
 /// Behind a bad entry the rest is read for its faults.
 fn draw<R: Read>(alloc: Global, config: &Config, reader: &mut R) -> Result<Drawn, Stop>
     ensures drawn { IfOk result (λ drawn. IfSome (R.remaining reader.old)
-        (λ bytes. IsDrawn config.now bytes drawn)) }
+        (λ bytes. IsDrawnEvenly config.now bytes drawn)) }
     ensures refused { IfErr result (λ stop. IfAuditFault stop
         (λ fault. IfSome (R.remaining reader.old) (λ bytes. AuditOf bytes (Err fault)))) }
     ensures own { IfErr result IsInputStop }
@@ -68,9 +69,10 @@ fn draw<R: Read>(alloc: Global, config: &Config, reader: &mut R) -> Result<Drawn
 
 /// The document of an audit, and whether it is legal.
 fn document<R: Read>(alloc: Global, config: &Config, reader: &mut R) -> Result<(bool, String), Stop>
-    ensures done { IfOk result (λ document. IfSome (R.remaining reader.old)
-        (λ bytes. IsChecked config.now bytes document.0)
-        × EndsDocument (string_bytes document.1)) }
+    ensures done { IfOk result (λ document. (drawing : Recording)
+        × IfSome (R.remaining reader.old) (λ bytes. IsChecked config.now bytes document.0
+        × IsDrawn config.now bytes None drawing)
+        × IsDocument drawing (string_bytes document.1)) }
     ensures refused { IfErr result (λ stop. IfAuditFault stop
         (λ fault. IfSome (R.remaining reader.old) (λ bytes. AuditOf bytes (Err fault)))) }
     ensures own { IfErr result IsInputStop }

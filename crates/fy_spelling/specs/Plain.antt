@@ -1,4 +1,4 @@
--- the plain spelling of a script's line: who asks first, then the act as audits write it
+-- the plain spelling of a line of a script
 use Rattle.std.specs.Prelude.{ℕ, List, [], ◌∷◌, codes}
 use Rattle.serde_json.specs.Data.{Data}
 use Rattle.serde_json.specs.Written.{compact_text}

@@ -1,9 +1,9 @@
 //! The bands of a row.
 use crate::layout::{ROW, x_of};
 use fy_cluster::Status;
-use fy_locality::ProcId;
-use fy_picture::Column;
-use std::alloc::AllocError;
+use fy_locality::{ProcId, ProcSet};
+use fy_picture::{Column, States};
+use std::alloc::{AllocError, Global};
 
 /// The class of the broad part of a band.
 fn class_of(state: Status) -> &'static str {
@@ -59,29 +59,69 @@ fn write_band(
     Ok(())
 }
 
-/// The state of a process at a column.
-fn state_at(columns: &[Column], column: usize, process: u32) -> Option<Status> {
-    Some(columns.get(column)?.states.status(ProcId(process)))
+/// The processes that one of two sets alone has.
+fn in_one(one: &ProcSet, other: &ProcSet) -> ProcSet {
+    one.difference(other).union(&other.difference(one))
 }
 
-/// The bands of a process's row: columns that follow one another in the same state are one.
+/// The processes whose state isn't the same at two columns.
+fn changed(before: &States, after: &States) -> ProcSet {
+    in_one(&before.up, &after.up)
+        .union(&in_one(&before.clogged, &after.clogged))
+        .union(&in_one(&before.destroyed, &after.destroyed))
+        .union(&in_one(&before.left, &after.left))
+}
+
+/// For each of so many processes the columns at which its state isn't that of the column before,
+/// rising. Whole sets are compared, so that rows cost what changes, and not each process at each
+/// column.
+pub(crate) fn changes_of(
+    alloc: Global,
+    columns: &[Column],
+    processes: u32,
+) -> Result<Vec<Vec<usize>>, AllocError> {
+    let mut changes = Vec::new(alloc);
+    for _process in 0..processes {
+        changes.push(Vec::new(alloc))?;
+    }
+    for at in 1..columns.len() {
+        for p in changed(&columns[at - 1].states, &columns[at].states).iter() {
+            if let Some(own) = changes.get_mut(p.0 as usize) {
+                own.push(at)?;
+            }
+        }
+    }
+    Ok(changes)
+}
+
+/// The band of a process from one column up to another, in the state of the first.
+fn write_band_from(
+    text: &mut String,
+    columns: &[Column],
+    process: u32,
+    from: usize,
+    to: usize,
+    y: u64,
+) -> Result<(), AllocError> {
+    match columns.get(from) {
+        Some(column) => write_band(text, column.states.status(ProcId(process)), from, to, y),
+        None => Ok(()),
+    }
+}
+
+/// The bands of a process's row: columns that follow one another in the same state are one. Its
+/// state changes at those given.
 pub(crate) fn write_bands(
     text: &mut String,
     columns: &[Column],
+    changes: &[usize],
     process: u32,
     y: u64,
 ) -> Result<(), AllocError> {
     let mut from = 0;
-    let mut next = state_at(columns, 0, process);
-    for at in 0..columns.len() {
-        let Some(state) = next else {
-            return Ok(());
-        };
-        next = state_at(columns, at + 1, process);
-        if next != Some(state) {
-            write_band(text, state, from, at + 1, y)?;
-            from = at + 1;
-        }
+    for at in changes {
+        write_band_from(text, columns, process, from, *at, y)?;
+        from = *at;
     }
-    Ok(())
+    write_band_from(text, columns, process, from, columns.len(), y)
 }

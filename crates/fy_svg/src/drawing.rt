@@ -1,9 +1,11 @@
 //! A journal that is drawn while it is checked entry by entry.
-ghost use Rattle.std.specs.Prelude.{◌≡◌, ◌++◌, ◌∷◌, [], List, None, Some, IfOk, OnOk, length, string_bytes};
+ghost use Rattle.std.specs.Prelude.{◌≡◌, ◌++◌, ◌∷◌, [], List, None, Some, Err, IfErr, IfOk, OnOk, length, string_bytes};
 ghost use Rattle.fy_acts.specs.declared.entry.Entry.{Entry};
 ghost use Rattle.fy_cluster.specs.Setup.{Setup};
-ghost use Rattle.fy_picture.specs.Recording.{HasRecorded, begun};
-ghost use Rattle.fy_svg.specs.Documents.{EndsDocument};
+ghost use Rattle.fy_cluster.specs.Versions.{LegalUnder};
+ghost use Rattle.fy_check.specs.Check.{ChecksOrOom};
+ghost use Rattle.fy_picture.specs.Recording.{HasEndedDue, HasRecorded, begun, roomed};
+ghost use Rattle.fy_svg.specs.Documents.{EndsDocument, IsDocument};
 
 use crate::glyphs::{Glyphs, is_order};
 use crate::lanes::{Lane, lanes_of, rows_of};
@@ -191,7 +193,7 @@ impl Drawing {
 
     /// Makes each two columns one, where there are too many.
     fn make_room(&mut self) -> Result<(), AllocError>
-        ensures { OnOk result (self.new ≡ self.old) }
+        ensures { OnOk result (self.new ≡ roomed self.old) }
     {
         if self.recorder.make_room()? {
             self.glyphs.fold()?;
@@ -202,7 +204,7 @@ impl Drawing {
 
     /// Ends the columns that end before the next entry.
     fn end_due(&mut self) -> Result<(), AllocError>
-        ensures { OnOk result (self.new ≡ self.old) }
+        ensures { OnOk result (HasEndedDue (roomed self.old) self.new) }
     {
         self.make_room()?;
         let open = self.recorder.columns();
@@ -236,7 +238,7 @@ impl Drawing {
             → HasRecorded setup so_far self.old
             → HasRecorded setup (so_far ++ entry ∷ []) self.new) }
         ensures version { OnOk result (self.new.version ≡ self.old.version) }
-        ensures laid { OnOk result (self.new.laid ≡ self.old.laid) }
+        ensures laid { OnOk result (self.new.columns.laid ≡ self.old.columns.laid) }
     {
         self.end_due()?;
         let (at, reply) = (entry.at, entry.reply);
@@ -257,7 +259,7 @@ impl Drawing {
     ///
     /// `AllocError` where there is no memory for it.
     pub fn finish(mut self, config: &Config) -> Result<String, AllocError>
-        ensures { IfOk result (λ text. EndsDocument (string_bytes text)) }
+        ensures { IfOk result (λ text. IsDocument self (string_bytes text)) }
     {
         self.end_due()?;
         let bad = self.first_bad();
@@ -287,7 +289,8 @@ impl Drawing {
             ticks,
             orders,
         };
-        document(alloc, config, &drawn, bad)
+        let text = document(alloc, config, &drawn, bad)?;
+        Ok(text)
     }
 }
 
@@ -298,7 +301,11 @@ impl Drawing {
 /// `BadEntry` at the first entry that isn't what the rules give, as `fy_check::replay`; `NoMemory`
 /// where there is no memory for it.
 pub fn svg(alloc: Global, config: &Config, journal: &Journal) -> Result<String, CheckFault>
-    ensures { IfOk result (λ text. EndsDocument (string_bytes text)) }
+    ensures document { IfOk result (λ text. EndsDocument (string_bytes text)) }
+    ensures legal { OnOk result
+        (LegalUnder journal.now.version config.now journal.now.entries) }
+    ensures bad { IfErr result (λ fault.
+        ChecksOrOom journal.now.version config.now journal.now.entries (Err fault)) }
 {
     journal.invariant();
     let mut drawing = Drawing::begin(alloc, config, journal.version())?;

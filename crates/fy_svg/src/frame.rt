@@ -1,5 +1,8 @@
 //! What stands round the rows: the head with its colours, the legend, names, the axis, and orders in
 //! words.
+ghost use Rattle.std.specs.Prelude.{OnOk, string_bytes};
+ghost use Rattle.fy_svg.specs.Documents.{AppendsMark};
+
 use crate::drawing::{Drawn, Width};
 use crate::lanes::Lane;
 use crate::layout::{ASIDE, LINE, ROW, TOP, foot_of, middle_of, x_of, y_of};
@@ -268,17 +271,20 @@ pub(crate) fn write_bad(
     columns: usize,
     at: u32,
     rows: usize,
-) -> Result<(), AllocError> {
+) -> Result<(), AllocError>
+    ensures { OnOk result (AppendsMark at (string_bytes text.old) (string_bytes text.new)) }
+{
     let x = middle_of(columns);
     let high = y_of(rows.saturating_add(2)).saturating_sub(TOP);
-    write!(
+    write!(text, "<path class=\"bad\" data-entry=\"{at}\"")?;
+    writeln!(
         text,
-        "<path class=\"bad\" data-entry=\"{at}\" d=\"M{x} {TOP}v{high}\"><title>"
+        " d=\"M{x} {TOP}v{high}\"><title>entry {at} is not what the rules give</title></path>"
     )?;
-    writeln!(text, "entry {at} is not what the rules give</title></path>")?;
     let beside = x.saturating_add(6);
     writeln!(
         text,
         "<text class=\"told\" x=\"{beside}\" y=\"66\">bad entry {at}</text>"
-    )
+    )?;
+    Ok(())
 }

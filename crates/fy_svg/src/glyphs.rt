@@ -276,6 +276,10 @@ impl Glyphs {
 
     /// Ends the open column, which has this number.
     pub(crate) fn end_column(&mut self, column: usize) -> Result<(), AllocError> {
+        // Each mark is of an order.
+        if self.orders.is_empty() {
+            return Ok(());
+        }
         let marks = take_marks(self.alloc, &mut self.open)?;
         if marks.is_empty() {
             return Ok(());

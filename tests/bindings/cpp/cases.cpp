@@ -281,6 +281,39 @@ static void by_number()
     EQUAL(asked.journal_len(), entries + 1);
 }
 
+/* Each process has the kind of its own judgement. */
+static void which_may_be_killed()
+{
+    Guard guard(SIX);
+    const Guard &asked = guard;
+    guard.protect(4, 5, Kinds::KillInstantly | Kinds::Reboot);
+    using Answer = std::vector<std::optional<Kind>>;
+    const auto hard = Kind::KillInstantly;
+    HOLDS(asked.killable(1) == (Answer{hard, hard, hard, hard, hard, Kind::RebootAndDelete}));
+    HOLDS(asked.killable(3) == Answer(6));
+    (void)guard.kill_process(1, 0, hard);
+    const std::size_t entries = asked.journal_len();
+    const auto mild = Kind::Reboot;
+    HOLDS(asked.killable(1) == (Answer{{}, hard, mild, mild, mild, Kind::RebootProcess}));
+    for (std::uint32_t process = 0; process < 6; process++)
+        HOLDS(asked.killable(2)[process] == asked.judge_process(2, process, hard).struck);
+    REFUSES(Stranger, (void)asked.killable(9));
+    EQUAL(asked.journal_len(), entries);
+}
+
+/* Any one of six may go, and none once a zone has gone. */
+static void how_much_may_be_lost()
+{
+    Guard guard(SIX);
+    const Guard &asked = guard;
+    HOLDS(asked.bears() == (Borne{1, 1, true, true}));
+    (void)guard.kill(1, Key::Zone, "z1", Kind::KillInstantly);
+    HOLDS(asked.bears() == (Borne{0, 0, true, true}));
+    HOLDS(Guard(THREE).bears() == (Borne{2, 0, true, true}));
+    HOLDS(asked.bears() != Borne());
+    EQUAL(asked.journal_len(), 1);
+}
+
 /* A guard that is reset does the same again. */
 static void resets()
 {
@@ -591,6 +624,7 @@ static void want_of_memory()
     THROWS(NoMemory, first.heal(0, 0));
     THROWS(NoMemory, guard.act("{\"by\":0,\"act\":{\"tick\":{\"ticks\":5}}}"));
     THROWS(NoMemory, guard.reset());
+    THROWS(NoMemory, guard.bears());
     THROWS(NoMemory, (void)guard.try_copy());
     THROWS(NoMemory, guard.entry(0));
     THROWS(NoMemory, guard.audit());
@@ -727,6 +761,7 @@ static void assert_closed(Guard &guard)
     THROWS(Closed, (void)guard.judge(1, Key::Process, "p0", Kind::Reboot));
     THROWS(Closed, (void)guard.kill_process(1, 0, Kind::Reboot));
     THROWS(Closed, (void)guard.judge_process(1, 0, Kind::Reboot));
+    THROWS(Closed, (void)guard.killable(1));
     THROWS(Closed, guard.reset());
     THROWS(Closed, (void)guard.try_copy());
     THROWS(Closed, guard.up(0, 0));
@@ -745,6 +780,7 @@ static void assert_closed(Guard &guard)
     THROWS(Closed, guard.is_acked(0));
     THROWS(Closed, guard.keeper(0));
     THROWS(Closed, guard.sight());
+    THROWS(Closed, guard.bears());
     THROWS(Closed, guard.journal_len());
     THROWS(Closed, guard.entry(0));
     THROWS(Closed, guard.audit());
@@ -1007,6 +1043,8 @@ int main()
     states();
     judged();
     by_number();
+    which_may_be_killed();
+    how_much_may_be_lost();
     resets();
     copies();
     goes_on();

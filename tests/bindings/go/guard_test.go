@@ -343,6 +343,53 @@ func TestByNumberAsByName(t *testing.T) {
 	equal(t, journalLen(t, numbered), count)
 }
 
+func TestEachProcessHasTheKindOfItsOwnJudgement(t *testing.T) {
+	guard := opened(t, six(t))
+	killable := func(actor uint32, wanted ...faultyard.Kind) {
+		t.Helper()
+		kinds, err := guard.Killable(actor)
+		equal(t, err, nil)
+		equal(t, fmt.Sprint(kinds), fmt.Sprint(wanted))
+	}
+	const hard, mild, none = faultyard.KillInstantly, faultyard.Reboot, faultyard.None
+	equal(t, guard.Protect(4, 5, faultyard.KindsKillInstantly|faultyard.KindsReboot), nil)
+	killable(1, hard, hard, hard, hard, hard, faultyard.RebootAndDelete)
+	killable(3, none, none, none, none, none, none)
+	_, err := guard.KillProcess(1, faultyard.ProcessOrder{Process: 0, Kind: hard})
+	equal(t, err, nil)
+	killable(1, none, hard, mild, mild, mild, faultyard.RebootProcess)
+	kinds, err := guard.Killable(2)
+	equal(t, err, nil)
+	for process, kind := range kinds {
+		judged, err := guard.JudgeProcess(2, faultyard.ProcessOrder{
+			Process: uint32(process), Kind: hard,
+		})
+		equal(t, err, nil)
+		equal(t, judged.Struck, kind)
+	}
+	_, err = guard.Killable(9)
+	fails(t, err, faultyard.RefusalStranger)
+	equal(t, journalLen(t, guard), 2)
+}
+
+func TestHowMuchMayBeLost(t *testing.T) {
+	guard := opened(t, six(t))
+	bears := func(emptied, gone uint32) {
+		t.Helper()
+		borne, err := guard.Bears()
+		equal(t, err, nil)
+		equal(t, borne, faultyard.Borne{
+			Emptied: emptied, Gone: gone, EmptiedExact: true, GoneExact: true,
+		})
+	}
+	bears(1, 1)
+	kill(t, guard, 1, faultyard.Order{
+		Key: faultyard.Zone, Value: "z1", Kind: faultyard.KillInstantly,
+	})
+	bears(0, 0)
+	equal(t, journalLen(t, guard), 1)
+}
+
 func TestEachOrderIsJudgedAsTheKillIsThenAnswered(t *testing.T) {
 	guard := opened(t, six(t))
 	kinds := []faultyard.Kind{
@@ -661,6 +708,10 @@ func assertClosed(t *testing.T, guard *faultyard.Guard) {
 	_, _, err = guard.State(0)
 	fails(t, err, faultyard.ErrClosed)
 	_, err = guard.Needed(0)
+	fails(t, err, faultyard.ErrClosed)
+	_, err = guard.Killable(1)
+	fails(t, err, faultyard.ErrClosed)
+	_, err = guard.Bears()
 	fails(t, err, faultyard.ErrClosed)
 	_, err = guard.IsDestroyed(0)
 	fails(t, err, faultyard.ErrClosed)

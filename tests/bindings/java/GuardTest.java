@@ -337,6 +337,9 @@ final class GuardTest {
             Guard.Verdict told = guard.judge(1, Guard.Key.ZONE, "z1", Guard.Kind.KILL_INSTANTLY, Guard.Kind.REBOOT);
             check(told.struck().orElseThrow() == Guard.Kind.REBOOT, "z1 would be rebooted");
             check(told.rule().orElseThrow() == Guard.Rule.TOO_MANY_DESTROYED, "since too many would be destroyed");
+            Guard.Borne borne = guard.bears();
+            check(borne.toString().equals("emptied 0, gone 0"), "some single process is too many now: " + borne);
+            check(borne.emptiedExact && borne.goneExact && borne.emptied == 0 && borne.gone == 0, "and 0 is exact");
             check(guard.audit().equals(audit) && children() == 1, "nothing is entered, and nothing is left running");
             try (Guard other = guard.tryCopy()) {
                 check(other.audit().equals(audit) && other.journalLength() == 3, "the copy has the journal");
@@ -351,6 +354,7 @@ final class GuardTest {
             Guard.GuardEnded another = thrown(Guard.GuardEnded.class, guard::tryCopy);
             check(another.getMessage().equals("entry 0 is another in the copy"), another.getMessage());
             Files.writeString(own, "=");
+            thrown(Guard.ConfigRefused.class, guard::bears);
             thrown(Guard.ConfigRefused.class, guard::reset);
             thrown(Guard.ConfigRefused.class, () -> guard.tick(0, 1));
         }

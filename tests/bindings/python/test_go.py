@@ -131,14 +131,14 @@ class Go(common.Folder, unittest.TestCase):
         told = run(program, env={**ENVIRONMENT, "LD_LIBRARY_PATH": self.folder})
         calls = ("Open", "Open, to say where the fault is")
         calls += ("Kill", "Reset", "TryCopy", "Up", "Heal", "Form", "Take", "Act", "Entry")
-        calls += ("Audit",)
+        calls += ("Audit", "Bears")
         calls += ("Words", "SwizzlePlan", "AttritionPlan", "BeginCheck", "Line")
         wanted = dict.fromkeys(calls, "faultyard: there was no memory")
         wanted["Act"] = "faultyard: the act is made, but its line could not be written"
         no_key = "faultyard: there is no such key, kind or floor, or process to kill, "
         no_key += "members don't rise, a payload is too long, or a count is below 0"
         wanted |= dict.fromkeys(["Judge", "Targets"], no_key)
-        asked = ["IsDestroyed", "Left", "UpSet", "State", "Needed", "Destroyed", "Gone"]
+        asked = ["Killable", "IsDestroyed", "Left", "UpSet", "State", "Needed", "Destroyed", "Gone"]
         asked += ["Process", "ProcessCount", "IsAcked", "Keeper", "Sight", "Close"]
         wanted |= dict.fromkeys(asked, "<nil>")
         self.assertEqual(dict(line.split(": ", 1) for line in told.splitlines()), wanted)

@@ -14,6 +14,7 @@ import unittest
 from pathlib import Path
 from unittest import mock
 
+import faultyard_hooks as fy
 from faultyard_hooks import Refused, answered, keep, paged, wait
 from faultyard_hooks.amqp import Amqp
 from faultyard_hooks.client import OneOf
@@ -21,63 +22,64 @@ from faultyard_hooks.http import Http, base64, plain
 from faultyard_hooks.jsonrpc import JsonRpc
 from faultyard_hooks.nats import Nats, on_disk, text
 from faultyard_hooks.ovsdb import Ovsdb
+from faultyard_hooks.piped import Piped
 from faultyard_hooks.postgres import Postgres
 from faultyard_hooks.resp import Resp
 from faultyard_hooks.zookeeper import ZooKeeper, last_synced
 
 HOOKS = """
-import sys
-from faultyard_hooks import ABLE, Refused, checks, folder, hook, main, port, writes
+import faultyard_hooks as fy
 
-@hook("ready")
-def is_ready(n):
-    return n in ABLE
+def ready(n):
+    return n in fy.ABLE
 
-@hook("join")
 def join(n):
-    raise Refused("not now")
+    raise fy.Refused("not now")
 
-@hook("read")
 def read():
-    return f"{folder(1, 'data')} {port(2, 1)}\\n"
+    return f"{fy.folder(1, 'data')} {fy.port(2, 1)} {fy.at(2)} {fy.others(0)} {fy.another(2)}\\n"
 
-@writes
-def put(key, value):
+def start(n):
+    return "sh", "-c", "pwd; exit 7"
+
+def write(key, value):
     if value == "bad":
         raise ConnectionError("it fell")
-    return len(key)
+    return {"no": False, "own": None}.get(value, len(key))
 
-@checks
-def get(n, key):
+def check(n, key):
     if n == 2:
         raise TimeoutError("it is silent")
     return {"a": "x"}.get(key)
 
-main("fresh")
+def helper(n):
+    pass
+
+fy.main("fresh")
 """
 # A store with one primary, whose positions are in a file, a line for each time that all are asked.
 ELECTS = """
-from faultyard_hooks import COUNT, DIR, hook, main, text_of
-from faultyard_hooks.client import clients
-from faultyard_hooks.primary import elects, primary
-from faultyard_hooks.resp import Resp
+import faultyard_hooks as fy
 
 asked = []
 
 def position(n):
     asked.append(n)
-    line = text_of(f"{DIR}/positions").splitlines()[asked.count(n) - 1]
+    line = fy.text_of(f"{fy.DIR}/positions").splitlines()[asked.count(n) - 1]
     return int(line.split()[n])
 
-elects(position, lambda n: print("promoted", n) or n != 3)
+elect = fy.electing(position, lambda n: print("promoted", n) or n != 3)
 
-@hook("read")
 def read():
-    servers, some, able = clients(Resp)
-    return {"servers": len(servers), "primary": primary()}
+    servers, some, able = fy.clients(fy.Resp)
+    return {"servers": len(servers), "primary": fy.primary()}
 
-main()
+fy.main()
 """
+
+
+def address(server):
+    return "%s:%d" % server.getsockname()
 
 
 class Talk:
@@ -94,7 +96,7 @@ class Talk:
 
     def client(self, kind):
         """A client of this server."""
-        made = kind(self._socket.getsockname())
+        made = kind(address(self._socket))
         self._case.addCleanup(made.close)
         return made
 
@@ -132,7 +134,7 @@ class Dispatch(unittest.TestCase):
         return ran.returncode, ran.stdout, ran.stderr
 
     def test_the_names_of_hooks_are_printed_with_what_is_promised(self):
-        self.assertEqual(self.call("hooks"), (0, "ready join read write check fresh\n", ""))
+        self.assertEqual(self.call("hooks"), (0, "start ready join write check read fresh\n", ""))
 
     def test_a_hook_says_yes_or_no(self):
         self.assertEqual(self.call("ready", "2"), (0, "", ""))
@@ -142,7 +144,17 @@ class Dispatch(unittest.TestCase):
         self.assertEqual(self.call("join", "1"), (1, "", "Refused: not now\n"))
 
     def test_a_text_is_printed_as_it_is(self):
-        self.assertEqual(self.call("read"), (0, "/run/1/data 20009\n", ""))
+        told = "/run/1/data 20009 127.0.0.1:20008 [2] 0\n"
+        self.assertEqual(self.call("read"), (0, told, ""))
+
+    def test_there_may_be_no_other_process(self):
+        status, _, said = self.call("read", FY_ABLE="2")
+        self.assertEqual((status, said), (1, "ConnectionError: there is no other process to ask\n"))
+
+    def test_start_becomes_its_command_in_the_folder_of_the_process(self):
+        place = self.path.parent.resolve()
+        place.joinpath("1").mkdir()
+        self.assertEqual(self.call("start", "1", FY_DIR=str(place)), (7, f"{place}/1\n", ""))
 
     def test_records_are_printed_as_lines(self):
         self.path.write_text(ELECTS)
@@ -186,6 +198,10 @@ class Dispatch(unittest.TestCase):
         status, answers, _ = self.call("write", told=told)
         self.assertEqual((status, answers), (0, "ok 3\nno\nok 5\n"))
 
+    def test_a_writer_that_returns_no_mark_has_the_number_of_the_record(self):
+        told = "r/000000041 own\nr/000000042 no\n"
+        self.assertEqual(self.call("write", told=told), (0, "ok 41\nno\n", ""))
+
     def test_a_check_tells_a_value_none_and_a_process_that_was_not_asked(self):
         status, answers, _ = self.call("check", told="0 a\n0 b\n2 a\n0 a\n")
         self.assertEqual((status, answers), (0, "x\nnone\n?\nx\n"))
@@ -196,9 +212,11 @@ class Helpers(unittest.TestCase):
         with tempfile.TemporaryDirectory() as folder:
             path = f"{folder}/primary"
             keep(path, "first")
-            keep(path, "2")
+            self.assertEqual(keep(path, "2"), path)
             self.assertEqual(Path(path).read_text(), "2")
             self.assertEqual(os.listdir(folder), ["primary"])
+            keep(f"{folder}/a/b", "in a new folder")
+            self.assertEqual(os.listdir(f"{folder}/a"), ["b"])
 
     def test_waiting_ends_with_the_answer_or_without(self):
         answers = iter([None, 0, "yes"])
@@ -222,6 +240,28 @@ class Helpers(unittest.TestCase):
     def test_pages_are_asked_until_one_is_empty(self):
         pages = {"": {"b": "1", "a": "2"}, "b": {"c": "3"}, "c": {}}
         self.assertEqual(paged(pages.__getitem__), {"a": "2", "b": "1", "c": "3"})
+
+    def test_a_call_works_or_not(self):
+        self.assertTrue(fy.works(fy.run, "true"))
+        self.assertFalse(fy.works(fy.run, "false"))
+        self.assertFalse(fy.works(os.remove, "/none"))
+
+    def test_what_there_is_not_is_named(self):
+        with self.assertRaisesRegex(AttributeError, "there is no Cassandra"):
+            fy.Cassandra
+
+    def test_records_are_found_in_files(self):
+        one, other = "r/000000001 0123456789abcdef", "r/000000002 fedcba9876543210"
+        with tempfile.TemporaryDirectory(prefix="[a]") as folder:
+            Path(folder, "a.log").write_bytes(f"\0{one}\1{one[:-1]}x".encode())
+            Path(folder, "b.old").write_text(other)
+            found = fy.records_in(folder, "*.log")
+            self.assertEqual(found, dict([one.split()]))
+            self.assertEqual(fy.records_in(folder, "*.old", "*.log"), dict([other.split(), one.split()]))
+            self.assertEqual(fy.record_in("r/000000001", folder, "*"), "0123456789abcdef")
+            self.assertIsNone(fy.record_in("r/000000003", folder, "*"))
+            Path(folder, "c").write_text(one.replace("1 ", "3 "))
+            self.assertEqual(fy.record_in("r/000000003", folder, "*"), "0123456789abcdef")
 
     def test_waiting_goes_on_after_a_fault(self):
         def ask():
@@ -274,7 +314,7 @@ class Clients(unittest.TestCase):
 
     def test_silence_is_a_fault(self):
         with socket.create_server(("127.0.0.1", 0)) as silent, self.assertRaises(socket.timeout):
-            Resp(silent.getsockname(), 0.1).ask("PING")
+            Resp(address(silent), 0.1).ask("PING")
 
     def test_one_of_several_is_asked_until_it_fails(self):
         talk = Talk(self, [(PING, PONG), (PING, b"-ERR no\r\n")], [(PING, PONG)])
@@ -287,6 +327,40 @@ class Clients(unittest.TestCase):
     def test_where_there_is_none_to_ask_it_is_a_fault(self):
         with self.assertRaises(OSError):
             OneOf([]).ask("PING")
+
+
+class Shell(Piped):
+    """A shell is a client whose questions are commands."""
+
+    last, end = "echo END", "END"
+
+    def command(self, host, port):
+        return "env", f"host={host}", f"port={port}", "sh"
+
+
+class Commands(unittest.TestCase):
+    def client(self, seconds=5):
+        made = Shell("db:7", seconds)
+        self.addCleanup(made.close)
+        return made
+
+    def test_a_command_is_kept_running(self):
+        client = self.client()
+        self.assertEqual(client.ask("a=1; echo $host; echo $port"), ["db", "7"])
+        self.assertEqual(client.ask("echo $a"), ["1"])
+        self.assertEqual(client.ask(":"), [])
+
+    def test_a_command_that_ends_is_a_fault_and_is_started_again(self):
+        client = self.client()
+        with self.assertRaises(ConnectionError):
+            client.ask("a=1; echo half; exit 1")
+        self.assertEqual(client.ask("echo a is $a"), ["a is"])
+
+    def test_silence_of_a_command_is_a_fault(self):
+        client = self.client(0.2)
+        with self.assertRaises(socket.timeout):
+            client.ask("exec sleep 30")
+        self.assertIsNone(client._process)
 
 
 class RespAnswers(unittest.TestCase):
@@ -329,6 +403,34 @@ class HttpAnswers(unittest.TestCase):
         head = b"HTTP/1.1 200 OK\r\nTransfer-Encoding: chunked\r\n\r\n"
         chunked = head + b'3\r\n{"b\r\n4;x=y\r\n":3}\r\n0\r\n\r\n'
         self.assertEqual(self.asked(sized, chunked, sized), [{"b": 2}, {"b": 3}, {"b": 2}])
+
+    def told(self, sent, said, *asked):
+        """What comes of an answer to a question that is sent so."""
+        head = b" HTTP/1.1\r\nHost: 127.0.0.1\r\nContent-Type: application/json\r\nContent-Length: "
+        line, _, body = sent.partition(b"\r\n")
+        talk = [(line + head + b"%d\r\n\r\n" % len(body) + body, b"HTTP/1.1 " + said)]
+        return Talk(self, talk).client(Http).ask(*asked)
+
+    def test_a_method_may_be_named_and_a_text_is_sent_as_it_is(self):
+        done = b"200 OK\r\nContent-Type: application/json\r\nContent-Length: 4\r\n\r\ntrue"
+        self.assertIs(self.told(b"PUT /kv/a\r\n12", done, "PUT /kv/a", "12"), True)
+        gone = b"204 No Content\r\n\r\n"
+        self.assertEqual(self.told(b"DELETE /kv/a\r\n", gone, "DELETE /kv/a"), "")
+
+    def test_a_text_is_a_text_though_it_looks_like_a_number(self):
+        said = b"200 OK\r\nContent-Type: text/plain\r\nContent-Length: 3\r\n\r\n1e2"
+        self.assertEqual(self.told(b"GET /kv/a\r\n", said, "/kv/a"), "1e2")
+
+    def test_nothing_is_found_where_a_get_has_none(self):
+        none = b"404 Not Found\r\nContent-Length: 0\r\n\r\n"
+        self.assertIsNone(self.told(b"GET /kv/a\r\n", none, "/kv/a"))
+        with self.assertRaisesRegex(Refused, "404"):
+            self.told(b"DELETE /kv/a\r\n", none, "DELETE /kv/a")
+
+    def test_a_connection_that_the_server_closes_is_made_again(self):
+        said = b"HTTP/1.1 200 OK\r\nConnection: close\r\nContent-Length: 2\r\n\r\n{}"
+        client = Talk(self, [(self.SENT, said)], [(self.SENT, said)]).client(Http)
+        self.assertEqual([client.ask("/put", {"a": 1}) for _ in range(2)], [{}, {}])
 
     def test_texts_in_base64(self):
         self.assertEqual((base64("r/1"), plain("ci8x")), ("ci8x", "r/1"))
@@ -472,7 +574,7 @@ class NatsAnswers(unittest.TestCase):
             told = b"".join(said)
             thread = threading.Thread(target=self.serve, args=(server, told), daemon=True)
             thread.start()
-            client = Nats(server.getsockname(), 5)
+            client = Nats(address(server), 5)
             try:
                 return client.ask(("r.k", "v"), ("$JS.API", {"seq": 7}))
             finally:

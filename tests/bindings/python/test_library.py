@@ -31,6 +31,7 @@ TYPES = {
     "fy_guard *": ctypes.POINTER(library._Guard),
     "const fy_guard *": ctypes.POINTER(library._Guard),
     "fy_seen *": ctypes.POINTER(library._Seen),
+    "fy_borne *": ctypes.POINTER(library._Borne),
     "fy_reply *": ctypes.POINTER(library._Reply),
     "const uint32_t *": ctypes.POINTER(ctypes.c_uint32),
     "fy_order *": ctypes.POINTER(library._Order),
@@ -78,6 +79,7 @@ class Table(unittest.TestCase):
     def test_each_field_is_the_headers(self):
         for name, struct, count in (
             ("fy_seen", library._Seen, 4),
+            ("fy_borne", library._Borne, 4),
             ("fy_reply", library._Reply, 10),
         ):
             body = re.search(rf"^typedef struct {name} {{(.*?)^}}", HEADER, re.M | re.S)[1]
@@ -358,6 +360,41 @@ class InThisProcess(common.Folder, unittest.TestCase):
         for call in (numbered.judge_process, numbered.kill_process):
             with self.assertRaises(faultyard.GuardClosed):
                 call(0, kinds[0], by=1)
+
+    def test_each_process_has_the_kind_of_its_own_judgement(self):
+        kinds = faultyard.Kind
+        hard, mild, none = kinds.KILL_INSTANTLY, kinds.REBOOT, None
+        with self.guard() as guard:
+            guard.protect(5, [kinds.REBOOT, hard], by=4)
+            self.assertEqual(guard.killable(by=1), [hard] * 5 + [kinds.REBOOT_AND_DELETE])
+            self.assertEqual(guard.killable(by=3), [none] * 6)
+            guard.kill_process(0, hard, by=1)
+            wanted = [none, hard, mild, mild, mild, kinds.REBOOT_PROCESS]
+            self.assertEqual(guard.killable(by=1), wanted)
+            judged = [guard.judge_process(it, hard, by=2).struck for it in range(6)]
+            self.assertEqual(guard.killable(by=2), judged)
+            with self.assertRaises(faultyard.ActRefused) as caught:
+                guard.killable(by=9)
+            self.assertEqual(caught.exception.refusal, faultyard.Refusal.STRANGER)
+            with self.assertRaises(faultyard.InvalidAct):
+                guard.killable(by=-1)
+            self.assertEqual(guard.journal_len(), 2)
+        with self.assertRaises(faultyard.GuardClosed):
+            guard.killable(by=1)
+
+    def test_what_it_bears_is_what_the_program_says(self):
+        crossed = common.ROOT / "tests/cli/bears/configs/crossed.toml"
+        with self.guard(crossed) as guard:
+            self.assertEqual(guard.bears(), faultyard.Borne(2, 0, False, True))
+            self.assertEqual(guard.bears(), faultyard.bears(crossed, guard.audit()))
+        with self.guard() as guard:
+            for at, (by, act) in enumerate(common.random_acts(60, 200)):
+                guard.act(by, act)
+                if at % 20 == 0:
+                    self.assertEqual(guard.bears(), faultyard.bears(common.SIX, guard.audit()))
+            self.assertEqual(guard.journal_len(), 200)
+        with self.assertRaises(faultyard.GuardClosed):
+            guard.bears()
 
     def test_states_and_what_is_needed_and_a_reset(self):
         up = faultyard.State(up=True, clogged=False, destroyed=False, gone=False)

@@ -224,10 +224,28 @@ class PipeTest(common.Folder, unittest.TestCase):
             asked.append(lambda: guard.judge(key, "p0", kind, by=1))
             asked.append(lambda: guard.kill_process(0, kind, by=1))
             asked.append(lambda: guard.judge_process(0, kind, by=1))
+            asked.append(lambda: guard.killable(by=1))
             for ask in asked:
                 with self.assertRaises(faultyard.NotOffered):
                     ask()
             self.assertEqual(guard.tick(1, by=0), 1)
+
+    def test_how_much_may_still_be_lost(self):
+        key, kind = faultyard.Key.ZONE, faultyard.Kind.KILL_INSTANTLY
+        with Guard(common.SIX) as guard:
+            self.assertEqual(guard.bears(), faultyard.Borne(1, 1, True, True))
+            guard.kill(key, "z1", kind, by=1)
+            self.assertEqual(guard.bears(), faultyard.Borne(0, 0, True, True))
+            self.assertEqual(guard.journal_len(), 1)
+        with self.assertRaises(faultyard.GuardClosed):
+            guard.bears()
+        crossed = common.ROOT / "tests/cli/bears/configs/crossed.toml"
+        # Whether any three may be emptied isn't found, since its policy has an And.
+        wanted = faultyard.Borne(2, 0, False, True)
+        self.assertEqual(faultyard.bears(crossed, common.HEADER), wanted)
+        with self.assertRaises(faultyard.AuditRefused) as caught:
+            faultyard.bears(crossed, guard.audit())
+        self.assertEqual(caught.exception.status, 5)
 
     def test_an_audit_that_check_does_not_confirm(self):
         with Guard(common.SIX) as guard:

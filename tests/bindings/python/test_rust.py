@@ -29,6 +29,7 @@ TYPES = {
     "uint8_t *": "*mut u8",
     "const uint8_t *": "*const u8",
     "fy_seen *": "*mut FySeen",
+    "fy_borne *": "*mut FyBorne",
     "fy_reply *": "*mut FyReply",
     "const uint32_t *": "*const u32",
     "fy_order *": "*mut FyOrder",
@@ -120,6 +121,7 @@ class Table(unittest.TestCase):
     def test_each_field_is_the_headers(self):
         for struct, its, count in (
             ("fy_seen", "FySeen", 4),
+            ("fy_borne", "FyBorne", 4),
             ("fy_reply", "FyReply", 10),
             ("fy_order", "FyOrder", 7),
         ):

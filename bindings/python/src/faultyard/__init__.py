@@ -27,7 +27,7 @@ from .errors import (
     ProtocolError,
 )
 from .guard import Guard
-from .programs import check, find_program, show
+from .programs import bears, check, find_program, show
 from .replies import (
     Begun,
     Done,
@@ -43,13 +43,14 @@ from .replies import (
     Time,
     Verdict,
 )
-from .transport import Sight, State
+from .transport import Borne, Sight, State
 
 __all__ = [
     "ActRefused",
     "Actor",
     "AuditRefused",
     "Begun",
+    "Borne",
     "Check",
     "ClusterFile",
     "ConfigRefused",
@@ -84,6 +85,7 @@ __all__ = [
     "Synced",
     "Time",
     "Verdict",
+    "bears",
     "check",
     "find_program",
     "show",

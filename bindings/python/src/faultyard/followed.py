@@ -3,13 +3,15 @@
 from __future__ import annotations
 
 import os
+import tempfile
 from typing import IO, Any, Dict, FrozenSet, List, Mapping, Optional
 
+from .enums import Kind
 from .errors import NotOffered
 from .losses import Losses
-from .programs import StrPath
+from .programs import StrPath, bears
 from .replies import Reply, read_entry
-from .transport import Sight, State, Transport
+from .transport import Borne, Sight, State, Transport
 
 
 def open_audit(folder: StrPath) -> IO[bytes]:
@@ -20,9 +22,10 @@ def open_audit(folder: StrPath) -> IO[bytes]:
 class Followed(Transport):
     """A guard in another process. What it doesn't say is read out of its entries."""
 
-    def __init__(self, config: StrPath) -> None:
+    def __init__(self, config: StrPath, program: Optional[StrPath] = None) -> None:
         with open(config, "rb") as file:
             self._config = file.read()
+        self._program = program
         self._audit: List[bytes] = []
         self._losses: Optional[Losses] = None
         self._followed = 0
@@ -55,6 +58,13 @@ class Followed(Transport):
     def gone(self) -> FrozenSet[int]:
         return frozenset(self._follow().gone)
 
+    def bears(self) -> Borne:
+        # The cluster file may be another by now.
+        with tempfile.NamedTemporaryFile(prefix="faultyard-") as config:
+            config.write(self._config)
+            config.flush()
+            return bears(config.name, self.audit().decode(), self._program)
+
     def judge(self, by: int, order: Mapping[str, Any]) -> Reply:
         raise NotOffered("judge asks for the transport 'library'")
 
@@ -63,6 +73,9 @@ class Followed(Transport):
 
     def judge_process(self, by: int, order: Mapping[str, Any]) -> Reply:
         raise NotOffered("judge_process asks for the transport 'library'")
+
+    def killable(self, by: int) -> Optional[List[Optional[Kind]]]:
+        raise NotOffered("killable asks for the transport 'library'")
 
     def reset(self) -> None:
         raise NotOffered("reset asks for the transport 'library'")

@@ -9,7 +9,7 @@ from typing import Any, Dict, FrozenSet, Iterable, List, Literal, Mapping, Optio
 from typing import TypeVar, Union
 
 from . import acts
-from .enums import Key, Kind
+from .enums import Key, Kind, Refusal
 from .errors import ActRefused, FaultyardError, GuardClosed, NotOffered, ProtocolError
 from .library import Library
 from .pipe import Pipe
@@ -17,7 +17,7 @@ from .programs import StrPath
 from .replies import Begun, Done, Entry, Formed, Marked, Refused, Ruling, Sent, Stored, Synced
 from .replies import Reply, Time, Verdict, read_entry
 from .served import Served
-from .transport import Sight, State, Transport
+from .transport import Borne, Sight, State, Transport
 
 _Reply = TypeVar("_Reply")
 
@@ -200,6 +200,19 @@ class Guard:
         with self._lock:
             reply = self._at_work().judge_process(by, order)
         return self._verdict("judge_process", reply)
+
+    def killable(self, *, by: int) -> List[Optional[Kind]]:
+        """Of each process, by its number, the kind by which a kill of it alone would strike now.
+
+        The kill is ordered by `Kind.KILL_INSTANTLY`; `None` where nothing would strike. Once one
+        is killed, fewer may be. It enters nothing. Over the pipe it raises `NotOffered`.
+        """
+        by = acts.number(by)
+        with self._lock:
+            kinds = self._at_work().killable(by)
+        if kinds is None:
+            raise ActRefused("kill", Refusal.STRANGER, None)
+        return kinds
 
     @staticmethod
     def _verdict(call: str, reply: Reply) -> Verdict:
@@ -425,6 +438,14 @@ class Guard:
         """The time, and what there is to do next. Over the pipe it raises `NotOffered`."""
         with self._lock:
             return self._at_work().sight()
+
+    def bears(self) -> Borne:
+        """How much of the cluster may still be lost: what `faultyard bears` tells first.
+
+        Over the pipe that program is started for each call. It enters nothing.
+        """
+        with self._lock:
+            return self._at_work().bears()
 
     # Plans that are drawn from a seed.
 

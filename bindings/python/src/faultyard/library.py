@@ -16,7 +16,7 @@ from .errors import JournalFull, NotFound, OutOfMemory, ProtocolError
 from .programs import StrPath
 from .replies import Begun, Done, Formed, Marked, Refused, Reply, Ruling, Sent, Stored, Synced
 from .replies import Time, Verdict, read_entry
-from .transport import HEADER, Sight, State, Transport
+from .transport import HEADER, Borne, Sight, State, Transport
 
 NAMES = ("libfaultyard.so.1", "libfaultyard.so")
 """What the system's loader is asked for."""
@@ -36,6 +36,17 @@ class _Seen(c.Structure):
         ("deliverable", c.c_uint64),
         ("unsynced", c.c_uint32),
         ("sleeping", c.c_uint32),
+    ]
+
+
+class _Borne(c.Structure):
+    """`fy_borne`."""
+
+    _fields_ = [
+        ("emptied", c.c_uint32),
+        ("gone", c.c_uint32),
+        ("emptied_exact", c.c_uint32),
+        ("gone_exact", c.c_uint32),
     ]
 
 
@@ -81,7 +92,7 @@ class _Check(c.Structure):
 
 
 _guard, _seen, _reply = c.POINTER(_Guard), c.POINTER(_Seen), c.POINTER(_Reply)
-_order, _check = c.POINTER(_Order), c.POINTER(_Check)
+_borne, _order, _check = c.POINTER(_Borne), c.POINTER(_Order), c.POINTER(_Check)
 _u32, _u32_out = c.c_uint32, c.POINTER(c.c_uint32)
 _u64, _u64_out = c.c_uint64, c.POINTER(c.c_uint64)
 _size, _size_out = c.c_size_t, c.POINTER(c.c_size_t)
@@ -111,6 +122,7 @@ CALLS: Dict[str, Tuple[Any, List[Any]]] = {
         _u32,
         [_guard, _u32, _u32, _u32, _u32, _u32_out, _u32_out, _u64_out],
     ),
+    "fy_killable": (_u32, [_guard, _u32, _bytes, _size, _size_out]),
     "fy_up": (_u32, [_guard, _u32, _u32, _u32_out]),
     "fy_heal": (_u32, [_guard, _u32, _u32, _u32_out]),
     "fy_clog": (_u32, [_guard, _u32, _u32, _bytes, _size, _u64, _reply]),
@@ -142,6 +154,7 @@ CALLS: Dict[str, Tuple[Any, List[Any]]] = {
     "fy_is_acked": (_u32, [_guard, _u32]),
     "fy_keeper": (_u32, [_guard, _u32]),
     "fy_sight": (None, [_guard, _seen]),
+    "fy_bears": (_u32, [_guard, _borne]),
     "fy_journal_len": (_size, [_guard]),
     "fy_audit": (_u32, [_guard, _size, _bytes, _size, _size_out]),
     "fy_words": (_u32, [_u64, _u64, _u32_out, _size]),
@@ -262,7 +275,7 @@ USUAL_PLAN = 64
 
 
 class Version(NamedTuple):
-    """A version of the library; as text `1.0.0`."""
+    """A version of the library; as text `1.1.0`."""
 
     major: int
     minor: int
@@ -477,6 +490,14 @@ class Library(Transport):
     def judge_process(self, by: int, order: Mapping[str, Any]) -> Reply:
         return _judged(*self._verdict(self._library.fy_judge_process, by, order))
 
+    def killable(self, by: int) -> Optional[List[Optional[Kind]]]:
+        kinds, told = c.create_string_buffer(64 * SET_WORDS), _size()
+        status = self._library.fy_killable(self._opened(), by, kinds, len(kinds), told)
+        if status == REFUSED:
+            return None
+        _require(status)
+        return [STRUCK[kind] for kind in kinds.raw[: told.value]]
+
     def reset(self) -> None:
         _require(self._library.fy_reset(self._opened()))
 
@@ -535,6 +556,11 @@ class Library(Transport):
         self._library.fy_sight(self._opened(), seen)
         message = None if seen.deliverable == NOTHING else seen.deliverable
         return Sight(seen.now, message, _somebody(seen.unsynced), _somebody(seen.sleeping))
+
+    def bears(self) -> Borne:
+        told = _Borne()
+        _require(self._library.fy_bears(self._opened(), told))
+        return Borne(told.emptied, told.gone, told.emptied_exact != 0, told.gone_exact != 0)
 
     def swizzle_plan(self, seed: int, stream: int, ticks: int) -> List[Dict[str, Dict[str, Any]]]:
         return self._plan(self._library.fy_swizzle_plan, seed, stream, ticks)

@@ -45,7 +45,7 @@ class Pipe(Followed):
         folder: Optional[StrPath],
         after: Optional[StrPath] = None,
     ):
-        super().__init__(config)
+        super().__init__(config, program)
         before: List[bytes] = []
         if after is not None:
             with open(after, "rb") as file:

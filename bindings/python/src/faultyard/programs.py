@@ -1,14 +1,16 @@
-"""Finds the program, and has it check or draw an audit."""
+"""Finds the program, and has it check or draw an audit, or say what may be lost after one."""
 
 from __future__ import annotations
 
+import json
 import os
 import re
 import shutil
 import subprocess
-from typing import Optional, Sequence, Union
+from typing import Any, Mapping, Optional, Sequence, Union
 
 from .errors import AuditRefused, NotFound
+from .transport import Borne
 
 StrPath = Union[str, "os.PathLike[str]"]
 
@@ -55,6 +57,18 @@ def show(
     )
     red = entry.sub(rf'class="\1 beyond" data-entry="{beyond}"', picture)
     return red.replace("</style>", style, 1)
+
+
+def bears(config: StrPath, audit: str, program: Optional[StrPath] = None) -> Borne:
+    """Has `faultyard bears` say how much may still be lost after an audit, or `AuditRefused`."""
+    told = _told("bears", config, audit, program, ["--after", "/dev/stdin", "--json"])
+    emptied, gone = json.loads(told)["losses"]
+    return Borne(emptied["any"], gone["any"], _is_exact(emptied), _is_exact(gone))
+
+
+def _is_exact(loss: Mapping[str, Any]) -> bool:
+    """Whether a policy that bears the least number bears no more."""
+    return any(it["any"] == loss["any"] and it["exact"] for it in loss["policies"])
 
 
 def _told(

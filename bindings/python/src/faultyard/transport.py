@@ -7,6 +7,7 @@ from dataclasses import dataclass
 from typing import Any, Dict, FrozenSet, List, Mapping, Optional
 
 from .acts import line
+from .enums import Kind
 from .replies import Entry, Reply, read_entry
 
 HEADER = b'{"audit":2}\n'
@@ -41,6 +42,20 @@ class State:
     """It was killed for good."""
 
 
+@dataclass(frozen=True)
+class Borne:
+    """How much of a cluster may still be lost: any so many processes together."""
+
+    emptied: int
+    """So many may be emptied, whichever they are."""
+    gone: int
+    """So many may be killed for good."""
+    emptied_exact: bool
+    """Some set of one more may not be emptied; where none was found, more may be borne."""
+    gone_exact: bool
+    """The same of those killed for good."""
+
+
 class Transport(ABC):
     """One guard behind its pipe or its library. One call at a time is made with it."""
 
@@ -67,6 +82,10 @@ class Transport(ABC):
     @abstractmethod
     def judge_process(self, by: int, order: Mapping[str, Any]) -> Reply:
         """The reply that a kill of one process by its number would get now."""
+
+    @abstractmethod
+    def killable(self, by: int) -> Optional[List[Optional[Kind]]]:
+        """Of each process the hardest kind that may strike it; `None` without such an actor."""
 
     @abstractmethod
     def reset(self) -> None:
@@ -127,6 +146,10 @@ class Transport(ABC):
     @abstractmethod
     def sight(self) -> Sight:
         """The time, and what there is to do next."""
+
+    @abstractmethod
+    def bears(self) -> Borne:
+        """How much of the cluster may still be lost."""
 
     @abstractmethod
     def swizzle_plan(self, seed: int, stream: int, ticks: int) -> List[Dict[str, Dict[str, Any]]]:

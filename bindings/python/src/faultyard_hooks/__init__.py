@@ -1,20 +1,19 @@
-"""What the hooks of stores have in common. docs/NEMESIS.md says which hooks there are.
+"""What the hooks of stores have in common. docs/HOOKS.md leads to the hooks of a store.
 
-    from faultyard_hooks import at, folder, hook, main, port, start, writes
-    from faultyard_hooks.resp import Resp
+    import faultyard_hooks as fy
 
-    @hook("start")
-    def start_it(n):
-        start("mystore", "--data", folder(n), "--port", port(n))
+    servers, some, able = fy.clients(fy.Resp)
 
-    @writes
-    def put(key, value):
-        return Resp(at(0)).ask("RPUSH", "r", f"{key} {value}")
+    def start(n):
+        return "mystore", "--data", fy.folder(n), "--port", fy.port(n)
 
-    main()
+    def write(key, value):
+        return some.ask("RPUSH", "r", f"{key} {value}")
+
+    fy.main()
 
 A hook is called ten times a second, so this stands beside the package `faultyard`, which takes
-longer to import than a hook may take.
+longer to import than a hook may take. Modules of its own are imported where they are used.
 """
 
 from __future__ import annotations
@@ -24,11 +23,34 @@ import socket
 import sys
 import time
 from contextlib import contextmanager
-from typing import Any, Callable, Dict, Iterator, Optional, Tuple, TypeVar
+from typing import Any, Callable, Dict, Iterator, List, Optional, TypeVar
 
-Hook = TypeVar("Hook", bound=Callable[..., Any])
 Answer = TypeVar("Answer")
-_hooks: Dict[str, Callable[..., Any]] = {}
+HOOKS = "setup start ready join leave elect pause resume whole write check read salvage".split()
+# What stands in a module of its own.
+ELSEWHERE = {
+    "Amqp": "amqp",
+    "Client": "client",
+    "clients": "client",
+    "electing": "one_primary",
+    "Http": "http",
+    "JsonRpc": "jsonrpc",
+    "Nats": "nats",
+    "Ovsdb": "ovsdb",
+    "Piped": "piped",
+    "Postgres": "postgres",
+    "primary": "one_primary",
+    "record_in": "files",
+    "records_in": "files",
+    "Resp": "resp",
+    "ZooKeeper": "zookeeper",
+}
+
+
+def __getattr__(name: str) -> Any:
+    if name not in ELSEWHERE:
+        raise AttributeError(f"there is no {name} in {__name__}")
+    return getattr(__import__(f"{__name__}.{ELSEWHERE[name]}", fromlist=[name]), name)
 
 
 class Refused(OSError):
@@ -53,9 +75,9 @@ def port(n: int, which: int = 0) -> int:
     return int(_told("FY_PORT", "0")) + 4 * n + which
 
 
-def at(n: int, which: int = 0) -> Tuple[str, int]:
-    """The address of a process with one of its ports."""
-    return HOSTS[n], port(n, which)
+def at(n: int, which: int = 0) -> str:
+    """`HOST:PORT` of a process, with one of its ports."""
+    return f"{HOSTS[n]}:{port(n, which)}"
 
 
 def folder(n: int, *below: str) -> str:
@@ -68,86 +90,120 @@ def copied(*below: str) -> str:
     return os.path.join(_told("FY_COPY", ""), *below)
 
 
+def others(n: int) -> List[int]:
+    """Those that aren't destroyed, without n."""
+    return [m for m in ABLE if m != n]
+
+
+def another(n: int) -> int:
+    """One of them by chance; a fault where there is none."""
+    import random
+
+    if not others(n):
+        raise ConnectionError("there is no other process to ask")
+    return random.choice(others(n))
+
+
 # Hooks.
 
 
-def hook(name: str) -> Callable[[Hook], Hook]:
-    """Makes a function a hook. False says no, as an OSError does; a text or records are printed."""
+def main(*promises: str) -> None:
+    """Calls the hook that the command line names: the function of this name in the hooks' file.
 
-    def register(function: Hook) -> Hook:
-        _hooks[name] = function
-        return function
-
-    return register
-
-
-def writes(put: Callable[[str, str], int]) -> None:
-    """Makes the hook `write`: `put` answers the mark of a record once it is acknowledged."""
-
-    def write() -> None:
-        for line in sys.stdin:
-            key, value = line.split()
-            _answer(lambda: f"ok {put(key, value)}", "no")
-
-    _hooks["write"] = write
-
-
-def checks(get: Callable[[int, str], Optional[str]]) -> None:
-    """Makes the hook `check`: `get` answers what a process itself has for a key, or None."""
-
-    def check() -> None:
-        for line in sys.stdin:
-            number, key = line.split()
-            _answer(lambda: get(int(number), key) or "none", "?")
-
-    _hooks["check"] = check
+    `start` returns a command. `write` returns a mark, or nothing where the record's number is one.
+    `check` returns a value or None, and any other hook False for no, or what it prints. An OSError
+    says no too. `promises` are printed beside the names. Without a function `ready` a process is
+    ready once its first port takes a connection.
+    """
+    given = vars(sys.modules["__main__"])
+    hooks = {name: given[name] for name in HOOKS if name in given}
+    hooks.setdefault("ready", is_reachable)
+    name, *numbers = sys.argv[1:] or [""]
+    if name == "hooks":
+        print(*hooks, *promises)
+    elif name not in hooks:
+        sys.exit(64)
+    elif name in ("write", "check"):
+        _answer_lines(_written if name == "write" else _checked, hooks[name])
+    else:
+        try:
+            result = hooks[name](*map(int, numbers))
+        except OSError as fault:
+            sys.exit(_in_words(fault))
+        if name == "start":
+            _become(folder(int(numbers[0])), result)
+        _end(result)
 
 
-def _answer(ask: Callable[[], str], otherwise: str) -> None:
+def _end(result: Any) -> None:
+    """Says what came of a hook."""
+    if result is False:
+        sys.exit(1)
+    if isinstance(result, dict):
+        result = "".join(f"{key} {value}\n" for key, value in result.items())
+    if isinstance(result, str):
+        sys.stdout.write(result)
+
+
+def _become(place: str, words: Any) -> None:
+    """Goes on as a command, in this process and in a folder."""
+    command = [str(word) for word in words]
+    if "/" in command[0]:
+        command[0] = os.path.abspath(command[0])
+    os.chdir(place)
+    sys.stdout.flush()
+    os.execvp(command[0], command)
+
+
+def _answer_lines(answer: Callable[..., str], ask: Callable[..., Any]) -> None:
+    for line in sys.stdin:
+        print(answer(ask, *line.split()), flush=True)
+
+
+def _written(put: Callable[[str, str], Any], key: str, value: str) -> str:
     try:
-        told = ask()
+        mark = put(key, value)
     except OSError as fault:
-        told = otherwise
-        print(f"{type(fault).__name__}: {fault}", file=sys.stderr)
-    print(told, flush=True)
+        print(_in_words(fault), file=sys.stderr)
+        return "no"
+    if mark is False:
+        return "no"
+    return f"ok {int(key[2:]) if mark in (None, True) else mark}"
+
+
+def _checked(get: Callable[[int, str], Optional[str]], number: str, key: str) -> str:
+    try:
+        return get(int(number), key) or "none"
+    except OSError as fault:
+        print(_in_words(fault), file=sys.stderr)
+        return "?"
+
+
+def _in_words(fault: OSError) -> str:
+    return f"{type(fault).__name__}: {fault}"
+
+
+def connection(address: str, seconds: float) -> socket.socket:
+    """A connection to `HOST:PORT`, or to the path of a Unix socket."""
+    if "/" not in address:
+        host, _, number = address.rpartition(":")
+        return socket.create_connection((host, int(number)), seconds)
+    made = socket.socket(socket.AF_UNIX)
+    try:
+        made.settimeout(seconds)
+        made.connect(address)
+    except OSError:
+        made.close()
+        raise
+    return made
 
 
 def is_reachable(n: int) -> None:
-    """Whether the first port of a process takes a connection."""
-    socket.create_connection(at(n), 2).close()
-
-
-def main(*promises: str) -> None:
-    """Calls the hook that the command line names. `promises` are printed beside all names.
-
-    Where there is no hook `ready`, a process is ready once it is reachable.
-    """
-    _hooks.setdefault("ready", is_reachable)
-    name, *numbers = sys.argv[1:] or [""]
-    if name == "hooks":
-        print(*_hooks, *promises)
-    elif name not in _hooks:
-        sys.exit(64)
-    else:
-        try:
-            result = _hooks[name](*map(int, numbers))
-        except OSError as fault:
-            sys.exit(f"{type(fault).__name__}: {fault}")
-        if result is False:
-            sys.exit(1)
-        if isinstance(result, dict):
-            result = "".join(f"{key} {value}\n" for key, value in result.items())
-        if isinstance(result, str):
-            sys.stdout.write(result)
+    """Whether the first port of a process takes a connection; a fault where it doesn't."""
+    connection(at(n), 2.0).close()
 
 
 # What hooks do.
-
-
-def start(*words: object) -> None:
-    """Goes on as a command, in this process."""
-    sys.stdout.flush()
-    os.execvp(str(words[0]), [str(word) for word in words])
 
 
 def run(*words: object, text: str = "", seconds: float = 60.0) -> str:
@@ -196,6 +252,15 @@ def wait(ask: Callable[[], Any], seconds: float = 5.0, pause: float = 0.05) -> A
         time.sleep(pause)
 
 
+def works(ask: Callable[..., Any], *words: object) -> bool:
+    """Whether a call ends without an OSError, as `works(run, "mystore", "verify", path)`."""
+    try:
+        ask(*words)
+    except OSError:
+        return False
+    return True
+
+
 def answered(ask: Callable[[], Answer], seconds: float = 30.0) -> Answer:
     """The first answer that is no OSError; the last fault where there is none in time."""
     until = time.monotonic() + seconds
@@ -217,14 +282,20 @@ def paged(ask: Callable[[str], Dict[str, str]]) -> Dict[str, str]:
     return found
 
 
-def keep(path: str, text: str) -> None:
-    """Writes a file so that a power cut leaves the old one or the new one."""
+def keep(path: str, text: str) -> str:
+    """Writes a file so that a power cut leaves the old one or the new one, and answers its path.
+
+    Its folder is made where it isn't there.
+    """
+    place = os.path.dirname(path)
+    os.makedirs(place, exist_ok=True)
     with open(f"{path}.new", "w", encoding="utf-8") as file:
         file.write(text)
         file.flush()
         os.fsync(file.fileno())
     os.replace(f"{path}.new", path)
-    sync(os.path.dirname(path))
+    sync(place)
+    return path
 
 
 def sync(path: str) -> None:

@@ -5,16 +5,16 @@ from __future__ import annotations
 import random
 import socket
 from abc import ABC, abstractmethod
-from typing import Any, BinaryIO, Callable, Generic, List, Optional, Sequence, Tuple, TypeVar, Union
+from typing import Any, BinaryIO, Callable, Generic, List, Optional, Sequence, Tuple, TypeVar
 
-from . import ABLE, COUNT, at
+from . import ABLE, COUNT, at, connection
 
 
 class Client(ABC):
     """Connects when it is first asked, and again after a fault, which is an OSError."""
 
-    def __init__(self, address: Union[Tuple[str, int], str], seconds: float = 2.0) -> None:
-        """The path of a Unix socket is an address too. The store may be silent for `seconds`."""
+    def __init__(self, address: str, seconds: float = 4.0) -> None:
+        """`HOST:PORT`, or the path of a Unix socket. The store may be silent for `seconds`."""
         self._address, self._seconds = address, seconds
         self._socket: Optional[socket.socket] = None
         self._file: Optional[BinaryIO] = None
@@ -38,15 +38,15 @@ class Client(ABC):
         self._socket = self._file = None
 
     def _connect(self) -> None:
-        if isinstance(self._address, str):
-            self._socket = socket.socket(socket.AF_UNIX)
-            self._socket.settimeout(self._seconds)
-            self._socket.connect(self._address)
-        else:
-            self._socket = socket.create_connection(self._address, self._seconds)
-            self._socket.setsockopt(socket.IPPROTO_TCP, socket.TCP_NODELAY, 1)
+        self._socket = self._opened()
         self._file = self._socket.makefile("rb")
         self._greet()
+
+    def _opened(self) -> socket.socket:
+        opened = connection(self._address, self._seconds)
+        if opened.family != socket.AF_UNIX:
+            opened.setsockopt(socket.IPPROTO_TCP, socket.TCP_NODELAY, 1)
+        return opened
 
     def _greet(self) -> None:
         """What a protocol says first."""
@@ -100,7 +100,7 @@ class OneOf(Generic[AnyClient]):
 
 
 def clients(
-    kind: Callable[[Tuple[str, int], float], AnyClient], seconds: float = 4.0, which: int = 0
+    kind: Callable[[str, float], AnyClient], seconds: float = 4.0, which: int = 0
 ) -> Tuple[List[AnyClient], OneOf[AnyClient], OneOf[AnyClient]]:
     """One of each process, one of any, and one of any that isn't destroyed."""
     each = [kind(at(n, which), seconds) for n in range(COUNT)]

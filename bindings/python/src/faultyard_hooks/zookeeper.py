@@ -4,11 +4,10 @@ from __future__ import annotations
 
 import glob
 import os
-import socket
 import struct
-from typing import Any, Dict, List, Optional, Tuple
+from typing import Any, Dict, List, Optional
 
-from . import Refused
+from . import Refused, connection
 from .client import Client
 
 CREATE, GET, CHILDREN, SYNC, RECONFIG = 1, 4, 8, 9, 16
@@ -89,9 +88,9 @@ class ZooKeeper(Client):
         return self._read(*struct.unpack(">i", self._read(4)))
 
 
-def mode(address: Tuple[str, int]) -> str:
+def mode(address: str) -> str:
     """What a server is, as the word `srvr` has it: leader, follower, observer or standalone."""
-    with socket.create_connection(address, 2) as asked:
+    with connection(address, 2.0) as asked:
         asked.sendall(b"srvr")
         told = b"".join(iter(lambda: asked.recv(65536), b"")).decode()
     return dict(line.partition(": ")[::2] for line in told.splitlines()).get("Mode", "")

@@ -111,6 +111,13 @@ uint32_t fy_judge_process(const fy_guard *guard, uint32_t actor, uint32_t proces
     return FY_ARGUMENT;
 }
 
+uint32_t fy_killable(const fy_guard *guard, uint32_t actor, uint8_t *kinds, size_t room, size_t *told)
+{
+    require_turn();
+    *told = 0;
+    return FY_DONE;
+}
+
 uint32_t fy_up(fy_guard *guard, uint32_t actor, uint32_t process, uint32_t *refusal)
 {
     require_turn();
@@ -295,6 +302,12 @@ void fy_sight(const fy_guard *guard, fy_seen *seen)
 {
     require_turn();
     memset(seen, 0, sizeof *seen);
+}
+
+uint32_t fy_bears(const fy_guard *guard, fy_borne *borne)
+{
+    require_turn();
+    return FY_NO_MEMORY;
 }
 
 size_t fy_journal_len(const fy_guard *guard)

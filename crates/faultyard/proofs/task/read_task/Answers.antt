@@ -1,7 +1,7 @@
 use Rattle.std.proofs.Common.{inl, inr, map}
 use Rattle.std.specs.Prelude.{string_bytes}
 use Rattle.faultyard.proofs.CommandLemmas.{faultless, fails_by, has_config, has_seed, is_task_of, met_task}
-use Rattle.faultyard.specs.declared.task.Task.TheVariants.{Judge, Run, Check, Swarm, Guard, Show, Bears}
+use Rattle.faultyard.specs.declared.task.Task.TheVariants.{Judge, Run, Check, Swarm, Simulate, Guard, Show, Bears}
 use Rattle.faultyard.proofs.task.read_task.Goals as goal
 
 pub returns-in-judge-clause-refused : goal.returns-in-judge-clause-refused
@@ -15,6 +15,9 @@ returns-in-check-clause-refused c = faultless _ (map string_bytes c.args.words.n
 
 pub returns-in-swarm-clause-refused : goal.returns-in-swarm-clause-refused
 returns-in-swarm-clause-refused c = faultless _ (map string_bytes c.args.words.now) c.in_ok-faultyard.ensures c.in-Ok.ensures.kinds
+
+pub returns-in-simulate-clause-refused : goal.returns-in-simulate-clause-refused
+returns-in-simulate-clause-refused c = faultless _ (map string_bytes c.args.words.now) c.in_ok-faultyard.ensures c.in-Ok.ensures.kinds
 
 pub returns-in-guard-clause-refused : goal.returns-in-guard-clause-refused
 returns-in-guard-clause-refused c = faultless _ (map string_bytes c.args.words.now) c.in_ok-faultyard.ensures c.in-Ok.ensures.kinds
@@ -44,6 +47,12 @@ pub returns-in-swarm-clause-task : goal.returns-in-swarm-clause-task
 returns-in-swarm-clause-task c = is_task_of _ (map string_bytes c.args.words.now) c.in-Ok.matches c.in-Some.name.now c.in-Some.given.now (Swarm c.config_of-in-swarm.result c.seed_of.result) c.in_ok-faultyard.ensures
     c.in-Ok.ensures.matches c.in-Some.ensures.name c.in-Some.ensures.rows (c.in-swarm.is, c.config_of-in-swarm.ensures, c.seed_of.ensures)
 
+pub returns-in-simulate-clause-task : goal.returns-in-simulate-clause-task
+returns-in-simulate-clause-task c = is_task_of _ (map string_bytes c.args.words.now) c.in-Ok.matches c.in-Some.name.now c.in-Some.given.now
+    (Simulate c.config_of-in-simulate.result c.seed_of-in-simulate.result c.acts_of.result c.plan_of.result) c.in_ok-faultyard.ensures
+    c.in-Ok.ensures.matches c.in-Some.ensures.name c.in-Some.ensures.rows
+    (c.in-simulate.is, c.config_of-in-simulate.ensures, c.seed_of-in-simulate.ensures, c.acts_of.ensures, c.plan_of.ensures)
+
 pub returns-in-guard-clause-task : goal.returns-in-guard-clause-task
 returns-in-guard-clause-task c = is_task_of _ (map string_bytes c.args.words.now) c.in-Ok.matches c.in-Some.name.now c.in-Some.given.now (Guard c.config_of-in-guard.result c.after_of.result) c.in_ok-faultyard.ensures
     c.in-Ok.ensures.matches c.in-Some.ensures.name c.in-Some.ensures.rows (c.in-guard.is, c.config_of-in-guard.ensures, c.after_of.ensures)
@@ -66,6 +75,16 @@ config_of-requires-in-swarm c = has_config c.in-Some.name.now c.in-Some.given.no
     (met_task _ (map string_bytes c.args.words.now) c.in-Ok.matches c.in-Some.name.now c.in-Some.given.now c.in_ok-faultyard.ensures
     c.in-Ok.ensures.kinds c.in-Ok.ensures.matches c.in-Some.ensures.name c.in-Some.ensures.rows)
 
+pub config_of-requires-in-simulate : goal.config_of-requires-in-simulate
+config_of-requires-in-simulate c = has_config c.in-Some.name.now c.in-Some.given.now c.in-simulate.not-judge
+    (met_task _ (map string_bytes c.args.words.now) c.in-Ok.matches c.in-Some.name.now c.in-Some.given.now c.in_ok-faultyard.ensures
+    c.in-Ok.ensures.kinds c.in-Ok.ensures.matches c.in-Some.ensures.name c.in-Some.ensures.rows)
+
+pub seed_of-requires-in-simulate : goal.seed_of-requires-in-simulate
+seed_of-requires-in-simulate c = has_seed c.in-Some.name.now c.in-Some.given.now (inr c.in-simulate.is)
+    (met_task _ (map string_bytes c.args.words.now) c.in-Ok.matches c.in-Some.name.now c.in-Some.given.now c.in_ok-faultyard.ensures
+    c.in-Ok.ensures.kinds c.in-Ok.ensures.matches c.in-Some.ensures.name c.in-Some.ensures.rows)
+
 pub config_of-requires-in-guard : goal.config_of-requires-in-guard
 config_of-requires-in-guard c = has_config c.in-Some.name.now c.in-Some.given.now c.in-guard.not-judge
     (met_task _ (map string_bytes c.args.words.now) c.in-Ok.matches c.in-Some.name.now c.in-Some.given.now c.in_ok-faultyard.ensures
@@ -82,7 +101,7 @@ config_of-requires-in-bears c = has_config c.in-Some.name.now c.in-Some.given.no
     c.in-Ok.ensures.kinds c.in-Ok.ensures.matches c.in-Some.ensures.name c.in-Some.ensures.rows)
 
 pub seed_of-requires : goal.seed_of-requires
-seed_of-requires c = has_seed c.in-Some.name.now c.in-Some.given.now c.in-swarm.is
+seed_of-requires c = has_seed c.in-Some.name.now c.in-Some.given.now (inl c.in-swarm.is)
     (met_task _ (map string_bytes c.args.words.now) c.in-Ok.matches c.in-Some.name.now c.in-Some.given.now c.in_ok-faultyard.ensures
     c.in-Ok.ensures.kinds c.in-Ok.ensures.matches c.in-Some.ensures.name c.in-Some.ensures.rows)
 
@@ -101,8 +120,9 @@ unreachable-requires-in_default-name c =
         | inl run ↦ absurd (c.in_default-name.not-run run)
         | inr (inl check) ↦ absurd (c.in_default-name.not-check check)
         | inr (inr (inl swarm)) ↦ absurd (c.in_default-name.not-swarm swarm)
-        | inr (inr (inr (inl guard))) ↦ absurd (c.in_default-name.not-guard guard)
-        | inr (inr (inr (inr (inl show)))) ↦ absurd (c.in_default-name.not-show show)
-        | inr (inr (inr (inr (inr bears)))) ↦ absurd (c.in_default-name.not-bears bears)
+        | inr (inr (inr (inl simulate))) ↦ absurd (c.in_default-name.not-simulate simulate)
+        | inr (inr (inr (inr (inl guard)))) ↦ absurd (c.in_default-name.not-guard guard)
+        | inr (inr (inr (inr (inr (inl show))))) ↦ absurd (c.in_default-name.not-show show)
+        | inr (inr (inr (inr (inr (inr bears))))) ↦ absurd (c.in_default-name.not-bears bears)
       ]
     ]

@@ -1,7 +1,6 @@
 use Rattle.std.proofs.Common.{◌≡◌, ◌≤◌, length, refl, ap, subst, ◌∙◌}
-use Rattle.std.specs.List.{AllZip}
 use Rattle.fy_policy.specs.Counted.{number_of}
-use Rattle.fy_bears.specs.Bears.{IsTolerance, least_any}
+use Rattle.fy_bears.specs.Bears.{least_any}
 use Rattle.fy_bears.proofs.Tolerating.{all_bear}
 use Rattle.fy_bears.proofs.borne.borne_of.Goals as goal
 

@@ -30,4 +30,5 @@ loop-p-preserved c = record {
         (λ r there h. fewer_without c.loop-p.kept c.without_needless-kept.result c.loop-p.p r (c.without_needless-kept.ensures.within r) (subst (λ n. sets.contains (sets.remove c.without_needless-kept.result n) r ≡ true) same h))
         (c.without_needless-kept.ensures.matters (subst (λ n. sets.contains c.without_needless-kept.result n ≡ true) same is)))
   ];
+  within = λ never r h. c.loop-p.invariant.within never r (c.without_needless-kept.ensures.within r h);
 }

@@ -1,10 +1,10 @@
-use Rattle.std.proofs.Common.{◌≡◌, ℕ, inl, inr, ◌+◌, Bool, true, false, not, cond, ◌&&◌, refl, true≢false, [], ◌∷◌, ap, sym, subst, ◌∙◌, arith}
+use Rattle.std.proofs.Common.{◌≡◌, ℕ, inl, inr, Bool, true, false, not, ◌&&◌, refl, true≢false, [], ◌∷◌, ap, sym, subst, ◌∙◌, arith}
 use Rattle.std.specs.FinSet as sets
 use Rattle.std.specs.Cmp.{nat_cmp_total}
 use Rattle.std.specs.Ordering.{nat_cmp, eq_by_cmp}
 use Rattle.std.proofs.lemmas.Bool.{cases_lt}
 use Rattle.fy_decide.specs.Safety.{MayDestroy}
-use Rattle.fy_bears.proofs.Tolerating.{any_one, is_in_one, is_tied, nobody}
+use Rattle.fy_bears.proofs.Tolerating.{any_one, is_in_one, is_tied, len_one, nobody}
 use Rattle.fy_bears.proofs.tolerance.one_too_many.Goals as goal
 
 pub loop-p-preserved : goal.loop-p-preserved
@@ -36,14 +36,8 @@ returns-then-is_too_many-clause-least c = λ q is.
     nobody c.more_of_map_satisfies.ensures c.args.map.now c.args.policy.now (sets.contains c.args.destroyed.now) (sets.contains c.args.left.now) (sets.contains (sets.remove c.put.new.self q)) c.args.loss c.requires.short c.requires.satisfied
     (λ r. nobody_else c.put.new.self c.loop-p.p q r (c.put.ensures ∙ ap (λ (s : sets.FinSet nat_cmp). sets.insert s c.loop-p.p) c.empty-one.ensures) is)
 
-one_long : (s : sets.FinSet nat_cmp) (p : ℕ) → s ≡ sets.insert sets.empty p → sets.len s ≡ 1
-one_long s p is =
-    ap sets.len is ∙ sets.len-insert nat_cmp_total (sets.empty {R = nat_cmp}) p
-    ∙ ap (λ b. cond b (sets.len (sets.empty {R = nat_cmp})) (sets.len (sets.empty {R = nat_cmp}) + 1)) (sets.contains-empty nat_cmp p)
-    ∙ ap (λ n. n + 1) (sets.len-empty nat_cmp)
-
 pub returns-then-is_too_many-clause-one : goal.returns-then-is_too_many-clause-one
-returns-then-is_too_many-clause-one c = one_long c.put.new.self c.loop-p.p (c.put.ensures ∙ ap (λ (s : sets.FinSet nat_cmp). sets.insert s c.loop-p.p) c.empty-one.ensures)
+returns-then-is_too_many-clause-one c = ap sets.len (c.put.ensures ∙ ap (λ (s : sets.FinSet nat_cmp). sets.insert s c.loop-p.p) c.empty-one.ensures) ∙ len_one c.loop-p.p
 
 pub returns-clause-none : goal.returns-clause-none
 returns-clause-none c =

@@ -3,8 +3,11 @@ use Rattle.std.proofs.lemmas.Bool.{false≢true}
 use Rattle.std.specs.Io.KnownBytes.{Appends}
 use Rattle.fy_check_audit.specs.declared.check.Finding.{Finding}
 use Rattle.fy_check_audit.specs.CheckTexts.{HasVerdict, IsFound}
-use Rattle.fy_check_audit.specs.Checked.{IsChecked}
+use Rattle.fy_check_audit.specs.Checked.{IsChecked, IsReplayed}
+use Rattle.fy_check_audit.specs.declared.check.ReplayedAudit.{ReplayedAudit}
 use Rattle.fy_cluster.specs.Setup.{Setup}
+use Rattle.fy_bears_after.specs.BearsTexts.{IsSpelledOut, IsToldOf, Tells}
+use Rattle.fy_bears_after.specs.declared.told.Told.{Told}
 use Rattle.fy_bears_after.proofs.bears.run_bears_after.Goals as goal
 
 pub returns-then-is_some-clause-refuted : goal.returns-then-is_some-clause-refuted
@@ -32,3 +35,22 @@ returns-in-Ok-write_told-clause-done g c =
     legal_found c.args.config.now (g.R.Read.remaining c.args.reader.now) c.finding-finding.result
     (c.finding-finding.ensures.found c.args.config.now (g.R.Read.remaining c.args.reader.now) c.in-Ok.ensures.replayed)
     (sym c.is_some.ensures ∙ c.if-is_some.false)
+
+none_of : (o : Option ℕ) → is_some o ≡ false → o ≡ None
+none_of None e = refl
+none_of (Some x) e = absurd (false≢true (sym e))
+
+-- of an audit that is legal, what is told goes out
+told_known : (setup : Setup) (known : Option (List ℕ)) (audit : ReplayedAudit) (told : Told) (spells : Told → List ℕ → Type 0) (goes : List ℕ → Type 0)
+    → IfSome known (λ bytes. IsReplayed setup bytes audit)
+    → ((bytes : List ℕ) → IsReplayed setup bytes audit → IsToldOf setup bytes told)
+    → IsSpelledOut (spells told) goes
+    → IfSome known (λ bytes. Tells (IsToldOf setup bytes) spells goes)
+told_known setup None audit told spells goes replayed those out = tt
+told_known setup (Some bytes) audit told spells goes replayed those out = (told, those bytes replayed, out)
+
+pub returns-in-Ok-write_told-clause-written : goal.returns-in-Ok-write_told-clause-written
+returns-in-Ok-write_told-clause-written g c = λ _.
+    let none = sym c.finding-finding.ensures.first_bad ∙ none_of c.finding-finding.result.first_bad (sym c.is_some.ensures ∙ c.if-is_some.false) in
+    told_known c.args.config.now (g.R.Read.remaining c.args.reader.now) c.in-Ok.audit c.in-Ok-told_after.told (g.S.Spelling.spells c.args.form.now c.args.config.now)
+    _ c.in-Ok.ensures.replayed (λ bytes replayed. c.in-Ok-told_after.ensures.told c.args.config.now bytes replayed none) c.in-Ok-write_told.ensures.written

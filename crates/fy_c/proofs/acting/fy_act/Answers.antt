@@ -1,5 +1,5 @@
-use Rattle.std.proofs.Common.{refl, subst}
-use Rattle.fy_c.specs.Acting.{Acts, Tells}
+use Rattle.std.proofs.Common.{length, refl, subst}
+use Rattle.fy_c.specs.Acting.{Acts, IsShort, Tells}
 use Rattle.fy_c.specs.declared.status.Status.TheVariants.{Done, Short, Unwritten}
 use Rattle.fy_c.proofs.Lines.{acts_none}
 use Rattle.fy_c.proofs.acting.fy_act.Goals as goal
@@ -16,7 +16,8 @@ returns-in-Err-clause-acted c = (
   c.in-Err.status,
   c.number-in-Err.ensures,
   acts_none c.args.guard.now.value c.act.new.guard.value c.args.line.now c.args.buffer.now
-      c.args.buffer.now _ c.in-Err.status c.if-buffer-room.false refl c.in-Err.ensures.err,
+      c.args.buffer.now _ c.in-Err.status c.if-buffer-room.false refl refl
+      c.in-Err.ensures.err,
 )
 
 pub returns-then-tell-clause-acted : goal.returns-then-tell-clause-acted
@@ -29,10 +30,11 @@ returns-then-tell-clause-acted c = (
 )
 
 pub returns-clause-acted : goal.returns-clause-acted
-returns-clause-acted c =
-    let it = c.in-Ok.ensures.answered in (
-      Unwritten,
-      c.number-else-tell.ensures,
-      Acts.unwritten c.if-buffer-room.false it.command it.asked it.room it.made
-          (c.if-tell.ensures.kept refl),
-    )
+returns-clause-acted c = (
+  Unwritten,
+  c.number-else-tell.ensures,
+  Acts.too_long c.if-buffer-room.false c.in-Ok.text.items c.in-Ok.ensures.answered
+      (subst (λ line. IsShort c.args.buffer.now (length line) c.tell.new.told) c.deref.ensures.value
+      (c.if-tell.ensures.short refl))
+      (c.if-tell.ensures.kept refl),
+)

@@ -12,7 +12,7 @@ returns-in-Err-clause-read c = (
       (subst (λ entries. NotRead entries c.args.at c.in-Err.status)
       (c.journal.ensures.journal ∙ ap (λ (it : Execution). it.journal) c.cluster.ensures.value)
       c.in-Err.ensures.err)
-      refl,
+      refl refl,
 )
 
 pub returns-then-tell-clause-read : goal.returns-then-tell-clause-read

@@ -1,14 +1,17 @@
-use Rattle.std.proofs.Common.{◌≡◌, ◌∙◌, ◌+◌, ◌-◌, ◌<◌, ◌≤◌, ◌++◌, ◌∷◌, [], ℕ, List, length, sym, ap, subst, arith, append-nil, length-append}
+use Rattle.std.proofs.Common.{◌∙◌, ◌+◌, ◌-◌, ◌<◌, ◌≤◌, ◌++◌, ◌∷◌, [], ℕ, List, length, refl, sym, ap, subst, arith, append-nil, length-append}
 use Rattle.std.specs.Prelude.{Ok}
 use Rattle.std.proofs.lemmas.Bool.{false≢true}
 use Rattle.fy_audit.specs.Audit.{Audit, AuditOf, BeginsWith}
-use Rattle.fy_audit.specs.Reading.{ReaderState}
+use Rattle.fy_audit.specs.Reading.{ReaderState, Stops}
+use Rattle.fy_audit.specs.declared.audit.AuditFault.{AuditFault}
+use Rattle.fy_audit.specs.declared.audit.AuditFault.TheVariants.{Line}
+use Rattle.fy_audit.specs.declared.audit.AuditLineFault.TheVariants.{TooLong}
 use Rattle.fy_audit.specs.declared.audit.TheConstants.{MOST_AUDIT_BYTES}
 use Rattle.fy_check.specs.Replayed.{HasReplayed}
 use Rattle.fy_cluster.specs.Setup.{Setup}
 use Rattle.fy_c.specs.Progress.{Progress}
-use Rattle.fy_c.specs.Checking.{HasProgress, Refuses, audit_status}
-use Rattle.fy_c.proofs.Lined.{stopped, has_no_room, empty_line, some_bytes, entry_and_more, begun_at, grown}
+use Rattle.fy_c.specs.Checking.{HasProgress, MayBeRead, Refuses, audit_status}
+use Rattle.fy_c.proofs.Lined.{stopped, may_be_read, has_no_room, empty_line, some_bytes, entry_and_more, begun_at, grown}
 use Rattle.fy_c.proofs.checking.read_entry.Goals as goal
 
 pub returns-then-line-saturating_sub-clause-refused :
@@ -29,6 +32,34 @@ returns-then-is_empty-clause-refused c =
     } in
     (audit, subst (λ text. AuditOf text (Ok audit)) (sym (append-nil bytes)) has.1.audit))
 
+pub returns-then-front-gt-MOST_LINE_BYTES-clause-refused :
+    goal.returns-then-front-gt-MOST_LINE_BYTES-clause-refused
+returns-then-front-gt-MOST_LINE_BYTES-clause-refused c =
+    let line = c.args.line.now in
+    let now = c.args.begun.now in
+    let WasRead : List ℕ → Type 0 = λ bytes. (setup : Setup) × HasProgress setup bytes now in
+    let state : ReaderState = record {
+      version = c.begun.inside.version;
+      place = c.begun.inside.count;
+      rest = line;
+    } in
+    let fits = subst (λ n. length line ≤ n) c.saturating_sub.ensures
+    c.if-line-saturating_sub.false in
+    let fault : AuditFault = Line (now.count + 2) TooLong in
+    let stops : Stops state fault = (
+      ap (λ (it : Progress). it.count + 2) (sym c.begun.view_is),
+      record {
+        line = c.first_line.result.0.now;
+        after = _;
+        first = c.first_line.ensures.first;
+        is = c.if-front-gt-MOST_LINE_BYTES.true;
+      },
+    ) in
+    Refuses.faulty TooLong
+    (λ bytes has. c.an_audit_is_read_entry_by_entry.ensures.stopped (bytes ++ line) has.1.entries
+    state fault (begun_at has.0 bytes line c.begun.inside now state c.begun.view_is
+    c.begun.invariant.version refl fits has.1) stops)
+
 pub returns-in-Err-clause-refused : goal.returns-in-Err-clause-refused
 returns-in-Err-clause-refused c =
     let line = c.args.line.now in
@@ -42,6 +73,13 @@ returns-in-Err-clause-refused c =
     (ap (λ (it : ReaderState). it.place) c.resume-reader.ensures
     ∙ ap (λ (it : Progress). it.count) c.begun.view_is)
     (stopped WasRead state line c.in-Err.fault c.in-Err.ensures.stopped
+    (subst (λ place. MayBeRead WasRead (place + 2) line)
+    (sym (ap (λ (it : ReaderState). it.place) c.resume-reader.ensures
+    ∙ ap (λ (it : Progress). it.count) c.begun.view_is))
+    (may_be_read line c.first_line.result.0.now _ now
+    (subst (λ n. length line ≤ MOST_AUDIT_BYTES - n)
+    (ap (λ (it : Progress). it.bytes) c.begun.view_is) fits)
+    c.first_line.ensures.first c.if-front-gt-MOST_LINE_BYTES.false))
     (λ bytes has. c.an_audit_is_read_entry_by_entry.ensures.stopped (bytes ++ line) has.1.entries
     state c.in-Err.fault
     (begun_at has.0 bytes line c.begun.inside now state c.begun.view_is c.begun.invariant.version
@@ -66,7 +104,13 @@ returns-then-not-is_at_end-clause-refused c =
     front (λ none. false≢true (sym c.if-not-is_at_end.true ∙ c.is_at_end.ensures.1 none))
 
 pub returns-in_default-clause-refused : goal.returns-in_default-clause-refused
-returns-in_default-clause-refused c = Refuses.no_memory
+returns-in_default-clause-refused c =
+    Refuses.no_memory (may_be_read c.args.line.now c.first_line.result.0.now _ c.args.begun.now
+    (subst (λ n. length c.args.line.now ≤ MOST_AUDIT_BYTES - n)
+    (ap (λ (it : Progress). it.bytes) c.begun.view_is)
+    (subst (λ n. length c.args.line.now ≤ n) c.saturating_sub.ensures
+    c.if-line-saturating_sub.false))
+    c.first_line.ensures.first c.if-front-gt-MOST_LINE_BYTES.false)
 
 pub invariant_of-begun-2 : goal.invariant_of-begun-2
 invariant_of-begun-2 c =

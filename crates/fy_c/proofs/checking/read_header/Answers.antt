@@ -1,10 +1,10 @@
-use Rattle.std.proofs.Common.{◌≡◌, ◌∙◌, ◌++◌, ℕ, List, [], refl, sym, subst}
+use Rattle.std.proofs.Common.{◌≡◌, ◌∙◌, [], refl, sym, subst}
 use Rattle.std.specs.Prelude.{Ok}
 use Rattle.std.proofs.lemmas.Bool.{false≢true}
 use Rattle.fy_audit.specs.Audit.{AuditOf}
 use Rattle.fy_check.specs.Replayed.{HasReplayed}
 use Rattle.fy_c.specs.Checking.{Refuses}
-use Rattle.fy_c.proofs.Lined.{header_and_more, no_header}
+use Rattle.fy_c.proofs.Lined.{header_and_more, header_may_be_read, no_header}
 use Rattle.fy_c.proofs.checking.read_header.Goals as goal
 
 pub returns-in-Err-clause-refused : goal.returns-in-Err-clause-refused
@@ -20,10 +20,14 @@ returns-then-not-is_at_end-clause-refused c =
     (λ none. false≢true (sym c.if-not-is_at_end.true ∙ c.is_at_end.ensures.1 none))
 
 pub returns-in_default-clause-refused : goal.returns-in_default-clause-refused
-returns-in_default-clause-refused c = Refuses.no_memory
+returns-in_default-clause-refused c =
+    Refuses.no_memory (header_may_be_read c.args.line.now c.in-Ok.reader c.in-Ok.ensures.begun
+    (c.is_at_end.ensures.0 c.if-not-is_at_end.false))
 
 pub returns-in_default-begin-clause-refused : goal.returns-in_default-begin-clause-refused
-returns-in_default-begin-clause-refused c = Refuses.no_memory
+returns-in_default-begin-clause-refused c =
+    Refuses.no_memory (header_may_be_read c.args.line.now c.in-Ok.reader c.in-Ok.ensures.begun
+    (c.is_at_end.ensures.0 c.if-not-is_at_end.false))
 
 pub returns-clause-read : goal.returns-clause-read
 returns-clause-read c =

@@ -1,23 +1,21 @@
-use Rattle.std.proofs.Common.{◌≡◌, ◌∙◌, ◌++◌, ◌∷◌, [], List, ℕ, refl, sym, ap, subst, arith, rules, append-nil}
-use Rattle.std.specs.Prelude.{Ok, IsTrue, true}
+use Rattle.std.proofs.Common.{◌≡◌, ◌∙◌, [], refl, sym, subst, arith, rules}
 use Rattle.std.proofs.lemmas.Bool.{false≢true}
-use Rattle.fy_acts.specs.declared.entry.Entry.{Entry}
-use Rattle.fy_audit.specs.Audit.{AuditOf}
 use Rattle.fy_audit.specs.Reading.{HasRead}
-use Rattle.fy_cluster.specs.Execution.{Execution}
 use Rattle.fy_cluster.specs.Replies.{Legal}
 use Rattle.fy_c.specs.Resuming.{NotFollowed}
-use Rattle.fy_c.proofs.Followed.{not_read, of_first, read_whole, read_on, refuted}
+use Rattle.fy_c.proofs.Followed.{begins_legal, no_header, not_read, of_first, read_whole, read_on, refuted}
 use Rattle.fy_c.proofs.resuming.follow.Goals as goal
 
 pub returns-in-Err-clause-refused : goal.returns-in-Err-clause-refused
 returns-in-Err-clause-refused c =
-    subst (NotFollowed c.args.audit.now) (sym c.audit_status.ensures)
-    (NotFollowed.faulty c.in-Err.fault c.in-Err.ensures.refused)
+    let setup = c.args.cluster.now.setup in
+    subst (NotFollowed setup c.args.audit.now) (sym c.audit_status.ensures)
+    (no_header setup c.args.audit.now c.in-Err.fault c.in-Err.ensures.first
+    c.in-Err.ensures.refused)
 
 pub returns-in-First-clause-refused : goal.returns-in-First-clause-refused
 returns-in-First-clause-refused c =
-    of_first c.args.audit.now c.in-Ok.reader c.in-Ok.ensures.begun
+    of_first c.args.cluster.now.setup c.args.audit.now c.in-Ok.reader c.in-Ok.ensures.begun
     (sym c.version.ensures ∙ c.in-First.is)
 
 pub loop-reader-init : goal.loop-reader-init
@@ -30,30 +28,35 @@ loop-reader-init c = (
 
 pub returns-in-Err-next_entry-clause-refused : goal.returns-in-Err-next_entry-clause-refused
 returns-in-Err-next_entry-clause-refused c =
-    not_read c.args.audit.now c.in-Err-next_entry.fault c.audit_status-in-Err-next_entry.result
-    (c.an_audit_is_read_entry_by_entry.ensures.stopped c.args.audit.now
-    c.loop-reader.cluster.journal c.loop-reader.reader c.in-Err-next_entry.fault
-    c.loop-reader.invariant.0 c.in-Err-next_entry.ensures.stopped)
-    c.audit_status-in-Err-next_entry.ensures
+    let setup = c.args.cluster.now.setup in
+    let (has, second, same, legal) = c.loop-reader.invariant in
+    let begins = begins_legal setup c.args.audit.now c.loop-reader.cluster c.loop-reader.reader has
+    second same legal in
+    subst (NotFollowed setup c.args.audit.now) (sym c.audit_status-in-Err-next_entry.ensures)
+    (not_read setup c.args.audit.now c.loop-reader.cluster c.loop-reader.reader
+    c.in-Err-next_entry.fault begins second has.place c.in-Err-next_entry.ensures.stopped)
 
 pub comes_next-requires : goal.comes_next-requires
 comes_next-requires c =
     c.in-Ok-next_entry.ensures.read.front.may.at ∙ c.loop-reader.invariant.0.place
 
 pub returns-in_default-clause-refused : goal.returns-in_default-clause-refused
-returns-in_default-clause-refused c = NotFollowed.no_memory
+returns-in_default-clause-refused c =
+    let (has, second, same, legal) = c.loop-reader.invariant in
+    NotFollowed.no_memory c.loop-reader.cluster.journal c.loop-reader.reader.rest
+    (begins_legal c.args.cluster.now.setup c.args.audit.now c.loop-reader.cluster
+    c.loop-reader.reader has second same legal)
 
 pub returns-then-not-next-clause-refuted : goal.returns-then-not-next-clause-refuted
 returns-then-not-next-clause-refuted c =
-    let read = c.in-Ok-next_entry.ensures.read in
+    let setup = c.args.cluster.now.setup in
     let (has, second, same, legal) = c.loop-reader.invariant in
-    refuted c.args.cluster.now.setup c.args.audit.now c.loop-reader.cluster
-    c.in-Ok-next_entry.entry c.next_entry.new.self same
-    (c.an_audit_is_read_entry_by_entry.ensures.more c.args.audit.now c.loop-reader.cluster.journal
-    c.in-Ok-next_entry.entry c.loop-reader.reader c.next_entry.new.self has read)
-    (read.version ∙ second) legal
+    refuted setup c.args.audit.now c.loop-reader.cluster c.in-Ok-next_entry.entry
+    c.loop-reader.reader c.next_entry.new.self same
+    (begins_legal setup c.args.audit.now c.loop-reader.cluster c.loop-reader.reader has second same
+    legal)
+    second has.place c.in-Ok-next_entry.ensures.read
     (λ more. false≢true (sym c.if-not-next.true ∙ c.in-Ok-comes_next.ensures.next.1 more))
-    (read.front.may.at ∙ has.place)
 
 pub loop-reader-preserved : goal.loop-reader-preserved
 loop-reader-preserved c =

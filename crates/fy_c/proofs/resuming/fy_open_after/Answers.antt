@@ -1,7 +1,8 @@
-use Rattle.std.proofs.Common.{◌∙◌, ap, refl, subst, sym}
+use Rattle.std.proofs.Common.{◌∙◌, [], ap, refl, subst, sym}
 use Rattle.std.specs.Prelude.{Ok}
 use Rattle.fy_c.specs.Resuming.{Follows, NotFollowed, OpensAfter}
 use Rattle.fy_c.specs.declared.status.Status.TheVariants.{Done, NoMemory, Refuted}
+use Rattle.fy_c.proofs.Followed.{followed_whole}
 use Rattle.fy_c.proofs.resuming.fy_open_after.Goals as goal
 
 pub returns-in-Err : goal.returns-in-Err
@@ -42,5 +43,7 @@ returns c = (
   NoMemory,
   c.number-in-Err-new.ensures,
   OpensAfter.not_followed NoMemory c.in-Ok.cluster.setup c.in-Ok.ensures.begun.0
-      NotFollowed.no_memory refl refl,
+      (NotFollowed.no_memory c.follow.new.cluster.journal []
+      (followed_whole c.in-Ok.cluster.setup c.args.audit.now c.follow.new.cluster
+      (c.in-Ok-None.ensures.followed (ap Ok c.in-Ok-None.field-0-is)))) refl refl,
 )

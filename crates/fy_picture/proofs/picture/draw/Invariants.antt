@@ -7,4 +7,5 @@ abbrev pub invariant-loop-entry : goal.invariant-loop-entry
 invariant-loop-entry l =
     HasRecorded l.config (take l.entry-index l.journal.entries) l.recorder
     × (l.recorder.first_bad ≡ None)
-    × (l.recorder.laid ≡ None)
+    × (l.recorder.columns.laid ≡ None)
+    × (l.recorder.version ≡ l.journal.version)

@@ -1,8 +1,8 @@
-use Rattle.std.proofs.Common.{◌≡◌, ◌∙◌, ap, subst}
+use Rattle.std.proofs.Common.{◌≡◌, ◌∙◌, Some, ap, subst}
 use Rattle.std.proofs.lemmas.Result.{IfOk-weaker}
 use Rattle.fy_times.specs.Columns.{AreTimeColumns, events_before}
 use Rattle.fy_picture.specs.declared.TheConstants.{MOST_COLUMNS}
-use Rattle.fy_show.specs.Shows.{IsDrawnByTime, IsDrawnIn}
+use Rattle.fy_show.specs.Shows.{IsDrawn, IsDrawnByTime}
 use Rattle.fy_show.proofs.by_time.draw.Goals as goal
 
 pub returns-clause-drawn : goal.returns-clause-drawn
@@ -11,7 +11,7 @@ returns-clause-drawn c =
     let good = c.unwrap_or-good.result in
     let drawn : c.events_before-drawn.result.now ≡ events_before events good =
     c.events_before-drawn.ensures.those ∙ ap (λ es. events_before es good) c.deref.ensures.value in
-    IfOk-weaker c.draw_in.result (IsDrawnIn c.args.config.now c.args.bytes.now c.in-Ok.columns.ends.items)
+    IfOk-weaker c.draw_in.result (IsDrawn c.args.config.now c.args.bytes.now (Some c.in-Ok.columns.ends.items))
     (IsDrawnByTime c.args.config.now c.args.bytes.now c.args.finding events)
     (λ drawing is. record {
       columns = c.in-Ok.columns;

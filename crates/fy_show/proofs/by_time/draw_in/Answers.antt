@@ -47,5 +47,5 @@ returns-clause-drawn c =
       read = c.an_audit_is_read_entry_by_entry.ensures.end c.args.bytes.now entries c.loop-reader.reader c.loop-reader.invariant.1 none;
       version = c.loop-reader.invariant.3;
       those = c.loop-reader.invariant.2;
-      laid = c.loop-reader.invariant.4 ∙ ap (λ (r : Recording). r.laid) c.in-Ok-begin_by_time.ensures.begun;
+      laid_is = c.loop-reader.invariant.4 ∙ ap (λ (r : Recording). r.columns.laid) c.in-Ok-begin_by_time.ensures.begun;
     }

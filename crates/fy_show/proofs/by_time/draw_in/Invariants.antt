@@ -11,7 +11,7 @@ invariant-loop-reader l =
     × HasRead l.bytes entries l.reader
     × HasRecorded l.config entries l.drawing
     × (l.drawing.version ≡ l.reader.version)
-    × (l.drawing.laid ≡ l.initial.drawing.laid)
+    × (l.drawing.columns.laid ≡ l.initial.drawing.columns.laid)
 
 abbrev pub decreases-loop-reader : goal.decreases-loop-reader
 decreases-loop-reader l = length l.reader.rest

@@ -3,8 +3,8 @@ use Rattle.std.specs.Prelude.{IfSome, is_none}
 use Rattle.fy_lines.specs.Prefixes.{AppendsProperPrefix}
 use Rattle.fy_times.specs.Events.{EventsOf}
 use Rattle.fy_check_audit.specs.CheckTexts.{IsFound}
-use Rattle.fy_svg.specs.Documents.{EndsDocument}
-use Rattle.fy_show.specs.Shows.{AreRefused}
+use Rattle.fy_svg.specs.Documents.{IsDocument}
+use Rattle.fy_show.specs.Shows.{AreRefused, IsDrawnByTime}
 use Rattle.fy_show.proofs.Timing.{map_events, are_refused, has_timed_document}
 use Rattle.fy_show.proofs.by_time.run_show_by_time.Goals as goal
 
@@ -35,6 +35,7 @@ returns-clause-front_out g c _ =
           (g.W.Write.contents c.write_bytes.new.writer))
           c.in-Ok.ensures.read c.in-Ok-load_events.ensures.read found refl done.0
           (subst (λ xs. EventsOf finding.count xs (Ok done.0)) c.deref-3.ensures.value done.1)
-          c.as_bytes.result.now (subst EndsDocument (sym c.as_bytes.ensures.value) done.2)
+          done.2 (subst (λ xs. IsDrawnByTime setup xs finding done.0 done.2) c.deref-2.ensures.value done.3)
+          c.as_bytes.result.now (subst (IsDocument done.2) (sym c.as_bytes.ensures.value) done.4)
           c.in-Err-write_bytes.ensures.short,
     )

@@ -11,7 +11,7 @@ loop-entry-init g c = (
   c.in-Ok.ensures.begun,
   c.in-Ok-begin.ensures.recorded,
   ap (λ (r : Recording). r.version) c.in-Ok-begin.ensures.begun ∙ c.version.ensures,
-  ap (λ (r : Recording). r.laid) c.in-Ok-begin.ensures.begun,
+  ap (λ (r : Recording). r.columns.laid) c.in-Ok-begin.ensures.begun,
 )
 
 pub enter-requires : goal.enter-requires

@@ -12,7 +12,7 @@ invariant-loop-entry g l =
     × HasTaken (g.R.Read.remaining l.fn.reader) (g.R.Read.remaining l.reader) entries l.input
     × HasRecorded l.config entries l.drawing
     × (l.drawing.version ≡ l.input.version)
-    × (l.drawing.laid ≡ None)
+    × (l.drawing.columns.laid ≡ None)
 
 abbrev pub decreases-loop-entry : goal.decreases-loop-entry
 decreases-loop-entry g l = MOST_AUDIT_BYTES - l.input.place

@@ -7,3 +7,4 @@ abbrev pub invariant-loop-entry : goal.invariant-loop-entry
 invariant-loop-entry l =
     HasRecorded l.config (take l.entry-index l.journal.entries) l.drawing
     × (l.drawing.first_bad ≡ None)
+    × (l.drawing.version ≡ l.journal.version)

@@ -17,7 +17,7 @@ pub returns-in_err-push_last-clause-err : goal.returns-in_err-push_last-clause-e
 returns-in_err-push_last-clause-err c =
     let vecs = c.self.inside.grants.items in
     let within : c.args.grant.actor < length c.self.inside.grants.items = omega (arith, c.self.inside.grants.ok.0) in
-    on_err _ _ (ap (λ lists. record { processes = c.self.inside.processes; grants = lists; protections = c.self.inside.protections.items }) (unwritten vecs c.args.grant.actor _ (c.in_err-push_last.ensures.err ∙ own_items vecs c.args.grant.actor _ within c.index_mut.ensures.value)) ∙ c.self.view_is)
+    on_err _ _ (ap (λ lists. record { processes = c.self.inside.processes; grants = lists; protections = c.self.inside.protections }) (unwritten vecs c.args.grant.actor _ (c.in_err-push_last.ensures.err ∙ own_items vecs c.args.grant.actor _ within c.index_mut.ensures.value)) ∙ c.self.view_is)
 
 pub invariant_of-self-2 : goal.invariant_of-self-2
 invariant_of-self-2 c =
@@ -33,5 +33,5 @@ pub returns-clause-given : goal.returns-clause-given
 returns-clause-given c =
     let vecs = c.self.inside.grants.items in
     let within : c.args.grant.actor < length c.self.inside.grants.items = omega (arith, c.self.inside.grants.ok.0) in
-    ap (λ lists. record { processes = c.self.inside.processes; grants = lists; protections = c.self.inside.protections.items }) (written vecs c.args.grant.actor _ _ (c.in_ok-push_last.ensures.ok ∙ ap (λ own. own ++ c.args.grant ∷ []) (own_items vecs c.args.grant.actor _ within c.index_mut.ensures.value)))
+    ap (λ lists. record { processes = c.self.inside.processes; grants = lists; protections = c.self.inside.protections }) (written vecs c.args.grant.actor _ _ (c.in_ok-push_last.ensures.ok ∙ ap (λ own. own ++ c.args.grant ∷ []) (own_items vecs c.args.grant.actor _ within c.index_mut.ensures.value)))
     ∙ ap (λ rights. with_grant rights c.args.grant) c.self.view_is

@@ -32,5 +32,5 @@ pub returns-clause-taken : goal.returns-clause-taken
 returns-clause-taken c =
     let vecs = c.self.inside.grants.items in
     let within : c.args.actor < length c.self.inside.grants.items = omega (arith, c.self.inside.grants.ok.0) in
-    ap (λ lists. record { processes = c.self.inside.processes; grants = lists; protections = c.self.inside.protections.items }) (written vecs c.args.actor _ _ (c.remove.ensures.items ∙ ap (λ grants. remove grants c.args.index) (own_items vecs c.args.actor _ within c.index_mut.ensures.value)))
+    ap (λ lists. record { processes = c.self.inside.processes; grants = lists; protections = c.self.inside.protections }) (written vecs c.args.actor _ _ (c.remove.ensures.items ∙ ap (λ grants. remove grants c.args.index) (own_items vecs c.args.actor _ within c.index_mut.ensures.value)))
     ∙ ap (λ rights. without_grant rights c.args.actor c.args.index) c.self.view_is

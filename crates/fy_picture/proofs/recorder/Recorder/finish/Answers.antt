@@ -12,4 +12,4 @@ finish-requires c = (c.self.invariant (whole_of c.self.inside.is_whole c.if-not-
 pub returns-clause-laid : goal.returns-clause-laid
 returns-clause-laid c = λ ends laid order.
     subst (λ (r : Recording). IfOk c.finish.result (λ (picture : Picture). AreAllMade ends (length r.execution.journal) picture.columns.items)) c.self.view_is
-    (c.finish.ensures.laid ends (ap (λ (r : Recording). r.laid) c.self.view_is ∙ laid) order)
+    (c.finish.ensures.laid ends (ap (λ (r : Recording). r.columns.laid) c.self.view_is ∙ laid) order)

@@ -1,0 +1,35 @@
+"""Records that stand in a store's files as they were written."""
+
+from __future__ import annotations
+
+import glob
+import os
+import re
+import time
+from typing import Dict, Optional, Tuple
+
+RECORD = re.compile(rb"(r/\d{9}) ([0-9a-f]{16})")
+FRESH = 1.0  # seconds for which what was found is told again
+_looked: Dict[Tuple[str, ...], Tuple[float, Dict[str, str]]] = {}
+
+
+def records_in(place: str, *patterns: str) -> Dict[str, str]:
+    """The records that stand as `KEY VALUE` in files below a folder, which patterns of `glob` name.
+
+    Where a store moves them from one file to another, the latter is named later.
+    """
+    found: Dict[bytes, bytes] = {}
+    for pattern in patterns:
+        for path in glob.glob(os.path.join(glob.escape(place), pattern)):
+            with open(path, "rb") as file:
+                found.update(RECORD.findall(file.read()))
+    return {key.decode(): value.decode() for key, value in found.items()}
+
+
+def record_in(key: str, place: str, *patterns: str) -> Optional[str]:
+    """The value of one of them. A record that is found is told for a second without a new look."""
+    when, found = _looked.get((place, *patterns), (0.0, {}))
+    if key not in found or time.monotonic() > when + FRESH:
+        when, found = time.monotonic(), records_in(place, *patterns)
+        _looked[(place, *patterns)] = when, found
+    return found.get(key)

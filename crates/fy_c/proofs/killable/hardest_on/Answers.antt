@@ -1,0 +1,30 @@
+use Rattle.std.proofs.Common.{refl, subst}
+use Rattle.fy_kinds.specs.declared.kind.Kind.TheVariants.{RebootProcess, KillInstantly}
+use Rattle.fy_c.specs.KillingProcess.{GivenProcess, JudgesProcess}
+use Rattle.fy_c.specs.Numbers.{kind_number}
+use Rattle.fy_c.proofs.killable.hardest_on.Goals as goal
+
+pub returns : goal.returns
+returns c =
+    let told = c.judge_process-status.result.1 in
+    let status = c.judge_process-status.result.0 in record {
+      status = status;
+      told = told;
+      judged = subst
+          (λ kind. JudgesProcess c.args.cluster.now c.args.actor (record {
+            process = c.args.process;
+            kind = kind;
+            floor = kind_number RebootProcess;
+            tear = 0;
+          }) told status)
+          c.kind_number-kind.ensures
+          (subst
+          (λ floor. JudgesProcess c.args.cluster.now c.args.actor (record {
+            process = c.args.process;
+            kind = c.kind_number-kind.result;
+            floor = floor;
+            tear = 0;
+          }) told status)
+          c.kind_number-floor.ensures c.judge_process-status.ensures);
+      kind_is = refl;
+    }

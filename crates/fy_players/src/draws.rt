@@ -1,0 +1,90 @@
+//! The words of turns.
+ghost use Rattle.std.specs.Prelude.{◌≡◌};
+ghost use Rattle.fy_actors.specs.Words.{seed_bytes};
+ghost use Rattle.fy_players.specs.Draws.{stream_of, word_of, words_of};
+
+use rand_chacha::ChaCha8Rng;
+use rand_core::SeedableRng;
+use rand_core::utils::NextWord;
+use std::marker::Model;
+
+/// The words of a turn, in the order in which they are drawn: the first says what kind of act comes,
+/// and the last two are the halves of a tear.
+#[derive(Clone, Copy, PartialEq, Eq, Debug)]
+pub struct Words {
+    pub choice: u32,
+    pub first: u32,
+    pub second: u32,
+    pub third: u32,
+    pub fourth: u32,
+    pub fifth: u32,
+    pub low: u32,
+    pub high: u32,
+}
+
+/// A stream of a seed, from its next word on.
+#[derive(Drop)]
+pub struct Draws {
+    generator: ChaCha8Rng,
+}
+
+impl Model for Draws {
+    ghost use Rattle.rand_chacha.specs.ChaCha.{ChaCha};
+
+    ghost Value = { ChaCha };
+
+    ghost view = { λ d. d.generator };
+}
+
+/// A seed as 32 bytes: its own 8, the low one first, and then zeros.
+#[tactic(auto, unfolding(fy_actors::specs::Words::seed_bytes))]
+fn seed_bytes(seed: u64) -> [u8; 32]
+    ensures { result ≡ seed_bytes seed }
+{
+    let mut bytes = [0; 32];
+    bytes[..8].copy_from_slice(&seed.to_le_bytes());
+    bytes
+}
+
+impl Draws {
+    /// A stream of the seed, from its first word on.
+    pub fn make(seed: u64, stream: u64) -> Draws
+        ensures { result ≡ stream_of seed stream }
+    {
+        let mut generator = ChaCha8Rng::from_seed(seed_bytes(seed));
+        generator.set_stream(stream);
+        Draws { generator }
+    }
+
+    /// The next word.
+    #[tactic(auto, unfolding(crate::specs::Draws::word_of))]
+    pub fn word(&mut self) -> u32
+        ensures { (result, self.new) ≡ word_of self.old }
+    {
+        self.generator.next_word()
+    }
+
+    /// The next eight words.
+    pub fn words(&mut self) -> Words
+        ensures { (result, self.new) ≡ words_of self.old }
+    {
+        let choice = self.word();
+        let first = self.word();
+        let second = self.word();
+        let third = self.word();
+        let fourth = self.word();
+        let fifth = self.word();
+        let low = self.word();
+        let high = self.word();
+        Words {
+            choice,
+            first,
+            second,
+            third,
+            fourth,
+            fifth,
+            low,
+            high,
+        }
+    }
+}

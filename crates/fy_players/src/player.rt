@@ -1,0 +1,119 @@
+//! Who plays an actor, by its role.
+ghost use Rattle.std.specs.Prelude.{◌≡◌, IfOk, OnOk};
+ghost use Rattle.fy_players.specs.Turns.{part_of, player_of, Does, part_after, TakesTurn};
+
+use crate::draws::{Draws, Words};
+use crate::faults::{FaultPlayer, Plan};
+use crate::knowledge::Note;
+use crate::operator::operate;
+use crate::storage::StoragePlayer;
+use fy_cluster::{Cluster, Fault, Role};
+use fy_journal::{Act, Reply};
+use std::alloc::{AllocError, Global};
+
+/// What an actor does, by its role.
+pub enum Part {
+    /// Stores records, and cares for their copies.
+    Stores(StoragePlayer),
+    /// Orders kills and clogs.
+    Strikes(FaultPlayer),
+    /// Protects and unprotects, gives and takes.
+    Operates,
+}
+
+// Written out and not derived: see `Drop` in docs/DECISIONS.md.
+impl Drop for Part {
+    fn drop(self) {
+        match self {
+            Part::Stores(_) => {}
+            Part::Strikes(_) => {}
+            Part::Operates => {}
+        }
+    }
+}
+
+/// An actor with its part and its stream of words.
+pub struct Player {
+    actor: u32,
+    part: Part,
+    draws: Draws,
+}
+
+// Written out and not derived: see `Drop` in docs/DECISIONS.md.
+impl Drop for Player {
+    fn drop(self) {
+        let Player {
+            actor: _,
+            part: _,
+            draws: _,
+        } = self;
+    }
+}
+
+/// What an actor of this role begins with.
+fn part_of(alloc: Global, role: Role, plan: Plan) -> Part
+    ensures { result ≡ part_of plan role }
+{
+    match role {
+        Role::Storage => Part::Stores(StoragePlayer::make(alloc)),
+        Role::Fault => Part::Strikes(FaultPlayer::make(plan)),
+        Role::Operator => Part::Operates,
+    }
+}
+
+impl Part {
+    /// What the actor does by these words, and what is to be remembered of it.
+    fn next(&self, cluster: &Cluster, words: Words) -> Result<(Act, Note), AllocError>
+        ensures { IfOk result (Does cluster.now self.now words) }
+    {
+        let config = cluster.config();
+        match self {
+            Part::Stores(storage) => storage.next(cluster, words),
+            Part::Strikes(fault) => Ok((fault.next(config.map(), words), Note::Plain)),
+            Part::Operates => Ok((operate(config, words), Note::Plain)),
+        }
+    }
+
+    /// Learns the reply.
+    fn learn(&mut self, note: Note, reply: Reply) -> Result<(), AllocError>
+        ensures { OnOk result (self.new ≡ part_after self.old note reply) }
+    {
+        match self {
+            Part::Stores(storage) => storage.learn(note, reply),
+            Part::Strikes(fault) => {
+                fault.learn();
+                Ok(())
+            }
+            Part::Operates => Ok(()),
+        }
+    }
+}
+
+impl Player {
+    /// The actor with this number, before its first turn. Its words are those of the stream with its
+    /// number.
+    pub fn make(alloc: Global, seed: u64, plan: Plan, actor: u32, role: Role) -> Player
+        ensures { result ≡ player_of seed plan actor role }
+    {
+        Player {
+            actor,
+            part: part_of(alloc, role, plan),
+            draws: Draws::make(seed, u64::from(actor)),
+        }
+    }
+
+    /// Takes a turn: does one act, by the next words of its stream, and learns the reply.
+    ///
+    /// # Errors
+    ///
+    /// `JournalFull` where the journal is at its limit; `NoMemory`.
+    pub fn turn(&mut self, cluster: &mut Cluster) -> Result<(), Fault>
+        ensures { OnOk result (TakesTurn (self.old, cluster.old) (self.new, cluster.new)) }
+    {
+        let words = self.draws.words();
+        let (act, note) = self.part.next(cluster, words)?;
+        let reply = cluster.apply(self.actor, act)?;
+        self.part.learn(note, reply)?;
+        Ok(())
+    }
+}
