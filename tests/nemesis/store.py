@@ -65,8 +65,9 @@ class Server(socketserver.ThreadingTCPServer):
             threading.Timer(2, self.crash).start()
 
     def crash(self) -> None:
-        print("assertion failed: the sky is up", file=sys.stderr, flush=True)
-        os._exit(3)
+        with self.lock:  # no record may be told of behind it
+            print("assertion failed: the sky is up", file=sys.stderr, flush=True)
+            os._exit(3)
 
     def own(self, key: str) -> str | None:
         """What it tells of a record that it has itself."""
@@ -94,8 +95,8 @@ class Server(socketserver.ThreadingTCPServer):
         return next(filter(None, told), "none" if len(told) == COUNT else "?")
 
     def put(self, records: Records) -> None:
-        print("put", time.time(), flush=True)
         with self.lock:
+            print("put", time.time(), flush=True)
             self.records |= records
             self.came |= dict.fromkeys(records, time.monotonic())
             self.log.writelines(f"{key} {value}\n" for key, value in records.items())

@@ -35,8 +35,13 @@ pub struct Findings {
     pub gone: Borne,
 }
 
-/// What each policy bears of a kind of loss.
-fn tolerances_of(
+/// What each policy bears of a kind of loss, in the order of the policies. The map and the policies
+/// are those that the book was made of.
+///
+/// # Errors
+///
+/// Want of memory.
+pub fn tolerances_of(
     alloc: Global,
     dead: &DeadBook,
     map: &Map,
@@ -56,7 +61,7 @@ fn tolerances_of(
 }
 
 /// The least of the numbers of the policies, and of how many processes there are.
-fn least_any(processes: u32, tolerances: &[Tolerance]) -> u32
+pub fn least_any(processes: u32, tolerances: &[Tolerance]) -> u32
     ensures { result ≡ least_any processes tolerances.now }
 {
     let mut least = processes;

@@ -16,7 +16,7 @@ mod tolerance;
 mod warnings;
 
 pub use book::{LossesSoFar, book_of};
-pub use borne::{Borne, Findings, findings_of};
+pub use borne::{Borne, Findings, findings_of, least_any, tolerances_of};
 pub use groups::{Group, borne_alone, borne_in_pairs};
 pub use reports::{Form, write_findings};
 pub use tolerance::{Tolerance, tolerance_of};

@@ -1,8 +1,6 @@
 //! How much of the cluster may still be lost, as a guard's journal left it.
 ghost use Rattle.std.specs.Prelude.{◌≡◌, ◌≢◌, ◌<◌, IfOk, length};
-ghost use Rattle.std.specs.List.{AllZip};
 ghost use Rattle.std.specs.Ptr.{null_ptr};
-ghost use Rattle.fy_bears.specs.Bears.{IsTolerance, least_any};
 ghost use Rattle.fy_c.specs.Bearing.{IsBookNow, IsBorneBy, IsBorneNow, Bears, is_exact, is_exact_at};
 ghost use Rattle.fy_c.specs.Statuses.{Answers};
 
@@ -10,7 +8,7 @@ use crate::handle::FyGuard;
 use crate::numbers::bit;
 use crate::sets::gone;
 use crate::status::Status;
-use fy_bears::{LossesSoFar, Tolerance, book_of, laws, tolerance_of};
+use fy_bears::{LossesSoFar, Tolerance, book_of, laws, least_any, tolerances_of};
 use fy_cluster::Cluster;
 use fy_decide::{DeadBook, Loss};
 use fy_locality::{Map, ProcSet};
@@ -48,37 +46,6 @@ fn book_in(alloc: Global, cluster: &Cluster) -> Result<DeadBook, AllocError>
         // All processes of a configuration satisfy its policies, so only memory can lack.
         Err(_) => Err(AllocError),
     }
-}
-
-/// What each policy bears of a kind of loss.
-fn tolerances_of(
-    alloc: Global,
-    dead: &DeadBook,
-    map: &Map,
-    policies: &[Policy],
-    loss: Loss,
-) -> Result<Vec<Tolerance>, AllocError>
-    requires map { map.now ≡ dead.now.processes }
-    requires policies { policies.now ≡ dead.now.policies }
-    ensures { IfOk result (λ all. AllZip (λ policy one. IsTolerance dead.now policy loss one)
-        dead.now.policies all.items) }
-{
-    let mut tolerances = Vec::new(alloc);
-    for index in 0..policies.len() {
-        tolerances.push(tolerance_of(alloc, dead, map, policies, index, loss)?)?;
-    }
-    Ok(tolerances)
-}
-
-/// The least of the numbers of the policies, and of how many processes there are.
-fn least_any(processes: u32, tolerances: &[Tolerance]) -> u32
-    ensures { result ≡ least_any processes tolerances.now }
-{
-    let mut least = processes;
-    for one in tolerances {
-        least = least.min(one.any);
-    }
-    least
 }
 
 /// Whether a policy bears this number, and exactly.
