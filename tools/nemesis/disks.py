@@ -239,8 +239,15 @@ async def done(*words: object) -> str:
 
 def begun(words: Sequence[str], **more: Any) -> Popen[bytes]:
     """A process that serves the run, and dies with the thread that calls this: the tool's first."""
-    die = partial(PRCTL, PR_SET_PDEATHSIG, signal.SIGKILL)
+    die = partial(die_with, os.getpid())
     return Popen(words, stdin=DEVNULL, start_new_session=True, preexec_fn=die, **more)
+
+
+def die_with(parent: int) -> None:
+    """Called in a child: it is killed once its parent has gone, and ends if that was earlier."""
+    PRCTL(PR_SET_PDEATHSIG, signal.SIGKILL)
+    if os.getppid() != parent:
+        os._exit(1)
 
 
 def disks_of(words: Namespace, count: int) -> Disks:
