@@ -1,5 +1,6 @@
 """Verdicts of small histories that are written out by hand. Expected are the definitions of docs/NEMESIS.md."""
 import asyncio
+import itertools
 import json
 import tempfile
 import unittest
@@ -8,7 +9,7 @@ from unittest.mock import patch
 
 from faultyard.enums import Kind
 from faultyard.ledger import Heal, Loss, Record
-from nemesis import checks, summary
+from nemesis import HOOK, Fault, checks, store, summary
 from nemesis.crashes import Crashes
 from nemesis.evidence import Case, Course
 from nemesis.history import Operation
@@ -247,6 +248,54 @@ class Events(unittest.TestCase):
             events = Path(folder, "events.jsonl")
             events.write_text("".join(f'{{"entry":{it}}}\n' for it in (0, 2, 1, 2, 3)))
             self.assertEqual([json.loads(it)["entry"] for it in rising(events)], [0, 2, 3])
+
+
+class Waits(unittest.IsolatedAsyncioTestCase):
+    """Two processes that don't come back."""
+
+    def setUp(self):
+        self.store = it = Store.__new__(Store)
+        it.ledger = unittest.mock.Mock(losses=[], destroyed={}, now=lambda: 0.0)
+        it.hooks = unittest.mock.Mock(ends={}, asked={1: "ready 1"}, seconds=lambda name: 60.0)
+        it.names, it.up, it.gone, it.emptied, it.joined = ["p0", "p1"], {0}, set(), set(), {}
+        it.words, self.told = unittest.mock.Mock(out="OUT"), []
+        it._show, it._elected, it._ended, it._joining = self.told.append, 0, {}, 0
+
+    async def test_what_is_waited_for_is_said_once_before_the_end(self):
+        clock = unittest.mock.Mock(monotonic=itertools.count(0.0, 7.0).__next__)
+        with patch.multiple(store, AGAIN=0, time=clock), self.assertRaises(Fault) as raised:
+            await self.store.calm()
+        waits = "p1 is not back: ready 1 has not answered yet; the logs in OUT may say why"
+        ends = "it waits 60 seconds, six times --hook-timeout"
+        self.assertEqual(self.told, [f"   0.00  after 20 seconds {waits}; {ends}"])
+        self.assertEqual(raised.exception.args, (HOOK, f"after 60 seconds {waits}"))
+
+    async def test_what_is_back_soon_is_not_waited_for(self):
+        self.store.up = {0, 1}
+        await self.store.calm()
+        self.assertEqual(self.told, [])
+
+
+class Words(unittest.TestCase):
+    """What --check-hooks says that a run should have."""
+
+    def fitting(self, *measured, pauses=(0, 0.2, 0.5, 1, 2, 4), seconds=60.0):
+        return [*checks.fitting(*measured, pauses, seconds)]
+
+    def test_pauses_that_are_long_enough_are_kept(self):
+        self.assertEqual(self.fitting(0.4, 1.3), ["for a run take --pauses 0,0.2,0.5,1,2,4 --seconds 60"])
+        self.assertEqual(self.fitting(6.0, 8.0, pauses=[8], seconds=90), ["for a run take --pauses 8 --seconds 90"])
+
+    def test_a_pause_is_as_long_as_a_heal_and_a_run_as_ten(self):
+        short = "--pauses are 1.3 s on average, shorter than a heal: orders would be lessened"
+        self.assertEqual(self.fitting(0.4, 4.0), [short, "for a run take --pauses 1,4,8 --seconds 60"])
+        slow = self.fitting(15.2, 24.0)
+        self.assertEqual(slow[0], short)
+        self.assertEqual(slow[1:], ["--seconds 60 leaves no time for 3 heals", "for a run take --pauses 16,24,48 --seconds 300"])
+
+    def test_where_nothing_is_healed_a_pause_is_as_long_as_a_start(self):
+        short = "--pauses are 1.3 s on average, shorter than a start: orders would be lessened"
+        self.assertEqual(self.fitting(2.1, 0.0), [short, "for a run take --pauses 3,3,5 --seconds 60"])
 
 
 class Pauses(unittest.TestCase):

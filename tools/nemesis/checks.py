@@ -1,7 +1,8 @@
 """Tries each hook on a calm cluster, and says which one is wrong."""
 import asyncio
+import math
 import time
-from collections.abc import Iterable, Mapping
+from collections.abc import Iterable, Iterator, Mapping, Sequence
 from pathlib import Path
 from typing import TYPE_CHECKING
 
@@ -20,6 +21,7 @@ EARLY = 1.0  # seconds before it is whole, in which a process may have a record 
 MOST = 200  # records for which a process is asked
 NEVER = "r/999999999"  # a key that is never written
 HEALS = 3  # so many a run should have time for
+ORDERS, MINUTE = 10, 60.0  # so many orders a run should have time for, and so many seconds
 CALM = "nothing was struck yet"
 Records = Mapping[str, str]
 
@@ -34,7 +36,7 @@ class HookCheck:
         self.notes: list[str] = []  # what looks wrong, and may be right
 
     async def whole(self) -> list[str]:
-        """Calls each hook; how long a start and a heal take."""
+        """Calls each hook; what looks wrong, and may be right."""
         await asyncio.sleep(BEFORE)
         await self._calm()
         granted = self.run.file.actors[self.run.fault].kinds
@@ -52,7 +54,7 @@ class HookCheck:
                 await self._reboot(name, "join")
         if "leave" in self.hooks.names and Kind.KILL_INSTANTLY in granted:
             await self._order(Kind.KILL_INSTANTLY, self.run.names[-1])
-        return self.notes + self.times()
+        return self.notes
 
     async def _order(self, kind: Kind, name: str) -> None:
         """Has a process struck, and waits until it is back."""
@@ -192,19 +194,29 @@ class HookCheck:
         return await self.clients.check_all(number, list(known)[-MOST:])
 
     def times(self) -> list[str]:
-        """How long a start and a heal took, and whether a run leaves time for that."""
+        """How long a start and a heal took, and which words leave a run the time for them."""
         words, starts, heals = self.run.words, self.run.starts, self.run.ledger.healed
         start, heal = max(starts, default=0.0), max(heals, default=0.0)
-        lines = [f"a start took up to {start:.1f} s, a heal up to {heal:.1f} s"]
-        pauses = words.pauses or PAUSES
-        pause = sum(pauses) / len(pauses)
-        if round(pause, 1) < round(start, 1):  # as they are told
-            text = f"--pauses are {pause:.1f} s on average, shorter than a start"
-            lines.append(f"{text}: take some like {start:.0f},{2 * start:.0f}")
-        if words.seconds < HEALS * heal:
-            text = f"--seconds {words.seconds:g} leaves no time for {HEALS} heals"
-            lines.append(f"{text}: take {HEALS * heal:.0f} or more")
-        return lines
+        told = f"a start took up to {start:.1f} s, a heal up to {heal:.1f} s"
+        return [told, *fitting(start, heal, words.pauses or PAUSES, words.seconds)]
+
+
+def fitting(start: float, heal: float, pauses: Sequence[float], seconds: float) -> Iterator[str]:
+    """Which pauses and seconds a run should have, and why those that were given don't do.
+
+    While a process is destroyed the guard lessens what would destroy another. So a pause should
+    mostly be as long as a heal.
+    """
+    pause, least = round(sum(pauses) / len(pauses), 1), round(max(start, heal), 1)
+    if pause < least:
+        long = "start" if heal < start else "heal"
+        yield f"--pauses are {pause} s on average, shorter than a {long}: orders would be lessened"
+        pauses = [math.ceil(start), math.ceil(least), math.ceil(2 * least)]
+    if seconds < HEALS * heal:
+        yield f"--seconds {seconds:g} leaves no time for {HEALS} heals"
+    long = max(MINUTE, ORDERS * sum(pauses) / len(pauses))
+    seconds = max(seconds, 10 * math.ceil(long / 10))
+    yield f"for a run take --pauses {','.join(f'{it:g}' for it in pauses)} --seconds {seconds:g}"
 
 
 def for_how_long(told: Told | None, not_whole: tuple[float, float] | None) -> float:

@@ -48,6 +48,7 @@ class Hooks:
     ) -> None:
         self.names = {"hooks"}  # which there are
         self.ends: dict[int | str, End] = {}  # of the last hook of each process, and of the others
+        self.asked: dict[int | str, str] = {}  # the call that goes on of each, which may hang
         self._path, self._ledger = words.hooks, ledger
         self.before: Callable[[int], list[str]] = lambda number: []  # the words of start
         self.limit: float = words.hook_timeout
@@ -121,11 +122,15 @@ class Hooks:
         if name not in self.names:
             return ""
         status, text, env = None, "", self._variables(*numbers) | variables
-        call = called(name, numbers)
-        with suppress(TimeoutError), self._log.of(call) as log:
-            async with asyncio.timeout(self.seconds(name)):
-                status, text = await output(self._path, name, *numbers, env=env, stderr=log)
-        self.ends[numbers[0] if numbers else name] = End(call, status, self._log.said(call))
+        call, asked = called(name, numbers), numbers[0] if numbers else name
+        self.asked[asked] = call
+        try:
+            with suppress(TimeoutError), self._log.of(call) as log:
+                async with asyncio.timeout(self.seconds(name)):
+                    status, text = await output(self._path, name, *numbers, env=env, stderr=log)
+        finally:
+            self.asked.pop(asked, None)  # another of it may go on, as a pause
+        self.ends[asked] = End(call, status, self._log.said(call))
         return text if status == 0 else None
 
     async def copy(self, number: int) -> Path:

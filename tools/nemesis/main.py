@@ -28,7 +28,9 @@ from .run import Run
 from .summary import MILD, closing, tested_little
 from .verdicts import Verdict
 
-KINDS = "10,35,54,1,10"
+KINDS = [10.0, 35.0, 54.0, 1.0, 10.0]
+# The words that only some plans draw by.
+DRAWN = {"kinds": ("mixed", "attrition", "swizzle"), "pauses": ("mixed", "blackout", "partition")}
 LEAST = {"seed": 0, "seconds": 0, "writers": 1, "readers": 0, "hook_timeout": 0.1}
 SHOWN = 5  # cases that are told on the terminal; records.jsonl has all
 
@@ -57,13 +59,13 @@ def parsed() -> argparse.Namespace:
     add("config", type=Path, metavar="CONFIG", help="the cluster file")
     add("hooks", type=Path, metavar="HOOKS", help="an executable that knows the store")
     add("--seed", type=int, default=1, help="orders are drawn from it (1)")
-    add("--seconds", type=float, default=60.0, help="how long records are written (60)")
+    add("--seconds", type=float, default=60.0, help="how long records are written, once all are ready (60)")
     add("--plan", choices=PLANS, default="mixed", help="how orders are drawn (mixed)")
-    text = f"how often each kind that is granted is drawn, from the mildest; Clog last ({KINDS})"
-    add("--kinds", type=weights, default=KINDS, metavar="WEIGHTS", help=text)
-    mixed, blackout, partition = (
-        ",".join(f"{it:g}" for it in those) for those in (PAUSES, BLACKOUTS, PARTITIONS)
+    kinds, mixed, blackout, partition = (
+        ",".join(f"{it:g}" for it in those) for those in (KINDS, PAUSES, BLACKOUTS, PARTITIONS)
     )
+    text = f"how often each kind that is granted is drawn, from the mildest; Clog last ({kinds})"
+    add("--kinds", type=weights, metavar="WEIGHTS", help=text)
     text = f"between the orders of mixed ({mixed}), blackout ({blackout}), partition ({partition})"
     add("--pauses", type=numbers, metavar="SECONDS", help=text)
     text = "a disk for each process, whose power a Reboot cuts"
@@ -109,8 +111,21 @@ def parsed() -> argparse.Namespace:
         it.error("--tokens goes with --guard")
     if words.out and words.out.is_dir() and any(words.out.iterdir()):
         it.error(f"{words.out} is not empty")
-    words.hooks = words.hooks.resolve()
+    if idle := without_effect(words):
+        it.error(idle)
+    words.hooks, words.kinds = words.hooks.resolve(), words.kinds or KINDS
     return words
+
+
+def without_effect(words: argparse.Namespace) -> str | None:
+    """Which word says how orders are drawn that aren't drawn so, if one does."""
+    for name, plans in DRAWN.items():
+        if vars(words)[name] and words.replay:
+            return f"--{name} has no effect with --replay, whose orders have their times and kinds"
+        if vars(words)[name] and words.plan not in plans:
+            text = f"--{name} has no effect with --plan {words.plan}"
+            return f"{text}: it goes with {', '.join(plans)}"
+    return None
 
 
 def read_tokens(path: Path) -> dict[int, str]:
@@ -241,7 +256,10 @@ def report(run: Run, is_read: bool = True) -> int:
     lines += told_cases(run.cases, SHOWN)
     ending = closing(acked, counts) if is_read else f"{acked} acknowledged so far, not read"
     (words.out / "picture.svg").write_text(draw(words.out, run.file, [lines[0], ending]), "utf-8")
-    say("\n".join([*lines, f"{ending}; audit {checked}; {words.out}"]))
+    lines.append(f"{ending}; audit {checked}; {words.out}")
+    if words.check_hooks:
+        lines += run.check.times()
+    say("\n".join(lines))
     if checked != f"legal {run.guard.journal_len()}":
         return GUARD
     return summary.status(counts, "fresh" in run.hooks.names, run.is_unread)

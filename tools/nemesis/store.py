@@ -28,6 +28,7 @@ DEAF = Path(__file__).with_name("deaf.py")
 AGAIN = 0.1  # seconds until a hook that said no is asked again
 ALONE = 20.0  # seconds for which a process that joined has to be ready before another may join
 CRASHES_SHOWN = 3  # of each process; the summary counts all
+PATIENT = 20.0  # seconds until it is said what is waited for
 LIVES = 0.5  # seconds after which a process counts as ready where no hook tells
 
 
@@ -76,14 +77,16 @@ class Store(Harness):
 
     async def calm(self) -> None:
         """Waits until all are up and whole."""
-        seconds = self.hooks.seconds("join")
-        try:
-            async with asyncio.timeout(seconds):
-                while self.waiting():
-                    await asyncio.sleep(AGAIN)
-        except TimeoutError:
-            why = f"{self.waiting()[0]}; the logs in {self.words.out} may say why"
-            raise Fault(HOOK, f"after {seconds:g} seconds {why}") from None
+        began, seconds, is_told = time.monotonic(), self.hooks.seconds("join"), False
+        while waiting := self.waiting():
+            waited, logs = time.monotonic() - began, f"the logs in {self.words.out} may say why"
+            if waited > seconds:
+                raise Fault(HOOK, f"after {seconds:g} seconds {waiting[0]}; {logs}")
+            if waited > PATIENT and not is_told:
+                is_told = True
+                ends = f"it waits {seconds:g} seconds, six times --hook-timeout"
+                self.show(f"after {PATIENT:g} seconds {waiting[0]}; {logs}; {ends}")
+            await asyncio.sleep(AGAIN)
 
     def waiting(self) -> list[str]:
         """Who is not up or not whole, or has not left, and what each waits for."""
@@ -108,7 +111,11 @@ class Store(Harness):
         if end is None:
             waits = number in self.emptied and self._joining != number
             other = f"it waits until {self.names[self._joining]} has joined"
-            return other if waits else "no hook has answered since it went down"
+            if waits:
+                return other
+            if asked := self.hooks.asked.get(number):
+                return f"{asked} has not answered yet"
+            return "no hook has answered since it went down"
         if end.status == 0:
             return f"{end.call} said yes, and no hook has answered since"
         joined = self.joined.get(number)
