@@ -276,6 +276,28 @@ class Waits(unittest.IsolatedAsyncioTestCase):
         self.assertEqual(self.told, [])
 
 
+class First(unittest.IsolatedAsyncioTestCase):
+    """When --check-hooks looks first, of a store that acknowledges a record, or none, at each look."""
+
+    async def count(self, each):
+        run, clock = unittest.mock.Mock(), unittest.mock.Mock(monotonic=itertools.count(0.0, 0.1).__next__)
+        run.ledger.records = {}
+
+        async def sleep(_):
+            run.ledger.records |= {len(run.ledger.records): ""} if each else {}
+
+        with patch.multiple(checks, asyncio=unittest.mock.Mock(sleep=sleep), time=clock):
+            await checks.HookCheck(run).some_records()
+        return len(run.ledger.records), clock.monotonic()
+
+    async def test_there_are_some_records(self):
+        self.assertEqual((await self.count(1))[0], 20)
+
+    async def test_it_does_not_wait_for_ever(self):
+        count, waited = await self.count(0)
+        self.assertEqual((count, round(waited)), (0, 10))
+
+
 class Words(unittest.TestCase):
     """What --check-hooks says that a run should have."""
 

@@ -16,6 +16,7 @@ if TYPE_CHECKING:
     from .run import Run
 
 BEFORE = 1.0  # seconds of writes before each order
+FEW, LONG = 20, 10.0  # so many records, or so many seconds more, before the first look
 SOON = 0.02  # seconds until it is looked again whether a process was emptied
 EARLY = 1.0  # seconds before it is whole, in which a process may have a record already
 MOST = 200  # records for which a process is asked
@@ -37,7 +38,7 @@ class HookCheck:
 
     async def whole(self) -> list[str]:
         """Calls each hook; what looks wrong, and may be right."""
-        await asyncio.sleep(BEFORE)
+        await self.some_records()
         await self._calm()
         granted = self.run.file.actors[self.run.fault].kinds
         clog = [Kind.CLOG] if "pause" in self.hooks.names and Kind.CLOG in granted else []
@@ -55,6 +56,13 @@ class HookCheck:
         if "leave" in self.hooks.names and Kind.KILL_INSTANTLY in granted:
             await self._order(Kind.KILL_INSTANTLY, self.run.names[-1])
         return self.notes
+
+    async def some_records(self) -> None:
+        """Waits until some are acknowledged, as a store that writes a few a second needs."""
+        await asyncio.sleep(BEFORE)
+        until = time.monotonic() + LONG
+        while len(self.run.ledger.records) < FEW and time.monotonic() < until:
+            await asyncio.sleep(SOON)
 
     async def _order(self, kind: Kind, name: str) -> None:
         """Has a process struck, and waits until it is back."""
