@@ -70,8 +70,8 @@ quick:
 format:
 	for crate in crates/*; do (cd "$$crate" && rt fmt) || exit 1; done
 
-## makes what pages say of the source: DEFINITIONS.md, CONTRACTS.md, the crates of ARCHITECTURE and their diagram, the
-## lines of hooks, the tables of faults and of what to do
+## makes what pages say of the source: DEFINITIONS.md, CONTRACTS.md, the crates of ARCHITECTURE and their diagram, acts,
+## replies, faults and statuses of FORMATS, the calls of LIBRARY, the lines of hooks, what to do after a kill
 pages:
 	tools/pages/make
 	release/pages tables

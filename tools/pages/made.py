@@ -6,8 +6,10 @@ import re
 from collections.abc import Callable
 from pathlib import Path
 
+import acts
 import contracts
 import definitions
+import header
 import hook_lines
 import layers
 import limits
@@ -25,6 +27,12 @@ PARTS: tuple[tuple[str, str, Callable[[], str]], ...] = (
     ("docs/ARCHITECTURE.md", "crates", layers.crate_table),
     ("docs/CONTRIBUTING.md", "targets", targets.made),
     ("docs/HOOKS.md", "hooks", hook_lines.made),
+    ("docs/FORMATS.md", "acts", acts.acts),
+    ("docs/FORMATS.md", "replies", acts.replies),
+    ("docs/FORMATS.md", "rules", acts.rules),
+    ("docs/FORMATS.md", "refusals", acts.refusals),
+    ("docs/LIBRARY.md", "calls", header.made),
+    ("docs/LIBRARY.md", "undefined", header.undefined),
 )
 
 
@@ -42,8 +50,8 @@ def with_part(page: str, name: str, part: str) -> str:
 
 
 def by_hand(page: str) -> str:
-    """What of a page is written by hand: all that stands outside such marks, and those of
-    release/pages."""
+    """What of a page is written by hand: all that stands outside such marks, those of release/pages,
+    and those of tables that a run printed."""
     return re.sub(r"(?s)<!-- begin: .*?<!-- end of .*?-->", "", page)
 
 

@@ -5,6 +5,7 @@ import unittest
 
 import common
 from faultyard import Key, Kind, Part, Refusal, Rule
+from faultyard.replies import Reply, read_entry
 
 HEADER = (common.ROOT / "include/faultyard.h").read_text()
 PAGE = (common.ROOT / "docs/FORMATS.md").read_text()
@@ -32,7 +33,7 @@ class Words(unittest.TestCase):
     def test_each_word_is_the_pages(self):
         rules = re.search(r"^\| Rule \|.*?\n\n", PAGE, re.M | re.S)[0]
         self.assertEqual([rule.value for rule in Rule], re.findall(r'^\| `\["(\w+)"', rules, re.M))
-        refusals = re.search(r"^\| Refusal \| Where \| Of \|.*?\n\n", PAGE, re.M | re.S)[0]
+        refusals = re.search(r"^\| Refusal \| Where \|.*?\n\n", PAGE, re.M | re.S)[0]
         self.assertEqual([it.value for it in Refusal], re.findall(r"^\| `(\w+)`", refusals, re.M))
         kinds = re.search(r"^- `kinds` are written once each, in the order (.*)\.$", PAGE, re.M)[1]
         self.assertEqual([kind.value for kind in Kind], re.findall(r"`(\w+)`", kinds))
@@ -40,6 +41,13 @@ class Words(unittest.TestCase):
         self.assertEqual([key.value for key in Key], re.findall(r'"(\w+)"', keys))
         parts = re.search(r"^- The parts are (.*), in this order\.", PAGE, re.M)[1]
         self.assertEqual([part.value for part in Part], re.findall(r"`(\w+)`", parts))
+
+    def test_each_reply_of_the_page_is_read_as_one_of_its_own(self):
+        rows = re.search(r"^\| Reply \|.*?\n\n", PAGE, re.M | re.S)[0]
+        texts = re.findall(r"^\| `([^`]+)` \|", rows, re.M)
+        line = '{{"act":{{"tick":{{"ticks":1}}}},"at":0,"by":0,"reply":{}}}'
+        read = [type(read_entry(line.format(it).encode()).reply) for it in texts]
+        self.assertEqual(sorted(it.__name__ for it in read), sorted(it.__name__ for it in Reply.__args__))
 
 
 class KindsTest(unittest.TestCase):
