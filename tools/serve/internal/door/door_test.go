@@ -382,28 +382,89 @@ func TestAnotherServersPageOrdersNothing(test *testing.T) {
 	same(test, "the entries", web.Book.Stats().Entries, 5)
 }
 
-func TestTheTimeOfAComparisonSaysNothingOfATokenThatIsNearlyRight(test *testing.T) {
-	web := withTokens(test, begin(test, 1))
-	const rounds = 3000
-	took := map[string][]time.Duration{}
-	for round := 0; round < rounds; round++ {
-		for _, token := range []string{"Xne-one-one-one-one", "one-one-one-one-onX"} {
-			request := httptest.NewRequest("GET", "/", nil)
-			request.Header.Set("Authorization", "Bearer "+token)
-			begun := time.Now()
-			if _, known := web.Tokens.actorOf(request); known {
-				test.Fatal(token)
-			}
-			took[token] = append(took[token], time.Since(begun))
-		}
+// knows says whether a request has a token that is known.
+type knows func(*http.Request) bool
+
+// timesAsLong is how many times as long one token takes as another, by medians of calls in turns.
+func timesAsLong(knows knows, one, other string) float64 {
+	const rounds = 3001
+	tokens := [2]string{one, other}
+	var took [2][]time.Duration
+	for round := 0; round < 2*rounds; round++ {
+		request := &http.Request{Header: http.Header{}}
+		request.Header.Set("Authorization", "Bearer "+tokens[round%2])
+		begun := time.Now()
+		knows(request)
+		took[round%2] = append(took[round%2], time.Since(begun))
 	}
-	var medians []float64
 	for _, times := range took {
 		sort.Slice(times, func(one, other int) bool { return times[one] < times[other] })
-		medians = append(medians, float64(times[rounds/2]))
 	}
-	if ratio := medians[0] / medians[1]; ratio < 0.8 || 1.25 < ratio {
-		test.Errorf("the medians are %v nanoseconds", medians)
+	return float64(took[0][rounds/2]) / float64(took[1][rounds/2])
+}
+
+// sameTime says whether two medians are as near as those of equal calls on a busy machine.
+func sameTime(ratio float64) bool { return 0.8 < ratio && ratio < 1.25 }
+
+// leaky knows tokens as a careless server does: it ends at the first byte that differs, and at the
+// first token that is the same.
+func leaky(tokens []string) knows {
+	return func(request *http.Request) bool {
+		given := strings.TrimPrefix(request.Header.Get("Authorization"), "Bearer ")
+		for _, token := range tokens {
+			at := 0
+			for at < len(token) && at < len(given) && token[at] == given[at] {
+				at++
+			}
+			if at == len(token) && at == len(given) {
+				return true
+			}
+		}
+		return false
+	}
+}
+
+// manyTokens are tokens of the greatest length, which differ in their last bytes.
+func manyTokens(test *testing.T, count int) ([]string, knows) {
+	var tokens []string
+	its := new(Tokens)
+	for number := 0; number < count; number++ {
+		token := strings.Repeat("x", mostToken-8) + fmt.Sprintf("%08d", number)
+		if err := its.add(token + " 1"); err != nil {
+			test.Fatal(err)
+		}
+		tokens = append(tokens, token)
+	}
+	return tokens, func(request *http.Request) bool {
+		_, known := its.actorOf(request)
+		return known
+	}
+}
+
+func TestTheTimeOfAComparisonSaysNothingOfATokenThatIsNearlyRight(test *testing.T) {
+	tokens, ours := manyTokens(test, 1)
+	early, late := "y"+tokens[0][1:], tokens[0][:mostToken-1]+"y"
+	if ratio := timesAsLong(ours, late, early); !sameTime(ratio) {
+		test.Errorf("its last byte wrong, a token takes %.2f times as long as its first", ratio)
+	}
+	if ratio := timesAsLong(leaky(tokens), late, early); sameTime(ratio) {
+		test.Errorf("this test finds nothing: a leak is %.2f", ratio)
+	}
+}
+
+func TestTheTimeOfAComparisonSaysNothingOfThePlaceOfAToken(test *testing.T) {
+	tokens, ours := manyTokens(test, 30)
+	first, last, none := tokens[0], tokens[29], tokens[0][1:]+"y"
+	for pair, its := range map[string][2]string{
+		"the first line's": {first, none},
+		"the last line's":  {last, none},
+	} {
+		if ratio := timesAsLong(ours, its[0], its[1]); !sameTime(ratio) {
+			test.Errorf("%s token takes %.2f times as long as one of none", pair, ratio)
+		}
+	}
+	if ratio := timesAsLong(leaky(tokens), last, first); sameTime(ratio) {
+		test.Errorf("this test finds nothing: a leak is %.2f", ratio)
 	}
 }
 
