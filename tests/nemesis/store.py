@@ -20,6 +20,7 @@ STORE_FAULT in the environment plants a fault:
     idle        `join` copies nothing
     careless    `whole` copies nothing, and says yes
     quorum      `read` wants an answer of two servers
+    encoded     the log doesn't have the records as they were written
     crash       server 0 ends by itself, two seconds after each start
 """
 import os
@@ -99,7 +100,7 @@ class Server(socketserver.ThreadingTCPServer):
             print("put", time.time(), flush=True)
             self.records |= records
             self.came |= dict.fromkeys(records, time.monotonic())
-            self.log.writelines(f"{key} {value}\n" for key, value in records.items())
+            self.log.writelines(stored(f"{key} {value}\n") for key, value in records.items())
             if FAULT != "unsynced":
                 self.sync()
 
@@ -140,7 +141,12 @@ def lines_of(path: Path) -> list[str]:
 
 
 def read_log(path: Path) -> Records:
-    return dict(line.split() for line in lines_of(path))  # type: ignore[misc]
+    return dict(stored(line).split() for line in lines_of(path))  # type: ignore[misc]
+
+
+def stored(line: str) -> str:
+    """A line as it stands in the log, and back."""
+    return line.swapcase() if FAULT == "encoded" else line
 
 
 class Link:

@@ -15,6 +15,7 @@ from nemesis.evidence import Case, Course
 from nemesis.history import Operation
 from nemesis.main import rising
 from nemesis.store import Store
+from nemesis.traces import traces
 from nemesis.verdicts import Left, Verdict, judged, wrong
 
 KEY, VALUE = "r/000000001", "a"
@@ -53,6 +54,20 @@ class Verdicts(unittest.TestCase):
         self.assert_verdict(Verdict.LOST, Left(None, disks={0: {}, 1: {"r/000000002": "b"}}))
         self.assert_verdict(Verdict.LOST, Left(None, disks={0: {KEY: "torn"}}))
 
+    def test_files_settle_what_no_disk_tells(self):
+        """Lost is what no disk tells and of which nothing stands in the files of those that don't tell all."""
+        none, other = set(), {"r/000000002"}
+        for disk in (None, {"?": "?"}, {"?": "?", KEY: "torn"}):
+            with self.subTest(disk):
+                disks = {0: disk, 1: {}}
+                self.assert_verdict(Verdict.UNREADABLE, Left(None, disks=disks))
+                self.assert_verdict(Verdict.UNREADABLE, Left(None, disks=disks, traces={0: {KEY}}))
+                self.assert_verdict(Verdict.UNREADABLE, Left(None, disks={2: None} | disks, traces={0: none}))
+                self.assert_verdict(Verdict.LOST, Left(None, disks=disks, traces={0: other}))
+        told = {0: {"?": "?", KEY: VALUE}, 1: None}
+        self.assert_verdict(Verdict.KEPT, Left(None, disks=told, traces={0: none, 1: none}))
+        self.assert_verdict(Verdict.KEPT, Left({KEY: VALUE}, disks={0: None}, traces={0: none}))
+
     def test_stale_is_lacked_after_its_acknowledgement_and_found_later(self):
         found = self.assert_verdict(
             Verdict.STALE, Left({KEY: VALUE}), [read(None, 12), read(None, 30), read(VALUE, 40)]
@@ -74,6 +89,43 @@ class Verdicts(unittest.TestCase):
         self.assertEqual(wrong(writes, right), [])
         faulty = [read("b", 5), read("x", 6, "r/000000002"), read("y", 7, "r/9"), read("z", 8, "r/9")]
         self.assertEqual(wrong(writes, right + faulty), faulty[:3])
+
+
+class Traces(unittest.TestCase):
+    """What stands in the files of a store."""
+
+    VALUE = "0123456789abcdef"
+
+    def found(self, *texts):
+        """Whether a record is found in files with these texts."""
+        with tempfile.TemporaryDirectory() as folder:
+            for count, text in enumerate(texts):
+                path = Path(folder, "below", str(count))
+                path.parent.mkdir(exist_ok=True)
+                path.write_bytes(text)
+            Path(folder, "link").symlink_to("nowhere")
+            return bool(traces(Path(folder), {KEY: self.VALUE, "r/000000002": "f" * 16}) - {"r/000000002"})
+
+    def test_a_key_or_a_value_is_enough(self):
+        key, value = KEY.encode(), self.VALUE.encode()
+        for text in (key, value, b"\xff" + key + b"#" + value, b"r/00000" + key + b"7", b"9a" + value + b"0"):
+            with self.subTest(text):
+                self.assertTrue(self.found(b"", text))
+        for text in (b"", b"\0" * 99, key[:-1], value[1:], b"r/00000\0" + key[7:], b"r/000000002", value.upper()):
+            with self.subTest(text):
+                self.assertFalse(self.found(b"", text))
+
+    def test_it_is_found_wherever_a_file_is_read_in_steps(self):
+        for text in (KEY.encode(), self.VALUE.encode()):
+            for step in (1, 16, 99):
+                for before in range(40):
+                    for filler in (b"\0", b"0"):
+                        with self.subTest(text, step=step, before=before, filler=filler), patch("nemesis.traces.STEP", step):
+                            self.assertTrue(self.found(filler * before + text + filler * 20))
+
+    def test_what_cannot_be_read_is_a_fault(self):
+        with self.assertRaises(OSError):
+            traces(Path("/none"), {KEY: self.VALUE})
 
 
 class Summaries(unittest.TestCase):
@@ -170,6 +222,15 @@ class Cases(unittest.TestCase):
         case = self.case(Left(None, disks=self.disks(unknown=[3])))
         self.assertEqual(case.verdict, Verdict.UNREADABLE)
         self.assertEqual(case.fault(), "unknown: no read was answered, and whether the disk of k3 has it is unknown")
+
+    def test_files_are_evidence_where_a_disk_does_not_tell_all(self):
+        disks = self.disks(unknown=[3]) | {4: {"?": "?"}}
+        case = self.case(Left(None, disks=disks, traces={3: set(), 4: set()}))
+        self.assertEqual(case.verdict, Verdict.LOST)
+        self.assertEqual(case.line()["lacks"], {f"k{n}": ["salvage" if n < 3 else "files"] for n in range(5)})
+        self.assertTrue(case.fault().endswith("and none has it: the store lost it"), case.fault())
+        case = self.case(Left(None, disks=disks, traces={3: set(), 4: {KEY}}))
+        self.assertEqual(case.fault(), "unknown: no read was answered, and whether the disk of k4 has it is unknown")
 
     def test_all_were_destroyed_as_the_guard_allowed(self):
         losses = [(0, 6.0, 7), (1, 6.0, 7), (2, 6.0, 7), (3, 7.0, 20), (4, 7.0, 20)]

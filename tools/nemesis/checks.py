@@ -11,6 +11,7 @@ from faultyard.plans import PAUSES, Order
 
 from . import HOOK, USAGE, Fault
 from .clients import Told, pairs
+from .traces import traces
 
 if TYPE_CHECKING:
     from .run import Run
@@ -165,10 +166,19 @@ class HookCheck:
     async def disks(self) -> None:
         """Looks at what each folder had after `whole` said yes, now that the store is down."""
         for number, (copy, before) in self.copies.items():
+            if "plain" in self.hooks.names:
+                await self._look_through(number, copy, before)
             if (text := await self.hooks.salvage(number, copy)) is None:
                 raise wrong(f"{self.hooks.ends[number]}; hooks.log may say why")
             if lacks := lacking(pairs(f"salvage {number}", text), before):
                 raise self._wrong_whole(number, "salvage", lacks, before)
+
+    async def _look_through(self, number: int, copy: Path, before: Records) -> None:
+        """Looks whether records stand in the files as they were written, as the hooks promise."""
+        found = await asyncio.to_thread(traces, copy, before)
+        if lacks := [key for key in before if key not in found]:
+            text = f"nothing stands in the files of {self.run.names[number]}"
+            raise wrong(f"`plain` is promised, and of {counted(lacks, before)} {text}")
 
     def _wrong_whole(self, number: int, by: str, lacks: list[str], before: Records) -> Fault:
         name, idle = self.run.names[number], self._idle([number])

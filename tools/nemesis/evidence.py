@@ -65,9 +65,11 @@ class Case:
         for number, told in left.checked.items():
             if self.key in told and (told[self.key] == value) is has:
                 found.setdefault(number, []).append("check")
-        for number, disk in left.disks.items():
-            if disk is not None and (disk.get(self.key) == value) is has:
-                found.setdefault(number, []).append("salvage")
+        having = left.on_disk_of(self.key, value)
+        for number in left.disks:
+            if number in having if has else left.is_off_disk(number, self.key, value):
+                how = "salvage" if has or left.is_told(number) else "files"
+                found.setdefault(number, []).append(how)
         return found
 
     def fault(self) -> str:
@@ -160,9 +162,10 @@ class Case:
 
     def _unknown(self, asked: Iterable[int]) -> str:
         """What isn't known of the disks of these."""
-        disks = self.course.left.disks
-        unknown = self.course.told(number for number in asked if disks.get(number) is None)
-        return f"whether the disk of {unknown} has it is unknown"
+        left, value = self.course.left, self.record.value
+        unknown = [n for n in asked if not left.is_told(n)]
+        unknown = [n for n in unknown if not left.is_off_disk(n, self.key, value)]
+        return f"whether the disk of {self.course.told(unknown)} has it is unknown"
 
     def _stale(self) -> str:
         read = self.judged.lacking

@@ -21,10 +21,13 @@ from .hook_log import HookLog
 
 NEEDED = {"start", "whole", "write", "read"}
 KNOWN = NEEDED | {"hooks", "setup", "ready", "join", "leave", "elect", "pause", "resume"}
-KNOWN |= {"check", "salvage", "fresh"}  # fresh is no hook, but a promise of check's answers
+KNOWN |= {"check", "salvage"}
+# These are no hooks, but promises: no answer of check lags; records stand in files as written.
+KNOWN |= {"fresh", "plain"}
 # Some copy: they have six times as long.
 SLOW = {"hooks", "setup", "join", "elect", "read", "salvage"}
-NEEDS = {"pause": "resume", "resume": "pause", "fresh": "check"}  # one without the other is wrong
+# One without the other is wrong.
+NEEDS = {"pause": "resume", "resume": "pause", "fresh": "check", "plain": "salvage"}
 PORTS = 4  # for each process
 SAID = 160  # characters of what a hook said that are told
 SOURCES = str(Path(faultyard.__file__).parents[1])

@@ -20,6 +20,7 @@ from .evidence import Case, Course, wrong_line
 from .history import History, Operation
 from .disks import tears_of
 from .store import AGAIN, Store, cancelled
+from .traces import traces
 from .verdicts import Disk, Judged, Left, Verdict, judged, wrong
 
 FIRST = 1.0  # seconds before the first order
@@ -163,7 +164,7 @@ class Run(Store):
         self.judged = judged(self.ledger.records, writes, reads, left)
         unclear = {Verdict.LOST, Verdict.UNREADABLE}
         if "salvage" in self.hooks.names and unclear & {it.verdict for it in self.judged}:
-            left = replace(left, disks=await self._salvaged())
+            left = await self._looked_through(replace(left, disks=await self._salvaged()))
             self.judged = judged(self.ledger.records, writes, reads, left)
         self.wrong = wrong(writes, reads)
         self.cases = self._cases(self._course(left))
@@ -176,6 +177,20 @@ class Run(Store):
         """
         self.show("looks at the disks")
         return {number: await self._disk(number) for number in range(len(self.names))}
+
+    async def _looked_through(self, left: Left) -> Left:
+        """With what stands in the files of those whose `salvage` gave nothing, if it would show."""
+        records, found = {key: it.value for key, it in self.ledger.records.items()}, {}
+        unknown = [number for number in left.disks if not left.is_told(number)]
+        for number in unknown if "plain" in self.hooks.names else ():
+            try:
+                folder = self.words.out / str(number)
+                keys = found[number] = await asyncio.to_thread(traces, folder, records)
+                text = f"have something of {len(keys)} of {len(records)} records"
+            except OSError as fault:
+                text = f"can't be read: {fault}"
+            self.notes.append(f"the files of {self.names[number]} {text}")
+        return replace(left, traces=found)
 
     async def _disk(self, number: int) -> Disk:
         """What the folder of a process has, which doesn't run."""

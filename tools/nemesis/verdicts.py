@@ -1,5 +1,5 @@
 """What became of each acknowledged record, by what the store and its disks told."""
-from collections.abc import Iterable, Mapping
+from collections.abc import Iterable, Mapping, Set
 from dataclasses import dataclass, field
 from enum import StrEnum
 
@@ -7,6 +7,7 @@ from .history import PREFIX, Operation
 
 Found = Mapping[str, str | None]  # by key; None where a read that was answered lacks it
 Disk = Mapping[str, str] | None  # what the folder of a process has, if that is known
+MORE = "?"  # the key by which a disk says that it may have more, which couldn't be read
 
 
 class Verdict(StrEnum):
@@ -28,16 +29,29 @@ class Left:
     """What each process that is up and whole told last, by its number."""
     disks: Mapping[int, Disk] = field(default_factory=dict)
     """What the folder of each process has, by its number, if that was asked for."""
+    traces: Mapping[int, Set[str]] = field(default_factory=dict)
+    """The keys of which something stands in the files of a process whose disk isn't all known."""
 
     def told(self, key: str) -> list[str | None]:
         """What reads at the end told of a record."""
         read = [] if self.read is None else [self.read.get(key)]
         return read + [found[key] for found in self.checked.values() if key in found]
 
+    def is_told(self, number: int) -> bool:
+        """Whether all that a process's folder has was told."""
+        disk = self.disks.get(number)
+        return disk is not None and MORE not in disk
+
+    def is_off_disk(self, number: int, key: str, value: str) -> bool:
+        """Whether a process's folder is known not to have it."""
+        if (self.disks.get(number) or {}).get(key) == value:
+            return False
+        traces = self.traces.get(number)
+        return self.is_told(number) or (traces is not None and key not in traces)
+
     def is_off_all_disks(self, key: str, value: str) -> bool:
         """Whether each process's folder is known not to have it."""
-        disks = self.disks.values()
-        return bool(disks) and all(it is not None and it.get(key) != value for it in disks)
+        return bool(self.disks) and all(self.is_off_disk(n, key, value) for n in self.disks)
 
     def on_disk_of(self, key: str, value: str) -> list[int]:
         """The processes whose folders are known to have it."""

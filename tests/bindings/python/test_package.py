@@ -33,6 +33,14 @@ class TypesTest(unittest.TestCase):
         ran = subprocess.run(words, cwd=PACKAGE, capture_output=True, text=True)
         self.assertEqual(ran.returncode, 0, ran.stdout + ran.stderr)
 
+    def test_mypy_finds_nothing_in_the_tools(self):
+        common.need("the types of the tools", "mypy")
+        words = ["mypy", "--strict", "--cache-dir=/dev/null", "keeper.py", "nemesis", "config_check"]
+        env = os.environ | {"MYPYPATH": str(PACKAGE / "src")}
+        tools = common.ROOT / "tools"
+        ran = subprocess.run(words, cwd=tools, env=env, capture_output=True, text=True)
+        self.assertEqual(ran.returncode, 0, ran.stdout + ran.stderr)
+
 
 class PageTest(common.Folder, unittest.TestCase):
     def shown(self, page):

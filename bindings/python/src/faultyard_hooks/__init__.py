@@ -26,6 +26,7 @@ from contextlib import contextmanager
 from typing import Any, Callable, Dict, Iterator, List, Optional, TypeVar
 
 Answer = TypeVar("Answer")
+MORE = {"?": "?"}  # among what `salvage` returns: there may be more, which it couldn't read
 HOOKS = "setup start ready join leave elect pause resume whole write check read salvage".split()
 # What stands in a module of its own.
 ELSEWHERE = {
