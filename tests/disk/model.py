@@ -30,6 +30,12 @@ def poke(old, place, data):
     old[place : place + len(data)] = data
 
 
+def paged(contents, place, length):
+    """What a kernel gives a disk of a write by mmap, which it has done in memory: whole pages, up to the file's end."""
+    first, last = place // SECTOR * SECTOR, -(-(place + length) // SECTOR) * SECTOR
+    return first, bytes(contents[first:last])
+
+
 def resize(old, size):
     if size < len(old):
         del old[size:]
@@ -128,7 +134,9 @@ class Model:
         node = self.at(path)
         place = len(node.live) if how == "append" else place
         poke(node.live, place, data)
-        had_unsynced = any(it[0] in DATA and it[1] is node for it in self.items)
+        had_unsynced = node in self.partly or any(it[0] in DATA and it[1] is node for it in self.items)
+        if how == "msync":
+            place, data = paged(node.live, place, len(data))
         self.items.append(("write", node, place, data))
         if how in SYNCED:
             self.sync(path)

@@ -11,7 +11,7 @@ import subprocess
 import time
 from pathlib import Path
 
-from model import PUNCH, SYNCED, tree_at
+from model import PUNCH, SYNCED, paged, poke, tree_at
 
 LIBC = ctypes.CDLL(None, use_errno=True)
 KINDS = {stat.S_IFREG: "file", stat.S_IFDIR: "folder", stat.S_IFLNK: "link"}
@@ -61,6 +61,10 @@ class Bare:
     def write(self, path, place, data, how=""):
         if how == "append":
             place = len(self.tree()[path][3])
+        if how == "msync":
+            contents = bytearray(self.tree()[path][3])
+            poke(contents, place, data)
+            place, data = paged(contents, place, len(data))
         if data:
             self.tell("write", path, place, data.hex())
         if how in SYNCED:
