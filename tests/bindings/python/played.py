@@ -46,6 +46,7 @@ A call answers one of these:
 """
 
 import json
+import re
 
 import common
 import faultyard
@@ -146,3 +147,25 @@ def compare(test, found, wanted):
     for number, (one, other) in enumerate(zip(found.splitlines(), wanted.splitlines())):
         test.assertEqual(one, other, f"line {number}")
     test.assertEqual(len(found), len(wanted))
+
+
+def states_drawn(config, audit):
+    """The states of all processes after each entry, as the picture of `faultyard show` has them."""
+    picture = faultyard.show(config, audit)
+    assert 'data-width="1"' in picture, "an entry has no column of its own"
+    count = int(re.search(r'data-columns="(\d+)"', picture)[1])
+    rows = re.findall(r'<g class="row" data-process="(\d+)">\n(.*?)^</g>', picture, re.S | re.M)
+    drawn = {}
+    for process, row in rows:
+        marks = drawn[int(process)] = [set() for _ in range(count)]
+        for name, start, end in re.findall(r'class="(\w+)".* data-from="(\d+)" data-to="(\d+)"', row):
+            for column in range(int(start), int(end)):
+                marks[column].add(name)
+    return [[state(drawn[it][column]) for it in sorted(drawn)] for column in range(count)]
+
+
+def state(marks):
+    """The state of a process by the marks of its row."""
+    assert len(marks & {"up", "down", "gone"}) == 1, marks
+    gone = "gone" in marks
+    return faultyard.State("up" in marks, "clogged" in marks, gone or "emptied" in marks, gone)

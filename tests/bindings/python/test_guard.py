@@ -8,6 +8,7 @@ from pathlib import Path
 
 import common
 import faultyard
+import played
 from faultyard import Guard, Key, Kind, Part, Refusal, Rule
 
 # The typed call of each act, and the act as docs/FORMATS.md writes it.
@@ -373,6 +374,100 @@ class GuardTests(common.Folder):
         guard.heal(0, by=0)
         self.assertEqual((guard.destroyed(), guard.gone()), ({1}, {1}))
 
+    def test_the_state_of_each_process(self):
+        states = faultyard.State
+        up, down = states(True, False, False, False), states(False, False, False, False)
+        guard = self.guard()
+        self.assertEqual([guard.state(it) for it in range(7)], [up] * 6 + [None])
+        self.assertEqual(guard.up_set(), set(range(6)))
+        guard.clog(Key.ZONE, "z0", 3, by=1)
+        guard.clog(Key.PROCESS, "p1", 2, by=1)  # it shortens no other
+        guard.kill(Key.PROCESS, "p0", Kind.KILL_INSTANTLY, by=1)
+        guard.kill(Key.PROCESS, "p1", Kind.REBOOT_AND_DELETE, by=1)
+        guard.kill(Key.PROCESS, "p2", Kind.REBOOT, by=1)
+        gone, emptied = states(False, True, True, True), states(False, True, True, False)
+        self.assertEqual([guard.state(it) for it in range(4)], [gone, emptied, down, up])
+        guard.unclog(Key.ZONE, "z0", by=1)  # who is gone is no target
+        for process in (1, 2):
+            guard.up(process, by=0)
+        emptied = states(True, False, True, False)
+        self.assertEqual([guard.state(it) for it in range(3)], [gone, emptied, up])
+        guard.tick(3, by=0)
+        guard.heal(1, by=0)
+        gone = states(False, False, True, True)
+        self.assertEqual([guard.state(it) for it in range(3)], [gone, up, up])
+        self.assertEqual(guard.up_set(), {1, 2, 3, 4, 5})
+        guard.tick(2**40 - 13, by=0)
+        guard.clog(Key.PROCESS, "p4", 2**64 - 1, by=1)  # at most up to the clock's end
+        for ticks, clogged in ((9, True), (1, False)):
+            guard.tick(ticks, by=0)
+            self.assertEqual(guard.state(4), states(True, clogged, False, False))
+        with self.assertRaises(faultyard.InvalidAct):
+            guard.state(-1)
+
+    def test_what_is_judged_is_what_the_kill_gets(self):
+        key, kinds = Key.ZONE, list(Kind)[1:4]
+        with Guard(common.SIX, transport=self.transport) as guard:
+            for zone in ("z0", "z1", "z2", "z9"):
+                for kind in reversed(kinds):
+                    count = guard.journal_len()
+                    verdict = guard.judge(key, zone, kind, by=1, floor=kinds[0])
+                    self.assertEqual(guard.journal_len(), count)
+                    self.assertEqual(guard.kill(key, zone, kind, by=1, floor=kinds[0]), verdict)
+            with self.assertRaises(faultyard.ActRefused) as caught:
+                guard.judge(key, "z0", kinds[0], by=9)
+            self.assertEqual(caught.exception.refusal, Refusal.STRANGER)
+            for value, floor in (("-", kinds[0]), ("z0", kinds[1])):
+                with self.assertRaises(faultyard.InvalidAct):
+                    guard.judge(key, value, kinds[0], by=1, floor=floor)
+            self.assertEqual(guard.journal_len(), 12)
+
+    def test_by_number_as_by_name(self):
+        key, kinds = Key.PROCESS, list(Kind)[1:4]
+        named = self.guard()
+        with Guard(common.SIX, transport=self.transport) as numbered:
+            for process in range(6):
+                for kind in reversed(kinds):
+                    verdict = named.kill(key, f"p{process}", kind, by=1, floor=kinds[0], tear=5)
+                    judged = numbered.judge_process(process, kind, by=1, floor=kinds[0])
+                    self.assertEqual(judged, verdict)
+                    killed = numbered.kill_process(process, kind, by=1, floor=kinds[0], tear=5)
+                    self.assertEqual(killed, verdict)
+            self.assertEqual(numbered.audit(), named.audit())
+            for call in (numbered.judge_process, numbered.kill_process):
+                with self.assertRaises(faultyard.ActRefused) as caught:
+                    call(0, kinds[0], by=9)
+                self.assertEqual(caught.exception.refusal, Refusal.STRANGER)
+                for process, floor in ((6, kinds[0]), (-1, kinds[0]), (0, kinds[1])):
+                    with self.assertRaises(faultyard.InvalidAct):
+                        call(process, kinds[0], by=1, floor=floor)
+            # The kill by a stranger stands in the journal.
+            self.assertEqual(numbered.journal_len(), named.journal_len() + 1)
+        for call in (numbered.judge_process, numbered.kill_process):
+            with self.assertRaises(faultyard.GuardClosed):
+                call(0, kinds[0], by=1)
+
+    def test_each_process_has_the_kind_of_its_own_judgement(self):
+        kinds = Kind
+        hard, mild, none = kinds.KILL_INSTANTLY, kinds.REBOOT, None
+        with Guard(common.SIX, transport=self.transport) as guard:
+            guard.protect(5, [kinds.REBOOT, hard], by=4)
+            self.assertEqual(guard.killable(by=1), [hard] * 5 + [kinds.REBOOT_AND_DELETE])
+            self.assertEqual(guard.killable(by=3), [none] * 6)
+            guard.kill_process(0, hard, by=1)
+            wanted = [none, hard, mild, mild, mild, kinds.REBOOT_PROCESS]
+            self.assertEqual(guard.killable(by=1), wanted)
+            judged = [guard.judge_process(it, hard, by=2).struck for it in range(6)]
+            self.assertEqual(guard.killable(by=2), judged)
+            with self.assertRaises(faultyard.ActRefused) as caught:
+                guard.killable(by=9)
+            self.assertEqual(caught.exception.refusal, Refusal.STRANGER)
+            with self.assertRaises(faultyard.InvalidAct):
+                guard.killable(by=-1)
+            self.assertEqual(guard.journal_len(), 2)
+        with self.assertRaises(faultyard.GuardClosed):
+            guard.killable(by=1)
+
     def test_processes_by_their_names(self):
         guard = self.guard()
         self.assertEqual(guard.process_count(), 6)
@@ -421,8 +516,9 @@ class GuardTests(common.Folder):
         with Guard(common.SIX, transport=self.transport) as guard:
             guard.tick(1, by=0)
         guard.close()
-        asked = [guard.left, guard.destroyed, guard.gone, guard.process_count]
+        asked = [guard.left, guard.destroyed, guard.gone, guard.process_count, guard.up_set]
         asked += [lambda: guard.is_destroyed(0), lambda: guard.process("p0")]
+        asked += [lambda: guard.state(0), lambda: guard.killable(by=1)]
         asked += [lambda: guard.targets(Key.ZONE, "z0"), lambda: guard.tick(1, by=0)]
         for make in asked:
             with self.assertRaises(faultyard.GuardClosed):
@@ -466,6 +562,18 @@ def listed(word, number):
 class OverThePipe(GuardTests, unittest.TestCase):
     transport = "pipe"
 
+    def test_the_states_are_those_of_the_picture(self):
+        config = common.six_with(self.folder, 1_000)
+        guard, states = self.guard(config), []
+        for by, act in common.random_acts(65, 1_000):
+            guard.act(by, act)
+            states.append([guard.state(process) for process in range(6)])
+        drawn = played.states_drawn(config, guard.audit())
+        self.assertEqual(len(drawn), 1_000)
+        self.assertEqual(states, drawn)
+        # All states that there are: who is gone is down and destroyed.
+        self.assertEqual(len({state for column in states for state in column}), 10)
+
     def test_a_server_goes_on_by_itself(self):
         with self.assertRaises(faultyard.NotOffered):
             Guard(common.SIX, after="audit", server="http://127.0.0.1:1")
@@ -491,6 +599,25 @@ class BothTransports(common.Folder, unittest.TestCase):
                         [library.is_destroyed(p) for p in range(7)],
                     )
                     self.assertEqual(pipe.left(), library.left())
+                    self.assertEqual(
+                        [pipe.state(p) for p in range(7)], [library.state(p) for p in range(7)]
+                    )
+                    self.assertEqual(pipe.up_set(), library.up_set())
+                    self.assertEqual(pipe.targets(Key.ZONE, "z0"), library.targets(Key.ZONE, "z0"))
+
+    def test_who_may_be_killed_after_random_acts(self):
+        config, met = common.six_with(self.folder, 1_000), collections.Counter()
+        for seed in range(4):
+            with Guard(config) as pipe, Guard(config, transport="library") as library:
+                for at, (by, act) in enumerate(common.random_acts(70 + seed, 400)):
+                    self.assertEqual(pipe.act(by, act), library.act(by, act))
+                    if at % 20 == 0:
+                        for actor in (1, 2, 3, 0):
+                            kinds = library.killable(by=actor)
+                            self.assertEqual(pipe.killable(by=actor), kinds)
+                            met.update(kinds)
+                self.assertEqual(pipe.audit(), library.audit())
+        self.assertEqual(set(met), {None, *list(Kind)[:4]})
 
 
 class FaultLines(unittest.TestCase):

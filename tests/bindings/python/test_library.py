@@ -320,68 +320,6 @@ class InThisProcess(common.Folder, unittest.TestCase):
             with self.assertRaises(faultyard.GuardClosed):
                 ask()
 
-    def test_what_is_judged_is_what_the_kill_gets(self):
-        key, kinds = faultyard.Key.ZONE, list(faultyard.Kind)[1:4]
-        with self.guard() as guard:
-            for zone in ("z0", "z1", "z2", "z9"):
-                for kind in reversed(kinds):
-                    count = guard.journal_len()
-                    verdict = guard.judge(key, zone, kind, by=1, floor=kinds[0])
-                    self.assertEqual(guard.journal_len(), count)
-                    self.assertEqual(guard.kill(key, zone, kind, by=1, floor=kinds[0]), verdict)
-            with self.assertRaises(faultyard.ActRefused) as caught:
-                guard.judge(key, "z0", kinds[0], by=9)
-            self.assertEqual(caught.exception.refusal, faultyard.Refusal.STRANGER)
-            for value, floor in (("-", kinds[0]), ("z0", kinds[1])):
-                with self.assertRaises(faultyard.InvalidAct):
-                    guard.judge(key, value, kinds[0], by=1, floor=floor)
-            self.assertEqual(guard.journal_len(), 12)
-
-    def test_by_number_as_by_name(self):
-        key, kinds = faultyard.Key.PROCESS, list(faultyard.Kind)[1:4]
-        with self.guard() as named, self.guard() as numbered:
-            for process in range(6):
-                for kind in reversed(kinds):
-                    verdict = named.kill(key, f"p{process}", kind, by=1, floor=kinds[0], tear=5)
-                    judged = numbered.judge_process(process, kind, by=1, floor=kinds[0])
-                    self.assertEqual(judged, verdict)
-                    killed = numbered.kill_process(process, kind, by=1, floor=kinds[0], tear=5)
-                    self.assertEqual(killed, verdict)
-            self.assertEqual(numbered.audit(), named.audit())
-            for call in (numbered.judge_process, numbered.kill_process):
-                with self.assertRaises(faultyard.ActRefused) as caught:
-                    call(0, kinds[0], by=9)
-                self.assertEqual(caught.exception.refusal, faultyard.Refusal.STRANGER)
-                for process, floor in ((6, kinds[0]), (-1, kinds[0]), (0, kinds[1])):
-                    with self.assertRaises(faultyard.InvalidAct):
-                        call(process, kinds[0], by=1, floor=floor)
-            # The kill by a stranger stands in the journal.
-            self.assertEqual(numbered.journal_len(), named.journal_len() + 1)
-        for call in (numbered.judge_process, numbered.kill_process):
-            with self.assertRaises(faultyard.GuardClosed):
-                call(0, kinds[0], by=1)
-
-    def test_each_process_has_the_kind_of_its_own_judgement(self):
-        kinds = faultyard.Kind
-        hard, mild, none = kinds.KILL_INSTANTLY, kinds.REBOOT, None
-        with self.guard() as guard:
-            guard.protect(5, [kinds.REBOOT, hard], by=4)
-            self.assertEqual(guard.killable(by=1), [hard] * 5 + [kinds.REBOOT_AND_DELETE])
-            self.assertEqual(guard.killable(by=3), [none] * 6)
-            guard.kill_process(0, hard, by=1)
-            wanted = [none, hard, mild, mild, mild, kinds.REBOOT_PROCESS]
-            self.assertEqual(guard.killable(by=1), wanted)
-            judged = [guard.judge_process(it, hard, by=2).struck for it in range(6)]
-            self.assertEqual(guard.killable(by=2), judged)
-            with self.assertRaises(faultyard.ActRefused) as caught:
-                guard.killable(by=9)
-            self.assertEqual(caught.exception.refusal, faultyard.Refusal.STRANGER)
-            with self.assertRaises(faultyard.InvalidAct):
-                guard.killable(by=-1)
-            self.assertEqual(guard.journal_len(), 2)
-        with self.assertRaises(faultyard.GuardClosed):
-            guard.killable(by=1)
-
     def test_what_it_bears_is_what_the_program_says(self):
         crossed = common.ROOT / "tests/cli/bears/configs/crossed.toml"
         with self.guard(crossed) as guard:

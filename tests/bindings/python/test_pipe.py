@@ -210,7 +210,10 @@ class PipeTest(common.Folder, unittest.TestCase):
         ):
             asked = [guard.left, guard.destroyed, guard.gone, guard.process_count]
             asked += [lambda: guard.is_destroyed(0), lambda: guard.process("p0")]
-            asked += [lambda: guard.targets(faultyard.Key.ZONE, "z0")]
+            asked += [lambda: guard.targets(faultyard.Key.ZONE, "z0"), guard.up_set]
+            asked += [lambda: guard.state(0), lambda: guard.killable(by=1)]
+            asked += [lambda: guard.judge_process(0, faultyard.Kind.REBOOT, by=1)]
+            asked += [lambda: guard.kill_process(0, faultyard.Kind.REBOOT, by=1)]
             for ask in asked:
                 with self.assertRaises(faultyard.NotOffered):
                     ask()
@@ -218,17 +221,33 @@ class PipeTest(common.Folder, unittest.TestCase):
     def test_what_the_pipe_does_not_answer(self):
         with Guard(common.SIX) as guard:
             asked = [lambda: guard.is_acked(0), lambda: guard.keeper(0), guard.sight]
-            asked += [guard.up_set, lambda: guard.state(0), lambda: guard.needed(0), guard.reset]
-            asked.append(guard.try_copy)
-            key, kind = faultyard.Key.PROCESS, faultyard.Kind.REBOOT
-            asked.append(lambda: guard.judge(key, "p0", kind, by=1))
-            asked.append(lambda: guard.kill_process(0, kind, by=1))
-            asked.append(lambda: guard.judge_process(0, kind, by=1))
-            asked.append(lambda: guard.killable(by=1))
+            asked += [lambda: guard.needed(0), guard.reset, guard.try_copy]
             for ask in asked:
                 with self.assertRaises(faultyard.NotOffered):
                     ask()
             self.assertEqual(guard.tick(1, by=0), 1)
+
+    def test_looking_ahead_from_a_full_journal(self):
+        kind = faultyard.Kind.REBOOT
+        with Guard(common.six_with(self.folder, 2)) as guard:
+            for number in range(2):
+                self.assertIs(guard.judge_process(0, kind, by=1).struck, kind)
+                guard.tick(1, by=0)
+            for ask in (
+                lambda: guard.judge(faultyard.Key.PROCESS, "p0", kind, by=1),
+                lambda: guard.judge_process(0, kind, by=1),
+                lambda: guard.killable(by=1),
+            ):
+                with self.assertRaises(faultyard.JournalFull):
+                    ask()
+            self.assertEqual(guard.journal_len(), 2)
+
+    def test_looking_ahead_leaves_nothing_behind(self):
+        with Guard(common.SIX) as guard, mock.patch.dict(os.environ, TMPDIR=self.folder):
+            with mock.patch("tempfile.tempdir", None):
+                self.assertEqual(guard.killable(by=1), [faultyard.Kind.KILL_INSTANTLY] * 6)
+            self.assertEqual(os.listdir(self.folder), [])
+            self.assertEqual(children(), self.before | {self.started()})
 
     def test_how_much_may_still_be_lost(self):
         key, kind = faultyard.Key.ZONE, faultyard.Kind.KILL_INSTANTLY

@@ -4,13 +4,15 @@ from __future__ import annotations
 
 import os
 import tempfile
-from typing import IO, Any, Dict, FrozenSet, List, Mapping, Optional
+from pathlib import Path
+from typing import IO, Any, Dict, FrozenSet, List, Mapping, Optional, Sequence
 
-from .enums import Kind
-from .errors import NotOffered
-from .losses import Losses
-from .programs import StrPath, bears
-from .replies import Reply, read_entry
+from . import acts
+from .enums import Key, Kind
+from .errors import InvalidAct, NotOffered
+from .programs import StrPath, answer_after, bears
+from .replies import Refused, Reply, Verdict, read_entry
+from .states import States
 from .transport import Borne, Sight, State, Transport
 
 
@@ -27,7 +29,7 @@ class Followed(Transport):
             self._config = file.read()
         self._program = program
         self._audit: List[bytes] = []
-        self._losses: Optional[Losses] = None
+        self._states: Optional[States] = None
         self._followed = 0
         self._kept: Optional[IO[bytes]] = None
 
@@ -49,8 +51,14 @@ class Followed(Transport):
         return process in self._follow().destroyed
 
     def left(self) -> FrozenSet[int]:
-        losses = self._follow()
-        return frozenset(range(len(losses))) - losses.gone
+        states = self._follow()
+        return frozenset(range(len(states))) - states.gone
+
+    def up_set(self) -> FrozenSet[int]:
+        return frozenset(self._follow().up)
+
+    def state(self, process: int) -> Optional[State]:
+        return self._follow().state(process)
 
     def destroyed(self) -> FrozenSet[int]:
         return frozenset(self._follow().destroyed)
@@ -66,28 +74,45 @@ class Followed(Transport):
             return bears(config.name, self.audit().decode(), self._program)
 
     def judge(self, by: int, order: Mapping[str, Any]) -> Reply:
-        raise NotOffered("judge asks for the transport 'library'")
+        return self._judged(by, [order])[0]
 
     def kill_process(self, by: int, order: Mapping[str, Any]) -> Reply:
-        raise NotOffered("kill_process asks for the transport 'library'")
+        return self.reply(by, "kill", self._by_name(order))
 
     def judge_process(self, by: int, order: Mapping[str, Any]) -> Reply:
-        raise NotOffered("judge_process asks for the transport 'library'")
+        return self.judge(by, self._by_name(order))
 
     def killable(self, by: int) -> Optional[List[Optional[Kind]]]:
-        raise NotOffered("killable asks for the transport 'library'")
+        processes = range(self.process_count())
+        hardest, mildest = Kind.KILL_INSTANTLY, Kind.REBOOT_PROCESS
+        orders = [acts.numbered_kill(process, hardest, mildest, 0) for process in processes]
+        replies = self._judged(by, [self._by_name(order) for order in orders])
+        kinds = [reply.struck for reply in replies if isinstance(reply, Verdict)]
+        return None if any(isinstance(reply, Refused) for reply in replies) else kinds
+
+    def _by_name(self, order: Mapping[str, Any]) -> Dict[str, Any]:
+        """The kill of one process by its name, from that by its number."""
+        states, named = self._follow(), dict(order)
+        process = named.pop("process")
+        if process >= len(states):
+            raise InvalidAct(f"there is no process {process}")
+        return {**named, "key": Key.PROCESS.value, "value": states.name(process)}
+
+    def _judged(self, by: int, orders: Sequence[Mapping[str, Any]]) -> List[Reply]:
+        """The reply that each kill would get now: of a guard of its own, behind the journal."""
+        with tempfile.TemporaryDirectory(prefix="faultyard-") as folder:
+            config, audit = Path(folder, "config"), Path(folder, "audit")
+            config.write_bytes(self._config)
+            audit.write_bytes(self.audit())
+            lines = [acts.line(by, "kill", order) for order in orders]
+            told = [answer_after(config, audit, line, self._program) for line in lines]
+        return [read_entry(entry).reply for entry in told]
 
     def reset(self) -> None:
         raise NotOffered("reset asks for the transport 'library'")
 
     def try_copy(self) -> Transport:
         raise NotOffered("try_copy asks for the transport 'library'")
-
-    def up_set(self) -> FrozenSet[int]:
-        raise NotOffered("up_set asks for the transport 'library'")
-
-    def state(self, process: int) -> Optional[State]:
-        raise NotOffered("state asks for the transport 'library'")
 
     def needed(self, process: int) -> Optional[int]:
         raise NotOffered("needed asks for the transport 'library'")
@@ -109,14 +134,14 @@ class Followed(Transport):
     ) -> List[Dict[str, Dict[str, Any]]]:
         raise NotOffered("attrition_plan asks for the transport 'library'")
 
-    def _follow(self) -> Losses:
+    def _follow(self) -> States:
         """Reads the entries since the last question."""
-        if self._losses is None:
-            self._losses = Losses(self._config)
+        if self._states is None:
+            self._states = States(self._config)
         for text in self._audit[1 + self._followed :]:
-            self._losses.read(read_entry(text))
+            self._states.read(read_entry(text))
             self._followed += 1
-        return self._losses
+        return self._states
 
     def journal_len(self) -> int:
         return len(self._audit) - 1

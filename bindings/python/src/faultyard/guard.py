@@ -158,7 +158,8 @@ class Guard:
     ) -> Verdict:
         """The verdict that `kill` would get now. It enters nothing.
 
-        Over the pipe it raises `NotOffered`.
+        Over the pipe `faultyard guard --after` is asked, which is started for each call. It raises
+        `JournalFull` where the journal has no room for the kill.
         """
         order = {"key": key, "value": value, "kind": kind, "floor": floor, "tear": 0}
         by, order = acts.number(by), acts.checked("kill", order)
@@ -175,9 +176,9 @@ class Guard:
         floor: Kind = Kind.REBOOT_PROCESS,
         tear: int = 0,
     ) -> Verdict:
-        """What `kill` does with the name of the process with this number, which isn't looked up.
+        """What `kill` does with the name of the process with this number.
 
-        Raises `InvalidAct` where no process has the number. Over the pipe it raises `NotOffered`.
+        Raises `InvalidAct` where no process has the number. Over the pipe as for `is_destroyed`.
         """
         by, order = acts.number(by), acts.numbered_kill(process, kind, floor, tear)
         with self._lock:
@@ -194,7 +195,7 @@ class Guard:
     ) -> Verdict:
         """The verdict that `kill_process` would get now. It enters nothing.
 
-        Raises as `kill_process` does.
+        Raises as `kill_process` does; over the pipe also as `judge`.
         """
         by, order = acts.number(by), acts.numbered_kill(process, kind, floor, 0)
         with self._lock:
@@ -205,7 +206,8 @@ class Guard:
         """Of each process, by its number, the kind by which a kill of it alone would strike now.
 
         The kill is ordered by `Kind.KILL_INSTANTLY`; `None` where nothing would strike. Once one
-        is killed, fewer may be. It enters nothing. Over the pipe it raises `NotOffered`.
+        is killed, fewer may be. It enters nothing. Over the pipe it asks as `judge` does, once for
+        each process.
         """
         by = acts.number(by)
         with self._lock:
@@ -386,14 +388,14 @@ class Guard:
             return self._at_work().left()
 
     def up_set(self) -> FrozenSet[int]:
-        """The processes that are up. Over the pipe it raises `NotOffered`."""
+        """The processes that are up; over the pipe as for `is_destroyed`."""
         with self._lock:
             return self._at_work().up_set()
 
     def state(self, process: int) -> Optional[State]:
         """The state of a process; `None` where there is no process with this number.
 
-        Over the pipe it raises `NotOffered`.
+        Over the pipe as for `is_destroyed`.
         """
         process = acts.number(process)
         with self._lock:

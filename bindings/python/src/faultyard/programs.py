@@ -9,7 +9,7 @@ import shutil
 import subprocess
 from typing import Any, Mapping, Optional, Sequence, Union
 
-from .errors import AuditRefused, NotFound
+from .errors import AuditRefused, JournalFull, NotFound
 from .transport import Borne
 
 StrPath = Union[str, "os.PathLike[str]"]
@@ -66,6 +66,19 @@ def bears(config: StrPath, audit: str, program: Optional[StrPath] = None) -> Bor
     return Borne(emptied["any"], gone["any"], _is_exact(emptied), _is_exact(gone))
 
 
+def answer_after(
+    config: StrPath, audit: StrPath, line: bytes, program: Optional[StrPath] = None
+) -> bytes:
+    """The entry with which `faultyard guard` answers a line behind the file of an audit."""
+    try:
+        told = _told("guard", config, line.decode(), program, ["--after", os.fspath(audit)])
+    except AuditRefused as refused:
+        if refused.fault == "script: JournalFull":
+            raise JournalFull(refused.fault) from None
+        raise
+    return told.encode()
+
+
 def _is_exact(loss: Mapping[str, Any]) -> bool:
     """Whether a policy that bears the least number bears no more."""
     return any(it["any"] == loss["any"] and it["exact"] for it in loss["policies"])
@@ -74,12 +87,12 @@ def _is_exact(loss: Mapping[str, Any]) -> bool:
 def _told(
     command: str,
     config: StrPath,
-    audit: str,
+    text: str,
     program: Optional[StrPath],
     given: Sequence[str] = (),
 ) -> str:
     words = [find_program(program), command, os.fspath(config), *given]
-    ran = subprocess.run(words, input=audit.encode(), capture_output=True, check=False)
+    ran = subprocess.run(words, input=text.encode(), capture_output=True, check=False)
     told = (ran.stdout or ran.stderr).decode(errors="replace").strip()
     if ran.returncode != 0:
         raise AuditRefused(told, ran.returncode)
