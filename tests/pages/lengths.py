@@ -58,9 +58,9 @@ def too_long() -> Iterator[str]:
     for page, most in PAGES.items():
         if (found := words_and_signs((ROOT / page).read_text())) > most:
             yield f"{page} has {found} words by hand, of {most}"
-    for book, (_, most, _) in BOOKS.items():
-        if (found := sum(counts(book).values())) > most:
-            yield f"{book} has {found} words by hand, of {most}: tests/pages/lengths.py has each page"
+    for book, its in BOOKS.items():
+        if (found := sum(counts(book).values())) > its[1]:
+            yield f"{book} has {found} words by hand, of {its[1]}: tests/pages/lengths.py has each page"
 
 
 class Lengths(unittest.TestCase):
@@ -79,13 +79,13 @@ class Lengths(unittest.TestCase):
             self.assertEqual(words_and_signs(f"a\n{begin}\nb c\n{end}\nd |"), 3)
 
     def test_every_page_of_a_book_is_there(self) -> None:
-        for places, _, _ in BOOKS.values():
-            lacking = [it for it in places.split() if not [*ROOT.glob(it)]]
+        for its in BOOKS.values():
+            lacking = [it for it in its[0].split() if not [*ROOT.glob(it)]]
             self.assertEqual(lacking, [])
 
 
 if __name__ == "__main__":
-    for name, (_, limit, _) in BOOKS.items():
+    for name, its_book in BOOKS.items():
         its = counts(name)
         print(*(f"{count:6,} {page}" for page, count in its.items()), sep="\n")
-        print(f"{sum(its.values()):6,} {name}, of {limit:,}")
+        print(f"{sum(its.values()):6,} {name}, of {its_book[1]:,}")
