@@ -183,6 +183,7 @@ bench: build lib
 	bench/check.py --largest --rounds 1 bin/faultyard $(BESIDE)
 	bench/cycles.py bin/faultyard $(BESIDE)
 	bench/swarm.py bin/faultyard $(BESIDE)
+	bench/simulate.py bin/faultyard
 	bench/guard.py bin/faultyard
 	-bench/growth --all --states 1000 bin/faultyard
 	-if [ -n "$(BESIDE)" ]; then bench/growth --all --beside $(BESIDE) bin/faultyard; fi
