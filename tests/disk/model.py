@@ -56,6 +56,8 @@ class Model:
         self.items = []
         self.is_deaf = is_deaf
         self.partly = set()  # files of which a kernel needs to have synced a part only
+        self.lagging = []  # items on names that are durable, and on a kernel's disk perhaps not
+        self.grown = {}  # the last item on names that was there when a file's size changed
 
     # ---- what is there ----
 
@@ -100,8 +102,9 @@ class Model:
 
         FUSE doesn't tell a disk which part an O_SYNC write or an msync is to sync, so ours syncs all of the file, and a kernel that part.
         """
-        moved = {part for it in self.items for part in it[1:2] if isinstance(part, Node)}
-        moved |= {it[6] for it in self.items if it[0] == "exchange"} | self.partly
+        unsure = [*self.items, *self.lagging]
+        moved = {part for it in unsure for part in it[1:2] if isinstance(part, Node)}
+        moved |= {it[6] for it in unsure if it[0] == "exchange"} | self.partly
 
         def walk(node, path):
             if node in moved:
@@ -133,19 +136,23 @@ class Model:
     def write(self, path, place, data, how=""):
         node = self.at(path)
         place = len(node.live) if how == "append" else place
+        if place + len(data) > len(node.live):
+            self.note_growth(node)
         poke(node.live, place, data)
         had_unsynced = node in self.partly or any(it[0] in DATA and it[1] is node for it in self.items)
         if how == "msync":
             place, data = paged(node.live, place, len(data))
         self.items.append(("write", node, place, data))
         if how in SYNCED:
-            self.sync(path)
+            self.sync(path, "" if how == "sync" else "data")
             if had_unsynced:
                 self.partly.add(node)
         return None
 
     def resize(self, path, size, how=""):
         node = self.at(path)
+        if size != len(node.live):
+            self.note_growth(node)
         resize(node.live, size)
         self.items.append(("size", node, size))
         return None
@@ -231,7 +238,19 @@ class Model:
         for it in [*names[: last + 1], *data]:
             self.perform(it)
         self.items = [it for it in self.items if id(it) not in done]
+        self.note_names(node, names[: last + 1], is_data_only=how == "data")
         return None
+
+    def note_growth(self, node):
+        """With a file's new size a kernel makes the names before it durable."""
+        names = [*self.lagging, *(it for it in self.items if it[0] not in DATA)]
+        self.grown[node] = names[-1] if names else None
+
+    def note_names(self, node, names, is_data_only):
+        """Ours has synced names for a node, of which a kernel may leave those that an fdatasync doesn't need."""
+        names, grown = [*self.lagging, *names], self.grown.pop(node, None)
+        needed = [it is grown if is_data_only else any(part is node for part in it) for it in names]
+        self.lagging = names[max((place for place, it in enumerate(needed, 1) if it), default=0) :]
 
     def sync_all(self):
         for it in self.items:
