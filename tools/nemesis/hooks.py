@@ -125,7 +125,8 @@ class Hooks:
         if name not in self.names:
             return ""
         status, text, env = None, "", self._variables(*numbers) | variables
-        call, asked = called(name, numbers), numbers[0] if numbers else name
+        call = called(name, numbers)
+        asked: int | str = numbers[0] if numbers else name
         self.asked[asked] = call
         try:
             with suppress(TimeoutError), self._log.of(call) as log:
