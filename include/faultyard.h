@@ -419,6 +419,10 @@ static inline int fy_guard_is_open(const fy_guard *guard)
 
 /* Puts a guard back to where nothing happened yet, without its cluster file being read again.
  *
+ * Before it frees anything it asks for the memory of a new guard, so after FY_NO_MEMORY nothing
+ * changed. How much that is doesn't depend on the journal. Where it can't be had, close the guard and
+ * open it again: closing frees first.
+ *
  * In this order: FY_CLOSED, FY_NO_MEMORY. */
 static inline fy_status fy_guard_reset(fy_guard *guard)
 {
@@ -549,8 +553,8 @@ static inline fy_status fy_guard_up(fy_guard *guard, uint32_t actor, uint32_t pr
 }
 
 /* Says that a process that was destroyed has every acknowledged record on its disk again, by an
- * actor whose role is storage. `*refusal` is the fy_refusal; after FY_STILL_NEEDS fy_guard_needed
- * answers the record. Statuses as of fy_guard_up. */
+ * actor whose role is storage. `*refusal` is the fy_refusal. After FY_STILL_NEEDS fy_guard_needed
+ * answers the record that the refusal names, until the next act. Statuses as of fy_guard_up. */
 static inline fy_status fy_guard_heal(fy_guard *guard, uint32_t actor, uint32_t process,
                                       uint32_t *refusal)
 {
@@ -934,7 +938,8 @@ static inline fy_status fy_guard_journal_len(const fy_guard *guard, size_t *coun
 
 /* Writes the line of the entry at a place of the journal, from 0, to the front of the buffer, and to
  * `*told` how many bytes it has. What is behind it in the buffer stays as it was. FY_AUDIT_HEADER
- * and these lines are the audit that `faultyard check` reads.
+ * and these lines are the audit that `faultyard check` reads. It asks for memory for this one line,
+ * at once for at most twice its bytes.
  *
  * In this order: FY_CLOSED; FY_NO_ENTRY; FY_NO_MEMORY; FY_SHORT where the buffer has fewer bytes than
  * the line, and `*told` is how many that has. After the first three nothing is written to it. */

@@ -177,9 +177,63 @@ static void ask(void)
     fy_guard_close(&guard);
 }
 
+/* A guard with so many entries: the acts of LINES, and ticks. */
+static fy_guard guard_with(size_t entries)
+{
+    fy_guard guard = open_guard(SIX);
+    fy_reply reply;
+    for (size_t i = 0; i < entries; i++) {
+        if (i < sizeof LINES / sizeof *LINES)
+            EQUAL(call(ACT, &guard, i), FY_DONE);
+        else
+            EQUAL(fy_guard_tick(&guard, 0, 1, &reply), FY_DONE);
+    }
+    return guard;
+}
+
+/* How many bytes a call asks for after so many entries. */
+static size_t asks(int which, size_t entries)
+{
+    fy_guard guard = guard_with(entries);
+    asked = 0;
+    answered = 1000000;
+    EQUAL(call(which, &guard, 0), FY_DONE);
+    answered = -1;
+    size_t bytes = asked;
+    fy_guard_close(&guard);
+    return bytes;
+}
+
+/* What reset and audit ask for is the same however long the journal is, unlike a copy. Audit asks at once for at most twice the
+ * bytes of its line. */
+static void asked_for(void)
+{
+    static const char payload[32000];
+    static char line[70000];
+    fy_guard guard = open_guard(SIX);
+    fy_reply reply;
+    size_t told = 0, longest = 0, at = 0;
+    EQUAL(asks(RESET, 0) > 0, 1);
+    EQUAL(asks(RESET, 900), asks(RESET, 0));
+    EQUAL(asks(COPY, 900) > asks(COPY, 0), 1);
+    EQUAL(asks(AUDIT, 1) > 0, 1);
+    EQUAL(asks(AUDIT, 900), asks(AUDIT, 1));
+    for (size_t length = 0; length <= sizeof payload; length += 50) {
+        EQUAL(fy_guard_begin(&guard, 0, 0, payload, length, &reply), FY_REFUSED);
+        largest = 0;
+        EQUAL(fy_guard_audit(&guard, at++, line, sizeof line, &told), FY_DONE);
+        EQUAL(largest > 0 && largest <= 2 * told, 1);
+        longest = told;
+    }
+    EQUAL(longest > 2 * sizeof payload, 1);
+    printf("memory: reset asks for %zu bytes; audit asks at once for %zu of a line of %zu\n", asks(RESET, 0), largest, longest);
+    fy_guard_close(&guard);
+}
+
 int main(void)
 {
     ask();
+    asked_for();
     refuse_numbered();
     long held = live, refused = 0, unmade = 0;
     size_t lines = sizeof LINES / sizeof *LINES;

@@ -11,6 +11,7 @@ mod Lined
 mod Lines
 mod Lost
 mod Made
+mod Missing
 mod Orders
 mod Processes
 mod Sent

@@ -1,11 +1,14 @@
 -- what an act comes to, and what a program in C is told of it
-use Rattle.std.specs.Prelude.{◌≡◌, ◌↔◌, ◌≤◌, ℕ, length, Result, Ok, Err}
+use Rattle.std.specs.Prelude.{◌≡◌, ◌↔◌, ◌≤◌, ℕ, length, Result, Ok, Err, Some}
 use Rattle.fy_acts.specs.declared.act.Act.{Act}
+use Rattle.fy_acts.specs.declared.act.Act.TheVariants.{Heal}
+use Rattle.fy_acts.specs.declared.reply.Refusal.TheVariants.{StillNeeds}
 use Rattle.fy_acts.specs.declared.reply.Reply.{Reply}
 use Rattle.fy_acts.specs.declared.reply.Reply.TheVariants.{No}
 use Rattle.fy_cluster.specs.declared.fault.Fault.{Fault}
 use Rattle.fy_cluster.specs.declared.fault.Fault.TheVariants as fault
-use Rattle.fy_cluster.specs.Execution.{Execution, replied, entered}
+use Rattle.fy_cluster.specs.Execution.{Execution, history_of, replied, entered}
+use Rattle.fy_cluster.specs.Sights.{needed_of}
 use Rattle.fy_cluster.specs.Survival.{Survives}
 use Rattle.fy_c.specs.Numbers.{refusal_number}
 use Rattle.fy_c.specs.Statuses.{number}
@@ -38,3 +41,10 @@ pub record Enters (old new : Execution) (by : ℕ) (act : Act) (told refusal : �
   pub applies : Applies old new by act answer
   pub status : told ≡ number (status_of answer)
   pub why : refusal ≡ refusal_of answer
+
+-- the heal of a process is refused for a record, and once that is entered the process still needs
+-- this one
+pub record IsMissing (old new : Execution) (by process : ℕ) : Type 0 where
+  pub rec : ℕ
+  pub named : replied old by (Heal (record { 0 = process })) ≡ No (StillNeeds rec)
+  pub needed : needed_of new.setup (history_of new) process ≡ Some rec

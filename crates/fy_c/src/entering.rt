@@ -2,7 +2,7 @@
 ghost use Rattle.std.specs.Prelude.{◌≡◌, ◌≢◌};
 ghost use Rattle.std.specs.Ptr.{null_ptr};
 ghost use Rattle.fy_acts.specs.declared.act.Act.TheVariants.{Up, Heal};
-ghost use Rattle.fy_c.specs.Entering.{Applies, Enters, status_of, refusal_of};
+ghost use Rattle.fy_c.specs.Entering.{Applies, Enters, IsMissing, status_of, refusal_of};
 ghost use Rattle.fy_c.specs.Numbers.{refusal_number};
 
 use crate::handle::FyGuard;
@@ -99,7 +99,8 @@ pub extern "C" fn fy_up(guard: &mut FyGuard, actor: u32, process: u32, refusal: 
 }
 
 /// Applies `Heal`: the process has every acknowledged record on its disk again. Why it is refused
-/// goes to `refusal`, or 0.
+/// goes to `refusal`, or 0. After 25, `StillNeeds`, `fy_needed` answers the record that the refusal
+/// names.
 ///
 /// # Errors
 ///
@@ -111,6 +112,8 @@ pub extern "C" fn fy_heal(guard: &mut FyGuard, actor: u32, process: u32, refusal
     ensures open { guard.new.at ≢ null_ptr }
     ensures entered { Enters guard.old.value guard.new.value actor (Heal (record { 0 = process }))
         result refusal.new }
+    ensures missing { refusal.new ≡ 25 →
+        IsMissing guard.old.value guard.new.value actor process }
 {
     let process = ProcId(process);
     let answer = apply(guard, actor, Act::Heal { process });
