@@ -9,9 +9,14 @@ import java.nio.file.Files;
 import java.nio.file.Path;
 import java.time.Duration;
 import java.util.ArrayList;
+import java.util.Arrays;
+import java.util.BitSet;
 import java.util.Collection;
+import java.util.EnumMap;
 import java.util.EnumSet;
+import java.util.HashMap;
 import java.util.List;
+import java.util.Map;
 import java.util.Objects;
 import java.util.Optional;
 import java.util.OptionalInt;
@@ -21,9 +26,11 @@ import java.util.concurrent.Future;
 import java.util.concurrent.ScheduledThreadPoolExecutor;
 import java.util.concurrent.TimeUnit;
 import java.util.function.Function;
+import java.util.regex.MatchResult;
 import java.util.regex.Matcher;
 import java.util.regex.Pattern;
 import java.util.stream.Collectors;
+import java.util.stream.IntStream;
 
 /**
  * Answers each order to kill with the hardest kill that the policies tolerate: {@code faultyard
@@ -242,6 +249,31 @@ public final class Guard implements AutoCloseable {
         }
     }
 
+    /** The state of a process of the simulated cluster. */
+    public static final class State {
+        /** It runs. */
+        public final boolean up;
+        /** Its messages are held back. */
+        public final boolean clogged;
+        /** It was emptied or killed for good, and not healed since. */
+        public final boolean destroyed;
+        /** It was killed for good. */
+        public final boolean gone;
+
+        private State(boolean up, boolean clogged, boolean destroyed, boolean gone) {
+            this.up = up;
+            this.clogged = clogged;
+            this.destroyed = destroyed;
+            this.gone = gone;
+        }
+
+        @Override
+        public String toString() {
+            return (up ? "up" : "down") + (clogged ? ", clogged" : "")
+                + (gone ? ", gone" : destroyed ? ", destroyed" : "");
+        }
+    }
+
     /** How much of the cluster may still be lost: any so many processes, whichever they are. */
     public static final class Borne {
         /** So many may be emptied. */
@@ -340,7 +372,9 @@ public final class Guard implements AutoCloseable {
     private OutputStream acts;
     private InputStream answers;
     private InputStream errors;
-    private final ByteArrayOutputStream audit = new ByteArrayOutputStream();
+    private final Audit audit = new Audit();
+    private byte[] cluster; // the cluster file as it was opened
+    private States states;
     private int entries;
     private boolean closed;
     private GuardException end;
@@ -401,6 +435,12 @@ public final class Guard implements AutoCloseable {
     }
 
     private void run(String... words) {
+        states = null;
+        try {
+            cluster = Files.readAllBytes(config);
+        } catch (IOException fault) {
+            cluster = new byte[0]; // the program says why
+        }
         List<String> command = new ArrayList<>(List.of(program, "guard", config.toString()));
         command.addAll(List.of(words));
         ProcessBuilder builder = new ProcessBuilder(command);
@@ -434,19 +474,17 @@ public final class Guard implements AutoCloseable {
      * chooses the unsynced writes that a simulated disk keeps.
      */
     public Verdict kill(int by, Key key, String value, Kind kind, Kind floor, long tear) {
-        require(kind != Kind.CLOG, "no kind of kill: " + kind);
-        require(floor.compareTo(kind) <= 0, "the floor " + floor + " is above the kind " + kind);
-        String order =
-            "\"floor\":\"" + floor.word + "\",\"key\":\"" + key.word + "\",\"kind\":\"" + kind.word
-                + "\",\"tear\":" + Long.toUnsignedString(tear) + ",\"value\":\"" + name(value) + "\"";
-        return make(by, "kill", order, reply -> {
-            reply.expect("{\"verdict\":{\"rule\":");
-            Ruling ruling = ruling(reply);
-            reply.expect(",\"struck\":");
-            Kind struck = reply.take("null") ? null : find(Kind.values(), k -> k.word, reply.word());
-            reply.expect("}}");
-            return new Verdict(ruling, struck);
-        });
+        return make(by, "kill", order(key, value, kind, floor, tear), Guard::verdict);
+    }
+
+    /** Orders a kill of the process with this number, with the mildest kind as its floor. */
+    public Verdict killProcess(int by, int process, Kind kind) {
+        return killProcess(by, process, kind, Kind.REBOOT_PROCESS, 0);
+    }
+
+    /** What {@link #kill} does with the name of the process with this number. */
+    public Verdict killProcess(int by, int process, Kind kind, Kind floor, long tear) {
+        return kill(by, Key.PROCESS, nameOf(process), kind, floor, tear);
     }
 
     /** Holds the messages of each process of the target for so many ticks. */
@@ -586,12 +624,73 @@ public final class Guard implements AutoCloseable {
     // Looking ahead, and beginning again.
 
     /**
-     * What {@link #kill} would answer now to the same order, where the journal has room. It enters
-     * nothing. A {@linkplain #tryCopy second guard} is asked, so it takes as long as all acts took.
+     * What {@link #kill} would answer now to the same order. It enters nothing. {@code faultyard guard
+     * --after} is asked, which is started for each call and makes the acts of the journal once more.
+     * Throws {@link JournalFull} where the journal has no room for the kill.
      */
-    public Verdict judge(int by, Key key, String value, Kind kind, Kind floor) {
-        try (Guard ahead = tryCopy()) {
-            return ahead.kill(by, key, value, kind, floor, 0);
+    public synchronized Verdict judge(int by, Key key, String value, Kind kind, Kind floor) {
+        return judged(by, List.of(order(key, value, kind, floor, 0))).get(0);
+    }
+
+    /** What {@link #killProcess} would answer now to the same order, asked as by {@link #judge}. */
+    public synchronized Verdict judgeProcess(int by, int process, Kind kind, Kind floor) {
+        return judge(by, Key.PROCESS, nameOf(process), kind, floor);
+    }
+
+    /**
+     * Of each process, by its number, the kind by which a kill of it alone would strike now, ordered
+     * by {@code KILL_INSTANTLY}; empty where nothing would strike. Once one is killed, fewer may be.
+     * It asks as {@link #judge} does, once for each process.
+     */
+    public synchronized List<Optional<Kind>> killable(int by) {
+        List<String> orders =
+            places().stream()
+                .map(place -> place.get(Key.PROCESS))
+                .map(name -> order(Key.PROCESS, name, Kind.KILL_INSTANTLY, Kind.REBOOT_PROCESS, 0))
+                .collect(Collectors.toList());
+        return judged(by, orders).stream().map(Verdict::struck).collect(Collectors.toList());
+    }
+
+    /** What each kill would be answered now, of a guard of its own behind the journal. */
+    private List<Verdict> judged(int by, List<String> orders) {
+        return ahead((config, journal) -> {
+            List<Verdict> verdicts = new ArrayList<>();
+            for (String order : orders) {
+                String act = act("kill", order);
+                String answer = told(line(by, act), "guard", config, "--after", journal);
+                Text entry = new Text(answer);
+                if (!entry.take(front(act, by))) {
+                    throw exception("a guard can't be asked", answer.trim(), null);
+                }
+                verdicts.add(reply(entry, Guard::verdict));
+            }
+            return verdicts;
+        });
+    }
+
+    /** What a program is asked about the files of the cluster and of the journal. */
+    private interface Ahead<T> {
+        T ask(String config, String journal) throws IOException;
+    }
+
+    /** Asks about the cluster file as it was opened, and about the journal as it stands. */
+    private <T> T ahead(Ahead<T> question) {
+        requireOpen();
+        try {
+            Path folder = Files.createTempDirectory("faultyard");
+            Path file = folder.resolve("cluster.toml");
+            Path journal = folder.resolve("audit");
+            try {
+                Files.write(file, cluster);
+                Files.write(journal, audit.toByteArray());
+                return question.ask(file.toString(), journal.toString());
+            } finally {
+                for (Path made : List.of(file, journal, folder)) {
+                    Files.deleteIfExists(made);
+                }
+            }
+        } catch (IOException fault) {
+            throw new GuardEnded("the program can't be asked", fault.getMessage(), fault);
         }
     }
 
@@ -651,6 +750,93 @@ public final class Guard implements AutoCloseable {
 
     // Questions, and the end.
 
+    /** The number of the process with this name, if there is one. */
+    public synchronized OptionalInt process(String name) {
+        String wanted = name(name);
+        List<Map<Key, String>> all = places();
+        return IntStream.range(0, all.size()).filter(p -> wanted.equals(all.get(p).get(Key.PROCESS))).findFirst();
+    }
+
+    /** How many processes there are; they are numbered from 0. */
+    public synchronized int processCount() {
+        return places().size();
+    }
+
+    /**
+     * Whom a kill is about: the processes whose key has the value and that aren't gone for good. Ask
+     * before the kill, which may be for good.
+     */
+    public synchronized Set<Integer> targets(Key key, String value) {
+        return numbers(followed().targets(key, name(value)));
+    }
+
+    /** Whether a process was emptied or killed for good, and not healed since. */
+    public synchronized boolean isDestroyed(int process) {
+        require(process >= 0, "a number below 0: " + process);
+        return followed().destroyed.get(process);
+    }
+
+    /** The processes that aren't gone for good. */
+    public synchronized Set<Integer> left() {
+        BitSet left = (BitSet) followed().gone.clone();
+        left.flip(0, processCount());
+        return numbers(left);
+    }
+
+    /** The processes that are destroyed, gone for good or not. */
+    public synchronized Set<Integer> destroyed() {
+        return numbers(followed().destroyed);
+    }
+
+    /** The processes that are gone for good. */
+    public synchronized Set<Integer> gone() {
+        return numbers(followed().gone);
+    }
+
+    /** The processes that are up. */
+    public synchronized Set<Integer> upSet() {
+        return numbers(followed().up);
+    }
+
+    /** The state of the process with this number, if there is one. */
+    public synchronized Optional<State> state(int process) {
+        require(process >= 0, "a number below 0: " + process);
+        return followed().state(process);
+    }
+
+    private String nameOf(int process) {
+        List<Map<Key, String>> all = places();
+        require(process >= 0 && process < all.size(), "there is no process " + process);
+        return all.get(process).get(Key.PROCESS);
+    }
+
+    private List<Map<Key, String>> places() {
+        return known().places;
+    }
+
+    /** The states, with the entries since the last question. */
+    private States followed() {
+        States all = known();
+        audit.sinceLast().lines().forEach(all::read);
+        return all;
+    }
+
+    private synchronized States known() {
+        requireOpen();
+        if (states == null) {
+            try {
+                states = new States(Toml.places(new String(cluster, StandardCharsets.UTF_8)));
+            } catch (Misread fault) {
+                throw new GuardEnded("the cluster file can't be read", fault.getMessage(), fault);
+            }
+        }
+        return states;
+    }
+
+    private static Set<Integer> numbers(BitSet processes) {
+        return processes.stream().boxed().collect(Collectors.toCollection(TreeSet::new));
+    }
+
     /** The audit so far, with its header. It is answered after the end too. */
     public synchronized String audit() {
         return audit.toString(StandardCharsets.UTF_8);
@@ -663,35 +849,27 @@ public final class Guard implements AutoCloseable {
 
     /**
      * How much of the cluster may still be lost, as the journal left it: the numbers that {@code
-     * faultyard bears} tells first. That program is started for each call, and reads the cluster file
-     * and the audit so far. It enters nothing.
+     * faultyard bears} tells first. That program is started for each call. It enters nothing.
      */
     public synchronized Borne bears() {
-        requireOpen();
-        try {
-            Path file = Files.createTempFile("faultyard", null);
+        return ahead((config, journal) -> {
+            String told = told("", "bears", config, "--after", journal, "--json");
             try {
-                Files.write(file, audit.toByteArray());
-                return borne(told("bears", config.toString(), "--after", file.toString(), "--json"));
-            } finally {
-                Files.delete(file);
+                return borne(told);
+            } catch (Misread fault) {
+                throw exception("bears can't be asked", fault.getMessage(), fault);
             }
-        } catch (IOException fault) {
-            throw new GuardEnded("bears can't be asked", fault.getMessage(), fault);
-        } catch (Misread fault) {
-            String told = fault.getMessage();
-            throw told.startsWith("config: ") ? new ConfigRefused(told) : new GuardEnded("bears can't be asked", told, fault);
-        }
+        });
     }
 
     /** What the program writes that is started with these words. It is ended where that takes too long. */
-    private String told(String... words) throws IOException {
+    private String told(String given, String... words) throws IOException {
         List<String> command = new ArrayList<>(List.of(program));
         command.addAll(List.of(words));
         Process asked = new ProcessBuilder(command).redirectErrorStream(true).start();
         Future<?> watch = WATCH.schedule(asked::destroyForcibly, timeout.toMillis(), TimeUnit.MILLISECONDS);
         try (InputStream output = asked.getInputStream()) {
-            closeQuietly(asked.getOutputStream());
+            finish(asked.getOutputStream(), given);
             return new String(output.readAllBytes(), StandardCharsets.UTF_8);
         } finally {
             watch.cancel(false);
@@ -748,27 +926,45 @@ public final class Guard implements AutoCloseable {
     }
 
     private synchronized <T> T make(int by, String name, String members, Function<Text, T> read) {
-        String act = "{\"" + name + "\":{" + members + "}}";
-        String line = "{\"by\":" + number(by) + ",\"act\":" + act + "}";
-        require(line.length() <= MOST_LINE, "the line would have over " + MOST_LINE + " bytes");
+        String act = act(name, members);
+        String line = line(by, act);
         requireOpen();
-        Text entry = new Text(exchange(line + "\n"));
+        Text entry = new Text(exchange(line));
         try {
-            entry.expect("{\"act\":" + act + ",\"at\":" + entries + ",\"by\":" + by + ",\"reply\":");
+            entry.expect(front(act, by));
             entries++;
-            if (entry.take("{\"no\":[")) {
-                Refusal refusal = find(Refusal.values(), it -> it.word, entry.word());
-                int named = entry.take(",") ? (int) entry.number() : -1;
-                entry.expect("]}}\n");
-                throw new ActRefused(refusal, named);
-            }
-            T reply = read.apply(entry);
-            entry.expect("}\n");
-            return reply;
+            return reply(entry, read);
         } catch (Misread fault) {
             process.destroyForcibly();
             throw ended("no entry of an audit: " + fault.getMessage(), fault);
         }
+    }
+
+    private static String act(String name, String members) {
+        return "{\"" + name + "\":{" + members + "}}";
+    }
+
+    private static String line(int by, String act) {
+        String line = "{\"by\":" + number(by) + ",\"act\":" + act + "}";
+        require(line.length() <= MOST_LINE, "the line would have over " + MOST_LINE + " bytes");
+        return line + "\n";
+    }
+
+    /** The next entry, up to its reply. */
+    private String front(String act, int by) {
+        return "{\"act\":" + act + ",\"at\":" + entries + ",\"by\":" + by + ",\"reply\":";
+    }
+
+    private static <T> T reply(Text entry, Function<Text, T> read) {
+        if (entry.take("{\"no\":[")) {
+            Refusal refusal = find(Refusal.values(), it -> it.word, entry.word());
+            int named = entry.take(",") ? (int) entry.number() : -1;
+            entry.expect("]}}\n");
+            throw new ActRefused(refusal, named);
+        }
+        T reply = read.apply(entry);
+        entry.expect("}\n");
+        return reply;
     }
 
     /** Sends a line, and waits for one. The guard is ended where none comes in time. */
@@ -806,7 +1002,7 @@ public final class Guard implements AutoCloseable {
         InputStream output = answers;
         InputStream faults = errors;
         try (output; faults) {
-            closeQuietly(input);
+            finish(input, "");
             if (!process.waitFor(PATIENCE.toSeconds(), TimeUnit.SECONDS)) {
                 process.destroyForcibly().waitFor();
             }
@@ -817,19 +1013,24 @@ public final class Guard implements AutoCloseable {
             process.destroyForcibly();
             Thread.currentThread().interrupt();
         }
-        if (fault.startsWith("config: ")) {
-            end = new ConfigRefused(fault);
-        } else if (fault.equals("script: JournalFull")) {
-            end = new JournalFull(fault);
-        } else {
-            end = new GuardEnded(why, fault, cause);
-        }
+        end = exception(why, fault, cause);
         return end;
     }
 
-    /** Closes what a process that has ended may not have read to its end. */
-    private static void closeQuietly(OutputStream input) {
+    private static GuardException exception(String why, String fault, Throwable cause) {
+        if (fault.startsWith("config: ")) {
+            return new ConfigRefused(fault);
+        }
+        if (fault.equals("script: JournalFull")) {
+            return new JournalFull(fault);
+        }
+        return new GuardEnded(why, fault, cause);
+    }
+
+    /** Sends the last text to a process that may have ended before it has read all. */
+    private static void finish(OutputStream input, String last) {
         try (input) {
+            input.write(last.getBytes(StandardCharsets.US_ASCII));
             input.flush();
         } catch (IOException broken) {
             // What wasn't read is no fault by itself: the process says why it ended.
@@ -869,6 +1070,22 @@ public final class Guard implements AutoCloseable {
         // A set of an enum goes through it in order, as an audit has the kinds.
         Set<Kind> rising = kinds.isEmpty() ? Set.of() : EnumSet.copyOf(kinds);
         return rising.stream().map(kind -> "\"" + kind.word + "\"").collect(Collectors.joining(",", "[", "]"));
+    }
+
+    private static String order(Key key, String value, Kind kind, Kind floor, long tear) {
+        require(kind != Kind.CLOG, "no kind of kill: " + kind);
+        require(floor.compareTo(kind) <= 0, "the floor " + floor + " is above the kind " + kind);
+        return "\"floor\":\"" + floor.word + "\",\"key\":\"" + key.word + "\",\"kind\":\"" + kind.word
+            + "\",\"tear\":" + Long.toUnsignedString(tear) + ",\"value\":\"" + name(value) + "\"";
+    }
+
+    private static Verdict verdict(Text reply) {
+        reply.expect("{\"verdict\":{\"rule\":");
+        Ruling ruling = ruling(reply);
+        reply.expect(",\"struck\":");
+        Kind struck = reply.take("null") ? null : find(Kind.values(), k -> k.word, reply.word());
+        reply.expect("}}");
+        return new Verdict(ruling, struck);
     }
 
     private static Ruling ruled(Text reply) {
@@ -913,9 +1130,9 @@ public final class Guard implements AutoCloseable {
     }
 
     /** A text that is read from its front. An entry has one spelling, so this is all it takes. */
-    private static final class Text {
-        private final String text;
-        private int at;
+    private static class Text {
+        final String text;
+        int at;
 
         Text(String text) {
             this.text = text;
@@ -953,6 +1170,252 @@ public final class Guard implements AutoCloseable {
                 throw new Misread("no word at " + from + " of " + text);
             }
             return text.substring(from, at++);
+        }
+    }
+
+    /** The text of the audit, of which the states read what they haven't read yet. */
+    private static final class Audit extends ByteArrayOutputStream {
+        private int read = HEADER.length();
+
+        synchronized String sinceLast() {
+            String more = new String(buf, read, count - read, StandardCharsets.US_ASCII);
+            read = count;
+            return more;
+        }
+
+        @Override
+        public synchronized void reset() {
+            super.reset();
+            read = HEADER.length();
+        }
+    }
+
+    /** Who is up, clogged, destroyed and gone, followed from the entries of the journal. */
+    private static final class States {
+        private static final long LAST_TICK = 1L << 40;
+        private static final Pattern STRUCK =
+            Pattern.compile("\\{\"act\":\\{\"kill\":.*\"key\":\"(\\w+)\".*\"value\":\"([^\"]+)\"}},.*\"struck\":\"(\\w+)\"}}}");
+        private static final Pattern CLOGGED =
+            Pattern.compile(
+                "\\{\"act\":\\{\"(?:un)?clog\":\\{\"key\":\"(\\w+)\",(?:\"ticks\":(\\d+),)?"
+                    + "\"value\":\"([^\"]+)\"}},.*\"ruled\":null}}");
+        private static final Pattern TOLD =
+            Pattern.compile("\\{\"act\":\\{\"(up|heal)\":\\{\"process\":(\\d+)}},.*\"reply\":\"done\"}");
+        private static final Pattern TICKED =
+            Pattern.compile("\\{\"act\":\\{\"tick\":.*\"reply\":\\{\"time\":(\\d+)}}");
+
+        final List<Map<Key, String>> places;
+        final BitSet up = new BitSet();
+        final BitSet destroyed = new BitSet();
+        final BitSet gone = new BitSet();
+        private final long[] cloggedUntil;
+        private long now;
+
+        States(List<Map<Key, String>> places) {
+            this.places = places;
+            cloggedUntil = new long[places.size()];
+            up.set(0, places.size());
+        }
+
+        /** Follows an entry. What the replies say is all that changes. */
+        void read(String entry) {
+            Matcher struck = STRUCK.matcher(entry);
+            Matcher clogged = CLOGGED.matcher(entry);
+            Matcher told = TOLD.matcher(entry);
+            Matcher ticked = TICKED.matcher(entry);
+            if (struck.matches()) {
+                strike(targets(key(struck.group(1)), struck.group(2)), find(Kind.values(), it -> it.word, struck.group(3)));
+            } else if (clogged.matches()) {
+                clog(targets(key(clogged.group(1)), clogged.group(3)), clogged.group(2));
+            } else if (told.matches() && told.group(1).equals("up")) {
+                up.set(Integer.parseInt(told.group(2)));
+            } else if (told.matches()) {
+                destroyed.clear(Integer.parseInt(told.group(2)));
+            } else if (ticked.matches()) {
+                now = Long.parseLong(ticked.group(1));
+            }
+        }
+
+        private static Key key(String word) {
+            return find(Key.values(), it -> it.word, word);
+        }
+
+        private void strike(BitSet struck, Kind kind) {
+            up.andNot(struck);
+            if (kind.emptiesDisk()) {
+                destroyed.or(struck);
+            }
+            if (kind.isFinal()) {
+                gone.or(struck);
+            }
+        }
+
+        /** A clog shortens no other, and lasts no longer than the clock; without ticks clogs end. */
+        private void clog(BitSet clogged, String ticks) {
+            long most = LAST_TICK - now;
+            long asked = ticks == null ? 0 : Long.parseUnsignedLong(ticks);
+            long until = Long.compareUnsigned(asked, most) < 0 ? now + asked : LAST_TICK;
+            clogged.stream().forEach(p -> {
+                long before = cloggedUntil[p];
+                cloggedUntil[p] = ticks == null ? Math.min(before, now) : Math.max(before, until);
+            });
+        }
+
+        BitSet targets(Key key, String value) {
+            BitSet found = new BitSet();
+            IntStream.range(0, places.size()).filter(p -> value.equals(places.get(p).get(key))).forEach(found::set);
+            found.andNot(gone);
+            return found;
+        }
+
+        Optional<State> state(int process) {
+            if (process >= places.size()) {
+                return Optional.empty();
+            }
+            boolean isClogged = now < cloggedUntil[process];
+            return Optional.of(new State(up.get(process), isClogged, destroyed.get(process), gone.get(process)));
+        }
+    }
+
+    /**
+     * Reads a cluster file that a guard has accepted: TOML in which no string has a quote in it, no
+     * key of a value is dotted, and the one header is that of an element of an array.
+     */
+    private static final class Toml extends Text {
+        private static final Pattern BARE = Pattern.compile("[A-Za-z0-9_+-]+");
+        private static final Pattern ESCAPE =
+            Pattern.compile("\\\\(?:u([0-9A-Fa-f]{4})|U([0-9A-Fa-f]{8})|x([0-9A-Fa-f]{2})|[ \\t]*\\r?\\n\\s*)");
+        private static final List<String> QUOTES = List.of("\"\"\"", "'''", "\"", "'");
+
+        private Toml(String text) {
+            super(text);
+        }
+
+        /** Where each process stands. */
+        static List<Map<Key, String>> places(String text) {
+            Toml toml = new Toml(text);
+            Map<String, Object> top = new HashMap<>();
+            List<Object> headed = new ArrayList<>();
+            Map<String, Object> table = top;
+            while (toml.isMore()) {
+                if (toml.take("[[")) {
+                    table = new HashMap<>();
+                    if (toml.header().equals(List.of("process"))) {
+                        headed.add(table);
+                    }
+                } else {
+                    toml.member(table);
+                }
+            }
+            List<?> all = (List<?>) top.getOrDefault("process", headed);
+            if (all.isEmpty()) {
+                throw new Misread("no process in the cluster file");
+            }
+            return all.stream().map(it -> place((Map<?, ?>) it)).collect(Collectors.toList());
+        }
+
+        private static Map<Key, String> place(Map<?, ?> table) {
+            Map<Key, String> place = new EnumMap<>(Key.class);
+            Arrays.stream(Key.values())
+                .filter(key -> table.containsKey(key.word))
+                .forEach(key -> place.put(key, (String) table.get(key.word)));
+            return place;
+        }
+
+        private List<String> header() {
+            List<String> keys = new ArrayList<>();
+            do {
+                keys.add(key());
+                isMore();
+            } while (take("."));
+            expect("]]");
+            return keys;
+        }
+
+        private void member(Map<String, Object> table) {
+            String key = key();
+            isMore();
+            expect("=");
+            table.put(key, value());
+        }
+
+        private Object value() {
+            isMore();
+            if (take("[")) {
+                List<Object> items = new ArrayList<>();
+                while (!closes("]")) {
+                    items.add(value());
+                }
+                return items;
+            }
+            if (take("{")) {
+                Map<String, Object> table = new HashMap<>();
+                while (!closes("}")) {
+                    member(table);
+                }
+                return table;
+            }
+            return key();
+        }
+
+        /** Whether an array or a table ends here, behind a comma or not. */
+        private boolean closes(String bracket) {
+            isMore();
+            if (take(",")) {
+                isMore();
+            }
+            return take(bracket);
+        }
+
+        /** A string, a word or a number: which of them isn't told. */
+        private String key() {
+            isMore();
+            for (String quote : QUOTES) {
+                if (take(quote)) {
+                    return string(quote);
+                }
+            }
+            Matcher bare = BARE.matcher(text).region(at, text.length());
+            if (!bare.lookingAt()) {
+                throw new Misread("no word at " + at + " of the cluster file");
+            }
+            at = bare.end();
+            return bare.group();
+        }
+
+        private String string(String quote) {
+            int end = text.indexOf(quote, at);
+            if (end < 0) {
+                throw new Misread("no end of the string at " + at + " of the cluster file");
+            }
+            String raw = text.substring(at, end);
+            at = end + quote.length();
+            String inside = quote.length() == 1 ? raw : raw.replaceFirst("\\A\r?\n", "");
+            return quote.startsWith("'") ? inside : ESCAPE.matcher(inside).replaceAll(Toml::unescaped);
+        }
+
+        private static String unescaped(MatchResult escape) {
+            return IntStream.rangeClosed(1, escape.groupCount())
+                .mapToObj(escape::group)
+                .filter(Objects::nonNull)
+                .map(digits -> Character.toString(Integer.parseInt(digits, 16)))
+                .collect(Collectors.joining());
+        }
+
+        /** Passes over blanks, lines and comments: whether something stands behind them. */
+        private boolean isMore() {
+            while (at < text.length()) {
+                char next = text.charAt(at);
+                if (next == '#') {
+                    int end = text.indexOf('\n', at);
+                    at = end < 0 ? text.length() : end;
+                } else if (next <= ' ' || next == '\uFEFF') {
+                    at++;
+                } else {
+                    return true;
+                }
+            }
+            return false;
         }
     }
 }

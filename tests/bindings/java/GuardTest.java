@@ -22,6 +22,9 @@ import java.util.stream.Collectors;
  *
  * <pre>
  * GuardTest play PROGRAM CONFIG            makes each act of standard input, and writes the audit
+ * GuardTest states PROGRAM CONFIG          makes them, and writes what each leaves of the processes
+ * GuardTest killable PROGRAM CONFIG        makes them, and writes who may be killed after every 20th
+ * GuardTest places PROGRAM CONFIG..        writes the processes of each key and value that is read
  * GuardTest threads PROGRAM CONFIG         eight threads share a guard; writes the audit
  * GuardTest cases PROGRAM CONFIG FOLDER    each error once; writes how many cases passed
  * </pre>
@@ -44,7 +47,16 @@ final class GuardTest {
         Path config = Path.of(words[2]);
         switch (words[0]) {
             case "play":
-                play(words[1], config);
+                play(words[1], config, (guard, at) -> { });
+                break;
+            case "states":
+                play(words[1], config, GuardTest::writeStates);
+                break;
+            case "killable":
+                play(words[1], config, GuardTest::writeKillable);
+                break;
+            case "places":
+                places(words[1], List.of(words).subList(2, words.length));
                 break;
             case "threads":
                 threads(words[1], config);
@@ -54,8 +66,13 @@ final class GuardTest {
         }
     }
 
+    /** What is written after an act, whose place is told. */
+    private interface After {
+        void write(Guard guard, int at);
+    }
+
     /** Each line has an actor, the name of an act, and its members in the order of their names. */
-    private static void play(String program, Path config) throws IOException {
+    private static void play(String program, Path config, After after) throws IOException {
         BufferedReader lines = new BufferedReader(new InputStreamReader(System.in, StandardCharsets.US_ASCII));
         try (Guard guard = new Guard(config, program)) {
             for (String line = lines.readLine(); line != null; line = lines.readLine()) {
@@ -65,8 +82,42 @@ final class GuardTest {
                 } catch (Guard.ActRefused refused) {
                     // The audit has it.
                 }
+                after.write(guard, guard.journalLength() - 1);
             }
             System.out.print(guard.audit());
+        }
+    }
+
+    private static void writeStates(Guard guard, int at) {
+        List<String> states = new ArrayList<>();
+        for (int process = 0; process < 8; process++) {
+            states.add(guard.state(process).map(Guard.State::toString).orElse("none") + (guard.isDestroyed(process) ? "!" : ""));
+        }
+        Guard.Key key = Guard.Key.values()[at % Guard.Key.values().length];
+        String value = "pmzhd".charAt(key.ordinal()) + "" + at / 5 % 7;
+        System.out.println(states + " " + guard.left() + " " + guard.destroyed() + " " + guard.gone() + " " + guard.upSet()
+            + " " + key.word + " " + value + " " + guard.targets(key, value));
+    }
+
+    private static void writeKillable(Guard guard, int at) {
+        for (int actor = 0; actor < 4 && at % 20 == 0; actor++) {
+            System.out.println(hardest(guard, actor));
+        }
+    }
+
+    /** Each file has a block: how many processes there are, and a line for each value of standard input. */
+    private static void places(String program, List<String> configs) throws IOException {
+        BufferedReader lines = new BufferedReader(new InputStreamReader(System.in, StandardCharsets.US_ASCII));
+        List<String> asked = lines.lines().collect(Collectors.toList());
+        for (String config : configs) {
+            try (Guard guard = new Guard(Path.of(config), program)) {
+                System.out.println(guard.processCount());
+                for (String line : asked) {
+                    String[] words = line.split("\t");
+                    System.out.println(line + "\t" + guard.targets(key(words[0]), words[1]) + "\t"
+                        + guard.process(words[1]).orElse(-1));
+                }
+            }
         }
     }
 
@@ -216,6 +267,8 @@ final class GuardTest {
         arguments();
         replies();
         ahead();
+        processes();
+        killable();
         configs();
         fullJournal();
         ends();
@@ -354,11 +407,93 @@ final class GuardTest {
             Guard.GuardEnded another = thrown(Guard.GuardEnded.class, guard::tryCopy);
             check(another.getMessage().equals("entry 0 is another in the copy"), another.getMessage());
             Files.writeString(own, "=");
-            thrown(Guard.ConfigRefused.class, guard::bears);
+            check(guard.bears().emptied == 0, "it is asked about the file as it was opened");
+            check(guard.targets(Guard.Key.ZONE, "z1").isEmpty() && guard.processCount() == 6, "and knows its places");
             thrown(Guard.ConfigRefused.class, guard::reset);
             thrown(Guard.ConfigRefused.class, () -> guard.tick(0, 1));
         }
         check(children() == 0, "nothing runs");
+    }
+
+    private void processes() {
+        Guard closed = open();
+        try (Guard guard = closed) {
+            check(guard.processCount() == 6 && guard.process("p4").orElseThrow() == 4, "p4 is process 4");
+            check(guard.process("p6").isEmpty() && guard.process("z0").isEmpty(), "there is no process p6 or z0");
+            guard.clog(1, Guard.Key.ZONE, "z0", 3);
+            guard.clog(1, Guard.Key.PROCESS, "p1", 2);
+            guard.killProcess(1, 0, Guard.Kind.KILL_INSTANTLY);
+            guard.killProcess(1, 1, Guard.Kind.REBOOT_AND_DELETE);
+            check(guard.state(0).orElseThrow().toString().equals("down, clogged, gone"), "p0 is gone");
+            Guard.State emptied = guard.state(1).orElseThrow();
+            check(emptied.destroyed && !emptied.gone && !emptied.up && emptied.clogged, "p1 is emptied");
+            check(guard.left().equals(Set.of(1, 2, 3, 4, 5)) && guard.gone().equals(Set.of(0)), "who is left");
+            check(guard.destroyed().equals(Set.of(0, 1)) && guard.isDestroyed(1), "who is destroyed");
+            check(guard.upSet().equals(Set.of(2, 3, 4, 5)), "who is up");
+            check(guard.targets(Guard.Key.ZONE, "z0").equals(Set.of(1)), "who is gone is no target");
+            guard.up(0, 1);
+            guard.heal(0, 1);
+            guard.tick(0, 2);
+            check(guard.state(1).orElseThrow().toString().equals("up, clogged"), "a clog shortens no other");
+            guard.unclog(1, Guard.Key.ZONE, "z0");
+            check(guard.state(1).orElseThrow().toString().equals("up") && !guard.isDestroyed(1), "p1 is healed");
+            check(guard.state(0).orElseThrow().clogged, "who is gone is no target of an unclog");
+            guard.tick(0, (1L << 40) - 12);
+            guard.clog(1, Guard.Key.PROCESS, "p4", -1);
+            check(guard.tick(0, 9) == (1L << 40) - 1 && guard.state(4).orElseThrow().clogged, "clogged to the clock's end");
+            check(guard.tick(0, 1) == 1L << 40 && !guard.state(4).orElseThrow().clogged, "and no longer");
+            check(guard.state(6).isEmpty() && !guard.isDestroyed(6), "there is no process 6");
+            thrown(IllegalArgumentException.class, () -> guard.state(-1));
+            thrown(IllegalArgumentException.class, () -> guard.isDestroyed(-1));
+            thrown(IllegalArgumentException.class, () -> guard.process("no name"));
+            thrown(IllegalArgumentException.class, () -> guard.targets(Guard.Key.ZONE, ""));
+            guard.reset();
+            check(guard.upSet().size() == 6 && guard.destroyed().isEmpty(), "nothing happened yet");
+        }
+        List<Call> asked =
+            List.of(
+                () -> closed.state(0), () -> closed.isDestroyed(0), () -> closed.process("p0"), closed::processCount,
+                () -> closed.targets(Guard.Key.ZONE, "z0"), closed::left, closed::destroyed, closed::gone, closed::upSet,
+                () -> closed.killable(1), () -> closed.judgeProcess(1, 0, Guard.Kind.REBOOT, Guard.Kind.REBOOT), closed::bears);
+        for (Call one : asked) {
+            thrown(Guard.GuardEnded.class, one);
+        }
+    }
+
+    private void killable() throws IOException {
+        String hard = Guard.Kind.KILL_INSTANTLY.word;
+        try (Guard guard = open()) {
+            guard.protect(4, 5, EnumSet.of(Guard.Kind.REBOOT, Guard.Kind.KILL_INSTANTLY));
+            check(hardest(guard, 1).equals((hard + " ").repeat(5) + "RebootAndDelete"), "all but p5 may be killed");
+            check(hardest(guard, 3).equals("- - - - - -"), "actor 3 has no grant");
+            guard.killProcess(1, 0, Guard.Kind.KILL_INSTANTLY);
+            check(hardest(guard, 1).equals("- " + hard + " Reboot Reboot Reboot RebootProcess"), "and now: " + hardest(guard, 1));
+            for (int process = 1; process < 6; process++) {
+                Guard.Verdict judged = guard.judgeProcess(1, process, Guard.Kind.REBOOT_AND_DELETE, Guard.Kind.REBOOT_AND_DELETE);
+                Guard.Verdict told = guard.killProcess(1, process, Guard.Kind.REBOOT_AND_DELETE, Guard.Kind.REBOOT_AND_DELETE, 7);
+                check(judged.toString().equals(told.toString()), "p" + process + ": " + judged);
+            }
+            check(guard.audit().contains("\"tear\":7,\"value\":\"p5\""), "a kill by number is one by name");
+            check(guard.journalLength() == 7 && children() == 1, "nothing is entered, and nothing is left running");
+            Guard.ActRefused stranger = thrown(Guard.ActRefused.class, () -> guard.killable(9));
+            check(stranger.refusal() == Guard.Refusal.STRANGER, "there is no actor 9");
+            for (int process : new int[] {-1, 6}) {
+                thrown(IllegalArgumentException.class, () -> guard.killProcess(1, process, Guard.Kind.REBOOT));
+            }
+            thrown(IllegalArgumentException.class, () -> guard.killable(-1));
+            check(guard.journalLength() == 7, "nothing was sent");
+        }
+        String text = Files.readString(config).replaceFirst("journal_limit = \\d+", "journal_limit = 1");
+        try (Guard guard = new Guard(Files.writeString(folder.resolve("one.toml"), text), program)) {
+            check(guard.killable(2).size() == 6, "there is room");
+            guard.tick(0, 1);
+            thrown(Guard.JournalFull.class, () -> guard.killable(2));
+            check(guard.upSet().size() == 6, "the guard goes on");
+        }
+    }
+
+    private static String hardest(Guard guard, int by) {
+        return guard.killable(by).stream().map(it -> it.map(kind -> kind.word).orElse("-")).collect(Collectors.joining(" "));
     }
 
     private void configs() throws IOException {
