@@ -153,6 +153,15 @@ class Doors(Case):
         reads = {"Authorization": "Bearer read-read-read-read"}
         self.assertEqual(server.ask("GET", "/v1/status", **reads)[0], 200)
 
+    def test_an_address_of_ipv4_takes_nobody_by_ipv6(self):
+        server = self.server(*self.tokens())
+        server.words[-1] = server.words[-1].replace("127.0.0.1", "0.0.0.0")
+        server.start()
+        port = int(server.address.removeprefix("0.0.0.0:"))
+        socket.create_connection(("127.0.0.1", port)).close()
+        with self.assertRaises(OSError):
+            socket.create_connection(("::1", port)).close()
+
     def test_a_file_of_tokens_that_others_may_read_is_refused(self):
         config = common.written(self.folder, "c.toml", "")
         config.write_text(common.SIX.read_text())

@@ -170,7 +170,7 @@ func (its *server) listen() (err error) {
 	if its.words.listen == "" {
 		return nil
 	}
-	if its.network, err = net.Listen("tcp", its.words.listen); err != nil {
+	if its.network, err = net.Listen(networkOf(its.words.listen), its.words.listen); err != nil {
 		return err
 	}
 	its.network = its.web.Limited(its.network)
@@ -179,6 +179,14 @@ func (its *server) listen() (err error) {
 		its.network = tls.NewListener(its.network, certificate)
 	}
 	return nil
+}
+
+// networkOf is the network of an address. One of IPv4, also 0.0.0.0, takes nobody by IPv6.
+func networkOf(address string) string {
+	if host, _, err := net.SplitHostPort(address); err == nil && net.ParseIP(host).To4() != nil {
+		return "tcp4"
+	}
+	return "tcp"
 }
 
 // ready is what is said once everybody may ask.

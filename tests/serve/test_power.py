@@ -1,0 +1,141 @@
+"""The server on a disk whose power is cut: tools/lossy, which keeps what was synced and nothing else."""
+
+from __future__ import annotations
+
+import functools
+import json
+import os
+import random
+import subprocess
+import threading
+import time
+from contextlib import suppress
+from pathlib import Path
+from typing import Iterator
+
+from common_serve import ROOT, Case, Server, checked, kill, run, up, workshop
+
+NEEDED = "cc", "pkg-config", "libfuse3-dev", "fusermount3", "/dev/fuse"
+CUTS = 5
+
+
+@functools.cache
+def lossy() -> Path:
+    """The program of the disk, built of its sources."""
+    flags = run("pkg-config", "--cflags", "--libs", "fuse3").stdout.split()
+    sources = sorted((ROOT / "tools/lossy").glob("*.c"))
+    program = workshop() / "faultyard-lossy"
+    words = [os.environ.get("CC", "cc"), "-std=gnu11", "-D_GNU_SOURCE", "-O2", *sources]
+    made = run(*words, "-o", program, *flags)
+    if made.returncode:
+        raise AssertionError(made.stderr)
+    return program
+
+
+class Disk:
+    """A disk whose power can be cut."""
+
+    def __init__(self, folder: Path, *words: str):
+        self.durable, self.mount, self.words = folder / "durable", folder / "mount", words
+        self.durable.mkdir()
+        self.mount.mkdir()
+
+    def start(self) -> None:
+        words: list[object] = [lossy(), "mount", "--foreground", "--writeback", "0", *self.words]
+        words += [self.durable, self.mount]
+        self.process = subprocess.Popen([str(it) for it in words])
+        while not self.mount.is_mount():
+            if self.process.poll() is not None:
+                raise AssertionError("the disk ended")
+            time.sleep(0.01)
+
+    def cut(self) -> None:
+        """What isn't synced is gone, and the mount with it."""
+        self.process.kill()
+        self.process.wait()
+        run("fusermount3", "-uz", "--", self.mount)
+
+
+class Client(threading.Thread):
+    """Asks for acts with keys, until the server has gone."""
+
+    def __init__(self, server: Server, number: int):
+        super().__init__()
+        self.talk, self.number, self.random = server.talk(), number, random.Random(number)
+        self.answers: list[tuple[bytes, bytes]] = []
+
+    def run(self) -> None:
+        with suppress(OSError):
+            for text in self.acts():
+                answer = self.talk.ask(text)
+                if not answer.endswith(b"\n"):
+                    break
+                self.answers.append((text, answer))
+        self.talk.close()
+
+    def acts(self) -> Iterator[bytes]:
+        """Every other act has a key."""
+        while True:
+            key = f"{self.random.getrandbits(64):x}"
+            process = self.random.randrange(6)
+            yield kill(process, "RebootAndDelete", once=key)
+            yield up(process)
+
+
+class Power(Case):
+    def begun(self, *words: str) -> tuple[Disk, Server]:
+        if subprocess.run([ROOT / "tests/needs", "the server on a disk that forgets", *NEEDED]).returncode:
+            self.skipTest("SKIPPED the server on a disk that forgets")
+        disk = Disk(self.folder, *words)
+        server = self.server("--socket", str(self.folder / "audit.socket"), http=False)
+        server.file = disk.mount / "audit"
+        server.words[3] = str(server.file)
+        return disk, server
+
+    def until_the_cut(self, disk: Disk, server: Server, seed: int) -> list[tuple[bytes, bytes]]:
+        """The answers that clients got before the power was cut."""
+        disk.start()
+        self.addCleanup(run, "fusermount3", "-uz", "--", disk.mount)
+        self.addCleanup(disk.process.kill)
+        server.start()
+        clients = [Client(server, 10 * seed + number) for number in range(4)]
+        for client in clients:
+            client.start()
+        time.sleep(random.Random(seed).uniform(0.5, 1.0))
+        disk.cut()
+        server.stop()
+        for client in clients:
+            client.join(60)
+        answers = [it for client in clients for it in client.answers]
+        self.assertGreater(len(answers), 20)
+        return answers
+
+    def missing(self, disk: Disk, answers: list[tuple[bytes, bytes]]) -> int:
+        """How many answers aren't what the disk has in their place."""
+        durable = disk.durable / "audit"
+        lines = durable.read_bytes().splitlines(keepends=True)[1:] if durable.exists() else []
+        places = [json.loads(answer)["at"] for _, answer in answers]
+        return sum(lines[at : at + 1] != [answer] for at, (_, answer) in zip(places, answers))
+
+    def test_no_answer_is_lost_with_the_power(self) -> None:
+        disk, server = self.begun()
+        answers: list[tuple[bytes, bytes]] = []
+        for seed in range(CUTS):
+            answers += self.until_the_cut(disk, server, seed)
+            self.assertEqual(self.missing(disk, answers), 0)
+        disk.start()
+        server.start()
+        talk = server.talk()
+        for text, answer in answers:
+            if b'"once"' in text:  # The key of an act outlives the power too.
+                self.assertEqual(talk.ask(text), answer)
+        self.assertEqual(server.end(), 0)
+        count = len(server.lines())
+        self.assertEqual(checked(server.config, server.file), (0, f"legal {count}"))
+        disk.cut()
+
+    def test_a_disk_that_lies_loses_answers(self) -> None:
+        """So the test above can fail."""
+        disk, server = self.begun("--deaf")
+        answers = self.until_the_cut(disk, server, 0)
+        self.assertGreater(self.missing(disk, answers), 0)
