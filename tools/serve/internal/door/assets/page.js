@@ -113,13 +113,46 @@ async function showLosses() {
   at("losses").replaceChildren(...bears.losses.flatMap(lossInWords));
 }
 
+/** A part of the picture: what of it lies in a rectangle, or only these elements. */
+function part(picture, [x, y, width, height], elements) {
+  const it = elements ? picture.cloneNode(false) : picture;
+  it.setAttribute("viewBox", `${x} ${y} ${width} ${height}`);
+  it.setAttribute("width", width);
+  it.setAttribute("height", height);
+  if (elements) it.append(...[...elements].map((one) => one.cloneNode(true)));
+  return it;
+}
+
+const number = (element, name) => Number(element.getAttribute(name));
+
+const PARTS = `
+  svg { display: block; flex: none; }
+  .legend, .names { position: sticky; left: 0; background: var(--paper); }
+  .legend { overflow-x: auto; }
+  .times { display: flex; width: max-content; }
+  @media (max-width: 50rem) { .names { left: -165px; } } /* Of a narrow page the names of processes alone stay. */`;
+
+/** The picture in parts: its legend and the names of its rows stay where they are while its times scroll. */
+function partsOf(picture) {
+  const rows = [...picture.querySelectorAll(".row rect")];
+  const left = Math.min(...rows.map((it) => number(it, "x")));
+  const right = Math.max(...rows.map((it) => number(it, "x") + number(it, "width"))) + 48;
+  const top = number(picture.querySelector(".axis + text"), "y") - 12;
+  const words = picture.querySelector(".order-in-words"); // The last orders stand above.
+  const height = (words ? number(words, "y") - 25 : number(picture, "height")) - top;
+  const names = [...picture.querySelectorAll("text")].filter((it) => !it.closest(".legend") && number(it, "x") < left);
+  const legend = make("div", "legend", part(picture, [0, 0, 980, 44], picture.querySelectorAll(".legend")));
+  const still = make("div", "names", part(picture, [0, top, left, height], names));
+  return [legend, make("div", "times", still, part(picture, [left, top, right - left, height]))];
+}
+
 async function showPicture() {
   const text = await (await ask("picture.svg")).text();
   const picture = new DOMParser().parseFromString(text, "image/svg+xml").documentElement;
   // The styles of the picture stay in it.
   const root = at("picture").shadowRoot || at("picture").attachShadow({ mode: "open" });
   const atEnd = at("picture").scrollLeft + at("picture").clientWidth >= at("picture").scrollWidth - 4;
-  root.replaceChildren(document.importNode(picture, true));
+  root.replaceChildren(make("style", "", PARTS), ...partsOf(document.importNode(picture, true)));
   if (atEnd) at("picture").scrollLeft = at("picture").scrollWidth;
 }
 
