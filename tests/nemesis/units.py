@@ -13,6 +13,7 @@ from nemesis import HOOK, Fault, checks, store, summary
 from nemesis.crashes import Crashes
 from nemesis.evidence import Case, Course
 from nemesis.history import Operation
+from nemesis.hook_log import HookLog
 from nemesis.main import rising
 from nemesis.store import Store
 from nemesis.traces import traces
@@ -147,15 +148,31 @@ class Summaries(unittest.TestCase):
         self.assertEqual(self.status(lost=1, unreadable=1, is_unread=True), 1)
 
     def test_a_run_says_why_it_tested_little(self):
-        self.assertEqual(summary.tested_little(100, [0.5, 0.5, 1.0], 1, 1), [])
-        told = summary.tested_little(99, [0.9, 1.0], 0, 0)
-        self.assertEqual([it.removeprefix("tested little: ").split()[0] for it in told], ["99", "for", "nothing"])
-        self.assertIn("for 1.0 of 1.9 seconds", told[1])
-        self.assertEqual(
-            summary.tested_little(100, [0.5], 1, 0),
-            ["tested little: nothing that was destroyed was healed"],
-        )
-        self.assertEqual(summary.tested_little(100, [0.5], 0, 0, partitions=1), [])
+        def told(*amount, is_control=False, **more):
+            return summary.tested_little(summary.Amount(*amount, **more), is_control)
+
+        self.assertEqual(told(100, [0.5, 0.5, 1.0], 1, 1), [])
+        for acked in (7, 99):
+            found = told(acked, [0.9, 1.0], 0, 0)
+            self.assertEqual([it.removeprefix("tested little: ").split()[0] for it in found], [str(acked), "for", "nothing"])
+        idle = "for 3.0 of 3.9 seconds no write was acknowledged, in 2 gaps of a second or more"
+        self.assertEqual(told(100, [0.9, 1.0, 2.0], 1, 1), [f"tested little: {idle}"])
+        self.assertTrue(told(100, [1.0], 1, 1)[0].endswith(" in 1 gap of a second or more"))
+        self.assertEqual(told(100, [0.5], 1, 0), ["tested little: nothing that was destroyed was healed"])
+        self.assertEqual(told(100, [0.5], 1, 0, is_control=True), [])
+        self.assertEqual(told(100, [0.5], 0, 0, is_control=True), ["tested little: nothing was destroyed"])
+        self.assertEqual(told(100, [0.5], 0, 0, partitions=1), [])
+
+    def test_where_few_were_acknowledged_it_says_what_write_said(self):
+        def told(acked, pauses, said=("no quorum", 5)):
+            amount = summary.Amount(acked, pauses, 1, 1, failed={"no": 6, "ended": 1}, said=said)
+            return [it for it in summary.tested_little(amount) if "weren't" in it]
+
+        text = "tested little: 7 writes weren't acknowledged (6 no, 1 ended)"
+        self.assertEqual(told(99, [0.5]), [f"{text}; `write` said most often, 5 times: no quorum"])
+        self.assertEqual(told(100, [1.0], ("", 0)), [text])
+        self.assertEqual(told(100, [0.5]), [])
+        self.assertEqual(summary.tested_little(summary.Amount(100, [1.0], 1, 1))[1:], [])
 
 
 class Whole(unittest.TestCase):
@@ -167,9 +184,30 @@ class Whole(unittest.TestCase):
             ((7.0, "x"), (6.0, 7.5), 0.5),
             ((5.0, "none"), (6.0, 7.5), 0.0),
             (None, (6.0, 7.5), 0.0),
+            ((5.0, "x"), None, 0.0),  # another one was down meanwhile
         ):
             with self.subTest(told=told, not_whole=not_whole):
                 self.assertEqual(checks.for_how_long(told, not_whole), seconds)
+
+
+    def noes(self, *down, destroyed=(), clogged=()):
+        """When process 2 was asked first and last, at 6, 7 and 8, where these were down at 7."""
+        it = Store.__new__(Store)
+        it.names, it.not_whole, it.ledger = ["p0", "p1", "p2"], {}, unittest.mock.Mock(destroyed={2: ""})
+        it.up, it.clogged = {0, 1, 2}, set()
+        it._note_no(2, 6.0)
+        it.up, it.clogged, it.ledger.destroyed = it.up - {*down}, {*clogged}, dict.fromkeys([2, *destroyed])
+        it._note_no(2, 7.0)
+        it.up, it.clogged, it.ledger.destroyed = {0, 1, 2}, set(), {2: ""}
+        it._note_no(2, 8.0)
+        return it.not_whole[2]
+
+    def test_a_whole_that_says_no_while_another_is_down_accuses_no_check(self):
+        self.assertEqual(self.noes(), (6.0, 8.0))
+        self.assertEqual(self.noes(clogged=[2]), (6.0, 8.0))
+        for more in ({"destroyed": [1]}, {"clogged": [0]}):
+            self.assertIsNone(self.noes(**more))
+        self.assertIsNone(self.noes(0))
 
 
 class Cases(unittest.TestCase):
@@ -362,23 +400,25 @@ class First(unittest.IsolatedAsyncioTestCase):
 class Words(unittest.TestCase):
     """What --check-hooks says that a run should have."""
 
+    TAKE = "for a guarded run, not for --unguarded, take"
+
     def fitting(self, *measured, pauses=(0, 0.2, 0.5, 1, 2, 4), seconds=60.0):
         return [*checks.fitting(*measured, pauses, seconds)]
 
     def test_pauses_that_are_long_enough_are_kept(self):
-        self.assertEqual(self.fitting(0.4, 1.3), ["for a run take --pauses 0,0.2,0.5,1,2,4 --seconds 60"])
-        self.assertEqual(self.fitting(6.0, 8.0, pauses=[8], seconds=90), ["for a run take --pauses 8 --seconds 90"])
+        self.assertEqual(self.fitting(0.4, 1.3), [f"{self.TAKE} --pauses 0,0.2,0.5,1,2,4 --seconds 60"])
+        self.assertEqual(self.fitting(6.0, 8.0, pauses=[8], seconds=90), [f"{self.TAKE} --pauses 8 --seconds 90"])
 
     def test_a_pause_is_as_long_as_a_heal_and_a_run_as_ten(self):
         short = "--pauses are 1.3 s on average, shorter than a heal: orders would be lessened"
-        self.assertEqual(self.fitting(0.4, 4.0), [short, "for a run take --pauses 1,4,8 --seconds 60"])
+        self.assertEqual(self.fitting(0.4, 4.0), [short, f"{self.TAKE} --pauses 1,4,8 --seconds 60"])
         slow = self.fitting(15.2, 24.0)
         self.assertEqual(slow[0], short)
-        self.assertEqual(slow[1:], ["--seconds 60 leaves no time for 3 heals", "for a run take --pauses 16,24,48 --seconds 300"])
+        self.assertEqual(slow[1:], ["--seconds 60 leaves no time for 3 heals", f"{self.TAKE} --pauses 16,24,48 --seconds 300"])
 
     def test_where_nothing_is_healed_a_pause_is_as_long_as_a_start(self):
         short = "--pauses are 1.3 s on average, shorter than a start: orders would be lessened"
-        self.assertEqual(self.fitting(2.1, 0.0), [short, "for a run take --pauses 3,3,5 --seconds 60"])
+        self.assertEqual(self.fitting(2.1, 0.0), [short, f"{self.TAKE} --pauses 3,3,5 --seconds 60"])
 
 
 class Pauses(unittest.TestCase):
@@ -386,6 +426,90 @@ class Pauses(unittest.TestCase):
         crashes = Crashes()
         pauses = [(crashes.add(was_up, 1, []), crashes.pause())[1] for was_up in [False] * 8 + [True, False]]
         self.assertEqual(pauses, [0.1, 0.2, 0.4, 0.8, 1.6, 3.2, 5, 5, 0.1, 0.1])
+
+
+class Ends(unittest.TestCase):
+    """What is told of a process that ended by itself."""
+
+    def last(self, status, *log):
+        crashes = Crashes()
+        crashes.add(True, status, [*log])
+        return crashes.last
+
+    def test_a_signal_is_named(self):
+        self.assertEqual(self.last(134, "x"), "with status 134 (128 + SIGABRT): x")
+        self.assertEqual(self.last(139, "x"), "with status 139 (128 + SIGSEGV): x")
+        self.assertEqual(self.last(-9, "x"), "with status -9 (SIGKILL): x")
+        for status in (0, 3, 128, 255, -99):
+            self.assertEqual(self.last(status, "x"), f"with status {status}: x")
+        self.assertEqual(self.last(1), "with status 1: its log says nothing")
+
+    def test_before_a_backtrace_is_why(self):
+        frames = ["#0  0x59aad9 in print_backtrace+9", "#1  0x446a37 in _ZL12sig_fatal_cb", "#10 0x69262f in coro_init+3f"]
+        begun = ["ready", "Segmentation fault", "  code: SEGV_MAPERR", "  siginfo: 0x7f06", "the server has already crashed"]
+        java = ["Exception in thread main: no space", "\tat store.Main.run(Main.java:7)", "\tat store.Main.main(Main.java:3)"]
+        go = ["panic: no space", "goroutine 1 [running]:", "main.main()", "\t/src/main.go:5 +0x1d"]
+        for log, line in (
+            ([*begun, *frames], "Segmentation fault"),
+            (java, java[0]),
+            (go, go[0]),
+            (["SIGBUS at 0x1", "registers", *frames], "SIGBUS at 0x1"),
+            (["registers", *frames], "its log ends with a backtrace"),
+            ([*begun, *frames, "restart me"], "restart me"),
+        ):
+            with self.subTest(log=log):
+                self.assertEqual(self.last(3, *log), f"with status 3: {line}")
+
+
+class Logs(unittest.TestCase):
+    def test_what_write_said_most_often_is_known_whatever_its_figures(self):
+        with tempfile.TemporaryDirectory() as folder:
+            log = HookLog(Path(folder, "hooks.log"), lambda: 0.0)
+            self.assertEqual(log.said_by_write(), ("", 0))
+            for call, line in (
+                ("write", "Traceback"),
+                ("write", "key 7 has no quorum"),
+                ("check", "refused"),
+                ("check", "refused"),
+                ("check", "refused"),
+                ("write", "Traceback"),
+                ("write", "  key 12 has no quorum"),
+                ("write", "closed"),
+                ("write", ""),
+            ):
+                log._write(call, line.encode())
+            self.assertEqual(log.said_by_write(), ("key 7 has no quorum", 2))
+            log._file.close()
+
+
+class Elections(unittest.IsolatedAsyncioTestCase):
+    """`join` and `leave` of what was destroyed wait for `elect`."""
+
+    async def called(self, gone):
+        it, called = Store.__new__(Store), []
+        it.ledger, it._elected, it.emptied, it.gone = unittest.mock.Mock(losses=[0]), 0, {1}, gone
+        it._joining, it._alone_until, it.up, it.names = 0, 0.0, {0}, ["p0", "p1"]
+        it.hooks, it.note = unittest.mock.Mock(names={"join", "leave"}), unittest.mock.Mock()
+
+        async def says(hook, number):
+            called.append(hook)
+            return True
+
+        async def empty(number):
+            pass
+
+        it.hooks.says, it._empty, it._note_join = says, empty, unittest.mock.Mock()
+        with patch.multiple(store, AGAIN=0.001):
+            task = asyncio.create_task(it._join(1))
+            await asyncio.sleep(0.05)
+            before = [*called]
+            it._elected = 1
+            await task
+        return before, called
+
+    async def test_both_are_called_once_elect_has_said_who_is_primary(self):
+        self.assertEqual(await self.called(set()), ([], ["join"]))
+        self.assertEqual(await self.called({1}), ([], ["leave"]))
 
 
 class Strikes(unittest.IsolatedAsyncioTestCase):

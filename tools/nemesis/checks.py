@@ -234,7 +234,8 @@ def fitting(start: float, heal: float, pauses: Sequence[float], seconds: float) 
         yield f"--seconds {seconds:g} leaves no time for {HEALS} heals"
     long = max(MINUTE, ORDERS * sum(pauses) / len(pauses))
     seconds = max(seconds, 10 * math.ceil(long / 10))
-    yield f"for a run take --pauses {','.join(f'{it:g}' for it in pauses)} --seconds {seconds:g}"
+    take = f"--pauses {','.join(f'{it:g}' for it in pauses)} --seconds {seconds:g}"
+    yield f"for a guarded run, not for --unguarded, take {take}"
 
 
 def for_how_long(told: Told | None, not_whole: tuple[float, float] | None) -> float:

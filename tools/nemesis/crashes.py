@@ -1,7 +1,15 @@
 """Processes of the store that end by themselves: nobody struck them, so that is a finding."""
+import re
+import signal
+from collections.abc import Sequence
 from pathlib import Path
 
-LOG_END = 2000  # bytes of a log that are kept with an end
+LOG_END = 4000  # bytes of a log that are kept with an end
+# A line of a backtrace, as of C, Java and Go; and what a line may have that says why there is one.
+FRAME = re.compile(r"\s*(#\d+\s|at \S+\(|\S+\.go:\d+)")
+CRASH = re.compile(
+    r"(?i:segmentation fault|bus error|assert|panic|fatal|abort|exception)|\bSIG[A-Z]{3}"
+)
 SHORTEST, LONGEST = 0.1, 5.0  # seconds until a process that ended by itself is started again
 
 
@@ -18,7 +26,7 @@ class Crashes:
         self.up += was_up
         self.before += not was_up
         self._in_a_row = 0 if was_up else self._in_a_row + 1
-        self.last = f"with status {status}: {log[-1] if log else 'its log says nothing'}"
+        self.last = f"with status {in_words(status)}: {telling(log)}"
         return self.up + self.before
 
     def pause(self) -> float:
@@ -28,6 +36,24 @@ class Crashes:
     def __str__(self) -> str:
         counts = f"{self.up} times while it was up, {self.before} times before"
         return f"ended by itself {counts}; last {self.last}"
+
+
+def in_words(status: int) -> str:
+    """A status, with the signal that it may stand for: a keeper and a shell add 128 to it."""
+    try:
+        if status < 0:
+            return f"{status} ({signal.Signals(-status).name})"
+        return f"{status} (128 + {signal.Signals(status - 128).name})"
+    except ValueError:
+        return str(status)
+
+
+def telling(log: Sequence[str]) -> str:
+    """The last line of a log; before a backtrace at its end the last that speaks of a crash."""
+    if not log or not FRAME.match(log[-1]):
+        return log[-1] if log else "its log says nothing"
+    found = (line for line in reversed(log) if CRASH.search(line) and not FRAME.match(line))
+    return next(found, "its log ends with a backtrace").strip()
 
 
 def end_of_log(path: Path, begin: int) -> list[str]:

@@ -1,6 +1,8 @@
 """What hooks write to standard error: a file of lines, each with its time and the hook."""
 import asyncio
 import os
+import re
+from collections import Counter
 from collections.abc import Callable, Iterator
 from contextlib import contextmanager, suppress
 from pathlib import Path
@@ -13,6 +15,8 @@ class HookLog:
         self._file = path.open("ab", buffering=0)
         self._now = now
         self._last: dict[str, str] = {}  # line of each call, until it is asked for
+        # How often each line of `write` came, whatever its figures, and the first of each.
+        self._counts, self._first = Counter[str](), dict[str, str]()
 
     @contextmanager
     def of(self, call: str) -> Iterator[int]:
@@ -37,9 +41,18 @@ class HookLog:
         """The last line that a call wrote, which has ended."""
         return self._last.pop(call, "")
 
+    def said_by_write(self) -> tuple[str, int]:
+        """The line that `write` wrote most often, and how often; the last that came, of several."""
+        like = max(reversed(self._counts), key=self._counts.__getitem__, default="")
+        return self._first.get(like, ""), self._counts[like]
+
     def _write(self, call: str, line: bytes) -> None:
         if text := line.decode(errors="replace").strip():
             self._last[call] = text
+            if call == "write":
+                like = re.sub(r"\d+", "0", text)
+                self._first.setdefault(like, text)
+                self._counts[like] += 1
         self._file.write(f"{self._now():7.2f}  {call}: ".encode() + line + b"\n")
 
 

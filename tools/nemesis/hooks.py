@@ -69,6 +69,11 @@ class Hooks:
             "PYTHONPATH": ":".join(filter(None, [SOURCES, os.environ.get("PYTHONPATH")])),
         }
 
+    def said_by_write(self) -> tuple[str, int]:
+        """What `write` wrote most often to standard error, and how often."""
+        said, count = self._log.said_by_write()
+        return said[:SAID], count
+
     async def learn(self) -> None:
         """Asks which hooks there are."""
         try:

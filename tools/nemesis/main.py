@@ -147,10 +147,13 @@ async def chaos(words: argparse.Namespace) -> int:
         run = Run(words, guard)
         try:
             await run.whole()
-        except (asyncio.CancelledError, Fault):
+        except (asyncio.CancelledError, Fault) as fault:
             run.unread()
             if run.ledger.has_begun() and not words.check_hooks:
                 report(run, is_read=False)
+            elif isinstance(fault, Fault):
+                why = "; ".join([fault.args[1], *run.ended_by_themselves()])
+                raise Fault(fault.args[0], why) from None
             raise
         finally:
             run.history.flush()
@@ -245,12 +248,10 @@ def report(run: Run, is_read: bool = True) -> int:
     title = f"seed {words.seed}"
     title += f", {run.partitions} partitions" if run.partitions else ""
     lines = run.summary(title) + run.notes + run.power() + after_cuts(run)
-    lines += [f"{run.names[number]} {crashes}" for number, crashes in sorted(run.crashes.items())]
+    lines += run.ended_by_themselves()
     acked = len(run.ledger.records)
     if is_read and not words.check_hooks:
-        healed, destroyed = len(run.ledger.healed), len(run.ledger.losses)
-        pauses = run.ledger.pauses()
-        lines += tested_little(acked, pauses, destroyed, healed, run.partitions)
+        lines += tested_little(run.amount(), is_control=words.unguarded and counts["lost"] > 0)
         if words.unguarded and not counts["lost"] + counts["unreadable"]:
             lines.append(MILD)
     lines += told_cases(run.cases, SHOWN)

@@ -20,6 +20,7 @@ from .evidence import Case, Course, wrong_line
 from .history import History, Operation
 from .disks import tears_of
 from .store import AGAIN, Store, cancelled
+from .summary import Amount
 from .traces import traces
 from .verdicts import Disk, Judged, Left, Verdict, judged, wrong
 
@@ -226,6 +227,20 @@ class Run(Store):
         """How many records there are of each verdict; wrong are all keys that were read so."""
         counts = Counter(it.verdict for it in self.judged)
         return {it.value: counts[it] for it in Verdict} | {"wrong": len(self.wrong)}
+
+    def amount(self) -> Amount:
+        """How much was done."""
+        ledger, failed = self.ledger, ("no", "hung", "ended")
+        errors = Counter(it.error for it in self.history.writes.values())
+        return Amount(
+            acked=len(ledger.records),
+            pauses=ledger.pauses(),
+            destroyed=len(ledger.losses),
+            healed=len(ledger.healed),
+            partitions=self.partitions,
+            failed={it: errors[it] for it in failed if errors[it]},
+            said=self.hooks.said_by_write(),
+        )
 
     def _cases(self, course: Course) -> list[dict[str, Any]]:
         """The evidence of all records that aren't kept, and of all that was never written."""

@@ -19,7 +19,7 @@ from faultyard.plans import Order
 from keeper import signal_below
 
 from . import HOOK, Fault, say
-from .crashes import Crashes, end_of_log
+from .crashes import Crashes, end_of_log, in_words
 from .disks import Cut, disks_of
 from .hooks import End, Hooks
 from .net import Net
@@ -29,6 +29,7 @@ AGAIN = 0.1  # seconds until a hook that said no is asked again
 ALONE = 20.0  # seconds for which a process that joined has to be ready before another may join
 CRASHES_SHOWN = 3  # of each process; the summary counts all
 PATIENT = 20.0  # seconds until it is said what is waited for
+FILLED = "right if the store fills it at its start"
 LIVES = 0.5  # seconds after which a process counts as ready where no hook tells
 
 
@@ -52,8 +53,10 @@ class Store(Harness):
         self.emptied: set[int] = set()  # until they have joined, or left
         self._ended: dict[int, str] = {}  # how each last ended by itself, until it is up
         self.partitions = 0  # how many there were
-        # When the first and the last `whole` of each was called that said no since it was struck.
-        self.not_whole: dict[int, tuple[float, float]] = {}
+        # When the first and the last `whole` of each was called that said no since it was struck;
+        # None once another one was down then, which may be why.
+        self.not_whole: dict[int, tuple[float, float] | None] = {}
+        self.clogged: set[int] = set()
         self.joined: dict[int, str] = {}  # what the last join of each has done, until it is struck
         self.idle: set[int] = set()  # those whose last join left the folder empty
         self._elected = 0  # how many of the losses an election has seen
@@ -202,6 +205,7 @@ class Store(Harness):
     async def clog(self, processes: Sequence[int], is_clogged: bool) -> None:
         """Stops or continues all that they run, or has a hook cut them off."""
         hook, sent = ("pause", signal.SIGSTOP) if is_clogged else ("resume", signal.SIGCONT)
+        (self.clogged.update if is_clogged else self.clogged.difference_update)(processes)
         for number in processes:
             process = self._started.get(number)
             if self.net:
@@ -257,7 +261,7 @@ class Store(Harness):
         """Notes that a process ended which nobody struck, with the end of what it wrote."""
         name, is_up = self.names[number], number in self.up
         log = end_of_log(self.words.out / f"{name}.log", begin)
-        self._ended[number] = f"; its last process ended with status {status}"
+        self._ended[number] = f"; its last process ended with status {in_words(status)}"
         self.hooks.ends.setdefault(number, End(f"start {number}", status))
         self.note("ended", process=number, status=status, was_up=is_up, log=log)
         crashes = self.crashes.setdefault(number, Crashes())
@@ -289,7 +293,7 @@ class Store(Harness):
         if "join" in self.hooks.names:
             if not any((self.words.out / str(number)).iterdir()):
                 self.idle.add(number)
-            left = " and left its folder empty" if number in self.idle else ""
+            left = f" and left its folder empty ({FILLED})" if number in self.idle else ""
             self.joined[number] = f"join {number} had said yes{left}"
 
     async def _ask_after(self, number: int, process: Process) -> None:
@@ -307,7 +311,18 @@ class Store(Harness):
             if whole and process.returncode is None and self._is_elected():
                 self.tell_healed(number)
             elif not whole and self.hooks.ends[number].status is not None:  # it didn't hang
-                self.not_whole[number] = (self.not_whole.get(number, (now,))[0], now)
+                self._note_no(number, now)
+
+    def _note_no(self, number: int, t: float) -> None:
+        """Keeps that a `whole` said no which was called then."""
+        others = set(range(len(self.names))) - {number}
+        is_calm = others <= self.up - self.ledger.destroyed.keys() - self.clogged
+        known = self.not_whole.get(number, (t, t))
+        self.not_whole[number] = (known[0], t) if known and is_calm else None
+
+    def ended_by_themselves(self) -> list[str]:
+        """Who ended by itself, and how often."""
+        return [f"{self.names[number]} {it}" for number, it in sorted(self.crashes.items())]
 
     def _is_elected(self) -> bool:
         """Whether no election is due."""
