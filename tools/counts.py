@@ -148,7 +148,7 @@ def reply_counts(reply: Reply) -> list[str]:
 def counted(processes: list[dict[str, str]], path: str) -> Counter[str]:
     """What an audit holds, up to the first line that is no entry."""
     disks, counts = Disks(processes), Counter[str]()
-    with open(path, "rb") as audit:
+    with open(path, encoding="ascii", errors="replace") as audit:
         next(audit, None)
         for line in audit:
             try:
@@ -159,7 +159,8 @@ def counted(processes: list[dict[str, str]], path: str) -> Counter[str]:
             except (ValueError, KeyError, TypeError, IndexError, AttributeError):
                 break
             counts["entries"] += 1
-            counts.update(reply_counts(reply))
+            for row in reply_counts(reply):
+                counts[row] += 1
     counts["records begun"] = disks.records
     counts["records acknowledged"] = len(disks.acknowledged)
     counts["outlived the loss of a holder"] = len(disks.lost_one)
