@@ -86,6 +86,15 @@ class Answers(Case):
         self.assertEqual(server.lines()[0], first)
         self.assertEqual(server.check(), "legal 2")
 
+    def test_a_line_is_as_long_as_a_guards_may_be(self):
+        server = self.server().start()
+        talk = server.talk()
+        for count, wanted in ((65_536, '"reply":{"no":["IsUp"]}'), (65_537, "line 2: TooLong")):
+            text = b" " * (count + 1 - len(up(0))) + up(0)
+            by_pipe = run(PROGRAM, "guard", server.config, input=text.decode())
+            self.assertIn(wanted.rpartition(": ")[2], by_pipe.stdout + by_pipe.stderr)
+            self.assertIn(wanted, talk.ask(text).decode())
+
     def test_a_faulty_line_ends_nobody(self):
         server = self.server(config=cluster(limit=2)).start()
         talk = server.talk()
