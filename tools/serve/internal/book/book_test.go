@@ -336,3 +336,10 @@ func TestAnActIsKnownAgainWhateverTheOrderOfItsKinds(test *testing.T) {
 	other := strings.Replace(made, `"Reboot",`, "", 1)
 	same(test, "another", asked{line: line}.made([]byte(other)), false)
 }
+
+func TestTimesHaveThreeDigits(test *testing.T) {
+	for _, seconds := range []float64{0, 0.0004, 0.0006, 0.25, 0.9996, 59.5, 86_400.01, lastTime} {
+		wanted := fmt.Sprintf("x%.3f", seconds)
+		same(test, wanted, string(appendTime([]byte("x"), seconds)), wanted)
+	}
+}

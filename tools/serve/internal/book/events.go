@@ -136,7 +136,7 @@ func (its *events) add(entry int, once string) {
 	line := append(its.buffer, `{"entry":`...)
 	line = strconv.AppendInt(line, int64(entry), 10)
 	line = append(line, `,"t":`...)
-	line = strconv.AppendFloat(line, its.last, 'f', 3, 64)
+	line = appendTime(line, its.last)
 	if once != "" {
 		its.keys[once] = entry
 		its.keyed = true
@@ -145,6 +145,14 @@ func (its *events) add(entry int, once string) {
 		line = append(append(line, once[space+1:]...), '"')
 	}
 	its.buffer = append(line, "}\n"...)
+}
+
+// appendTime puts seconds with three digits behind a text, in a fraction of AppendFloat's time.
+func appendTime(text []byte, seconds float64) []byte {
+	milliseconds := int64(seconds*1000 + 0.5)
+	rest := milliseconds % 1000
+	text = append(strconv.AppendInt(text, milliseconds/1000, 10), '.')
+	return append(text, byte('0'+rest/100), byte('0'+rest/10%10), byte('0'+rest%10))
 }
 
 // write brings the keys to the disk. Times alone are written once there are many.

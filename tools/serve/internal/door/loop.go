@@ -245,7 +245,7 @@ func (its *loop) answer(client *client) {
 func (its *loop) finish(client *client) {
 	sent, err := 0, error(nil)
 	if len(client.output) > 0 {
-		sent, err = syscall.Write(client.descriptor, client.output)
+		sent, err = moved(syscall.SYS_WRITE, client.descriptor, client.output)
 	}
 	if err == syscall.EAGAIN || err == syscall.EINTR {
 		sent, err = 0, nil
@@ -288,6 +288,20 @@ func (its *loop) forget(client *client) {
 	_ = syscall.Close(client.descriptor)
 }
 
+// moved reads into a part of memory or writes it. The descriptor of a client never has the thread
+// wait, so the scheduler isn't told of the call: that takes as long as a short call itself.
+func moved(call uintptr, descriptor int, part []byte) (int, error) {
+	if len(part) == 0 {
+		return 0, nil
+	}
+	count, _, number := syscall.RawSyscall(
+		call, uintptr(descriptor), uintptr(unsafe.Pointer(&part[0])), uintptr(len(part)))
+	if number != 0 {
+		return 0, number
+	}
+	return int(count), nil
+}
+
 // fill reads what is there.
 func (its *client) fill() {
 	if its.from > 0 {
@@ -301,7 +315,8 @@ func (its *client) fill() {
 		}
 		its.input = append(make([]byte, 0, more), its.input...)
 	}
-	read, err := syscall.Read(its.descriptor, its.input[len(its.input):cap(its.input)])
+	room := its.input[len(its.input):cap(its.input)]
+	read, err := moved(syscall.SYS_READ, its.descriptor, room)
 	switch {
 	case err == syscall.EAGAIN, err == syscall.EINTR:
 	case err != nil:
