@@ -84,8 +84,9 @@ class Client(threading.Thread):
 
 class Power(Case):
     def begun(self, *words: str) -> tuple[Disk, Server]:
-        if subprocess.run([ROOT / "tests/needs", "the server on a disk that forgets", *NEEDED]).returncode:
-            self.skipTest("SKIPPED the server on a disk that forgets")
+        lacks = run(ROOT / "tests/needs", "the server on a disk that forgets", *NEEDED)
+        if lacks.returncode:
+            self.skipTest(lacks.stdout.strip())
         disk = Disk(self.folder, *words)
         server = self.server("--socket", str(self.folder / "audit.socket"), http=False)
         server.file = disk.mount / "audit"
