@@ -85,8 +85,9 @@ class Client(threading.Thread):
 class Power(Case):
     def begun(self, *words: str) -> tuple[Disk, Server]:
         lacks = run(ROOT / "tests/needs", "the server on a disk that forgets", *NEEDED)
-        if lacks.returncode:
+        if lacks.returncode == 1:
             self.skipTest(lacks.stdout.strip())
+        lacks.check_returncode()
         disk = Disk(self.folder, *words)
         server = self.server("--socket", str(self.folder / "audit.socket"), http=False)
         server.file = disk.mount / "audit"
