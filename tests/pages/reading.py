@@ -230,6 +230,10 @@ class HookLines(unittest.TestCase):
         self.assertEqual(hook_lines.counted(HOOKS)[0], 6)
         self.assertEqual(hook_lines.counted(HOOKS.replace("check = find", "read = find"))[0], 10)
 
+    def test_a_decorator_is_a_line_of_its_function(self) -> None:
+        decorated = HOOKS.replace("def start", "@fy.late\ndef start")
+        self.assertEqual(hook_lines.counted(decorated), (7, 13))
+
 
 class Marks(unittest.TestCase):
     def test_a_part_is_made_between_its_marks(self) -> None:

@@ -40,7 +40,9 @@ def code_lines(source: str) -> set[int]:
 
 
 def lines_of(node: ast.stmt) -> range:
-    return range(node.lineno, (node.end_lineno or node.lineno) + 1)
+    decorators: list[ast.expr] = getattr(node, "decorator_list", [])
+    first = min([node.lineno, *(it.lineno for it in decorators)])
+    return range(first, (node.end_lineno or node.lineno) + 1)
 
 
 def defined_by(statement: ast.stmt) -> set[str]:
