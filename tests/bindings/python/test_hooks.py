@@ -57,6 +57,28 @@ def helper(n):
 
 fy.main("fresh")
 """
+# A client of a module, whose faults are none of Python's own.
+FOREIGN = """
+import faultyard_hooks as fy
+
+class Error(Exception):
+    pass
+
+def ask(*words):
+    raise Error("no quorum")
+
+fy.says_no(Error)
+join = leave = write = check = ask
+servers, some, able = fy.clients(lambda address, seconds: type("", (), {"ask": ask}))
+
+def read():
+    return f"{fy.works(ask)} {fy.wait(ask, 0)} {fy.works(fy.answered, ask, -1)} {fy.works(some.ask)}"
+
+def start(n):
+    raise ValueError("a fault of the hooks")
+
+fy.main()
+"""
 # A store with one primary, whose positions are in a file, a line for each time that all are asked.
 ELECTS = """
 import faultyard_hooks as fy
@@ -143,6 +165,14 @@ class Dispatch(unittest.TestCase):
     def test_a_fault_of_the_store_says_no_in_one_line(self):
         self.assertEqual(self.call("join", "1"), (1, "", "Refused: not now\n"))
 
+    def test_a_fault_of_a_module_says_no_once_it_is_named(self):
+        self.path.write_text(FOREIGN)
+        self.assertEqual(self.call("join", "1"), (1, "", "Error: no quorum\n"))
+        self.assertEqual(self.call("write", told="r/1 a\n"), (0, "no\n", "Error: no quorum\n"))
+        self.assertEqual(self.call("check", told="0 r/1\n"), (0, "?\n", "Error: no quorum\n"))
+        self.assertEqual(self.call("read"), (0, "False False False False", ""))
+        self.assertIn("Traceback", self.call("start", "1")[2])
+
     def test_a_text_is_printed_as_it_is(self):
         told = "/run/1/data 20009 127.0.0.1:20008 [2] 0\n"
         self.assertEqual(self.call("read"), (0, told, ""))
@@ -217,6 +247,21 @@ class Helpers(unittest.TestCase):
             self.assertEqual(os.listdir(folder), ["primary"])
             keep(f"{folder}/a/b", "in a new folder")
             self.assertEqual(os.listdir(f"{folder}/a"), ["b"])
+
+    def test_what_is_made_is_there_whole_or_not_at_all(self):
+        with tempfile.TemporaryDirectory() as folder:
+            path = f"{folder}/data"
+
+            def half(new):
+                os.mkdir(new)
+                Path(new, "half").touch()
+                raise KeyboardInterrupt
+
+            self.assertRaises(KeyboardInterrupt, fy.made, path, half)
+            self.assertFalse(os.path.exists(path))
+            self.assertEqual(fy.made(path, os.mkdir), path)
+            self.assertEqual((os.listdir(folder), os.listdir(path)), (["data"], []))
+            self.assertEqual(fy.made(path, half), path)
 
     def test_waiting_ends_with_the_answer_or_without(self):
         answers = iter([None, 0, "yes"])

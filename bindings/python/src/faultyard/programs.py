@@ -21,7 +21,7 @@ def find_program(program: Optional[StrPath] = None) -> str:
     found = shutil.which(named or "faultyard")
     if found is None:
         where = f"{named!r} is no program" if named else "there is no program faultyard on PATH"
-        raise NotFound(f"{where}: give `program`, or set FAULTYARD to its path")
+        raise NotFound(f"{where}: set FAULTYARD to its path, or give `program` in Python")
     return os.path.abspath(found)
 
 

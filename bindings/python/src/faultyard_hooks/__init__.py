@@ -23,7 +23,7 @@ import socket
 import sys
 import time
 from contextlib import contextmanager
-from typing import Any, Callable, Dict, Iterator, List, Optional, TypeVar
+from typing import Any, Callable, Dict, Iterator, List, Optional, Tuple, Type, TypeVar
 
 Answer = TypeVar("Answer")
 MORE = {"?": "?"}  # among what `salvage` returns: there may be more, which it couldn't read
@@ -56,6 +56,20 @@ def __getattr__(name: str) -> Any:
 
 class Refused(OSError):
     """The store answered, and said no."""
+
+
+_noes: Tuple[Type[Exception], ...] = (OSError,)
+
+
+def says_no(*faults: Type[Exception]) -> None:
+    """From now on these say no as an OSError does: the faults of a module that asks the store."""
+    global _noes
+    _noes += faults
+
+
+def noes() -> Tuple[Type[Exception], ...]:
+    """The faults that say no."""
+    return _noes
 
 
 # What the tool says.
@@ -129,7 +143,7 @@ def main(*promises: str) -> None:
     else:
         try:
             result = hooks[name](*map(int, numbers))
-        except OSError as fault:
+        except noes() as fault:
             sys.exit(_in_words(fault))
         if name == "start":
             _become(folder(int(numbers[0])), result)
@@ -164,7 +178,7 @@ def _answer_lines(answer: Callable[..., str], ask: Callable[..., Any]) -> None:
 def _written(put: Callable[[str, str], Any], key: str, value: str) -> str:
     try:
         mark = put(key, value)
-    except OSError as fault:
+    except noes() as fault:
         print(_in_words(fault), file=sys.stderr)
         return "no"
     if mark is False:
@@ -175,12 +189,12 @@ def _written(put: Callable[[str, str], Any], key: str, value: str) -> str:
 def _checked(get: Callable[[int, str], Optional[str]], number: str, key: str) -> str:
     try:
         return get(int(number), key) or "none"
-    except OSError as fault:
+    except noes() as fault:
         print(_in_words(fault), file=sys.stderr)
         return "?"
 
 
-def _in_words(fault: OSError) -> str:
+def _in_words(fault: Exception) -> str:
     return f"{type(fault).__name__}: {fault}"
 
 
@@ -246,7 +260,7 @@ def wait(ask: Callable[[], Any], seconds: float = 5.0, pause: float = 0.05) -> A
         try:
             if answer := ask():
                 return answer
-        except OSError:
+        except noes():
             pass
         if time.monotonic() > until:
             return False
@@ -254,21 +268,21 @@ def wait(ask: Callable[[], Any], seconds: float = 5.0, pause: float = 0.05) -> A
 
 
 def works(ask: Callable[..., Any], *words: object) -> bool:
-    """Whether a call ends without an OSError, as `works(run, "mystore", "verify", path)`."""
+    """Whether a call isn't ended by a fault that says no, as `works(run, "mystore", "verify")`."""
     try:
         ask(*words)
-    except OSError:
+    except noes():
         return False
     return True
 
 
 def answered(ask: Callable[[], Answer], seconds: float = 30.0) -> Answer:
-    """The first answer that is no OSError; the last fault where there is none in time."""
+    """The first answer that is no fault; the last fault where there is none in time."""
     until = time.monotonic() + seconds
     while True:
         try:
             return ask()
-        except OSError:
+        except noes():
             if time.monotonic() > until:
                 raise
         time.sleep(0.1)
@@ -296,6 +310,20 @@ def keep(path: str, text: str) -> str:
         os.fsync(file.fileno())
     os.replace(f"{path}.new", path)
     sync(place)
+    return path
+
+
+def made(path: str, make: Callable[[str], Any]) -> str:
+    """A path. What isn't there yet is made, so that a kill never leaves half of it.
+
+    `make` makes it at another path and syncs it; then that is moved.
+    """
+    if not os.path.exists(path):
+        new = f"{path}.new"
+        run("rm", "-rf", new)
+        make(new)
+        os.replace(new, path)
+        sync(os.path.dirname(path))
     return path
 
 

@@ -7,7 +7,7 @@ import socket
 from abc import ABC, abstractmethod
 from typing import Any, BinaryIO, Callable, Generic, List, Optional, Sequence, Tuple, TypeVar
 
-from . import ABLE, COUNT, at, connection
+from . import ABLE, COUNT, at, connection, noes
 
 
 class Client(ABC):
@@ -94,7 +94,7 @@ class OneOf(Generic[AnyClient]):
             raise ConnectionError("there is no process to ask")
         try:
             return ask(self._clients[self._chosen])
-        except OSError:
+        except noes():
             self._chosen = random.randrange(len(self._clients))
             raise
 
