@@ -4,6 +4,7 @@ Expected are the bytes that the protocols' own documents have.
 """
 
 import os
+import pwd
 import socket
 import struct
 import subprocess
@@ -25,7 +26,7 @@ from faultyard_hooks.ovsdb import Ovsdb
 from faultyard_hooks.piped import Piped
 from faultyard_hooks.postgres import Postgres
 from faultyard_hooks.resp import Resp
-from faultyard_hooks.zookeeper import ZooKeeper, last_synced
+from faultyard_hooks.zookeeper import ZooKeeper, last_synced, mode
 
 HOOKS = """
 import faultyard_hooks as fy
@@ -97,6 +98,22 @@ def read():
     return {"servers": len(servers), "primary": fy.primary()}
 
 fy.main()
+"""
+# A store that refuses to run as root.
+SERVED = """
+import faultyard_hooks as fy
+
+def setup():
+    for n in range(fy.COUNT):
+        fy.run("touch", fy.folder(n, "made"))
+
+def start(n):
+    return "sh", "-c", "touch made; echo $PWD $(id -u) $(id -g) $(id -G)"
+
+def whole(n, mark):
+    return fy.run("id", "-un") == "nobody\\n"
+
+fy.main(user="nobody")
 """
 
 
@@ -218,6 +235,22 @@ class Dispatch(unittest.TestCase):
         self.assertEqual(self.elected("9 4 7 1\n9 4 8 1\n", "1 2"), ((1, ""), "0"))
         self.assertEqual(self.elected("0 0 0 1\n0 0 0 1\n", "3"), ((1, "promoted 3\n"), "0"))
         self.assertEqual(self.elected("", ""), ((1, ""), "0"))
+
+    @unittest.skipIf(os.geteuid(), "SKIPPED hooks whose store refuses root: this is not root")
+    def test_as_root_commands_run_as_the_user_of_the_store_who_gets_the_folders(self):
+        self.path.write_text(SERVED)
+        nobody = pwd.getpwnam("nobody")
+        run = Path(self.enterContext(tempfile.TemporaryDirectory()))  # which is its owner's alone
+        self.assertEqual(self.call("setup", FY_DIR=str(run))[0], 0)
+        for n in range(3):
+            self.assertEqual(Path(run, str(n), "made").stat().st_uid, nobody.pw_uid)
+        Path(run, "1/made").unlink()
+        os.chown(Path(run, "1"), 0, 0)
+        answer = f"{run}/1 {nobody.pw_uid} {nobody.pw_gid} {nobody.pw_gid}\n"
+        self.assertEqual(self.call("start", "1", FY_DIR=str(run)), (0, answer, ""))
+        self.assertEqual(Path(run, "1/made").stat().st_uid, nobody.pw_uid)
+        self.assertEqual(run.stat().st_mode & 0o777, 0o710)
+        self.assertEqual(self.call("whole", "1", "99", FY_DIR=str(run)), (0, "", ""))
 
     def test_a_hook_that_there_is_not_ends_with_64(self):
         self.assertEqual(self.call("leave", "1")[0], 64)
@@ -369,9 +402,24 @@ class Clients(unittest.TestCase):
             one.ask("PING")
         self.assertEqual(one.ask("PING"), "PONG")
 
+    def test_any_call_of_a_client_is_one_of_several(self):
+        class Queue(Resp):
+            def added(self, text, times=1):
+                return [self.ask(text) for _ in range(times)]
+
+        talk = Talk(self, [(PING, PONG), (PING, PONG), (PING, b"")], [(PING, PONG)])
+        one = OneOf([talk.client(Queue)])
+        self.assertEqual(one.added("PING", times=2), ["PONG", "PONG"])
+        with self.assertRaises(ConnectionError):
+            one.added("PING")
+        self.assertEqual(one.added("PING"), ["PONG"])
+        with self.assertRaises(AttributeError):
+            one.removed("PING")
+
     def test_where_there_is_none_to_ask_it_is_a_fault(self):
-        with self.assertRaises(OSError):
-            OneOf([]).ask("PING")
+        for call in (OneOf([]).ask, OneOf([]).added):
+            with self.assertRaises(OSError):
+                call("PING")
 
 
 class Shell(Piped):
@@ -545,6 +593,30 @@ class PostgresAnswers(unittest.TestCase):
         with self.assertRaisesRegex(Refused, "no standby has it"):
             self.asked(message(b"N", warning) + DONE)
 
+    def value(self, kind, *texts):
+        """The value of answers whose one column has a type, by the number that PostgreSQL has."""
+        column = b"c\0" + struct.pack(">ihihih", 0, 0, kind, 8, -1, 0)
+        row = [message(b"D", struct.pack(">hi", 1, len(it)) + it) for it in texts]
+        rows = message(b"T", struct.pack(">h", 1) + column) + b"".join(row)
+        talk = [(HELLO, WELCOME), (message(b"Q", b"SELECT 1\0"), rows + DONE)]
+        return Talk(self, talk).client(Postgres).value("SELECT 1")
+
+    def test_a_value_has_its_type(self):
+        self.assertIs(self.value(16, b"t"), True)
+        self.assertIs(self.value(16, b"f"), False)
+        self.assertEqual(self.value(20, b"-12"), -12)
+        self.assertEqual(self.value(1700, b"90000000000000000001"), 90000000000000000001)
+        self.assertEqual(self.value(1700, b"0.5"), 0.5)
+        self.assertEqual(self.value(25, b"12"), "12")
+
+    def test_where_there_is_no_value_it_is_a_fault(self):
+        with self.assertRaisesRegex(Refused, "SELECT 1"):
+            self.value(16)
+        null = message(b"D", struct.pack(">hi", 1, -1))
+        talk = [(HELLO, WELCOME), (message(b"Q", b"SELECT 1\0"), null + DONE)]
+        with self.assertRaises(Refused):
+            Talk(self, talk).client(Postgres).value("SELECT 1")
+
     def test_a_notice_is_no_fault(self):
         self.assertEqual(self.asked(message(b"N", b"SNOTICE\0VNOTICE\0Mby the way\0\0") + DONE), [])
 
@@ -574,6 +646,64 @@ class ZooKeeperAnswers(unittest.TestCase):
         self.assertEqual(client.zxid, 70)
         self.assertEqual(client.values(["/a", "/b"]), {"/a": "v"})
         self.assertEqual(client.zxid, 71)
+
+    def creates(self, number, path, answer):
+        """A node is asked for, and created by a transaction or not."""
+        anyone = struct.pack(">ii", 1, 31) + frame(b"world") + frame(b"anyone") + bytes(4)
+        value = b"v" if path == b"/r/1" else b""
+        asked = frame(struct.pack(">ii", number, 1) + frame(path) + frame(value) + anyone)
+        zxid, fault = answer
+        told = struct.pack(">iqi", number, zxid, fault) + (b"" if fault else frame(path))
+        return asked, frame(told)
+
+    def test_a_node_is_added_with_its_parent(self):
+        talk = [
+            (SESSION, BEGUN),
+            self.creates(1, b"/r/1", (70, -101)),
+            self.creates(2, b"/r", (71, 0)),
+            self.creates(3, b"/r/1", (72, 0)),
+        ]
+        self.assertEqual(Talk(self, talk).client(ZooKeeper).add("/r/1", "v"), 72)
+        talk = [(SESSION, BEGUN), self.creates(1, b"/r/1", (73, 0))]
+        self.assertEqual(Talk(self, talk).client(ZooKeeper).add("/r/1", "v"), 73)
+
+    def test_a_node_that_is_there_is_not_added(self):
+        calls = [(b"/r/1", (70, -110)), (b"/r", (70, -110)), (b"/r/1", (70, -110))]
+        talk = [self.creates(number, *it) for number, it in enumerate(calls, 1)]
+        with self.assertRaisesRegex(Refused, "/r/1 is there already"):
+            Talk(self, [(SESSION, BEGUN), *talk]).client(ZooKeeper).add("/r/1", "v")
+
+    def test_records_are_the_values_below_a_path(self):
+        children = frame(struct.pack(">ii", 1, 8) + frame(b"/r") + b"\0")
+        names = frame(struct.pack(">iqii", 1, 70, 0, 2) + frame(b"2") + frame(b"1"))
+        gets = b"".join(
+            frame(struct.pack(">ii", number, 4) + frame(path) + b"\0")
+            for number, path in ((2, b"/r/1"), (3, b"/r/2"))
+        )
+        values = frame(struct.pack(">iqi", 2, 70, 0) + frame(b"a") + bytes(68))
+        values += frame(struct.pack(">iqi", 3, 70, 0) + frame(b"b") + bytes(68))
+        client = Talk(self, [(SESSION, BEGUN), (children, names), (gets, values)]).client(ZooKeeper)
+        self.assertEqual(client.records("/r"), {"r/1": "a", "r/2": "b"})
+
+    def test_servers_are_those_that_the_leader_has(self):
+        lines = b"server.1=a:1:2:participant;a:3\nserver.2=b:1:2:observer;b:3\nversion=7"
+        synced = frame(struct.pack(">ii", 1, 9) + frame(b"/"))
+        get = frame(struct.pack(">ii", 2, 4) + frame(b"/zookeeper/config") + b"\0")
+        talk = [
+            (SESSION, BEGUN),
+            (synced, frame(struct.pack(">iqi", 1, 70, 0) + frame(b"/"))),
+            (get, frame(struct.pack(">iqi", 2, 70, 0) + frame(lines) + bytes(68))),
+        ]
+        one, two, _ = lines.decode().splitlines()
+        self.assertEqual(Talk(self, talk).client(ZooKeeper).servers(), {"1": one, "2": two})
+
+    def test_the_mode_of_a_server_is_told_once_it_serves(self):
+        told = b"Zookeeper version: 3.8.0\nMode: follower\nNode count: 5\n"
+        no = b"This ZooKeeper instance is not currently serving requests\n"
+        server = Talk(self, [(b"srvr", told)], [(b"srvr", no)])
+        self.assertEqual(mode(address(server._socket)), "follower")
+        with self.assertRaisesRegex(Refused, "^This ZooKeeper instance is not currently serving"):
+            mode(address(server._socket))
 
     def test_another_fault_is_refused(self):
         get = frame(struct.pack(">ii", 1, 4) + frame(b"/a") + b"\0")
@@ -672,6 +802,9 @@ class NatsAnswers(unittest.TestCase):
 class AmqpAnswers(unittest.TestCase):
     def client(self, *talk):
         """One that has logged in to a server that goes on so."""
+        return Talk(self, [*self.login(), *talk]).client(Amqp)
+
+    def login(self):
         login = bytes(4) + b"\x05PLAIN" + frame(b"\0guest\0guest") + b"\x05en_US"
         begun = [
             (b"AMQP\0\0\x09\x01", method(0, (10, 10), b"..")),
@@ -681,7 +814,7 @@ class AmqpAnswers(unittest.TestCase):
             (method(1, (20, 10), b"\0"), method(1, (20, 11), bytes(4))),
             (method(1, (85, 10), b"\0"), method(1, (85, 11), b"")),
         ]
-        return Talk(self, [*begun, *talk]).client(Amqp)
+        return begun
 
     def asked(self, answer):
         content = struct.pack(">HHQHB", 60, 0, 2, 4096, 2)
@@ -724,11 +857,95 @@ class AmqpAnswers(unittest.TestCase):
         heartbeat = b"\x08\0\0" + bytes(4) + b"\xce"
         self.asked(heartbeat + method(1, (60, 80), struct.pack(">QB", 1, 0)))
 
+    def test_a_queue_that_is_missing_is_declared_and_the_message_refused(self):
+        content = frame(struct.pack(">HHQHB", 60, 0, 2, 4096, 2)) + b"\xce"
+        publish = method(1, (60, 40), b"\0\0\0\1q\1") + b"\2\0\1" + content
+        publish += b"\3\0\1" + frame(b"hi") + b"\xce"
+        returned = method(1, (60, 50), b"\x01\x38\x08NO_ROUTE\0\1q")
+        table = frame(b"\x06x-typeS" + frame(b"quorum") + b"\x06x-sizeI" + struct.pack(">i", 3))
+        declare = method(1, (50, 10), b"\0\0\1q\2" + table)
+        declared = method(1, (50, 11), b"\1q" + bytes(8))
+        first, second = [*self.login(), (publish, returned)], [*self.login(), (declare, declared)]
+        with self.assertRaisesRegex(Refused, "NO_ROUTE"):
+            Talk(self, first, second).client(Amqp).publish("q", "hi", x_type="quorum", x_size=3)
+
     def test_a_publish_that_is_refused_or_returned_is_no_write(self):
         with self.assertRaises(Refused):
             self.asked(method(1, (60, 120), struct.pack(">QB", 1, 0)))
         with self.assertRaisesRegex(Refused, "NO_ROUTE"):
             self.asked(method(1, (60, 50), b"\x01\x38\x08NO_ROUTE\0\1q"))
+
+
+# What stands in for the programs of Erlang: it tells its words, its input and where epmd is.
+ERL_CALL = """#!/bin/sh
+echo "$0 $*" >> heard
+read -r code
+echo "$code epmd at $ERL_EPMD_PORT" >> heard
+echo "$TOLD"
+"""
+ASKS = """
+import faultyard_hooks as fy
+from faultyard_hooks.erlang import evaluated, node, options, setup
+
+def start(n):
+    return "echo", node(n), options(n)
+
+def read():
+    return evaluated(1, "1 + 1")
+
+fy.main()
+"""
+
+
+class ErlangNodes(unittest.TestCase):
+    def call(self, *words, told=""):
+        """A hook of a store in Erlang, which is in a folder of its own."""
+        folder = Path(self.enterContext(tempfile.TemporaryDirectory()))
+        for name in ("erl_call", "epmd"):
+            Path(folder, name).write_text(ERL_CALL)
+            Path(folder, name).chmod(0o755)
+        Path(folder, "hooks.py").write_text(ASKS)
+        Path(folder, "1").mkdir()
+        env = {"FY_DIR": str(folder), "FY_PORT": "20000", "FY_COUNT": "2", "FY_NAMES": "a b"}
+        env |= {"FY_HOSTS": "10.0.0.1 10.0.0.2", "TOLD": told}
+        env["PATH"] = f"{folder}:{os.environ['PATH']}"
+        ran = subprocess.run(
+            [sys.executable, "hooks.py", *words],
+            env=os.environ | env,
+            cwd=folder,
+            capture_output=True,
+            text=True,
+            stdin=subprocess.DEVNULL,
+        )
+        heard = Path(folder, "heard")
+        lines = heard.read_text().replace(f"{folder}/", "").splitlines() if heard.exists() else []
+        return ran.returncode, ran.stdout, ran.stderr, lines
+
+    def test_a_node_has_a_name_a_cookie_and_its_host_alone(self):
+        options = "-setcookie faultyard -kernel inet_dist_use_interface {10,0,0,2}"
+        self.assertEqual(self.call("start", "1"), (0, f"b@10.0.0.2 {options}\n", "", []))
+
+    def test_what_expressions_come_to_is_told(self):
+        status, told, said, heard = self.call("read", told="{ok, {[a, 1], <<>>}}")
+        self.assertEqual((status, told, said), (0, "{[a, 1], <<>>}", ""))
+        words = "erl_call -name b@10.0.0.2 -c faultyard -e"
+        self.assertEqual(heard, [words, "1 + 1. epmd at 20003"])
+
+    def test_an_expression_that_fails_is_refused(self):
+        why = "{{badmatch,false},\\\\n  [{erl_eval,expr}]}}\"}"
+        fault = f"{{error, \"*** eval: {{'EXIT',\\\\n   {why}"
+        status, _, said, _ = self.call("read", told=fault)
+        told = "Refused: {{badmatch,false}, [{erl_eval,expr}]}}\"}: 1 + 1\n"
+        self.assertEqual((status, said), (1, told))
+        self.assertEqual(self.call("read", told="{error, x}")[2], "Refused: {error, x}: 1 + 1\n")
+        long = self.call("read", told=f"{{error, {'x' * 99}}}")[2]
+        self.assertEqual(long, f"Refused: {{error, {'x' * 62} ..: 1 + 1\n")
+
+    def test_the_daemon_is_started_before_any_node(self):
+        self.assertIn("setup", self.call("hooks")[1].split())
+        status, _, said, heard = self.call("setup")
+        self.assertEqual((status, said), (0, ""))
+        self.assertEqual(heard, ["epmd -daemon -address 127.0.0.1", " epmd at 20003"])
 
 
 if __name__ == "__main__":

@@ -20,6 +20,7 @@ from __future__ import annotations
 
 import os
 import socket
+import stat
 import sys
 import time
 from contextlib import contextmanager
@@ -27,6 +28,7 @@ from typing import Any, Callable, Dict, Iterator, List, Optional, Tuple, Type, T
 
 Answer = TypeVar("Answer")
 MORE = {"?": "?"}  # among what `salvage` returns: there may be more, which it couldn't read
+_user: Dict[str, Any] = {}  # as whom commands run, if not as who runs the hook
 HOOKS = "setup start ready join leave elect pause resume whole write check read salvage".split()
 # What stands in a module of its own.
 ELSEWHERE = {
@@ -122,13 +124,14 @@ def another(n: int) -> int:
 # Hooks.
 
 
-def main(*promises: str) -> None:
+def main(*promises: str, user: str = "") -> None:
     """Calls the hook that the command line names: the function of this name in the hooks' file.
 
     `start` returns a command. `write` returns a mark, or nothing where the record's number is one.
     `check` returns a value or None, and any other hook False for no, or what it prints. An OSError
     says no too. `promises` are printed beside the names. Without a function `ready` a process is
-    ready once its first port takes a connection.
+    ready once its first port takes a connection. Where hooks run as root, their commands run as
+    `user`, who gets the folders of the processes: some stores refuse to run as root.
     """
     given = vars(sys.modules["__main__"])
     hooks = {name: given[name] for name in HOOKS if name in given}
@@ -142,6 +145,8 @@ def main(*promises: str) -> None:
         _answer_lines(_written if name == "write" else _checked, hooks[name])
     else:
         try:
+            if user and os.geteuid() == 0:
+                _run_as(user, name, *map(int, numbers))
             result = hooks[name](*map(int, numbers))
         except noes() as fault:
             sys.exit(_in_words(fault))
@@ -160,12 +165,32 @@ def _end(result: Any) -> None:
         sys.stdout.write(result)
 
 
+def _run_as(name: str, hook: str, *numbers: int) -> None:
+    """Has commands run as a user, to whom the folders are given before the store writes there."""
+    import pwd
+
+    user = pwd.getpwnam(name)
+    _user.update(user=user.pw_uid, group=user.pw_gid, extra_groups=[])
+    if hook not in ("setup", "join", "start"):
+        return
+    if not os.stat(DIR).st_mode & stat.S_IXOTH:
+        os.chown(DIR, -1, user.pw_gid)
+        os.chmod(DIR, os.stat(DIR).st_mode | stat.S_IXGRP)  # the user may enter it
+    for n in numbers or range(COUNT):
+        os.makedirs(folder(n), exist_ok=True)
+        os.chown(folder(n), user.pw_uid, user.pw_gid)
+
+
 def _become(place: str, words: Any) -> None:
     """Goes on as a command, in this process and in a folder."""
     command = [str(word) for word in words]
     if "/" in command[0]:
         command[0] = os.path.abspath(command[0])
     os.chdir(place)
+    if _user:
+        os.setgroups([])
+        os.setgid(_user["group"])
+        os.setuid(_user["user"])
     sys.stdout.flush()
     os.execvp(command[0], command)
 
@@ -225,8 +250,9 @@ def run(*words: object, text: str = "", seconds: float = 60.0) -> str:
     """What a command prints that reads a text; `Refused` where it fails or takes too long."""
     import subprocess  # few hooks need it, and it is slow to import
 
+    told: str
     command, pipe = [str(word) for word in words], subprocess.PIPE
-    with subprocess.Popen(command, stdin=pipe, stdout=pipe, text=True) as process:
+    with subprocess.Popen(command, stdin=pipe, stdout=pipe, text=True, **_user) as process:
         try:
             told, _ = process.communicate(text, seconds)
         except subprocess.TimeoutExpired:
@@ -242,7 +268,8 @@ def running(*words: object) -> Iterator[None]:
     """A command that runs until the block ends. What it prints goes to standard error."""
     import subprocess
 
-    with subprocess.Popen([str(word) for word in words], stdout=sys.stderr) as process:
+    command = [str(word) for word in words]
+    with subprocess.Popen(command, stdout=sys.stderr, **_user) as process:
         try:
             yield
         finally:

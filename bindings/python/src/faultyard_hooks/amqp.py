@@ -25,9 +25,17 @@ Method = Tuple[int, int]
 class Amqp(Client):
     """Keeps a connection with a channel whose publishes are confirmed."""
 
-    def publish(self, queue: str, text: str) -> None:
-        """Adds a durable message, and returns once the queue has confirmed it."""
-        self.ask("publish", queue, text)
+    def publish(self, queue: str, text: str, **arguments: object) -> None:
+        """Adds a durable message, and returns once the queue has confirmed it.
+
+        Where the queue isn't there, that is refused, and with arguments it is declared.
+        """
+        try:
+            self.ask("publish", queue, text)
+        except Refused as fault:
+            if arguments and "NO_ROUTE" in str(fault):
+                self.declare(queue, **arguments)
+            raise
 
     def declare(self, queue: str, **arguments: object) -> None:
         """Makes a queue, if it isn't there."""
@@ -105,7 +113,8 @@ class Amqp(Client):
         kind, data = self._next()
         method = struct.unpack_from(">HH", data)
         if kind != METHOD or method != wanted:
-            raise Refused(f"method {method}: {data[4:].decode('latin-1')}")
+            told = "".join(it if it.isprintable() else " " for it in data[4:].decode("latin-1"))
+            raise Refused(f"method {method}: {told.strip()}")
         return data[4:]
 
     def _next(self) -> Tuple[int, bytes]:

@@ -84,9 +84,15 @@ class OneOf(Generic[AnyClient]):
         self._clients = clients
         self._chosen = random.randrange(len(clients) or 1)
 
-    def ask(self, *words: Any) -> Any:
-        """What the one answers."""
-        return self.of(lambda client: client.ask(*words))
+    def __getattr__(self, name: str) -> Callable[..., Any]:
+        """A call of the one, as `some.ask(..)`."""
+        if name.startswith("_"):
+            raise AttributeError(name)
+
+        def call(*words: Any, **named: Any) -> Any:
+            return self.of(lambda client: getattr(client, name)(*words, **named))
+
+        return call
 
     def of(self, ask: Callable[[AnyClient], Any]) -> Any:
         """What comes of a function of the one."""

@@ -29,6 +29,19 @@ class ZooKeeper(Client):
         (told,) = self.ask(CREATE, _text(path) + _text(value) + access + bytes(4))
         return bool(told)
 
+    def add(self, path: str, value: str) -> int:
+        """Creates a node, and its parent if that is missing. Answers the node's transaction."""
+        if not self.create(path, value):
+            self.create(path.rpartition("/")[0] or "/", "")
+            if not self.create(path, value):
+                raise Refused(f"{path} is there already")
+        return self.zxid
+
+    def records(self, path: str) -> Dict[str, str]:
+        """The values of all nodes below a path, by their paths without the first slash."""
+        found = self.values([f"{path}/{name}" for name in self.children(path)])
+        return {path[1:]: value for path, value in found.items()}
+
     def values(self, paths: List[str]) -> Dict[str, str]:
         """What the server itself has at each of these paths that there is."""
         found = {}
@@ -52,7 +65,8 @@ class ZooKeeper(Client):
         self.ask(SYNC, _text("/"))
 
     def servers(self) -> Dict[str, str]:
-        """The servers by their numbers, as this one knows them: its configuration's lines."""
+        """The servers by their numbers: the configuration's lines, as the leader has them."""
+        self.sync()
         told = self.values(["/zookeeper/config"])["/zookeeper/config"].splitlines()
         return {it[7:].partition("=")[0]: it for it in told if it.startswith("server.")}
 
@@ -93,7 +107,10 @@ def mode(address: str) -> str:
     with connection(address, 2.0) as asked:
         asked.sendall(b"srvr")
         told = b"".join(iter(lambda: asked.recv(65536), b"")).decode()
-    return dict(line.partition(": ")[::2] for line in told.splitlines()).get("Mode", "")
+    found = dict(line.partition(": ")[::2] for line in told.splitlines())
+    if "Mode" not in found:  # it serves nobody yet, and says so
+        raise Refused(told.strip() or "it says nothing")
+    return found["Mode"]
 
 
 def last_synced(data: str) -> int:

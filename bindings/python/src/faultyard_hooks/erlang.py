@@ -1,0 +1,54 @@
+"""A store in Erlang: its nodes, what they answer to Erlang, and the daemon that they share.
+
+Whatever a hook starts that imports this finds the daemon of the run, and no file of the user's.
+"""
+
+from __future__ import annotations
+
+import os
+
+from . import DIR, HOSTS, NAMES, Refused, port, run
+
+COOKIE = "faultyard"
+LOOPBACK = "127.0.0.1"
+ANSWERED = "{ok, "
+BRIEF = 70  # characters of a fault, and of what it came of
+os.environ["ERL_EPMD_PORT"] = str(port(0, 3))
+os.environ["HOME"] = DIR or "/"
+
+
+def node(n: int) -> str:
+    """The name of a process as a node: `NAME@HOST`, a long one."""
+    return f"{NAMES[n]}@{HOSTS[n]}"
+
+
+def options(n: int) -> str:
+    """The words for `erl` by which a node is asked here, and listens to others at its host alone.
+
+    The cookie says who may run code on it.
+    """
+    address = HOSTS[n].replace(".", ",")
+    return f"-setcookie {COOKIE} -kernel inet_dist_use_interface {{{address}}}"
+
+
+def evaluated(n: int, code: str) -> str:
+    """What the last of some expressions comes to on a node; `Refused` where one fails."""
+    told = run("erl_call", "-name", node(n), "-c", COOKIE, "-e", text=f"{code}.\n", seconds=9)
+    if not told.startswith(ANSWERED):
+        why = told.partition("'EXIT',")[2] or told
+        raise Refused(f"{_brief(why)}: {_brief(code)}")
+    return told.strip()[len(ANSWERED) : -1]
+
+
+def _brief(text: str) -> str:
+    """The beginning of a text, in one line."""
+    line = " ".join(text.replace("\\n", " ").split())
+    return f"{line[:BRIEF]} .." if len(line) > BRIEF else line
+
+
+def setup() -> None:
+    """The hook `setup`: starts epmd, by which the nodes of a host find each other.
+
+    Else the first node would start it, and it would fall with that node.
+    """
+    run("epmd", "-daemon", "-address", LOOPBACK)
