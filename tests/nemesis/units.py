@@ -416,6 +416,15 @@ class Words(unittest.TestCase):
         self.assertEqual(slow[0], short)
         self.assertEqual(slow[1:], ["--seconds 60 leaves no time for 3 heals", f"{self.TAKE} --pauses 16,24,48 --seconds 300"])
 
+    def test_a_start_is_one_of_a_process_that_was_struck(self):
+        words = unittest.mock.Mock(pauses=[8], seconds=90.0)
+        run = unittest.mock.Mock(words=words, starts=[30.0, 31.0, 32.0])
+        run.ledger.healed = [5.0]
+        check = checks.HookCheck(run)
+        check.begin()
+        run.starts.append(4.0)
+        self.assertEqual(check.times()[0], "a start took up to 4.0 s, a heal up to 5.0 s")
+
     def test_where_nothing_is_healed_a_pause_is_as_long_as_a_start(self):
         short = "--pauses are 1.3 s on average, shorter than a start: orders would be lessened"
         self.assertEqual(self.fitting(2.1, 0.0), [short, f"{self.TAKE} --pauses 3,3,5 --seconds 60"])

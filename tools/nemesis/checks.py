@@ -33,12 +33,14 @@ class HookCheck:
 
     def __init__(self, run: "Run") -> None:
         self.run, self.hooks, self.clients = run, run.hooks, run.clients
+        self.first = 0  # how many starts there were before anything was struck
         self.healed: list[int] = []  # whose `whole` was believed
         self.copies: dict[int, tuple[Path, Records]] = {}  # of folders, and what they have to have
         self.notes: list[str] = []  # what looks wrong, and may be right
 
     async def whole(self) -> list[str]:
         """Calls each hook; what looks wrong, and may be right."""
+        self.begin()
         await self.some_records()
         await self._calm()
         granted = self.run.file.actors[self.run.fault].kinds
@@ -57,6 +59,10 @@ class HookCheck:
         if "leave" in self.hooks.names and Kind.KILL_INSTANTLY in granted:
             await self._order(Kind.KILL_INSTANTLY, self.run.names[-1])
         return self.notes
+
+    def begin(self) -> None:
+        """From here on starts are those of a run. Before, processes may have waited for all."""
+        self.first = len(self.run.starts)
 
     async def some_records(self) -> None:
         """Waits until some are acknowledged, as a store that writes a few a second needs."""
@@ -213,8 +219,8 @@ class HookCheck:
 
     def times(self) -> list[str]:
         """How long a start and a heal took, and which words leave a run the time for them."""
-        words, starts, heals = self.run.words, self.run.starts, self.run.ledger.healed
-        start, heal = max(starts, default=0.0), max(heals, default=0.0)
+        words, heals = self.run.words, self.run.ledger.healed
+        start, heal = max(self.run.starts[self.first :], default=0.0), max(heals, default=0.0)
         told = f"a start took up to {start:.1f} s, a heal up to {heal:.1f} s"
         return [told, *fitting(start, heal, words.pauses or PAUSES, words.seconds)]
 

@@ -170,7 +170,7 @@ class Case:
     def _stale(self) -> str:
         read = self.judged.lacking
         assert read and read.node is not None
-        where = "" if read.is_whole else ", which was not whole again"
+        where = "" if read.is_whole else ", which was not whole again,"
         text = f"{self.course.names[read.node]}{where} lacked it after {self.judged.stale:.3f} s"
         return f"{text}, though the hooks promise fresh" if self.course.is_fresh else text
 
