@@ -1,7 +1,7 @@
 use Rattle.std.proofs.Common.{rules, ◌≡◌, ◌∙◌, sym}
 use Rattle.fy_actors.specs.declared.plans.PlanFault.TheVariants.{NoMemory, WordsShort}
-use Rattle.fy_c.proofs.Drawn.{swizzle_enough}
-use Rattle.fy_c.proofs.planning.draw_swizzle.Goals as goal
+use Rattle.fy_players.proofs.Drawn.{swizzle_enough}
+use Rattle.fy_players.proofs.rounds.draw_swizzle.Goals as goal
 
 pub unreachable-requires : goal.unreachable-requires
 unreachable-requires c =
