@@ -10,6 +10,13 @@ use Rattle.fy_locality.specs.declared.ProcId.{ProcId}
 use Rattle.fy_locality.specs.declared.locality.Locality.{Locality}
 use Rattle.fy_locality.specs.declared.key.Key.TheVariants.{Machine}
 use Rattle.fy_locality.specs.Locality.{value_in, values_of, first_seen}
+use Rattle.std.proofs.Math.Bridge.{le_prop}
+use Rattle.fy_kinds.specs.declared.kind.Kind.{Kind}
+use Rattle.fy_kinds.specs.declared.order.Target.{Target}
+use Rattle.fy_kinds.specs.Kinds.{rank}
+use Rattle.fy_kinds.specs.Orders.{Order}
+use Rattle.fy_acts.specs.declared.act.Act.TheVariants.{Kill}
+use Rattle.fy_actors.specs.Schedules.{attrition_act}
 use Rattle.fy_actors.specs.Plans.{chosen, shuffled, shuffled_from, swizzle_need, IsSwizzle}
 use Rattle.fy_actors.specs.declared.plans.SwizzlePlan.{SwizzlePlan}
 use Rattle.fy_actors.specs.Words.{stream_outputs}
@@ -161,3 +168,22 @@ attrition_enough seed stream processes count words counted drawn =
     let long = word_count seed stream (2 * count) in
     let taken = ap length drawn in
     omega arith
+
+-- ---- orders for machines
+
+abbrev order_of : Target → (k f : Kind) → ℕ → rank f ≤ rank k → Order
+order_of t k f n o = record { target = t; kind = k; floor = f; tear = n; ordered = o }
+
+-- orders of the same parts are the same, whatever shows that the floor isn't above the kind
+same_parts : (a : Order) (t : Target) (k f : Kind) (n : ℕ) (o : rank f ≤ rank k) → a.target ≡ t →
+    a.kind ≡ k → a.floor ≡ f → a.tear ≡ n → a ≡ order_of t k f n o
+same_parts a t k f n o et ek ef en =
+    subst (λ (f : Kind). (o : rank f ≤ rank k) → a ≡ order_of t k f n o) ef
+    (subst (λ (k : Kind). (o : rank a.floor ≤ rank k) → a ≡ order_of t k a.floor n o) ek
+    (λ o'. λ i. order_of (et i) a.kind a.floor (en i) (le_prop a.ordered o' i)))
+    o
+
+pub one_order : (a : Order) (machine : List ℕ) (k f : Kind) (n : ℕ) (o : rank f ≤ rank k) →
+    a.target ≡ record { key = Machine; value = machine } → a.kind ≡ k → a.floor ≡ f → a.tear ≡ n →
+    Kill a ≡ attrition_act k f n o machine
+one_order a machine k f n o et ek ef en = ap Kill (same_parts a _ k f n o et ek ef en)
