@@ -16,7 +16,6 @@ use Rattle.fy_cluster.specs.declared.role.Role.{Role}
 use Rattle.fy_cluster.specs.declared.role.Role.TheVariants.{Fault}
 use Rattle.fy_players.specs.declared.draws.Words.{Words}
 use Rattle.fy_players.specs.declared.faults.Plan.{Plan}
-use Rattle.fy_players.specs.declared.picks.TheConstants.{NOBODY}
 use Rattle.fy_players.specs.declared.player.Part.{Part}
 use Rattle.fy_players.specs.declared.player.Part.TheVariants.{Stores, Strikes, Operates}
 use Rattle.fy_players.specs.declared.player.Player.{Player}
@@ -29,8 +28,12 @@ use Rattle.fy_simulate.specs.Simulate.Turns.{none, more}
 
 -- ---- lists
 
-none_of : {X : Type 0} (i : ℕ) (x : X) → slice_get (let none : List X = [] in none) i ≡ Some x → ⊥
-none_of i x is = let past = slice_get_past (let none : List _ = [] in none) i (omega arith) in cc
+abbrev no_items : (X : Type 0) → List X
+no_items X = []
+
+none_of : {X : Type 0} (i : ℕ) (x : X) → slice_get (no_items X) i ≡ Some x → ⊥
+none_of {X} i x is =
+    let past : slice_get (no_items X) i ≡ None = slice_get_past {X = X} [] i (omega arith) in cc
 
 set_same : {X : Type 0} (xs : List X) (i : ℕ) (x y : X) → slice_get xs i ≡ Some y →
     slice_get (slice_set xs i x) i ≡ Some x
@@ -96,23 +99,23 @@ opening_number seed plan a (r ∷ rs) (suc i) p is =
 
 -- an actor acts by its own number, or by one that no actor has
 by_own_or_none : (actor : ℕ) (words : Words) (b : Bool) →
-    ((if b then NOBODY else actor) ≡ actor) ⊎ ((if b then NOBODY else actor) ≡ NOBODY)
+    ((if b then 1000000 else actor) ≡ actor) ⊎ ((if b then 1000000 else actor) ≡ 1000000)
 by_own_or_none actor words true = inr refl
 by_own_or_none actor words false = inl refl
 
 speaks : (actor : ℕ) (words : Words) (part : Part) →
-    (speaker actor words part ≡ actor) ⊎ (speaker actor words part ≡ NOBODY)
+    (speaker actor words part ≡ actor) ⊎ (speaker actor words part ≡ 1000000)
 speaks actor words (Stores known) = by_own_or_none actor words _
 speaks actor words (Strikes fault) = inl refl
 speaks actor words Operates = by_own_or_none actor words _
 
 speaks_now : (player : Player) (x : Execution) →
-    (speaker_now player x ≡ number_of player) ⊎ (speaker_now player x ≡ NOBODY)
+    (speaker_now player x ≡ number_of player) ⊎ (speaker_now player x ≡ 1000000)
 speaks_now player x = speaks (number_of player) (words_now player) (part_now player x)
 
-is_no_other : (actor by its : ℕ) → actor < 64 → its ≢ actor → (by ≡ its) ⊎ (by ≡ NOBODY) → by ≢ actor
+is_no_other : (actor by its : ℕ) → actor < 64 → its ≢ actor → (by ≡ its) ⊎ (by ≡ 1000000) → by ≢ actor
 is_no_other actor by its few apart said =
-    elim said [ inl own ↦ λ e. apart (sym own ∙ e) | inr none ↦ λ e. (let no : ⊥ = omega arith in no) ]
+    elim said [ inl own ↦ λ e. apart (sym own ∙ e) | inr nobody ↦ λ e. (let no : ⊥ = omega arith in no) ]
 
 -- ---- what is kept
 
@@ -217,8 +220,8 @@ kept_after c seed plan actor lots was now few one kept = by (one.actor == actor)
           player = ap (λ ps. slice_get ps actor) one.takes.players
               ∙ (ap (λ q. slice_get (slice_set was.players q one.takes.after) actor) hit
               ∙ (set_same was.players actor one.takes.after (striker actor kept.state) kept.player
-              ∙ ap Some own.1.0));
-          orders = own.1.1;
+              ∙ ap Some own.1));
+          orders = own.2;
         }
     by false e =
         let miss : actor ≢ one.actor = grind (arith, nat_tests) in
