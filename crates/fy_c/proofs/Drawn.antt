@@ -1,5 +1,5 @@
 -- plans: how many words they take, and what is told of their acts
-use Rattle.std.proofs.Common.{arith, ◌≡◌, ◌∙◌, ◌≤◌, ◌+◌, ◌-◌, ◌*◌, ℕ, zero, suc, List, [], ◌∷◌, ◌++◌, length, map, refl, sym, ap, ap₂}
+use Rattle.std.proofs.Common.{arith, ◌≡◌, ◌∙◌, ◌≤◌, ◌+◌, ◌-◌, ◌*◌, ℕ, zero, suc, List, [], ◌∷◌, ◌++◌, length, map, refl, sym, ap, ap₂, subst}
 use Rattle.std.specs.Prelude.{take, drop, replicate}
 use Rattle.std.proofs.lemmas.List.{take_all, length_push}
 use Rattle.std.proofs.lemmas.List.FromFn.{length-map-range_with_len}
@@ -79,21 +79,30 @@ pub record AreTold (processes : List Locality) (plan : Plan) (seed actor count :
   pub all : length acts ≡ count
   pub told : orders ≡ orders_of acts
 
-pub none_told : (processes : List Locality) (plan : Plan) (seed actor : ℕ) →
-    AreTold processes plan seed actor 0 (fault_of seed plan, stream_of seed actor) []
-none_told processes plan seed actor =
-    record { acts = []; turns = StrikesInTurn.none; all = refl; told = refl }
+pub none_told : (processes : List Locality) (plan : Plan) (seed actor : ℕ)
+    (now : FaultState × ChaCha) (orders : List FyOrder) →
+    now ≡ (fault_of seed plan, stream_of seed actor) → orders ≡ [] →
+    AreTold processes plan seed actor 0 now orders
+none_told processes plan seed actor now orders begun nothing = record {
+  acts = [];
+  turns = subst (StrikesInTurn processes (fault_of seed plan, stream_of seed actor) [])
+      (sym begun) StrikesInTurn.none;
+  all = refl;
+  told = nothing;
+}
 
 pub one_more_told : (processes : List Locality) (plan : Plan) (seed actor count : ℕ)
-    (was now : FaultState × ChaCha) (orders : List FyOrder) (made : Act) →
+    (was now : FaultState × ChaCha) (orders after : List FyOrder) (made : Act) (order : FyOrder) →
     AreTold processes plan seed actor count was orders → StrikesOnce processes was now made →
-    AreTold processes plan seed actor (count + 1) now (orders ++ order_of made ∷ [])
-one_more_told processes plan seed actor count was now orders made are once = record {
+    order ≡ order_of made → after ≡ orders ++ order ∷ [] →
+    AreTold processes plan seed actor (count + 1) now after
+one_more_told processes plan seed actor count was now orders after made order are once is more = record {
   acts = are.acts ++ made ∷ [];
   turns = StrikesInTurn.more are.acts was now made are.turns once;
   all = length_push are.acts made ∙ ap (λ n. n + 1) are.all;
-  told = ap (λ xs. xs ++ order_of made ∷ []) are.told
-      ∙ sym (map_joined order_of are.acts (made ∷ []));
+  told = more
+      ∙ (ap₂ (λ (xs : List FyOrder) (x : FyOrder). xs ++ x ∷ []) are.told is
+      ∙ sym (map_joined order_of are.acts (made ∷ [])));
 }
 
 pub told_all : (processes : List Locality) (plan : Plan) (seed actor count : ℕ)
