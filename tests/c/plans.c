@@ -163,7 +163,7 @@ static void rounds(void)
             EQUAL(orders[0].act, FY_ORDER_NONE);
         none += told == 0;
         some += told > 0;
-        EQUAL(fy_guard_attrition_plan(&guard, seed, stream, UINT32_MAX, 0, FY_KILL_INSTANTLY, FY_REBOOT, stream, plan, ROOM, &told),
+        EQUAL(fy_guard_attrition_plan(&guard, seed, stream, UINT32_MAX, 0, FY_REBOOT_AND_DELETE, FY_REBOOT, stream, plan, ROOM, &told),
               FY_DONE);
         EQUAL(told, PROCESSES);
         EQUAL(fy_guard_plan_orders(&guard, FY_PLAN_ATTRITION, seed, actor, orders, ROOM), FY_DONE);

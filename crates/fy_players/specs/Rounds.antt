@@ -4,7 +4,7 @@ use Rattle.std.specs.List.{range_with_len}
 use Rattle.std.proofs.Common.{lit≤}
 use Rattle.fy_locality.specs.declared.ProcId.{ProcId}
 use Rattle.fy_locality.specs.declared.locality.Locality.{Locality}
-use Rattle.fy_kinds.specs.declared.kind.Kind.TheVariants.{Reboot, KillInstantly}
+use Rattle.fy_kinds.specs.declared.kind.Kind.TheVariants.{Reboot, RebootAndDelete}
 use Rattle.fy_acts.specs.declared.act.Act.{Act}
 use Rattle.fy_acts.specs.declared.act.Act.TheVariants.{Clog, Unclog}
 use Rattle.fy_actors.specs.Words.{stream_outputs}
@@ -34,13 +34,13 @@ abbrev pub swizzle_round : List Locality → (seed stream ticks : ℕ) → List 
 swizzle_round processes seed stream ticks =
     swizzle_by processes (plan_words processes seed stream) ticks
 
--- a machine is killed for good, or at least rebooted
+-- a machine is emptied, or at least rebooted
 abbrev pub machine_kill : (tear : ℕ) → List ℕ → Act
-machine_kill tear machine = attrition_act KillInstantly Reboot tear (lit≤ tt) machine
+machine_kill tear machine = attrition_act RebootAndDelete Reboot tear (lit≤ tt) machine
 
 -- and so is each of these
 abbrev pub machine_kills : (tear : ℕ) → List (List ℕ) → List Act
-machine_kills tear machines = attrition_acts KillInstantly Reboot tear (lit≤ tt) machines
+machine_kills tear machines = attrition_acts RebootAndDelete Reboot tear (lit≤ tt) machines
 
 -- a round of an attrition: every machine, in a shuffled order; the stream's number is the tear too
 abbrev pub attrition_round : List Locality → (seed stream : ℕ) → List Act

@@ -20,7 +20,7 @@ use std::marker::Model;
 pub enum Plan {
     /// Kills of each kind and clogs, of processes, machines, zones, halls and data centres.
     Mixed,
-    /// In each round every machine is killed for good, or at least rebooted.
+    /// In each round every machine is emptied, or at least rebooted.
     Attrition,
     /// In each round some processes are clogged, and then freed.
     Swizzle,

@@ -124,7 +124,7 @@ pub(crate) fn swizzle_round(
     swizzle_acts(alloc, map, &plan, ticks)
 }
 
-/// An order to kill a machine for good, or at least to reboot it.
+/// An order to empty a machine, or at least to reboot it.
 fn machine_kill(machine: Name, tear: u64) -> Act
     ensures { result ≡ machine_kill tear machine }
 {
@@ -132,7 +132,7 @@ fn machine_kill(machine: Name, tear: u64) -> Act
         key: Key::Machine,
         value: machine,
     };
-    let Ok(order) = KillOrder::make(target, Kind::KillInstantly, Kind::Reboot, tear) else {
+    let Ok(order) = KillOrder::make(target, Kind::RebootAndDelete, Kind::Reboot, tear) else {
         unreachable!();
     };
     Act::Kill { order }
@@ -149,7 +149,7 @@ fn machine_kills(alloc: Global, machines: &[Name], tear: u64) -> Result<Vec<Act>
     Ok(acts)
 }
 
-/// A round of an attrition: every machine is killed for good, or at least rebooted. The number of
+/// A round of an attrition: every machine is emptied, or at least rebooted. The number of
 /// the stream is the tear too.
 pub(crate) fn attrition_round(
     alloc: Global,
