@@ -226,8 +226,17 @@ typedef struct fy_reply {
 
 /* ---- Plans and checks: their types */
 
+/* The plans by which fault actors of `faultyard simulate` draw their orders (docs/COMMANDS.md). */
+typedef enum fy_plan {
+    FY_PLAN_MIXED = 1,
+    FY_PLAN_ATTRITION = 2,
+    FY_PLAN_SWIZZLE = 3,
+    FY_PLAN_ROLLING = 4,
+} fy_plan;
+
 /* What an order of a plan asks for. */
 typedef enum fy_order_act {
+    FY_ORDER_NONE = 0,   /* Nothing: only fy_guard_plan_orders writes it. */
     FY_ORDER_KILL = 1,   /* fy_guard_kill */
     FY_ORDER_CLOG = 2,   /* the act clog */
     FY_ORDER_UNCLOG = 3, /* the act unclog */
@@ -241,7 +250,7 @@ typedef struct fy_order {
     uint64_t ticks;             /* For how many ticks a clog lasts. */
     uint64_t tear;              /* Which unsynced writes a reboot keeps, as fy_guard_kill has it. */
     uint32_t act;               /* The fy_order_act. */
-    uint32_t key;               /* The fy_key of the target: FY_PROCESS, or FY_MACHINE of a kill. */
+    uint32_t key;               /* The fy_key of the target. */
     uint32_t kind;              /* The fy_kind of a kill. */
     uint32_t floor;             /* The fy_kind of its floor. */
     char value[FY_VALUE_BYTES]; /* The value of the target, a text that ends with a zero. */
@@ -338,6 +347,8 @@ uint32_t fy_swizzle_plan(const fy_guard *guard, uint64_t seed, uint64_t stream, 
 uint32_t fy_attrition_plan(const fy_guard *guard, uint64_t seed, uint64_t stream, uint32_t to_kill,
                            uint32_t to_leave, uint32_t kind, uint32_t floor, uint64_t tear,
                            fy_order *orders, size_t room, size_t *told);
+uint32_t fy_plan_orders(const fy_guard *guard, uint32_t plan, uint64_t seed, uint32_t actor,
+                        fy_order *orders, size_t count);
 uint32_t fy_begin_check(const uint8_t *config, size_t config_length, fy_check *check);
 void fy_end_check(fy_check check);
 uint32_t fy_read_line(fy_check *check, const uint8_t *line, size_t line_length, uint32_t *first_bad);
@@ -997,6 +1008,24 @@ static inline fy_status fy_guard_attrition_plan(const fy_guard *guard, uint64_t 
         return FY_CLOSED;
     return (fy_status)fy_attrition_plan(guard, seed, stream, to_kill, to_leave, (uint32_t)kind,
                                         (uint32_t)floor, tear, orders, room, told);
+}
+
+/* Writes `count` orders: those of the first `count` turns of the fault actor with this number in
+ * `faultyard simulate` with this plan and seed, on the cluster file of the guard. They depend on
+ * nothing else. A call for more begins with the same orders, so it goes on where another one ended.
+ *
+ * A turn that does what a fault actor may not do orders nothing: its act is FY_ORDER_NONE, and all
+ * else of it is 0. A target may be `nowhere`, which no process has, and a clog may last longer than
+ * the clock does. Whether the actor is a fault actor isn't looked at. Nothing is entered.
+ *
+ * In this order: FY_CLOSED; FY_ARGUMENT where the plan is none; FY_NO_MEMORY. Nothing is written to
+ * the buffer then. */
+static inline fy_status fy_guard_plan_orders(const fy_guard *guard, fy_plan plan, uint64_t seed,
+                                             uint32_t actor, fy_order *orders, size_t count)
+{
+    if (!fy_guard_is_open(guard) || orders == NULL)
+        return FY_CLOSED;
+    return (fy_status)fy_plan_orders(guard, (uint32_t)plan, seed, actor, orders, count);
 }
 
 /* ---- Audits that are checked line by line */

@@ -158,9 +158,18 @@ enum class Status : std::uint32_t {
 
 /* What an order of a plan asks for. */
 enum class OrderAct : std::uint32_t {
+    None = FY_ORDER_NONE,
     Kill = FY_ORDER_KILL,
     Clog = FY_ORDER_CLOG,
     Unclog = FY_ORDER_UNCLOG,
+};
+
+/* How a fault actor of a simulation draws its orders. */
+enum class Plan : std::uint32_t {
+    Mixed = FY_PLAN_MIXED,
+    Attrition = FY_PLAN_ATTRITION,
+    Swizzle = FY_PLAN_SWIZZLE,
+    Rolling = FY_PLAN_ROLLING,
 };
 
 /* A set of kinds of kill and of clogging, as Kinds::Reboot | Kinds::Clog. */
@@ -563,7 +572,7 @@ struct Borne {
 /* An order of a plan that is drawn from a seed. */
 struct Order {
     OrderAct act = OrderAct::Kill;
-    /* The target: a process by its processid of a clog and its end, a machine of a kill. */
+    /* The target. Of a swizzle it is a process by its processid, of an attrition a machine. */
     Key key = Key::Process;
     std::string value;
     /* The kind and the floor of a kill; empty for the other acts. */
@@ -1110,6 +1119,26 @@ public:
         });
     }
 
+    /* The orders of the first turns of the fault actor with this number in `faultyard simulate`,
+     * one a turn: OrderAct::None of a turn that orders nothing. The target may be one that no
+     * process has, and the ticks more than the clock has. Nothing is entered.
+     * Throws in order Closed, Argument, NoMemory. */
+    std::vector<Order> plan_orders(Plan plan, std::uint64_t seed, std::uint32_t actor,
+                                   std::size_t count) const
+    {
+        const fy_guard *const guard = opened();
+        try {
+            /* The library takes no null pointer, also for no orders. */
+            std::vector<fy_order> drawn(count == 0 ? 1 : count);
+            require(fy_plan_orders(guard, static_cast<std::uint32_t>(plan), seed, actor,
+                                   drawn.data(), count));
+            drawn.resize(count);
+            return orders_of(drawn);
+        } catch (const std::bad_alloc &) {
+            throw Error(Status::NoMemory);
+        }
+    }
+
 private:
     friend class Check;
 
@@ -1131,13 +1160,20 @@ private:
                 status = call(drawn.data(), drawn.size(), &told);
             }
             require(status);
-            std::vector<Order> orders(told);
-            for (std::size_t at = 0; at < told; at++)
-                orders[at] = order_of(drawn[at]);
-            return orders;
+            drawn.resize(told);
+            return orders_of(drawn);
         } catch (const std::bad_alloc &) {
             throw Error(Status::NoMemory);
         }
+    }
+
+    static std::vector<Order> orders_of(const std::vector<fy_order> &drawn)
+    {
+        std::vector<Order> orders;
+        orders.reserve(drawn.size());
+        for (const fy_order &order : drawn)
+            orders.push_back(order_of(order));
+        return orders;
     }
 
     static Order order_of(const fy_order &drawn)

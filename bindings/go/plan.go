@@ -102,7 +102,38 @@ func (guard *Guard) plan(
 	if err != nil {
 		return nil, err
 	}
-	planned := make([]Planned, told)
+	return plannedOf(orders[:told]), nil
+}
+
+// PlanOrders answers the orders of the first turns of the fault actor with this number in
+// `faultyard simulate`, one a turn: of a turn that orders nothing the Act is OrderNone. The target
+// may be one that no process has, and the ticks more than the clock has. Nothing is entered.
+//
+// Its error is the first of ErrArgument where the count is below 0, ErrClosed, ErrArgument where
+// there is no such plan, ErrNoMemory.
+func (guard *Guard) PlanOrders(plan Plan, seed uint64, actor uint32, count int) ([]Planned, error) {
+	if count < 0 {
+		return nil, ErrArgument
+	}
+	// The library takes no null pointer, also for no orders.
+	orders := make([]C.fy_order, count+1)
+	var status C.uint32_t
+	err := guard.do(func(its *C.fy_guard) {
+		status = C.fy_plan_orders(its, C.uint32_t(plan), C.uint64_t(seed), C.uint32_t(actor),
+			&orders[0], C.size_t(count))
+	})
+	if err == nil {
+		err = errorOf(status)
+	}
+	if err != nil {
+		return nil, err
+	}
+	return plannedOf(orders[:count]), nil
+}
+
+// plannedOf answers orders of the library as this package has them.
+func plannedOf(orders []C.fy_order) []Planned {
+	planned := make([]Planned, len(orders))
 	for at := range planned {
 		order := &orders[at]
 		planned[at] = Planned{
@@ -117,5 +148,5 @@ func (guard *Guard) plan(
 			Ticks: uint64(order.ticks),
 		}
 	}
-	return planned, nil
+	return planned
 }

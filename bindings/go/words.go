@@ -51,12 +51,29 @@ type OrderAct uint32
 
 // What it may be.
 const (
+	// OrderNone orders nothing.
+	OrderNone OrderAct = C.FY_ORDER_NONE
 	// OrderKill is a kill.
 	OrderKill OrderAct = C.FY_ORDER_KILL
 	// OrderClog is the act clog.
 	OrderClog OrderAct = C.FY_ORDER_CLOG
 	// OrderUnclog is the act unclog.
 	OrderUnclog OrderAct = C.FY_ORDER_UNCLOG
+)
+
+// Plan is how a fault actor of a simulation draws its orders.
+type Plan uint32
+
+// The plans.
+const (
+	// PlanMixed has kills of each kind and clogs, of processes and of other places.
+	PlanMixed Plan = C.FY_PLAN_MIXED
+	// PlanAttrition destroys machines one after another.
+	PlanAttrition Plan = C.FY_PLAN_ATTRITION
+	// PlanSwizzle clogs processes one after another, and frees them in another order.
+	PlanSwizzle Plan = C.FY_PLAN_SWIZZLE
+	// PlanRolling strikes each process in turn, each round by a harder kind.
+	PlanRolling Plan = C.FY_PLAN_ROLLING
 )
 
 // Rule is why the kind that was ordered is barred: the first rule that holds.
@@ -102,7 +119,8 @@ const (
 var (
 	keyWords  = []string{"", "processid", "machineid", "zoneid", "data_hall", "dcid"}
 	kindWords = []string{"None", "RebootProcess", "Reboot", "RebootAndDelete", "KillInstantly"}
-	orderActs = []string{"", "kill", "clog", "unclog"}
+	orderActs = []string{"none", "kill", "clog", "unclog"}
+	planWords = []string{"", "mixed", "attrition", "swizzle", "rolling"}
 	ruleWords = []string{
 		"NoRule", "NoTarget", "NoGrant", "Protected", "TooManyDestroyed", "TooFewLeft",
 	}
@@ -124,6 +142,11 @@ func (kind Kind) String() string {
 // String is the name of the act in scripts and audits.
 func (act OrderAct) String() string {
 	return wordOf("OrderAct", orderActs, uint32(act))
+}
+
+// String is the word of simulate's --plan.
+func (plan Plan) String() string {
+	return wordOf("Plan", planWords, uint32(plan))
 }
 
 // String is the word of audits.

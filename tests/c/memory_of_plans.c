@@ -4,7 +4,7 @@
 #include "refuse.h"
 #include "told.h"
 
-enum { ROOM = 20, WORDS = 50, WORDS_CALL = 0, SWIZZLE, ATTRITION, PLANS };
+enum { ROOM = 20, WORDS = 50, WORDS_CALL = 0, SWIZZLE, ATTRITION, ORDERS, PLANS };
 
 static fy_status plan(int which, const fy_guard *guard, uint32_t *words, fy_order *orders, size_t *told)
 {
@@ -14,8 +14,11 @@ static fy_status plan(int which, const fy_guard *guard, uint32_t *words, fy_orde
         return fy_guard_words(9, 1, words, WORDS);
     case SWIZZLE:
         return fy_guard_swizzle_plan(guard, 9, 1, 10, orders, ROOM, told);
-    default:
+    case ATTRITION:
         return fy_guard_attrition_plan(guard, 9, 1, 4, 1, FY_KILL_INSTANTLY, FY_REBOOT, 0, orders, ROOM, told);
+    default:
+        *told = ROOM;
+        return fy_guard_plan_orders(guard, FY_PLAN_SWIZZLE, 9, 1, orders, ROOM);
     }
 }
 
@@ -40,7 +43,7 @@ static void plans(void)
             EQUAL(live, held);
             EQUAL(status, met ? FY_NO_MEMORY : FY_DONE);
             if (met) {
-                EQUAL(told, which == WORDS_CALL ? WORDS : 0);
+                EQUAL(told, which == WORDS_CALL ? WORDS : which == ORDERS ? ROOM : 0);
                 EQUAL(memcmp(words, no_words, sizeof words), 0);
                 EQUAL(memcmp(orders, no_orders, sizeof orders), 0);
             } else {

@@ -58,6 +58,20 @@ static void order_is(const fy_order *order, uint32_t act, uint32_t key, char let
     EQUAL(order->ticks, ticks);
 }
 
+/* So many orders are the same; between their fields there may be anything. */
+static void same_orders(const fy_order *these, const fy_order *those, size_t count)
+{
+    for (size_t at = 0; at < count; at++) {
+        EQUAL(these[at].ticks, those[at].ticks);
+        EQUAL(these[at].tear, those[at].tear);
+        EQUAL(these[at].act, those[at].act);
+        EQUAL(these[at].key, those[at].key);
+        EQUAL(these[at].kind, those[at].kind);
+        EQUAL(these[at].floor, those[at].floor);
+        EQUAL(memcmp(these[at].value, those[at].value, FY_VALUE_BYTES), 0);
+    }
+}
+
 /* A buffer holds so many orders of a plan, and behind them what was there. */
 static void rest_stays(const fy_order *orders, size_t told)
 {
@@ -130,6 +144,55 @@ static void plans(void)
     fy_guard_close(&guard);
 }
 
+/* The first round of a fault actor is a plan of the library, from the stream that its first turn draws. */
+static void rounds(void)
+{
+    fy_guard guard = open_guard(SIX);
+    size_t none = 0, some = 0;
+    for (uint64_t seed = 0; seed < 300; seed++) {
+        uint32_t actor = (uint32_t)(seed % 5), words[8];
+        fy_order plan[ROOM], orders[ROOM];
+        size_t told = 77;
+        EQUAL(fy_guard_words(seed, actor, words, 8), FY_DONE);
+        uint64_t stream = (uint64_t)words[7] << 32 | words[6];
+        uint64_t ticks = words[3] % 64 == 63 ? UINT64_C(1) << 41 : 250 * (words[3] / 64 % 16);
+        EQUAL(fy_guard_swizzle_plan(&guard, seed, stream, ticks, plan, ROOM, &told), FY_DONE);
+        EQUAL(fy_guard_plan_orders(&guard, FY_PLAN_SWIZZLE, seed, actor, orders, ROOM), FY_DONE);
+        same_orders(orders, plan, told);
+        if (told == 0)
+            EQUAL(orders[0].act, FY_ORDER_NONE);
+        none += told == 0;
+        some += told > 0;
+        EQUAL(fy_guard_attrition_plan(&guard, seed, stream, UINT32_MAX, 0, FY_REBOOT_AND_DELETE, FY_REBOOT, stream, plan, ROOM, &told),
+              FY_DONE);
+        EQUAL(told, PROCESSES);
+        EQUAL(fy_guard_plan_orders(&guard, FY_PLAN_ATTRITION, seed, actor, orders, ROOM), FY_DONE);
+        same_orders(orders, plan, told);
+    }
+    EQUAL(none > 0 && some > 0, 1);
+    fy_guard_close(&guard);
+}
+
+/* A longer call begins with the orders of a shorter one, and writes nothing behind its own. */
+static void longer(void)
+{
+    fy_guard guard = open_guard(SIX);
+    for (int plan = FY_PLAN_MIXED; plan <= FY_PLAN_ROLLING; plan++) {
+        fy_order all[500], some[ROOM];
+        size_t count = 77;
+        EQUAL(fy_guard_plan_orders(&guard, (fy_plan)plan, 7, 1, all, 500), FY_DONE);
+        for (size_t room = 0; room <= ROOM; room++) {
+            memset(some, 0x55, sizeof some);
+            EQUAL(fy_guard_plan_orders(&guard, (fy_plan)plan, 7, 1, some, room), FY_DONE);
+            same_orders(some, all, room);
+            rest_stays(some, room);
+        }
+        EQUAL(fy_guard_journal_len(&guard, &count), FY_DONE);
+        EQUAL(count, 0);
+    }
+    fy_guard_close(&guard);
+}
+
 /* A plan of a swarm is carried out by its orders. */
 static void carried_out(void)
 {
@@ -176,6 +239,9 @@ static void refusals(void)
         EQUAL(fy_guard_attrition_plan(&guard, seed, 0, 3, 1, kinds[i].kind, kinds[i].floor, 0, orders, 0, &told), kinds[i].status);
         EQUAL(told, 0);
     }
+    EQUAL(fy_guard_plan_orders(&guard, (fy_plan)0, seed, 1, orders, ROOM), FY_ARGUMENT);
+    EQUAL(fy_guard_plan_orders(&guard, (fy_plan)5, seed, 1, orders, ROOM), FY_ARGUMENT);
+    EQUAL(fy_guard_plan_orders(&guard, (fy_plan)5, seed, 1, orders, 0), FY_ARGUMENT);
     rest_stays(orders, 0);
     EQUAL(fy_guard_swizzle_plan(&guard, seed, 0, 10, orders, whole, &told), FY_DONE);
     rest_stays(orders, whole);
@@ -189,9 +255,11 @@ static void closed(void)
     size_t told;
     for (int round = 0; round < 2; round++) {
         const fy_guard *none = round == 0 ? &shut : NULL;
+        EQUAL(fy_guard_plan_orders(none, FY_PLAN_MIXED, 0, 0, &order, 1), FY_CLOSED);
         EQUAL(fy_guard_swizzle_plan(none, 0, 0, 1, &order, 1, &told), FY_CLOSED);
         EQUAL(fy_guard_attrition_plan(none, 0, 0, 1, 1, FY_REBOOT, FY_REBOOT, 0, &order, 1, &told), FY_CLOSED);
     }
+    EQUAL(fy_guard_plan_orders(&guard, FY_PLAN_MIXED, 0, 0, NULL, 0), FY_CLOSED);
     EQUAL(fy_guard_swizzle_plan(&guard, 0, 0, 1, NULL, 0, &told), FY_CLOSED);
     EQUAL(fy_guard_swizzle_plan(&guard, 0, 0, 1, &order, 1, NULL), FY_CLOSED);
     EQUAL(fy_guard_attrition_plan(&guard, 0, 0, 1, 1, FY_REBOOT, FY_REBOOT, 0, NULL, 0, &told), FY_CLOSED);
@@ -203,6 +271,8 @@ int main(void)
 {
     published();
     plans();
+    rounds();
+    longer();
     carried_out();
     refusals();
     closed();

@@ -23,12 +23,12 @@ from .edn import Convert
 from .evidence import told_cases
 from .disks import KINDS as KINDS_OF_DISKS
 from .net import WAYS
+from .orders import KINDS
 from .picture import draw
 from .run import Run
 from .summary import MILD, closing, tested_little
 from .verdicts import Verdict
 
-KINDS = [10.0, 35.0, 54.0, 1.0, 10.0]
 # The words that only some plans draw by.
 DRAWN = {"kinds": ("mixed", "attrition", "swizzle"), "pauses": ("mixed", "blackout", "partition")}
 LEAST = {"seed": 0, "seconds": 0, "writers": 1, "readers": 0, "hook_timeout": 0.1}
@@ -113,7 +113,7 @@ def parsed() -> argparse.Namespace:
         it.error(f"{words.out} is not empty")
     if idle := without_effect(words):
         it.error(idle)
-    words.hooks, words.kinds = words.hooks.resolve(), words.kinds or KINDS
+    words.hooks = words.hooks.resolve()
     return words
 
 

@@ -3,30 +3,23 @@ import asyncio
 import time
 from argparse import Namespace
 from collections import Counter
-from collections.abc import Iterator
 from contextlib import suppress
 from dataclasses import replace
 from random import Random
 from typing import Any
 
 from faultyard import FaultyardError, Guard, Key, Kind
-from faultyard.harness import read_orders
-from faultyard.plans import Draw, Order, shared_place
 
-from . import HOOK, USAGE, Fault
+from . import HOOK, Fault
 from .checks import HookCheck
 from .clients import Clients, pairs
 from .evidence import Case, Course, wrong_line
 from .history import History, Operation
-from .disks import tears_of
+from .orders import Orders, Timed
 from .store import AGAIN, Store, cancelled
 from .summary import Amount
 from .traces import traces
 from .verdicts import Disk, Judged, Left, Verdict, judged, wrong
-
-FIRST = 1.0  # seconds before the first order
-Timed = tuple[float, Order]
-
 
 def first_of(faults: ExceptionGroup[Exception]) -> Exception:
     """The first fault of a group that the tool has words for, or else the group.
@@ -57,14 +50,15 @@ class Run(Store):
     async def whole(self) -> None:
         """The run from its first process to what could be read."""
         await self.hooks.learn()
-        orders = list(self._planned())
+        orders = Orders(self.words, self.file, self.fault)
         try:
             await self.lay_out()
             async with self.hooks.set_up(), asyncio.TaskGroup() as tasks:
                 await self.begin(tasks)
                 self.ledger.begin()
                 self.note("ready")
-                await self._chaos(orders)
+                self.show(f"orders: {orders.whose}")
+                await self._chaos(orders.timed)
                 left = await self._read()
                 await self.end()
                 await self.check.disks()
@@ -76,25 +70,6 @@ class Run(Store):
         finally:
             if self.disks:
                 await self.disks.settle()
-
-    def _planned(self) -> Iterator[Timed]:
-        """Orders and their times: of another run, or of a plan."""
-        words, granted = self.words, self.file.actors[self.fault].kinds
-        if words.replay:
-            yield from read_orders(words.replay)
-        elif not words.check_hooks:
-            weights = {kind: it for kind, it in zip(Kind, words.kinds) if kind in granted}
-            draw, at = Draw(Random(words.seed), self.file.places, weights, words.pauses), FIRST
-            if words.plan == "blackout" and not shared_place(self.file.places):
-                text = "--plan blackout needs a place that all processes share, as a dcid"
-                raise Fault(USAGE, f"{words.config}: {text}")
-            if words.plan == "partition" and Kind.CLOG not in granted:
-                raise Fault(USAGE, f"{words.config}: --plan partition needs a grant of Clog")
-            tears = tears_of(words)
-            for order in getattr(draw, words.plan)():
-                if (at := round(at + order.pause, 3)) >= words.seconds:
-                    return
-                yield at, order._replace(tear=next(tears))
 
     async def _chaos(self, orders: list[Timed]) -> None:
         """Writes and orders, until all that was clogged is let go again."""

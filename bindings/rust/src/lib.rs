@@ -110,7 +110,7 @@ pub use borne::Borne;
 pub use check::{Check, Finding};
 pub use error::{ConfigFault, Error};
 pub use guard::{Guard, AUDIT_HEADER};
-pub use plan::{words, Attrition, Order};
+pub use plan::{words, Attrition, Order, Plan};
 pub use set::ProcessSet;
 pub use sight::Sight;
 pub use state::State;

@@ -82,6 +82,20 @@ impl Order {
     }
 }
 
+/// How a fault actor of a simulation draws its orders.
+#[derive(Clone, Copy, Debug, PartialEq, Eq, Hash)]
+#[repr(u32)]
+pub enum Plan {
+    /// Kills of each kind and clogs, of processes, machines, zones, halls and data centres.
+    Mixed = 1,
+    /// Machines are destroyed one after another.
+    Attrition = 2,
+    /// Processes are clogged one after another, and freed in another order.
+    Swizzle = 3,
+    /// Each process in turn, each round by a harder kind.
+    Rolling = 4,
+}
+
 /// The machines that an attrition kills, and how. The default is that of a swarm.
 #[derive(Clone, Copy, Debug, PartialEq, Eq, Hash)]
 pub struct Attrition {
@@ -123,6 +137,29 @@ impl Guard {
             // SAFETY: as in `process`. The orders have this length.
             unsafe { sys::fy_swizzle_plan(self.raw(), seed, stream, ticks, orders, room, told) }
         })
+    }
+
+    /// The orders of the first turns of the fault actor with this number in `faultyard simulate`,
+    /// one a turn: `None` for a turn that orders nothing. The target may be one that no process
+    /// has, and the ticks more than the clock has. Nothing is entered.
+    ///
+    /// # Errors
+    ///
+    /// [`Error::NoMemory`].
+    pub fn plan_orders(
+        &self,
+        plan: Plan,
+        seed: u64,
+        actor: u32,
+        count: usize,
+    ) -> Result<Vec<Option<Order>>, Error> {
+        let mut orders = vec![FyOrder::default(); count];
+        // SAFETY: as in `process`. The orders have this length, and a vector's pointer isn't null.
+        done(unsafe {
+            sys::fy_plan_orders(self.raw(), plan as u32, seed, actor, orders.as_mut_ptr(), count)
+        })?;
+        let one = |order: &FyOrder| (order.act != 0).then(|| Order::of(order)).transpose();
+        orders.iter().map(one).collect()
     }
 
     /// The attrition that is drawn from a stream of a seed: a kill of each machine. A swarm's

@@ -333,6 +333,14 @@ extern "C" {
         room: usize,
         told: *mut usize,
     ) -> u32;
+    pub fn fy_plan_orders(
+        guard: *const FyGuard,
+        plan: u32,
+        seed: u64,
+        actor: u32,
+        orders: *mut FyOrder,
+        count: usize,
+    ) -> u32;
     pub fn fy_attrition_plan(
         guard: *const FyGuard,
         seed: u64,

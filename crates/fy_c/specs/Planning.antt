@@ -1,6 +1,5 @@
 -- words of a seed, and the orders of plans that are drawn from them
 use Rattle.std.specs.Prelude.{◌≡◌, ◌≢◌, ◌<◌, ◌≤◌, ◌*◌, ◌-◌, ℕ, List, [], ◌++◌, length, map, drop, replicate}
-use Rattle.std.specs.List.{range_with_len}
 use Rattle.fy_locality.specs.declared.ProcId.{ProcId}
 use Rattle.fy_locality.specs.declared.locality.Locality.{Locality}
 use Rattle.fy_locality.specs.declared.key.Key.TheVariants.{Machine}
@@ -12,6 +11,10 @@ use Rattle.fy_actors.specs.Words.{stream_outputs}
 use Rattle.fy_actors.specs.Plans.{IsSwizzle, machines_to_kill}
 use Rattle.fy_actors.specs.Schedules.{process_target, swizzle_acts, attrition_acts}
 use Rattle.fy_actors.specs.declared.plans.SwizzlePlan.{SwizzlePlan}
+use Rattle.fy_players.specs.declared.faults.Plan.{Plan}
+use Rattle.fy_players.specs.declared.faults.Plan.TheVariants.{Mixed, Attrition, Swizzle, Rolling}
+use Rattle.fy_players.specs.Rounds.{everyone, plan_words}
+use Rattle.fy_players.specs.Orders.{AreOrders}
 use Rattle.fy_c.specs.Numbers.{key_number, kind_number}
 use Rattle.fy_c.specs.declared.planning.TheConstants.{VALUE_BYTES}
 use Rattle.fy_c.specs.declared.planning.Asked.{Asked}
@@ -30,7 +33,7 @@ pub data Draws (seed stream : ℕ) (before after : List ℕ) : Status → Type 0
 abbrev pub with_zeros : List ℕ → List ℕ
 with_zeros name = name ++ replicate (VALUE_BYTES - length name) 0
 
--- an act that no plan has
+-- what is told of an act that orders nothing
 abbrev pub no_order : FyOrder
 no_order = record {
   ticks = 0;
@@ -99,14 +102,6 @@ kill_of kind floor tear machine = record {
 
 -- ---- plans
 
--- every process, by number
-abbrev pub everyone : List Locality → List ProcId
-everyone processes = map (λ p. record { 0 = p }) (range_with_len 0 (length processes))
-
--- the words of a plan: two for each process, from a stream of the seed
-abbrev pub plan_words : List Locality → ℕ → ℕ → List ℕ
-plan_words processes seed stream = stream_outputs seed stream (2 * length processes)
-
 -- the orders are those of a swizzle of all processes
 pub record IsSwizzleOf (processes : List Locality) (seed stream ticks : ℕ) (orders : List FyOrder)
     : Type 0 where
@@ -165,3 +160,30 @@ pub data PlansAttrition (processes : List Locality) (asked : Asked) (before afte
       PlansAttrition processes asked before after told status
   not_asked : NoKindAndFloor asked status → told ≡ 0 → after ≡ before →
       PlansAttrition processes asked before after told status
+
+-- ---- the plans of a simulation
+
+-- plans, from 1
+abbrev pub plan_number : Plan → ℕ
+plan_number Mixed = 1
+plan_number Attrition = 2
+plan_number Swizzle = 3
+plan_number Rolling = 4
+
+-- the orders of so many turns of the fault actor with this number, from its first turn on
+pub record AreOrdersOf (processes : List Locality) (plan : Plan) (seed actor count : ℕ)
+    (orders : List FyOrder) : Type 0 where
+  pub acts : List Act
+  pub are : AreOrders processes plan seed actor acts
+  pub turns : length acts ≡ count
+  pub told : orders ≡ orders_of acts
+
+-- a buffer is filled with such orders; or the number is that of no plan, or there was no memory
+pub data FillsWithOrders (processes : List Locality) (number seed actor : ℕ)
+    (before after : List FyOrder) : Status → Type 0 where
+  filled : (plan : Plan) → number ≡ plan_number plan →
+      AreOrdersOf processes plan seed actor (length before) after →
+      FillsWithOrders processes number seed actor before after Done
+  no_plan : ((plan : Plan) → number ≢ plan_number plan) → after ≡ before →
+      FillsWithOrders processes number seed actor before after Argument
+  no_memory : after ≡ before → FillsWithOrders processes number seed actor before after NoMemory

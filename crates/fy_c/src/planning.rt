@@ -1,19 +1,22 @@
 //! Words of a seed, and the orders of plans that are drawn from them.
-ghost use Rattle.std.specs.Prelude.{◌≡◌, ◌≢◌, ◌<◌, ◌≤◌, length, All, IfOk, IfErr, Some};
+ghost use Rattle.std.specs.Prelude.{◌≡◌, ◌≢◌, ◌<◌, ◌≤◌, length, All, IfOk, IfErr, IfSome, IfNone, Some};
+ghost use Rattle.fy_players.specs.declared.faults.Plan.{Plan};
+ghost use Rattle.fy_acts.specs.declared.act.Act.TheVariants as act;
 ghost use Rattle.std.specs.Ptr.{null_ptr};
 ghost use Rattle.fy_kinds.specs.Kinds.{rank};
-ghost use Rattle.fy_actors.specs.Plans.{IsSwizzle};
 ghost use Rattle.fy_actors.specs.Schedules.{process_target, swizzle_acts, attrition_acts};
 ghost use Rattle.fy_c.specs.Numbers.{key_number};
-ghost use Rattle.fy_c.specs.Planning.{Draws, with_zeros, orders_of, clog_of, unclog_of, kill_of, everyone, plan_words, IsSwizzleOf, AreKinds, NoKindAndFloor, machines_of, IsAttritionOf, Gives, Plans, PlansAttrition};
+ghost use Rattle.fy_c.specs.Planning.{Draws, with_zeros, order_of, orders_of, clog_of, unclog_of, kill_of, no_order, IsSwizzleOf, AreKinds, NoKindAndFloor, machines_of, IsAttritionOf, Gives, Plans, PlansAttrition, plan_number, AreOrdersOf, FillsWithOrders};
 ghost use Rattle.fy_c.specs.Statuses.{Answers};
 
 use crate::handle::FyGuard;
 use crate::numbers::{kind_number, kind_of};
 use crate::status::Status;
-use fy_actors::{AttritionPlan, PlanFault, SwizzlePlan, attrition_plan, swizzle_plan, words};
-use fy_kinds::{Kind, Target};
+use fy_actors::{AttritionPlan, SwizzlePlan, words};
+use fy_journal::Act;
+use fy_kinds::{KillOrder, Kind, Target};
 use fy_locality::{Key, Map, Name, ProcId};
+use fy_players::{Orders, Plan, draw_attrition, draw_swizzle};
 use std::alloc::{AllocError, Global};
 
 /// How many bytes the value of an order has: a name of the most characters, and a zero behind it.
@@ -44,7 +47,7 @@ pub struct FyOrder {
     pub ticks: u64,
     /// Which unsynced writes a reboot keeps.
     pub tear: u64,
-    /// What is ordered: 1 is a kill, 2 a clog, 3 the end of one.
+    /// What is ordered: 1 is a kill, 2 a clog, 3 the end of one; 0 where nothing is.
     pub act: u32,
     /// The number of the target's key.
     pub key: u32,
@@ -55,6 +58,9 @@ pub struct FyOrder {
     /// The target's value, with zeros behind it.
     pub value: [u8; VALUE_BYTES],
 }
+
+/// The number of what is no order.
+const NO_ORDER: u32 = 0;
 
 /// The number of a kill, a clog and the end of a clog.
 const ORDER_KILL: u32 = 1;
@@ -146,31 +152,6 @@ fn kill(machine: &Name, kind: Kind, floor: Kind, tear: u64) -> FyOrder
         kind: kind_number(kind),
         floor: kind_number(floor),
         value: with_zeros(machine),
-    }
-}
-
-/// Every process, by number.
-#[tactic(auto, using(crate::proofs::Drawn::one_process_more))]
-fn everyone(alloc: Global, map: &Map) -> Result<Vec<ProcId>, AllocError>
-    ensures { IfOk result (λ all. all.items ≡ everyone map.now) }
-{
-    let mut all = Vec::new(alloc);
-    for p in 0..map.len() {
-        all.push(ProcId(p))?;
-    }
-    Ok(all)
-}
-
-/// A swizzle of all processes, drawn from a stream of the seed.
-fn draw_swizzle(alloc: Global, map: &Map, seed: u64, stream: u64) -> Result<SwizzlePlan, AllocError>
-    ensures { IfOk result (IsSwizzle (plan_words map.now seed stream) (everyone map.now)) }
-{
-    let words = words(alloc, seed, stream, 2 * map.len() as usize)?;
-    let all = everyone(alloc, map)?;
-    match swizzle_plan(alloc, &words, &all) {
-        Ok(plan) => Ok(plan),
-        Err(PlanFault::NoMemory) => Err(AllocError),
-        Err(PlanFault::WordsShort { .. }) => unreachable!(),
     }
 }
 
@@ -289,15 +270,17 @@ fn kinds_of(asked: Asked) -> Result<(Kind, Kind), Status>
 }
 
 /// The machines that are asked for, drawn from a stream of the seed.
-fn draw_attrition(alloc: Global, map: &Map, asked: Asked) -> Result<AttritionPlan, AllocError>
+fn draw_machines(alloc: Global, map: &Map, asked: Asked) -> Result<AttritionPlan, AllocError>
     ensures { IfOk result (λ plan. plan.machines.items ≡ machines_of map.now asked) }
 {
-    let words = words(alloc, asked.seed, asked.stream, 2 * map.len() as usize)?;
-    match attrition_plan(alloc, &words, map, asked.to_kill, asked.to_leave) {
-        Ok(plan) => Ok(plan),
-        Err(PlanFault::NoMemory) => Err(AllocError),
-        Err(PlanFault::WordsShort { .. }) => unreachable!(),
-    }
+    let Asked {
+        seed,
+        stream,
+        to_kill,
+        to_leave,
+        ..
+    } = asked;
+    draw_attrition(alloc, map, seed, stream, to_kill, to_leave)
 }
 
 /// The order to kill each machine.
@@ -329,7 +312,7 @@ fn attrition(
     ensures { (ordered : rank floor ≤ rank kind) → IfOk result (λ orders.
         IsAttritionOf map.now asked kind floor ordered orders.items) }
 {
-    let plan = draw_attrition(alloc, map, asked)?;
+    let plan = draw_machines(alloc, map, asked)?;
     kill_orders(alloc, &plan.machines, kind, floor, asked.tear)
 }
 
@@ -388,4 +371,137 @@ pub extern "C" fn fy_attrition_plan(
         Ok(plan) => give(&plan, orders, told).number(),
         Err(_) => Status::NoMemory.number(),
     }
+}
+
+/// The plan that a program in C gives by its number.
+fn plan_of(number: u32) -> Option<Plan>
+    ensures some { IfSome result (λ plan. number ≡ plan_number plan) }
+    ensures none { IfNone result ((plan : Plan) → number ≢ plan_number plan) }
+{
+    match number {
+        1 => Some(Plan::Mixed),
+        2 => Some(Plan::Attrition),
+        3 => Some(Plan::Swizzle),
+        4 => Some(Plan::Rolling),
+        _ => None,
+    }
+}
+
+/// An order that is none.
+fn no_order() -> FyOrder
+    ensures { result ≡ no_order }
+{
+    FyOrder {
+        ticks: 0,
+        tear: 0,
+        act: NO_ORDER,
+        key: 0,
+        kind: 0,
+        floor: 0,
+        value: [0; VALUE_BYTES],
+    }
+}
+
+/// The order of a kill.
+fn order_of_kill(order: KillOrder) -> FyOrder
+    ensures { result ≡ order_of (act.Kill order) }
+{
+    let target = order.target();
+    FyOrder {
+        ticks: 0,
+        tear: order.tear(),
+        act: ORDER_KILL,
+        key: key_number(target.key),
+        kind: kind_number(order.kind()),
+        floor: kind_number(order.floor()),
+        value: with_zeros(&target.value),
+    }
+}
+
+/// The order of a clog of this many ticks, or of the end of one.
+fn order_of_clog(act: u32, target: Target, ticks: u64) -> FyOrder
+    ensures { result ≡ record {
+      ticks = ticks;
+      tear = 0;
+      act = act;
+      key = key_number target.key;
+      kind = 0;
+      floor = 0;
+      value = with_zeros target.value;
+    } }
+{
+    FyOrder {
+        ticks,
+        tear: 0,
+        act,
+        key: key_number(target.key),
+        kind: 0,
+        floor: 0,
+        value: with_zeros(&target.value),
+    }
+}
+
+/// The order of an act.
+fn order_of(act: &Act) -> FyOrder
+    ensures { result ≡ order_of act.now }
+{
+    match *act {
+        Act::Kill { order } => order_of_kill(order),
+        Act::Clog { target, ticks } => order_of_clog(ORDER_CLOG, target, ticks),
+        Act::Unclog { target } => order_of_clog(ORDER_UNCLOG, target, 0),
+        _ => no_order(),
+    }
+}
+
+/// The orders of the first turns of the fault actor with this number.
+fn plan_orders(
+    alloc: Global,
+    map: &Map,
+    plan: Plan,
+    seed: u64,
+    actor: u32,
+    count: usize,
+) -> Result<Vec<FyOrder>, AllocError>
+    ensures { IfOk result (λ orders. AreOrdersOf map.now plan seed actor count orders.items) }
+{
+    let mut turns = Orders::make(alloc, seed, plan, actor);
+    let mut orders = Vec::new(alloc);
+    for _ in 0..count {
+        let act = turns.next(map)?;
+        orders.push(order_of(&act))?;
+    }
+    Ok(orders)
+}
+
+/// Writes as many orders as there is room for: those of the first turns that the fault actor with
+/// this number takes in a simulation by this plan and seed, one a turn. A turn that orders nothing
+/// has an order whose act is 0.
+///
+/// # Errors
+///
+/// In order: `Argument` where the number is that of no plan; `NoMemory`. Nothing is written then.
+#[unsafe(no_mangle)]
+pub extern "C" fn fy_plan_orders(
+    alloc: Global,
+    guard: &mut FyGuard,
+    plan: u32,
+    seed: u64,
+    actor: u32,
+    orders: &mut [FyOrder],
+) -> u32
+    requires { guard.old.at ≢ null_ptr }
+    ensures kept { guard.new.value ≡ guard.old.value }
+    ensures place { guard.new.at ≡ guard.old.at }
+    ensures filled { Answers result (FillsWithOrders guard.old.value.setup.processes plan seed actor
+        orders.old orders.new) }
+{
+    let Some(plan) = plan_of(plan) else {
+        return Status::Argument.number();
+    };
+    let map = guard.cluster().config().map();
+    let Ok(made) = plan_orders(alloc, map, plan, seed, actor, orders.len()) else {
+        return Status::NoMemory.number();
+    };
+    orders.copy_from_slice(&made);
+    Status::Done.number()
 }

@@ -2,6 +2,8 @@ pub mod Draws
 pub mod Picks
 pub mod Knowledge
 pub mod Storage
+pub mod Rounds
 pub mod Faults
+pub mod Orders
 pub mod Operators
 pub mod Turns

@@ -10,7 +10,7 @@ use Rattle.fy_kinds.specs.declared.kind.Kind.TheVariants.{RebootProcess, Reboot,
 use Rattle.fy_kinds.specs.declared.order.Target.{Target}
 use Rattle.fy_kinds.specs.Kinds.{rank, only, every_deed, Striking, Clogging}
 use Rattle.fy_kinds.specs.Members.{Members}
-use Rattle.fy_players.specs.declared.picks.TheConstants.{NOBODY, NO_TICKS, TOO_LONG}
+use Rattle.fy_players.specs.declared.picks.TheConstants.{NOBODY, NO_TICKS, TICKS_AT_ONCE, TOO_LONG}
 
 -- a place among so many; once in 64, and where there is none, no place
 abbrev pub place_of : ℕ → ℕ → Option ℕ
@@ -32,9 +32,14 @@ kind_of word =
     else (if word % 4 == 1 then Reboot
     else (if word % 4 == 2 then RebootAndDelete else KillInstantly))
 
--- a floor that isn't above the kind
+-- the second kind, unless it is above the first
+abbrev pub lower : Kind → Kind → Kind
+lower kind other = if nat_lt (rank kind) (rank other) then kind else other
+
+-- once in four any floor that isn't above the kind, else the mildest
 abbrev pub floor_of : ℕ → Kind → Kind
-floor_of word kind = if nat_lt (rank kind) (rank (kind_of word)) then kind else kind_of word
+floor_of word kind =
+    if word % 4 == 0 then lower kind (kind_of (word / 4)) else RebootProcess
 
 -- clogging, all deeds, or a kind of kill
 abbrev pub kinds_of : ℕ → Members
@@ -42,14 +47,15 @@ kinds_of word =
     if word % 6 == 4 then only Clogging
     else (if word % 6 == 5 then every_deed else only (Striking (kind_of (word / 6))))
 
--- a key, that of processes most often
+-- a key: of 32 words eight are for machines, four for zones, one for data centres and one for data
+-- halls, and the others for processes
 abbrev pub key_of : ℕ → Key
 key_of word =
-    let k = word % 16 in
-    if nat_lt k 3 then Machine
-    else (if nat_lt k 5 then Zone
-    else (if nat_lt k 7 then DataCenter
-    else (if nat_lt k 8 then DataHall else Process)))
+    let k = word % 32 in
+    if nat_lt k 8 then Machine
+    else (if nat_lt k 12 then Zone
+    else (if nat_lt k 13 then DataCenter
+    else (if nat_lt k 14 then DataHall else Process)))
 
 -- the value at a place among those of a key, or a name that nothing has
 abbrev pub value_at : List Locality → Key → Option ℕ → List ℕ
@@ -68,9 +74,9 @@ abbrev pub bytes_of : ℕ → List ℕ
 bytes_of word =
     replicate (if word % 64 == 63 then TOO_LONG else word / 64 % TOO_LONG) (word % 251)
 
--- up to 15 ticks, and once in 64 more than the clock has
+-- up to 15 times so many ticks, and once in 64 more than the clock has
 abbrev pub ticks_of : ℕ → ℕ
-ticks_of word = if word % 64 == 63 then NO_TICKS else word / 64 % 16
+ticks_of word = if word % 64 == 63 then NO_TICKS else TICKS_AT_ONCE * (word / 64 % 16)
 
 -- a tear of two words
 abbrev pub tear_of : ℕ → ℕ → ℕ

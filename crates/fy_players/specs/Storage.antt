@@ -11,8 +11,7 @@ use Rattle.fy_cluster.specs.declared.status.Status.{Status}
 use Rattle.fy_cluster.specs.History.{left, keeper}
 use Rattle.fy_cluster.specs.Sights.{status_of, needed_of}
 use Rattle.fy_cluster.specs.Execution.{Execution, history_of}
-use Rattle.fy_actors.specs.Drives.{move_by}
-use Rattle.fy_players.specs.declared.picks.TheConstants.{NOBODY}
+use Rattle.fy_players.specs.declared.picks.TheConstants.{NOBODY, TICKS_AT_ONCE}
 use Rattle.fy_players.specs.declared.draws.Words.{Words}
 use Rattle.fy_players.specs.declared.storage.TheConstants.{MOST_BEHIND}
 use Rattle.fy_players.specs.declared.storage.Choice.{Choice}
@@ -82,6 +81,12 @@ member_at teams place word =
     option_map_or (λ known. member_of known.members word) (slice_get teams place) nobody
 
 -- ---- acts
+
+-- the first that is possible: deliver a message, sync a process, start one, let ticks pass
+abbrev pub move_by : Sight → Act
+move_by sight =
+    option_map_or act.Deliver sight.deliverable
+    (option_map_or act.Sync sight.unsynced (option_map_or act.Up sight.sleeping (act.Tick TICKS_AT_ONCE)))
 
 -- a team of processes that stand evenly apart
 abbrev pub forms : Execution → Words → Act × Note

@@ -1,35 +1,70 @@
 //! Fault actors: kills and clogs, by a plan.
-ghost use Rattle.std.specs.Prelude.{◌≡◌, ◌≤◌};
+ghost use Rattle.std.specs.Prelude.{◌≡◌, ◌≤◌, ◌/◌, max, length, IfOk, OnOk};
+ghost use Rattle.fy_locality.specs.declared.key.Key.TheVariants.{Process};
+ghost use Rattle.fy_locality.specs.Locality.{values_of};
+ghost use Rattle.fy_kinds.specs.declared.kind.Kind.TheVariants.{RebootProcess};
 ghost use Rattle.fy_kinds.specs.Kinds.{rank};
-ghost use Rattle.fy_players.specs.Faults.{IsKill, Mixes, Strikes, choice_of, swizzles, rolling_kind, rolling_target, one_turn_more};
-ghost use Rattle.fy_players.specs.declared.faults.Plan.TheVariants as plan;
+ghost use Rattle.fy_players.specs.Faults.{IsKill, Mixes, Strikes, choice_of, mixed_kind, rolling_kind, rolling_target, round_of, readied, round_act, fault_of, one_turn_more};
 
 use crate::draws::Words;
-use crate::picks::{
-    pick_floor, pick_key, pick_kind, pick_target, pick_tear, pick_ticks, target_at,
-};
+use crate::picks::{pick_floor, pick_key, pick_target, pick_tear, pick_ticks, target_at};
+use crate::rounds::{attrition_round, swizzle_round};
 use fy_journal::Act;
 use fy_kinds::{KillOrder, Kind, Target};
 use fy_locality::{Key, Map};
+use std::alloc::{AllocError, Global};
+use std::marker::Model;
 
 /// How fault actors draw their orders.
 #[derive(Clone, Copy, PartialEq, Eq, Debug)]
 pub enum Plan {
     /// Kills of each kind and clogs, of processes, machines, zones, halls and data centres.
     Mixed,
-    /// Machines are killed for good.
+    /// In each round every machine is emptied, or at least rebooted.
     Attrition,
-    /// Processes are clogged and freed.
+    /// In each round some processes are clogged, and then freed.
     Swizzle,
     /// Each process in turn: rebooted, then rebooted with its machine, then emptied.
     Rolling,
 }
 
-/// A fault actor: its plan, and how many turns it took.
-#[derive(Clone, Copy, PartialEq, Eq, Debug)]
+/// A fault actor: the seed from which its rounds are drawn, its plan, how many turns it took, and the
+/// acts of the round that is under way, with how many of them were made. It keeps its allocator.
 pub struct FaultPlayer {
+    alloc: Global,
+    seed: u64,
     plan: Plan,
     turns: u32,
+    round: Vec<Act>,
+    made: usize,
+}
+
+impl Model for FaultPlayer {
+    ghost use Rattle.std.specs.Coded.{codes};
+    ghost use Rattle.fy_players.specs.Faults.{FaultState};
+
+    ghost Value = { FaultState };
+
+    ghost view = { λ f. record {
+      seed = f.seed;
+      plan = f.plan;
+      turns = f.turns;
+      round = record { acts = f.round.items; made = f.made };
+    } };
+}
+
+// Written out and not derived: see `Drop` in docs/DECISIONS.md.
+impl Drop for FaultPlayer {
+    fn drop(self) {
+        let FaultPlayer {
+            alloc: _,
+            seed: _,
+            plan: _,
+            turns: _,
+            round: _,
+            made: _,
+        } = self;
+    }
 }
 
 /// What a fault actor of a mixed plan chooses to do.
@@ -46,15 +81,31 @@ enum Choice {
 fn choice_of(word: u32) -> Choice
     ensures { result ≡ choice_of word }
 {
-    let k = word % 32;
-    if k < 20 {
+    let k = word % 64;
+    if k < 53 {
         Choice::Kill
-    } else if k < 26 {
+    } else if k < 59 {
         Choice::Clog
-    } else if k < 31 {
+    } else if k < 63 {
         Choice::Unclog
     } else {
         Choice::Stray
+    }
+}
+
+/// The kind of a kill: mostly one that empties a disk, and now and then one for good.
+fn mixed_kind(word: u32) -> Kind
+    ensures { result ≡ mixed_kind word }
+{
+    let k = word % 100;
+    if k < 10 {
+        Kind::RebootProcess
+    } else if k < 45 {
+        Kind::Reboot
+    } else if k < 99 {
+        Kind::RebootAndDelete
+    } else {
+        Kind::KillInstantly
     }
 }
 
@@ -69,14 +120,14 @@ fn kill(target: Target, kind: Kind, floor: Kind, tear: u64) -> Act
     Act::Kill { order }
 }
 
-/// Any kill or clog, and once in 32 what a fault actor may not do.
+/// Any kill or clog, and once in 64 what a fault actor may not do.
 fn mixed(map: &Map, words: Words) -> Act
     ensures { Mixes map.now words (choice_of words.choice) result }
 {
     let target = pick_target(words.second, pick_key(words.first), map);
     match choice_of(words.choice) {
         Choice::Kill => {
-            let kind = pick_kind(words.third);
+            let kind = mixed_kind(words.third);
             let floor = pick_floor(words.fourth, kind);
             kill(target, kind, floor, pick_tear(words.high, words.low))
         }
@@ -89,24 +140,40 @@ fn mixed(map: &Map, words: Words) -> Act
     }
 }
 
-/// Clogs a process, or frees one.
-fn swizzle(map: &Map, words: Words) -> Act
-    ensures { result ≡ swizzles map.now words }
+/// The acts of a round, drawn from the stream that the last two words name.
+fn draw_round(
+    alloc: Global,
+    map: &Map,
+    seed: u64,
+    plan: Plan,
+    words: Words,
+) -> Result<Vec<Act>, AllocError>
+    ensures { IfOk result (λ acts. acts.items ≡ round_of map.now seed words plan) }
 {
-    let target = pick_target(words.first, Key::Process, map);
-    if words.choice % 2 == 0 {
-        let ticks = pick_ticks(words.third);
-        Act::Clog { target, ticks }
-    } else {
-        Act::Unclog { target }
+    let stream = pick_tear(words.high, words.low);
+    match plan {
+        Plan::Attrition => attrition_round(alloc, map, seed, stream),
+        Plan::Swizzle => swizzle_round(alloc, map, seed, stream, pick_ticks(words.third)),
+        Plan::Mixed | Plan::Rolling => Ok(Vec::new(alloc)),
     }
 }
 
-/// The kinds of a rolling plan, one a round.
-fn rolling_kind(round: u32) -> Kind
-    ensures { result ≡ rolling_kind round }
+/// An order to kill the next process.
+fn roll(map: &Map, turns: u32) -> Act
+    ensures { IsKill (rolling_target map.now turns)
+        (rolling_kind (turns / max 1 (length (values_of map.now Process)))) RebootProcess 0 result }
 {
-    let rest = round % 3;
+    let target = rolling_target(map, turns);
+    let count = map.value_count(Key::Process).max(1);
+    let kind = rolling_kind(turns / count);
+    kill(target, kind, Kind::RebootProcess, 0)
+}
+
+/// The kinds of a rolling plan, one each time around.
+fn rolling_kind(around: u32) -> Kind
+    ensures { result ≡ rolling_kind around }
+{
+    let rest = around % 3;
     if rest == 0 {
         Kind::RebootProcess
     } else if rest == 1 {
@@ -126,30 +193,56 @@ fn rolling_target(map: &Map, turns: u32) -> Target
 
 impl FaultPlayer {
     /// A fault actor that took no turn yet.
-    pub fn make(plan: Plan) -> FaultPlayer
-        ensures { result ≡ record { plan = plan; turns = 0 } }
+    pub fn make(alloc: Global, seed: u64, plan: Plan) -> FaultPlayer
+        ensures { result ≡ fault_of seed plan }
     {
-        FaultPlayer { plan, turns: 0 }
+        FaultPlayer {
+            alloc,
+            seed,
+            plan,
+            turns: 0,
+            round: Vec::new(alloc),
+            made: 0,
+        }
+    }
+
+    /// Draws a round where no act of the last one is left.
+    ///
+    /// # Errors
+    ///
+    /// `AllocError` where there is no memory for it.
+    pub fn ready(&mut self, map: &Map, words: Words) -> Result<(), AllocError>
+        ensures { OnOk result (self.new ≡ readied map.now words self.old) }
+    {
+        if self.made >= self.round.len() {
+            self.round = draw_round(self.alloc, map, self.seed, self.plan, words)?;
+            self.made = 0;
+        }
+        Ok(())
+    }
+
+    /// The next act of the round; where it has none, what a fault actor may not do.
+    fn next_of_round(&self) -> Result<Act, AllocError>
+        ensures { IfOk result (λ made. made ≡ round_act self.now.round) }
+    {
+        match self.round.get(self.made) {
+            Some(act) => act.try_copy(self.alloc),
+            None => Ok(Act::Tick { ticks: 1 }),
+        }
     }
 
     /// The act of this turn.
-    pub fn next(&self, map: &Map, words: Words) -> Act
-        ensures { Strikes map.now self.now words self.now.plan result }
+    ///
+    /// # Errors
+    ///
+    /// `AllocError` where there is no memory for it.
+    pub fn next(&self, map: &Map, words: Words) -> Result<Act, AllocError>
+        ensures { IfOk result (λ made. Strikes map.now self.now words self.now.plan made) }
     {
         match self.plan {
-            Plan::Mixed => mixed(map, words),
-            Plan::Attrition => {
-                let target = pick_target(words.first, Key::Machine, map);
-                let tear = pick_tear(words.high, words.low);
-                kill(target, Kind::KillInstantly, Kind::Reboot, tear)
-            }
-            Plan::Swizzle => swizzle(map, words),
-            Plan::Rolling => {
-                let target = rolling_target(map, self.turns);
-                let count = map.value_count(Key::Process).max(1);
-                let kind = rolling_kind(self.turns / count);
-                kill(target, kind, Kind::RebootProcess, 0)
-            }
+            Plan::Mixed => Ok(mixed(map, words)),
+            Plan::Attrition | Plan::Swizzle => self.next_of_round(),
+            Plan::Rolling => Ok(roll(map, self.turns)),
         }
     }
 
@@ -158,5 +251,8 @@ impl FaultPlayer {
         ensures { self.new ≡ one_turn_more self.old }
     {
         self.turns = self.turns.saturating_add(1);
+        if self.made < self.round.len() {
+            self.made += 1;
+        }
     }
 }

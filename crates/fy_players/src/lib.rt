@@ -6,12 +6,16 @@ mod draws;
 mod faults;
 mod knowledge;
 mod operator;
+mod orders;
 mod picks;
 mod player;
+mod rounds;
 mod storage;
 
 pub use draws::{Draws, Words};
 pub use faults::{FaultPlayer, Plan};
 pub use knowledge::{Mending, Note};
+pub use orders::Orders;
 pub use player::{Part, Player};
+pub use rounds::{draw_attrition, draw_swizzle};
 pub use storage::StoragePlayer;

@@ -1,7 +1,7 @@
 //! What a word picks.
 ghost use Rattle.std.specs.Prelude.{◌≡◌, ◌<◌, ◌≤◌, IfOk, IfSome, codes};
 ghost use Rattle.fy_kinds.specs.Kinds.{rank};
-ghost use Rattle.fy_players.specs.Picks.{place_of, pick, process_of, kind_of, floor_of, kinds_of, key_of, value_at, target_of, bytes_of, ticks_of, tear_of};
+ghost use Rattle.fy_players.specs.Picks.{place_of, pick, process_of, kind_of, lower, floor_of, kinds_of, key_of, value_at, target_of, bytes_of, ticks_of, tear_of};
 
 use fy_kinds::{Kind, KindSet, Target};
 use fy_locality::{Key, Map, Name, ProcId};
@@ -12,6 +12,9 @@ pub(crate) const NOBODY: u32 = 1_000_000;
 
 /// More ticks than the clock has.
 pub(crate) const NO_TICKS: u64 = 2_199_023_255_552;
+
+/// So many ticks pass, or are a part of a clog: a quarter of a second where a tick is a millisecond.
+pub(crate) const TICKS_AT_ONCE: u64 = 250;
 
 /// One byte more than a record may have.
 pub(crate) const TOO_LONG: u32 = 257;
@@ -70,13 +73,24 @@ pub(crate) fn pick_kind(word: u32) -> Kind
     }
 }
 
-/// A floor that isn't above the kind.
+/// The second kind, unless it is above the first.
+fn lower(kind: Kind, other: Kind) -> Kind
+    ensures value { result ≡ lower kind other }
+    ensures below { rank result ≤ rank kind }
+{
+    if other.is_above(kind) { kind } else { other }
+}
+
+/// Once in four any floor that isn't above the kind, else the mildest.
 pub(crate) fn pick_floor(word: u32, kind: Kind) -> Kind
     ensures value { result ≡ floor_of word kind }
     ensures below { rank result ≤ rank kind }
 {
-    let floor = pick_kind(word);
-    if floor.is_above(kind) { kind } else { floor }
+    if word % 4 == 0 {
+        lower(kind, pick_kind(word / 4))
+    } else {
+        Kind::RebootProcess
+    }
 }
 
 /// Clogging, all of them, or a kind of kill.
@@ -93,18 +107,18 @@ pub(crate) fn pick_kinds(word: u32) -> KindSet
     }
 }
 
-/// A key, that of processes most often.
+/// A key: that of processes most often, then machines, zones, and the others now and then.
 pub(crate) fn pick_key(word: u32) -> Key
     ensures { result ≡ key_of word }
 {
-    let k = word % 16;
-    if k < 3 {
+    let k = word % 32;
+    if k < 8 {
         Key::Machine
-    } else if k < 5 {
+    } else if k < 12 {
         Key::Zone
-    } else if k < 7 {
+    } else if k < 13 {
         Key::DataCenter
-    } else if k < 8 {
+    } else if k < 14 {
         Key::DataHall
     } else {
         Key::Process
@@ -166,14 +180,14 @@ pub(crate) fn pick_bytes(alloc: Global, word: u32) -> Result<Vec<u8>, AllocError
     Ok(bytes)
 }
 
-/// Up to 15 ticks; once in 64 more than the clock has.
+/// Up to 15 times so many ticks; once in 64 more than the clock has.
 pub(crate) fn pick_ticks(word: u32) -> u64
     ensures { result ≡ ticks_of word }
 {
     if word % 64 == 63 {
         return NO_TICKS;
     }
-    u64::from(word / 64 % 16)
+    TICKS_AT_ONCE * u64::from(word / 64 % 16)
 }
 
 /// A tear of two words.

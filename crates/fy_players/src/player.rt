@@ -1,14 +1,16 @@
 //! Who plays an actor, by its role.
 ghost use Rattle.std.specs.Prelude.{◌≡◌, IfOk, OnOk};
-ghost use Rattle.fy_players.specs.Turns.{part_of, player_of, Does, part_after, TakesTurn};
+ghost use Rattle.fy_players.specs.Turns.{part_of, player_of, part_before, Does, own_or_none, speaker, part_after, TakesTurn};
 
 use crate::draws::{Draws, Words};
 use crate::faults::{FaultPlayer, Plan};
 use crate::knowledge::Note;
 use crate::operator::operate;
+use crate::picks::NOBODY;
 use crate::storage::StoragePlayer;
 use fy_cluster::{Cluster, Fault, Role};
 use fy_journal::{Act, Reply};
+use fy_locality::Map;
 use std::alloc::{AllocError, Global};
 
 /// What an actor does, by its role.
@@ -51,17 +53,39 @@ impl Drop for Player {
 }
 
 /// What an actor of this role begins with.
-fn part_of(alloc: Global, role: Role, plan: Plan) -> Part
-    ensures { result ≡ part_of plan role }
+fn part_of(alloc: Global, role: Role, seed: u64, plan: Plan) -> Part
+    ensures { result ≡ part_of seed plan role }
 {
     match role {
         Role::Storage => Part::Stores(StoragePlayer::make(alloc)),
-        Role::Fault => Part::Strikes(FaultPlayer::make(plan)),
+        Role::Fault => Part::Strikes(FaultPlayer::make(alloc, seed, plan)),
         Role::Operator => Part::Operates,
     }
 }
 
+/// The number of an actor, or once in 256 one that no actor has.
+fn own_or_none(actor: u32, words: Words) -> u32
+    ensures { result ≡ own_or_none actor words }
+{
+    if words.fifth / 16_777_216 == 255 {
+        NOBODY
+    } else {
+        actor
+    }
+}
+
 impl Part {
+    /// Draws the round that a fault actor needs for its turn.
+    fn ready(&mut self, map: &Map, words: Words) -> Result<(), AllocError>
+        ensures { OnOk result (self.new ≡ part_before map.now words self.old) }
+    {
+        match self {
+            Part::Stores(_) => Ok(()),
+            Part::Strikes(fault) => fault.ready(map, words),
+            Part::Operates => Ok(()),
+        }
+    }
+
     /// What the actor does by these words, and what is to be remembered of it.
     fn next(&self, cluster: &Cluster, words: Words) -> Result<(Act, Note), AllocError>
         ensures { IfOk result (Does cluster.now self.now words) }
@@ -69,8 +93,22 @@ impl Part {
         let config = cluster.config();
         match self {
             Part::Stores(storage) => storage.next(cluster, words),
-            Part::Strikes(fault) => Ok((fault.next(config.map(), words), Note::Plain)),
+            Part::Strikes(fault) => {
+                let act = fault.next(config.map(), words)?;
+                Ok((act, Note::Plain))
+            }
             Part::Operates => Ok((operate(config, words), Note::Plain)),
+        }
+    }
+
+    /// The number by which the actor acts: a fault actor always by its own.
+    fn speaker(&self, actor: u32, words: Words) -> u32
+        ensures { result ≡ speaker actor words self.now }
+    {
+        match self {
+            Part::Stores(_) => own_or_none(actor, words),
+            Part::Strikes(_) => actor,
+            Part::Operates => own_or_none(actor, words),
         }
     }
 
@@ -97,12 +135,13 @@ impl Player {
     {
         Player {
             actor,
-            part: part_of(alloc, role, plan),
+            part: part_of(alloc, role, seed, plan),
             draws: Draws::make(seed, u64::from(actor)),
         }
     }
 
-    /// Takes a turn: does one act, by the next words of its stream, and learns the reply.
+    /// Takes a turn: does one act, by the next words of its stream, and learns the reply. Once in 256
+    /// who stores or operates acts by a number that no actor has.
     ///
     /// # Errors
     ///
@@ -111,8 +150,9 @@ impl Player {
         ensures { OnOk result (TakesTurn (self.old, cluster.old) (self.new, cluster.new)) }
     {
         let words = self.draws.words();
+        self.part.ready(cluster.config().map(), words)?;
         let (act, note) = self.part.next(cluster, words)?;
-        let reply = cluster.apply(self.actor, act)?;
+        let reply = cluster.apply(self.part.speaker(self.actor, words), act)?;
         self.part.learn(note, reply)?;
         Ok(())
     }

@@ -4,15 +4,14 @@ ghost use Rattle.std.specs.FinSet as sets;
 ghost use Rattle.fy_cluster.specs.History.{left};
 ghost use Rattle.fy_cluster.specs.Execution.{history_of};
 ghost use Rattle.fy_cluster.specs.Sights.{Sees};
-ghost use Rattle.fy_actors.specs.Drives.{move_by};
 ghost use Rattle.fy_players.specs.Knowledge.{no_knowledge, learned};
-ghost use Rattle.fy_players.specs.Storage.{choice_of, is_on_step, is_taken, spread, team_at, member_of, member_at, forms, is_behind, begins_at, begins, late, resends, mostly, hands_over, refills, new_mending, mending_of, mends, replaces, tends_by, tends, copies, stores};
+ghost use Rattle.fy_players.specs.Storage.{choice_of, is_on_step, is_taken, spread, team_at, member_of, member_at, move_by, forms, is_behind, begins_at, begins, late, resends, mostly, hands_over, refills, new_mending, mending_of, mends, replaces, tends_by, tends, copies, stores};
 ghost use Rattle.fy_acts.specs.declared.act.Act.TheVariants as act;
 ghost use Rattle.fy_players.specs.Picks.{ticks_of};
 
 use crate::draws::Words;
 use crate::knowledge::{Knowledge, Known, Latest, Mending, Note};
-use crate::picks::{NOBODY, pick, pick_bytes, pick_place, pick_process, pick_ticks};
+use crate::picks::{NOBODY, TICKS_AT_ONCE, pick, pick_bytes, pick_place, pick_process, pick_ticks};
 use fy_cluster::{Cluster, Sight, Status};
 use fy_disk::Payload;
 use fy_journal::{Act, Reply};
@@ -29,7 +28,7 @@ const MOST_BEHIND: u64 = 300;
 enum Choice {
     Form,
     Begin,
-    /// Delivers, else syncs, else starts a process, else lets a tick pass.
+    /// Delivers, else syncs, else starts a process, else lets ticks pass.
     Move,
     DeliverLate,
     Lose,
@@ -109,7 +108,9 @@ fn move_by(sight: Sight) -> Act
     }
     match sight.sleeping {
         Some(process) => Act::Up { process },
-        None => Act::Tick { ticks: 1 },
+        None => Act::Tick {
+            ticks: TICKS_AT_ONCE,
+        },
     }
 }
 

@@ -1,7 +1,9 @@
 -- what a simulated journal is
-use Rattle.std.specs.Prelude.{◌≡◌, ℕ, zero, suc, ◌%◌, min, List, [], ◌∷◌, ◌++◌, length, replicate, Some, slice_get, slice_set}
+use Rattle.std.specs.Prelude.{◌≡◌, ℕ, zero, suc, ◌%◌, min, List, [], ◌∷◌, ◌++◌, length, map, replicate, Some, slice_get, slice_set}
 use Rattle.rand_chacha.specs.ChaCha.{ChaCha}
+use Rattle.fy_acts.specs.declared.act.Act.{Act}
 use Rattle.fy_acts.specs.declared.entry.Entry.{Entry}
+use Rattle.fy_actors.specs.Desk.{entries_by}
 use Rattle.fy_audit.specs.AuditText.{audit_text}
 use Rattle.fy_journal.specs.declared.version.Version.TheVariants.{Second}
 use Rattle.fy_cluster.specs.Setup.{Setup}
@@ -13,6 +15,7 @@ use Rattle.fy_players.specs.declared.faults.Plan.{Plan}
 use Rattle.fy_players.specs.declared.player.Player.{Player}
 use Rattle.fy_simulate.specs.declared.simulate.Simulation.{Simulation}
 use Rattle.fy_players.specs.Draws.{stream_of, word_of}
+use Rattle.fy_players.specs.Orders.{AreOrders}
 use Rattle.fy_players.specs.Turns.{player_of, TakesTurn}
 
 -- how many lots an actor of a role has: so much more often it is its turn
@@ -73,13 +76,20 @@ pub data Turns (lots : List ℕ) (start : Stage) : ℕ → Stage → Type 0 wher
   more : (n : ℕ) (was now : Stage) → Turns lots start n was → OneTurn lots was now →
       Turns lots start (suc n) now
 
--- the journal that a seed makes: so many turns, or as many as it may have entries
+-- the acts that an actor made, in order
+abbrev pub acts_by : (actor : ℕ) → List Entry → List Act
+acts_by actor journal = map (λ e. e.act) (entries_by actor journal)
+
+-- the journal that a seed makes: so many turns, or as many as it may have entries. What a fault actor
+-- made are the orders of its plan, whatever the others did
 pub record IsSimulated (c : Setup) (seed : ℕ) (plan : Plan) (acts : ℕ) (journal : List Entry)
     : Type 0 where
   pub survives : Survives c journal
   pub last : Stage
   pub turns : Turns (lots_from 0 c.roles) (opening c seed plan) (min acts c.limit) last
   pub made : journal ≡ last.execution.journal
+  pub orders : (actor : ℕ) → slice_get c.roles actor ≡ Some Fault →
+      AreOrders c.processes plan seed actor (acts_by actor journal)
 
 -- what holds of the audit of such a journal
 abbrev pub HasSimulatedAudit : Setup → ℕ → Plan → ℕ → (List ℕ → Type 0) → Type 0

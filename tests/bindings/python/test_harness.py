@@ -13,10 +13,10 @@ from unittest import mock
 
 import common
 import faultyard
-from faultyard import ClusterFile, Guard, Key, Kind, Role, plans
+from faultyard import ClusterFile, Guard, Key, Kind, Plan, Role, plans
 from faultyard.harness import Harness, lost_line, read_orders
 from faultyard.ledger import Ledger
-from faultyard.plans import Draw, Order
+from faultyard.plans import Draw, Order, Simulated
 
 # Three processes, a grant of each kind for actor 1, and two copies of each record.
 THREE = common.ROOT / "tests/nemesis/three.toml"
@@ -95,6 +95,47 @@ class PlansTest(unittest.TestCase):
         told = [(order.kind, order.value) for order in self.drawn("rolling", 4)]
         kind = Kind.REBOOT_PROCESS
         self.assertEqual(told, [(kind, "p0"), (kind, "p1"), (kind, "p2"), (Kind.REBOOT, "p0")])
+
+
+class SimulatedTest(unittest.TestCase):
+    def orders(self, plan, acts, **more):
+        """What a plan orders whose actor makes these acts, and then nothing."""
+        its = Simulated(
+            lambda count: (acts + count * [None])[:count],
+            plan,
+            Random(7),
+            PlansTest.PLACES,
+            more.pop("granted", tuple(Kind)),
+            **more,
+        )
+        return list(its.orders())
+
+    def clog(self, value, ticks=250):
+        return {"clog": {"key": "processid", "value": value, "ticks": ticks}}
+
+    def unclog(self, value):
+        return {"unclog": {"key": "processid", "value": value}}
+
+    def test_what_cannot_be_ordered_is_left_out(self):
+        kill = {"key": "machineid", "value": "m1", "kind": "Reboot", "floor": "Reboot", "tear": 5}
+        gone = {**kill, "kind": "KillInstantly"}
+        acts = [None, {"kill": {**kill, "value": "nowhere"}}, self.clog("p0", 2**41)]
+        acts += [{"kill": gone}, {"kill": kill}, *100 * [None], self.unclog("p2")]
+        orders = self.orders(
+            Plan.MIXED, acts, granted=(Kind.REBOOT, Kind.CLOG), pauses=[0.25]
+        )
+        wanted = [
+            Order(Kind.REBOOT, Key.MACHINE, "m1", 0.25, tear=5, floor=Kind.REBOOT),
+            Order(Kind.CLOG, Key.PROCESS, "p2", 0.25, frees=True),
+        ]
+        self.assertEqual(orders, wanted)
+        self.assertEqual([order.act() for order in orders], [{"kill": kill}, self.unclog("p2")])
+
+    def test_a_round_of_a_swizzle_begins_after_a_longer_pause(self):
+        turns = [self.clog("p0"), self.clog("p1"), self.unclog("p1"), self.unclog("p0")]
+        orders = self.orders(Plan.SWIZZLE, 2 * turns)
+        self.assertEqual([order.pause for order in orders], [3.0, 0.3, 0.3, 0.3] * 2)
+        self.assertEqual([order.clogged for order in orders], [0.25, 0.25, 0.0, 0.0] * 2)
 
 
 @common.needs_toml("a harness that reads cluster files")
@@ -316,6 +357,23 @@ class HarnessTest(common.Folder, unittest.TestCase):
         whats = [it["what"] for it in events]
         self.assertEqual(whats, ["order", "unclog", "order", "order", "unclog"])
         self.assertEqual(events[3]["rule"], ["NoGrant", 0])
+
+    def test_a_clog_that_was_freed_does_not_end_the_next_one(self):
+        clog = Order(Kind.CLOG, Key.PROCESS, "p1", clogged=0.05)
+
+        async def play(harness):
+            await harness.obey(1, clog.act())
+            await harness.obey(1, clog._replace(frees=True).act())
+            await harness.obey(1, clog._replace(clogged=1000.0).act())
+            await asyncio.sleep(0.1)
+            self.assertEqual(harness.done[-1], ([1], True))
+            await harness.clogs_ended(at_once=True)
+
+        harness, events = self.played(play)
+        self.assertEqual(harness.done, [([1], True), ([1], False)] * 2)
+        self.assertEqual([it.get("ordered", False) for it in events], [False, True, False, False])
+        times = [order for _, order in read_orders(Path(self.folder, "events.jsonl"))]
+        self.assertEqual([it.frees for it in times], [False, True, False])
 
     def test_what_others_are_answered_is_done_in_its_order(self):
         async def play(harness):

@@ -1,12 +1,14 @@
 """Words, plans and checks of the library through ctypes; tests/swarm/run has other words."""
 
 import importlib.util
+import json
+import subprocess
 import unittest
 from importlib.machinery import SourceFileLoader
 
 import common
 import faultyard
-from faultyard import Check, Guard, Key, Kind, library
+from faultyard import Check, Guard, Key, Kind, Plan, library
 
 
 def swarm():
@@ -79,6 +81,49 @@ class Plans(common.Folder, unittest.TestCase):
         with Guard(common.SIX) as guard:
             self.assertRaises(faultyard.NotOffered, guard.swizzle_plan, 0, 0)
             self.assertRaises(faultyard.NotOffered, guard.attrition_plan, 0, 0)
+            self.assertRaises(faultyard.NotOffered, guard.plan_orders, Plan.MIXED, 0, 0, 1)
+
+    def alone(self):
+        """A cluster whose one actor is a fault actor, which so takes each turn of a simulation."""
+        text = common.SIX.read_text()
+        actors = text[text.index("actor = [") :]
+        actors = actors[: actors.index("\n]") + 2]
+        return common.written(
+            self.folder, "alone.toml", text.replace(actors, 'actor = [{role = "fault"}]')
+        )
+
+    def simulated(self, config, plan, seed):
+        """The acts of a simulation, of which those of a plan are kills, clogs and their ends."""
+        asked = ["simulate", config, "--plan", plan.value, "--seed", str(seed), "--acts", "300"]
+        told = subprocess.run([common.PROGRAM, *asked], capture_output=True, check=True)
+        acts = [json.loads(line)["act"] for line in told.stdout.splitlines()[1:]]
+        return [act if {"kill", "clog", "unclog"} & set(act) else None for act in acts]
+
+    def test_a_seed_has_the_same_orders_in_a_simulation(self):
+        config = self.alone()
+        with Guard(config, transport="library") as guard:
+            for plan in Plan:
+                for seed in (0, 7, 2**64 - 1):
+                    orders = guard.plan_orders(plan, seed, 0, 300)
+                    self.assertEqual(orders, self.simulated(config, plan, seed), (plan, seed))
+                    self.assertEqual(guard.plan_orders(plan, seed, 0, 9), orders[:9])
+            self.assertNotEqual(
+                guard.plan_orders(Plan.MIXED, 7, 0, 9), guard.plan_orders(Plan.MIXED, 7, 1, 9)
+            )
+            self.assertEqual(guard.plan_orders(Plan.MIXED, 7, 0, 0), [])
+            self.assertEqual(guard.journal_len(), 0)
+            for asked in ((-1, 0, 1), (0, 2**32, 1), (0, 0, -1), (2**64, 0, 1)):
+                with self.assertRaises(faultyard.InvalidAct):
+                    guard.plan_orders(Plan.MIXED, *asked)
+        self.assertRaises(faultyard.GuardClosed, guard.plan_orders, Plan.MIXED, 0, 0, 1)
+
+    def test_each_process_is_rolled_in_turn(self):
+        with self.guard() as guard:
+            orders = guard.plan_orders(Plan.ROLLING, 7, 1, 19)
+        kinds = ["RebootProcess", "Reboot", "RebootAndDelete", "RebootProcess"]
+        wanted = [(f"p{at % 6}", kinds[at // 6]) for at in range(19)]
+        kills = [order["kill"] for order in orders]
+        self.assertEqual([(kill["value"], kill["kind"]) for kill in kills], wanted)
 
 
 @unittest.skipUnless(common.LIBRARY, common.WITHOUT)

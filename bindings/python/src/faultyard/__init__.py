@@ -11,7 +11,7 @@
 
 from .checking import Check, Finding
 from .cluster_file import Actor, ClusterFile
-from .enums import Key, Kind, Part, Refusal, Role, Rule
+from .enums import Key, Kind, Part, Plan, Refusal, Role, Rule
 from .errors import (
     ActRefused,
     AuditRefused,
@@ -71,6 +71,7 @@ __all__ = [
     "NotOffered",
     "OutOfMemory",
     "Part",
+    "Plan",
     "ProtocolError",
     "Refusal",
     "Refused",

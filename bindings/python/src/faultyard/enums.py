@@ -38,6 +38,19 @@ class Key(Enum):
     DATA_CENTER = "dcid"
 
 
+class Plan(Enum):
+    """How a fault actor of `faultyard simulate --plan` draws its orders."""
+
+    MIXED = "mixed"
+    """Kills of each kind and clogs, of processes, machines, zones, halls and data centres."""
+    ATTRITION = "attrition"
+    """Machines are destroyed one after another."""
+    SWIZZLE = "swizzle"
+    """Processes are clogged one after another, and freed in another order."""
+    ROLLING = "rolling"
+    """Each process in turn, each round by a harder kind."""
+
+
 class Role(Enum):
     """Which acts an actor may make."""
 

@@ -8,7 +8,7 @@ from pathlib import Path
 from typing import IO, Any, Dict, FrozenSet, List, Mapping, Optional, Sequence
 
 from . import acts
-from .enums import Key, Kind
+from .enums import Key, Kind, Plan
 from .errors import InvalidAct, NotOffered
 from .programs import StrPath, answer_after, bears
 from .replies import Refused, Reply, Verdict, read_entry
@@ -133,6 +133,11 @@ class Followed(Transport):
         self, seed: int, stream: int, to_kill: int, to_leave: int, order: Mapping[str, Any]
     ) -> List[Dict[str, Dict[str, Any]]]:
         raise NotOffered("attrition_plan asks for the transport 'library'")
+
+    def plan_orders(
+        self, plan: Plan, seed: int, actor: int, count: int
+    ) -> List[Optional[Dict[str, Dict[str, Any]]]]:
+        raise NotOffered("plan_orders asks for the transport 'library'")
 
     def _follow(self) -> States:
         """Reads the entries since the last question."""

@@ -9,7 +9,7 @@ from typing import Any, Dict, FrozenSet, Iterable, List, Literal, Mapping, Optio
 from typing import TypeVar, Union
 
 from . import acts
-from .enums import Key, Kind, Refusal
+from .enums import Key, Kind, Plan, Refusal
 from .errors import ActRefused, FaultyardError, GuardClosed, NotOffered, ProtocolError
 from .library import Library
 from .pipe import Pipe
@@ -485,6 +485,19 @@ class Guard:
         to_kill, to_leave = acts.number(to_kill), acts.number(to_leave)
         with self._lock:
             return self._at_work().attrition_plan(seed, stream, to_kill, to_leave, order)
+
+    def plan_orders(
+        self, plan: Plan, seed: int, actor: int, count: int
+    ) -> List[Optional[Dict[str, Dict[str, Any]]]]:
+        """The acts of the first turns of the fault actor `actor` in `faultyard simulate`.
+
+        Each is a `kill`, a `clog` or an `unclog` for `act`, or `None` for a turn that orders none.
+        The target may be one that no process has, and the ticks more than the clock has. A longer
+        answer begins with the same acts. Nothing is entered. Over the pipe it raises `NotOffered`.
+        """
+        seed, actor, count = acts.large(seed), acts.number(actor), acts.number(count)
+        with self._lock:
+            return self._at_work().plan_orders(Plan(plan), seed, actor, count)
 
     # The journal.
 

@@ -82,6 +82,7 @@ class Harness(ABC):
         self._events.write_text("")
         self._over = asyncio.Event()
         self._clogs: List[Awaitable[None]] = []
+        self._lasting: Dict[Tuple[Key, str], Order] = {}  # the last clog of each target, until it is freed
 
     @abstractmethod
     async def strike(self, processes: Sequence[int], kind: Kind) -> None:
@@ -107,13 +108,16 @@ class Harness(ABC):
         """The processes that have the value and aren't gone."""
         return sorted(self.file.having(key, value) - self.gone)
 
-    async def obey(self, by: int, act: Act) -> Entry:
-        """Asks the guard, and does what it answers, or what was asked if unguarded."""
+    async def obey(self, by: int, act: Act, *, ordered: bool = True) -> Entry:
+        """Asks the guard, and does what it answers, or what was asked if unguarded.
+
+        The end of a clog is `ordered` unless its time is up: then a replay has it by that clog.
+        """
         async with self.turn:
             entry = self.guard.act(by, act)
             for other in self.guard.others(before=entry.at):
                 await self._carry_out(other)
-            await self._carry_out(entry)
+            await self._carry_out(entry, ordered)
         return entry
 
     async def follow(self) -> None:
@@ -124,15 +128,18 @@ class Harness(ABC):
                     await self._carry_out(entry)
             await asyncio.sleep(FOLLOWED)
 
-    async def _carry_out(self, entry: Entry) -> None:
+    async def _carry_out(self, entry: Entry, ordered: bool = False) -> None:
         order = Order.of(entry.act)
         if order is not None:
             await self._do(order, entry)
             return
         ((name, members),) = entry.act.items()
-        self.note(name, by=entry.by, act=entry.act, entry=entry.at, reply=entry.told)
+        more = {"ordered": True} if ordered else {}
+        self.note(name, by=entry.by, act=entry.act, entry=entry.at, reply=entry.told, **more)
         if name == "unclog" and (self.unguarded or entry.barred is None):
-            await self.clog(self.targets(Key(members["key"]), members["value"]), False)
+            target = Key(members["key"]), members["value"]
+            self._lasting.pop(target, None)
+            await self.clog(self.targets(*target), False)
 
     async def _do(self, order: Order, entry: Entry) -> None:
         said, does = entry.struck, order.kind if self.unguarded else entry.struck
@@ -146,6 +153,7 @@ class Harness(ABC):
             "clogged": order.clogged,
             "tear": order.tear,
             "order": order.kind.value,
+            "floor": order.floor.value,
             "verdict": said and said.value,
             "rule": entry.barred,
             "does": does and does.value,
@@ -159,6 +167,7 @@ class Harness(ABC):
         self.order = order
         if does is Kind.CLOG:
             await self.clog(processes, True)
+            self._lasting[order.key, order.value] = order
             self._clogs.append(self.spawn(self._unclog(order, entry.by)))
         elif does is not None:
             self.up.difference_update(processes)
@@ -184,7 +193,8 @@ class Harness(ABC):
             await asyncio.wait_for(self._over.wait(), order.clogged)
         except asyncio.TimeoutError:
             pass
-        await self.obey(by, {"unclog": {"key": order.key, "value": order.value}})
+        if self._lasting.get((order.key, order.value)) is order:
+            await self.obey(by, order._replace(frees=True).act(), ordered=False)
 
     async def clogs_ended(self, at_once: bool = False) -> None:
         """Waits until all that was clogged is let go, or lets it go at once."""
@@ -273,6 +283,11 @@ def read_orders(events: StrPath) -> Iterator[Tuple[float, Order]]:
             elif event["what"] == "order":
                 order = Order(Kind(event["order"]), Key(event["key"]), event["value"])
                 clogged, tear = event.get("clogged", 0.0), event.get("tear", 0)
-                yield event["t"], order._replace(clogged=clogged, tear=tear)
+                floor = Kind(event.get("floor", Kind.REBOOT_PROCESS.value))
+                yield event["t"], order._replace(clogged=clogged, tear=tear, floor=floor)
+            elif event["what"] == "unclog" and event.get("ordered"):
+                members = event["act"]["unclog"]
+                order = Order(Kind.CLOG, Key(members["key"]), members["value"], frees=True)
+                yield event["t"], order
         except (ValueError, KeyError, TypeError) as fault:
             raise InvalidAct(f"{events}: line {number} is no event: {fault!r}") from None

@@ -10,7 +10,7 @@ from typing import Any, Callable, Dict, FrozenSet, Iterable, List, Mapping, Name
 from typing import Tuple
 
 from .acts import large, line, number
-from .enums import Key, Kind, Part, Refusal, Rule
+from .enums import Key, Kind, Part, Plan, Refusal, Rule
 from .errors import AuditRefused, ConfigRefused, FaultyardError, GuardClosed, InvalidAct
 from .errors import JournalFull, NotFound, OutOfMemory, ProtocolError
 from .programs import StrPath
@@ -166,6 +166,7 @@ CALLS: Dict[str, Tuple[Any, List[Any]]] = {
     "fy_begin_check": (_u32, [_bytes, _size, _check]),
     "fy_end_check": (None, [_Check]),
     "fy_read_line": (_u32, [_check, _bytes, _size, _u32_out]),
+    "fy_plan_orders": (_u32, [_guard, _u32, _u64, _u32, _order, _size]),
     "fy_finding": (_u32, [_check, _u32_out, _u32_out]),
 }
 """The library's own calls of include/faultyard.h: what each answers and takes."""
@@ -177,7 +178,7 @@ ARGUMENT = 7
 LINE_TOO_LONG, LINE_SYNTAX, NO_HEADER, AUDIT_TOO_LONG, REFUTED = 10, 11, 20, 21, 22
 LINE_FAULTS = {LINE_TOO_LONG: "TooLong", LINE_SYNTAX: "Syntax", NO_HEADER: "Header"}
 """The word of each status of a faulty line in the fault lines of `faultyard check`."""
-ORDER_KILL, ORDER_CLOG, ORDER_UNCLOG = 1, 2, 3
+ORDER_NONE, ORDER_KILL, ORDER_CLOG, ORDER_UNCLOG = 0, 1, 2, 3
 NO_BAD_ENTRY = 2**32 - 1
 MOST_REPLY = 128
 MOST_PAYLOAD = 32_000
@@ -200,6 +201,7 @@ CONFIG_FAULTS = {
 PARTS = ["", *(part.value for part in Part)]
 KEYS = {key.value: number for number, key in enumerate(Key, 1)}
 KINDS = {kind.value: number for number, kind in enumerate(Kind, 1)}
+PLANS = {plan: number for number, plan in enumerate(Plan, 1)}
 KIND_BITS = {kind.value: 1 << number for number, kind in enumerate(Kind)}
 STRUCK: List[Optional[Kind]] = [None, *Kind]
 RULES: List[Optional[Rule]] = [None, *Rule]
@@ -335,6 +337,11 @@ def words(seed: int, stream: int, count: int, library: Optional[StrPath] = None)
     drawn = (_u32 * max(count, 1))()
     _require(load(library).fy_words(seed, stream, drawn, count))
     return list(drawn)[:count]
+
+
+def _order_of(order: _Order) -> Optional[Dict[str, Dict[str, Any]]]:
+    """The act of an order, or `None` for a turn that orders nothing."""
+    return None if order.act == ORDER_NONE else _act_of(order)
 
 
 def _act_of(order: _Order) -> Dict[str, Dict[str, Any]]:
@@ -571,6 +578,14 @@ class Library(Transport):
         kind, floor = KINDS[order["kind"]], KINDS[order["floor"]]
         asked = (seed, stream, to_kill, to_leave, kind, floor, order["tear"])
         return self._plan(self._library.fy_attrition_plan, *asked)
+
+    def plan_orders(
+        self, plan: Plan, seed: int, actor: int, count: int
+    ) -> List[Optional[Dict[str, Dict[str, Any]]]]:
+        orders = (_Order * max(count, 1))()
+        asked = (PLANS[plan], seed, actor)
+        _require(self._library.fy_plan_orders(self._opened(), *asked, orders, count))
+        return [_order_of(order) for order in orders[:count]]
 
     def journal_len(self) -> int:
         if self._closed_with is not None:

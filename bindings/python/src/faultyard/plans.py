@@ -2,17 +2,22 @@
 
 from __future__ import annotations
 
-from itertools import cycle
+from itertools import cycle, islice
 from random import Random
-from typing import Any, Dict, Iterator, Mapping, NamedTuple, Optional, Sequence, Tuple
+from typing import Any, Callable, Dict, Iterator, Mapping, NamedTuple, Optional, Sequence
+from typing import Tuple
 
-from .enums import Key, Kind
+from .enums import Key, Kind, Plan
 
 PLANS = ("mixed", "attrition", "swizzle", "rolling", "blackout", "partition")
 """The plans of `Draw`, each a call of it."""
 PAUSES = (0.0, 0.2, 0.5, 1.0, 2.0, 4.0)
 BLACKOUTS = (4.0, 6.0, 8.0)
 PARTITIONS = (1.0, 2.0, 4.0)
+ATTRITIONS = (0.1, 0.2, 0.5)
+ROLLED, SWIZZLED, BETWEEN_SWIZZLES = 2.0, 0.3, 3.0
+MOST_CLOGGED = 3600.0
+MOST_IDLE = 10_000  # turns
 WEIGHTS = dict(zip(Kind, (10.0, 35.0, 54.0, 1.0, 10.0)))
 
 
@@ -30,14 +35,20 @@ class Order(NamedTuple):
     """Which unsynced items a reboot keeps, by its bits."""
     cuts: Tuple[Tuple[int, int], ...] = ()
     """A partition, of which no guard is asked: what each first sends to the second is lost."""
+    floor: Kind = Kind.REBOOT_PROCESS
+    """The mildest kind that a kill may be answered with."""
+    frees: bool = False
+    """Whether it ends a clog."""
 
     def act(self) -> Dict[str, Dict[str, Any]]:
-        """The act for `Guard.act`. A clog's ticks are milliseconds; the floor is the mildest."""
+        """The act for `Guard.act`. A clog's ticks are milliseconds."""
         target = {"key": self.key.value, "value": self.value}
+        if self.frees:
+            return {"unclog": target}
         if self.kind is Kind.CLOG:
             return {"clog": {**target, "ticks": round(1000 * self.clogged)}}
-        floor = Kind.REBOOT_PROCESS.value
-        return {"kill": {**target, "kind": self.kind.value, "floor": floor, "tear": self.tear}}
+        kinds = {"kind": self.kind.value, "floor": self.floor.value}
+        return {"kill": {**target, **kinds, "tear": self.tear}}
 
     @classmethod
     def of(cls, act: Mapping[str, Mapping[str, Any]]) -> Optional[Order]:
@@ -48,7 +59,8 @@ class Order(NamedTuple):
         kind = Kind(members.get("kind", Kind.CLOG.value))
         clogged = members.get("ticks", 0) / 1000
         key, tear = Key(members["key"]), members.get("tear", 0)
-        return cls(kind, key, members["value"], clogged=clogged, tear=tear)
+        floor = Kind(members.get("floor", Kind.REBOOT_PROCESS.value))
+        return cls(kind, key, members["value"], clogged=clogged, tear=tear, floor=floor)
 
 
 def shared_place(places: Sequence[Mapping[Key, str]]) -> Optional[Tuple[Key, str]]:
@@ -105,7 +117,7 @@ class Draw(NamedTuple):
         """Destroys a process or machine after the other, faster than they are filled again."""
         kinds = [kind for kind in Kind if kind.empties_disk]
         while True:
-            yield self._any(kinds, [Key.PROCESS, Key.MACHINE], [0.1, 0.2, 0.5])
+            yield self._any(kinds, [Key.PROCESS, Key.MACHINE], ATTRITIONS)
 
     def _any(self, kinds: Sequence[Kind], keys: Sequence[Key], pauses: Sequence[float]) -> Order:
         """One of those kinds, by their weights; the first where none has any."""
@@ -123,7 +135,8 @@ class Draw(NamedTuple):
             places = self.dice.sample(self.places, self.dice.randint(1, len(self.places)))
             ends = self.dice.sample(range(len(places)), len(places))
             for turn, (place, end) in enumerate(zip(places, ends)):
-                pause, clogged = 0.3 if turn else 3.0, 0.3 * (len(places) - turn + end)
+                pause = SWIZZLED if turn else BETWEEN_SWIZZLES
+                clogged = SWIZZLED * (len(places) - turn + end)
                 yield Order(kind, Key.PROCESS, place[Key.PROCESS], pause, clogged)
 
     def blackout(self) -> Iterator[Order]:
@@ -147,4 +160,67 @@ class Draw(NamedTuple):
         """Restarts each in turn; then all again, with a harder kind."""
         for kind in cycle([Kind.REBOOT_PROCESS, Kind.REBOOT, Kind.REBOOT_AND_DELETE]):
             for place in self.places:
-                yield Order(kind, Key.PROCESS, place[Key.PROCESS], 2.0)
+                yield Order(kind, Key.PROCESS, place[Key.PROCESS], ROLLED)
+
+
+Ask = Callable[[int], Sequence[Optional[Mapping[str, Mapping[str, Any]]]]]
+"""Answers the acts of so many turns of a fault actor: `Guard.plan_orders`, all but the count."""
+
+
+class Simulated(NamedTuple):
+    """The orders that a fault actor of `faultyard simulate` makes, each after a pause.
+
+    Left out are turns that order nothing, and what can't be ordered of a real store: kinds that
+    aren't granted, targets that no process has, and clogs that last longer than the clock.
+    """
+
+    ask: Ask
+    plan: Plan
+    dice: Random
+    """The pauses are drawn from it."""
+    places: Sequence[Mapping[Key, str]]
+    granted: Sequence[Kind]
+    pauses: Optional[Sequence[float]] = None
+    """The pauses of `mixed`; else `PAUSES`."""
+
+    def orders(self) -> Iterator[Order]:
+        """The orders, without an end if the actor has one that can be made in `MOST_IDLE` turns."""
+        last, idle = None, 0
+        for act in self._acts():
+            order = self._order(act)
+            if order is None:
+                idle += 1
+                if idle == MOST_IDLE:
+                    return
+                continue
+            yield order._replace(pause=self._pause(order, last))
+            last, idle = order, 0
+
+    def _acts(self) -> Iterator[Optional[Mapping[str, Mapping[str, Any]]]]:
+        """The acts of the actor's turns: twice as many are asked for each time."""
+        done, count = 0, 64
+        while True:
+            yield from islice(self.ask(count), done, None)
+            done, count = count, 2 * count
+
+    def _order(self, act: Optional[Mapping[str, Mapping[str, Any]]]) -> Optional[Order]:
+        """What an act orders, if it can be ordered here."""
+        if act is None:
+            return None
+        ((name, members),) = act.items()
+        key, value = Key(members["key"]), members["value"]
+        order = Order.of(act) or Order(Kind.CLOG, key, value, frees=name == "unclog")
+        is_there = any(place.get(key) == value for place in self.places)
+        lasts = order.clogged < MOST_CLOGGED
+        return order if is_there and lasts and order.kind in self.granted else None
+
+    def _pause(self, order: Order, last: Optional[Order]) -> float:
+        """How long to wait before an order: a round of a swizzle begins after a longer time."""
+        if self.plan is Plan.MIXED:
+            return self.dice.choice(self.pauses or PAUSES)
+        if self.plan is Plan.ATTRITION:
+            return self.dice.choice(ATTRITIONS)
+        if self.plan is Plan.ROLLING:
+            return ROLLED
+        begins = last is None or (last.frees and not order.frees)
+        return BETWEEN_SWIZZLES if begins else SWIZZLED

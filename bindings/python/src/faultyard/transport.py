@@ -7,7 +7,7 @@ from dataclasses import dataclass
 from typing import Any, Dict, FrozenSet, List, Mapping, Optional
 
 from .acts import line
-from .enums import Kind
+from .enums import Kind, Plan
 from .replies import Entry, Reply, read_entry
 
 HEADER = b'{"audit":2}\n'
@@ -160,6 +160,12 @@ class Transport(ABC):
         self, seed: int, stream: int, to_kill: int, to_leave: int, order: Mapping[str, Any]
     ) -> List[Dict[str, Dict[str, Any]]]:
         """The acts of an attrition that is drawn from a stream of a seed."""
+
+    @abstractmethod
+    def plan_orders(
+        self, plan: Plan, seed: int, actor: int, count: int
+    ) -> List[Optional[Dict[str, Dict[str, Any]]]]:
+        """The acts of a fault actor's first turns in a simulation."""
 
     @abstractmethod
     def journal_len(self) -> int:

@@ -6,6 +6,7 @@ use Rattle.fy_cluster.specs.Survival.{Survives}
 use Rattle.fy_cluster.specs.Execution.{Execution}
 use Rattle.fy_simulate.specs.Simulate.{Stage, lots_from, opening, stage_of, OneTurn, Turns}
 use Rattle.fy_simulate.proofs.Opening.{players_count, lots_some, lots_within, roles_some}
+use Rattle.fy_simulate.proofs.Ordered.{are_orders}
 use Rattle.fy_simulate.proofs.Turning.{setup_kept, one_more}
 use Rattle.fy_simulate.proofs.simulate.play.Goals as goal
 
@@ -65,12 +66,19 @@ returns c =
     let all : c.loop.counter ≡ c.min-count.result = omega arith in
     let count : c.min-count.result ≡ min c.args.acts config.limit =
     c.min-count.ensures ∙ ap (min c.args.acts) (c.from-limit.ensures ∙ c.journal_limit.ensures) in
+    let turns : Turns (lots_from 0 config.roles) (opening config c.args.seed c.args.plan)
+    (min c.args.acts config.limit) (stage_of c.loop.simulation) =
+    subst (λ (n : ℕ). Turns (lots_from 0 config.roles)
+    (opening config c.args.seed c.args.plan) n (stage_of c.loop.simulation))
+    (all ∙ count) inv.turns in
+    let made = ap (λ (x : Execution). x.journal) same in
     record {
       survives = subst (λ (s : Setup). Survives s c.into_cluster-cluster.result.journal)
           (ap (λ (x : Execution). x.setup) same ∙ inv.setup) c.survives.ensures;
       last = stage_of c.loop.simulation;
-      turns = subst (λ (n : ℕ). Turns (lots_from 0 config.roles)
-          (opening config c.args.seed c.args.plan) n (stage_of c.loop.simulation))
-          (all ∙ count) inv.turns;
-      made = ap (λ (x : Execution). x.journal) same;
+      turns = turns;
+      made = made;
+      orders = are_orders config c.args.seed c.args.plan (lots_from 0 config.roles)
+          (min c.args.acts config.limit) (stage_of c.loop.simulation)
+          c.into_cluster-cluster.result.journal c.invariant.ensures.in_range turns made;
     }

@@ -1,11 +1,11 @@
 use Rattle.std.proofs.Common.{rules, ◌≡◌, ◌∙◌, sym}
 use Rattle.fy_actors.specs.declared.plans.PlanFault.TheVariants.{NoMemory, WordsShort}
-use Rattle.fy_c.proofs.Drawn.{attrition_enough}
-use Rattle.fy_c.proofs.planning.draw_attrition.Goals as goal
+use Rattle.fy_players.proofs.Drawn.{attrition_enough}
+use Rattle.fy_players.proofs.rounds.draw_attrition.Goals as goal
 
 pub unreachable-requires : goal.unreachable-requires
 unreachable-requires c =
-    let enough = attrition_enough c.args.asked.seed c.args.asked.stream c.args.map.now c.len.result
+    let enough = attrition_enough c.args.seed c.args.stream c.args.map.now c.len.result
     c.deref.result.now c.len.ensures.count (c.deref.ensures.value ∙ c.in_ok-words.ensures) in
     let bad : WordsShort c.in-Err-WordsShort.field-0-0 ≡ NoMemory =
     sym c.in-Err-WordsShort.field-0-is ∙ c.in-Err-WordsShort.ensures.memory enough in

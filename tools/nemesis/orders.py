@@ -1,0 +1,82 @@
+"""Which orders a run makes, and when: those of another run, of a simulation, or of dice."""
+
+from argparse import Namespace
+from collections.abc import Iterator
+from random import Random
+
+from faultyard import ClusterFile, Guard, Kind, NotFound, Plan, ProtocolError
+from faultyard.harness import read_orders
+from faultyard.plans import Draw, Order, Simulated, shared_place
+
+from . import USAGE, Fault
+from .disks import tears_of
+
+FIRST = 1.0  # seconds before the first order
+KINDS = (10.0, 35.0, 54.0, 1.0, 10.0)  # how often each kind is drawn
+SEEDS = range(2**64)  # those of a simulation
+Timed = tuple[float, Order]
+
+
+class Orders:
+    """The orders of a run, and whose they are."""
+
+    def __init__(self, words: Namespace, file: ClusterFile, fault: int) -> None:
+        self.words, self.file, self.fault = words, file, fault
+        self.granted = file.actors[fault].kinds
+        self.timed, self.whose = self._planned()
+
+    def _planned(self) -> tuple[list[Timed], str]:
+        words = self.words
+        if words.replay:
+            return list(read_orders(words.replay)), f"those of {words.replay}"
+        if words.check_hooks:
+            return [], "none"
+        if words.plan == "blackout" and not shared_place(self.file.places):
+            text = "--plan blackout needs a place that all processes share, as a dcid"
+            raise Fault(USAGE, f"{words.config}: {text}")
+        if words.plan == "partition" and Kind.CLOG not in self.granted:
+            raise Fault(USAGE, f"{words.config}: --plan partition needs a grant of Clog")
+        return self._simulated() or (list(self._diced()), "drawn by this tool's own dice")
+
+    def _simulated(self) -> tuple[list[Timed], str] | None:
+        """The orders of `faultyard simulate`, where it has the plan and the library can be asked."""
+        words = self.words
+        if words.kinds or words.plan not in {it.value for it in Plan} or words.seed not in SEEDS:
+            return None
+        if words.plan == "swizzle" and Kind.CLOG not in self.granted:
+            return None
+        plan, dice, places = Plan(words.plan), Random(words.seed), self.file.places
+        try:
+            with Guard(words.config, transport="library") as guard:
+                drawn = Simulated(
+                    lambda count: guard.plan_orders(plan, words.seed, self.fault, count),
+                    plan,
+                    dice,
+                    places,
+                    tuple(self.granted),
+                    words.pauses,
+                )
+                timed = list(self._until_the_end(drawn.orders()))
+        except (NotFound, ProtocolError):
+            return None
+        if words.tear == "none":
+            timed = [(at, order._replace(tear=0)) for at, order in timed]
+        whose = f"faultyard simulate --plan {words.plan} --seed {words.seed}"
+        return timed, f"those of actor {self.fault} in {whose}"
+
+    def _diced(self) -> Iterator[Timed]:
+        """Orders that are drawn here."""
+        words, its = self.words, zip(Kind, self.words.kinds or KINDS)
+        weights = {kind: it for kind, it in its if kind in self.granted}
+        draw = Draw(Random(words.seed), self.file.places, weights, words.pauses)
+        tears = tears_of(words)
+        for at, order in self._until_the_end(getattr(draw, words.plan)()):
+            yield at, order._replace(tear=next(tears))
+
+    def _until_the_end(self, orders: Iterator[Order]) -> Iterator[Timed]:
+        """The orders with their times, each after its pause, as long as records are written."""
+        at = FIRST
+        for order in orders:
+            if (at := round(at + order.pause, 3)) >= self.words.seconds:
+                return
+            yield at, order
