@@ -39,7 +39,7 @@ each_behind (x ∷ xs) line each one = (each.0, each_behind xs line each.1 one)
 -- ---- one way to take bytes apart
 
 -- the first line of some
-first_of : (x rest : List ℕ) (xs : List (List ℕ)) → with_feeds (x ∷ xs) ++ rest ≡ x ++ 10 ∷ (with_feeds xs ++ rest)
+pub first_of : (x rest : List ℕ) (xs : List (List ℕ)) → with_feeds (x ∷ xs) ++ rest ≡ x ++ 10 ∷ (with_feeds xs ++ rest)
 first_of x rest xs =
     append_assoc (x ++ 10 ∷ []) (with_feeds xs) rest ∙ append_assoc x (10 ∷ []) (with_feeds xs ++ rest)
 

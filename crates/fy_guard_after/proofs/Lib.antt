@@ -1,3 +1,4 @@
 pub mod Behind
 mod Going
 mod CutLemmas
+mod Whole

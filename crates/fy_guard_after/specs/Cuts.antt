@@ -1,8 +1,11 @@
 -- an audit whose last line is cut, as a crash leaves it
 use Rattle.std.specs.List.{AllByRecursion, flat_map}
-use Rattle.std.specs.Prelude.{◌≡◌, ◌≤◌, ◌<◌, ◌+◌, ℕ, List, [], ◌∷◌, ◌++◌, length, codes}
+use Rattle.std.specs.Prelude.{◌≡◌, ◌≤◌, ◌<◌, ◌+◌, ℕ, List, [], ◌∷◌, ◌++◌, length, take, Ok, Err, codes}
 use Rattle.fy_lines.specs.Lines.{IsLine}
 use Rattle.fy_spelling.specs.declared.command.TheConstants.{MOST_LINE_BYTES}
+use Rattle.fy_audit.specs.Audit.{Audit, AuditOf}
+use Rattle.fy_audit.specs.declared.audit.AuditFault.TheVariants.{Line}
+use Rattle.fy_audit.specs.declared.audit.AuditLineFault.TheVariants.{Syntax}
 use Rattle.fy_engine.specs.Stops.{numbered}
 
 -- lines, each with its line feed
@@ -32,6 +35,12 @@ IsCutLine bytes number = (whole : ℕ) × IsCutAt bytes number whole
 -- no line is cut
 abbrev pub IsUncut : List ℕ → Type 0
 IsUncut bytes = (number : ℕ) → ¬ IsCutLine bytes number
+
+-- where a line is refused as no entry since it is cut, the bytes before it are an audit
+abbrev pub WholeIsAudit : Type 0
+WholeIsAudit =
+    (bytes : List ℕ) (number whole : ℕ) → AuditOf bytes (Err (Line number Syntax)) →
+    IsCutAt bytes number whole → (audit : Audit) × AuditOf (take whole bytes) (Ok audit)
 
 -- the line that says how many bytes are whole lines
 abbrev pub whole_text : ℕ → List ℕ
