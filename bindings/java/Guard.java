@@ -1006,7 +1006,9 @@ public final class Guard implements AutoCloseable {
             if (!process.waitFor(PATIENCE.toSeconds(), TimeUnit.SECONDS)) {
                 process.destroyForcibly().waitFor();
             }
-            fault = new String(faults.readNBytes(MOST_FAULT), StandardCharsets.UTF_8).trim();
+            String told = new String(faults.readNBytes(MOST_FAULT), StandardCharsets.UTF_8);
+            // A second line says where an audit that is cut is whole.
+            fault = told.lines().findFirst().orElse("").trim();
         } catch (IOException broken) {
             // What is closed or read here is of a process that has ended.
         } catch (InterruptedException interrupted) {

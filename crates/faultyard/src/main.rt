@@ -9,12 +9,13 @@ ghost use Rattle.faultyard.specs.Statuses.{done_status, IsAnsweredStatus, IsUnre
 
 mod task;
 
+use fy_audit::AuditFault;
 use fy_bears::Form;
 use fy_bears_after::{run_bears, run_bears_after};
 use fy_check_audit::run_check;
 use fy_cluster::Config;
 use fy_engine::{Stop, load_config, write_stop};
-use fy_guard_after::run_guard_after;
+use fy_guard_after::{run_guard_after, write_whole};
 use fy_judge::run_judge;
 use fy_players::Plan;
 use fy_run::{run_guard, run_script};
@@ -22,7 +23,7 @@ use fy_show::{run_show, run_show_by_time};
 use fy_simulate::run_simulate;
 use fy_swarm::run_swarm;
 use std::fs::File;
-use std::io::{BufReader, ErrorKind};
+use std::io::{BufReader, ErrorKind, Seek};
 use std::process::ExitCode;
 use std::{env, fs};
 use task::{Task, read_task};
@@ -52,7 +53,8 @@ fn main(rt: HostRuntime) -> ExitCode {
             simulate_file(&rt, path, seed, acts, plan)
         }
         Ok(Task::Simulate(_, _, _, None)) => return unplanned(&rt),
-        Ok(Task::Guard(path, after)) => guard_file(&rt, path, after),
+        Ok(Task::Guard(path, None)) => guard_file(&rt, path),
+        Ok(Task::Guard(path, Some(after))) => return guard_after(&rt, path, after),
         Ok(Task::Show(path, times)) => show_file(&rt, path, times),
         Ok(Task::Bears(path, form, after)) => bears_file(&rt, path, form, after),
         // Threads are main's to give.
@@ -146,9 +148,8 @@ fn bears_file(rt: &HostRuntime, path: &str, form: Form, after: Option<&str>) -> 
     }
 }
 
-/// Answers the script on standard input, line by line, on the cluster of a file, from the end of an
-/// audit on where one is named.
-fn guard_file(rt: &HostRuntime, path: &str, after: Option<&str>) -> Result<bool, Stop> {
+/// Answers the script on standard input, line by line, on the cluster of a file.
+fn guard_file(rt: &HostRuntime, path: &str) -> Result<bool, Stop> {
     let config = match open_config(rt, path) {
         Ok(config) => config,
         Err(stop) => return Err(stop),
@@ -158,25 +159,54 @@ fn guard_file(rt: &HostRuntime, path: &str, after: Option<&str>) -> Result<bool,
     let Ok(mut lines) = BufReader::new(alloc, rt.stdin()) else {
         return Err(Stop::NoMemory);
     };
-    let mut output = rt.stdout();
-    let Some(after) = after else {
-        return run_guard(alloc, &config, &mut lines, &mut output);
+    run_guard(alloc, &config, &mut lines, &mut rt.stdout())
+}
+
+/// Does so from the end of an audit on, and gives the status that it ends with.
+fn guard_after(rt: &HostRuntime, path: &str, after: &str) -> ExitCode {
+    let config = match open_config(rt, path) {
+        Ok(config) => config,
+        Err(stop) => return stopped(rt, stop),
+    };
+    let alloc = rt.alloc();
+    let Ok(mut lines) = BufReader::new(alloc, rt.stdin()) else {
+        return stopped(rt, Stop::NoMemory);
+    };
+    let mut audit = match open_file(rt, after) {
+        Ok(audit) => audit,
+        Err(stop) => return stopped(rt, stop),
     };
     // What is written may stand behind the audit, so what is found of it goes elsewhere.
-    let mut found = rt.stderr();
-    match open_file(rt, after) {
-        Ok(mut audit) => {
-            run_guard_after(
-                alloc,
-                &config,
-                &mut audit,
-                &mut lines,
-                &mut output,
-                &mut found,
-            )
+    let (mut output, mut found) = (rt.stdout(), rt.stderr());
+    let done = run_guard_after(
+        alloc,
+        &config,
+        &mut audit,
+        &mut lines,
+        &mut output,
+        &mut found,
+    );
+    ended_after(rt, done, &mut audit)
+}
+
+/// The status that a guard behind an audit ends with. Where half a last line of the audit is what
+/// stopped it, a second line says how many bytes are whole lines.
+fn ended_after(rt: &HostRuntime, done: Result<bool, Stop>, audit: &mut File) -> ExitCode
+    ensures { exit_status result ≡ done_status done }
+{
+    let status = ended(rt, done);
+    if let Err(
+        Stop::Audit {
+            fault: AuditFault::Line { number, .. },
+        },
+    ) = done
+    {
+        // What can't be read again, as a pipe, can't be cut either: nothing is said of it.
+        if let Ok(()) = audit.rewind() {
+            let _ = write_whole(rt.alloc(), number, audit, &mut rt.stderr());
         }
-        Err(stop) => Err(stop),
     }
+    status
 }
 
 /// A file to read, by its path.

@@ -5,13 +5,10 @@ use Rattle.std.proofs.lemmas.List.{map-append}
 use Rattle.fy_acts.specs.declared.entry.Entry.{Entry}
 use Rattle.fy_audit.specs.AuditText.{header, entry_line, audit_text}
 use Rattle.fy_audit.specs.Script.{AreCommands}
-use Rattle.fy_cluster.specs.Execution.{Execution}
 use Rattle.fy_cluster.specs.Replies.{Legal}
-use Rattle.fy_cluster.specs.Setup.{Setup}
 use Rattle.fy_cluster.specs.Survival.{by_and_act}
-use Rattle.fy_guard_after.specs.AfterTexts.{IsJournalOf, OneAudit, OneGuard}
+use Rattle.fy_guard_after.specs.AfterTexts.{OneAudit, OneGuard}
 use Rattle.fy_journal.specs.declared.version.Version.TheVariants.{Second}
-use Rattle.fy_run.specs.GuardTexts.{AnsweredFrom}
 use Rattle.fy_run.specs.RunTexts.{asked}
 use Rattle.fy_spelling.specs.declared.command.Command.{Command}
 

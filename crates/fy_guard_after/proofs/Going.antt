@@ -2,7 +2,6 @@
 use Rattle.std.proofs.Common.{◌≡◌, ◌∙◌, ℕ, List, Option, Some, None, sym, ap, subst}
 use Rattle.std.specs.Prelude.{IfSome, Ok, Err}
 use Rattle.fy_audit.specs.Audit.{AuditOf}
-use Rattle.fy_audit.specs.declared.audit.AuditFault.{AuditFault}
 use Rattle.fy_audit.specs.declared.audit.AuditFault.TheVariants.{Line}
 use Rattle.fy_audit.specs.declared.audit.AuditLineFault.TheVariants.{Header}
 use Rattle.fy_check.specs.Replayed.{HasFirstBad}

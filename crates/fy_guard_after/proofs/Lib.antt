@@ -1,2 +1,4 @@
 pub mod Behind
 mod Going
+mod CutLemmas
+mod Whole

@@ -1,7 +1,7 @@
 -- how a guard goes on behind an audit
 use Rattle.std.specs.Prelude.{◌≡◌, ℕ, List, ◌++◌, map, Option, IfSome, Ok, Err}
 use Rattle.fy_acts.specs.declared.entry.Entry.{Entry}
-use Rattle.fy_audit.specs.Audit.{Audit, AuditOf}
+use Rattle.fy_audit.specs.Audit.{AuditOf}
 use Rattle.fy_audit.specs.AuditText.{audit_text}
 use Rattle.fy_audit.specs.Script.{AreCommands}
 use Rattle.fy_audit.specs.declared.audit.AuditFault.{AuditFault}

@@ -1,1 +1,2 @@
 pub mod AfterTexts
+pub mod Cuts

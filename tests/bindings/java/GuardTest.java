@@ -10,6 +10,7 @@ import java.util.ArrayList;
 import java.util.Arrays;
 import java.util.EnumSet;
 import java.util.List;
+import java.util.Map;
 import java.util.Set;
 import java.util.concurrent.Callable;
 import java.util.concurrent.ExecutorService;
@@ -294,13 +295,16 @@ final class GuardTest {
                 check(other.audit().equals(one.audit()) && other.journalLength() == 2, "the next entry");
             }
         }
-        Files.writeString(audit, "{\"audit\":1}\n");
-        Guard refused = Guard.after(config, audit, program, patience);
-        try {
-            refused.up(0, 0);
-            check(false, "a refused audit");
-        } catch (Guard.GuardEnded ended) {
-            check(ended.fault().equals("audit: line 1: Header"), "a refused audit: " + ended.fault());
+        Map<String, String> faults = Map.of("{\"audit\":1}\n", "audit: line 1: Header", "{\"audit\":2}\n{", "audit: line 2: Syntax");
+        for (Map.Entry<String, String> it : faults.entrySet()) {
+            Files.writeString(audit, it.getKey());
+            Guard refused = Guard.after(config, audit, program, patience);
+            try {
+                refused.up(0, 0);
+                check(false, "a refused audit");
+            } catch (Guard.GuardEnded ended) {
+                check(ended.fault().equals(it.getValue()), "a refused audit: " + ended.fault());
+            }
         }
         try {
             Guard.after(config, folder.resolve("none"), program, patience);

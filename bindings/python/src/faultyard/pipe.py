@@ -176,7 +176,8 @@ class Pipe(Followed):
         self._stdin.close()
         self._stdout.close()
         self._errors.seek(0)
-        fault = self._errors.read(MOST_FAULT).decode(errors="replace").strip()
+        # A second line says where an audit that is cut is whole.
+        fault = self._errors.read(MOST_FAULT).decode(errors="replace").strip().partition("\n")[0]
         self._end = GuardEnded(why, fault, status)
         return self._end
 

@@ -1,0 +1,1 @@
+printf '{"audit":2}\n'; repeated 65536 a
