@@ -882,6 +882,7 @@ echo "$0 $*" >> heard
 read -r code
 echo "$code epmd at $ERL_EPMD_PORT" >> heard
 echo "$TOLD"
+exit "$STATUS"
 """
 ASKS = """
 import faultyard_hooks as fy
@@ -898,7 +899,7 @@ fy.main()
 
 
 class ErlangNodes(unittest.TestCase):
-    def call(self, *words, told=""):
+    def call(self, *words, told="", status="0"):
         """A hook of a store in Erlang, which is in a folder of its own."""
         folder = Path(self.enterContext(tempfile.TemporaryDirectory()))
         for name in ("erl_call", "epmd"):
@@ -907,7 +908,7 @@ class ErlangNodes(unittest.TestCase):
         Path(folder, "hooks.py").write_text(ASKS)
         Path(folder, "1").mkdir()
         env = {"FY_DIR": str(folder), "FY_PORT": "20000", "FY_COUNT": "2", "FY_NAMES": "a b"}
-        env |= {"FY_HOSTS": "10.0.0.1 10.0.0.2", "TOLD": told}
+        env |= {"FY_HOSTS": "10.0.0.1 10.0.0.2", "TOLD": told, "STATUS": status}
         env["PATH"] = f"{folder}:{os.environ['PATH']}"
         ran = subprocess.run(
             [sys.executable, "hooks.py", *words],
@@ -940,6 +941,11 @@ class ErlangNodes(unittest.TestCase):
         self.assertEqual(self.call("read", told="{error, x}")[2], "Refused: {error, x}: 1 + 1\n")
         long = self.call("read", told=f"{{error, {'x' * 99}}}")[2]
         self.assertEqual(long, f"Refused: {{error, {'x' * 62} ..: 1 + 1\n")
+
+    def test_a_node_that_does_not_answer_is_named(self):
+        status, _, said, _ = self.call("read", told="", status="1")
+        why = "b@10.0.0.2 doesn't answer: erl_call ended with status 1"
+        self.assertEqual((status, said), (1, f"Refused: {why}\n"))
 
     def test_the_daemon_is_started_before_any_node(self):
         self.assertIn("setup", self.call("hooks")[1].split())

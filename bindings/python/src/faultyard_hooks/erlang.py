@@ -33,7 +33,10 @@ def options(n: int) -> str:
 
 def evaluated(n: int, code: str) -> str:
     """What the last of some expressions comes to on a node; `Refused` where one fails."""
-    told = run("erl_call", "-name", node(n), "-c", COOKIE, "-e", text=f"{code}.\n", seconds=9)
+    try:
+        told = run("erl_call", "-name", node(n), "-c", COOKIE, "-e", text=f"{code}.\n", seconds=9)
+    except Refused as fault:
+        raise Refused(f"{node(n)} doesn't answer: {fault}") from None
     if not told.startswith(ANSWERED):
         why = told.partition("'EXIT',")[2] or told
         raise Refused(f"{_brief(why)}: {_brief(code)}")
