@@ -5,7 +5,7 @@ import subprocess
 from pathlib import Path
 
 # What only the header answers, and 'none'.
-OWN = {"FY_CLOSED": 19, "FY_EVERYONE": 0, "FY_NONE": 0, "FY_NO_RULE": 0, "FY_NOT_REFUSED": 0, "FY_WHOLE_FILE": 0}
+OWN = {"FY_CLOSED": 19, "FY_EVERYONE": 0, "FY_NONE": 0, "FY_NO_RULE": 0, "FY_NOT_REFUSED": 0, "FY_ORDER_NONE": 0, "FY_WHOLE_FILE": 0}
 
 top = Path(__file__).resolve().parents[2]
 header = dict(re.findall(r"^    (FY_\w+) = (\d+),", (top / "include/faultyard.h").read_text(), re.M))
@@ -13,7 +13,9 @@ sources = "".join((top / "crates/fy_c/src" / f"{it}.rt").read_text() for it in (
 known = re.findall(r"(?:Status|Refusal|Kind|Rule)::(\w+)(?: \{ \.\. \})?\)? => (\d+),", sources)
 known += [(name, number) for number, name in re.findall(r"(\d+) => Some\((?:Key|Kind)::(\w+)\)", sources)]
 known += [(f"Part{name}", number) for name, number in re.findall(r" Part::(\w+) => (\d+),", sources)]
-known += re.findall(r"const (ORDER_\w+): u32 = (\d+);", (top / "crates/fy_c/src/planning.rt").read_text())
+planning = (top / "crates/fy_c/src/planning.rt").read_text()
+known += re.findall(r"const (ORDER_\w+): u32 = (\d+);", planning)
+known += [(f"Plan{name}", number) for number, name in re.findall(r"(\d+) => Some\(Plan::(\w+)\)", planning)]
 # A rule that names nothing is 0 in that sense alone.
 wanted = {"FY_" + re.sub(r"(?<=[a-z])([A-Z])", r"_\1", it).upper(): int(n) for it, n in known if (it, n) != ("NoTarget", "0")}
 found = {name: int(number) for name, number in header.items()}
