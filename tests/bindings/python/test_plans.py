@@ -3,12 +3,16 @@
 import importlib.util
 import json
 import subprocess
+import sys
 import unittest
+from argparse import Namespace
 from importlib.machinery import SourceFileLoader
 
 import common
 import faultyard
-from faultyard import Check, Guard, Key, Kind, Plan, library
+from faultyard import Check, ClusterFile, Guard, Key, Kind, Plan, library
+
+THREE = common.ROOT / "tests/nemesis/three.toml"
 
 
 def swarm():
@@ -116,6 +120,39 @@ class Plans(common.Folder, unittest.TestCase):
                 with self.assertRaises(faultyard.InvalidAct):
                     guard.plan_orders(Plan.MIXED, *asked)
         self.assertRaises(faultyard.GuardClosed, guard.plan_orders, Plan.MIXED, 0, 0, 1)
+
+    def can_be_done(self, act):
+        """Whether an act orders what can be done to the three servers of THREE."""
+        ((name, members),) = act.items()
+        is_there = members.get("value", "nowhere")[1:] in ("0", "1", "2")
+        return name in ("kill", "clog", "unclog") and is_there and members.get("ticks", 0) < 2**41
+
+    @common.needs_toml("the orders of faultyard-nemesis")
+    def test_the_nemesis_makes_the_orders_of_a_simulation(self):
+        sys.path.append(str(common.ROOT / "tools"))
+        self.addCleanup(sys.path.pop)
+        from nemesis.orders import Orders
+
+        file, fault = ClusterFile.read(THREE), 1
+        given = {"config": THREE, "replay": None, "check_hooks": False, "pauses": None}
+        given.update(seed=7, tear="draw", seconds=90.0, disks=None)
+        for plan in Plan:
+            orders = Orders(Namespace(plan=plan.value, kinds=None, **given), file, fault)
+            self.assertEqual(
+                orders.whose,
+                f"those of actor 1 in faultyard simulate --plan {plan.value} --seed 7",
+            )
+            asked = ["simulate", THREE, "--plan", plan.value, "--seed", "7", "--acts", "20000"]
+            told = subprocess.run([common.PROGRAM, *asked], capture_output=True, check=True)
+            entries = [json.loads(line) for line in told.stdout.splitlines()[1:]]
+            acts = [entry["act"] for entry in entries if entry["by"] == fault]
+            wanted = [act for act in acts if self.can_be_done(act)]
+            made = [order.act() for _, order in orders.timed]
+            self.assertGreater(len(made), 30)
+            self.assertEqual(made, wanted[: len(made)], plan)
+            if plan is not Plan.ROLLING:
+                diced = Orders(Namespace(plan=plan.value, kinds=[1.0] * 5, **given), file, fault)
+                self.assertEqual(diced.whose, "drawn by this tool's own dice")
 
     def test_each_process_is_rolled_in_turn(self):
         with self.guard() as guard:
