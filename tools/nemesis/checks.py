@@ -34,6 +34,7 @@ class HookCheck:
     def __init__(self, run: "Run") -> None:
         self.run, self.hooks, self.clients = run, run.hooks, run.clients
         self.first = 0  # how many starts there were before anything was struck
+        self.looked_at: set[int] = set()  # whose `whole` was asked while it had nothing
         self.healed: list[int] = []  # whose `whole` was believed
         self.copies: dict[int, tuple[Path, Records]] = {}  # of folders, and what they have to have
         self.notes: list[str] = []  # what looks wrong, and may be right
@@ -151,6 +152,17 @@ class HookCheck:
                     await self._ask_the_dead(number, next(iter(before)))
                 self.copies[number] = (await self.hooks.copy(number), before)
             await self.run.calm()
+
+    async def look_at_emptied(self, number: int) -> None:
+        """One that has nothing yet, and doesn't run, isn't whole. It is asked once."""
+        if number in self.looked_at:
+            return
+        self.looked_at.add(number)
+        says_yes = await self.hooks.says("whole", number, self.run.ledger.mark)
+        self.hooks.ends.pop(number, None)  # which is told where it isn't back
+        if says_yes and not any((self.run.words.out / str(number)).iterdir()):
+            text = f"`whole {number}` said yes, and {self.run.names[number]} was emptied"
+            raise wrong(f"{text} and doesn't run: `whole` asks another process, or none")
 
     async def _ask_the_emptied(self, number: int, before: Records) -> Told | None:
         """What `check` tells first of a record's emptied process, before that is whole."""

@@ -97,6 +97,10 @@ class Run(Store):
         self.note("written")
         await self.clogs_ended(at_once=True)
 
+    async def look_at_emptied(self, number: int) -> None:
+        if self.words.check_hooks:
+            await self.check.look_at_emptied(number)
+
     async def _read(self) -> Left:
         """What the store tells at the end, all of it and each process alone."""
         self.show("reads what is left")

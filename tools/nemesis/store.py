@@ -278,6 +278,8 @@ class Store(Harness):
             is_free = self._joining in self.up or self._alone_until < time.monotonic()
             if (is_free or self._joining == number) and self._is_elected():
                 self._joining, self._alone_until = number, math.inf
+                if hook == "join":
+                    await self.look_at_emptied(number)
                 await self._empty(number)
                 if await self.hooks.says(hook, number):
                     self.emptied.discard(number)
@@ -286,6 +288,9 @@ class Store(Harness):
             await asyncio.sleep(AGAIN)
         self._alone_until = 0.0 if number in self.gone else time.monotonic() + ALONE
         self.note(hook, process=number)
+
+    async def look_at_emptied(self, number: int) -> None:
+        """Whether hooks say what is so of a process that has nothing, and doesn't run."""
 
     def _note_join(self, number: int) -> None:
         """Keeps what a `join` has done, in case the process doesn't come back."""
