@@ -162,7 +162,7 @@ fn guard_file(rt: &HostRuntime, path: &str) -> Result<bool, Stop> {
     run_guard(alloc, &config, &mut lines, &mut rt.stdout())
 }
 
-/// Does so from the end of an audit on, and gives the status that it ends with.
+/// Answers that script from the end of the audit in a file on, and gives the status to end with.
 fn guard_after(rt: &HostRuntime, path: &str, after: &str) -> ExitCode {
     let config = match open_config(rt, path) {
         Ok(config) => config,
@@ -189,8 +189,8 @@ fn guard_after(rt: &HostRuntime, path: &str, after: &str) -> ExitCode {
     ended_after(rt, done, &mut audit)
 }
 
-/// The status that a guard behind an audit ends with. Where half a last line of the audit is what
-/// stopped it, a second line says how many bytes are whole lines.
+/// The status that a guard behind an audit ends with. Where half a last line of the audit stopped
+/// it, a second line says how many bytes are whole.
 fn ended_after(rt: &HostRuntime, done: Result<bool, Stop>, audit: &mut File) -> ExitCode
     ensures { exit_status result ≡ done_status done }
 {

@@ -38,8 +38,8 @@ fn input_stop(fault: InputFault) -> Stop
     }
 }
 
-/// Reads an audit for a last line that is cut, in flat memory. `None` where there is none, or where
-/// a line has more bytes than one may have: nothing behind that line is read.
+/// Looks for a last line of an audit that is cut. `None` where there is none, or where a line has
+/// more bytes than one may have. Memory doesn't grow with the audit.
 ///
 /// # Errors
 ///
@@ -78,9 +78,8 @@ pub fn cut_line<A: Read>(alloc: Global, audit: &mut A) -> Result<Option<Cut>, St
     }
 }
 
-/// Reads an audit once more that was refused for the line of this number. Where that line is the
-/// last and is cut, it writes `audit: whole to BYTE`, with how many bytes stand before it; else it
-/// writes nothing.
+/// Says of an audit that was refused for the line of this number how many bytes are whole lines, if
+/// that line is the last and is cut: `audit: whole to BYTE`. Else it writes nothing.
 ///
 /// # Errors
 ///
