@@ -156,7 +156,14 @@ impl Guard {
         let mut orders = vec![FyOrder::default(); count];
         // SAFETY: as in `process`. The orders have this length, and a vector's pointer isn't null.
         done(unsafe {
-            sys::fy_plan_orders(self.raw(), plan as u32, seed, actor, orders.as_mut_ptr(), count)
+            sys::fy_plan_orders(
+                self.raw(),
+                plan as u32,
+                seed,
+                actor,
+                orders.as_mut_ptr(),
+                count,
+            )
         })?;
         let one = |order: &FyOrder| (order.act != 0).then(|| Order::of(order)).transpose();
         orders.iter().map(one).collect()
