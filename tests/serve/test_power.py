@@ -17,6 +17,7 @@ from common_serve import ROOT, Case, Server, checked, kill, run, up, workshop
 
 NEEDED = "cc", "pkg-config", "libfuse3-dev", "fusermount3", "/dev/fuse"
 CUTS = 5
+STARTS = 20
 
 
 @functools.cache
@@ -125,6 +126,8 @@ class Power(Case):
         for seed in range(CUTS):
             answers += self.until_the_cut(disk, server, seed)
             self.assertEqual(self.missing(disk, answers), 0)
+            copy = disk.durable / "audit.cluster"
+            self.assertEqual(copy.read_bytes(), server.config.read_bytes())
         disk.start()
         server.start()
         talk = server.talk()
@@ -135,6 +138,28 @@ class Power(Case):
         count = len(server.lines())
         self.assertEqual(checked(server.config, server.file), (0, f"legal {count}"))
         disk.cut()
+
+    def test_the_copy_of_the_cluster_file_is_whole_or_not_there(self) -> None:
+        disk, server = self.begun()
+        copy, there = disk.durable / "audit.cluster", 0
+        for seed in range(STARTS):
+            disk.start()
+            self.addCleanup(run, "fusermount3", "-uz", "--", disk.mount)
+            self.addCleanup(disk.process.kill)
+            server.process = subprocess.Popen(server.words, stderr=subprocess.DEVNULL)
+            time.sleep(random.Random(seed).uniform(0, 0.06))
+            disk.cut()
+            server.stop()
+            if copy.exists():
+                there += 1
+                self.assertEqual(copy.read_bytes(), server.config.read_bytes())
+                copy.unlink()
+        self.assertGreater(there, 0)
+        disk.start()
+        server.start()
+        self.assertEqual(server.end(), 0)
+        disk.cut()
+        self.assertEqual(copy.read_bytes(), server.config.read_bytes())
 
     def test_a_disk_that_lies_loses_answers(self) -> None:
         """So the test above can fail."""

@@ -6,12 +6,14 @@ import os
 import random
 import resource
 import signal
+import socket
 import threading
 import time
 import uuid
+from contextlib import suppress
 
 import common
-from common_serve import HEADER, KILLS, PROGRAM, SOURCE, Case, Server
+from common_serve import HEADER, KILLS, PATIENCE, PROGRAM, SOURCE, Case, Server
 from common_serve import built, checked, cluster, kill, line, run, up
 
 
@@ -118,13 +120,39 @@ class Answers(Case):
 class Files(Case):
     def test_the_file_of_another_configuration_is_refused(self):
         server = self.server(http=False).start()
-        server.talk().ask(kill(0, "KillInstantly"))
+        # What a guard of each of the others would answer too, so its entries alone tell nothing.
+        server.talk().ask(kill(0))
         self.assertEqual(server.end(), 0)
         before = server.file.read_bytes()
+        kept = self.folder / "audit.cluster"
+        self.assertEqual(kept.read_text(), cluster())
+        self.assertEqual(kept.stat().st_mode, server.file.stat().st_mode)
+        for text in (
+            cluster().replace("2,zoneid", "1,zoneid"),
+            cluster(processes=8),
+            cluster(limit=999),
+            cluster() + "# a comment\n",
+        ):
+            other = common.written(self.folder, "other.toml", text)
+            self.assertEqual(checked(other, server.file), (0, "legal 1"))
+            status, said = self.refuse(other, "--audit", server.file)
+            why = f"{other} isn't the cluster file that it was begun under, which is {kept}"
+            self.assertEqual((status, said), (1, f"faultyard-serve: {server.file}: {why}\n"))
+            self.assertEqual(server.file.read_bytes(), before)
+            self.assertEqual(kept.read_text(), cluster())
+        server.words[1] = str(kept)  # The copy is the cluster file.
+        self.assertEqual(json.loads(server.start().talk().ask(kill(0)))["at"], 1)
+
+    def test_the_audit_of_a_guard_is_gone_on_with(self):
+        server = self.server(http=False)
+        told = run(PROGRAM, "guard", server.config, input=kill(0, "RebootAndDelete").decode())
+        server.file.write_text(told.stdout)
         other = common.written(self.folder, "other.toml", cluster().replace("2,zoneid", "1,zoneid"))
-        status, said = self.refuse(other, "--audit", server.file)
-        self.assertEqual((status, said), (5, f"faultyard-serve: {server.file}: bad entry 0\n"))
-        self.assertEqual(server.file.read_bytes(), before)
+        bad = self.refuse(other, "--audit", server.file)
+        self.assertEqual(bad, (5, f"faultyard-serve: {server.file}: bad entry 0\n"))
+        self.assertEqual(server.file.read_text(), told.stdout)
+        self.assertEqual(json.loads(server.start().talk().ask(kill(0)))["at"], 1)
+        self.assertEqual((self.folder / "audit.cluster").read_text(), cluster())
 
     def test_a_faulty_audit_is_refused_as_check_refuses_it(self):
         config, file = common.written(self.folder, "c.toml", cluster()), self.folder / "audit"
@@ -194,11 +222,31 @@ class Files(Case):
         status, said = self.refuse(server.config, "--audit", new, limit=limit(5))
         self.assertEqual((status, "file too large" in said), (3, True))
         self.assertEqual(new.read_bytes(), b"")
+        self.assertEqual(list(self.folder.glob("new.*")), [])
         server.limit = None
         server.start()
         self.assertTrue(server.talk().ask(kill(0)))
         self.assertEqual(server.end(), 0)
         self.assertEqual(server.check(), f"legal {len(answers) + 1}")
+
+    def test_too_few_descriptors_end_nobody(self):
+        server = self.server(http=False)
+        server.limit = lambda: resource.setrlimit(resource.RLIMIT_NOFILE, (30, 30))
+        server.start()
+        first = server.talk()
+        others = [socket.socket(socket.AF_UNIX) for _ in range(60)]
+        for other in others:
+            other.connect(str(server.socket))
+        self.assertEqual(json.loads(first.ask(kill(0)))["at"], 0)
+        for other in others:
+            other.close()
+        until = time.monotonic() + PATIENCE
+        answer = b""
+        while not answer and time.monotonic() < until:
+            with suppress(AssertionError, OSError):  # Somebody may still be there.
+                answer = server.talk().ask(kill(0))
+        self.assertEqual(json.loads(answer)["at"], 1)
+        self.assertEqual(server.end(), 0)
 
     def test_a_file_that_cannot_be_made_is_told(self):
         config = common.written(self.folder, "c.toml", cluster())

@@ -133,7 +133,9 @@ func (its *server) open() (err error) {
 // goOn goes on with the audit, or begins it.
 func (its *server) goOn() (err error) {
 	path := its.words.audit
-	its.book, err = book.Open(book.Files{Audit: path, After: its.after, Say: say})
+	its.book, err = book.Open(book.Files{
+		Audit: path, Cluster: its.words.config, Config: its.config, After: its.after, Say: say,
+	})
 	var refusal book.Refusal
 	if errors.As(err, &refusal) {
 		refusal.Why = path + ": " + refusal.Why

@@ -38,6 +38,12 @@ type Fault string
 // Error is the fault's word.
 func (fault Fault) Error() string { return string(fault) }
 
+// FaultOf is the Fault that an error is, if it is one.
+func FaultOf(err error) (fault Fault, is bool) {
+	is = errors.As(err, &fault)
+	return fault, is
+}
+
 // The faults that a guard finds in a line, and those that a book adds.
 const (
 	TooLong     Fault = "TooLong"
@@ -112,11 +118,9 @@ type Book struct {
 	grown   chan struct{} // closed once there are more entries
 	stats   Stats
 	length  int64 // of the audit in bytes, as far as it is on the disk
-	// lastParties and lastSync are how many the last commit served, and how long its sync took.
-	lastParties int
-	lastSync    time.Duration
-	gathered    chan struct{} // closed once as many wait again
-	spare       []*Party
+	// lastSync is how long the last sync took.
+	lastSync time.Duration
+	spare    []*Party
 
 	// Who leads owns these.
 	count  int // of the entries that the guard has
@@ -131,10 +135,6 @@ func (book *Book) Submit(turn *Turn) { book.SubmitAll(NewParty(turn)) }
 func (book *Book) SubmitAll(party *Party) {
 	book.lock.Lock()
 	book.waiting = append(book.waiting, party)
-	if book.gathered != nil && len(book.waiting) == book.lastParties {
-		close(book.gathered)
-		book.gathered = nil
-	}
 	if book.led {
 		book.lock.Unlock()
 		if leads := <-party.woken; !leads {
@@ -143,10 +143,8 @@ func (book *Book) SubmitAll(party *Party) {
 		book.lock.Lock()
 	}
 	book.led = true
-	book.gather()
 	parties, stop := book.waiting, book.stop
 	book.waiting = book.spare[:0]
-	book.lastParties = len(parties)
 	book.lock.Unlock()
 
 	book.turns = book.turns[:0]
@@ -162,38 +160,15 @@ func (book *Book) SubmitAll(party *Party) {
 	book.handOn(parties)
 }
 
-// Patience is how long it is worth to wait for others before a party is submitted.
+// Patience is how long it is worth to wait for others before a party is submitted: a part of the last
+// sync's time, or nothing.
 func (book *Book) Patience() time.Duration {
 	book.lock.Lock()
 	defer book.lock.Unlock()
-	return book.patience()
-}
-
-// patience is a part of the last sync's time, or nothing. The lock is held.
-func (book *Book) patience() time.Duration {
 	if patience := book.lastSync / gatherPart; patience >= leastGather {
 		return patience
 	}
 	return 0
-}
-
-// gather waits for as many parties as the last sync served, at most for a part of its time: clients
-// that were answered together ask together again, and then one sync serves all of them. The lock is
-// held before and after.
-func (book *Book) gather() {
-	patience := book.patience()
-	if patience == 0 || book.lastParties <= len(book.waiting) {
-		return
-	}
-	gathered := make(chan struct{})
-	book.gathered = gathered
-	book.lock.Unlock()
-	select {
-	case <-gathered:
-	case <-time.After(patience):
-	}
-	book.lock.Lock()
-	book.gathered = nil
 }
 
 // handOn lets the first of those who wait lead. The list of those who were served is used again.
@@ -242,6 +217,7 @@ func (turn *Turn) refuse(err error) {
 // commit makes the acts of the turns, and brings their entries to the disk.
 func (book *Book) commit(turns []*Turn, stats *Stats) error {
 	book.buffer = book.buffer[:0]
+	book.events.look()
 	for _, turn := range turns {
 		turn.Answers = turn.Answers[:0]
 		for _, ask := range turn.Asks {
@@ -276,11 +252,11 @@ func (book *Book) make(ask Ask, stats *Stats) (Answer, error) {
 		}
 	}
 	line, err := book.guard.Act(asked.line)
-	if errors.As(err, &fault) {
-		stats.Refused++
-		return Answer{Err: fault}, nil
-	}
 	if err != nil {
+		if fault, is := FaultOf(err); is {
+			stats.Refused++
+			return Answer{Err: fault}, nil
+		}
 		return Answer{}, err
 	}
 	book.events.add(book.count, asked.once)

@@ -29,12 +29,12 @@ func (its *guard) Act(line []byte) ([]byte, error) {
 // kept is what a test knows of a book.
 type kept struct {
 	*testing.T
-	path string
-	said []string
+	path, config string
+	said         []string
 }
 
 func begin(test *testing.T) *kept {
-	return &kept{T: test, path: filepath.Join(test.TempDir(), "audit")}
+	return &kept{T: test, path: filepath.Join(test.TempDir(), "audit"), config: "the cluster\n"}
 }
 
 var entries = regexp.MustCompile(`^{"act":(.*),"at":\d+,"by":(\d+),"reply":"done"}\n$`)
@@ -60,9 +60,11 @@ func after(audit []byte) (Guard, error) {
 // open opens the book anew.
 func (its *kept) open() (*Book, error) {
 	return Open(Files{
-		Audit: its.path,
-		After: after,
-		Say:   func(what string) { its.said = append(its.said, what) },
+		Audit:   its.path,
+		Cluster: "two.toml",
+		Config:  []byte(its.config),
+		After:   after,
+		Say:     func(what string) { its.said = append(its.said, what) },
 	})
 }
 
@@ -171,9 +173,72 @@ func TestWhatIsNoAuditOfThisGuardIsLeftAlone(test *testing.T) {
 			test.Errorf("%.40q: %v", text, err)
 		}
 		same(test, "the file", its.read(its.path), text)
-		if _, err := os.Stat(its.path + ".events"); !os.IsNotExist(err) {
-			test.Errorf("%.40q: there are events", text)
+		for _, end := range []string{".events", ".cluster", ".cluster.new"} {
+			if _, err := os.Stat(its.path + end); !os.IsNotExist(err) {
+				test.Errorf("%.40q: there is %s", text, end)
+			}
 		}
+	}
+}
+
+func TestAnAuditIsGoneOnWithUnderItsClusterFileAlone(test *testing.T) {
+	its := begin(test)
+	_ = its.must().Close()
+	begun := its.path + ".cluster"
+	same(test, "the copy", its.read(begun), "the cluster\n")
+	its.config = "another\n" // Nobody was answered under the first.
+	book := its.must()
+	same(test, "the copy without entries", its.read(begun), "another\n")
+	ask(book, up(3, ""))
+	_ = book.Close()
+	const why = "two.toml isn't the cluster file that it was begun under, which is "
+	for _, config := range []string{"the cluster\n", "another", "another\n\n", ""} {
+		its.config = config
+		_, err := its.open()
+		same(test, fmt.Sprintf("%q", config), err, Refusal{1, why + begun})
+		same(test, "the copy of one that is refused", its.read(begun), "another\n")
+	}
+	its.config = "another\n"
+	book = its.must()
+	same(test, "the next answer", string(ask(book, up(4, "")).Line), entry(1, 4))
+	_ = book.Close()
+	// An audit that a guard wrote has no copy.
+	_ = os.Remove(begun)
+	its.config = "a third\n"
+	_ = its.must().Close()
+	same(test, "the copy of a guard's audit", its.read(begun), "a third\n")
+	its.write(begun, "a th") // No crash leaves this.
+	_, err := its.open()
+	same(test, "half a copy", err, Refusal{1, why + begun})
+}
+
+func TestACopyOfTheClusterFileIsWholeAfterACrash(test *testing.T) {
+	its := begin(test)
+	its.config = strings.Repeat("the cluster\n", 1000)
+	for length := 0; length <= len(its.config); length += 500 {
+		its.write(its.path, Header+entry(0, 3))
+		_ = os.Remove(its.path + ".cluster")
+		its.write(its.path+".cluster.new", its.config[:length]) // As a crash leaves it.
+		_ = its.must().Close()
+		same(test, "the copy", its.read(its.path+".cluster") == its.config, true)
+		_, err := os.Stat(its.path + ".cluster.new")
+		same(test, "what the crash left is gone", os.IsNotExist(err), true)
+	}
+}
+
+func TestACopyOfTheClusterFileHasTheModeOfItsAudit(test *testing.T) {
+	for _, mode := range []os.FileMode{0o600, 0o640, 0o666} {
+		its := begin(test)
+		its.write(its.path, "")
+		if err := os.Chmod(its.path, mode); err != nil {
+			test.Fatal(err)
+		}
+		_ = its.must().Close()
+		info, err := os.Stat(its.path + ".cluster")
+		if err != nil {
+			test.Fatal(err)
+		}
+		same(test, "the mode", info.Mode().Perm(), mode)
 	}
 }
 

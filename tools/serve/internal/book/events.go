@@ -25,7 +25,7 @@ const (
 type events struct {
 	file  *os.File
 	begun time.Time
-	last  float64        // the time of the last entry, in seconds
+	last  float64        // when the clock was looked at, in seconds
 	keys  map[string]int // the entry of each key, which stands behind its actor's number
 	// buffer has what isn't in the file yet.
 	buffer []byte
@@ -125,14 +125,18 @@ func (its *events) read(count int) (whole int64, err error) {
 	}
 }
 
-// add takes in an entry, and its key if there is one.
-func (its *events) add(entry int, once string) {
+// look looks at the clock, for the entries that are added next.
+func (its *events) look() {
 	if seconds := time.Since(its.begun).Seconds(); its.last < seconds {
 		its.last = seconds
 	}
 	if its.last > lastTime {
 		its.last = lastTime
 	}
+}
+
+// add takes in an entry, and its key if there is one.
+func (its *events) add(entry int, once string) {
 	line := append(its.buffer, `{"entry":`...)
 	line = strconv.AppendInt(line, int64(entry), 10)
 	line = append(line, `,"t":`...)

@@ -35,8 +35,12 @@ func (held HeldError) Error() string { return held.Path + " is held by another p
 
 // Files names what a book reads and writes.
 type Files struct {
-	// Audit is the path of the audit. Its events stand beside it.
+	// Audit is the path of the audit. Its events stand beside it, and the cluster file that it was
+	// begun under.
 	Audit string
+	// Cluster is the path of the cluster file, for what is said, and Config its text.
+	Cluster string
+	Config  []byte
 	// After opens a guard that goes on where an audit ends, by its whole text. Where the audit isn't
 	// one that a guard of this cluster wrote, the error is a Refusal.
 	After func(audit []byte) (Guard, error)
@@ -83,6 +87,9 @@ func openFile(path string) (*os.File, error) {
 // goOn opens the guard, cuts half a last line, and opens the events.
 func (book *Book) goOn(files Files) error {
 	if err := book.openGuard(files); err != nil {
+		return err
+	}
+	if err := book.keepCluster(files); err != nil {
 		return err
 	}
 	if err := book.cut(files); err != nil {
@@ -134,11 +141,14 @@ func (book *Book) openGuard(files Files) (err error) {
 	if len(text) == 0 {
 		text = []byte(Header)
 	}
-	if book.guard, err = files.After(text); err != nil {
-		return err
-	}
 	book.count = bytes.Count(text, []byte("\n")) - 1
-	return nil
+	if book.count > 0 {
+		if err := files.begunUnderIt(); err != nil {
+			return err
+		}
+	}
+	book.guard, err = files.After(text)
+	return err
 }
 
 // text is all that the audit's file has.

@@ -2,6 +2,7 @@ package door
 
 import (
 	"bytes"
+	"errors"
 	"net"
 	"sync"
 	"syscall"
@@ -22,19 +23,21 @@ const (
 	mostAtOnce = 1024
 	// enoughOutput is how much output of one client is made before the others are served.
 	enoughOutput = 1 << 16
-	// mostLoops is how many share the clients: while one syncs, the others read and answer.
-	mostLoops = 4
-	pollIn    = 1 // POLLIN of poll(2)
+	pollIn       = 1 // POLLIN of poll(2)
+	// mostEvents is how many clients one look at epoll tells of.
+	mostEvents = 128
 )
 
 // tooLong is a line that the guard finds too long. It stands for one that isn't held.
 var tooLong = bytes.Repeat([]byte("x"), mostLine+1)
 
-// loop serves its share of a socket's clients by one thread, which waits for all of them at once. A
-// goroutine for each client would cost another change of threads for each line.
+// loop serves the clients of a socket by one thread, which waits for all of them at once. A goroutine
+// for each client would cost another change of threads for each line, and several loops one for each
+// sync.
 type loop struct {
 	lines   *Lines
 	poll    int // the descriptor of epoll
+	events  [mostEvents]syscall.EpollEvent
 	lock    sync.Mutex
 	clients map[int]*client
 	// again are clients that have something to do without an event. lastReady is how many clients
@@ -73,7 +76,7 @@ func newLoop(lines *Lines) (*loop, error) {
 	}, nil
 }
 
-// add takes in a client, to whom the header was sent.
+// add takes in a client, and sends it the header.
 func (its *loop) add(connection net.Conn) error {
 	descriptor, err := taken(connection)
 	if err != nil {
@@ -81,6 +84,11 @@ func (its *loop) add(connection net.Conn) error {
 	}
 	client := &client{descriptor: descriptor, number: 1, turn: book.NewTurn()}
 	client.input = make([]byte, 0, firstInput)
+	client.output = append(client.output, book.Header...)
+	if err := client.send(); err != nil {
+		_ = syscall.Close(descriptor)
+		return err
+	}
 	its.lock.Lock()
 	its.clients[descriptor] = client
 	its.lock.Unlock()
@@ -128,8 +136,7 @@ func (its *loop) run() error {
 
 // collect waits for events, and reads what came.
 func (its *loop) collect(milliseconds int) error {
-	var events [128]syscall.EpollEvent
-	count, err := syscall.EpollWait(its.poll, events[:], milliseconds)
+	count, err := syscall.EpollWait(its.poll, its.events[:], milliseconds)
 	if err != nil && err != syscall.EINTR {
 		return err
 	}
@@ -140,7 +147,7 @@ func (its *loop) collect(milliseconds int) error {
 	}
 	for at := 0; at < count; at++ {
 		its.lock.Lock()
-		client := its.clients[int(events[at].Fd)]
+		client := its.clients[int(its.events[at].Fd)]
 		its.lock.Unlock()
 		switch {
 		case client == nil, client.isReady: // It was let go just now, or its turn comes first.
@@ -167,11 +174,14 @@ func (its *loop) look(client *client) {
 	}
 }
 
-// gather waits for as many clients as the last batch served, as a book does for those who ask it:
-// one sync serves all of them.
+// gather waits for as many clients as the last batch served, at most for a part of the last sync's
+// time: clients that were answered together ask together again, and then one sync serves all of them.
 func (its *loop) gather() {
+	if len(its.ready) == 0 || len(its.ready) >= its.lastReady {
+		return
+	}
 	patience := its.lines.Book.Patience()
-	if patience == 0 || len(its.ready) == 0 {
+	if patience == 0 {
 		return
 	}
 	until := time.Now().Add(patience)
@@ -243,28 +253,18 @@ func (its *loop) answer(client *client) {
 
 // finish sends what there is to send, and sees to it that the client is looked at again.
 func (its *loop) finish(client *client) {
-	sent, err := 0, error(nil)
-	if len(client.output) > 0 {
-		sent, err = moved(syscall.SYS_WRITE, client.descriptor, client.output)
-	}
-	if err == syscall.EAGAIN || err == syscall.EINTR {
-		sent, err = 0, nil
-	}
-	if err != nil {
-		its.remove(client)
-		return
-	}
-	left := copy(client.output, client.output[sent:])
-	client.output = client.output[:left]
-	if isFull := left > 0; isFull != client.isFull {
+	err := client.send()
+	if isFull := len(client.output) > 0; err == nil && isFull != client.isFull {
 		client.isFull = isFull
 		event := syscall.EpollEvent{Events: syscall.EPOLLIN, Fd: int32(client.descriptor)}
 		if isFull {
 			event.Events = syscall.EPOLLOUT
 		}
-		_ = syscall.EpollCtl(its.poll, syscall.EPOLL_CTL_MOD, client.descriptor, &event)
+		err = syscall.EpollCtl(its.poll, syscall.EPOLL_CTL_MOD, client.descriptor, &event)
 	}
-	if !client.isFull && client.isBusy() {
+	if err != nil {
+		its.remove(client)
+	} else if !client.isFull && client.isBusy() {
 		its.again = append(its.again, client)
 	}
 }
@@ -288,18 +288,38 @@ func (its *loop) forget(client *client) {
 	_ = syscall.Close(client.descriptor)
 }
 
-// moved reads into a part of memory or writes it. The descriptor of a client never has the thread
-// wait, so the scheduler isn't told of the call: that takes as long as a short call itself.
+// moved receives into a part of memory or sends it, as far as that goes at once. The thread never
+// waits there, so the scheduler isn't told of the call: that takes as long as a short call itself.
 func moved(call uintptr, descriptor int, part []byte) (int, error) {
 	if len(part) == 0 {
 		return 0, nil
 	}
-	count, _, number := syscall.RawSyscall(
-		call, uintptr(descriptor), uintptr(unsafe.Pointer(&part[0])), uintptr(len(part)))
-	if number != 0 {
-		return 0, number
+	count, _, number := syscall.RawSyscall6(
+		call, uintptr(descriptor), uintptr(unsafe.Pointer(&part[0])), uintptr(len(part)),
+		syscall.MSG_DONTWAIT|syscall.MSG_NOSIGNAL, 0, 0)
+	switch number {
+	case 0:
+		return int(count), nil
+	case syscall.EAGAIN, syscall.EINTR:
+		return 0, errLater
 	}
-	return int(count), nil
+	return 0, number
+}
+
+// errLater is: nothing goes at once.
+var errLater = errors.New("later")
+
+// send sends what the client takes of the output.
+func (its *client) send() error {
+	if len(its.output) == 0 {
+		return nil
+	}
+	sent, err := moved(syscall.SYS_SENDTO, its.descriptor, its.output)
+	if err == errLater {
+		return nil
+	}
+	its.output = its.output[:copy(its.output, its.output[sent:])]
+	return err
 }
 
 // fill reads what is there.
@@ -316,12 +336,12 @@ func (its *client) fill() {
 		its.input = append(make([]byte, 0, more), its.input...)
 	}
 	room := its.input[len(its.input):cap(its.input)]
-	read, err := moved(syscall.SYS_READ, its.descriptor, room)
+	read, err := moved(syscall.SYS_RECVFROM, its.descriptor, room)
 	switch {
-	case err == syscall.EAGAIN, err == syscall.EINTR:
+	case err == errLater:
 	case err != nil:
 		its.failed = err
-	case read == 0 && len(its.input) < cap(its.input):
+	case read == 0 && len(room) > 0:
 		its.ends = true
 	default:
 		its.input = its.input[:len(its.input)+read]

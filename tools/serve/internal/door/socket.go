@@ -6,14 +6,17 @@ import (
 	"encoding/json"
 	"errors"
 	"fmt"
-	"io"
 	"net"
 	"os"
 	"sync/atomic"
 	"syscall"
+	"time"
 
 	"faultyard-serve/internal/book"
 )
+
+// acceptPause is how long nobody is let in once a descriptor is lacking.
+const acceptPause = 10 * time.Millisecond
 
 // Lines answers the lines of `faultyard guard` to each who connects to a socket.
 type Lines struct {
@@ -52,48 +55,55 @@ func ListenSocket(path string) (net.Listener, error) {
 
 // Serve answers all who connect, until the listener is closed.
 func (lines *Lines) Serve(listener net.Listener) error {
-	loops := make([]*loop, mostLoops)
-	failed := make(chan error, mostLoops)
-	for at := range loops {
-		its, err := newLoop(lines)
-		if err != nil {
-			return err
-		}
-		loops[at] = its
-		go func() {
-			failed <- its.run()
-			_ = listener.Close()
-		}()
+	its, err := newLoop(lines)
+	if err != nil {
+		return err
 	}
-	for next := 0; ; next++ {
+	failed := make(chan error, 1)
+	go func() {
+		failed <- its.run()
+		_ = listener.Close()
+	}()
+	for {
 		connection, err := listener.Accept()
-		if err != nil {
-			select {
-			case failure := <-failed:
-				return failure
-			default:
-			}
-		}
-		if errors.Is(err, net.ErrClosed) {
-			return nil
-		}
-		if err != nil {
-			return err
-		}
-		if lines.count.Add(1) > lines.Most {
-			lines.count.Add(-1)
-			_ = connection.Close()
-			continue
-		}
-		_, err = io.WriteString(connection, book.Header)
-		if err == nil {
-			err = loops[next%mostLoops].add(connection)
-		}
-		if err != nil {
-			lines.count.Add(-1)
-			_ = connection.Close()
+		switch {
+		case err == nil:
+			lines.admit(connection, its)
+		case isShort(err):
+			time.Sleep(acceptPause)
+		default:
+			return ended(err, failed)
 		}
 	}
+}
+
+// admit lets a client in, unless too many are there or it has gone.
+func (lines *Lines) admit(connection net.Conn, its *loop) {
+	if lines.count.Add(1) <= lines.Most && its.add(connection) == nil {
+		return
+	}
+	lines.count.Add(-1)
+	_ = connection.Close()
+}
+
+// isShort says whether one who connects has to wait until somebody else goes, as where the process
+// has no descriptor left.
+func isShort(err error) bool {
+	return errors.Is(err, syscall.EMFILE) || errors.Is(err, syscall.ENFILE) ||
+		errors.Is(err, syscall.ENOBUFS) || errors.Is(err, syscall.ENOMEM)
+}
+
+// ended is why nobody is let in any more: nil where the server ends.
+func ended(err error, failed <-chan error) error {
+	select {
+	case failure := <-failed:
+		return failure
+	default:
+	}
+	if errors.Is(err, net.ErrClosed) {
+		return nil
+	}
+	return err
 }
 
 // readFrom says whether a line asks for the entries from one on, as {"from":7}. Such a line stands
@@ -126,15 +136,15 @@ func appendRange(text []byte, from, count int) ([]byte, int) {
 // error that is no fault of a line ends the talk.
 func appendAnswers(text []byte, answers []book.Answer, number int) ([]byte, error) {
 	for at, answer := range answers {
-		var fault book.Fault
-		switch {
-		case answer.Err == nil:
+		if answer.Err == nil {
 			text = append(text, answer.Line...)
-		case errors.As(answer.Err, &fault):
-			text = append(text, fmt.Sprintf("{\"refused\":%q}\n", faultLine(fault, number+at))...)
-		default:
+			continue
+		}
+		fault, is := book.FaultOf(answer.Err)
+		if !is {
 			return text, answer.Err
 		}
+		text = append(text, fmt.Sprintf("{\"refused\":%q}\n", faultLine(fault, number+at))...)
 	}
 	return text, nil
 }

@@ -4,7 +4,6 @@ import (
 	"context"
 	"crypto/tls"
 	"encoding/json"
-	"errors"
 	"log"
 	"net"
 	"net/http"
@@ -247,8 +246,8 @@ func fail(writer http.ResponseWriter, status int, why string) {
 
 // failOf answers what went wrong with an act or a view.
 func failOf(writer http.ResponseWriter, err error) {
-	var fault book.Fault
-	if !errors.As(err, &fault) {
+	fault, is := book.FaultOf(err)
+	if !is {
 		fail(writer, http.StatusServiceUnavailable, err.Error())
 		return
 	}
