@@ -1,5 +1,5 @@
 -- who is lost in a cluster
-use Rattle.std.proofs.Common.{◌≡◌, ◌&&◌, ◌||◌, not, ℕ, Bool, true, false, ◌==◌, List, [], ◌∷◌, Option, Some, None, if◌then◌else◌, inl, inr, refl, sym, ap, subst, ◌∙◌, arith}
+use Rattle.std.proofs.Common.{◌≡◌, ◌&&◌, not, ℕ, Bool, true, false, ◌==◌, List, [], ◌∷◌, Option, Some, None, if◌then◌else◌, inl, inr, refl, sym, ap, subst, ◌∙◌, arith}
 use Rattle.std.specs.List.{AllByRecursion}
 use Rattle.std.proofs.lemmas.Bool.{false≢true, or_cases, or_left, or_right, and_from}
 use Rattle.std.proofs.lemmas.Bool.Decides.{nat_tests}
@@ -12,7 +12,7 @@ use Rattle.fy_acts.specs.declared.act.Act.TheVariants.{Heal}
 use Rattle.fy_acts.specs.declared.reply.Reply.{Reply}
 use Rattle.fy_acts.specs.declared.entry.Entry.{Entry}
 use Rattle.fy_cluster.specs.Setup.{Setup}
-use Rattle.fy_cluster.specs.History.{History, Step, step_of, history, is_accepted, some_is, strikes, destroys, heals, heals_at, destroyed, gone}
+use Rattle.fy_cluster.specs.History.{History, step_of, history, is_accepted, some_is, strikes, destroys, heals, heals_at, destroyed, gone}
 use Rattle.fy_cluster.specs.Replies.{IsNext, Legal, reasons, refusals}
 use Rattle.fy_cluster.proofs.Journals.{kept_after}
 use Rattle.fy_cluster.proofs.Strikes.{accepted}

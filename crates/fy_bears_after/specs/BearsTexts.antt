@@ -1,14 +1,13 @@
 -- who is lost after a journal, and what is borne from there on, as `bears` tells it
-use Rattle.std.specs.Prelude.{◌≡◌, ℕ, ◌&&◌, List, nat_lt, length, Ok, Option, Some, None}
+use Rattle.std.specs.Prelude.{◌≡◌, ℕ, ◌&&◌, List, nat_lt, length, Ok, Some, None}
 use Rattle.std.specs.FinSet as sets
 use Rattle.fy_audit.specs.Audit.{Audit, AuditOf}
 use Rattle.fy_bears.specs.Bears.{IsFindings}
 use Rattle.fy_bears.specs.declared.book.LossesSoFar.{LossesSoFar}
-use Rattle.fy_bears.specs.declared.borne.Findings.{Findings}
 use Rattle.fy_decide.specs.DeadBook.{Losses, IsFresh}
 use Rattle.fy_bears_after.specs.declared.told.Told.{Told}
 use Rattle.fy_cluster.specs.Setup.{Setup}
-use Rattle.fy_cluster.specs.History.{History, destroyed, gone, history, left, up}
+use Rattle.fy_cluster.specs.History.{History, destroyed, gone, history, left}
 use Rattle.fy_cluster.specs.Sights.{is_asleep}
 
 -- the losses are those of a history: who is destroyed, who is gone, and who is neither up nor gone

@@ -1,6 +1,6 @@
 //! The engine behind `faultyard bears`: what a cluster bears, from its start or from the end of an
 //! audit on.
-ghost use Rattle.std.specs.Prelude.{◌≡◌, ◌≢◌, ◌+◌, IfOk, IfErr, IfSome, OnOk, Ok, Err, false, true};
+ghost use Rattle.std.specs.Prelude.{◌≡◌, ◌≢◌, ◌+◌, ◌⊎◌, IfOk, IfErr, IfSome, OnOk, Ok, Err, false, true};
 ghost use Rattle.std.specs.Io.KnownBytes.{Appends};
 ghost use Rattle.fy_lines.specs.Prefixes.{AppendsProperPrefix};
 ghost use Rattle.fy_lines.specs.Readings.{ReadsAtMost};
@@ -107,6 +107,12 @@ pub fn run_bears_after<S: Spelling, R: Read, W: Write>(
         (λ fault. IfSome (R.remaining reader.old) (λ bytes. AuditOf bytes (Err fault)))) }
     ensures nothing_out { IfErr result (λ stop. stop ≢ Stop.Write →
         W.contents writer.new ≡ W.contents writer.old) }
+    ensures front_out { result ≡ Err Stop.Write →
+        HasVerdict config.now (R.remaining reader.old) false
+        (AppendsProperPrefix (W.contents writer.old) (W.contents writer.new))
+        ⊎ IfSome (R.remaining reader.old)
+        (λ bytes. Tells (IsToldOf config.now bytes) (S.spells form.now config.now)
+        (AppendsProperPrefix (W.contents writer.old) (W.contents writer.new))) }
     ensures no_other { IfErr result IsCheckStop }
     ensures read_fault { result ≡ Err Stop.Read →
         ReadsAtMost (R.remaining reader.old) (R.remaining reader.new) MOST_AUDIT_BYTES }

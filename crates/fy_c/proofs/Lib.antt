@@ -12,6 +12,7 @@ mod Lines
 mod Lost
 mod Made
 mod Missing
+mod Opened
 mod Orders
 mod Processes
 mod Sent

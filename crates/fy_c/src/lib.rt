@@ -5,6 +5,7 @@
 mod acting;
 mod asking;
 mod bearing;
+mod callers;
 mod check_calls;
 mod check_handle;
 mod checking;

@@ -39,7 +39,7 @@ pub struct FyReply {
 }
 
 /// Nothing to tell.
-const NOTHING_TOLD: FyReply = FyReply {
+pub(crate) const NOTHING_TOLD: FyReply = FyReply {
     refusal: 0,
     rule: 0,
     named: 0,

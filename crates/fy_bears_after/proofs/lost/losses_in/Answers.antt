@@ -1,4 +1,4 @@
-use Rattle.std.proofs.Common.{◌&&◌, not, nat_lt, length, sym, ap, ap₂, ◌∙◌}
+use Rattle.std.proofs.Common.{◌&&◌, not, nat_lt, length, ap, ap₂, ◌∙◌}
 use Rattle.std.specs.Cmp.{nat_cmp_total}
 use Rattle.std.specs.FinSet as sets
 use Rattle.fy_cluster.specs.Execution.{history_of}

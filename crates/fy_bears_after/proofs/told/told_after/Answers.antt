@@ -1,7 +1,7 @@
 use Rattle.std.proofs.Common.{◌∙◌, subst}
 use Rattle.std.proofs.lemmas.Result.{IfOk-weaker}
 use Rattle.fy_cluster.specs.Execution.{Execution, history_of}
-use Rattle.fy_bears_after.specs.BearsTexts.{IsToldAfter, IsToldOf}
+use Rattle.fy_bears_after.specs.BearsTexts.{IsToldAfter}
 use Rattle.fy_bears_after.proofs.told.told_after.Goals as goal
 
 pub returns-clause-told : goal.returns-clause-told
