@@ -1,6 +1,7 @@
 //! A script of one act, and its audit.
 use fy_acts::Reply;
-use fy_audit::{AuditReader, Version, read_audit, read_script};
+use fy_audit::{AuditReader, MOST_LINE_BYTES, Version, read_audit, read_entry_at, read_script};
+use fy_lines::split_at_newline;
 use std::test::Fail;
 
 #[test]
@@ -45,5 +46,22 @@ fn an_audit_is_read_on_from_an_entry(rt: HostRuntime) -> Result<(), Fail> {
     let entry = reader.next_entry()?;
     assert_eq!(rt; entry.reply, Reply::Time { now: 8 });
     assert!(rt; reader.is_at_end() && reader.place() == 8);
+    Ok(())
+}
+
+#[test]
+fn a_line_is_read_at_its_place(rt: HostRuntime) -> Result<(), Fail> {
+    let alloc = rt.alloc();
+    let rest: &[u8] =
+        b"{\"act\":{\"tick\":{\"ticks\":1}},\"at\":7,\"by\":0,\"reply\":{\"time\":8}}\n";
+    let Some((line, _)) = split_at_newline(rest) else {
+        return Err(Fail::from("no line"));
+    };
+    if line.len() > MOST_LINE_BYTES {
+        return Err(Fail::from("too long"));
+    }
+    let entry = read_entry_at(alloc, line, Version::Second, 7, &mut Vec::new(alloc))?;
+    prove!(entry.at == 7);
+    assert_eq!(rt; entry.reply, Reply::Time { now: 8 });
     Ok(())
 }

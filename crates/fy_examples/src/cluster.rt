@@ -13,7 +13,7 @@ use std::test::Fail;
 
 /// Six processes in three zones, two copies in different zones, an actor that stores and one that
 /// kills.
-fn cluster_of_six(alloc: Global) -> Result<Cluster, Fail> {
+pub(crate) fn config_of_six(alloc: Global) -> Result<Config, Fail> {
     let mut map = Map::make(alloc);
     for (process, zone) in [
         ("p0", "z0"),
@@ -35,8 +35,12 @@ fn cluster_of_six(alloc: Global) -> Result<Cluster, Fail> {
         scope: Scope::All,
     };
     let grants = [grant].to_vec(alloc)?;
-    let config = Config::make(map, policies, roles, grants, Vec::new(alloc), 1000)?;
-    Ok(Cluster::make(alloc, config)?)
+    Ok(Config::make(map, policies, roles, grants, Vec::new(alloc), 1000)?)
+}
+
+/// Their cluster.
+fn cluster_of_six(alloc: Global) -> Result<Cluster, Fail> {
+    Ok(Cluster::make(alloc, config_of_six(alloc)?)?)
 }
 
 /// Kill a zone for good, or else at least reboot it.

@@ -9,6 +9,10 @@ mod acts;
 #[cfg(test)]
 mod audit;
 #[cfg(test)]
+mod bears;
+#[cfg(test)]
+mod by_number;
+#[cfg(test)]
 mod check;
 #[cfg(test)]
 mod check_by_rules;

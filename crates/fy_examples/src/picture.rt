@@ -1,9 +1,11 @@
-//! A legal journal, drawn.
+//! A legal journal, drawn at once and entry by entry.
+ghost use Rattle.std.specs.Prelude.{◌≡◌};
+
 use crate::single::config_of_one;
 use fy_acts::{Act, Reply};
-use fy_journal::Journal;
-use fy_picture::draw;
-use fy_svg::svg;
+use fy_journal::{Entry, Journal, Version};
+use fy_picture::{Recorder, draw};
+use fy_svg::{Drawing, svg};
 use std::test::Fail;
 
 #[test]
@@ -21,6 +23,39 @@ fn a_tick_is_drawn(rt: HostRuntime) -> Result<(), Fail> {
         (1, 1, 1)
     );
     let text = svg(alloc, &config, &journal)?;
+    assert!(rt; text.as_str().starts_with("<svg "));
+    Ok(())
+}
+
+/// A legal first entry.
+fn tick() -> Entry
+    ensures { result.at ≡ 0 }
+{
+    Entry {
+        at: 0,
+        by: 0,
+        act: Act::Tick { ticks: 1 },
+        reply: Reply::Time { now: 1 },
+    }
+}
+
+#[test]
+fn a_tick_is_recorded(rt: HostRuntime) -> Result<(), Fail> {
+    let alloc = rt.alloc();
+    let mut recorder = Recorder::begin(alloc, config_of_one(alloc)?, Version::Second)?;
+    recorder.enter(tick())?;
+    assert_eq!(rt; (recorder.first_bad(), recorder.columns()), (None, 0));
+    Ok(())
+}
+
+#[test]
+fn a_tick_is_drawn_alone(rt: HostRuntime) -> Result<(), Fail> {
+    let alloc = rt.alloc();
+    let config = config_of_one(alloc)?;
+    let mut drawing = Drawing::begin(alloc, &config, Version::Second)?;
+    drawing.enter(tick())?;
+    assert_eq!(rt; drawing.first_bad(), None);
+    let text = drawing.finish(&config)?;
     assert!(rt; text.as_str().starts_with("<svg "));
     Ok(())
 }

@@ -21,3 +21,24 @@ fn two_zones_are_asked_for(rt: HostRuntime) -> Result<(), Fail> {
     assert_eq!(rt; tally.satisfied(), false);
     Ok(())
 }
+
+#[test]
+fn a_tally_looks_ahead(rt: HostRuntime) -> Result<(), Fail> {
+    let alloc = rt.alloc();
+    let mut map = Map::make(alloc);
+    let p0 = map.add("p0", "m0", "z0", None, None)?;
+    let p1 = map.add("p1", "m1", "z1", None, None)?;
+    let policy = read_policy(alloc, "Across(2,zoneid,One())")?;
+    let mut tally = Tally::make(alloc, &policy, &map)?;
+    tally.add(p0);
+    let with = tally.satisfied_with_one(p1);
+    tally.add(p1);
+    let joined = tally.satisfied();
+    prove!(with == joined);
+    let without = tally.satisfied_without_one(p0);
+    tally.remove(p0);
+    let parted = tally.satisfied();
+    prove!(without == parted);
+    assert!(rt; joined && !parted);
+    Ok(())
+}

@@ -6,9 +6,14 @@ use std::alloc::Global;
 use std::test::Fail;
 
 pub(crate) fn config_of_one(alloc: Global) -> Result<Config, Fail> {
+    config_for(alloc, &[Role::Storage])
+}
+
+/// The same process, with actors of these roles.
+pub(crate) fn config_for(alloc: Global, roles: &[Role]) -> Result<Config, Fail> {
     let mut map = Map::make(alloc);
     let _number = map.add("p0", "m0", "z0", None, None)?;
     let policies = vec![in alloc; read_policy(alloc, "One()")?]?;
-    let roles = [Role::Storage].to_vec(alloc)?;
+    let roles = roles.to_vec(alloc)?;
     Ok(Config::make(map, policies, roles, Vec::new(alloc), Vec::new(alloc), 10)?)
 }

@@ -1,24 +1,26 @@
-//! A shared cluster: an order from a seat, a post with an actor of its own, and the close.
-ghost use Rattle.std.specs.Prelude.{◌≡◌, All, IfOk, Some};
+//! A shared cluster: an order from a seat, two seats that meet, a post with an actor of its own, and
+//! the close.
+ghost use Rattle.std.specs.Prelude.{◌≡◌, ◌≤◌, All, IfOk, Some, length};
 
-use crate::single::config_of_one;
-use fy_actors::{FaultActor, StorageDriver};
+use crate::single::config_for;
+use fy_actors::{FaultActor, StorageDriver, Turn};
 use fy_acts::{Act, Reply};
-use fy_cluster::Cluster;
+use fy_cluster::{Cluster, Role};
 use fy_locality::ProcId;
 use fy_team::Members;
 use fy_yard::laws::new_seats_are_its_own;
 use fy_yard::{End, Gate, Post, Receipt, Seat, Shared, run_actors};
 use std::alloc::Global;
 use std::boxed::Box;
+use std::sync::Wait;
 use std::test::Fail;
 
-/// A cluster of one process that is shared, with the seat of its one actor.
-fn opened(alloc: Global) -> Result<(Shared, Vec<Seat>), Fail>
+/// A cluster of one process that is shared, with a seat for each of these roles.
+fn opened(alloc: Global, roles: &[Role]) -> Result<(Shared, Vec<Seat>), Fail>
     ensures { IfOk result (λ made. All (λ seat. seat.of ≡ Some made.0) made.1.items) }
 {
     new_seats_are_its_own();
-    let cluster = Cluster::make(alloc, config_of_one(alloc)?)?;
+    let cluster = Cluster::make(alloc, config_for(alloc, roles)?)?;
     match Shared::open(alloc, cluster) {
         Ok(open) => Ok(open),
         Err(_) => Err(Fail::from("no memory")),
@@ -27,7 +29,7 @@ fn opened(alloc: Global) -> Result<(Shared, Vec<Seat>), Fail>
 
 #[test]
 fn an_order_is_made_from_a_seat(rt: HostRuntime) -> Result<(), Fail> {
-    let (shared, mut seats) = opened(rt.alloc())?;
+    let (shared, mut seats) = opened(rt.alloc(), &[Role::Storage])?;
     let Some(seat) = seats.get_mut(0) else {
         return Err(Fail::from("no seat"));
     };
@@ -38,6 +40,38 @@ fn an_order_is_made_from_a_seat(rt: HostRuntime) -> Result<(), Fail> {
         return Err(Fail::from("a seat is missing"));
     };
     assert_eq!(rt; closed.cluster.journal().len(), 1);
+    Ok(())
+}
+
+/// What is ordered from a seat that has met another: its entry stands behind all that the other had
+/// seen.
+fn met_and_ordered<R: Wait>(
+    rt: &R,
+    shared: &Shared,
+    one: &mut Seat,
+    other: &mut Seat,
+) -> Result<Receipt, Fail>
+    requires one { one.old.of ≡ Some shared.now }
+    requires other { other.old.of ≡ Some shared.now }
+    ensures { IfOk result (λ receipt. length one.old.seen ≤ receipt.at) }
+{
+    let met = shared.meet(one, other);
+    prove!(met.is_ok());
+    let receipt = shared.order(rt, other, Act::Tick { ticks: 1 })?;
+    Ok(receipt)
+}
+
+#[test]
+fn a_seat_knows_what_it_is_told(rt: HostRuntime) -> Result<(), Fail> {
+    let (shared, mut seats) = opened(rt.alloc(), &[Role::Storage, Role::Storage])?;
+    let (Some(mut other), Some(mut one)) = (seats.pop(), seats.pop()) else {
+        return Err(Fail::from("no two seats"));
+    };
+    let first = shared.order(&rt, &mut one, Act::Tick { ticks: 1 })?;
+    let second = met_and_ordered(&rt, &shared, &mut one, &mut other)?;
+    prove!(first.at < second.at);
+    assert_eq!(rt; (first.at, second.at), (0, 1));
+    assert_eq!(rt; second.reply, Reply::Time { now: 2 });
     Ok(())
 }
 
@@ -65,8 +99,25 @@ fn posted(alloc: Global, shared: &Shared, seat: Seat) -> Result<Vec<Post>, Fail>
 }
 
 #[test]
+fn a_turn_is_taken_from_a_seat(rt: HostRuntime) -> Result<(), Fail> {
+    let alloc = rt.alloc();
+    let (shared, mut seats) = opened(alloc, &[Role::Storage])?;
+    let Some(seat) = seats.get_mut(0) else {
+        return Err(Fail::from("no seat"));
+    };
+    let members = Members::make(alloc, &[ProcId(0)])?;
+    let driver = StorageDriver::make(alloc, members, 0, Vec::new(alloc), 1);
+    let mut actor: Box<dyn FaultActor + Send> = Box::new(alloc, driver)?;
+    let before = seat.receipts().len();
+    let turn = shared.turn(&rt, seat, &mut actor)?;
+    prove!(before <= seat.receipts().len());
+    assert_eq!(rt; (turn, seat.receipts().len()), (Turn::More, 1));
+    Ok(())
+}
+
+#[test]
 fn a_post_is_run_to_its_end(rt: HostRuntime) -> Result<(), Fail> {
-    let (shared, mut seats) = opened(rt.alloc())?;
+    let (shared, mut seats) = opened(rt.alloc(), &[Role::Storage])?;
     let Some(seat) = seats.pop() else {
         return Err(Fail::from("no seat"));
     };
