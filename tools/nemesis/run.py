@@ -21,6 +21,9 @@ from .summary import Amount
 from .traces import traces
 from .verdicts import Disk, Judged, Left, Verdict, judged, wrong
 
+PATIENT = 10.0  # seconds after which the first order is done though no record is acknowledged
+
+
 def first_of(faults: ExceptionGroup[Exception]) -> Exception:
     """The first fault of a group that the tool has words for, or else the group.
 
@@ -83,19 +86,29 @@ class Run(Store):
         behind = [self.tasks.create_task(it) for it in work]
         if words.check_hooks:
             self.notes += await self.check.whole()
+        late = await self._late(orders)
         for at, order in orders:
-            await asyncio.sleep(at - self.ledger.now())
+            await asyncio.sleep(at + late - self.ledger.now())
             if order.cuts:
                 await self.partition(order)
             elif self.targets(order.key, order.value):  # who is gone can't be struck again
                 await self.obey(self.fault, order.act())
         if not words.check_hooks:
-            await asyncio.sleep(words.seconds - self.ledger.now())
+            await asyncio.sleep(words.seconds + late - self.ledger.now())
         async with self.turn:
             await cancelled(behind)
         self.ledger.stop()
         self.note("written")
         await self.clogs_ended(at_once=True)
+
+    async def _late(self, orders: list[Timed]) -> float:
+        """How many seconds later than planned orders are done, which wait for a first record.
+
+        A store whose quorum forms slowly might else be struck so often that there never is one.
+        """
+        while orders and not self.ledger.records and self.ledger.now() < PATIENT:
+            await asyncio.sleep(AGAIN)
+        return max(0.0, self.ledger.now() - orders[0][0]) if orders else 0.0
 
     async def look_at_emptied(self, number: int) -> None:
         if self.words.check_hooks:
