@@ -1,6 +1,6 @@
 //! Words of a seed, and plans that are drawn from them by the rules of docs/FORMATS.md.
 
-use faultyard::{words, Attrition, Error, Guard, Key, Kind, Order};
+use faultyard::{words, Attrition, Error, Guard, Key, Kind, Order, Plan};
 
 const CONFIG: &str = include_str!("cluster.toml");
 
@@ -82,6 +82,44 @@ fn plans_are_drawn_from_the_words() {
             .map(|machine| kill(*machine, of_a_swarm));
         assert!(two.into_iter().eq(wanted));
     }
+    assert_eq!(guard.journal_len(), 0);
+}
+
+#[test]
+fn the_orders_of_a_simulation_go_by_its_rules() {
+    let guard = Guard::open(CONFIG).unwrap();
+    let rolled = guard.plan_orders(Plan::Rolling, 7, 1, 13).unwrap();
+    let kinds = [Kind::RebootProcess, Kind::Reboot, Kind::RebootAndDelete];
+    let wanted = (0..13).map(|turn| {
+        Some(Order::Kill {
+            key: Key::Process,
+            value: format!("p{}", turn % 6),
+            kind: kinds[turn / 6],
+            floor: Kind::RebootProcess,
+            tear: 0,
+        })
+    });
+    assert!(rolled.into_iter().eq(wanted));
+    let mut rests = 0;
+    for seed in 0..64 {
+        let drawn = words(seed, 3, 8).unwrap();
+        let stream = u64::from(drawn[7]) << 32 | u64::from(drawn[6]);
+        let all = Attrition {
+            to_kill: 5,
+            to_leave: 0,
+            kind: Kind::RebootAndDelete,
+            floor: Kind::Reboot,
+            tear: stream,
+        };
+        let wanted = guard.attrition_plan(seed, stream, all).unwrap();
+        let made = guard.plan_orders(Plan::Attrition, seed, 3, 5).unwrap();
+        assert!(made.into_iter().eq(wanted.into_iter().map(Some)));
+        let mixed = guard.plan_orders(Plan::Mixed, seed, 3, 1).unwrap();
+        assert_eq!(mixed[0].is_none(), drawn[0] % 64 == 63);
+        rests += usize::from(mixed[0].is_none());
+    }
+    assert!(rests > 0);
+    assert_eq!(guard.plan_orders(Plan::Mixed, 0, 0, 0), Ok(Vec::new()));
     assert_eq!(guard.journal_len(), 0);
 }
 

@@ -942,6 +942,35 @@ static void plans()
     THROWS(Closed, (void)asked.attrition_plan(0, 1));
 }
 
+/* The orders of a simulation, by its rules: processes in turn, and a first round of an attrition. */
+static void simulated_plans()
+{
+    Guard guard(SIX);
+    const std::vector<Order> rolled = guard.plan_orders(Plan::Rolling, 7, 1, 13);
+    const Kind kinds[] = {Kind::RebootProcess, Kind::Reboot, Kind::RebootAndDelete};
+    for (std::size_t turn = 0; turn < 13; turn++)
+        HOLDS(rolled.at(turn) == (Order{OrderAct::Kill, Key::Process,
+                                        "p" + std::to_string(turn % 6), kinds[turn / 6],
+                                        Kind::RebootProcess, 0, 0}));
+    bool rests = false;
+    for (uint64_t seed = 0; seed < 64; seed++) {
+        const std::vector<uint32_t> drawn = words(seed, 3, 8);
+        const uint64_t stream = uint64_t{drawn[7]} << 32 | drawn[6];
+        HOLDS(guard.plan_orders(Plan::Attrition, seed, 3, 6) ==
+              guard.attrition_plan(seed, stream, 6, 0, Kind::RebootAndDelete, Kind::Reboot,
+                                   stream));
+        const bool none = guard.plan_orders(Plan::Mixed, seed, 3, 1).at(0).act == OrderAct::None;
+        EQUAL(none, drawn[0] % 64 == 63);
+        rests = rests || none;
+    }
+    EQUAL(rests, true);
+    EQUAL(guard.plan_orders(Plan::Mixed, 0, 0, 0).size(), 0);
+    EQUAL(guard.journal_len(), 0);
+    THROWS(Argument, (void)guard.plan_orders(static_cast<Plan>(5), 0, 0, 1));
+    guard.close();
+    THROWS(Closed, (void)guard.plan_orders(Plan::Mixed, 0, 0, 1));
+}
+
 /* A plan of more orders than the first buffer has room for. */
 static void long_plans()
 {
@@ -1062,6 +1091,7 @@ int main()
     threads();
     texts();
     plans();
+    simulated_plans();
     long_plans();
     checks();
     long_audit();

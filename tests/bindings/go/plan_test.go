@@ -117,6 +117,51 @@ func TestPlanFaults(t *testing.T) {
 	equal(t, faultyard.OrderAct(4).String(), "OrderAct(4)")
 }
 
+// TestPlanOrders holds the orders of a simulation against its rules: processes in turn, and the
+// first round of an attrition.
+func TestPlanOrders(t *testing.T) {
+	guard := opened(t, six(t))
+	rolled, err := guard.PlanOrders(faultyard.PlanRolling, 7, 1, 13)
+	equal(t, err, nil)
+	kinds := []faultyard.Kind{
+		faultyard.RebootProcess, faultyard.Reboot, faultyard.RebootAndDelete,
+	}
+	for turn, planned := range rolled {
+		equal(t, planned, faultyard.Planned{Act: faultyard.OrderKill, Order: faultyard.Order{
+			Key: faultyard.Process, Value: fmt.Sprintf("p%d", turn%6),
+			Kind: kinds[turn/6], Floor: faultyard.RebootProcess,
+		}})
+	}
+	rests := 0
+	for seed := uint64(0); seed < 64; seed++ {
+		words, err := faultyard.Words(seed, 3, 8)
+		equal(t, err, nil)
+		stream := uint64(words[7])<<32 | uint64(words[6])
+		wanted, err := guard.AttritionPlan(seed, stream, faultyard.Attrition{
+			ToKill: 6, Kind: faultyard.RebootAndDelete, Floor: faultyard.Reboot, Tear: stream,
+		})
+		equal(t, err, nil)
+		made, err := guard.PlanOrders(faultyard.PlanAttrition, seed, 3, 6)
+		equal(t, err, nil)
+		equal(t, made, wanted)
+		mixed, err := guard.PlanOrders(faultyard.PlanMixed, seed, 3, 1)
+		equal(t, err, nil)
+		equal(t, mixed[0].Act == faultyard.OrderNone, words[0]%64 == 63)
+		if mixed[0].Act == faultyard.OrderNone {
+			rests++
+		}
+	}
+	equal(t, rests > 0, true)
+	_, err = guard.PlanOrders(5, 0, 0, 1)
+	fails(t, err, faultyard.ErrArgument)
+	_, err = guard.PlanOrders(faultyard.PlanMixed, 0, 0, -1)
+	fails(t, err, faultyard.ErrArgument)
+	equal(t, guard.Close(), nil)
+	_, err = guard.PlanOrders(faultyard.PlanMixed, 0, 0, 1)
+	fails(t, err, faultyard.ErrClosed)
+	equal(t, faultyard.PlanSwizzle.String(), "swizzle")
+}
+
 // TestLongPlan reads a plan of more orders than the first buffer has room for.
 func TestLongPlan(t *testing.T) {
 	var processes strings.Builder
