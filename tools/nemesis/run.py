@@ -105,10 +105,13 @@ class Run(Store):
         """How many seconds later than planned orders are done, which wait for a first record.
 
         A store whose quorum forms slowly might else be struck so often that there never is one.
+        A replay keeps its times.
         """
-        while orders and not self.ledger.records and self.ledger.now() < PATIENT:
+        if self.words.replay or not orders:
+            return 0.0
+        while not self.ledger.records and self.ledger.now() < PATIENT:
             await asyncio.sleep(AGAIN)
-        return max(0.0, self.ledger.now() - orders[0][0]) if orders else 0.0
+        return max(0.0, self.ledger.now() - orders[0][0])
 
     async def look_at_emptied(self, number: int) -> None:
         if self.words.check_hooks:
