@@ -135,7 +135,15 @@ class Table(unittest.TestCase):
     def test_each_order_is_the_headers(self):
         found = re.findall(r"^ +(\d+) => Ok\(Order::(\w+) {", source("plan.rs"), re.M)
         orders = {f"Order{name}": int(number) for number, name in found}
+        nothing = re.search(r"\(order\.act != (\d+)\)\.then", source("plan.rs"))
+        orders["OrderNone"] = int(nothing[1])
         self.assertEqual(orders, header_numbers("fy_order_act"))
+
+    def test_each_plan_is_the_headers(self):
+        plans = source("plan.rs").partition("pub enum Plan {")[2].partition("\n}")[0]
+        found = re.findall(r"^ +(\w+) = (\d+),$", plans, re.M)
+        told = {f"Plan{name}": int(number) for name, number in found}
+        self.assertEqual(told, header_numbers("fy_plan"))
 
     def test_each_status_is_the_headers(self):
         found = re.findall(r"^ +(\d+) => Error::(\w+),$", source("error.rs"), re.M)

@@ -342,6 +342,13 @@ uint32_t fy_attrition_plan(const fy_guard *guard, uint64_t seed, uint64_t stream
     return fy_swizzle_plan(guard, seed, stream, 0, orders, room, told);
 }
 
+uint32_t fy_plan_orders(const fy_guard *guard, uint32_t plan, uint64_t seed, uint32_t actor,
+                        fy_order *orders, size_t count)
+{
+    require_turn();
+    return FY_NO_MEMORY;
+}
+
 /* It has memory for a check, and none for its lines. */
 uint32_t fy_begin_check(const uint8_t *config, size_t config_length, fy_check *check)
 {
