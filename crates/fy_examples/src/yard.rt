@@ -111,7 +111,7 @@ fn a_turn_is_taken_from_a_seat(rt: HostRuntime) -> Result<(), Fail> {
     let before = seat.receipts().len();
     let turn = shared.turn(&rt, seat, &mut actor)?;
     prove!(before <= seat.receipts().len());
-    assert_eq!(rt; (turn, seat.receipts().len()), (Turn::More, 1));
+    assert_eq!(rt; (turn, seat.receipts().len()), (Turn::Ended, 1));
     Ok(())
 }
 
