@@ -121,9 +121,8 @@ class SimulatedTest(unittest.TestCase):
         gone = {**kill, "kind": "KillInstantly"}
         acts = [None, {"kill": {**kill, "value": "nowhere"}}, self.clog("p0", 2**41)]
         acts += [{"kill": gone}, {"kill": kill}, *100 * [None], self.unclog("p2")]
-        orders = self.orders(
-            Plan.MIXED, acts, granted=(Kind.REBOOT, Kind.CLOG), pauses=[0.25]
-        )
+        granted = Kind.REBOOT, Kind.CLOG
+        orders = self.orders(Plan.MIXED, acts, granted=granted, pauses=[0.25])
         wanted = [
             Order(Kind.REBOOT, Key.MACHINE, "m1", 0.25, tear=5, floor=Kind.REBOOT),
             Order(Kind.CLOG, Key.PROCESS, "p2", 0.25, frees=True),

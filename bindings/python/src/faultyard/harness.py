@@ -82,7 +82,8 @@ class Harness(ABC):
         self._events.write_text("")
         self._over = asyncio.Event()
         self._clogs: List[Awaitable[None]] = []
-        self._lasting: Dict[Tuple[Key, str], Order] = {}  # the last clog of each target, until it is freed
+        # The last clog of each target, until it is freed.
+        self._lasting: Dict[Tuple[Key, str], Order] = {}
 
     @abstractmethod
     async def strike(self, processes: Sequence[int], kind: Kind) -> None:
