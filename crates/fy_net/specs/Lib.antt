@@ -1,7 +1,6 @@
 pub mod Kept
 pub mod Net
 pub mod Numbers
-pub mod PlainlyKept
 pub mod Pool
 pub mod Places
 pub mod Slots

@@ -1,13 +1,12 @@
 //! A simulated network: numbered messages in flight, clogged processes and a clock.
 #![tactic(auto)]
 
+mod clog;
 mod fault;
 pub mod laws;
 mod limits;
 mod message;
-mod message_list;
 mod net;
-pub mod plain;
 mod pool;
 mod slot;
 

@@ -7,8 +7,8 @@ ghost use Rattle.fy_net.specs.declared.fault.NetFault.{NetFault};
 ghost use Rattle.fy_net.specs.declared.fault.NetFault.TheVariants.{NoMemory};
 ghost use Rattle.fy_net.specs.Net.{quiet, process_of, body_of, without_message, with_sent, without_acks_of, is_clogged, clogged_for, unclogged, is_free, first_free_of, reserve_refusal, take_refusal, lose_refusal, advance_refusal, NoneFreeBelow, IsNetState};
 
+use crate::clog::clog_lasts;
 use crate::limits::{LAST_TICK, MOST_IN_FLIGHT};
-use crate::message_list::clog_lasts;
 use crate::pool::Pool;
 use crate::{Body, NetFault};
 use fy_locality::{ProcId, ProcSet};

@@ -10,7 +10,7 @@ ghost use Rattle.fy_net.specs.declared.pool.Pool.{Pool};
 ghost use Rattle.fy_net.specs.declared.slot.Slot.{Slot};
 ghost use Rattle.fy_net.specs.Pool.{chain_of, chain_at, is_there, with_link, lower_of, IsFirst, IsThereOnChain, IsReachedOf, IsFreeOf, AreLinked, IsChained, BusyIsRight, IsPool, IsTidy, HasRoom, KeepsRoom};
 
-use crate::message_list::clog_lasts;
+use crate::clog::clog_lasts;
 use crate::slot::{Slot, place_there};
 use crate::{Body, Message};
 use fy_locality::{MOST_PROCESSES, ProcId, ProcSet};
