@@ -7,7 +7,7 @@ BUILT := crates/faultyard/out/faultyard
 UNPROVED := bin/unproved/faultyard
 KIT = $(dir $(shell rt doc))
 
-.PHONY: help build run lib merged test quick format pages site swarm-seeds refused-memory wrong-bodies try-stores slow-stores lossy try-disks nemesis-aborts serve-many serve-speed look install installed uninstall static dist packaged try-dist bench clean
+.PHONY: help build run lib merged test quick format pages site swarm-seeds refused-memory mutants try-stores slow-stores lossy try-disks nemesis-aborts serve-many serve-speed look install installed uninstall static dist packaged try-dist bench clean
 
 # `rt run` proves what changed, builds the program beside its crate and runs it once.
 ## proves the program with the crates that it stands on, and leaves it at `bin/faultyard`; `make` alone does so
@@ -89,8 +89,8 @@ refused-memory:
 	tests/refused-memory faultyard/short:: fy_tests/a_buffer_keeps fy_cluster_tests/short::,actors::played::,actors::stored::
 
 ## tries every mutant again, and records the crates whose mutants are all refused; run it before a release
-wrong-bodies:
-	tests/wrong-bodies --all --record
+mutants:
+	tests/mutants --all --record
 
 ## runs `faultyard-nemesis` on redis, etcd, PostgreSQL, ZooKeeper and RabbitMQ, a minute guarded and a minute unguarded
 ## with two seeds each, and prints a table; then a minute each with partitions, and with power cuts on `lossy` and

@@ -71,7 +71,7 @@ def words_of(name: str, specs: str) -> list[str]:
 
 def table_has_the_proved_lines() -> None:
     """specs/Stops.antt has the lines and statuses by which the prover holds the program."""
-    specs = (ROOT / "crates/fy_engine/specs/Stops.antt").read_text()
+    specs = (ROOT / "crates/fy_streams/specs/Stops.antt").read_text()
     proved = {text: 1 for text in re.findall(r'codes "(\w+: \w+)\\n"', specs)}
     for head, name in (
         ("judge", "fault_word"),

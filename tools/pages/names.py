@@ -32,7 +32,7 @@ OTHERS = {
     "QUORUM": "Cassandra",
     "LOCAL_QUORUM": "Cassandra",
     "limit_WHAT": "a name with a gap",
-    "wrong/limit_WHAT.edit": "a name with a gap",
+    "mutants/limit_WHAT.edit": "a name with a gap",
 }
 
 

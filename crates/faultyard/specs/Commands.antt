@@ -9,8 +9,8 @@ use Rattle.faultyard.specs.declared.task.Task.{Task}
 use Rattle.faultyard.specs.declared.task.Task.TheVariants.{Judge, Run, Check, Swarm, Simulate, Guard, Show, Bears}
 use Rattle.fy_players.specs.declared.faults.Plan.{Plan}
 use Rattle.fy_players.specs.declared.faults.Plan.TheVariants.{Mixed, Attrition, Swizzle, Rolling}
-use Rattle.fy_bears.specs.declared.reports.Form.{Form}
-use Rattle.fy_bears.specs.declared.reports.Form.TheVariants.{Json}
+use Rattle.fy_tolerance.specs.declared.reports.Form.{Form}
+use Rattle.fy_tolerance.specs.declared.reports.Form.TheVariants.{Json}
 
 -- `faultyard` without its subcommands, of which it wants one; it has a version
 abbrev pub bare_command : App

@@ -2,9 +2,9 @@
 use Rattle.std.specs.Prelude.{◌≡◌, ◌⊎◌, ℕ, Bool, true, false, Result, Ok, Err}
 use Rattle.clap.specs.declared.error.kind.ErrorKind.{ErrorKind}
 use Rattle.clap.specs.declared.error.kind.ErrorKind.TheVariants.{OutOfMemory, DisplayHelp, DisplayVersion}
-use Rattle.fy_engine.specs.Stops.{stop_status}
-use Rattle.fy_engine.specs.declared.stop.Stop.{Stop}
-use Rattle.fy_engine.specs.declared.stop.Stop.TheVariants.{Write, NoMemory}
+use Rattle.fy_streams.specs.Stops.{stop_status}
+use Rattle.fy_streams.specs.declared.stop.Stop.{Stop}
+use Rattle.fy_streams.specs.declared.stop.Stop.TheVariants.{Write, NoMemory}
 
 -- the status of a command: 0 where it is done, 5 where an entry isn't what the rules give, else
 -- that of its stop

@@ -3,25 +3,25 @@
 
 ghost use Rattle.std.specs.Prelude.{◌≡◌, ◌≢◌, ◌⊎◌, IfErr};
 ghost use Rattle.std.specs.Process.{exit_status};
-ghost use Rattle.fy_engine.specs.Stops.{stop_status, IsConfigStop};
+ghost use Rattle.fy_streams.specs.Stops.{stop_status, IsConfigStop};
 ghost use Rattle.clap.specs.Values.{kind_of};
 ghost use Rattle.faultyard.specs.Statuses.{done_status, IsAnsweredStatus, IsUnreadStatus};
 
 mod task;
 
 use fy_audit::AuditFault;
-use fy_bears::Form;
-use fy_bears_after::{run_bears, run_bears_after};
-use fy_check_audit::run_check;
+use fy_bears::{run_bears, run_bears_after};
+use fy_check::run_check;
 use fy_cluster::Config;
-use fy_engine::{Stop, load_config, write_stop};
-use fy_guard_after::{run_guard_after, write_whole};
+use fy_guard::{run_guard_after, write_whole};
 use fy_judge::run_judge;
 use fy_players::Plan;
 use fy_run::{run_guard, run_script};
 use fy_show::{run_show, run_show_by_time};
 use fy_simulate::run_simulate;
+use fy_streams::{Stop, load_config, write_stop};
 use fy_swarm::run_swarm;
+use fy_tolerance::Form;
 use std::fs::File;
 use std::io::{BufReader, ErrorKind, Seek};
 use std::process::ExitCode;

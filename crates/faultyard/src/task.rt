@@ -12,8 +12,8 @@ ghost use Rattle.faultyard.specs.Commands.{acts_rule, plan_rule, simulate_comman
 ghost use Rattle.faultyard.specs.Commands.{times_rule, json_rule, after_rule, bears_command, IsFormOf};
 
 use clap::{Arg, ArgAction, ArgMatches, Command, value_parser};
-use fy_bears::Form;
 use fy_players::Plan;
+use fy_tolerance::Form;
 use std::alloc::{AllocError, Global};
 
 /// Examples, and behind them the exit statuses, which each help ends with.

@@ -8,8 +8,8 @@ ghost use Rattle.fy_actors.specs.Parts.Part.{Acts};
 
 use crate::schedule::Schedule;
 use crate::{AttritionPlan, Desk, FaultActor, Turn};
+use fy_acts::Act;
 use fy_cluster::Fault;
-use fy_journal::Act;
 use fy_kinds::{KillOrder, Kind, Target};
 use fy_locality::{Key, Name};
 use std::alloc::{AllocError, Global};

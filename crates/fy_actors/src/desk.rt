@@ -7,8 +7,8 @@ ghost use Rattle.fy_cluster.specs.Survival.{Survives};
 ghost use Rattle.fy_cluster.specs.declared.fault.Fault.TheVariants.{JournalFull};
 ghost use Rattle.fy_actors.specs.Desk.{execution_of, new_desk, desk_reply, after_act, Worked};
 
+use fy_acts::{Act, Entry, Reply};
 use fy_cluster::{Cluster, Fault, MOST_JOURNAL_ENTRIES, Sight};
-use fy_journal::{Act, Entry, Reply};
 use std::alloc::Global;
 use std::marker::Model;
 

@@ -7,9 +7,9 @@ ghost use Rattle.fy_actors.specs.Parts.Part.{Stores};
 ghost use Rattle.fy_actors.specs.declared.driver.Team.TheVariants.{Unformed};
 
 use crate::{Desk, FaultActor, Turn};
+use fy_acts::{Act, Reply};
 use fy_cluster::{Fault, Sight};
 use fy_disk::Payload;
-use fy_journal::{Act, Reply};
 use fy_team::Members;
 use std::alloc::{AllocError, Global};
 use std::marker::Model;

@@ -4,8 +4,8 @@ ghost use Rattle.fy_actors.specs.Schedules.{begun, FollowsSchedule};
 ghost use Rattle.fy_actors.specs.Desk.{Worked};
 
 use crate::{Desk, Turn};
+use fy_acts::Act;
 use fy_cluster::Fault;
-use fy_journal::Act;
 use std::alloc::Global;
 use std::marker::Model;
 

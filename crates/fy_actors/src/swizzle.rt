@@ -7,8 +7,8 @@ ghost use Rattle.fy_actors.specs.Parts.Part.{Acts};
 
 use crate::schedule::Schedule;
 use crate::{Desk, FaultActor, SwizzlePlan, Turn};
+use fy_acts::Act;
 use fy_cluster::Fault;
-use fy_journal::Act;
 use fy_kinds::Target;
 use fy_locality::{Key, Map, ProcId};
 use std::alloc::{AllocError, Global};

@@ -1,1 +1,4 @@
 pub mod Acts
+pub mod Journal
+pub mod Kept
+pub mod Versions

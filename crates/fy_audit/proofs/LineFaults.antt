@@ -10,7 +10,7 @@ use Rattle.fy_audit.specs.Audit.{BeginsWith, BeginsFaulty}
 use Rattle.fy_audit.specs.AuditText.{header}
 use Rattle.fy_audit.specs.declared.audit.AuditLineFault.TheVariants.{TooLong, Syntax}
 use Rattle.fy_audit.proofs.Steps.{spread}
-use Rattle.fy_journal.specs.declared.version.Version.{Version}
+use Rattle.fy_acts.specs.declared.version.Version.{Version}
 
 -- a line has no line feed in it
 no_feed : (xs ys zs : List ℕ) → IsLine xs → xs ≡ ys ++ 10 ∷ zs → ⊥

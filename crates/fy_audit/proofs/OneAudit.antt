@@ -12,8 +12,8 @@ use Rattle.fy_audit.specs.declared.audit.AuditFault.{AuditFault}
 use Rattle.fy_audit.specs.declared.audit.AuditFault.TheVariants.{TooLong, Line, NoMemory}
 use Rattle.fy_audit.specs.declared.audit.AuditLineFault.{AuditLineFault}
 use Rattle.fy_audit.specs.declared.audit.AuditLineFault.TheVariants as of_line
-use Rattle.fy_journal.specs.declared.version.Version.{Version}
-use Rattle.fy_journal.specs.declared.version.Version.TheVariants.{First, Second}
+use Rattle.fy_acts.specs.declared.version.Version.{Version}
+use Rattle.fy_acts.specs.declared.version.Version.TheVariants.{First, Second}
 use Rattle.fy_audit.proofs.Ones.{line_once}
 use Rattle.fy_audit.proofs.Steps.{spread, first_is, shorter_after}
 

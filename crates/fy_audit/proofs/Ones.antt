@@ -14,8 +14,8 @@ use Rattle.fy_audit.specs.AuditText.{entry_line, audit_text}
 use Rattle.fy_audit.specs.Script.{AreCommands, FirstFaulty, ScriptOf}
 use Rattle.fy_audit.specs.declared.script.ScriptFault.{ScriptFault}
 use Rattle.fy_audit.specs.declared.script.ScriptFault.TheVariants.{TooLong, Line, NoMemory}
-use Rattle.fy_journal.specs.declared.version.Version.{Version}
-use Rattle.fy_journal.specs.declared.version.Version.TheVariants.{First, Second}
+use Rattle.fy_acts.specs.declared.version.Version.{Version}
+use Rattle.fy_acts.specs.declared.version.Version.TheVariants.{First, Second}
 
 -- ---- scripts
 

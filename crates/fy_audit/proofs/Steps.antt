@@ -10,8 +10,8 @@ use Rattle.fy_spelling.specs.declared.command.TheConstants.{MOST_LINE_BYTES}
 use Rattle.fy_audit.specs.Audit.{MayStand, MayStandFrom, HasNoHeader, BeginsWith, BeginsFaulty}
 use Rattle.fy_audit.specs.declared.audit.AuditLineFault.TheVariants.{Syntax}
 use Rattle.fy_audit.specs.AuditText.{header, entry_line, audit_text}
-use Rattle.fy_journal.specs.declared.version.Version.{Version}
-use Rattle.fy_journal.specs.declared.version.Version.TheVariants.{First, Second}
+use Rattle.fy_acts.specs.declared.version.Version.{Version}
+use Rattle.fy_acts.specs.declared.version.Version.TheVariants.{First, Second}
 
 -- a line, its line feed, and the rest
 ended : (line rest : List ℕ) → HasNoFeed line → lines_of (line ++ 10 ∷ rest) ≡ line ∷ lines_of rest

@@ -6,7 +6,7 @@ use Rattle.fy_spelling.specs.Values.{text_of}
 use Rattle.fy_spelling.specs.declared.command.TheConstants.{MOST_LINE_BYTES}
 use Rattle.fy_acts.specs.declared.entry.Entry.{Entry}
 use Rattle.fy_audit.specs.AuditText.{header, entry_line, audit_text}
-use Rattle.fy_journal.specs.Journal.{Log}
+use Rattle.fy_acts.specs.Journal.{Log}
 use Rattle.fy_audit.specs.Versions.{has_entry}
 use Rattle.fy_audit.specs.declared.audit.TheConstants.{MOST_AUDIT_BYTES}
 use Rattle.fy_audit.specs.declared.audit.AuditFault.{AuditFault}
@@ -16,7 +16,7 @@ use Rattle.fy_audit.specs.declared.audit.AuditLineFault.TheVariants as of_line
 use Rattle.fy_audit.specs.declared.reader.NoEntry.{NoEntry}
 use Rattle.fy_audit.specs.declared.reader.NoEntry.TheVariants as no_entry
 use Rattle.fy_audit.specs.declared.reader.NoEntry.TheVariants.{Faulty}
-use Rattle.fy_journal.specs.declared.version.Version.{Version}
+use Rattle.fy_acts.specs.declared.version.Version.{Version}
 
 -- what an audit tells: a version and the entries of a journal, the oldest first
 pub record Audit : Type 0 where

@@ -9,7 +9,7 @@ use Rattle.fy_audit.specs.AuditText.{audit_text}
 use Rattle.fy_audit.specs.Script.{ScriptOf}
 use Rattle.fy_audit.specs.declared.audit.AuditFault.{AuditFault}
 use Rattle.fy_audit.specs.declared.script.ScriptFault.{ScriptFault}
-use Rattle.fy_journal.specs.declared.version.Version.{Version}
+use Rattle.fy_acts.specs.declared.version.Version.{Version}
 
 -- bytes are one script, or have one first fault
 abbrev pub ScriptIsUnambiguous : Type 0

@@ -6,7 +6,7 @@ use Rattle.fy_audit.specs.AuditText.{audit_text}
 use Rattle.fy_audit.specs.declared.audit.TheConstants.{MOST_AUDIT_BYTES}
 use Rattle.fy_audit.specs.declared.audit.AuditFault.{AuditFault}
 use Rattle.fy_audit.specs.declared.audit.AuditFault.TheVariants.{TooLong, Line, NoMemory}
-use Rattle.fy_journal.specs.declared.version.Version.{Version}
+use Rattle.fy_acts.specs.declared.version.Version.{Version}
 
 -- an audit that is being read: its version, the place of the next entry, from 0, and what is left
 pub record ReaderState : Type 0 where

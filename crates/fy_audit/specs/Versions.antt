@@ -5,9 +5,9 @@ use Rattle.fy_acts.specs.declared.reply.Refusal.TheVariants.{Stranger, WrongRole
 use Rattle.fy_acts.specs.declared.reply.Reply.{Reply}
 use Rattle.fy_acts.specs.declared.reply.Reply.TheVariants.{Verdict, Ruled, Formed, Begun, Stored, Marked, Sent, Synced, Time, Done, No}
 use Rattle.fy_acts.specs.declared.entry.Entry.{Entry}
-use Rattle.fy_journal.specs.declared.version.Version.{Version}
-use Rattle.fy_journal.specs.declared.version.Version.TheVariants.{First, Second}
-use Rattle.fy_journal.specs.Versions.{knows}
+use Rattle.fy_acts.specs.declared.version.Version.{Version}
+use Rattle.fy_acts.specs.declared.version.Version.TheVariants.{First, Second}
+use Rattle.fy_acts.specs.Versions.{knows}
 
 -- whether there is such a refusal under the version
 abbrev pub knows_refusal : Version → Refusal → Bool

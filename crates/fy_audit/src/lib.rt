@@ -8,7 +8,7 @@ mod script;
 mod text;
 
 pub use audit::{AuditFault, AuditLineFault, MOST_AUDIT_BYTES, read_audit};
-pub use fy_journal::{Journal, JournalFault, MOST_ENTRIES, Version};
+pub use fy_acts::{Journal, JournalFault, MOST_ENTRIES, Version};
 pub use fy_spelling::{
     Act, Command, Entry, EntryFault, LineFault, MOST_LINE_BYTES, Refusal, Reply, entry_text,
 };

@@ -1,22 +1,12 @@
-//! How much of a cluster may be lost: so many processes, whichever they are, and which machines,
-//! zones, halls and data centres whole.
+//! The engine of `bears`: what a cluster bears, from its start or from the end of an audit on.
 #![tactic(auto)]
 
-mod book;
-mod borne;
-mod fewest_to_break;
-mod fewest_to_satisfy;
-mod groups;
-mod json;
-pub mod laws;
-mod parts;
-mod reports;
-mod text;
-mod tolerance;
-mod warnings;
+mod bears;
+mod lost;
+mod spelling;
+mod told;
 
-pub use book::{LossesSoFar, book_of};
-pub use borne::{Borne, Findings, findings_of, least_any, tolerances_of};
-pub use groups::{Group, borne_alone, borne_in_pairs};
-pub use reports::{Form, write_findings};
-pub use tolerance::{Tolerance, tolerance_of};
+pub use bears::{run_bears, run_bears_after};
+pub use lost::losses_in;
+pub use spelling::Spelling;
+pub use told::Told;

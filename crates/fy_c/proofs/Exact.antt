@@ -11,8 +11,8 @@ use Rattle.fy_decide.specs.Safety.{MayDestroy}
 use Rattle.fy_decide.specs.declared.dead_book.Loss.{Loss}
 use Rattle.fy_decide.specs.declared.dead_book.Loss.TheVariants.{Emptied, Gone}
 use Rattle.fy_decide.specs.DeadBook.{Losses}
-use Rattle.fy_bears.specs.Bears.{IsTolerance, least_any}
-use Rattle.fy_bears.specs.declared.tolerance.Tolerance.{Tolerance}
+use Rattle.fy_tolerance.specs.Bears.{IsTolerance, least_any}
+use Rattle.fy_tolerance.specs.declared.tolerance.Tolerance.{Tolerance}
 use Rattle.fy_c.specs.Bearing.{is_exact, is_exact_at}
 use Rattle.fy_c.specs.Numbers.{bit}
 

@@ -17,7 +17,7 @@ use Rattle.fy_cluster.specs.Execution.{Execution, replied, entered}
 use Rattle.fy_cluster.specs.History.{history}
 use Rattle.fy_cluster.specs.Replies.{Legal, reply}
 use Rattle.fy_cluster.specs.Survival.{NextLegal}
-use Rattle.fy_journal.specs.declared.version.Version.TheVariants.{First, Second}
+use Rattle.fy_acts.specs.declared.version.Version.TheVariants.{First, Second}
 use Rattle.fy_c.specs.Checking.{audit_status}
 use Rattle.fy_c.specs.Resuming.{BeginsLegal, Follows, NotFollowed, Refutes}
 use Rattle.fy_c.specs.declared.status.Status.TheVariants.{NoHeader}

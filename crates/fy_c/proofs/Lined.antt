@@ -10,11 +10,11 @@ use Rattle.fy_audit.specs.declared.audit.TheConstants.{MOST_AUDIT_BYTES}
 use Rattle.fy_audit.specs.declared.audit.AuditFault.{AuditFault}
 use Rattle.fy_audit.specs.declared.audit.AuditFault.TheVariants.{TooLong, Line, NoMemory}
 use Rattle.fy_audit.specs.declared.audit.AuditLineFault.TheVariants.{Header}
-use Rattle.fy_check.specs.Replayed.{HasReplayed}
+use Rattle.fy_replay.specs.Replayed.{HasReplayed}
 use Rattle.fy_cluster.specs.Setup.{Setup}
 use Rattle.fy_lines.specs.Lines.{lines_of}
-use Rattle.fy_journal.specs.declared.version.Version.{Version}
-use Rattle.fy_journal.specs.declared.version.Version.TheVariants.{First, Second}
+use Rattle.fy_acts.specs.declared.version.Version.{Version}
+use Rattle.fy_acts.specs.declared.version.Version.TheVariants.{First, Second}
 use Rattle.fy_spelling.specs.Values.{text_of}
 use Rattle.fy_spelling.specs.declared.command.TheConstants.{MOST_LINE_BYTES}
 use Rattle.fy_c.specs.InStep.{progress}

@@ -18,7 +18,7 @@ use Rattle.std.specs.contracts.impls.GlobalAllocator.TheImpl.{ghosts}
 use Rattle.std_alloc.proofs.SendSync.{quiet, lies}
 use Rattle.fy_cluster.specs.contracts.cluster.Cluster as inner
 use Rattle.std.specs.contracts.alloc.Global as heap
-use Rattle.fy_check.proofs.Sent.{replayer_send}
+use Rattle.fy_replay.proofs.Sent.{replayer_send}
 use Rattle.fy_cluster.proofs.Sent.{config_send, cluster_send}
 use Rattle.fy_c.specs.contracts.checking.Begun as begun
 use Rattle.fy_c.specs.contracts.checking.Begun.TheInside as in_begun

@@ -6,8 +6,8 @@ use Rattle.fy_policy.specs.Counted.{number_of}
 use Rattle.fy_decide.specs.declared.dead_book.Loss.{Loss}
 use Rattle.fy_decide.specs.declared.dead_book.Loss.TheVariants.{Emptied, Gone}
 use Rattle.fy_decide.specs.DeadBook.{Losses, MayLose}
-use Rattle.fy_bears.specs.Bears.{IsTolerance, least_any}
-use Rattle.fy_bears.specs.declared.tolerance.Tolerance.{Tolerance}
+use Rattle.fy_tolerance.specs.Bears.{IsTolerance, least_any}
+use Rattle.fy_tolerance.specs.declared.tolerance.Tolerance.{Tolerance}
 use Rattle.fy_cluster.specs.Execution.{Execution}
 use Rattle.fy_c.specs.Numbers.{bit}
 use Rattle.fy_c.specs.Sets.{destroyed_in, left_in}

@@ -1,7 +1,7 @@
 -- an audit that was checked line by line, from its begin to what is found
 use Rattle.std.specs.Prelude.{◌≡◌, ◌≢◌, ℕ, List, [], ◌++◌, length, Option, None, Ok}
 use Rattle.fy_audit.specs.Audit.{Audit, AuditOf}
-use Rattle.fy_check.specs.Replayed.{HasFirstBad}
+use Rattle.fy_replay.specs.Replayed.{HasFirstBad}
 use Rattle.fy_cluster.specs.Setup.{Setup}
 use Rattle.fy_c.specs.Checking.{Finding, ReadsLine, bad_number}
 use Rattle.fy_c.specs.declared.checking.Check.{Check}

@@ -11,8 +11,8 @@ use Rattle.fy_audit.specs.declared.audit.AuditLineFault.{AuditLineFault}
 use Rattle.fy_audit.specs.declared.audit.AuditLineFault.TheVariants as of_line
 use Rattle.fy_cluster.specs.Setup.{Setup}
 use Rattle.fy_config.specs.Config.{ConfigOf}
-use Rattle.fy_check.specs.Replayed.{HasReplayed}
-use Rattle.fy_journal.specs.declared.version.Version.{Version}
+use Rattle.fy_replay.specs.Replayed.{HasReplayed}
+use Rattle.fy_acts.specs.declared.version.Version.{Version}
 use Rattle.fy_lines.specs.Lines.{lines_of}
 use Rattle.fy_spelling.specs.declared.command.TheConstants.{MOST_LINE_BYTES}
 use Rattle.fy_c.specs.Opening.{NotOpened}

@@ -2,7 +2,7 @@
 use Rattle.std.specs.Prelude.{◌≡◌, ◌≤◌, ℕ, List, length}
 use Rattle.fy_acts.specs.declared.entry.Entry.{Entry}
 use Rattle.fy_cluster.specs.Setup.{Setup}
-use Rattle.fy_check.specs.Replayed.{HasReplayed}
+use Rattle.fy_replay.specs.Replayed.{HasReplayed}
 use Rattle.fy_c.specs.Progress.{Progress}
 use Rattle.fy_c.specs.declared.checking.Begun.TheInside.{Inside}
 

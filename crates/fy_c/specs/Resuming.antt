@@ -12,7 +12,7 @@ use Rattle.fy_cluster.specs.Execution.{Execution}
 use Rattle.fy_cluster.specs.Replies.{Legal}
 use Rattle.fy_cluster.specs.Setup.{Setup}
 use Rattle.fy_config.specs.Config.{ConfigOf}
-use Rattle.fy_journal.specs.declared.version.Version.TheVariants.{First, Second}
+use Rattle.fy_acts.specs.declared.version.Version.TheVariants.{First, Second}
 use Rattle.fy_c.specs.Checking.{line_fault_status}
 use Rattle.fy_c.specs.Opening.{NotOpened}
 use Rattle.fy_c.specs.declared.handle.FyGuard.{FyGuard}

@@ -7,9 +7,9 @@ ghost use Rattle.fy_c.specs.Statuses.{Answers};
 
 use crate::handle::FyGuard;
 use crate::status::Status;
+use fy_acts::Journal;
 use fy_audit::push_entry_line;
 use fy_cluster::{Cluster, Fault};
-use fy_journal::Journal;
 use fy_spelling::{Command, CommandFault, Entry, LineFault, read_command};
 use std::alloc::{AllocError, Global};
 

@@ -8,11 +8,11 @@ use crate::handle::FyGuard;
 use crate::numbers::bit;
 use crate::sets::gone;
 use crate::status::Status;
-use fy_bears::{LossesSoFar, Tolerance, book_of, laws, least_any, tolerances_of};
 use fy_cluster::Cluster;
 use fy_decide::{DeadBook, Loss};
 use fy_locality::{Map, ProcSet};
 use fy_policy::Policy;
+use fy_tolerance::{LossesSoFar, Tolerance, book_of, laws, least_any, tolerances_of};
 use std::alloc::{AllocError, Global};
 
 /// How much may still be lost: any so many processes together, whichever they are.

@@ -8,9 +8,9 @@ use fy_audit::laws::an_audit_is_read_entry_by_entry;
 use fy_audit::{
     AuditFault, AuditLineFault, AuditReader, MOST_AUDIT_BYTES, MOST_LINE_BYTES, Version,
 };
-use fy_check::Replayer;
 use fy_cluster::Config;
 use fy_lines::first_line;
+use fy_replay::Replayer;
 use std::alloc::Global;
 use std::marker::Model;
 

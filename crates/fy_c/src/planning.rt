@@ -13,7 +13,7 @@ use crate::handle::FyGuard;
 use crate::numbers::{kind_number, kind_of};
 use crate::status::Status;
 use fy_actors::{AttritionPlan, SwizzlePlan, words};
-use fy_journal::Act;
+use fy_acts::Act;
 use fy_kinds::{KillOrder, Kind, Target};
 use fy_locality::{Key, Map, Name, ProcId};
 use fy_players::{Orders, Plan, draw_attrition, draw_swizzle};

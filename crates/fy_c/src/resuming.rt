@@ -4,7 +4,7 @@ ghost use Rattle.fy_acts.specs.declared.entry.Entry.{Entry};
 ghost use Rattle.fy_audit.specs.Audit.{AuditOf};
 ghost use Rattle.fy_cluster.specs.Replies.{Legal};
 ghost use Rattle.fy_config.specs.Config.{ConfigOf};
-ghost use Rattle.fy_journal.specs.declared.version.Version.TheVariants.{Second};
+ghost use Rattle.fy_acts.specs.declared.version.Version.TheVariants.{Second};
 ghost use Rattle.fy_c.specs.Resuming.{Follows, NotFollowed, OpensAfter, Refutes};
 ghost use Rattle.fy_c.specs.Statuses.{Answers};
 
@@ -12,10 +12,10 @@ use crate::checking::{NO_BAD_ENTRY, audit_status};
 use crate::handle::{FyGuard, closed_up};
 use crate::opening::begun;
 use crate::status::Status;
+use fy_acts::Entry;
 use fy_audit::laws::an_audit_is_read_entry_by_entry;
 use fy_audit::{AuditReader, Version};
 use fy_cluster::{Cluster, Fault, laws};
-use fy_journal::Entry;
 use std::alloc::{AllocError, Global};
 
 /// Whether the entry may come next in the journal of a cluster. Where it may, that journal then ends

@@ -1,4 +1,4 @@
-pub mod Fronts
-pub mod Nexts
-pub mod Entering
-pub mod Sent
+pub mod Checking
+pub mod OneFinding
+mod Taking
+mod Headers

@@ -1,3 +1,4 @@
-pub mod Check
-pub mod Replayed
-pub mod Replayer
+pub mod CheckTexts
+pub mod Checked
+pub mod Inputs
+pub mod InputFields

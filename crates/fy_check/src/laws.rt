@@ -1,10 +1,11 @@
-//! Laws of what checking a journal answers.
-ghost use Rattle.fy_check.specs.Check.{OneAnswer, LegalIsOk};
+//! Laws of what `check` finds, over the definitions alone.
+ghost use Rattle.fy_check.specs.CheckTexts.{FindingIsOne};
 
-/// A journal has one answer, and that to a legal journal is Ok.
-pub fn one_answer()
-    ensures same { OneAnswer }
-    ensures legal { LegalIsOk }
+/// Bytes have one finding: they are no audit for one fault, or an audit that is legal, or one with
+/// a first bad entry.
+pub fn a_finding_is_one()
+    ensures { FindingIsOne }
 {
-    fy_cluster::laws::one_entry_more();
+    fy_audit::laws::audits_are_unambiguous();
+    fy_replay::laws::one_answer();
 }

@@ -1,10 +1,12 @@
-//! Checks a journal by replaying it: a cluster makes its acts once more, and the replies are
-//! compared.
+//! The engine of `check`: an audit in, a line out that confirms or refutes it.
 #![tactic(auto)]
 
-mod fault;
+mod check;
+mod input;
 pub mod laws;
-mod replaying;
 
-pub use fault::CheckFault;
-pub use replaying::{Replayer, replay};
+pub use check::{
+    Finding, ReplayedAudit, audit_stop, load_audit, replay_audit, replay_bytes, run_check,
+    write_finding,
+};
+pub use input::AuditInput;

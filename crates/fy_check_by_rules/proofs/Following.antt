@@ -3,13 +3,13 @@ use Rattle.std.proofs.Common.{◌≡◌, ℕ, ◌+◌, ◌<◌, ◌≤◌, Bool,
 use Rattle.std.specs.Bool.{Decides}
 use Rattle.fy_acts.specs.declared.entry.Entry.{Entry}
 use Rattle.fy_acts.specs.declared.reply.Reply.{Reply}
-use Rattle.fy_journal.specs.declared.version.Version.{Version}
+use Rattle.fy_acts.specs.declared.version.Version.{Version}
 use Rattle.fy_cluster.specs.Setup.{Setup}
 use Rattle.fy_cluster.specs.History.{step_of, history}
 use Rattle.fy_cluster.specs.Replies.{reply}
 use Rattle.fy_cluster.specs.Survival.{EntryAddsStep}
 use Rattle.fy_cluster.specs.Versions.{LegalUnder, NextLegalUnder}
-use Rattle.fy_journal.specs.Versions.{knows}
+use Rattle.fy_acts.specs.Versions.{knows}
 use Rattle.fy_check_by_rules.specs.declared.step.FoundStep.{FoundStep}
 use Rattle.fy_check_by_rules.specs.Past.{as_step, past}
 use Rattle.fy_check_by_rules.specs.Steps.{AreStepsOf}

@@ -5,14 +5,14 @@ use Rattle.std.proofs.lemmas.Bool.{false≢true}
 use Rattle.std.proofs.lemmas.List.{length-take-le}
 use Rattle.fy_acts.specs.declared.reply.Reply.{Reply}
 use Rattle.fy_acts.specs.declared.entry.Entry.{Entry}
-use Rattle.fy_journal.specs.declared.version.Version.{Version}
+use Rattle.fy_acts.specs.declared.version.Version.{Version}
 use Rattle.fy_cluster.specs.Setup.{Setup}
 use Rattle.fy_cluster.specs.Execution.{Execution}
 use Rattle.fy_cluster.specs.History.{History, step_of, after, history}
 use Rattle.fy_cluster.specs.Replies.{reply}
 use Rattle.fy_cluster.specs.Versions.{LegalUnder, NextLegalUnder}
-use Rattle.fy_journal.specs.Versions.{knows}
-use Rattle.fy_check.specs.Check.{IsFirstBad}
+use Rattle.fy_acts.specs.Versions.{knows}
+use Rattle.fy_replay.specs.Check.{IsFirstBad}
 use Rattle.std.proofs.lemmas.Option.{slice_get-get_or}
 use Rattle.fy_check_by_rules.proofs.Lists.{one_more}
 

@@ -1,7 +1,7 @@
 -- steps of a legal journal
 use Rattle.std.specs.Prelude.{◌≡◌, List, length}
 use Rattle.fy_acts.specs.declared.entry.Entry.{Entry}
-use Rattle.fy_journal.specs.declared.version.Version.{Version}
+use Rattle.fy_acts.specs.declared.version.Version.{Version}
 use Rattle.fy_cluster.specs.Setup.{Setup}
 use Rattle.fy_cluster.specs.History.{history}
 use Rattle.fy_cluster.specs.Versions.{LegalUnder}

@@ -2,16 +2,16 @@
 ghost use Rattle.std.specs.Prelude.{◌≡◌, ◌↔◌, ◌<◌, ◌∷◌, [], ◌++◌, List, length, is_some, IfOk, IfSome, OnOk, IsTrue};
 ghost use Rattle.fy_acts.specs.declared.entry.Entry.{Entry};
 ghost use Rattle.fy_cluster.specs.Versions.{LegalUnder};
-ghost use Rattle.fy_check.specs.Check.{ChecksOrOom};
+ghost use Rattle.fy_replay.specs.Check.{ChecksOrOom};
 ghost use Rattle.fy_check_by_rules.specs.Steps.{AreStepsOf};
 
 use crate::doing::step_of;
 use crate::past::Past;
 use crate::reply::reply;
 use crate::step::FoundStep;
-use fy_check::CheckFault;
+use fy_acts::{Entry, Journal, Version};
 use fy_cluster::{Config, laws};
-use fy_journal::{Entry, Journal, Version};
+use fy_replay::CheckFault;
 use std::alloc::{AllocError, Global};
 
 /// Whether the entry may come next, where the entries before are a legal journal.

@@ -1,5 +1,5 @@
 //! Checks a journal by the definitions of the rules: each is a small function that reads it off the
-//! entries before. There is no cluster. The contract is that of `fy_check::replay`.
+//! entries before. There is no cluster. The contract is that of `fy_replay::replay`.
 //!
 //! - `checking`: a journal, one entry after another, each with its `Past`.
 //! - `reply`: the reply to an act, a file for each group of acts: `kills` (Kill, Clog, Unclog),

@@ -9,8 +9,8 @@ ghost use Rattle.fy_check_by_rules.specs.Past.{as_step, history_of};
 
 use crate::past::Past;
 use crate::step::FoundStep;
+use fy_acts::Act;
 use fy_cluster::effects::is_accepted;
-use fy_journal::Act;
 use fy_locality::ProcId;
 use fy_net::{Body, MOST_IN_FLIGHT};
 use std::alloc::AllocError;

@@ -15,7 +15,7 @@ mod teams;
 use crate::past::Past;
 use crate::teams::Swap;
 use clock::tick;
-use fy_journal::{Act, Refusal, Reply};
+use fy_acts::{Act, Refusal, Reply};
 use kills::{clog, kill, unclog};
 use processes::{heal, start};
 use records::{begin, copy, deliver, lose, resend, sync};

@@ -10,10 +10,10 @@ ghost use Rattle.fy_check_by_rules.specs.Deeds.{deed_of};
 
 use crate::asked::AskedDeed;
 use crate::past::Past;
+use fy_acts::Entry;
 use fy_cluster::Protection;
 use fy_cluster::effects::{gives, protects, takes_grant, unprotects};
 use fy_grants::Grant;
-use fy_journal::Entry;
 use fy_kinds::KindSet;
 use fy_locality::ProcId;
 use std::alloc::{AllocError, Global};

@@ -1,5 +1,5 @@
 //! Entries with what they did.
-use fy_journal::Entry;
+use fy_acts::Entry;
 use fy_locality::ProcSet;
 use fy_net::Body;
 

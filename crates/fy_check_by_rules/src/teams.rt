@@ -9,8 +9,8 @@ ghost use Rattle.fy_check_by_rules.specs.Past.{history_of};
 ghost use Rattle.fy_check_by_rules.specs.Formed.{team_of, swap_of};
 
 use crate::past::Past;
+use fy_acts::{Act, Entry};
 use fy_cluster::effects::is_accepted;
-use fy_journal::{Act, Entry};
 use fy_locality::ProcId;
 use std::alloc::{AllocError, Global};
 

@@ -11,15 +11,15 @@ use Rattle.fy_acts.specs.declared.reply.Reply.{Reply}
 use Rattle.fy_acts.specs.declared.reply.Reply.TheVariants.{Verdict, No}
 use Rattle.fy_acts.specs.declared.reply.Refusal.TheVariants.{Stranger}
 use Rattle.fy_acts.specs.declared.entry.Entry.{Entry}
-use Rattle.fy_journal.specs.declared.version.Version.{Version}
-use Rattle.fy_journal.specs.declared.version.Version.TheVariants.{Second}
+use Rattle.fy_acts.specs.declared.version.Version.{Version}
+use Rattle.fy_acts.specs.declared.version.Version.TheVariants.{Second}
 use Rattle.fy_cluster.specs.declared.role.Role.TheVariants.{Fault}
 use Rattle.fy_cluster.specs.Setup.{Setup}
 use Rattle.fy_cluster.specs.History.{History, step_of, after, history}
 use Rattle.fy_cluster.specs.Rules.{situation}
 use Rattle.fy_cluster.specs.Replies.{refusals, reasons, answer, reply, IsNext, LegalAfter, Legal}
 use Rattle.fy_cluster.specs.Versions.{knows_all, SecondKnowsAll, NextLegalUnder}
-use Rattle.fy_journal.specs.Versions.{knows}
+use Rattle.fy_acts.specs.Versions.{knows}
 use Rattle.fy_decide.specs.Hardest.{VerdictAnswers}
 use Rattle.fy_cluster.specs.Survival.{by_and_act, KillsJudged, RulesNamed, FrontsLegal, EntryAddsStep, NextLegal, SameActsSameJournal}
 

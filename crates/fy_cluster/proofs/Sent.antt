@@ -8,7 +8,7 @@ use Rattle.fy_grants.proofs.book.Book.TheSendSync as book
 use Rattle.fy_disk.proofs.disks.Disks.TheSendSync as disks
 use Rattle.fy_net.proofs.net.Net.TheSendSync as net
 use Rattle.fy_team.proofs.teams.Teams.TheSendSync as teams
-use Rattle.fy_journal.proofs.journal.Journal.TheSendSync as journal
+use Rattle.fy_acts.proofs.journal.Journal.TheSendSync as journal
 use Rattle.fy_cluster.specs.contracts.config.Config as config
 use Rattle.fy_cluster.specs.contracts.machine.Machine as machine
 use Rattle.fy_cluster.specs.contracts.trail.Trail as trail

@@ -13,12 +13,12 @@ use Rattle.fy_acts.specs.declared.act.Act.{Act}
 use Rattle.fy_acts.specs.declared.act.Act.TheVariants.{Replace, Heal}
 use Rattle.fy_acts.specs.declared.reply.Reply.{Reply}
 use Rattle.fy_acts.specs.declared.entry.Entry.{Entry}
-use Rattle.fy_journal.specs.declared.version.Version.TheVariants.{First}
+use Rattle.fy_acts.specs.declared.version.Version.TheVariants.{First}
 use Rattle.fy_cluster.specs.Setup.{Setup, IsMet}
 use Rattle.fy_cluster.specs.History.{History, Step, step_of, after, some_is, forms, delivers, destroys, destroyed, heals, heals_at, replaces, after_swap, teams, records, members_for, ack_of, marks, marked, delivers_ack_of, acked}
 use Rattle.fy_cluster.specs.Replies.{IsNext, LegalAfter}
 use Rattle.fy_cluster.specs.Versions.{knows_all}
-use Rattle.fy_journal.specs.Versions.{knows}
+use Rattle.fy_acts.specs.Versions.{knows}
 use Rattle.fy_cluster.specs.Earlier.{once_destroyed, teams_formed, formed_for, once_marked, marked_by_all, IsAsEarlier, EarlierRulesHold}
 use Rattle.fy_cluster.proofs.Records.{Tested, Sound, Known, sound_start, sound_next, known_still, tells_known, team_known, records_still, slice_get-append, slice_get-each, slice_get-some}
 

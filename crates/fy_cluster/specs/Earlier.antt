@@ -7,7 +7,7 @@ use Rattle.std.specs.Option.{option_map_or}
 use Rattle.fy_locality.specs.declared.ProcId.{ProcId}
 use Rattle.fy_team.specs.Teams.{Team}
 use Rattle.fy_acts.specs.declared.entry.Entry.{Entry}
-use Rattle.fy_journal.specs.declared.version.Version.TheVariants.{First}
+use Rattle.fy_acts.specs.declared.version.Version.TheVariants.{First}
 use Rattle.fy_cluster.specs.Setup.{Setup, IsMet}
 use Rattle.fy_cluster.specs.History.{History, ProcessSet, forms, destroys, destroyed, teams, records, marks, marked, acked, history}
 use Rattle.fy_cluster.specs.Versions.{LegalUnder}

@@ -27,8 +27,8 @@ use Rattle.fy_acts.specs.declared.reply.Reply.{Reply}
 use Rattle.fy_acts.specs.declared.reply.Reply.TheVariants.{No}
 use Rattle.fy_acts.specs.declared.reply.Refusal.TheVariants.{NoActor as Nobody, NoSuch as Nothing, Full as TooFull, TooMany, NoPolicy, NoProcess, Gone, TeamShort, NoTeam, Payload, NetFull, NoMessage, Clogged, ClockEnd}
 use Rattle.fy_acts.specs.declared.entry.Entry.{Entry}
-use Rattle.fy_journal.specs.declared.version.Version.TheVariants.{Second}
-use Rattle.fy_journal.specs.Journal.{Log}
+use Rattle.fy_acts.specs.declared.version.Version.TheVariants.{Second}
+use Rattle.fy_acts.specs.Journal.{Log}
 use Rattle.fy_grants.specs.declared.book.BookFault.{BookFault}
 use Rattle.fy_grants.specs.declared.book.BookFault.TheVariants.{NoActor, NoSuch, Full, NoMemory as BookNoMemory}
 use Rattle.fy_cluster.specs.declared.fault.Fault.{Fault}

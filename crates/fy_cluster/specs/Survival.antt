@@ -19,7 +19,7 @@ use Rattle.fy_acts.specs.declared.act.Act.TheVariants.{Kill, Deliver}
 use Rattle.fy_acts.specs.declared.reply.Reply.TheVariants.{Verdict as Verdicted, Marked, No}
 use Rattle.fy_acts.specs.declared.reply.Refusal.TheVariants.{Stranger}
 use Rattle.fy_acts.specs.declared.entry.Entry.{Entry}
-use Rattle.fy_journal.specs.declared.version.Version.{Version}
+use Rattle.fy_acts.specs.declared.version.Version.{Version}
 use Rattle.fy_cluster.specs.Setup.{Setup, IsMet}
 use Rattle.fy_cluster.specs.History.{History, step_of, history, destroyed, left, sent, synced, acked, keeps, keeper, members_for, payload_of}
 use Rattle.fy_cluster.specs.Rules.{situation}

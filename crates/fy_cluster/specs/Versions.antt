@@ -5,9 +5,9 @@
 use Rattle.std.specs.Prelude.{◌↔◌, Bool, List, [], ◌∷◌, ◌++◌, IsTrue}
 use Rattle.std.specs.List.{list_all}
 use Rattle.fy_acts.specs.declared.entry.Entry.{Entry}
-use Rattle.fy_journal.specs.declared.version.Version.{Version}
-use Rattle.fy_journal.specs.declared.version.Version.TheVariants.{Second}
-use Rattle.fy_journal.specs.Versions.{knows}
+use Rattle.fy_acts.specs.declared.version.Version.{Version}
+use Rattle.fy_acts.specs.declared.version.Version.TheVariants.{Second}
+use Rattle.fy_acts.specs.Versions.{knows}
 use Rattle.fy_cluster.specs.Setup.{Setup}
 use Rattle.fy_cluster.specs.Replies.{Legal, MayFollow}
 

@@ -8,7 +8,7 @@ ghost use Rattle.fy_cluster.specs.Standing.{Point, Refines, StepsToOrOom, Replie
 use crate::machine::Machine;
 use crate::trail::Trail;
 use crate::{Config, Fault};
-use fy_journal::{Act, Entry, Refusal, Reply};
+use fy_acts::{Act, Entry, Refusal, Reply};
 use fy_kinds::KillOrder;
 use fy_locality::ProcId;
 use std::alloc::Global;

@@ -3,7 +3,7 @@ ghost use Rattle.fy_acts.specs.declared.act.Act.TheVariants.{Tick};
 ghost use Rattle.fy_cluster.specs.Standing.{Point, Refines, StepsTo};
 
 use crate::machine::Machine;
-use fy_journal::{Refusal, Reply};
+use fy_acts::{Refusal, Reply};
 
 impl Machine {
     /// Lets some ticks pass.

@@ -7,8 +7,8 @@ ghost use Rattle.fy_cluster.specs.History.{clog_end, unclog_end};
 ghost use Rattle.fy_cluster.specs.Standing.{Point, Refines, StepsTo, ClogsChange, targets_by, clog_bar};
 
 use crate::machine::Machine;
+use fy_acts::Reply;
 use fy_decide::judge_clog_at;
-use fy_journal::Reply;
 use fy_kinds::{Rule, Target};
 use fy_locality::{Map, ProcSet};
 use fy_net::Net;

@@ -4,7 +4,7 @@ ghost use Rattle.std.specs.FinSet as sets;
 ghost use Rattle.fy_kinds.specs.Kinds.{rank};
 ghost use Rattle.fy_kinds.specs.Orders.{Order};
 ghost use Rattle.fy_decide.specs.Verdicts.{NamesProcess};
-ghost use Rattle.fy_journal.specs.declared.version.Version.TheVariants.{Second};
+ghost use Rattle.fy_acts.specs.declared.version.Version.TheVariants.{Second};
 ghost use Rattle.fy_cluster.specs.History.{destroyed, left, acked, keeper};
 ghost use Rattle.fy_cluster.specs.declared.fault.Fault.TheVariants.{JournalFull};
 ghost use Rattle.fy_cluster.specs.Survival.{Survives};
@@ -13,7 +13,7 @@ ghost use Rattle.fy_acts.specs.declared.act.Act.TheVariants.{Kill};
 ghost use Rattle.fy_cluster.specs.Sights.{IsLeastKeeper, Sees, status_of, needed_of, up_in};
 
 use crate::{ClusterState, Config, Fault, Sight, Status, laws};
-use fy_journal::{Act, Journal, Reply};
+use fy_acts::{Act, Journal, Reply};
 use fy_kinds::{KillOrder, Kind};
 use fy_locality::{ProcId, ProcSet};
 use std::alloc::{AllocError, Global};

@@ -14,7 +14,7 @@ ghost use Rattle.fy_cluster.specs.Sights.{IsLeastKeeper, Sees, clogged_in, statu
 use crate::machine::Machine;
 use crate::trail::Trail;
 use crate::{Config, Fault, Sight, Status, laws};
-use fy_journal::{Act, Entry, Reply};
+use fy_acts::{Act, Entry, Reply};
 use fy_kinds::{KillOrder, Kind};
 use fy_locality::{ProcId, ProcSet};
 use std::alloc::{AllocError, Global};

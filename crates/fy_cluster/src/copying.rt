@@ -8,7 +8,7 @@ ghost use Rattle.fy_cluster.specs.Standing.{Point, Refines, StepsToOrOom, IsReac
 use crate::Fault;
 use crate::machine::Machine;
 use crate::messages::reply_to_net_fault;
-use fy_journal::{Refusal, Reply};
+use fy_acts::{Refusal, Reply};
 use fy_locality::{Map, ProcId};
 use fy_net::Body;
 

@@ -6,8 +6,8 @@ ghost use Rattle.fy_decide.specs.Verdicts.{targets};
 ghost use Rattle.fy_cluster.specs.Setup.{Setup};
 ghost use Rattle.fy_cluster.specs.History.{History, left, targets_of, is_accepted, struck_by, tear_of, clogs, unclogs, delivers, syncs, ups, ticks, gives, takes_grant, protects, unprotects, heals};
 
+use fy_acts::{Act, Entry, Reply};
 use fy_grants::Grant;
-use fy_journal::{Act, Entry, Reply};
 use fy_kinds::{Kind, KindSet, Target};
 use fy_locality::ProcId;
 

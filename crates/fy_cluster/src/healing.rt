@@ -4,7 +4,7 @@ ghost use Rattle.fy_acts.specs.declared.act.Act.TheVariants.{Heal};
 ghost use Rattle.fy_cluster.specs.Standing.{Point, Refines, StepsTo};
 
 use crate::machine::Machine;
-use fy_journal::{Refusal, Reply};
+use fy_acts::{Refusal, Reply};
 use fy_locality::{Map, ProcId};
 
 impl Machine {

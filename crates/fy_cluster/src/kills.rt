@@ -15,9 +15,9 @@ ghost use Rattle.fy_cluster.specs.Standing.{Point, Refines, StepsTo, RepliesOrOo
 
 use crate::Config;
 use crate::machine::Machine;
+use fy_acts::{Refusal, Reply};
 use fy_decide::{DeadBook, Loss, Targets, judge, judge_aimed, judge_process};
 use fy_disk::Disks;
-use fy_journal::{Refusal, Reply};
 use fy_kinds::{KillOrder, Kind};
 use fy_locality::{Map, ProcId, ProcSet};
 

@@ -11,8 +11,8 @@ ghost use Rattle.fy_cluster.specs.declared.fault.Fault.TheVariants.{NoMemory};
 
 use crate::Fault;
 use crate::machine::Machine;
+use fy_acts::{Refusal, Reply};
 use fy_disk::{Disk, Disks, Item};
-use fy_journal::{Refusal, Reply};
 use fy_locality::{Map, ProcId};
 use fy_net::{Body, Net, NetFault};
 use std::alloc::Global;

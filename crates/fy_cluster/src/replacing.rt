@@ -8,7 +8,7 @@ ghost use Rattle.fy_cluster.specs.Standing.{Point, Refines, StepsTo, IsReachable
 
 use crate::Config;
 use crate::machine::Machine;
-use fy_journal::{Refusal, Reply};
+use fy_acts::{Refusal, Reply};
 use fy_locality::{MOST_PROCESSES, ProcId, ProcSet};
 use fy_policy::satisfied;
 

@@ -5,8 +5,8 @@ ghost use Rattle.fy_cluster.specs.Standing.{Point, Refines, StepsTo, StepsToOrOo
 
 use crate::Fault;
 use crate::machine::Machine;
+use fy_acts::{Refusal, Reply};
 use fy_grants::{BookFault, Grant, laws};
-use fy_journal::{Refusal, Reply};
 use fy_kinds::KindSet;
 use fy_locality::ProcId;
 

@@ -2,7 +2,7 @@
 ghost use Rattle.std.specs.Prelude.{◌≡◌};
 ghost use Rattle.fy_cluster.specs.Replies.{may};
 
-use fy_journal::Act;
+use fy_acts::Act;
 
 /// What an actor may do. Each may order kills and clogs, as far as its grants go.
 #[derive(Clone, Copy, PartialEq, Eq, Debug)]

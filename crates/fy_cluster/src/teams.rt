@@ -9,8 +9,8 @@ ghost use Rattle.fy_cluster.specs.Standing.{Point, Refines, StepsToOrOom, IsReac
 use crate::machine::Machine;
 use crate::messages::reply_to_net_fault;
 use crate::{Config, Fault};
+use fy_acts::{Refusal, Reply};
 use fy_disk::Payload;
-use fy_journal::{Refusal, Reply};
 use fy_locality::ProcId;
 use fy_net::{Body, Net};
 use fy_team::{Members, TeamFault};

@@ -1,12 +1,12 @@
 //! What a cluster of three zones bears, of which two have to be left.
-use fy_bears::{
-    Form, LossesSoFar, book_of, borne_alone, borne_in_pairs, findings_of, least_any, tolerance_of,
-    tolerances_of, write_findings,
-};
 use fy_decide::Loss;
 use fy_kinds::Target;
 use fy_locality::{Key, Map, ProcSet};
 use fy_policy::{Policy, read_policy};
+use fy_tolerance::{
+    Form, LossesSoFar, book_of, borne_alone, borne_in_pairs, findings_of, least_any, tolerance_of,
+    tolerances_of, write_findings,
+};
 use std::alloc::Global;
 use std::test::Fail;
 

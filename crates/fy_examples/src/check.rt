@@ -1,8 +1,7 @@
 //! A legal journal, whose acts are made once more.
 use crate::single::config_of_one;
-use fy_acts::{Act, Reply};
-use fy_check::{Replayer, replay};
-use fy_journal::{Entry, Journal, Version};
+use fy_acts::{Act, Entry, Journal, Reply, Version};
+use fy_replay::{Replayer, replay};
 use std::test::Fail;
 
 #[test]

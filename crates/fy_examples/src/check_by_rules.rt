@@ -1,9 +1,8 @@
 //! A wrong journal, which the rules don't give.
 use crate::single::config_of_one;
-use fy_acts::{Act, Reply};
-use fy_check::CheckFault;
+use fy_acts::{Act, Journal, Reply};
 use fy_check_by_rules::check;
-use fy_journal::Journal;
+use fy_replay::CheckFault;
 use std::test::Fail;
 
 #[test]

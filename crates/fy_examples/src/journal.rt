@@ -1,6 +1,5 @@
 //! A journal of one entry.
-use fy_acts::{Act, Reply};
-use fy_journal::{Journal, Version};
+use fy_acts::{Act, Journal, Reply, Version};
 use std::test::Fail;
 
 #[test]

@@ -2,8 +2,7 @@
 ghost use Rattle.std.specs.Prelude.{◌≡◌};
 
 use crate::single::config_of_one;
-use fy_acts::{Act, Reply};
-use fy_journal::{Entry, Journal, Version};
+use fy_acts::{Act, Entry, Journal, Reply, Version};
 use fy_picture::{Recorder, draw};
 use fy_svg::{Drawing, svg};
 use std::test::Fail;

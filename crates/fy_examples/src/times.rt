@@ -1,5 +1,5 @@
 //! Events of two entries, and the columns of a picture by their times.
-use fy_times::{EventsFault, columns_by_time, events_before, read_events};
+use fy_events::{EventsFault, columns_by_time, events_before, read_events};
 use std::alloc::AllocError;
 use std::test::Fail;
 

@@ -4,13 +4,13 @@ use Rattle.std.specs.Prelude.{Bool, true, false, not, is_some, unwrap_or, IfSome
 use Rattle.std.proofs.lemmas.List.{take_all, take-append-drop, take-append-le}
 use Rattle.std.proofs.lemmas.Bool.{cases_lt, false≢true}
 use Rattle.fy_acts.specs.declared.entry.Entry.{Entry}
-use Rattle.fy_journal.specs.declared.version.Version.{Version}
+use Rattle.fy_acts.specs.declared.version.Version.{Version}
 use Rattle.fy_cluster.specs.Setup.{Setup}
 use Rattle.fy_cluster.specs.Execution.{Execution}
 use Rattle.fy_cluster.specs.Versions.{LegalUnder}
-use Rattle.fy_check.specs.Check.{IsFirstBad}
-use Rattle.fy_check.specs.Replayed.{HasFirstBad, HasReplayed, Replayed}
-use Rattle.fy_check.proofs.Entering.{bad_in_front}
+use Rattle.fy_replay.specs.Check.{IsFirstBad}
+use Rattle.fy_replay.specs.Replayed.{HasFirstBad, HasReplayed, Replayed}
+use Rattle.fy_replay.proofs.Entering.{bad_in_front}
 use Rattle.fy_picture.specs.Recording.{HasRecorded, Recording}
 use Rattle.fy_picture.proofs.Afters.{one_more}
 

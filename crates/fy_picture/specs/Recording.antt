@@ -1,10 +1,10 @@
 -- a journal whose picture is recorded while it is checked entry by entry
 use Rattle.std.specs.Prelude.{◌≡◌, ℕ, List, length, take, Option, None, unwrap_or}
 use Rattle.fy_acts.specs.declared.entry.Entry.{Entry}
-use Rattle.fy_journal.specs.declared.version.Version.{Version}
+use Rattle.fy_acts.specs.declared.version.Version.{Version}
 use Rattle.fy_cluster.specs.Setup.{Setup}
 use Rattle.fy_cluster.specs.Execution.{Execution, opened}
-use Rattle.fy_check.specs.Replayed.{HasFirstBad}
+use Rattle.fy_replay.specs.Replayed.{HasFirstBad}
 use Rattle.fy_picture.specs.SoFar.{ColumnsSoFar, DueHaveEnded, no_columns, with_room}
 
 -- the journal's version, the cluster with its good entries, its first bad entry, and the columns so

@@ -4,7 +4,7 @@ ghost use Rattle.fy_kinds.specs.Kinds.{rank};
 ghost use Rattle.fy_cluster.specs.History.{some_is};
 ghost use Rattle.fy_picture.specs.Glyphs.{struck_as_ordered, rule_of};
 
-use fy_journal::{Act, Entry, Reply};
+use fy_acts::{Act, Entry, Reply};
 use fy_kinds::{Kind, Rule};
 
 /// The rank of a kind, 0 for the mildest.

@@ -6,9 +6,9 @@ ghost use Rattle.fy_picture.specs.declared.TheConstants.{MOST_KEPT};
 ghost use Rattle.fy_picture.specs.Keeping.{BeginsNext, ListsKeepers, Notes, noted, says_acked, with_begun};
 
 use crate::MOST_KEPT;
+use fy_acts::{Act, Entry, Reply};
 use fy_cluster::ClusterState;
 use fy_cluster::effects::is_accepted;
-use fy_journal::{Act, Entry, Reply};
 use fy_locality::ProcId;
 use std::alloc::{AllocError, Global};
 

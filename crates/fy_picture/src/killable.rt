@@ -1,4 +1,4 @@
-//! For each policy, how many processes could each be killed for good next. `fy_bears` asks another
+//! For each policy, how many processes could each be killed for good next. `fy_tolerance` asks another
 //! question: how many together.
 ghost use Rattle.std.specs.Prelude.{◌≡◌, ◌<◌, ℕ, IfOk, OnOk, IsTrue};
 ghost use Rattle.std.specs.FinSet as sets;

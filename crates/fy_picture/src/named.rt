@@ -4,9 +4,9 @@ ghost use Rattle.std.specs.FinSet as sets;
 ghost use Rattle.fy_cluster.specs.Execution.{history_of};
 ghost use Rattle.fy_cluster.specs.History.{targets_of};
 
+use fy_acts::Act;
 use fy_cluster::ClusterState;
 use fy_cluster::effects::target_of;
-use fy_journal::Act;
 use fy_locality::ProcSet;
 
 /// The processes that the act's target names in the cluster now; none where the act has no target.

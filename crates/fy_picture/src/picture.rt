@@ -1,15 +1,15 @@
 //! The picture of a journal.
 ghost use Rattle.std.specs.Prelude.{Err, IfErr, IfOk, OnOk, length};
 ghost use Rattle.fy_cluster.specs.Versions.{LegalUnder};
-ghost use Rattle.fy_check.specs.Check.{ChecksOrOom};
+ghost use Rattle.fy_replay.specs.Check.{ChecksOrOom};
 ghost use Rattle.fy_picture.specs.Layouts.{AreEven};
 ghost use Rattle.fy_picture.specs.Pictures.{IsPicture};
 
 use crate::{Column, Recorder};
-use fy_check::CheckFault;
+use fy_acts::Journal;
 use fy_cluster::Config;
-use fy_journal::Journal;
 use fy_locality::ProcId;
+use fy_replay::CheckFault;
 use std::alloc::{AllocError, Global};
 
 /// A journal, drawn from left to right.
@@ -32,7 +32,7 @@ pub struct Picture {
 ///
 /// # Errors
 ///
-/// `BadEntry` at the first entry that isn't what the rules give, as `fy_check::replay`; `NoMemory`
+/// `BadEntry` at the first entry that isn't what the rules give, as `fy_replay::replay`; `NoMemory`
 /// where there is no memory for it.
 pub fn draw(alloc: Global, config: &Config, journal: &Journal) -> Result<Picture, CheckFault>
     ensures picture { IfOk result (IsPicture config.now journal.now.entries) }

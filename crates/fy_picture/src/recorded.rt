@@ -13,8 +13,8 @@ use crate::keeping::{begins_next, keepers_of, note_entry};
 use crate::killable::Killable;
 use crate::layout::{Plan, fold, full_width, is_due, is_open, width_of};
 use crate::{MOST_KEPT, Picture};
+use fy_acts::Entry;
 use fy_cluster::{ClusterState, Config};
-use fy_journal::Entry;
 use std::alloc::{AllocError, Global};
 
 /// The cluster with the good entries, and what is recorded of them.

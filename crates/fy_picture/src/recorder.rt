@@ -10,9 +10,9 @@ ghost use Rattle.fy_picture.specs.SoFar.{DueHaveEnded, is_full};
 use crate::Picture;
 use crate::layout::Plan;
 use crate::recorded::Recorded;
-use fy_check::Replayer;
+use fy_acts::{Entry, Version};
 use fy_cluster::{ClusterState, Config};
-use fy_journal::{Entry, Version};
+use fy_replay::Replayer;
 use std::alloc::{AllocError, Global};
 use std::marker::Model;
 

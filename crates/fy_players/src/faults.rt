@@ -9,7 +9,7 @@ ghost use Rattle.fy_players.specs.Faults.{IsKill, Mixes, Strikes, choice_of, mix
 use crate::draws::Words;
 use crate::picks::{pick_floor, pick_key, pick_target, pick_tear, pick_ticks, target_at};
 use crate::rounds::{attrition_round, swizzle_round};
-use fy_journal::Act;
+use fy_acts::Act;
 use fy_kinds::{KillOrder, Kind, Target};
 use fy_locality::{Key, Map};
 use std::alloc::{AllocError, Global};

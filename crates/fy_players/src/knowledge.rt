@@ -2,7 +2,7 @@
 ghost use Rattle.std.specs.Prelude.{◌≡◌, OnOk};
 ghost use Rattle.fy_players.specs.Knowledge.{no_knowledge, first_sent, mending_after, with_sent, learned};
 
-use fy_journal::{Refusal, Reply};
+use fy_acts::{Refusal, Reply};
 use fy_locality::ProcId;
 use fy_team::Members;
 use std::alloc::{AllocError, Global};

@@ -4,9 +4,9 @@ ghost use Rattle.fy_players.specs.Operators.{choice_of, scope_of, grant_of, oper
 
 use crate::draws::Words;
 use crate::picks::{pick, pick_key, pick_kinds, pick_process, pick_target};
+use fy_acts::Act;
 use fy_cluster::Config;
 use fy_grants::{Grant, Scope};
-use fy_journal::Act;
 
 /// What an operator chooses to do.
 #[derive(Clone, Copy, PartialEq, Eq, Debug)]

@@ -6,7 +6,7 @@ ghost use Rattle.fy_players.specs.Orders.{StrikesOnce};
 
 use crate::draws::Draws;
 use crate::faults::{FaultPlayer, Plan};
-use fy_journal::Act;
+use fy_acts::Act;
 use fy_locality::Map;
 use std::alloc::{AllocError, Global};
 use std::marker::Model;

@@ -8,8 +8,8 @@ use crate::knowledge::Note;
 use crate::operator::operate;
 use crate::picks::NOBODY;
 use crate::storage::StoragePlayer;
+use fy_acts::{Act, Reply};
 use fy_cluster::{Cluster, Fault, Role};
-use fy_journal::{Act, Reply};
 use fy_locality::Map;
 use std::alloc::{AllocError, Global};
 

@@ -5,7 +5,7 @@ ghost use Rattle.fy_actors.specs.Schedules.{process_target, swizzle_acts};
 ghost use Rattle.fy_players.specs.Rounds.{everyone, plan_words, swizzle_round, machine_kill, machine_kills, attrition_round};
 
 use fy_actors::{AttritionPlan, PlanFault, SwizzlePlan, attrition_plan, swizzle_plan, words};
-use fy_journal::Act;
+use fy_acts::Act;
 use fy_kinds::{KillOrder, Kind, Target};
 use fy_locality::{Key, Map, Name, ProcId};
 use std::alloc::{AllocError, Global};

@@ -10,11 +10,11 @@ use Rattle.fy_cluster.specs.Replies.{MayFollow, Legal}
 use Rattle.fy_spelling.specs.declared.command.Command.{Command}
 use Rattle.fy_audit.specs.AuditText.{audit_text}
 use Rattle.fy_audit.specs.Script.{ScriptOf}
-use Rattle.fy_journal.specs.declared.version.Version.TheVariants.{Second}
+use Rattle.fy_acts.specs.declared.version.Version.TheVariants.{Second}
 use Rattle.std.specs.Prelude.{◌≢◌, ◌<◌, Option, Some, None, IfSome, Ok, Err}
 use Rattle.fy_run.specs.RunTexts.{asked, made_by, IsAuditOf, Runs, IfScriptFault, IfRunRefusal, HasAudit}
-use Rattle.fy_engine.specs.declared.stop.Stop.{Stop}
-use Rattle.fy_engine.specs.declared.stop.Stop.TheVariants.{JudgeTooLong, JudgeLine, Config, Script, JournalFull, Audit, Events, SwarmClose, Read, Write, NoMemory}
+use Rattle.fy_streams.specs.declared.stop.Stop.{Stop}
+use Rattle.fy_streams.specs.declared.stop.Stop.TheVariants.{JudgeTooLong, JudgeLine, Config, Script, JournalFull, Audit, Events, SwarmClose, Read, Write, NoMemory}
 
 entered_acts : (execution : Execution) (by : ℕ) (act : Act) →
     map by_and_act (entered execution by act).journal

@@ -8,7 +8,7 @@ use Rattle.fy_spelling.specs.Values.{text_of}
 use Rattle.fy_spelling.specs.declared.command.Command.{Command}
 use Rattle.fy_audit.specs.AuditText.{entry_line}
 use Rattle.fy_cluster.specs.Execution.{Execution, next_entry, entered}
-use Rattle.fy_engine.specs.Outputs.{FlushesFront}
+use Rattle.fy_streams.specs.Outputs.{FlushesFront}
 use Rattle.fy_run.specs.RunTexts.{asked, made_by, lines_of_entries}
 use Rattle.fy_run.proofs.Acting.{one_longer}
 use Rattle.fy_run.proofs.Guarding.{short_behind}

@@ -17,7 +17,7 @@ use Rattle.fy_spelling.specs.declared.command.Command.{Command}
 use Rattle.fy_spelling.specs.declared.command.LineFault.{LineFault}
 use Rattle.fy_spelling.specs.declared.command.CommandFault.{CommandFault}
 use Rattle.fy_spelling.specs.declared.command.CommandFault.TheVariants as command_fault
-use Rattle.fy_journal.specs.declared.version.Version.TheVariants.{Second}
+use Rattle.fy_acts.specs.declared.version.Version.TheVariants.{Second}
 use Rattle.fy_audit.specs.AuditText.{header, entry_line}
 use Rattle.fy_audit.specs.Script.{AreCommands}
 use Rattle.fy_audit.specs.declared.script.ScriptFault.TheVariants.{Line}
@@ -27,9 +27,9 @@ use Rattle.fy_cluster.specs.Survival.{by_and_act}
 use Rattle.fy_cluster.specs.Execution.{Execution, opened, entered}
 use Rattle.fy_run.specs.RunTexts.{asked, lines_of_entries, IfRunRefusal}
 use Rattle.fy_run.specs.GuardTexts.{Answered, AnsweredFrom, room_in, StopsAtLine, AllAnswered, AreBefore, AnsweredBefore, FirstAnswered, AreInTurn, AnswersAll, AnswersBefore, AnswersSome, AppendsAtLeast, entry_of, GivesCommand, NoCommand, NoAnswer}
-use Rattle.fy_engine.specs.Stops.{command_stop, IsRunStop}
-use Rattle.fy_engine.specs.declared.stop.Stop.{Stop}
-use Rattle.fy_engine.specs.declared.stop.Stop.TheVariants.{JudgeTooLong, JudgeLine, Config, Script, JournalFull, Audit, Events, SwarmClose, Read, Write, NoMemory}
+use Rattle.fy_streams.specs.Stops.{command_stop, IsRunStop}
+use Rattle.fy_streams.specs.declared.stop.Stop.{Stop}
+use Rattle.fy_streams.specs.declared.stop.Stop.TheVariants.{JudgeTooLong, JudgeLine, Config, Script, JournalFull, Audit, Events, SwarmClose, Read, Write, NoMemory}
 
 -- some first lines were read and no byte behind them, and the entries that were made are of their acts
 abbrev pub HasRead : Option (List ℕ) → Option (List ℕ) → List Entry → Type 0

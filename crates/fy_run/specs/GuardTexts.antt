@@ -17,8 +17,8 @@ use Rattle.fy_cluster.specs.Replies.{Legal}
 use Rattle.fy_cluster.specs.Execution.{Execution, replied, entered}
 use Rattle.fy_cluster.specs.Survival.{by_and_act}
 use Rattle.fy_run.specs.RunTexts.{asked, lines_of_entries, IsAuditOf}
-use Rattle.fy_engine.specs.declared.stop.Stop.{Stop}
-use Rattle.fy_engine.specs.declared.stop.Stop.TheVariants.{Script, JournalFull, Read, Write, NoMemory}
+use Rattle.fy_streams.specs.declared.stop.Stop.{Stop}
+use Rattle.fy_streams.specs.declared.stop.Stop.TheVariants.{Script, JournalFull, Read, Write, NoMemory}
 
 -- each line is a command, and the text is the audit of the legal journal of their acts
 pub record Answered (setup : Setup) (lines : List (List ℕ)) (text : List ℕ) : Type 0 where

@@ -6,14 +6,14 @@ use Rattle.fy_spelling.specs.declared.command.Command.{Command}
 use Rattle.fy_acts.specs.declared.entry.Entry.{Entry}
 use Rattle.fy_audit.specs.AuditText.{entry_line, audit_text}
 use Rattle.fy_audit.specs.Script.{ScriptOf}
-use Rattle.fy_journal.specs.declared.version.Version.TheVariants.{Second}
+use Rattle.fy_acts.specs.declared.version.Version.TheVariants.{Second}
 use Rattle.fy_audit.specs.declared.script.ScriptFault.{ScriptFault}
 use Rattle.fy_cluster.specs.Setup.{Setup}
 use Rattle.fy_cluster.specs.Replies.{Legal}
 use Rattle.fy_cluster.specs.Execution.{Execution, next_entry, entered}
 use Rattle.fy_cluster.specs.Survival.{by_and_act}
-use Rattle.fy_engine.specs.declared.stop.Stop.{Stop}
-use Rattle.fy_engine.specs.declared.stop.Stop.TheVariants.{Script, JournalFull}
+use Rattle.fy_streams.specs.declared.stop.Stop.{Stop}
+use Rattle.fy_streams.specs.declared.stop.Stop.TheVariants.{Script, JournalFull}
 
 -- who asks for what
 abbrev pub asked : Command → ℕ × Act

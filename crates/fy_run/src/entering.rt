@@ -5,7 +5,7 @@ ghost use Rattle.fy_cluster.specs.Replies.{Legal};
 
 use fy_audit::{Command, Entry};
 use fy_cluster::{ClusterState, Fault};
-use fy_engine::Stop;
+use fy_streams::Stop;
 
 /// Enters a command, and answers its entry.
 ///

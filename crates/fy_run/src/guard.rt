@@ -11,16 +11,16 @@ ghost use Rattle.fy_cluster.specs.Execution.{entered};
 ghost use Rattle.fy_cluster.specs.Replies.{Legal};
 ghost use Rattle.fy_run.specs.GuardTexts.{AllAnswered, AnsweredBefore, FirstAnswered, AnsweredInTurn, AnsweredBeforeCut, AnsweredFrom, room_in, AnswersAll, AnswersBefore, AnswersSome, AnswersInTurn, AnswersBeforeCut, ReadNothing, AppendsAtLeast, entry_of, GivesCommand, NoCommand, NoAnswer};
 ghost use Rattle.fy_run.specs.RunTexts.{IfRunRefusal};
-ghost use Rattle.fy_engine.specs.Stops.{command_stop, IsRunStop};
+ghost use Rattle.fy_streams.specs.Stops.{command_stop, IsRunStop};
 
 use crate::entering::enter;
 use fy_audit::{
     Command, LineFault, MOST_LINE_BYTES, ScriptFault, Version, header_text, push_entry_line,
 };
 use fy_cluster::{ClusterState, Config};
-use fy_engine::Stop;
 use fy_lines::{InputFault, next_line, write_bytes};
 use fy_spelling::{CommandFault, read_command};
+use fy_streams::Stop;
 use std::alloc::Global;
 use std::io::{BufRead, Write};
 

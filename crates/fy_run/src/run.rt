@@ -3,20 +3,20 @@ ghost use Rattle.std.specs.Prelude.{◌≡◌, ◌≢◌, ◌≤◌, ◌+◌, �
 ghost use Rattle.std.specs.Io.KnownBytes.{Appends};
 ghost use Rattle.fy_lines.specs.Prefixes.{AppendsProperPrefix};
 ghost use Rattle.fy_lines.specs.Readings.{ReadsAtMost};
-ghost use Rattle.fy_journal.specs.declared.version.Version.TheVariants.{Second};
+ghost use Rattle.fy_acts.specs.declared.version.Version.TheVariants.{Second};
 ghost use Rattle.fy_audit.specs.AuditText.{audit_text};
 ghost use Rattle.fy_audit.specs.Script.{ScriptOf};
 ghost use Rattle.fy_audit.specs.declared.script.TheConstants.{MOST_SCRIPT_BYTES};
 ghost use Rattle.fy_cluster.specs.Execution.{opened};
 ghost use Rattle.fy_run.specs.RunTexts.{asked, made_by, lines_of_entries, HasAudit, Runs, IfScriptFault, IfRunRefusal};
-ghost use Rattle.fy_engine.specs.Outputs.{FlushesFront, IsOutputStop};
-ghost use Rattle.fy_engine.specs.Stops.{script_stop, IsRunStop};
+ghost use Rattle.fy_streams.specs.Outputs.{FlushesFront, IsOutputStop};
+ghost use Rattle.fy_streams.specs.Stops.{script_stop, IsRunStop};
 
 use crate::entering::enter;
 use fy_audit::{Command, MOST_SCRIPT_BYTES, ScriptFault, Version, read_script};
 use fy_cluster::{ClusterState, Config};
-use fy_engine::{AuditBuffer, Stop};
 use fy_lines::{InputFault, laws, read_limited};
+use fy_streams::{AuditBuffer, Stop};
 use std::alloc::Global;
 use std::io::{Read, Write};
 

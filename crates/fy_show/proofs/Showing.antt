@@ -4,16 +4,16 @@ use Rattle.std.specs.Prelude.{IfSome, is_none, is_some, not, unwrap_or}
 use Rattle.std.proofs.lemmas.Bool.{true≢false}
 use Rattle.std.proofs.lemmas.List.{take_all}
 use Rattle.fy_acts.specs.declared.entry.Entry.{Entry}
-use Rattle.fy_journal.specs.declared.version.Version.{Version}
+use Rattle.fy_acts.specs.declared.version.Version.{Version}
 use Rattle.fy_audit.specs.Audit.{AuditOf, AuditAnswers}
 use Rattle.fy_audit.specs.declared.audit.AuditFault.{AuditFault}
 use Rattle.fy_audit.specs.declared.audit.AuditFault.TheVariants.{TooLong, Line, NoMemory}
 use Rattle.fy_cluster.specs.Setup.{Setup}
 use Rattle.fy_cluster.specs.Execution.{Execution}
-use Rattle.fy_check.specs.Replayed.{HasFirstBad}
-use Rattle.fy_check_audit.specs.Checked.{IsChecked}
-use Rattle.fy_engine.specs.declared.stop.Stop.{Stop}
-use Rattle.fy_engine.specs.Stops.{audit_stop, IfAuditFault}
+use Rattle.fy_replay.specs.Replayed.{HasFirstBad}
+use Rattle.fy_check.specs.Checked.{IsChecked}
+use Rattle.fy_streams.specs.declared.stop.Stop.{Stop}
+use Rattle.fy_streams.specs.Stops.{audit_stop, IfAuditFault}
 use Rattle.fy_svg.specs.Documents.{IsDocument}
 use Rattle.fy_picture.specs.Recording.{HasRecorded, Recording}
 use Rattle.fy_show.specs.declared.show.Drawn.{Drawn}

@@ -6,15 +6,15 @@ use Rattle.fy_lines.specs.Readings.{ReadsAtMost}
 use Rattle.fy_audit.specs.Audit.{Audit, AuditOf}
 use Rattle.fy_audit.specs.One.{AuditIsUnambiguous}
 use Rattle.fy_audit.specs.declared.audit.AuditFault.{AuditFault}
-use Rattle.fy_times.specs.Events.{EventsOf}
-use Rattle.fy_times.specs.declared.event.Event.{Event}
-use Rattle.fy_times.specs.declared.events.EventsFault.{EventsFault}
+use Rattle.fy_events.specs.Events.{EventsOf}
+use Rattle.fy_events.specs.declared.event.Event.{Event}
+use Rattle.fy_events.specs.declared.events.EventsFault.{EventsFault}
 use Rattle.fy_cluster.specs.Setup.{Setup}
-use Rattle.fy_check_audit.specs.CheckTexts.{IsFound}
-use Rattle.fy_check_audit.specs.declared.check.Finding.{Finding}
-use Rattle.fy_engine.specs.declared.stop.Stop.{Stop}
-use Rattle.fy_engine.specs.declared.stop.Stop.TheVariants.{JudgeTooLong, JudgeLine, Config, Script, JournalFull, Audit as AuditStop, Events, SwarmClose, Read, Write, NoMemory}
-use Rattle.fy_engine.specs.Stops.{IfAuditFault, IfEventsFault, IsCheckStop, IsTimesStop}
+use Rattle.fy_check.specs.CheckTexts.{IsFound}
+use Rattle.fy_check.specs.declared.check.Finding.{Finding}
+use Rattle.fy_streams.specs.declared.stop.Stop.{Stop}
+use Rattle.fy_streams.specs.declared.stop.Stop.TheVariants.{JudgeTooLong, JudgeLine, Config, Script, JournalFull, Audit as AuditStop, Events, SwarmClose, Read, Write, NoMemory}
+use Rattle.fy_streams.specs.Stops.{IfAuditFault, IfEventsFault, IsCheckStop, IsTimesStop}
 use Rattle.fy_picture.specs.Recording.{Recording}
 use Rattle.fy_svg.specs.Documents.{IsDocument}
 use Rattle.fy_show.specs.Shows.{HasTimedDocument, AreRefused, IsDrawnByTime}

@@ -2,14 +2,14 @@
 use Rattle.std.specs.Prelude.{◌≡◌, ℕ, Bool, List, Option, Some, None, IfSome, Ok, Err, is_none, length, unwrap_or}
 use Rattle.fy_audit.specs.Audit.{Audit, AuditOf}
 use Rattle.fy_cluster.specs.Setup.{Setup}
-use Rattle.fy_check_audit.specs.CheckTexts.{IsFound}
-use Rattle.fy_check_audit.specs.Checked.{IsChecked}
-use Rattle.fy_check_audit.specs.declared.check.Finding.{Finding}
-use Rattle.fy_times.specs.Columns.{AreTimeColumns, events_before}
-use Rattle.fy_times.specs.Events.{EventsOf}
-use Rattle.fy_times.specs.declared.columns.TimeColumns.{TimeColumns}
-use Rattle.fy_times.specs.declared.event.Event.{Event}
-use Rattle.fy_times.specs.declared.events.EventsFault.{EventsFault}
+use Rattle.fy_check.specs.CheckTexts.{IsFound}
+use Rattle.fy_check.specs.Checked.{IsChecked}
+use Rattle.fy_check.specs.declared.check.Finding.{Finding}
+use Rattle.fy_events.specs.Columns.{AreTimeColumns, events_before}
+use Rattle.fy_events.specs.Events.{EventsOf}
+use Rattle.fy_events.specs.declared.columns.TimeColumns.{TimeColumns}
+use Rattle.fy_events.specs.declared.event.Event.{Event}
+use Rattle.fy_events.specs.declared.events.EventsFault.{EventsFault}
 use Rattle.fy_picture.specs.Recording.{HasRecorded, Recording}
 use Rattle.fy_picture.specs.declared.TheConstants.{MOST_COLUMNS}
 use Rattle.fy_svg.specs.Documents.{IsDocument}

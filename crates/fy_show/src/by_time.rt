@@ -5,26 +5,26 @@ ghost use Rattle.fy_lines.specs.Prefixes.{AppendsProperPrefix};
 ghost use Rattle.fy_lines.specs.Readings.{ReadsAtMost};
 ghost use Rattle.fy_audit.specs.Audit.{AuditOf};
 ghost use Rattle.fy_audit.specs.declared.audit.TheConstants.{MOST_AUDIT_BYTES};
-ghost use Rattle.fy_times.specs.Events.{EventsOf, Rises};
-ghost use Rattle.fy_times.specs.declared.event.Event.{Event};
-ghost use Rattle.fy_times.specs.declared.TheConstants.{MOST_EVENTS_BYTES};
-ghost use Rattle.fy_engine.specs.Stops.{IfAuditFault, IfEventsFault, IsCheckStop, IsTimesStop};
-ghost use Rattle.fy_check_audit.specs.CheckTexts.{IsFound};
+ghost use Rattle.fy_events.specs.Events.{EventsOf, Rises};
+ghost use Rattle.fy_events.specs.declared.event.Event.{Event};
+ghost use Rattle.fy_events.specs.declared.TheConstants.{MOST_EVENTS_BYTES};
+ghost use Rattle.fy_streams.specs.Stops.{IfAuditFault, IfEventsFault, IsCheckStop, IsTimesStop};
+ghost use Rattle.fy_check.specs.CheckTexts.{IsFound};
 ghost use Rattle.fy_picture.specs.Recording.{Recording};
 ghost use Rattle.fy_svg.specs.Documents.{IsDocument};
 ghost use Rattle.fy_show.specs.Shows.{AreRefused, HasTimedDocument, IsDrawn, IsDrawnByTime};
 
 use fy_audit::laws::{an_audit_is_read_entry_by_entry, audits_are_unambiguous};
 use fy_audit::{AuditReader, MOST_AUDIT_BYTES};
-use fy_check_audit::{Finding, audit_stop, load_audit, replay_bytes};
+use fy_check::{Finding, audit_stop, load_audit, replay_bytes};
 use fy_cluster::Config;
-use fy_engine::Stop;
-use fy_lines::{InputFault, OutputFault, read_limited, write_bytes};
-use fy_picture::MOST_COLUMNS;
-use fy_svg::Drawing;
-use fy_times::{
+use fy_events::{
     Event, EventsFault, MOST_EVENTS_BYTES, TimeColumns, columns_by_time, events_before, read_events,
 };
+use fy_lines::{InputFault, OutputFault, read_limited, write_bytes};
+use fy_picture::MOST_COLUMNS;
+use fy_streams::Stop;
+use fy_svg::Drawing;
 use std::alloc::Global;
 use std::io::{Read, Write};
 

@@ -2,8 +2,8 @@
 use Rattle.std.proofs.Common.{arith, ◌≡◌, ◌∙◌, ◌+◌, ℕ, suc, List, ap, subst}
 use Rattle.fy_acts.specs.declared.entry.Entry.{Entry}
 use Rattle.fy_audit.specs.AuditText.{audit_text}
-use Rattle.fy_journal.specs.declared.version.Version.{Version}
-use Rattle.fy_journal.specs.declared.version.Version.TheVariants.{Second}
+use Rattle.fy_acts.specs.declared.version.Version.{Version}
+use Rattle.fy_acts.specs.declared.version.Version.TheVariants.{Second}
 use Rattle.fy_cluster.specs.Setup.{Setup}
 use Rattle.fy_cluster.specs.Execution.{Execution}
 use Rattle.fy_players.specs.declared.faults.Plan.{Plan}

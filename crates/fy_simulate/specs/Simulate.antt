@@ -5,7 +5,7 @@ use Rattle.fy_acts.specs.declared.act.Act.{Act}
 use Rattle.fy_acts.specs.declared.entry.Entry.{Entry}
 use Rattle.fy_actors.specs.Desk.{entries_by}
 use Rattle.fy_audit.specs.AuditText.{audit_text}
-use Rattle.fy_journal.specs.declared.version.Version.TheVariants.{Second}
+use Rattle.fy_acts.specs.declared.version.Version.TheVariants.{Second}
 use Rattle.fy_cluster.specs.Setup.{Setup}
 use Rattle.fy_cluster.specs.Survival.{Survives}
 use Rattle.fy_cluster.specs.Execution.{Execution, opened}

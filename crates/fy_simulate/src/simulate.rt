@@ -3,12 +3,12 @@
 ghost use Rattle.std.specs.Prelude.{◌≡◌, ◌<◌, ◌%◌, ◌⊎◌, ◌++◌, length, replicate, slice_get, true, All, IfOk, IfErr, OnOk, Err};
 ghost use Rattle.std.specs.Io.KnownBytes.{Appends};
 ghost use Rattle.fy_lines.specs.Prefixes.{AppendsProperPrefix};
-ghost use Rattle.fy_engine.specs.Outputs.{IsOutputStop};
+ghost use Rattle.fy_streams.specs.Outputs.{IsOutputStop};
 ghost use Rattle.fy_simulate.specs.Simulate.{lots_of, lots_from, players_from, stage_of, opening, ActorTakes, OneTurn, IsSimulated, HasSimulatedAudit};
 
 use fy_cluster::{Cluster, Config, Fault, Role};
-use fy_engine::{Stop, write_audit};
 use fy_players::{Draws, Plan, Player};
+use fy_streams::{Stop, write_audit};
 use std::alloc::{AllocError, Global};
 use std::io::Write;
 

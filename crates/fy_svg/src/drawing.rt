@@ -3,7 +3,7 @@ ghost use Rattle.std.specs.Prelude.{◌≡◌, ◌++◌, ◌∷◌, [], List, No
 ghost use Rattle.fy_acts.specs.declared.entry.Entry.{Entry};
 ghost use Rattle.fy_cluster.specs.Setup.{Setup};
 ghost use Rattle.fy_cluster.specs.Versions.{LegalUnder};
-ghost use Rattle.fy_check.specs.Check.{ChecksOrOom};
+ghost use Rattle.fy_replay.specs.Check.{ChecksOrOom};
 ghost use Rattle.fy_picture.specs.Recording.{HasEndedDue, HasRecorded, begun, roomed};
 ghost use Rattle.fy_svg.specs.Documents.{EndsDocument, IsDocument};
 
@@ -13,12 +13,12 @@ use crate::layout::MOST_LINES;
 use crate::marks::{Ticks, fold_ticks, note_time};
 use crate::otherwise::Rings;
 use crate::sheet::document;
-use fy_check::CheckFault;
+use fy_acts::{Entry, Journal, Reply, Version};
 use fy_cluster::Config;
-use fy_journal::{Entry, Journal, Reply, Version};
+use fy_events::{Event, TimeColumns};
 use fy_locality::ProcSet;
 use fy_picture::{Picture, Recorder, named_by, rule_of};
-use fy_times::{Event, TimeColumns};
+use fy_replay::CheckFault;
 use std::alloc::{AllocError, Global};
 use std::marker::Model;
 
@@ -298,7 +298,7 @@ impl Drawing {
 ///
 /// # Errors
 ///
-/// `BadEntry` at the first entry that isn't what the rules give, as `fy_check::replay`; `NoMemory`
+/// `BadEntry` at the first entry that isn't what the rules give, as `fy_replay::replay`; `NoMemory`
 /// where there is no memory for it.
 pub fn svg(alloc: Global, config: &Config, journal: &Journal) -> Result<String, CheckFault>
     ensures document { IfOk result (λ text. EndsDocument (string_bytes text)) }

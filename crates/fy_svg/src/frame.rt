@@ -8,7 +8,7 @@ use crate::lanes::Lane;
 use crate::layout::{ASIDE, LINE, ROW, TOP, foot_of, middle_of, x_of, y_of};
 use crate::otherwise::RING;
 use crate::words::{write_floor, write_order};
-use fy_journal::Entry;
+use fy_acts::Entry;
 use fy_locality::{Key, Map, ProcId};
 use fy_picture::Column;
 use std::alloc::AllocError;

@@ -1,7 +1,7 @@
 //! The glyphs of orders, at the processes that they name.
 use crate::layout::{ROW, middle_of, y_of};
 use crate::words::{write_floor, write_order};
-use fy_journal::{Act, Entry, Reply};
+use fy_acts::{Act, Entry, Reply};
 use fy_kinds::Kind;
 use fy_locality::ProcSet;
 use fy_picture::struck_as_ordered;

@@ -1,9 +1,9 @@
 //! Rings round the orders for which something else was done than was answered.
 use crate::layout::{ROW, middle_of, y_of};
 use crate::words::{write_floor, write_order};
-use fy_journal::Entry;
+use fy_acts::Entry;
+use fy_events::{Done, Event, differs};
 use fy_locality::ProcSet;
-use fy_times::{Done, Event, differs};
 use std::alloc::{AllocError, Global};
 
 /// The outline of a ring round the current point: one circle within another.

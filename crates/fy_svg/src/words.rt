@@ -1,5 +1,5 @@
 //! Orders, rules and numbers in words.
-use fy_journal::{Act, Entry, Refusal, Reply};
+use fy_acts::{Act, Entry, Refusal, Reply};
 use fy_kinds::{Kind, Rule, Target};
 use fy_picture::rule_of;
 use std::alloc::AllocError;

@@ -11,20 +11,20 @@ use Rattle.fy_cluster.specs.Execution.{Execution}
 use Rattle.fy_cluster.specs.Survival.{Survives}
 use Rattle.fy_cluster.specs.declared.role.Role.{Role}
 use Rattle.fy_actors.specs.Desk.{entries_by}
-use Rattle.fy_yard.specs.Yard.{Yard, SeatState, new_seat, new_seats, IsJournalOf, Settled, Missing}
+use Rattle.fy_shared.specs.Yard.{Yard, SeatState, new_seat, new_seats, IsJournalOf, Settled, Missing}
 use Rattle.fy_swarm.specs.declared.player.Player.{Player}
-use Rattle.fy_yard.specs.Posts.{Ran, EndsSo}
-use Rattle.fy_yard.specs.Parts.{KeepsPart}
-use Rattle.fy_yard.specs.declared.posts.End.TheVariants.{NotRun, Ended, Limit, Shut, Failed}
+use Rattle.fy_shared.specs.Posts.{Ran, EndsSo}
+use Rattle.fy_shared.specs.Parts.{KeepsPart}
+use Rattle.fy_shared.specs.declared.posts.End.TheVariants.{NotRun, Ended, Limit, Shut, Failed}
 use Rattle.fy_cluster.specs.declared.fault.Fault.TheVariants.{JournalFull, NoMemory}
 use Rattle.fy_actors.specs.Parts.{Part, has_next_act, KeepsTo, OthersChangeNoPart}
 use Rattle.fy_actors.specs.Parts.Part.{Unspecified}
 use Rattle.fy_swarm.specs.declared.player.Player.TheVariants.{Stores, Swizzles, Kills}
-use Rattle.fy_yard.specs.declared.posts.End.{End}
+use Rattle.fy_shared.specs.declared.posts.End.{End}
 use Rattle.fy_acts.specs.declared.entry.Entry.{Entry}
 use Rattle.fy_audit.specs.AuditText.{audit_text}
-use Rattle.fy_journal.specs.declared.version.Version.{Version}
-use Rattle.fy_journal.specs.declared.version.Version.TheVariants.{Second}
+use Rattle.fy_acts.specs.declared.version.Version.{Version}
+use Rattle.fy_acts.specs.declared.version.Version.TheVariants.{Second}
 use Rattle.fy_swarm.specs.Swarm.{IsSwarm, HasSwarmAudit, HasPlayed, Finished, AllFinished, Plays, is_active, part_of, most_turns}
 
 -- ---- new seats

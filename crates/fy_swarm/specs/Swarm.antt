@@ -7,7 +7,7 @@ use Rattle.fy_kinds.specs.declared.kind.Kind.TheVariants.{Reboot, KillInstantly}
 use Rattle.fy_kinds.specs.Kinds.{rank}
 use Rattle.fy_acts.specs.declared.entry.Entry.{Entry}
 use Rattle.fy_audit.specs.AuditText.{audit_text}
-use Rattle.fy_journal.specs.declared.version.Version.TheVariants.{Second}
+use Rattle.fy_acts.specs.declared.version.Version.TheVariants.{Second}
 use Rattle.fy_cluster.specs.Setup.{Setup}
 use Rattle.fy_cluster.specs.Survival.{Survives}
 use Rattle.fy_cluster.specs.declared.role.Role.{Role}
@@ -21,8 +21,8 @@ use Rattle.fy_actors.specs.Parts.{Part, has_next_act, KeepsTo}
 use Rattle.fy_actors.specs.Parts.Part.{Acts, Stores as StoresPart}
 use Rattle.fy_actors.specs.declared.plans.SwizzlePlan.{SwizzlePlan}
 use Rattle.fy_actors.specs.declared.driver.Team.TheVariants.{Unformed}
-use Rattle.fy_yard.specs.Yard.{Yard, SeatState}
-use Rattle.fy_yard.specs.Parts.{KeepsPart}
+use Rattle.fy_shared.specs.Yard.{Yard, SeatState}
+use Rattle.fy_shared.specs.Parts.{KeepsPart}
 use Rattle.fy_swarm.specs.declared.player.Player.{Player}
 use Rattle.fy_swarm.specs.declared.player.Player.TheVariants.{Stores, Swizzles, Kills}
 

@@ -4,19 +4,19 @@ ghost use Rattle.std.specs.Prelude.{◌≡◌, ◌≢◌, ◌<◌, ◌⊎◌, �
 ghost use Rattle.std.specs.List.{AllZip};
 ghost use Rattle.std.specs.Io.KnownBytes.{Appends};
 ghost use Rattle.fy_lines.specs.Prefixes.{AppendsProperPrefix};
-ghost use Rattle.fy_yard.specs.Yard.{SeatState, new_seat, new_seats, Settled, Missing};
-ghost use Rattle.fy_yard.specs.Posts.{Ran};
-ghost use Rattle.fy_yard.specs.declared.posts.End.TheVariants.{Failed};
+ghost use Rattle.fy_shared.specs.Yard.{SeatState, new_seat, new_seats, Settled, Missing};
+ghost use Rattle.fy_shared.specs.Posts.{Ran};
+ghost use Rattle.fy_shared.specs.declared.posts.End.TheVariants.{Failed};
 ghost use Rattle.fy_cluster.specs.declared.fault.Fault.TheVariants.{NoMemory};
 ghost use Rattle.fy_swarm.specs.Swarm.{IsSwarm, HasSwarmAudit, AllFinished, is_active, most_turns};
-ghost use Rattle.fy_engine.specs.Outputs.{IsOutputStop};
+ghost use Rattle.fy_streams.specs.Outputs.{IsOutputStop};
 
 use crate::cast::player_of;
 use fy_actors::FaultActor;
 use fy_actors::laws::parts_are_kept;
 use fy_cluster::{Cluster, Config, Fault};
-use fy_engine::{Stop, write_audit};
-use fy_yard::{CloseFault, Closed, End, Gate, Post, Seat, Shared, run_actors};
+use fy_shared::{CloseFault, Closed, End, Gate, Post, Seat, Shared, run_actors};
+use fy_streams::{Stop, write_audit};
 use std::alloc::{AllocError, Global};
 use std::boxed::Box;
 use std::io::Write;

@@ -7,7 +7,7 @@ ghost use Rattle.fy_check_by_rules.specs.Allowed.{allowed_reply};
 
 use crate::clock::now;
 use crate::past::Past;
-use fy_journal::{Refusal, Reply};
+use fy_acts::{Refusal, Reply};
 use fy_net::LAST_TICK;
 
 /// The reply to a Tick.

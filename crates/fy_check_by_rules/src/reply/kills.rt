@@ -7,7 +7,7 @@ ghost use Rattle.fy_check_by_rules.specs.Allowed.{allowed_reply};
 
 use crate::past::Past;
 use crate::rules::Case;
-use fy_journal::Reply;
+use fy_acts::Reply;
 use fy_kinds::{KillOrder, Target};
 use std::alloc::AllocError;
 

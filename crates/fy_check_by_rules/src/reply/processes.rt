@@ -9,7 +9,7 @@ ghost use Rattle.fy_check_by_rules.specs.Allowed.{allowed_reply};
 use crate::needs::needed_by_member;
 use crate::past::Past;
 use crate::strikes::{destroyed, gone, up};
-use fy_journal::{Refusal, Reply};
+use fy_acts::{Refusal, Reply};
 use fy_locality::ProcId;
 use std::alloc::AllocError;
 

@@ -8,8 +8,8 @@ ghost use Rattle.fy_check_by_rules.specs.Allowed.{allowed_reply};
 
 use crate::past::Past;
 use crate::rights::{grant_count, grants};
+use fy_acts::{Refusal, Reply};
 use fy_grants::{Grant, MOST_GRANTS};
-use fy_journal::{Refusal, Reply};
 use fy_locality::ProcId;
 use std::alloc::AllocError;
 

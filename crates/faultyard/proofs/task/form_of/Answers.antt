@@ -1,7 +1,7 @@
 use Rattle.std.proofs.Common.{rules, ◌≡◌, ◌∙◌, None, Some, codes, refl, sym, ap, option_map}
 use Rattle.clap.specs.Words.{found_of}
 use Rattle.clap.proofs.WalkLemmas.{first_value-rows}
-use Rattle.fy_bears.specs.declared.reports.Form.TheVariants.{Json, Text}
+use Rattle.fy_tolerance.specs.declared.reports.Form.TheVariants.{Json, Text}
 use Rattle.faultyard.proofs.task.form_of.Goals as goal
 
 pub returns-in-Some-true : goal.returns-in-Some-true

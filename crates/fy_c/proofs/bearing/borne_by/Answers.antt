@@ -1,7 +1,7 @@
 use Rattle.std.proofs.Common.{◌≡◌, ◌≤◌, ◌<◌, ℕ, Bool, true, length, sym, ap, subst, ◌∙◌}
 use Rattle.fy_policy.specs.Counted.{number_of}
-use Rattle.fy_bears.specs.Bears.{least_any}
-use Rattle.fy_bears.proofs.Tolerating.{all_bear}
+use Rattle.fy_tolerance.specs.Bears.{least_any}
+use Rattle.fy_tolerance.proofs.Tolerating.{all_bear}
 use Rattle.fy_c.specs.Bearing.{is_exact}
 use Rattle.fy_c.specs.Numbers.{bit}
 use Rattle.fy_c.proofs.Exact.{bit_of, none_greater, zero_is_exact}

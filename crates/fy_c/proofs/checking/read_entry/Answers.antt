@@ -7,7 +7,7 @@ use Rattle.fy_audit.specs.declared.audit.AuditFault.{AuditFault}
 use Rattle.fy_audit.specs.declared.audit.AuditFault.TheVariants.{Line}
 use Rattle.fy_audit.specs.declared.audit.AuditLineFault.TheVariants.{TooLong}
 use Rattle.fy_audit.specs.declared.audit.TheConstants.{MOST_AUDIT_BYTES}
-use Rattle.fy_check.specs.Replayed.{HasReplayed}
+use Rattle.fy_replay.specs.Replayed.{HasReplayed}
 use Rattle.fy_cluster.specs.Setup.{Setup}
 use Rattle.fy_c.specs.Progress.{Progress}
 use Rattle.fy_c.specs.Checking.{HasProgress, MayBeRead, Refuses, audit_status}

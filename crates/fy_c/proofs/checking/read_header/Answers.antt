@@ -2,7 +2,7 @@ use Rattle.std.proofs.Common.{◌≡◌, ◌∙◌, [], refl, sym, subst}
 use Rattle.std.specs.Prelude.{Ok}
 use Rattle.std.proofs.lemmas.Bool.{false≢true}
 use Rattle.fy_audit.specs.Audit.{AuditOf}
-use Rattle.fy_check.specs.Replayed.{HasReplayed}
+use Rattle.fy_replay.specs.Replayed.{HasReplayed}
 use Rattle.fy_c.specs.Checking.{Refuses}
 use Rattle.fy_c.proofs.Lined.{header_and_more, header_may_be_read, no_header}
 use Rattle.fy_c.proofs.checking.read_header.Goals as goal

@@ -1,7 +1,7 @@
 use Rattle.std.proofs.Common.{◌≡◌, length}
 use Rattle.fy_audit.specs.Reading.{HasRead}
 use Rattle.fy_cluster.specs.Replies.{Legal}
-use Rattle.fy_journal.specs.declared.version.Version.TheVariants.{Second}
+use Rattle.fy_acts.specs.declared.version.Version.TheVariants.{Second}
 use Rattle.fy_c.proofs.resuming.follow.Given as goal
 
 -- the entries that were read are the cluster's

@@ -1,6 +1,6 @@
 use Rattle.std.proofs.Common.{◌≡◌, ◌<◌, ◌∷◌, ◌++◌, length, [], take, get_or, refl, sym, ◌∙◌, ap, subst, rules}
 use Rattle.std.specs.Prelude.{List, Option, is_some, IfSome}
-use Rattle.fy_check.specs.Check.{IsFirstBad}
+use Rattle.fy_replay.specs.Check.{IsFirstBad}
 use Rattle.fy_check_by_rules.specs.declared.step.FoundStep.{FoundStep}
 use Rattle.fy_check_by_rules.specs.Steps.{AreStepsOf}
 use Rattle.fy_check_by_rules.proofs.Nexts.{place_is, first_bad}

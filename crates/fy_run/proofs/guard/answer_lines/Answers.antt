@@ -5,7 +5,7 @@ use Rattle.fy_lines.specs.Readings.{ReadsWithinLine, ReadsInsideLine}
 use Rattle.fy_spelling.specs.declared.command.TheConstants.{MOST_LINE_BYTES}
 use Rattle.fy_cluster.specs.Setup.{Setup}
 use Rattle.fy_cluster.specs.Execution.{Execution}
-use Rattle.fy_engine.specs.declared.stop.Stop.TheVariants.{Read, Write, NoMemory}
+use Rattle.fy_streams.specs.declared.stop.Stop.TheVariants.{Read, Write, NoMemory}
 use Rattle.fy_run.proofs.Acting.{one_longer}
 use Rattle.fy_run.proofs.Guarding.{HasAnswered, opens, goes_on, gave, limit_is_small, answers_all, in_turn, made_so_far, refused_line, refused_command, at_least, still_out, none_out, answer_short, no_command_write, no_answer_read, no_command_own, no_answer_own, same_stop}
 use Rattle.fy_run.proofs.guard.answer_lines.Goals as goal

@@ -6,7 +6,7 @@ use Rattle.fy_lines.specs.Prefixes.{AppendsProperPrefix}
 use Rattle.fy_lines.specs.Readings.{ReadsWithinLine, ReadsInsideLine}
 use Rattle.fy_spelling.specs.declared.command.TheConstants.{MOST_LINE_BYTES}
 use Rattle.fy_audit.specs.AuditText.{header}
-use Rattle.fy_journal.specs.declared.version.Version.TheVariants.{Second}
+use Rattle.fy_acts.specs.declared.version.Version.TheVariants.{Second}
 use Rattle.fy_run.specs.RunTexts.{IfRunRefusal}
 use Rattle.fy_run.specs.GuardTexts.{AllAnswered, AnsweredBefore, AnsweredBeforeCut, AnsweredFrom, AnsweredInTurn, AppendsAtLeast, FirstAnswered, room_in}
 use Rattle.fy_run.proofs.Guarding.{all_headed, appends_headed, at_least_headed, before_headed, header_short, short_headed, some_headed, turn_headed}

@@ -1,7 +1,7 @@
 use Rattle.std.proofs.Common.{◌++◌, sym, subst}
 use Rattle.fy_lines.specs.Prefixes.{AppendsProperPrefix}
 use Rattle.fy_audit.specs.AuditText.{entry_line}
-use Rattle.fy_engine.proofs.Moving.{moved_on}
+use Rattle.fy_streams.proofs.Moving.{moved_on}
 use Rattle.fy_run.proofs.Gathering.{lines_of, next_line, room_left, cut_off}
 use Rattle.fy_run.proofs.run.answer_all.Goals as goal
 

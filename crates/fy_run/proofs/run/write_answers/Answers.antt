@@ -1,7 +1,7 @@
 use Rattle.std.proofs.Common.{◌≡◌, ◌∙◌, ◌++◌, map, ap, subst}
 use Rattle.fy_lines.specs.Prefixes.{AppendsProperPrefix}
 use Rattle.fy_audit.specs.AuditText.{header, audit_text}
-use Rattle.fy_journal.specs.declared.version.Version.TheVariants.{Second}
+use Rattle.fy_acts.specs.declared.version.Version.TheVariants.{Second}
 use Rattle.fy_cluster.specs.Execution.{opened}
 use Rattle.fy_run.specs.RunTexts.{asked, made_by}
 use Rattle.fy_run.proofs.Gathering.{lines_of, all_flushed, flushed_short}

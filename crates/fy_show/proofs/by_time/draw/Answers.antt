@@ -1,6 +1,6 @@
 use Rattle.std.proofs.Common.{◌≡◌, ◌∙◌, Some, ap, subst}
 use Rattle.std.proofs.lemmas.Result.{IfOk-weaker}
-use Rattle.fy_times.specs.Columns.{AreTimeColumns, events_before}
+use Rattle.fy_events.specs.Columns.{AreTimeColumns, events_before}
 use Rattle.fy_picture.specs.declared.TheConstants.{MOST_COLUMNS}
 use Rattle.fy_show.specs.Shows.{IsDrawn, IsDrawnByTime}
 use Rattle.fy_show.proofs.by_time.draw.Goals as goal

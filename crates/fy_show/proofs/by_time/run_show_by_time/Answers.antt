@@ -1,8 +1,8 @@
 use Rattle.std.proofs.Common.{ℕ, Ok, Err, refl, sym, subst}
 use Rattle.std.specs.Prelude.{IfSome, is_none}
 use Rattle.fy_lines.specs.Prefixes.{AppendsProperPrefix}
-use Rattle.fy_times.specs.Events.{EventsOf}
-use Rattle.fy_check_audit.specs.CheckTexts.{IsFound}
+use Rattle.fy_events.specs.Events.{EventsOf}
+use Rattle.fy_check.specs.CheckTexts.{IsFound}
 use Rattle.fy_svg.specs.Documents.{IsDocument}
 use Rattle.fy_show.specs.Shows.{AreRefused, IsDrawnByTime}
 use Rattle.fy_show.proofs.Timing.{map_events, are_refused, has_timed_document}

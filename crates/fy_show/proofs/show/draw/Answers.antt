@@ -1,6 +1,6 @@
 use Rattle.std.proofs.Common.{◌∙◌, ◌∷◌, ◌++◌, [], Ok, sym, ap, subst}
 use Rattle.std.specs.Prelude.{IfSome}
-use Rattle.fy_check_audit.specs.Inputs.{HasTakenOne}
+use Rattle.fy_check.specs.Inputs.{HasTakenOne}
 use Rattle.fy_picture.specs.Recording.{Recording}
 use Rattle.fy_show.proofs.Showing.{drawn_known, next_place}
 use Rattle.fy_show.proofs.show.draw.Goals as goal

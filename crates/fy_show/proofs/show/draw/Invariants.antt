@@ -1,7 +1,7 @@
 use Rattle.std.proofs.Common.{◌≡◌, ◌-◌, List, None}
 use Rattle.fy_acts.specs.declared.entry.Entry.{Entry}
 use Rattle.fy_audit.specs.declared.audit.TheConstants.{MOST_AUDIT_BYTES}
-use Rattle.fy_check_audit.specs.Inputs.{HasTaken}
+use Rattle.fy_check.specs.Inputs.{HasTaken}
 use Rattle.fy_picture.specs.Recording.{HasRecorded}
 use Rattle.fy_show.proofs.show.draw.Given as goal
 

@@ -1,6 +1,6 @@
 use Rattle.std.proofs.Common.{◌≡◌, ◌≢◌, ◌++◌, map}
 use Rattle.std.specs.List.{All}
-use Rattle.fy_yard.specs.declared.posts.End.TheVariants.{Failed}
+use Rattle.fy_shared.specs.declared.posts.End.TheVariants.{Failed}
 use Rattle.fy_cluster.specs.declared.fault.Fault.TheVariants.{NoMemory}
 use Rattle.fy_swarm.proofs.swarm.collect_seats.Given as goal
 

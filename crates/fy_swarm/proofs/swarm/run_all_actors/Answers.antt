@@ -1,7 +1,7 @@
 use Rattle.std.proofs.Common.{length, sym, subst}
 use Rattle.std.proofs.lemmas.Result.{IfOk-weaker}
 use Rattle.fy_cluster.specs.Setup.{Setup}
-use Rattle.fy_yard.specs.Yard.{Missing}
+use Rattle.fy_shared.specs.Yard.{Missing}
 use Rattle.fy_swarm.proofs.Swarming.{is_swarm, none_missing, no_fault}
 use Rattle.fy_swarm.proofs.swarm.run_all_actors.Goals as goal
 

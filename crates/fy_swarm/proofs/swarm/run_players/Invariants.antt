@@ -1,7 +1,7 @@
 use Rattle.std.proofs.Common.{◌≡◌, ◌+◌, ℕ, length}
 use Rattle.std.specs.Prelude.{Some}
 use Rattle.std.specs.List.{All}
-use Rattle.fy_yard.specs.Yard.{new_seats}
+use Rattle.fy_shared.specs.Yard.{new_seats}
 use Rattle.fy_swarm.proofs.Swarming.{AreBack, AreCast}
 use Rattle.fy_swarm.proofs.swarm.run_players.OwnLists.{own-1}
 use Rattle.fy_swarm.proofs.swarm.run_players.Given as goal

@@ -1,7 +1,7 @@
 use Rattle.std.proofs.Common.{◌∙◌, [], sym, subst, ap}
 use Rattle.fy_cluster.specs.Execution.{Execution}
 use Rattle.fy_cluster.specs.Versions.{LegalUnder}
-use Rattle.fy_check.specs.Replayed.{HasFirstBad}
+use Rattle.fy_replay.specs.Replayed.{HasFirstBad}
 use Rattle.fy_picture.proofs.recorder.Recorder.begin_planned.Goals as goal
 
 pub invariant_of-result : goal.invariant_of-result

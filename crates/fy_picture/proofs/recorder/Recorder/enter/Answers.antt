@@ -3,7 +3,7 @@ use Rattle.std.specs.Prelude.{is_some, IfSome}
 use Rattle.fy_acts.specs.declared.entry.Entry.{Entry}
 use Rattle.fy_cluster.specs.Execution.{Execution}
 use Rattle.fy_cluster.specs.Versions.{LegalUnder}
-use Rattle.fy_check.specs.Replayed.{HasReplayed}
+use Rattle.fy_replay.specs.Replayed.{HasReplayed}
 use Rattle.fy_picture.specs.Recorder.{recording}
 use Rattle.fy_picture.specs.Recording.{HasRecorded, Recording}
 use Rattle.fy_picture.proofs.Recorders.{bad_recorded, good_recorded, legal_next, none_of, replayed_by, replayed_next}

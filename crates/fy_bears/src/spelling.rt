@@ -1,0 +1,36 @@
+//! How what is told is spelled. The engines are generic in it, so what they write comes from what
+//! is told and from nothing else. How the two forms of `bears` spell is only tested.
+ghost use Rattle.std.specs.Prelude.{IfOk, string_bytes};
+
+use crate::told::Told;
+use fy_cluster::Config;
+use fy_tolerance::{Form, write_findings};
+use std::alloc::{AllocError, Global};
+
+/// A way to spell what is told of a cluster. `spells` says which bytes stand for it.
+pub trait Spelling {
+    ghost use Rattle.std.specs.Prelude.{ℕ, List};
+    ghost use Rattle.fy_bears.specs.declared.told.Told.{Told};
+    ghost use Rattle.fy_cluster.specs.Setup.{Setup};
+
+    ghost spells: { Self → Setup → Told → List ℕ → Type 0 };
+
+    /// A text that stands for what is told of a configuration's cluster.
+    ///
+    /// # Errors
+    ///
+    /// Want of memory.
+    fn spell(&self, alloc: Global, config: &Config, told: &Told) -> Result<String, AllocError>
+        ensures { IfOk result (λ text. spells self.now config.now told.now (string_bytes text)) };
+}
+
+impl Spelling for Form {
+    // No definition says what the two forms are.
+    ghost spells = { λ _ _ _ _. Unit };
+
+    fn spell(&self, alloc: Global, config: &Config, told: &Told) -> Result<String, AllocError> {
+        let (map, policies) = (config.map(), config.policies());
+        let before = told.before.as_ref();
+        write_findings(alloc, map, policies, before, &told.findings, *self)
+    }
+}

@@ -1,0 +1,260 @@
+//! The engine behind `faultyard check`: an audit in, a line out that confirms or refutes it.
+ghost use Rattle.std.specs.Prelude.{◌≡◌, ◌≢◌, ◌+◌, ℕ, Bool, List, Option, IfOk, IfErr, IfSome, Err, codes, is_none};
+ghost use Rattle.std.specs.Io.KnownBytes.{Appends};
+ghost use Rattle.fy_lines.specs.Prefixes.{AppendsProperPrefix};
+ghost use Rattle.fy_lines.specs.Readings.{ReadsAtMost};
+ghost use Rattle.fy_audit.specs.Audit.{AuditOf};
+ghost use Rattle.fy_audit.specs.declared.audit.TheConstants.{MOST_AUDIT_BYTES};
+ghost use Rattle.fy_cluster.specs.Setup.{Setup};
+ghost use Rattle.fy_check.specs.CheckTexts.{HasVerdict, IfFound, finding_line};
+ghost use Rattle.fy_check.specs.Checked.{IsReplayed};
+ghost use Rattle.fy_check.specs.Inputs.{IsInputStop};
+ghost use Rattle.fy_streams.specs.Stops.{numbered, audit_stop, IfAuditFault, IsCheckStop};
+
+use crate::input::AuditInput;
+use fy_audit::laws::an_audit_is_read_entry_by_entry;
+use fy_audit::{AuditFault, AuditReader, MOST_AUDIT_BYTES};
+use fy_cluster::Config;
+use fy_lines::{InputFault, OutputFault, read_limited};
+use fy_replay::Replayer;
+use fy_streams::{Stop, write_numbered};
+use std::alloc::Global;
+use std::io::{Read, Write};
+
+/// The stop for an audit that is refused.
+pub fn audit_stop(fault: AuditFault) -> Stop
+    ensures stop { result ≡ audit_stop fault }
+    ensures own { IsCheckStop result }
+    ensures no_output { result ≢ Stop.Read × result ≢ Stop.Write }
+{
+    match fault {
+        AuditFault::NoMemory => Stop::NoMemory,
+        fault => Stop::Audit { fault },
+    }
+}
+
+/// The bytes of the audit that a reader gives.
+pub fn load_audit<R: Read>(alloc: Global, reader: &mut R) -> Result<Vec<u8>, Stop>
+    ensures read { IfOk result (λ read. IfSome (R.remaining reader.old)
+        (λ bytes. read.items ≡ bytes)) }
+    ensures refused { IfErr result (λ stop. IfAuditFault stop
+        (λ fault. IfSome (R.remaining reader.old) (λ bytes. AuditOf bytes (Err fault)))) }
+    ensures no_write { IfErr result (λ stop. stop ≢ Stop.Write) }
+    ensures own { IfErr result IsCheckStop }
+    ensures read_fault { result ≡ Err Stop.Read →
+        ReadsAtMost (R.remaining reader.old) (R.remaining reader.new) MOST_AUDIT_BYTES }
+    ensures no_further { ReadsAtMost (R.remaining reader.old) (R.remaining reader.new)
+        (MOST_AUDIT_BYTES + 1) }
+{
+    match read_limited(alloc, reader, MOST_AUDIT_BYTES) {
+        Ok(bytes) => Ok(bytes),
+        Err(InputFault::TooLong) => Err(Stop::Audit {
+            fault: AuditFault::TooLong,
+        }),
+        Err(InputFault::Reader) => Err(Stop::Read),
+        Err(InputFault::NoMemory) => Err(Stop::NoMemory),
+    }
+}
+
+/// What is found of an audit.
+#[derive(Clone, Copy)]
+pub struct Finding {
+    /// How many entries it has.
+    pub count: u32,
+    /// The place of the first bad one; `None` where all are what the rules give.
+    pub first_bad: Option<u32>,
+}
+
+/// An audit whose entries were checked one after another.
+#[derive(Drop)]
+pub struct ReplayedAudit {
+    /// How many entries it has.
+    pub count: u32,
+    /// What has checked them. Where none is bad, its cluster has all of them.
+    pub replayer: Replayer,
+}
+
+impl ReplayedAudit {
+    /// What was found of the audit.
+    pub fn finding(&self) -> Finding
+        ensures count { result.count ≡ self.now.count }
+        ensures first_bad { result.first_bad ≡ self.now.replayer.first_bad }
+        ensures found { (setup : Setup) (known : Option (List ℕ)) →
+            IfSome known (λ bytes. IsReplayed setup bytes self.now) →
+            IfFound setup known result }
+    {
+        Finding {
+            count: self.count,
+            first_bad: self.replayer.first_bad(),
+        }
+    }
+}
+
+/// Reads an audit piece by piece, entry by entry, and has each checked as it is read. Behind a bad
+/// entry the rest is read for its faults.
+///
+/// # Errors
+///
+/// The stops of `run_check`, but `Write`.
+pub fn replay_audit<R: Read>(
+    alloc: Global,
+    config: &Config,
+    reader: &mut R,
+) -> Result<ReplayedAudit, Stop>
+    ensures replayed { IfOk result (λ replayed. IfSome (R.remaining reader.old)
+        (λ bytes. IsReplayed config.now bytes replayed)) }
+    ensures refused { IfErr result (λ stop. IfAuditFault stop
+        (λ fault. IfSome (R.remaining reader.old) (λ bytes. AuditOf bytes (Err fault)))) }
+    ensures own { IfErr result IsInputStop }
+    ensures read_fault { result ≡ Err Stop.Read →
+        ReadsAtMost (R.remaining reader.old) (R.remaining reader.new) MOST_AUDIT_BYTES }
+    ensures no_further { ReadsAtMost (R.remaining reader.old) (R.remaining reader.new)
+        (MOST_AUDIT_BYTES + 1) }
+{
+    let mut input = match AuditInput::begin(alloc, reader) {
+        Ok(input) => input,
+        Err(stop) => return Err(stop),
+    };
+    let Ok(config) = config.try_copy(alloc) else {
+        return Err(Stop::NoMemory);
+    };
+    let Ok(mut replayer) = Replayer::begin(alloc, config, input.version()) else {
+        return Err(Stop::NoMemory);
+    };
+    loop {
+        match input.next_entry(reader) {
+            Ok(Some(entry)) => {
+                let Ok(()) = replayer.enter(entry) else {
+                    return Err(Stop::NoMemory);
+                };
+            }
+            Ok(None) => {
+                return Ok(ReplayedAudit {
+                    count: input.place(),
+                    replayer,
+                });
+            }
+            Err(stop) => return Err(stop),
+        }
+    }
+}
+
+/// What [`replay_audit`] answers of an audit whose bytes are held, of which no reading can fail.
+///
+/// # Errors
+///
+/// The stops of `run_check`, but `Read` and `Write`.
+pub fn replay_bytes(alloc: Global, config: &Config, bytes: &[u8]) -> Result<ReplayedAudit, Stop>
+    ensures replayed { IfOk result (IsReplayed config.now bytes.now) }
+    ensures refused { IfErr result (λ stop. IfAuditFault stop
+        (λ fault. AuditOf bytes.now (Err fault))) }
+    ensures own { IfErr result IsCheckStop }
+    ensures no_output { IfErr result (λ stop. stop ≢ Stop.Read × stop ≢ Stop.Write) }
+{
+    an_audit_is_read_entry_by_entry();
+    let mut reader = match AuditReader::begin(alloc, bytes) {
+        Ok(reader) => reader,
+        Err(fault) => return Err(audit_stop(fault)),
+    };
+    let Ok(config) = config.try_copy(alloc) else {
+        return Err(Stop::NoMemory);
+    };
+    let Ok(mut replayer) = Replayer::begin(alloc, config, reader.version()) else {
+        return Err(Stop::NoMemory);
+    };
+    while !reader.is_at_end() {
+        let entry = match reader.next_entry() {
+            Ok(entry) => entry,
+            Err(fault) => return Err(audit_stop(fault)),
+        };
+        let Ok(()) = replayer.enter(entry) else {
+            return Err(Stop::NoMemory);
+        };
+    }
+    Ok(ReplayedAudit {
+        count: reader.place(),
+        replayer,
+    })
+}
+
+/// Writes the line that says whether an audit is legal: its head, and a number.
+fn say<W: Write>(legal: bool, head: &str, number: u64, writer: &mut W) -> Result<bool, Stop>
+    ensures said { IfOk result (λ done. (done ≡ legal)
+        × Appends (W.contents writer.old) (W.contents writer.new)
+        (numbered head.now number (codes "\n"))) }
+    ensures short { IfErr result (λ stop. (stop ≡ Stop.Write)
+        × AppendsProperPrefix (W.contents writer.old) (W.contents writer.new)
+        (numbered head.now number (codes "\n"))) }
+{
+    match write_numbered(writer, head, number, "\n") {
+        Ok(()) => Ok(legal),
+        Err(OutputFault) => Err(Stop::Write),
+    }
+}
+
+/// Writes the line for what was found of an audit: `legal N` where its N entries are what the rules
+/// give, else `bad entry N` with the place of the first bad one. The answer is whether it is legal.
+///
+/// # Errors
+///
+/// `Write` where the writer fails or takes no byte: a front of the line is out, and never all of it.
+pub fn write_finding<W: Write>(finding: Finding, writer: &mut W) -> Result<bool, Stop>
+    ensures told { IfOk result (λ legal. legal ≡ is_none finding.first_bad) }
+    ensures line { IfOk result (λ _. Appends (W.contents writer.old) (W.contents writer.new)
+        (finding_line finding)) }
+    ensures short { IfErr result (λ _. AppendsProperPrefix (W.contents writer.old)
+        (W.contents writer.new) (finding_line finding)) }
+    ensures out { (setup : Setup) (known : Option (List ℕ)) → IfFound setup known finding →
+        IfOk result (λ legal. HasVerdict setup known legal
+        (Appends (W.contents writer.old) (W.contents writer.new))) }
+    ensures front_out { (setup : Setup) (known : Option (List ℕ)) → IfFound setup known finding →
+        result ≡ Err Stop.Write → (legal : Bool) × HasVerdict setup known legal
+        (AppendsProperPrefix (W.contents writer.old) (W.contents writer.new)) }
+    ensures no_other { IfErr result (λ stop. stop ≡ Stop.Write) }
+{
+    match finding.first_bad {
+        None => say(true, "legal ", finding.count as u64, writer),
+        Some(at) => say(false, "bad entry ", at as u64, writer),
+    }
+}
+
+/// Reads an audit from the reader to its end, and writes one line: `legal N` where each of its N
+/// entries has the reply that the rules give under this configuration, else `bad entry N` with the
+/// place of the first that hasn't. The answer is whether it is legal.
+///
+/// The audit is read piece by piece, and all of it is read and checked before the first byte is
+/// written. A faulty line is told in place of a bad entry, and a fault of the whole, as that it is
+/// too long or that the reader fails, in place of both, wherever they stand: behind a faulty line
+/// the rest is read for that. At most one byte past the audit's limit is read.
+///
+/// # Errors
+///
+/// `Audit` for an audit that is refused, `Read` where the reader fails, `NoMemory` where memory is
+/// refused: nothing is written then. `Write` where the writer fails or takes no byte: a front of
+/// the line is out, and never all of it.
+pub fn run_check<R: Read, W: Write>(
+    alloc: Global,
+    config: &Config,
+    reader: &mut R,
+    writer: &mut W,
+) -> Result<bool, Stop>
+    ensures done { IfOk result (λ legal. HasVerdict config.now (R.remaining reader.old) legal
+        (Appends (W.contents writer.old) (W.contents writer.new))) }
+    ensures refused { IfErr result (λ stop. IfAuditFault stop
+        (λ fault. IfSome (R.remaining reader.old) (λ bytes. AuditOf bytes (Err fault)))) }
+    ensures nothing_out { IfErr result (λ stop. stop ≢ Stop.Write →
+        W.contents writer.new ≡ W.contents writer.old) }
+    ensures front_out { result ≡ Err Stop.Write → (legal : Bool)
+        × HasVerdict config.now (R.remaining reader.old) legal
+        (AppendsProperPrefix (W.contents writer.old) (W.contents writer.new)) }
+    ensures no_other { IfErr result IsCheckStop }
+    ensures read_fault { result ≡ Err Stop.Read →
+        ReadsAtMost (R.remaining reader.old) (R.remaining reader.new) MOST_AUDIT_BYTES }
+    ensures no_further { ReadsAtMost (R.remaining reader.old) (R.remaining reader.new)
+        (MOST_AUDIT_BYTES + 1) }
+{
+    match replay_audit(alloc, config, reader) {
+        Ok(audit) => write_finding(audit.finding(), writer),
+        Err(stop) => Err(stop),
+    }
+}

@@ -1,4 +1,0 @@
-pub mod Checking
-pub mod OneFinding
-mod Taking
-mod Headers

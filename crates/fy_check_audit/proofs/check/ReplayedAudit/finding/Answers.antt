@@ -1,7 +1,0 @@
-use Rattle.std.proofs.Common.{refl}
-use Rattle.fy_check_audit.proofs.Checking.{found_of_replayed}
-use Rattle.fy_check_audit.proofs.check.ReplayedAudit.finding.Goals as goal
-
-pub returns-clause-found : goal.returns-clause-found
-returns-clause-found c = λ setup known is.
-    found_of_replayed setup known c.args.self.now _ refl c.first_bad.ensures is

@@ -1,5 +1,0 @@
-use Rattle.fy_check_audit.specs.Inputs.{IsRefused}
-use Rattle.fy_check_audit.proofs.input.refuse.Goals as goal
-
-pub returns-in-Err-clause-stop : goal.returns-in-Err-clause-stop
-returns-in-Err-clause-stop g c = IsRefused.cut c.in-Err.fault c.input_stop.ensures.stop c.in-Err.ensures.cut

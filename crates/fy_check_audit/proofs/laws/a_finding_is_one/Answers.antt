@@ -1,5 +1,0 @@
-use Rattle.fy_check_audit.proofs.OneFinding.{finding_is_one}
-use Rattle.fy_check_audit.proofs.laws.a_finding_is_one.Goals as goal
-
-pub returns : goal.returns
-returns c = finding_is_one c.audits_are_unambiguous.ensures c.one_answer.ensures.same

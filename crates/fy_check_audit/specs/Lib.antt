@@ -1,4 +1,0 @@
-pub mod CheckTexts
-pub mod Checked
-pub mod Inputs
-pub mod InputFields

@@ -1,0 +1,10 @@
+pub mod FromLaws
+pub mod FromWords
+pub mod Illegal
+pub mod MetPolicy
+pub mod Played
+pub mod Stores
+pub mod Turned
+pub mod Unsafe
+pub mod Confirming
+pub mod Fitting

@@ -1,0 +1,8 @@
+use Rattle.std.proofs.Common.{refl}
+use Rattle.fy_laws.specs.Strikes.{three_and_two, two_policies}
+use Rattle.fy_laws.proofs.Played.{legal_by_acts, cluster_on_literals}
+use Rattle.fy_laws.proofs.laws.strikes.two_policies.Goals as goal
+
+pub returns-clause-legal : goal.returns-clause-legal
+unfolding cluster_on_literals
+returns-clause-legal c = legal_by_acts three_and_two two_policies refl refl

@@ -1,0 +1,14 @@
+pub mod Clusters
+pub mod Strikes
+pub mod Permission
+pub mod Records
+pub mod Messages
+pub mod Refused
+pub mod Healed
+pub mod Replaced
+pub mod Targets
+pub mod Wrong
+pub mod Judged
+pub mod Told
+pub mod Stores
+pub mod Confirmed

@@ -1,0 +1,4 @@
+pub mod Fronts
+pub mod Nexts
+pub mod Entering
+pub mod Sent

@@ -1,0 +1,26 @@
+-- what is known of the bytes of a cluster file
+use Rattle.std.proofs.Common.{◌≡◌, ℕ, List, Option, Some, None, Err, subst}
+use Rattle.std.specs.Prelude.{IfSome}
+use Rattle.fy_config.specs.Config.{ConfigOf, UnlessOom}
+use Rattle.fy_config.specs.declared.fault.ConfigFault.{ConfigFault}
+use Rattle.fy_config.specs.declared.fault.ConfigFault.TheVariants.{TooLong, Toml, Field, Limit, Name, Policy, PolicyUnmet, NoMemory}
+use Rattle.fy_streams.specs.Stops.{config_stop, IfConfigFault}
+
+-- what holds of the bytes that were read holds of those that were to come
+pub if_known : (known : Option (List ℕ)) (read : List ℕ) (P : List ℕ → Type 0) →
+    IfSome known (λ bytes. read ≡ bytes) → P read → IfSome known P
+if_known None read P same holds = tt
+if_known (Some bytes) read P same holds = subst P same holds
+
+-- a fault of the bytes is told
+pub fault_told : (known : Option (List ℕ)) (read : List ℕ) (fault : ConfigFault) →
+    IfSome known (λ bytes. read ≡ bytes) → UnlessOom (ConfigOf read) (Err fault) →
+    IfConfigFault (config_stop fault) (λ f. IfSome known (λ bytes. ConfigOf bytes (Err f)))
+fault_told known read TooLong same holds = if_known known read _ same holds
+fault_told known read Toml same holds = if_known known read _ same holds
+fault_told known read (Field part) same holds = if_known known read _ same holds
+fault_told known read (Limit part) same holds = if_known known read _ same holds
+fault_told known read (Name part index) same holds = if_known known read _ same holds
+fault_told known read (Policy index) same holds = if_known known read _ same holds
+fault_told known read (PolicyUnmet index) same holds = if_known known read _ same holds
+fault_told known read NoMemory same holds = tt

@@ -1,0 +1,12 @@
+pub mod BorneLosses
+pub mod Breaking
+pub mod Costing
+pub mod Dropping
+pub mod Lacking
+pub mod Needing
+pub mod Shapes
+pub mod Sufficing
+pub mod Taking
+pub mod Tolerating
+pub mod Values
+pub mod Witnessing

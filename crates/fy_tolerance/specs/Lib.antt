@@ -1,0 +1,9 @@
+pub mod Bears
+pub mod Costs
+pub use Rattle.fy_decide.specs.DeadBook
+pub use Rattle.fy_decide.specs.Safety
+pub use Rattle.fy_locality.specs.Locality
+pub use Rattle.fy_policy.specs.Counted
+pub use Rattle.fy_policy.specs.Sat
+pub use Rattle.fy_policy.specs.Shape
+pub use Rattle.fy_policy.specs.Tree

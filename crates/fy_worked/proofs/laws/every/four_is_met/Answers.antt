@@ -1,5 +1,0 @@
-use Rattle.fy_worked.proofs.MetPolicy.{four_is_met}
-use Rattle.fy_worked.proofs.laws.every.four_is_met.Goals as goal
-
-pub returns : goal.returns
-returns c = four_is_met

@@ -1,5 +1,0 @@
-use Rattle.fy_worked.proofs.MetPolicy.{six_is_met}
-use Rattle.fy_worked.proofs.laws.every.six_is_met.Goals as goal
-
-pub returns : goal.returns
-returns c = six_is_met

@@ -1,8 +1,0 @@
-use Rattle.std.proofs.Common.{refl}
-use Rattle.fy_worked.specs.Permission.{guarded, protected_from_the_start}
-use Rattle.fy_worked.proofs.Played.{legal_by_acts, cluster_on_literals}
-use Rattle.fy_worked.proofs.laws.permission.protected_from_the_start.Goals as goal
-
-pub returns-clause-legal : goal.returns-clause-legal
-unfolding cluster_on_literals
-returns-clause-legal c = legal_by_acts guarded protected_from_the_start refl refl

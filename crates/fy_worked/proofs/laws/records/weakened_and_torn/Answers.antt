@@ -1,9 +1,0 @@
-use Rattle.std.proofs.Common.{refl}
-use Rattle.fy_worked.specs.Clusters.{four_of_one}
-use Rattle.fy_worked.specs.Records.{weakened_and_torn}
-use Rattle.fy_worked.proofs.Played.{legal_by_acts, cluster_on_literals}
-use Rattle.fy_worked.proofs.laws.records.weakened_and_torn.Goals as goal
-
-pub returns-clause-legal : goal.returns-clause-legal
-unfolding cluster_on_literals
-returns-clause-legal c = legal_by_acts four_of_one weakened_and_torn refl refl

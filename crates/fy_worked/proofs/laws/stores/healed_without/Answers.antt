@@ -1,5 +1,0 @@
-use Rattle.fy_worked.proofs.Stores.{without}
-use Rattle.fy_worked.proofs.laws.stores.healed_without.Goals as goal
-
-pub returns : goal.returns
-returns c = without c.test_is_satisfaction.ensures

@@ -1,5 +1,0 @@
-use Rattle.fy_worked.proofs.Stores.{emptied}
-use Rattle.fy_worked.proofs.laws.stores.last_holder_emptied.Goals as goal
-
-pub returns : goal.returns
-returns c = emptied

@@ -1,9 +1,0 @@
-use Rattle.std.proofs.Common.{refl}
-use Rattle.fy_worked.specs.Clusters.{six}
-use Rattle.fy_worked.specs.Strikes.{back_and_destroyed}
-use Rattle.fy_worked.proofs.Played.{legal_by_acts, cluster_on_literals}
-use Rattle.fy_worked.proofs.laws.strikes.back_and_destroyed.Goals as goal
-
-pub returns-clause-legal : goal.returns-clause-legal
-unfolding cluster_on_literals
-returns-clause-legal c = legal_by_acts six back_and_destroyed refl refl

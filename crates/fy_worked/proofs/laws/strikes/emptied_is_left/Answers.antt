@@ -1,9 +1,0 @@
-use Rattle.std.proofs.Common.{refl}
-use Rattle.fy_worked.specs.Clusters.{four}
-use Rattle.fy_worked.specs.Strikes.{emptied_is_left}
-use Rattle.fy_worked.proofs.Played.{legal_by_acts, cluster_on_literals}
-use Rattle.fy_worked.proofs.laws.strikes.emptied_is_left.Goals as goal
-
-pub returns-clause-legal : goal.returns-clause-legal
-unfolding cluster_on_literals
-returns-clause-legal c = legal_by_acts four emptied_is_left refl refl

@@ -1,8 +1,0 @@
-use Rattle.std.proofs.Common.{refl}
-use Rattle.fy_worked.specs.Strikes.{halls, no_hall}
-use Rattle.fy_worked.proofs.Played.{legal_by_acts, cluster_on_literals}
-use Rattle.fy_worked.proofs.laws.strikes.no_hall.Goals as goal
-
-pub returns-clause-legal : goal.returns-clause-legal
-unfolding cluster_on_literals
-returns-clause-legal c = legal_by_acts halls no_hall refl refl

@@ -1,5 +1,0 @@
-use Rattle.fy_worked.proofs.Illegal.{ack_never_sent}
-use Rattle.fy_worked.proofs.laws.wrong.ack_never_sent.Goals as goal
-
-pub returns : goal.returns
-returns c = ack_never_sent

@@ -1,5 +1,0 @@
-use Rattle.fy_worked.proofs.Illegal.{copied_from_nothing}
-use Rattle.fy_worked.proofs.laws.wrong.copied_from_nothing.Goals as goal
-
-pub returns : goal.returns
-returns c = copied_from_nothing

@@ -1,5 +1,0 @@
-use Rattle.fy_worked.proofs.Illegal.{copied_while_down}
-use Rattle.fy_worked.proofs.laws.wrong.copied_while_down.Goals as goal
-
-pub returns : goal.returns
-returns c = copied_while_down

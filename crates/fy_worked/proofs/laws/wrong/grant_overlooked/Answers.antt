@@ -1,5 +1,0 @@
-use Rattle.fy_worked.proofs.Illegal.{grant_overlooked}
-use Rattle.fy_worked.proofs.laws.wrong.grant_overlooked.Goals as goal
-
-pub returns : goal.returns
-returns c = grant_overlooked

@@ -1,5 +1,0 @@
-use Rattle.fy_worked.proofs.Illegal.{number_left_out}
-use Rattle.fy_worked.proofs.laws.wrong.number_left_out.Goals as goal
-
-pub returns : goal.returns
-returns c = number_left_out

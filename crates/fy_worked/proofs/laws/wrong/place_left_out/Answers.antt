@@ -1,5 +1,0 @@
-use Rattle.fy_worked.proofs.Illegal.{place_left_out}
-use Rattle.fy_worked.proofs.laws.wrong.place_left_out.Goals as goal
-
-pub returns : goal.returns
-returns c = place_left_out

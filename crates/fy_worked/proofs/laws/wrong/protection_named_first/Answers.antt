@@ -1,5 +1,0 @@
-use Rattle.fy_worked.proofs.Illegal.{protection_named_first}
-use Rattle.fy_worked.proofs.laws.wrong.protection_named_first.Goals as goal
-
-pub returns : goal.returns
-returns c = protection_named_first

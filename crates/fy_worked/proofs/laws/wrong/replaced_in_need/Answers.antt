@@ -1,5 +1,0 @@
-use Rattle.fy_worked.proofs.Illegal.{replaced_in_need}
-use Rattle.fy_worked.proofs.laws.wrong.replaced_in_need.Goals as goal
-
-pub returns : goal.returns
-returns c = replaced_in_need

@@ -1,5 +1,0 @@
-use Rattle.fy_worked.proofs.Illegal.{replaced_short}
-use Rattle.fy_worked.proofs.laws.wrong.replaced_short.Goals as goal
-
-pub returns : goal.returns
-returns c = replaced_short

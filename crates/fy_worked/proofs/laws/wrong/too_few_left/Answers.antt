@@ -1,5 +1,0 @@
-use Rattle.fy_worked.proofs.Illegal.{too_few_left}
-use Rattle.fy_worked.proofs.laws.wrong.too_few_left.Goals as goal
-
-pub returns : goal.returns
-returns c = too_few_left

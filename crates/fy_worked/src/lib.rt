@@ -1,5 +1,0 @@
-//! Worked journals: each is written out by hand and shown legal, with its final state, or shown not
-//! to be. Laws alone, no code.
-#![tactic(auto)]
-
-pub mod laws;
