@@ -27,8 +27,8 @@ run:
 	@$(MAKE) --no-print-directory --silent $(UNPROVED)
 	@examples/tour $(UNPROVED)
 
-$(UNPROVED): $(shell find crates -name '*.rt' -not -path '*/out/*') crates.txt tests/layout tests/keep-program.c tests/build-unproved
-	@tests/build-unproved $@
+$(UNPROVED): $(shell find crates -name '*.rt' -not -path '*/out/*') crates.txt tests/tools/layout tests/tools/keep-program.c tests/tools/build-unproved
+	@tests/tools/build-unproved $@
 
 # `rt lib` proves what changed.
 ## proves the C library, and leaves it at `bin/libfaultyard.a` and `bin/libfaultyard.so`
@@ -86,11 +86,11 @@ swarm-seeds: build
 
 ## makes each allocation fail once, one run each, in short tests of each command, act and check
 refused-memory:
-	tests/refused-memory faultyard/short:: fy_tests/a_buffer_keeps fy_cluster_tests/short::,actors::played::,actors::stored::
+	tests/refused-memory/run faultyard/short:: fy_tests/a_buffer_keeps fy_cluster_tests/short::,actors::played::,actors::stored::
 
 ## tries every mutant again, and records the crates whose mutants are all refused; run it before a release
 mutants:
-	tests/mutants --all --record
+	tests/mutants/run --all --record
 
 ## runs `faultyard-nemesis` on redis, etcd, PostgreSQL, ZooKeeper and RabbitMQ, a minute guarded and a minute unguarded
 ## with two seeds each, and prints a table; then a minute each with partitions, and with power cuts on `lossy` and

@@ -12,7 +12,7 @@ cd "$(dirname "$0")/.."
 acts=${1:-100000}
 folder=$(mktemp -d)
 trap 'rm -rf "$folder"' EXIT
-tests/layout "$folder" bench/crates
+tests/tools/layout "$folder" bench/crates
 cd "$folder/crates/acts"
 rt run -- list 6 0 1 > /dev/null
 

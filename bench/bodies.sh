@@ -12,7 +12,7 @@ trap 'rm -rf "$folder"' EXIT
 trees=("$PWD" "$@")
 for k in "${!trees[@]}"; do
     mkdir -p "$folder/$k"
-    tests/layout "$folder/$k" bench/crates
+    tests/tools/layout "$folder/$k" bench/crates
     if [ "$k" != 0 ]; then
         rm -rf "$folder/$k"/crates/fy_*
         cp -a "${trees[$k]}"/crates/fy_* "$folder/$k/crates"

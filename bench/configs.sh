@@ -11,7 +11,7 @@ cd "$(dirname "$0")/.."
 rounds=${1:-10}
 folder=$(mktemp -d)
 trap 'rm -rf "$folder"' EXIT
-tests/layout "$folder" bench/crates
+tests/tools/layout "$folder" bench/crates
 six=$PWD/examples/c6.toml
 cd "$folder/crates/configs"
 rt run -- 1 < "$six" > /dev/null

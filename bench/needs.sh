@@ -10,7 +10,7 @@ cd "$(dirname "$0")/.."
 if [ $# -eq 0 ]; then set -- 100 1000 4000; fi
 folder=$(mktemp -d)
 trap 'rm -rf "$folder"' EXIT
-tests/layout "$folder" bench/crates
+tests/tools/layout "$folder" bench/crates
 cd "$folder/crates/needs"
 rt run -- 1 > /dev/null
 for records in "$@"; do

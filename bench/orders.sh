@@ -12,7 +12,7 @@ cd "$(dirname "$0")/.."
 orders=${1:-256000}
 folder=$(mktemp -d)
 trap 'rm -rf "$folder"' EXIT
-tests/layout "$folder" bench/crates
+tests/tools/layout "$folder" bench/crates
 cd "$folder/crates/orders"
 
 # The cluster of six with so many actors.

@@ -11,7 +11,7 @@ cd "$(dirname "$0")/.."
 acts=${1:-100000}
 folder=$(mktemp -d)
 trap 'rm -rf "$folder"' EXIT
-tests/layout "$folder" bench/crates
+tests/tools/layout "$folder" bench/crates
 cd "$folder/crates/turns"
 
 # A cluster of so many processes, two to a zone.

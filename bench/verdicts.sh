@@ -10,6 +10,6 @@ set -euo pipefail
 cd "$(dirname "$0")/.."
 folder=$(mktemp -d)
 trap 'rm -rf "$folder"' EXIT
-tests/layout "$folder" bench/crates
+tests/tools/layout "$folder" bench/crates
 cd "$folder/crates/verdicts"
 rt run -- "${1:-1000}" | tail -n 2

@@ -13,7 +13,7 @@ EXAMPLE = ROOT / "examples/jepsen/guarded.clj"
 
 class Jepsen(Case):
     def test_it_asks_before_each_kill_and_again_without_an_answer(self) -> None:
-        if subprocess.run([ROOT / "tests/needs", "the example for Jepsen", "clojure"]).returncode:
+        if subprocess.run([ROOT / "tests/tools/needs", "the example for Jepsen", "clojure"]).returncode:
             self.skipTest("SKIPPED the example for Jepsen: there is no clojure")
         built()
         server = self.server().start()

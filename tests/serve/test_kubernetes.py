@@ -56,7 +56,7 @@ class Kubernetes(Case):
 
     def test_the_server_starts_as_its_manifest_says(self) -> None:
         program = "import json, sys, yaml; json.dump(list(yaml.safe_load_all(sys.stdin)), sys.stdout)"
-        words = [ROOT / "tests/needs", "the manifest for Kubernetes", "python3-yaml"]
+        words = [ROOT / "tests/tools/needs", "the manifest for Kubernetes", "python3-yaml"]
         if subprocess.run(words).returncode:
             self.skipTest("SKIPPED the manifest for Kubernetes: there is no python3-yaml")
         parsed = run("/usr/bin/python3", "-c", program, input=MANIFEST.read_text())

@@ -85,7 +85,7 @@ class Client(threading.Thread):
 
 class Power(Case):
     def begun(self, *words: str) -> tuple[Disk, Server]:
-        lacks = run(ROOT / "tests/needs", "the server on a disk that forgets", *NEEDED)
+        lacks = run(ROOT / "tests/tools/needs", "the server on a disk that forgets", *NEEDED)
         if lacks.returncode == 1:
             self.skipTest(lacks.stdout.strip())
         lacks.check_returncode()

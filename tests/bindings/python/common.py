@@ -23,8 +23,8 @@ KEYS = {"processid": "p", "machineid": "m", "zoneid": "z", "data_hall": "h", "dc
 
 
 def need(what, *programs):
-    """Skips a test, or a class of tests, where the machine lacks a program; tests/needs says so."""
-    told = subprocess.run([ROOT / "tests/needs", what, *programs], capture_output=True, text=True)
+    """Skips a test, or a class of tests, where the machine lacks a program; tests/tools/needs says so."""
+    told = subprocess.run([ROOT / "tests/tools/needs", what, *programs], capture_output=True, text=True)
     if told.returncode == 1:
         raise unittest.SkipTest(told.stdout.strip())
     if told.returncode != 0:

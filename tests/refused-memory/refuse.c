@@ -1,14 +1,17 @@
-// Linked into a program of tests: before a test runs, it is run in processes of their own with its first, second, .. request
-// for memory refused, until a run meets no refusal.
+// Linked into a program of tests: before a test runs, it is run in processes of their own with its
+// first, second, .. request for memory refused, until a run meets no refusal.
 //
-// A run has to pass, or to end for want of memory of its own (an Err that says so, or words of a stage), or to stop where it
-// compares an answer and finds want of memory in its place; or the sanitizer ends it for want of its own. Any other end is told
-// on standard error, and fails the test. So does a test that passes with every request refused: what it would show needs memory.
-// A test whose name holds `takes_no_memory` fails where any of its requests counts.
-// Beyond the 2,000th request, or of slow tests the 100th or the 10th, only some are refused, each further on than the last by a
-// twentieth, or of the slowest by half; where PASSES_OVER is 0 none is passed over. Of a test that asks for MARK bytes, which it
-// never gets here, only the requests behind the first such request and before the second, behind the third and before the fourth,
-// .. are refused: those of the calls that it is about. What came of a test is written behind the file TOLD, a line each.
+// A run has to pass, or to end for want of memory of its own (an Err that says so, or words of a
+// stage), or to stop where it compares an answer and finds want of memory in its place; or the
+// sanitizer ends it for want of its own. Any other end is told on standard error, and fails the
+// test. So does a test that passes with every request refused: what it would show needs memory. A
+// test whose name holds `takes_no_memory` fails where any of its requests counts. Beyond the
+// 2,000th request, or of slow tests the 100th or the 10th, only some are refused, each further on
+// than the last by a twentieth, or of the slowest by half; where PASSES_OVER is 0 none is passed
+// over. Of a test that asks for MARK bytes, which it never gets here, only the requests behind the
+// first such request and before the second, behind the third and before the fourth, .. are refused:
+// those of the calls that it is about. What came of a test is written behind the file TOLD, a line
+// each.
 #define _GNU_SOURCE
 #include <errno.h>
 #include <fcntl.h>
@@ -41,7 +44,8 @@ static const unsigned long NONE = 0, EACH = ULONG_MAX;
 static unsigned long asked, refused;
 // Whether a request counts by the marks so far.
 static int counts;
-// What a run tells the process that started it: whether a request was refused, and whether there are marks.
+// What a run tells the process that started it: whether a request was refused, and whether there
+// are marks.
 static struct {
     int is_met, is_marked;
 } *told;
@@ -60,7 +64,9 @@ static int is_refused(size_t bytes) {
     return 1;
 }
 
-void *__interceptor_malloc(size_t bytes) { return is_refused(bytes) ? NULL : ___interceptor_malloc(bytes); }
+void *__interceptor_malloc(size_t bytes) {
+    return is_refused(bytes) ? NULL : ___interceptor_malloc(bytes);
+}
 
 void *__interceptor_realloc(void *old, size_t bytes) {
     return is_refused(bytes) ? NULL : ___interceptor_realloc(old, bytes);
@@ -68,12 +74,15 @@ void *__interceptor_realloc(void *old, size_t bytes) {
 
 // Whether a run ended for want of memory.
 static int has_stopped(int status, const char *said) {
-    // The sanitizer asks the C library where the stack of a thread lies that starts, and gives up where that has no memory.
-    if (strstr(said, "CHECK failed: sanitizer") && strstr(said, "pthread_getattr_np(pthread_self(), &attr))) == ((0))")) {
+    // The sanitizer asks the C library where the stack of a thread lies that starts, and gives up
+    // where that has no memory.
+    if (strstr(said, "CHECK failed: sanitizer") &&
+        strstr(said, "pthread_getattr_np(pthread_self(), &attr))) == ((0))")) {
         return 1;
     }
     if (WIFEXITED(status) && WEXITSTATUS(status) == 101) {
-        return strstr(said, "AllocError") || strstr(said, "AllocFailed") || strstr(said, "NoMemory");
+        return strstr(said, "AllocError") || strstr(said, "AllocFailed") ||
+               strstr(said, "NoMemory");
     }
     if (!WIFSIGNALED(status) || WTERMSIG(status) != SIGABRT) {
         return 0;
@@ -89,7 +98,8 @@ static int has_stopped(int status, const char *said) {
     return memmem(left, length, "NoMemory", 8) || memmem(left, length, "OutOfMemory", 11);
 }
 
-// Refuses a request of the process that returns 1. The other gets 0, with how that one ended and what it said.
+// Refuses a request of the process that returns 1. The other gets 0, with how that one ended and
+// what it said.
 static int run(unsigned long number, int *status, char *said) {
     int ends[2];
     told->is_met = 0;
@@ -142,7 +152,8 @@ __attribute__((constructor)) static void refuse(int count, char **words) {
         return;
     }
     double took = seconds() - begun;
-    unsigned long each = !PASSES_OVER ? ULONG_MAX : took < 0.05 ? 2000 : took < 1 ? 100 : 10, part = took < 1 ? 20 : 2;
+    unsigned long each = !PASSES_OVER ? ULONG_MAX : took < 0.05 ? 2000 : took < 1 ? 100 : 10;
+    unsigned long part = took < 1 ? 20 : 2;
     int takes_none = strstr(words[1], "takes_no_memory") != NULL;
     unsigned long number = 1, passed = 0, stopped = 0, failed = 0;
     for (;; number += number < each ? 1 : number / part) {
@@ -174,7 +185,11 @@ __attribute__((constructor)) static void refuse(int count, char **words) {
         fprintf(stderr, "%s passes with each request refused\n", words[1]);
     }
     FILE *file = fopen(TOLD, "a");
-    if (!file || fprintf(file, "%s %lu %lu %lu %lu\n", words[1], number, passed, stopped, failed) < 0 || fclose(file)) {
+    if (!file) {
+        abort();
+    }
+    int printed = fprintf(file, "%s %lu %lu %lu %lu\n", words[1], number, passed, stopped, failed);
+    if (printed < 0 || fclose(file)) {
         abort();
     }
     if (failed > 0) {

@@ -1,5 +1,6 @@
-// Linked into a program that `rt try` builds below the folder BUILT_BELOW: before it runs there, its executable is linked to
-// KEPT, since `rt try` removes it. Wherever else the executable runs, this does nothing.
+// Linked into a program that `rt try` builds below the folder BUILT_BELOW: before it runs there,
+// its executable is linked to KEPT, since `rt try` removes it. Wherever else the executable runs,
+// this does nothing.
 //
 // It is compiled by the toolchain's own compiler, for which a machine need have no header.
 extern int link(const char *from, const char *to);
