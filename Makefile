@@ -58,7 +58,7 @@ merged:
 	if command -v pkg-config > /dev/null && pkg-config --exists fuse3; then $(MAKE) --no-print-directory lossy; fi
 
 ## all that CI runs: the unit tests, every proof from nothing, all suites on the proved program and the C library, and
-## the mutants of the crates that changed
+## the mutants whose function changed, or what it names
 test:
 	tests/suites test
 
@@ -88,7 +88,7 @@ swarm-seeds: build
 refused-memory:
 	tests/refused-memory/run faultyard/short:: fy_tests/a_buffer_keeps fy_cluster_tests/short::,actors::played::,actors::stored::
 
-## tries every mutant again, and records the crates whose mutants are all refused; run it before a release
+## tries every mutant again, and records those that are refused; run it before a release
 mutants:
 	tests/mutants/run --all --record
 
