@@ -1,16 +1,18 @@
-# faultyard: proved, built and tested by the command `rt` of the Rattle toolchain. `make help` lists the targets: the lines with
-# two signs above one say what it does.
+# faultyard: proved, built and tested by the command `rt` of the Rattle toolchain. `make help` lists
+# the targets: the lines with two signs above one say what it does.
 
 PREFIX ?= /usr/local
 VERSION := $(shell release/version)
 BUILT := crates/faultyard/out/faultyard
 UNPROVED := bin/unproved/faultyard
 KIT = $(dir $(shell rt doc))
+RUSTC = rustc --edition 2024 -C opt-level=3
 
-.PHONY: help build run lib merged test quick format pages site swarm-seeds refused-memory mutants try-stores slow-stores lossy try-disks nemesis-aborts serve-many serve-speed look install installed uninstall static dist packaged try-dist bench clean
+.PHONY: $(shell sed -n 's/^\([a-z][a-z-]*\):.*/\1/p' Makefile)
 
 # `rt run` proves what changed, builds the program beside its crate and runs it once.
-## proves the program with the crates that it stands on, and leaves it at `bin/faultyard`; `make` alone does so
+## proves the program with the crates that it stands on, and leaves it at `bin/faultyard`; `make`
+## alone does so
 build:
 	cd crates/faultyard && rt run -- --help > /dev/null
 	mkdir -p bin
@@ -21,13 +23,16 @@ help:
 	@awk -f tools/help.awk Makefile
 
 # One build serves all that is shown, and what is tested without proofs.
-## builds the program without proofs, and shows `judge`, `run`, `check` and `simulate` on the examples
+## builds the program without proofs, and shows `judge`, `run`, `check` and `simulate` on the
+## examples
 run:
-	@echo "make run: builds the program without its proofs, once, as $(UNPROVED): some two minutes on four processors"
+	@echo "make run: builds the program without its proofs, once, as $(UNPROVED):" \
+		"some two minutes on four processors"
 	@$(MAKE) --no-print-directory --silent $(UNPROVED)
 	@examples/tour $(UNPROVED)
 
-$(UNPROVED): $(shell find crates -name '*.rt' -not -path '*/out/*') crates.txt tests/tools/layout tests/tools/keep-program.c tests/tools/build-unproved
+$(UNPROVED): $(shell find crates -name '*.rt' -not -path '*/out/*') crates.txt \
+		$(addprefix tests/tools/,build-unproved keep-program.c layout)
 	@tests/tools/build-unproved $@
 
 # `rt lib` proves what changed.
@@ -36,9 +41,10 @@ lib:
 	cd crates/fy_c && rt lib > /dev/null
 	$(MAKE) --no-print-directory merged
 
-# The library is the crate's one object beside those of the toolchain's archive for memory, so that a program links with one
-# file. The shared library exports what the header declares. Without a C compiler there is none, without Go no
-# faultyard-serve, and without libfuse3-dev no faultyard-lossy.
+# The library is the crate's one object beside those of the toolchain's archive for memory, so that
+# a program links with one file. The shared library exports what the header declares. Without a C
+# compiler there is none, without Go no faultyard-serve, and without libfuse3-dev no
+# faultyard-lossy.
 ## makes these two of the crate's object and the toolchain's; `make lib` and `make test` call it
 merged:
 	rm -rf bin/objects
@@ -52,13 +58,16 @@ merged:
 		ln -s libfaultyard.so.$(VERSION) bin/libfaultyard.so.1 && \
 		ln -s libfaultyard.so.$(VERSION) bin/libfaultyard.so; \
 	fi
-	if command -v $(CC) > /dev/null && command -v go > /dev/null && command -v pkg-config > /dev/null; then \
+	if command -v $(CC) > /dev/null && command -v go > /dev/null && \
+			command -v pkg-config > /dev/null; then \
 		tools/serve/build bin/libfaultyard.a bin/faultyard-serve; \
 	fi
-	if command -v pkg-config > /dev/null && pkg-config --exists fuse3; then $(MAKE) --no-print-directory lossy; fi
+	if command -v pkg-config > /dev/null && pkg-config --exists fuse3; then \
+		$(MAKE) --no-print-directory lossy; \
+	fi
 
-## all that CI runs: the unit tests, every proof from nothing, all suites on the proved program and the C library, and
-## the mutants whose function changed, or what it names
+## all that CI runs: the unit tests, every proof from nothing, all suites on the proved program and
+## the C library, and the mutants whose function changed, or what it names
 test:
 	tests/suites test
 
@@ -70,13 +79,15 @@ quick:
 format:
 	for crate in crates/*; do (cd "$$crate" && rt fmt) || exit 1; done
 
-## makes what pages say of the source: DEFINITIONS.md, CONTRACTS.md, the crates of ARCHITECTURE and their diagram, acts,
-## replies, faults and statuses of FORMATS, the calls of LIBRARY, the lines of hooks, what to do after a kill
+## makes what pages say of the source: DEFINITIONS.md, CONTRACTS.md, the crates of ARCHITECTURE and
+## their diagram, acts, replies, faults and statuses of FORMATS, the calls of LIBRARY, the lines of
+## hooks, what to do after a kill
 pages:
 	tools/pages/make
 	release/pages tables
 
-## makes a site of the pages below `site/`, with search; needs Debian's `mkdocs` and `mkdocs-material`
+## makes a site of the pages below `site/`, with search; needs Debian's `mkdocs` and
+## `mkdocs-material`
 site:
 	mkdocs build --quiet --strict
 
@@ -86,15 +97,17 @@ swarm-seeds: build
 
 ## makes each allocation fail once, one run each, in short tests of each command, act and check
 refused-memory:
-	tests/refused-memory/run faultyard/short:: fy_tests/a_buffer_keeps fy_cluster_tests/short::,actors::played::,actors::stored::
+	tests/refused-memory/run faultyard/short:: fy_tests/a_buffer_keeps \
+		fy_cluster_tests/short::,actors::played::,actors::stored::
 
 ## tries every mutant again, and records those that are refused; run it before a release
 mutants:
 	tests/mutants/run --all --record
 
-## runs `faultyard-nemesis` on redis, etcd, PostgreSQL, ZooKeeper and RabbitMQ, a minute guarded and a minute unguarded
-## with two seeds each, and prints a table; then a minute each with partitions, and with power cuts on `lossy` and
-## `ext4` in a durable setting and a lax one; takes over an hour, and has to be root
+## runs `faultyard-nemesis` on redis, etcd, PostgreSQL, ZooKeeper and RabbitMQ, a minute guarded and
+## a minute unguarded with two seeds each, and prints a table; then a minute each with partitions,
+## and with power cuts on `lossy` and `ext4` in a durable setting and a lax one; takes over an hour,
+## and has to be root
 try-stores: build
 	tests/stores/run --table bin/faultyard
 	$(MAKE) --no-print-directory lossy
@@ -104,14 +117,17 @@ try-stores: build
 slow-stores: $(UNPROVED)
 	tests/stores/run --slow $(UNPROVED)
 
-# libfuse is linked in where its archive is there, so that a release runs without it, whichever version a machine has.
+# libfuse is linked in where its archive is there, so that a release runs without it, whichever
+# version a machine has.
 ## builds the disk that forgets what isn't synced, `bin/faultyard-lossy`; needs libfuse3-dev
-lossy: FUSE = $(or $(patsubst %,% -pthread -ldl,$(wildcard $(shell pkg-config --variable=libdir fuse3)/libfuse3.a)),$(shell pkg-config --libs fuse3))
+lossy: FUSE_ARCHIVE = $(wildcard $(shell pkg-config --variable=libdir fuse3)/libfuse3.a)
+lossy: FUSE = $(or $(FUSE_ARCHIVE:%=% -pthread -ldl),$(shell pkg-config --libs fuse3))
 lossy: bin/faultyard-lossy
 
 bin/faultyard-lossy: $(wildcard tools/lossy/*.[ch])
 	mkdir -p bin
-	$(CC) -std=gnu11 -D_GNU_SOURCE -O2 -Wall -Wextra -Werror $(shell pkg-config --cflags fuse3) -o $@ tools/lossy/*.c $(FUSE)
+	$(CC) -std=gnu11 -D_GNU_SOURCE -O2 -Wall -Wextra -Werror $(shell pkg-config --cflags fuse3) \
+		-o $@ tools/lossy/*.c $(FUSE)
 
 ## tests that disk by thousands of seeds, beside ext4 and xfs, and by longer loads; needs to be root
 try-disks:
@@ -122,24 +138,27 @@ nemesis-aborts:
 	tests/nemesis/run --aborts 100 bin/faultyard Trees.test_aborted_runs_leave_nothing
 	tests/power/run --aborts 100 bin/faultyard Aborts
 
-## kills `faultyard-serve` a hundred times while a nemesis and two testers ask it over an etcd of five, and sends it a
-## hundred thousand wrong requests; takes a quarter of an hour
+## kills `faultyard-serve` a hundred times while a nemesis and two testers ask it over an etcd of
+## five, and sends it a hundred thousand wrong requests; takes a quarter of an hour
 serve-many: build lib
 	tests/serve/many bin/faultyard bin/faultyard-serve
-	tests/serve/run --kills 100 --requests 100000 bin/faultyard bin/libfaultyard.a test_serve.Crashes test_http.Wrong
+	tests/serve/run --kills 100 --requests 100000 bin/faultyard bin/libfaultyard.a \
+		test_serve.Crashes test_http.Wrong
 
-## times `faultyard-serve` beside the pipe of `guard` and a server that echoes; needs a machine with nothing else to do
+## times `faultyard-serve` beside the pipe of `guard` and a server that echoes; needs a machine with
+## nothing else to do
 serve-speed: build lib
 	cd tests/serve/echo && go build -buildvcs=false -o ../../../bin/echo .
 	tests/serve/speed bin/faultyard bin/faultyard-serve bin/echo bin
 
-## draws a picture, and takes screenshots of it and of the page of `faultyard-serve`; needs `chromium`
+## draws a picture, and takes screenshots of it and of the page of `faultyard-serve`; needs
+## `chromium`
 look: build lib
 	tests/show/look bin/faultyard
 	tests/serve/look bin/faultyard bin/faultyard-serve
 
-## PREFIX=.. puts the program, its tools, the library, man pages, completions, pages and their site below PREFIX, by the
-## list `release/layout`; PREFIX is `/usr/local` if left out
+## PREFIX=.. puts the program, its tools, the library, man pages, completions, pages and their site
+## below PREFIX, by the list `release/layout`; PREFIX is `/usr/local` if left out
 install: build lib
 	$(MAKE) --no-print-directory installed
 
@@ -152,13 +171,14 @@ uninstall:
 	release/install --remove "$(DESTDIR)" "$(PREFIX)"
 
 # `rt run` leaves the proved object beside the program.
-## proves the program, and links it statically into `bin/faultyard-static`, which runs on any Linux on x86-64; needs
-## Debian's `libc6-dev`
+## proves the program, and links it statically into `bin/faultyard-static`, which runs on any Linux
+## on x86-64; needs Debian's `libc6-dev`
 static: build
-	$(CC) -static -o bin/faultyard-static crates/faultyard/out/faultyard.o $(KIT)/c/libos_c.a $(KIT)/c/liblibc_c.a
+	$(CC) -static -o bin/faultyard-static crates/faultyard/out/faultyard.o \
+		$(KIT)/c/libos_c.a $(KIT)/c/liblibc_c.a
 
-## proves and builds all, and leaves a release in `dist/`: an archive, a Debian package, `SHA256SUMS`. Two builds of one
-## commit give the same bytes
+## proves and builds all, and leaves a release in `dist/`: an archive, a Debian package,
+## `SHA256SUMS`. Two builds of one commit give the same bytes
 dist: build lib
 	$(MAKE) --no-print-directory packaged
 
@@ -174,8 +194,10 @@ try-dist:
 # another program of this command line, `run`, `check` and `swarm` beside its own.
 ## times the program, the verdicts and the cluster (PERFORMANCE.md)
 bench: build lib
-	if command -v rustc > /dev/null; then rustc --edition 2024 -C opt-level=3 -o bin/judge_by_hand bench/judge_by_hand.rs; fi
-	if command -v rustc > /dev/null; then rustc --edition 2024 -C opt-level=3 -o bin/door bench/door.rs && bin/door; fi
+	if command -v rustc > /dev/null; then \
+		$(RUSTC) -o bin/judge_by_hand bench/judge_by_hand.rs && \
+		$(RUSTC) -o bin/door bench/door.rs && bin/door; \
+	fi
 	if [ -n "$(BESIDE)" ]; then bench/beside.py bin/faultyard $(BESIDE); fi
 	bench/judge.py bin/faultyard $$(ls bin/judge_by_hand 2> /dev/null)
 	bench/run.py bin/faultyard $(BESIDE)
