@@ -285,10 +285,8 @@ func (book *Book) repeat(asked asked, at int, stats *Stats) (Answer, error) {
 func (book *Book) write() error {
 	err := book.events.write()
 	if err == nil {
-		_, err = book.audit.Write(book.buffer)
-	}
-	if err == nil {
-		err = onDisk(book.audit)
+		// A write that a signal breaks off is made again, so it says where.
+		_, err = book.audit.WriteAt(book.buffer, book.length)
 	}
 	if err == nil {
 		return nil

@@ -34,7 +34,7 @@ type events struct {
 
 // openEvents reads the file beside an audit of so many entries, and cuts what goes beyond them.
 func openEvents(path string, count int) (*events, error) {
-	file, err := openFile(path)
+	file, err := openFile(path, 0)
 	if err != nil {
 		return nil, err
 	}

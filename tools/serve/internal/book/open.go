@@ -53,7 +53,7 @@ type Files struct {
 // A last line without its line feed was never answered, and is cut. Whatever else Files.After refuses
 // is left as it is, and the error is its Refusal.
 func Open(files Files) (*Book, error) {
-	audit, err := openFile(files.Audit)
+	audit, err := openFile(files.Audit, syscall.O_DSYNC)
 	if err != nil {
 		return nil, err
 	}
@@ -67,9 +67,10 @@ func Open(files Files) (*Book, error) {
 	return book, nil
 }
 
-// openFile opens a file that nobody else has, or makes it.
-func openFile(path string) (*os.File, error) {
-	file, err := os.OpenFile(path, os.O_RDWR|os.O_CREATE, 0o644)
+// openFile opens a file that nobody else has, or makes it. With syscall.O_DSYNC each write returns once
+// it is on the disk, as after fdatasync.
+func openFile(path string, how int) (*os.File, error) {
+	file, err := os.OpenFile(path, os.O_RDWR|os.O_CREATE|how, 0o644)
 	if err != nil {
 		return nil, err
 	}

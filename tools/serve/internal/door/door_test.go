@@ -716,6 +716,62 @@ func hears(test *testing.T, lines []string, acts int) {
 	}
 }
 
+// TestOneIsAloneAndThenBesideOthers has others come to a client that stays, and go again. Whatever the
+// client said alone is answered once.
+func TestOneIsAloneAndThenBesideOthers(test *testing.T) {
+	web := begin(test, 10_000)
+	path := filepath.Join(test.TempDir(), "socket")
+	listener, err := ListenSocket(path)
+	if err != nil {
+		test.Fatal(err)
+	}
+	defer listener.Close()
+	go func() { _ = web.Lines.Serve(listener) }()
+	come := func() (net.Conn, *bufio.Reader) {
+		connection, err := net.Dial("unix", path)
+		if err != nil {
+			test.Fatal(err)
+		}
+		_ = connection.SetDeadline(time.Now().Add(time.Minute))
+		reader := bufio.NewReader(connection)
+		_, _ = reader.ReadString('\n')
+		return connection, reader
+	}
+	at := 0
+	hears := func(reader *bufio.Reader) {
+		test.Helper()
+		line, err := reader.ReadString('\n')
+		wanted := fmt.Sprintf(`{"act":{"up":{"process":0}},"at":%d,"by":1,"reply":"done"}`, at)
+		if err != nil || line != wanted+"\n" {
+			test.Fatalf("entry %d is %q: %v", at, line, err)
+		}
+		at++
+	}
+	one, its := come()
+	defer one.Close()
+	for round := 0; round < 40; round++ {
+		for number := 0; number < round; number++ {
+			_, _ = io.WriteString(one, up+"\n")
+			hears(its)
+		}
+		_, _ = io.WriteString(one, up[:round%len(up)])
+		other, others := come()
+		_, _ = io.WriteString(other, up+"\n")
+		hears(others)
+		_, _ = io.WriteString(one, up[round%len(up):]+"\n")
+		hears(its)
+		if round%2 > 0 {
+			_, _ = io.WriteString(other, up)
+			_ = other.(*net.UnixConn).CloseWrite()
+			hears(others)
+			rest, err := io.ReadAll(others)
+			same(test, "behind the last answer", fmt.Sprintf("%q %v", rest, err), `"" <nil>`)
+		}
+		_ = other.Close()
+	}
+	same(test, "the entries", web.Book.Stats().Entries, at)
+}
+
 func TestASocketIsItsOwnersAndTakesTheRoomOfADeadOne(test *testing.T) {
 	path := filepath.Join(test.TempDir(), "socket")
 	listener, err := ListenSocket(path)

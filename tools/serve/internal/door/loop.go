@@ -3,6 +3,7 @@ package door
 import (
 	"bytes"
 	"errors"
+	"fmt"
 	"net"
 	"sync"
 	"syscall"
@@ -26,6 +27,11 @@ const (
 	pollIn       = 1 // POLLIN of poll(2)
 	// mostEvents is how many clients one look at epoll tells of.
 	mostEvents = 128
+	// atOnce are the flags of who doesn't wait.
+	atOnce = syscall.MSG_DONTWAIT | syscall.MSG_NOSIGNAL
+	// aloneFor is how long the loop waits for a client who is alone, in microseconds. The system
+	// makes a few milliseconds of it.
+	aloneFor = 1000
 )
 
 // tooLong is a line that the guard finds too long. It stands for one that isn't held.
@@ -47,6 +53,7 @@ type loop struct {
 	party        *book.Party
 	// looked and served are lists that are used again.
 	looked, served []*client
+	waste          [firstInput]byte // for what is received a second time
 }
 
 // client is one who is connected.
@@ -63,6 +70,8 @@ type client struct {
 	isReady    bool // it is in the batch that is gathered
 	isFull     bool // it has to read before more is done for it
 	failed     error
+	canBeHeard bool
+	held       int // how many bytes of its input still stand at the socket, until it is answered
 }
 
 // newLoop is a loop without clients.
@@ -85,19 +94,19 @@ func (its *loop) add(connection net.Conn) error {
 	client := &client{descriptor: descriptor, number: 1, turn: book.NewTurn()}
 	client.input = make([]byte, 0, firstInput)
 	client.output = append(client.output, book.Header...)
-	if err := client.send(); err != nil {
+	client.canBeHeard = canBeHeard(descriptor)
+	if err = client.send(); err == nil {
+		event := syscall.EpollEvent{Events: syscall.EPOLLIN, Fd: int32(descriptor)}
+		err = syscall.EpollCtl(its.poll, syscall.EPOLL_CTL_ADD, descriptor, &event)
+	}
+	if err != nil {
 		_ = syscall.Close(descriptor)
 		return err
 	}
 	its.lock.Lock()
 	its.clients[descriptor] = client
 	its.lock.Unlock()
-	event := syscall.EpollEvent{Events: syscall.EPOLLIN, Fd: int32(descriptor)}
-	err = syscall.EpollCtl(its.poll, syscall.EPOLL_CTL_ADD, descriptor, &event)
-	if err != nil {
-		its.forget(client)
-	}
-	return err
+	return nil
 }
 
 // taken is the descriptor of a connection, out of the runtime's hands.
@@ -119,6 +128,13 @@ func taken(connection net.Conn) (descriptor int, err error) {
 	return int(copied), err
 }
 
+// canBeHeard makes a descriptor one that hear may wait at, where the system can.
+func canBeHeard(descriptor int) bool {
+	limit := syscall.Timeval{Usec: aloneFor}
+	err := syscall.SetsockoptTimeval(descriptor, syscall.SOL_SOCKET, syscall.SO_RCVTIMEO, &limit)
+	return err == nil && syscall.SetNonblock(descriptor, false) == nil
+}
+
 // run serves until epoll fails, which it never does.
 func (its *loop) run() error {
 	for {
@@ -126,11 +142,62 @@ func (its *loop) run() error {
 		if len(its.again) > 0 {
 			patience = 0
 		}
-		if err := its.collect(patience); err != nil {
-			return err
+		if patience == 0 || !its.hear() {
+			if err := its.collect(patience); err != nil {
+				return err
+			}
 		}
 		its.gather()
 		its.serve()
+	}
+}
+
+// hear waits a moment for a client who is alone, in the call that receives, and says whether it spoke:
+// that is a call less than by epoll. Others who come meanwhile are served behind that moment.
+//
+// The call only peeks. A client that waits in a read is woken when what it sent is taken off the
+// socket, and would sleep again before its answer wakes it. So that is done behind the answer.
+func (its *loop) hear() bool {
+	client := its.alone()
+	if client == nil || client.isFull || !client.canBeHeard {
+		return false
+	}
+	client.held = client.fill(syscall.MSG_PEEK)
+	if client.held == 0 && !client.ends && client.failed == nil {
+		return false
+	}
+	its.look(client)
+	if !client.isReady {
+		its.takeOff(client)
+	}
+	return true
+}
+
+// alone is the client where nobody else is connected.
+func (its *loop) alone() *client {
+	its.lock.Lock()
+	defer its.lock.Unlock()
+	if len(its.clients) == 1 {
+		for _, client := range its.clients {
+			return client
+		}
+	}
+	return nil
+}
+
+// takeOff takes off a client's socket what was heard there.
+func (its *loop) takeOff(client *client) {
+	for client.held > 0 {
+		part := its.waste[:]
+		if client.held < len(part) {
+			part = part[:client.held]
+		}
+		taken, err := moved(syscall.SYS_RECVFROM, client.descriptor, part, atOnce)
+		if taken == 0 { // It stands there, so this never is.
+			client.failed = fmt.Errorf("what was heard is gone: %w", err)
+			taken = client.held
+		}
+		client.held -= taken
 	}
 }
 
@@ -154,7 +221,7 @@ func (its *loop) collect(milliseconds int) error {
 		case client.isFull:
 			its.finish(client)
 		default:
-			client.fill()
+			client.fill(atOnce)
 			its.look(client)
 		}
 	}
@@ -254,6 +321,7 @@ func (its *loop) answer(client *client) {
 // finish sends what there is to send, and sees to it that the client is looked at again.
 func (its *loop) finish(client *client) {
 	err := client.send()
+	its.takeOff(client)
 	if isFull := len(client.output) > 0; err == nil && isFull != client.isFull {
 		client.isFull = isFull
 		event := syscall.EpollEvent{Events: syscall.EPOLLIN, Fd: int32(client.descriptor)}
@@ -288,15 +356,21 @@ func (its *loop) forget(client *client) {
 	_ = syscall.Close(client.descriptor)
 }
 
-// moved receives into a part of memory or sends it, as far as that goes at once. The thread never
-// waits there, so the scheduler isn't told of the call: that takes as long as a short call itself.
-func moved(call uintptr, descriptor int, part []byte) (int, error) {
+// moved receives into a part of memory or sends it, as the flags say. Where the thread never waits the
+// scheduler isn't told of the call: that takes as long as a short call itself.
+func moved(call uintptr, descriptor int, part []byte, flags uintptr) (int, error) {
 	if len(part) == 0 {
 		return 0, nil
 	}
-	count, _, number := syscall.RawSyscall6(
-		call, uintptr(descriptor), uintptr(unsafe.Pointer(&part[0])), uintptr(len(part)),
-		syscall.MSG_DONTWAIT|syscall.MSG_NOSIGNAL, 0, 0)
+	var count uintptr
+	var number syscall.Errno
+	if flags&syscall.MSG_DONTWAIT != 0 {
+		count, _, number = syscall.RawSyscall6(call, uintptr(descriptor),
+			uintptr(unsafe.Pointer(&part[0])), uintptr(len(part)), flags, 0, 0)
+	} else {
+		count, _, number = syscall.Syscall6(call, uintptr(descriptor),
+			uintptr(unsafe.Pointer(&part[0])), uintptr(len(part)), flags, 0, 0)
+	}
 	switch number {
 	case 0:
 		return int(count), nil
@@ -314,7 +388,7 @@ func (its *client) send() error {
 	if len(its.output) == 0 {
 		return nil
 	}
-	sent, err := moved(syscall.SYS_SENDTO, its.descriptor, its.output)
+	sent, err := moved(syscall.SYS_SENDTO, its.descriptor, its.output, atOnce)
 	if err == errLater {
 		return nil
 	}
@@ -322,8 +396,8 @@ func (its *client) send() error {
 	return err
 }
 
-// fill reads what is there.
-func (its *client) fill() {
+// fill reads what is there, and answers how much.
+func (its *client) fill(flags uintptr) int {
 	if its.from > 0 {
 		its.input = its.input[:copy(its.input, its.input[its.from:])]
 		its.from = 0
@@ -336,7 +410,7 @@ func (its *client) fill() {
 		its.input = append(make([]byte, 0, more), its.input...)
 	}
 	room := its.input[len(its.input):cap(its.input)]
-	read, err := moved(syscall.SYS_RECVFROM, its.descriptor, room)
+	read, err := moved(syscall.SYS_RECVFROM, its.descriptor, room, flags)
 	switch {
 	case err == errLater:
 	case err != nil:
@@ -346,6 +420,7 @@ func (its *client) fill() {
 	default:
 		its.input = its.input[:len(its.input)+read]
 	}
+	return read
 }
 
 // take takes lines of the input into the turn. It says whether there is any. A line that asks for
