@@ -34,7 +34,7 @@ class Part:
 
 def blocks_of(lines, indent):
     """The items of so deep an indentation: each with its attributes and all lines up to its end."""
-    block, of = [], None
+    block = []
     for line in lines:
         if not line.strip():
             continue
@@ -232,9 +232,14 @@ def digest(crate, below, edit_text, functions):
     return summed([*texts, *sorted(its.of(WORD.findall("\n".join(texts))))])
 
 
-def whole_digest(crate, below, edit_text):
-    """The digest of what a mutant's refusal depends on where another function than its own has the goal: all of its crate."""
-    its = reach(crate, tuple(below))
-    texts = [edit_text, *tactics_of(crate), *(f"{it.text}\n{it.body}" for it in its.own)]
+@cache
+def whole(crate, below):
+    """The digest of all of a crate, and of all that those below it say to it."""
+    texts = [*tactics_of(crate), *(f"{it.text}\n{it.body}" for it in parts_of(crate, "own"))]
     texts += [text for function in sorted(answers_of(crate)) for text in answers_of(crate)[function]]
-    return summed([*texts, *sorted(its.of(WORD.findall("\n".join(texts))))])
+    return summed([*texts, *(it.text for low in below for it in parts_of(low, "above"))])
+
+
+def whole_digest(crate, below, edit_text):
+    """The digest of what a mutant's refusal depends on where another function than its own has the goal."""
+    return summed([edit_text, whole(crate, tuple(below))])
