@@ -75,9 +75,10 @@ test:
 quick:
 	tests/suites quick
 
-## formats all crates
+## formats all crates, and the scripts in Python
 format:
 	for crate in crates/*; do (cd "$$crate" && rt fmt) || exit 1; done
+	tests/scripts/run format
 
 ## makes what pages say of the source: DEFINITIONS.md, CONTRACTS.md, the crates of ARCHITECTURE and
 ## their diagram, acts, replies, faults and statuses of FORMATS, the calls of LIBRARY, the lines of

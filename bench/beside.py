@@ -4,12 +4,13 @@
     bench/beside.py PROGRAM OTHER [--rounds N] [--acts N..]
 
 The inputs are those that OTHER makes: `OTHER bench-gen judge PROCESSES SEED` an input of `judge`,
-`OTHER bench-gen cluster PROCESSES SEED` a cluster file, and `OTHER bench-gen script ACTS SEED CONFIG`
-a script for it; 20,000 acts, 100,000, 350,000 and 1,000,000 if left out. A script that is too long
-for `run` is given to `guard` of PROGRAM for its audit, and `run` has no row for it. `check` is given
-the audit of the script. Both programs have to write the same bytes. They take turns, and a time is
-the best of N runs (20 if left out) of the whole program. Up to 100,000 acts, instructions are counted
-by valgrind's callgrind where there is one: no other program on the machine changes them.
+`OTHER bench-gen cluster PROCESSES SEED` a cluster file, and `OTHER bench-gen script ACTS SEED
+CONFIG` a script for it; 20,000 acts, 100,000, 350,000 and 1,000,000 if left out. A script that is
+too long for `run` is given to `guard` of PROGRAM for its audit, and `run` has no row for it.
+`check` is given the audit of the script. Both programs have to write the same bytes. They take
+turns, and a time is the best of N runs (20 if left out) of the whole program. Up to 100,000 acts,
+instructions are counted by valgrind's callgrind where there is one: no other program on the machine
+changes them.
 """
 import argparse
 import os
@@ -40,19 +41,24 @@ def instructions(program, words, given, folder):
     counts = os.path.join(folder, "counts")
     command = ["valgrind", "--tool=callgrind", f"--callgrind-out-file={counts}", program, *words]
     with open(given, "rb") as stdin:
-        ran = subprocess.run(command, stdin=stdin, stdout=subprocess.DEVNULL, stderr=subprocess.PIPE, check=True)
+        ran = subprocess.run(
+            command, stdin=stdin, stdout=subprocess.DEVNULL, stderr=subprocess.PIPE, check=True
+        )
     return int(re.search(rb"Collected : (\d+)", ran.stderr).group(1))
 
 
 def made(other, words, path):
     """A file with what the other program makes."""
     with open(path, "wb") as out:
-        subprocess.run([other, "bench-gen", *words], stdout=out, stderr=subprocess.DEVNULL, check=True)
+        subprocess.run(
+            [other, "bench-gen", *words], stdout=out, stderr=subprocess.DEVNULL, check=True
+        )
     return path
 
 
 def row(name, programs, words, given, rounds, counted_in):
-    """A row of a command's table. Instructions are counted where there is a folder for the counts."""
+    """A row of a command's table. Instructions are counted where there is a folder for the
+    counts."""
     best, told = [None, None], [None, None]
     for _ in range(rounds):
         for it, program in enumerate(programs):
@@ -68,7 +74,9 @@ def row(name, programs, words, given, rounds, counted_in):
 
 
 def main():
-    words = argparse.ArgumentParser(description=__doc__, formatter_class=argparse.RawDescriptionHelpFormatter)
+    words = argparse.ArgumentParser(
+        description=__doc__, formatter_class=argparse.RawDescriptionHelpFormatter
+    )
     words.add_argument("--rounds", type=int, default=20)
     words.add_argument("--acts", type=int, nargs="+", default=ACTS)
     words.add_argument("program")
@@ -84,7 +92,9 @@ def main():
             words = [command, *config]
             tables[command].append(row(name, programs, words, given, asked.rounds, counted_in))
 
-        at = lambda name: os.path.join(folder, name)
+        def at(name):
+            return os.path.join(folder, name)
+
         for processes in SIZES:
             asks = made(programs[1], ["judge", str(processes), "1"], at("asks"))
             add("judge", None, processes, asks)
@@ -101,7 +111,9 @@ def main():
                 add("check", acts, processes, at("audit"), config)
     for command, rows in tables.items():
         print(f"\n`{command}`:\n")
-        print("| Acts and processes | `faultyard` | beside | times | million instructions | beside | times |")
+        print(
+            "| Acts and processes | `faultyard` | beside | times | million instructions | beside | times |"
+        )
         print("|---|---|---|---|---|---|---|")
         print("\n".join(rows))
 

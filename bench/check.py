@@ -71,20 +71,28 @@ def compare(words, width, name, cluster, audit, entries):
         seconds, status, said = min(runs)
         if status != 0 or said != f"legal {entries}\n".encode():
             sys.exit(f"{program}, {name}: status {status}, said {said}")
-        print(f"{program:<{width}} {name:<10} {entries:>8} {size:>10} {seconds:>8.4f} {entries / seconds:>10.0f} {memory:>9}")
+        print(
+            f"{program:<{width}} {name:<10} {entries:>8} {size:>10} {seconds:>8.4f} {entries / seconds:>10.0f} {memory:>9}"
+        )
 
 
 def main():
-    words = argparse.ArgumentParser(usage="bench/check.py [--rounds N] [--acts N] [--largest] PROGRAM..")
+    words = argparse.ArgumentParser(
+        usage="bench/check.py [--rounds N] [--acts N] [--largest] PROGRAM.."
+    )
     words.add_argument("--rounds", type=int, default=10)
     words.add_argument("--acts", type=int, default=100000)
     words.add_argument("--largest", action="store_true")
     words.add_argument("programs", nargs="+")
     words = words.parse_args()
     width = max(len(program) for program in words.programs)
-    print(f"{'program':<{width}} {'audit':<10} {'entries':>8} {'bytes':>10} {'seconds':>8} {'entries/s':>10} {'peak KiB':>9}")
+    print(
+        f"{'program':<{width}} {'audit':<10} {'entries':>8} {'bytes':>10} {'seconds':>8} {'entries/s':>10} {'peak KiB':>9}"
+    )
     with tempfile.TemporaryDirectory() as folder:
-        cluster, script, audit = (f"{folder}/{name}" for name in ("cluster.toml", "script.jsonl", "audit.jsonl"))
+        cluster, script, audit = (
+            f"{folder}/{name}" for name in ("cluster.toml", "script.jsonl", "audit.jsonl")
+        )
         if words.largest:
             entries, _ = largest(cluster, audit)
             compare(words, width, "largest", cluster, audit, entries)
@@ -95,7 +103,9 @@ def main():
             with open(script, "w") as file:
                 file.writelines(plain(by, act) for by, act in acts(count, words.acts))
             with open(script, "rb") as given, open(audit, "wb") as written:
-                subprocess.run([words.programs[0], "run", cluster], stdin=given, stdout=written, check=True)
+                subprocess.run(
+                    [words.programs[0], "run", cluster], stdin=given, stdout=written, check=True
+                )
             compare(words, width, str(count), cluster, audit, words.acts)
 
 

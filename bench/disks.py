@@ -1,11 +1,13 @@
 #!/usr/bin/env python3
-"""Times stores on a disk of faultyard-lossy beside the same on ext4: what a power cut costs while there is none.
+"""Times stores on a disk of faultyard-lossy beside the same on ext4: what a power cut costs while
+there is none.
 
     bench/disks.py [--seconds N] [--rounds N] [--only NAME] LOSSY
 
-LOSSY is bin/faultyard-lossy. ext4 is an image on a loop device, as the nemesis mounts it. PostgreSQL (pgbench -N), etcd (puts by
-HTTP) and redis (redis-benchmark, appendfsync always) run on each for some seconds (5), with one client and with several, in turn,
-for some rounds (5). A row has the medians of operations a second, the least and the most, and their ratio. It needs to be root.
+LOSSY is bin/faultyard-lossy. ext4 is an image on a loop device, as the nemesis mounts it.
+PostgreSQL (pgbench -N), etcd (puts by HTTP) and redis (redis-benchmark, appendfsync always) run on
+each for some seconds (5), with one client and with several, in turn, for some rounds (5). A row has
+the medians of operations a second, the least and the most, and their ratio. It needs to be root.
 """
 import argparse
 import base64
@@ -35,7 +37,9 @@ SETTINGS = "-c listen_addresses=127.0.0.1 -c unix_socket_directories= -c max_con
 def said(*words: object) -> str:
     done = subprocess.run([str(it) for it in words], capture_output=True, text=True)
     if done.returncode:
-        sys.exit(f"bench/disks.py: {words} ended with {done.returncode}: {done.stdout}{done.stderr}")
+        sys.exit(
+            f"bench/disks.py: {words} ended with {done.returncode}: {done.stdout}{done.stderr}"
+        )
     return done.stdout
 
 
@@ -68,7 +72,9 @@ def free_port() -> int:
 @contextmanager
 def serving(words: list[object], port: int) -> Iterator[None]:
     """A server, once it answers at its port, until the block ends."""
-    server = subprocess.Popen([str(it) for it in words], stdout=subprocess.DEVNULL, stderr=subprocess.DEVNULL)
+    server = subprocess.Popen(
+        [str(it) for it in words], stdout=subprocess.DEVNULL, stderr=subprocess.DEVNULL
+    )
     try:
         for _ in range(600):
             try:
@@ -89,7 +95,9 @@ Rates = dict[str, float]
 def postgres(top: Path, seconds: int) -> Rates:
     data, port = top / "data", free_port()
     said(*AS_USER, f"{POSTGRES}/initdb", "-D", data, "-A", "trust", "-U", "postgres")
-    with serving([*AS_USER, f"{POSTGRES}/postgres", "-D", data, "-p", port, *SETTINGS.split()], port):
+    with serving(
+        [*AS_USER, f"{POSTGRES}/postgres", "-D", data, "-p", port, *SETTINGS.split()], port
+    ):
         at = ["-h", "127.0.0.1", "-p", port, "-U", "postgres"]
         said("pgbench", "-i", "-q", "-s", 10, *at, "postgres")
         rates = {}
@@ -103,7 +111,11 @@ def postgres(top: Path, seconds: int) -> Rates:
 
 def put(port: int, seconds: float, counts: "multiprocessing.Queue[int]") -> None:
     """Puts one key after the other."""
-    client, count, until = http.client.HTTPConnection("127.0.0.1", port), 0, time.monotonic() + seconds
+    client, count, until = (
+        http.client.HTTPConnection("127.0.0.1", port),
+        0,
+        time.monotonic() + seconds,
+    )
     value = base64.b64encode(b"v" * 100).decode()
     while time.monotonic() < until:
         key = base64.b64encode(f"{os.getpid()}-{count}".encode()).decode()
@@ -118,13 +130,23 @@ def put(port: int, seconds: float, counts: "multiprocessing.Queue[int]") -> None
 def etcd(top: Path, seconds: int) -> Rates:
     port, peer = free_port(), free_port()
     client, other = f"http://127.0.0.1:{port}", f"http://127.0.0.1:{peer}"
-    urls = ["--listen-client-urls", client, "--advertise-client-urls", client, "--listen-peer-urls", other]
+    urls = [
+        "--listen-client-urls",
+        client,
+        "--advertise-client-urls",
+        client,
+        "--listen-peer-urls",
+        other,
+    ]
     urls += ["--initial-advertise-peer-urls", other, "--initial-cluster", f"default={other}"]
     with serving(["etcd", "--data-dir", top / "data", *urls], port):
         rates = {}
         for clients in (1, 16):
             counts: multiprocessing.Queue[int] = multiprocessing.Queue()
-            work = [multiprocessing.Process(target=put, args=(port, seconds, counts)) for _ in range(clients)]
+            work = [
+                multiprocessing.Process(target=put, args=(port, seconds, counts))
+                for _ in range(clients)
+            ]
             for it in work:
                 it.start()
             total = sum(counts.get() for _ in work)
@@ -139,18 +161,40 @@ def redis(top: Path, seconds: int) -> Rates:
     rest = f"--port {port} --bind 127.0.0.1 --appendonly yes --appendfsync always --auto-aof-rewrite-percentage 0"
     with serving(["redis-server", "--save", "", "--dir", top, *rest.split()], port):
         for clients in (1, 16):
-            words = ["redis-benchmark", "-p", str(port), "-q", "-t", "set", "-c", clients, "-d", 100, "-r", 100000, "-n"]
+            words = [
+                "redis-benchmark",
+                "-p",
+                str(port),
+                "-q",
+                "-t",
+                "set",
+                "-c",
+                clients,
+                "-d",
+                100,
+                "-r",
+                100000,
+                "-n",
+            ]
             first = float(re.findall(r"([\d.]+) requests per second", said(*words, 2000))[-1])
-            found = re.findall(r"([\d.]+) requests per second", said(*words, max(2000, int(first * seconds))))
+            found = re.findall(
+                r"([\d.]+) requests per second", said(*words, max(2000, int(first * seconds)))
+            )
             rates[f"redis sets, {clients} clients"] = float(found[-1])
     return rates
 
 
-STORES: dict[str, Callable[[Path, int], Rates]] = {"postgres": postgres, "etcd": etcd, "redis": redis}
+STORES: dict[str, Callable[[Path, int], Rates]] = {
+    "postgres": postgres,
+    "etcd": etcd,
+    "redis": redis,
+}
 
 
 def main() -> None:
-    parser = argparse.ArgumentParser(usage="bench/disks.py [--seconds N] [--rounds N] [--only NAME] LOSSY")
+    parser = argparse.ArgumentParser(
+        usage="bench/disks.py [--seconds N] [--rounds N] [--only NAME] LOSSY"
+    )
     parser.add_argument("--seconds", type=int, default=5)
     parser.add_argument("--rounds", type=int, default=5)
     parser.add_argument("--only", choices=STORES)
@@ -170,7 +214,10 @@ def main() -> None:
     print("| | ext4 | lossy | ratio |\n|---|---|---|---|")
     for what, rates in found.items():
         medians = {kind: statistics.median(those) for kind, those in rates.items()}
-        told = [f"{medians[kind]:,.0f} ({min(those):,.0f} to {max(those):,.0f})" for kind, those in rates.items()]
+        told = [
+            f"{medians[kind]:,.0f} ({min(those):,.0f} to {max(those):,.0f})"
+            for kind, those in rates.items()
+        ]
         print(f"| {what} | {told[0]} | {told[1]} | {medians['lossy'] / medians['ext4']:.2f} |")
 
 

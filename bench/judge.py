@@ -1,6 +1,7 @@
 #!/usr/bin/env python3
-"""Times `judge` of one or more programs on generated inputs of 6, 100 and 1000 processes under eight policies,
-whose counts are small or, as large clusters have them, in proportion to the processes.
+"""Times `judge` of one or more programs on generated inputs of 6, 100 and 1000 processes under
+eight policies, whose counts are small or, as large clusters have them, in proportion to the
+processes.
 
     bench/judge.py [--rounds N] PROGRAM..
 
@@ -53,8 +54,10 @@ def zone_count(count):
 
 
 def cluster(count):
-    """The lines of `count` processes: neighbours share a zone, of which there are at least three, and
-    the first half stands in another hall and data centre than the second, so each holds two zones."""
+    """The lines of `count` processes: neighbours share a zone, of which there are at least three,
+    and the first half stands in another hall and data centre than the second, so each holds two
+    zones.
+    """
     zones = zone_count(count)
     lines = []
     for place in range(count):
@@ -91,8 +94,9 @@ def timed(program, path):
 
 
 def peak(program, path):
-    """The peak memory of one run in KiB, as the system tells it last before the end. (What it tells a
-    parent afterwards counts the parent's own memory before the program was started in its place.)"""
+    """The peak memory of one run in KiB, as the system tells it last before the end. (What it tells
+    a parent afterwards counts the parent's own memory before the program was started in its place.)
+    """
     most = 0
     with open(path, "rb") as given:
         child = subprocess.Popen([program, "judge"], stdin=given, stdout=subprocess.DEVNULL)
@@ -112,7 +116,9 @@ def main():
     words.add_argument("programs", nargs="+")
     words = words.parse_args()
     width = max(len(program) for program in words.programs)
-    print(f"{'program':<{width}} {'counts':>7} {'processes':>9} {'asks':>7} {'yes':>5} {'gone':>6} {'seconds':>8} {'asks/s':>9} {'peak KiB':>9}")
+    print(
+        f"{'program':<{width}} {'counts':>7} {'processes':>9} {'asks':>7} {'yes':>5} {'gone':>6} {'seconds':>8} {'asks/s':>9} {'peak KiB':>9}"
+    )
     for counts, policies_of in (("small", lambda _: POLICIES), ("large", proportional)):
         for count in (6, 100, 1000):
             compare(words, width, counts, count, *judge_input(count, policies_of(count)))
@@ -130,9 +136,13 @@ def compare(words, width, counts, count, data, asks):
         seconds, status, written = min(runs)
         answers = written.split(b"\n")[:-1]
         if status != 0 or len(answers) != asks or written != rounds[0][0][2]:
-            sys.exit(f"{program}, {count} processes: status {status}, {len(answers)} answers to {asks} asks, or other ones than {words.programs[0]}")
+            sys.exit(
+                f"{program}, {count} processes: status {status}, {len(answers)} answers to {asks} asks, or other ones than {words.programs[0]}"
+            )
         yes, gone = answers.count(b"yes"), answers.count(b"gone")
-        print(f"{program:<{width}} {counts:>7} {count:>9} {asks:>7} {yes:>5} {gone:>6} {seconds:>8.4f} {asks / seconds:>9.0f} {memory:>9}")
+        print(
+            f"{program:<{width}} {counts:>7} {count:>9} {asks:>7} {yes:>5} {gone:>6} {seconds:>8.4f} {asks / seconds:>9.0f} {memory:>9}"
+        )
 
 
 main()

@@ -43,12 +43,17 @@ def config(count):
 
 
 def acts(count, most):
-    """Mixed acts: stores, syncs and deliveries of the oldest messages, restarts, clogs, kills of one
-    process and rights. Whether an act is accepted is no matter of the script's."""
+    """Mixed acts: stores, syncs and deliveries of the oldest messages, restarts, clogs, kills of
+    one process and rights. Whether an act is accepted is no matter of the script's."""
     chosen = random.Random(count)
-    some = lambda: chosen.randrange(count)
-    target = lambda: {"key": "processid", "value": f"p{some()}"}
     made, sent = [], 0
+
+    def some():
+        return chosen.randrange(count)
+
+    def target():
+        return {"key": "processid", "value": f"p{some()}"}
+
     for place in range(most):
         if place % 500 == 0:
             members = sorted(chosen.sample(range(count), min(3, count)))
@@ -58,7 +63,9 @@ def acts(count, most):
         if of < 3:
             bytes_of = "%x" % chosen.getrandbits(63) if place % 2 else "6869"
             payload = bytes_of if len(bytes_of) % 2 == 0 else "0" + bytes_of
-            made.append((0, {"begin": {"team": chosen.randrange(place // 500 + 1), "payload": payload}}))
+            made.append(
+                (0, {"begin": {"team": chosen.randrange(place // 500 + 1), "payload": payload}})
+            )
         elif of < 10:
             made.append((0, {"deliver": {"message": sent}}))
             sent += 1
@@ -71,11 +78,17 @@ def acts(count, most):
         elif of < 17:
             made.append((1, {"clog": {"ticks": chosen.randrange(9), **target()}}))
         elif of < 19:
-            order = {"kind": KINDS[chosen.randrange(3)], "floor": "RebootProcess", "tear": chosen.getrandbits(8)}
+            order = {
+                "kind": KINDS[chosen.randrange(3)],
+                "floor": "RebootProcess",
+                "tear": chosen.getrandbits(8),
+            }
             made.append((1, {"kill": {**order, **target()}}))
         else:
             kinds = chosen.sample(KINDS, 2)
-            made.append((2, {chosen.choice(["protect", "unprotect"]): {"process": some(), "kinds": kinds}}))
+            made.append(
+                (2, {chosen.choice(["protect", "unprotect"]): {"process": some(), "kinds": kinds}})
+            )
     return made
 
 
@@ -124,19 +137,27 @@ def compare(words, width, name, cluster, script):
     for program, memory, runs in zip(words.programs, peaks, zip(*rounds)):
         seconds, status, written = min(runs)
         if status != 0 or written != rounds[0][0][2]:
-            sys.exit(f"{program}, {name}: status {status}, or another audit than {words.programs[0]}")
-        print(f"{program:<{width}} {name:<16} {lines:>7} {seconds:>8.4f} {lines / seconds:>9.0f} {memory:>9} {memory * 1024 / lines:>9.0f}")
+            sys.exit(
+                f"{program}, {name}: status {status}, or another audit than {words.programs[0]}"
+            )
+        print(
+            f"{program:<{width}} {name:<16} {lines:>7} {seconds:>8.4f} {lines / seconds:>9.0f} {memory:>9} {memory * 1024 / lines:>9.0f}"
+        )
 
 
 def main():
-    words = argparse.ArgumentParser(usage="bench/run.py [--rounds N] [--acts N] [--inputs CONFIG SCRIPT] PROGRAM..")
+    words = argparse.ArgumentParser(
+        usage="bench/run.py [--rounds N] [--acts N] [--inputs CONFIG SCRIPT] PROGRAM.."
+    )
     words.add_argument("--rounds", type=int, default=10)
     words.add_argument("--acts", type=int, default=100000)
     words.add_argument("--inputs", nargs=2)
     words.add_argument("programs", nargs="+")
     words = words.parse_args()
     width = max(len(program) for program in words.programs)
-    print(f"{'program':<{width}} {'script':<16} {'acts':>7} {'seconds':>8} {'acts/s':>9} {'peak KiB':>9} {'bytes/act':>9}")
+    print(
+        f"{'program':<{width}} {'script':<16} {'acts':>7} {'seconds':>8} {'acts/s':>9} {'peak KiB':>9} {'bytes/act':>9}"
+    )
     if words.inputs:
         compare(words, width, "given", *words.inputs)
         return

@@ -3,12 +3,12 @@
 
     bench/swarm.py [--rounds N] [--inputs CONFIG] PROGRAM..
 
-The clusters have 6, 100 and 1000 processes, with 5 and with 64 actors: every fourth stores, the last
-is an operator and the others order faults. The programs take turns, each round by a seed of its own.
-Threads choose the order of the acts, so two runs of a seed may write different audits; that each is
-legal is no matter of this. A row has the acts and the seconds of a run of the whole program, each the
-mean of N (10 if left out), the least seconds of any, the acts a second, and the peak memory of a run
-of its own. With --inputs a cluster file of your own is timed instead.
+The clusters have 6, 100 and 1000 processes, with 5 and with 64 actors: every fourth stores, the
+last is an operator and the others order faults. The programs take turns, each round by a seed of
+its own. Threads choose the order of the acts, so two runs of a seed may write different audits;
+that each is legal is no matter of this. A row has the acts and the seconds of a run of the whole
+program, each the mean of N (10 if left out), the least seconds of any, the acts a second, and the
+peak memory of a run of its own. With --inputs a cluster file of your own is timed instead.
 """
 import argparse
 import importlib.machinery
@@ -61,7 +61,9 @@ def timed(program, cluster, seed):
 def compare(words, width, name, cluster, peak):
     """Lets the programs take turns, and prints a row for each."""
     programs = [os.path.abspath(program) for program in words.programs]
-    rounds = [[timed(program, cluster, seed) for program in programs] for seed in range(words.rounds)]
+    rounds = [
+        [timed(program, cluster, seed) for program in programs] for seed in range(words.rounds)
+    ]
     for program, runs in zip(words.programs, zip(*rounds)):
         if any(status != 0 for _, status, _ in runs):
             sys.exit(f"{program}, {name}: status {max(status for _, status, _ in runs)}")
@@ -69,7 +71,9 @@ def compare(words, width, name, cluster, peak):
         least = min(run[0] for run in runs)
         acts = sum(run[2] for run in runs) / len(runs)
         memory = peak([os.path.abspath(program), "swarm", cluster, "--seed", "0"], os.devnull)
-        print(f"{program:<{width}} {name:<16} {acts:>7.0f} {seconds:>8.4f} {least:>8.4f} {acts / seconds:>9.0f} {memory:>9}")
+        print(
+            f"{program:<{width}} {name:<16} {acts:>7.0f} {seconds:>8.4f} {least:>8.4f} {acts / seconds:>9.0f} {memory:>9}"
+        )
 
 
 def main():
@@ -80,7 +84,9 @@ def main():
     words = words.parse_args()
     peak = of_run().peak
     width = max(len(program) for program in words.programs)
-    print(f"{'program':<{width}} {'cluster':<16} {'acts':>7} {'seconds':>8} {'least':>8} {'acts/s':>9} {'peak KiB':>9}")
+    print(
+        f"{'program':<{width}} {'cluster':<16} {'acts':>7} {'seconds':>8} {'least':>8} {'acts/s':>9} {'peak KiB':>9}"
+    )
     if words.inputs:
         compare(words, width, "given", words.inputs, peak)
         return

@@ -5,10 +5,11 @@
     tools/counts.py table RAN WANTED      reads the rows of a sweep, and writes the table of all seeds; status 1 where one is
                                           bad or missing
 
-Struck, barred, refused and replied is what the replies say. A record is acknowledged once the delivery of an acknowledgement
-was answered so. A holder of a record has synced it and isn't destroyed. A record outlived the loss of a holder where one order
-or more destroyed holders of it once it was acknowledged, and a holder was left each time; of all but one where one was left.
-What the disks hold is read off the entries; nothing is asked of the program.
+Struck, barred, refused and replied is what the replies say. A record is acknowledged once the
+delivery of an acknowledgement was answered so. A holder of a record has synced it and isn't
+destroyed. A record outlived the loss of a holder where one order or more destroyed holders of it
+once it was acknowledged, and a holder was left each time; of all but one where one was left. What
+the disks hold is read off the entries; nothing is asked of the program.
 """
 from __future__ import annotations
 
@@ -24,8 +25,31 @@ KINDS = ("KillInstantly", "RebootAndDelete", "Reboot", "RebootProcess")
 DESTROYING = KINDS[:2]
 RULES = ("NoTarget", "NoGrant", "Protected", "TooManyDestroyed", "TooFewLeft")
 REFUSALS = (
-    *("Stranger", "WrongRole", "TooMany", "NoPolicy", "NoProcess", "Gone", "TeamShort", "NoTeam", "Payload", "NetFull"),
-    *("NoMessage", "Clogged", "NotUp", "NoRecord", "NotMember", "Acked", "IsUp", "ClockEnd", "NoActor", "Full", "NoSuch"),
+    *(
+        "Stranger",
+        "WrongRole",
+        "TooMany",
+        "NoPolicy",
+        "NoProcess",
+        "Gone",
+        "TeamShort",
+        "NoTeam",
+        "Payload",
+        "NetFull",
+    ),
+    *(
+        "NoMessage",
+        "Clogged",
+        "NotUp",
+        "NoRecord",
+        "NotMember",
+        "Acked",
+        "IsUp",
+        "ClockEnd",
+        "NoActor",
+        "Full",
+        "NoSuch",
+    ),
     *("NoCopy", "IsMember", "NotDestroyed", "StillNeeds"),
 )
 REPLIES = ("formed", "begun", "stored", "marked", "sent", "synced", "time", "done", "ruled")
@@ -71,10 +95,16 @@ class Disks:
     def strike(self, order: Reply, kind: str) -> None:
         """Who is struck loses what isn't synced but for the torn, or all."""
         key, value = order["key"], order["value"]
-        struck = {p for p, it in enumerate(self.processes) if it.get(key) == value and p not in self.gone}
+        struck = {
+            p for p, it in enumerate(self.processes) if it.get(key) == value and p not in self.gone
+        }
         for p in struck:
             if kind == "Reboot":
-                self.synced[p].update(r for at, r in enumerate(self.unsynced[p]) if at < 64 and order["tear"] >> at & 1)
+                self.synced[p].update(
+                    r
+                    for at, r in enumerate(self.unsynced[p])
+                    if at < 64 and order["tear"] >> at & 1
+                )
             if kind != "RebootProcess":
                 self.unsynced[p] = []
         if kind in DESTROYING:
@@ -125,7 +155,10 @@ class Disks:
         elif "stored" in reply or "marked" in reply:
             self.deliver(act["message"], reply)
         elif "sent" in reply:
-            self.send(reply["sent"], [(True, act["record"], act["process"] if name == "resend" else act["to"])])
+            self.send(
+                reply["sent"],
+                [(True, act["record"], act["process"] if name == "resend" else act["to"])],
+            )
         elif "synced" in reply:
             self.sync(act["process"], reply["synced"]["first"])
         elif name == "replace" and "done" in reply:
@@ -138,11 +171,16 @@ def reply_counts(reply: Reply) -> list[str]:
     """The rows that count a reply."""
     if "verdict" in reply:
         struck, rule = reply["verdict"]["struck"], reply["verdict"]["rule"]
-        return [f"struck with {struck}" if struck else "struck nobody", *([f"barred by {rule[0]}"] if rule else [])]
+        return [
+            f"struck with {struck}" if struck else "struck nobody",
+            *([f"barred by {rule[0]}"] if rule else []),
+        ]
     if "no" in reply:
         return [f"refused: {reply['no'][0]}"]
     (name,) = reply
-    return [f"barred by {reply[name][0]}"] if name == "ruled" and reply[name] else [f"replied: {name}"]
+    return (
+        [f"barred by {reply[name][0]}"] if name == "ruled" and reply[name] else [f"replied: {name}"]
+    )
 
 
 def counted(processes: list[dict[str, str]], path: str) -> Counter[str]:
@@ -169,7 +207,8 @@ def counted(processes: list[dict[str, str]], path: str) -> Counter[str]:
 
 
 def processes_of(config: str) -> list[dict[str, str]]:
-    """The processes of a cluster file; none of one that can't be read, of which no audit can be legal."""
+    """The processes of a cluster file; none of one that can't be read, of which no audit can be
+    legal."""
     try:
         return [dict(it) for it in tomllib.loads(Path(config).read_text())["process"]]
     except (ValueError, KeyError, TypeError):
@@ -184,7 +223,8 @@ def audits(config: str) -> int:
 
 
 def table(ran: str, wanted: str) -> int:
-    """A row is a seed, whether it is ok, microseconds of its run and of `check`, and what its audit holds."""
+    """A row is a seed, whether it is ok, microseconds of its run and of `check`, and what its audit
+    holds."""
     counts, seeds, bad = Counter[str](), 0, 0
     times: list[tuple[int, int]] = []
     for line in sys.stdin:
@@ -197,7 +237,10 @@ def table(ran: str, wanted: str) -> int:
     rows += [
         (f"seconds in {ran}, each alone", f"{sum(run for run, _ in times) / 1e6:.1f}"),
         ("seconds in check, each alone", f"{sum(check for _, check in times) / 1e6:.1f}"),
-        (f"longest {ran}, in milliseconds", f"{max((run for run, _ in times), default=0) / 1e3:.1f}"),
+        (
+            f"longest {ran}, in milliseconds",
+            f"{max((run for run, _ in times), default=0) / 1e3:.1f}",
+        ),
     ]
     print("| Of all seeds | |\n|---|---|")
     for what, number in rows:

@@ -1,7 +1,8 @@
 """Scripts of some of the acts of an audit, in which each number still means what it meant.
 
-Teams, records and messages are numbered as they are made. Where an act that made one is left out, those behind it get other
-numbers, and the acts that name them are written with these. What isn't made any more has the number NOBODY.
+Teams, records and messages are numbered as they are made. Where an act that made one is left out,
+those behind it get other numbers, and the acts that name them are written with these. What isn't
+made any more has the number NOBODY.
 """
 from __future__ import annotations
 
@@ -67,7 +68,10 @@ class Acts:
         self.made = makings(self.entries)
         self.run = run
         numbers = numbers_of(self.made, range(len(self.made)))
-        self.things = {kind: {number: made for made, number in those.items()} for kind, those in numbers.items()}
+        self.things = {
+            kind: {number: made for made, number in those.items()}
+            for kind, those in numbers.items()
+        }
 
     def written(self, place: int, numbers: Numbers) -> bytes:
         """The act at a place, by the numbers that things have."""
@@ -80,7 +84,8 @@ class Acts:
         return line(self.entries[place]["by"], {name: act})
 
     def script(self, places: Sequence[int]) -> list[bytes]:
-        """The acts at these places. Numbers are those that `run` gives, so it is run until they are the same."""
+        """The acts at these places. Numbers are those that `run` gives, so it is run until they are
+        the same."""
         lines: list[bytes] = []
         made = [self.made[place] for place in places]
         for _ in range(ROUNDS):

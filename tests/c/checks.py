@@ -1,9 +1,11 @@
 #!/usr/bin/env python3
-"""Compares what the library finds of audits, line by line, with the line that `faultyard check` writes of the same bytes.
+"""Compares what the library finds of audits, line by line, with the line that `faultyard check`
+writes of the same bytes.
 
     checks.py LIBRARY PROGRAM
 
-The audits are that of a script, in both versions, and what comes of it by a change at random: a byte, a line, the end.
+The audits are that of a script, in both versions, and what comes of it by a change at random: a
+byte, a line, the end.
 """
 import ctypes as c
 import random
@@ -84,7 +86,11 @@ draw, compared, answers = random.Random(20261126), 0, set()
 config = examples / "c6.toml"
 text = config.read_bytes()
 for name in ("healed", "bad-day", "torn-reboot"):
-    run = subprocess.run([program, "run", config], input=(examples / f"{name}.jsonl").read_bytes(), capture_output=True)
+    run = subprocess.run(
+        [program, "run", config],
+        input=(examples / f"{name}.jsonl").read_bytes(),
+        capture_output=True,
+    )
     assert run.returncode == 0 and run.stdout.count(b"\n") > 2, name
     audits = [run.stdout, run.stdout.replace(b'{"audit":2}', b'{"audit":1}'), b""]
     audits += [changed(run.stdout, draw) for _ in range(CHANGES)]

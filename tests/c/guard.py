@@ -1,5 +1,6 @@
 #!/usr/bin/env python3
-"""The library held by Python's ctypes, by its own calls: what a program without this header has to see to itself.
+"""The library held by Python's ctypes, by its own calls: what a program without this header has to
+see to itself.
 
     guard.py LIBRARY CONFIG
 """
@@ -19,7 +20,12 @@ size, sizes = c.c_size_t, c.POINTER(c.c_size_t)
 
 
 class Seen(c.Structure):
-    _fields_ = [("now", c.c_uint64), ("deliverable", c.c_uint64), ("unsynced", number), ("sleeping", number)]
+    _fields_ = [
+        ("now", c.c_uint64),
+        ("deliverable", c.c_uint64),
+        ("unsynced", number),
+        ("sleeping", number),
+    ]
 
 
 words = c.POINTER(c.c_uint64)
@@ -28,7 +34,22 @@ SHAPES = {
     "fy_open": (number, [c.c_char_p, size, at]),
     "fy_close": (None, [Guard]),
     "fy_try_copy": (number, [at, at]),
-    "fy_kill": (number, [at, number, number, c.c_char_p, size, number, number, c.c_uint64, numbers, numbers, c.POINTER(c.c_uint64)]),
+    "fy_kill": (
+        number,
+        [
+            at,
+            number,
+            number,
+            c.c_char_p,
+            size,
+            number,
+            number,
+            c.c_uint64,
+            numbers,
+            numbers,
+            c.POINTER(c.c_uint64),
+        ],
+    ),
     "fy_up": (number, [at, number, number, numbers]),
     "fy_heal": (number, [at, number, number, numbers]),
     "fy_act": (number, [at, c.c_char_p, size, c.c_char_p, size, sizes]),
@@ -84,11 +105,19 @@ for call, wanted in (("fy_destroyed_set", 0b11), ("fy_gone_set", 0b11)):
     assert list(left) == [wanted] + [0] * 15, call
 assert library.fy_targets(guard, 3, b"z1", 2, left, 16) == 0 and left[0] == 0b1100
 assert library.fy_version() == 10100 and library.fy_process_count(guard) == 6
-assert (library.fy_process(guard, b"p5", 2), library.fy_process(guard, b"p6", 2)) == (5, 2**32 - 1)
+assert (library.fy_process(guard, b"p5", 2), library.fy_process(guard, b"p6", 2)) == (
+    5,
+    2**32 - 1,
+)
 assert (library.fy_is_acked(guard, 0), library.fy_keeper(guard, 0)) == (0, 2**32 - 1)
 seen = Seen()
 library.fy_sight(guard, seen)
-assert (seen.now, seen.deliverable, seen.unsynced, seen.sleeping) == (0, 2**64 - 1, 2**32 - 1, 3)
+assert (seen.now, seen.deliverable, seen.unsynced, seen.sleeping) == (
+    0,
+    2**64 - 1,
+    2**32 - 1,
+    3,
+)
 reason = number()
 assert library.fy_up(guard, 0, 3, reason) == 0, "process 3 was rebooted with its zone"
 assert library.fy_heal(guard, 0, 2, reason) == REFUSED and reason.value == NOT_DESTROYED

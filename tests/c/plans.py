@@ -1,12 +1,12 @@
 #!/usr/bin/env python3
-"""Compares the words, the plans and the orders of the library with those of tests/swarm/run and tests/simulate/run, which draw
-them by a ChaCha of their own.
+"""Compares the words, the plans and the orders of the library with those of tests/swarm/run and
+tests/simulate/run, which draw them by a ChaCha of their own.
 
     plans.py LIBRARY CONFIG..
 
-Of each cluster file, for 40 seeds and each of its actors: the words, and the plan that a swarm gives to a fault actor. tests/swarm
-compares the same plans with the audits of swarms, and tests/simulate the same orders, of each plan of `simulate`, with those
-of simulations.
+Of each cluster file, for 40 seeds and each of its actors: the words, and the plan that a swarm
+gives to a fault actor. tests/swarm compares the same plans with the audits of swarms, and
+tests/simulate the same orders, of each plan of `simulate`, with those of simulations.
 """
 import ctypes as c
 import importlib.util
@@ -26,7 +26,9 @@ KINDS = ["", "RebootProcess", "Reboot", "RebootAndDelete", "KillInstantly"]
 def suite(name):
     """A suite as a module."""
     path = Path(__file__).resolve().parents[1] / name / "run"
-    module = importlib.util.module_from_spec(importlib.util.spec_from_loader(name, SourceFileLoader(name, str(path))))
+    module = importlib.util.module_from_spec(
+        importlib.util.spec_from_loader(name, SourceFileLoader(name, str(path)))
+    )
     sys.modules[name] = module
     module.__spec__.loader.exec_module(module)
     return module
@@ -40,8 +42,15 @@ class Guard(c.Structure):
 
 
 class Order(c.Structure):
-    _fields_ = [("ticks", c.c_uint64), ("tear", c.c_uint64), ("act", c.c_uint32), ("key", c.c_uint32),
-                ("kind", c.c_uint32), ("floor", c.c_uint32), ("value", c.c_char * VALUE_BYTES)]
+    _fields_ = [
+        ("ticks", c.c_uint64),
+        ("tear", c.c_uint64),
+        ("act", c.c_uint32),
+        ("key", c.c_uint32),
+        ("kind", c.c_uint32),
+        ("floor", c.c_uint32),
+        ("value", c.c_char * VALUE_BYTES),
+    ]
 
 
 library = c.CDLL(sys.argv[1])
@@ -50,8 +59,19 @@ SHAPES = {
     "fy_open": [c.c_char_p, size, at],
     "fy_words": [c.c_uint64, c.c_uint64, c.POINTER(c.c_uint32), size],
     "fy_swizzle_plan": [at, c.c_uint64, c.c_uint64, c.c_uint64, orders, size, c.POINTER(size)],
-    "fy_attrition_plan": [at, c.c_uint64, c.c_uint64, c.c_uint32, c.c_uint32, c.c_uint32, c.c_uint32, c.c_uint64, orders, size,
-                          c.POINTER(size)],
+    "fy_attrition_plan": [
+        at,
+        c.c_uint64,
+        c.c_uint64,
+        c.c_uint32,
+        c.c_uint32,
+        c.c_uint32,
+        c.c_uint32,
+        c.c_uint64,
+        orders,
+        size,
+        c.POINTER(size),
+    ],
     "fy_plan_orders": [at, c.c_uint32, c.c_uint64, c.c_uint32, orders, size],
 }
 for name, arguments in SHAPES.items():
@@ -67,7 +87,14 @@ def act_of(order):
         return simulate.TICK
     target = {"key": KEYS[order.key], "value": order.value.decode()}
     if order.act == KILL:
-        return {"kill": {**target, "kind": KINDS[order.kind], "floor": KINDS[order.floor], "tear": order.tear}}
+        return {
+            "kill": {
+                **target,
+                "kind": KINDS[order.kind],
+                "floor": KINDS[order.floor],
+                "tear": order.tear,
+            }
+        }
     assert (order.kind, order.floor, order.tear) == (0, 0, 0)
     if order.act == CLOG:
         return {"clog": {**target, "ticks": order.ticks}}
@@ -95,14 +122,24 @@ for path in sys.argv[2:]:
                 assert library.fy_swizzle_plan(guard, seed, actor, 10, room, MOST_ORDERS, told) == 0
                 acts = swarm.swizzle(wanted, processes)
             else:
-                assert library.fy_attrition_plan(guard, seed, actor, 2, 1, 4, 2, 0, room, MOST_ORDERS, told) == 0
+                assert (
+                    library.fy_attrition_plan(
+                        guard, seed, actor, 2, 1, 4, 2, 0, room, MOST_ORDERS, told
+                    )
+                    == 0
+                )
                 acts = swarm.attrition(wanted, processes)
             assert [act_of(order) for order in room[: told.value]] == acts, (path, seed, actor)
             compared += 1
             for number, plan in enumerate(simulate.PLANS, 1):
                 assert library.fy_plan_orders(guard, number, seed, actor, room, TURNS) == 0
                 wanted = [*islice(simulate.strikes(config, plan, seed, actor), TURNS)]
-                assert [act_of(order) for order in room[:TURNS]] == wanted, (path, seed, actor, plan)
+                assert [act_of(order) for order in room[:TURNS]] == wanted, (
+                    path,
+                    seed,
+                    actor,
+                    plan,
+                )
                 compared += 1
     library.fy_close(guard)
 assert compared > 100

@@ -1,4 +1,5 @@
-"""What may go wrong with a mounted disk: a full or vanished folder, a kill, a reader that holds a file, wrong words."""
+"""What may go wrong with a mounted disk: a full or vanished folder, a kill, a reader that holds a
+file, wrong words."""
 import errno
 import os
 import shutil
@@ -16,10 +17,13 @@ BACKING = 16 << 20  # bytes of a small disk
 
 @contextmanager
 def mounted(program, *words, size=None):
-    """A mounted disk, in a folder of a small tmpfs where a size is given; its top and its process."""
+    """A mounted disk, in a folder of a small tmpfs where a size is given; its top and its
+    process."""
     with tempfile.TemporaryDirectory(prefix="disk-ends-") as room:
         if size:
-            subprocess.run(["mount", "-t", "tmpfs", "-o", f"size={size}", "small", room], check=True)
+            subprocess.run(
+                ["mount", "-t", "tmpfs", "-o", f"size={size}", "small", room], check=True
+            )
         disk = Mounted(program, Path(room) / "disk", *words, errors=subprocess.PIPE)
         try:
             yield disk
@@ -49,7 +53,9 @@ def refused(wanted, call, *words):
 
 def order(disk, *words):
     """The status and what is printed of an order to a disk."""
-    done = subprocess.run([disk.program, *map(str, words)], capture_output=True, text=True, timeout=60)
+    done = subprocess.run(
+        [disk.program, *map(str, words)], capture_output=True, text=True, timeout=60
+    )
     return done.returncode, done.stdout, done.stderr
 
 
@@ -93,18 +99,25 @@ def killed(program):
         disk.process.kill()
         disk.process.wait()
         refused(errno.ENOTCONN, os.listdir, disk.top)
-        assert order(disk, "cut", disk.top)[::2] == (1, f"faultyard-lossy: {disk.top}: Transport endpoint is not connected\n")
+        assert order(disk, "cut", disk.top)[::2] == (
+            1,
+            f"faultyard-lossy: {disk.top}: Transport endpoint is not connected\n",
+        )
         assert order(disk, "unmount", disk.top) == (0, "", "")
         assert os.listdir(disk.folder) == ["synced"]
         assert order(disk, "unmount", disk.top)[0] == 1
 
 
 def held_file(program):
-    """A reader that holds a file bars an orderly unmount, and not a cut, after which its calls fail."""
+    """A reader that holds a file bars an orderly unmount, and not a cut, after which its calls
+    fail."""
     with mounted(program) as disk:
         write(disk.top / "file", b"1234")
         with open(disk.top / "file", "rb", buffering=0) as reader:
-            assert order(disk, "unmount", disk.top)[::2] == (1, f"faultyard-lossy: {disk.top}: Device or resource busy\n")
+            assert order(disk, "unmount", disk.top)[::2] == (
+                1,
+                f"faultyard-lossy: {disk.top}: Device or resource busy\n",
+            )
             assert reader.read(1) == b"1"
             assert order(disk, "cut", disk.top, "0") == (0, "0 of 0 unsynced items survive\n", "")
             refused(errno.ENOTCONN, os.fsync, reader.fileno())
@@ -123,11 +136,16 @@ def orderly_end(program):
                 disk.process.send_signal(signal.SIGTERM)
             assert disk.process.wait(60) == 0
             found = (disk.folder / "large").stat()
-            assert (found.st_size, found.st_atime, found.st_mtime) == (30_000_000, 1000, 2000), found
+            assert (found.st_size, found.st_atime, found.st_mtime) == (
+                30_000_000,
+                1000,
+                2000,
+            ), found
 
 
 def written_back(program):
-    """What is older than --writeback is durable by itself at the next change, and so is what is too much for the memory."""
+    """What is older than --writeback is durable by itself at the next change, and so is what is too
+    much for the memory."""
     with mounted(program, "--writeback", "0.3") as disk:
         write(disk.top / "old", b"old", sync=False)
         time.sleep(0.4)
@@ -154,10 +172,14 @@ def only_one(program):
 
 
 def other_files(program):
-    """Symbolic links have one name; pipes and sockets are in memory; device files there are none."""
+    """Symbolic links have one name; pipes and sockets are in memory; device files there are
+    none."""
     with mounted(program) as disk:
         os.symlink("to", disk.top / "link")
-        refused(errno.EPERM, lambda: os.link(disk.top / "link", disk.top / "other", follow_symlinks=False))
+        refused(
+            errno.EPERM,
+            lambda: os.link(disk.top / "link", disk.top / "other", follow_symlinks=False),
+        )
         os.mkfifo(disk.top / "pipe")
         refused(errno.EPERM, os.mknod, disk.top / "device", 0o020600, os.makedev(1, 3))
         refused(errno.ENOTSUP, os.setxattr, disk.top, "user.x", b"1")
@@ -168,18 +190,56 @@ def other_files(program):
 def wrong_words(program):
     """Each refusal has its status, and nothing is mounted."""
     with tempfile.TemporaryDirectory() as room:
-        usages = [[], ["mount"], ["mount", room], ["mount", "--writeback", "-1", room, room], ["cut"], ["sync"], ["unmount", room, room],
-            ["cut", room, "-1"], ["cut", room, "18446744073709551616"], ["cut", room, "1x"], ["mount", "--what", room, room], ["what"]]
+        usages = [
+            [],
+            ["mount"],
+            ["mount", room],
+            ["mount", "--writeback", "-1", room, room],
+            ["cut"],
+            ["sync"],
+            ["unmount", room, room],
+            ["cut", room, "-1"],
+            ["cut", room, "18446744073709551616"],
+            ["cut", room, "1x"],
+            ["mount", "--what", room, room],
+            ["what"],
+        ]
         for words in usages:
             done = subprocess.run([program, *words], capture_output=True, text=True)
-            assert done.returncode == 2 and "usage: faultyard-lossy mount" in done.stderr and not done.stdout, (words, done)
-        for words in (["mount", f"{room}/none", room], ["cut", room], ["sync", "/none/none"], ["unmount", room], ["mount", __file__, room]):
+            assert (
+                done.returncode == 2
+                and "usage: faultyard-lossy mount" in done.stderr
+                and not done.stdout
+            ), (words, done)
+        for words in (
+            ["mount", f"{room}/none", room],
+            ["cut", room],
+            ["sync", "/none/none"],
+            ["unmount", room],
+            ["mount", __file__, room],
+        ):
             done = subprocess.run([program, *words], capture_output=True, text=True)
-            assert done.returncode == 1 and done.stderr.startswith("faultyard-lossy: ") and not done.stdout, (words, done)
-        assert subprocess.run([program, "--help"], capture_output=True).stdout.startswith(b"usage: ")
+            assert (
+                done.returncode == 1
+                and done.stderr.startswith("faultyard-lossy: ")
+                and not done.stdout
+            ), (words, done)
+        assert subprocess.run([program, "--help"], capture_output=True).stdout.startswith(
+            b"usage: "
+        )
 
 
-ENDS = (full_folder, vanished_folder, killed, held_file, orderly_end, written_back, only_one, other_files, wrong_words)
+ENDS = (
+    full_folder,
+    vanished_folder,
+    killed,
+    held_file,
+    orderly_end,
+    written_back,
+    only_one,
+    other_files,
+    wrong_words,
+)
 
 
 def all_of(program):

@@ -1,7 +1,8 @@
-"""What a disk of tools/lossy has to have: by the rules of its header and of its man page, told once more in Python.
+"""What a disk of tools/lossy has to have: by the rules of its header and of its man page, told once
+more in Python.
 
-A call is a tuple, its name first. `Model.do` does it on the model, and says whether it is allowed. `draw` draws one that makes
-sense where the model is.
+A call is a tuple, its name first. `Model.do` does it on the model, and says whether it is allowed.
+`draw` draws one that makes sense where the model is.
 """
 import os
 
@@ -14,7 +15,8 @@ SYNCED = ("dsync", "sync", "rwf_dsync", "msync")  # how a write is durable at on
 
 
 class Node:
-    """A file, folder or symbolic link: as users see it (`live`), and as the disk has it (`durable`)."""
+    """A file, folder or symbolic link: as users see it (`live`), and as the disk has it
+    (`durable`)."""
 
     def __init__(self, kind, mode, target=""):
         self.kind, self.mode, self.target = kind, mode, target
@@ -31,7 +33,8 @@ def poke(old, place, data):
 
 
 def paged(contents, place, length):
-    """What a kernel gives a disk of a write by mmap, which it has done in memory: whole pages, up to the file's end."""
+    """What a kernel gives a disk of a write by mmap, which it has done in memory: whole pages, up
+    to the file's end."""
     first, last = place // SECTOR * SECTOR, -(-(place + length) // SECTOR) * SECTOR
     return first, bytes(contents[first:last])
 
@@ -93,14 +96,21 @@ class Model:
             links[node] = links.get(node, 0) + 1
         found = {}
         for path, node in nodes:
-            what = b"" if node.kind == "folder" else bytes(node.live) if node.kind == "file" else node.target.encode()
+            what = (
+                b""
+                if node.kind == "folder"
+                else bytes(node.live)
+                if node.kind == "file"
+                else node.target.encode()
+            )
             found[path] = (node.kind, node.mode, links[node] if node.kind == "file" else 0, what)
         return found
 
     def quiet(self):
         """The paths of which nothing is unsynced, up to the top: they survive each cut as they are.
 
-        FUSE doesn't tell a disk which part an O_SYNC write or an msync is to sync, so ours syncs all of the file, and a kernel that part.
+        FUSE doesn't tell a disk which part an O_SYNC write or an msync is to sync, so ours syncs
+        all of the file, and a kernel that part.
         """
         unsure = [*self.items, *self.lagging]
         moved = {part for it in unsure for part in it[1:2] if isinstance(part, Node)}
@@ -139,7 +149,9 @@ class Model:
         if place + len(data) > len(node.live):
             self.note_growth(node)
         poke(node.live, place, data)
-        had_unsynced = node in self.partly or any(it[0] in DATA and it[1] is node for it in self.items)
+        had_unsynced = node in self.partly or any(
+            it[0] in DATA and it[1] is node for it in self.items
+        )
         if how == "msync":
             place, data = paged(node.live, place, len(data))
         self.items.append(("write", node, place, data))
@@ -232,7 +244,10 @@ class Model:
             return None
         self.partly.discard(node)
         names = [it for it in self.items if it[0] not in DATA]
-        last = max((place for place, it in enumerate(names) if any(part is node for part in it)), default=-1)
+        last = max(
+            (place for place, it in enumerate(names) if any(part is node for part in it)),
+            default=-1,
+        )
         data = [it for it in self.items if it[0] in DATA and it[1] is node]
         done = {id(it) for it in (*names[: last + 1], *data)}
         for it in [*names[: last + 1], *data]:
@@ -247,7 +262,8 @@ class Model:
         self.grown[node] = names[-1] if names else None
 
     def note_names(self, node, names, is_data_only):
-        """Ours has synced names for a node, of which a kernel may leave those that an fdatasync doesn't need."""
+        """Ours has synced names for a node, of which a kernel may leave those that an fdatasync
+        doesn't need."""
         names, grown = [*self.lagging, *names], self.grown.pop(node, None)
         needed = [it is grown if is_data_only else any(part is node for part in it) for it in names]
         self.lagging = names[max((place for place, it in enumerate(needed, 1) if it), default=0) :]
@@ -297,7 +313,9 @@ class Model:
         if there is None or there is over or (there.kind == "folder" and to in below(there)):
             return
         if over:
-            if (over.kind == "folder") != (there.kind == "folder") or not self.durable_take(to, to_name):
+            if (over.kind == "folder") != (there.kind == "folder") or not self.durable_take(
+                to, to_name
+            ):
                 return
         to.durable[to_name] = folder.durable.pop(name)
 
@@ -305,7 +323,9 @@ class Model:
         there, over = folder.durable.get(name), to.durable.get(to_name)
         if there is None or over is None:
             return
-        if (there.kind == "folder" and to in below(there)) or (over.kind == "folder" and folder in below(over)):
+        if (there.kind == "folder" and to in below(there)) or (
+            over.kind == "folder" and folder in below(over)
+        ):
             return
         folder.durable[name], to.durable[to_name] = over, there
 
@@ -349,8 +369,17 @@ class Model:
 # ---- calls at random ----
 
 WEIGHTS = {
-    "write": 24, "resize": 5, "allocate": 6, "create": 8, "remove": 6, "link": 3, "rename": 9, "sync": 9, "chmod": 2,
-    "cut": 1, "end": 0.4,
+    "write": 24,
+    "resize": 5,
+    "allocate": 6,
+    "create": 8,
+    "remove": 6,
+    "link": 3,
+    "rename": 9,
+    "sync": 9,
+    "chmod": 2,
+    "cut": 1,
+    "end": 0.4,
 }
 HOWS = ("", "", "", "", "append", "dsync", "sync", "rwf_dsync", "direct", "msync")
 
@@ -372,11 +401,20 @@ def draw(dice, model):
         return "sync", "", ""
     if some is None or (deed in ("write", "resize", "allocate") and not files) or deed == "create":
         kind = dice.choices(["file", "folder", "link"], [6, 3, 1])[0]
-        return ("create", fresh, kind, 0o777 if kind == "link" else dice.choice([0o600, 0o644, 0o755])) + (("to/x",) if kind == "link" else ())
+        return (
+            "create",
+            fresh,
+            kind,
+            0o777 if kind == "link" else dice.choice([0o600, 0o644, 0o755]),
+        ) + (("to/x",) if kind == "link" else ())
     if deed in ("write", "resize", "allocate"):
         return draw_change(dice, model, deed, dice.choice(files))
     if deed == "chmod":
-        return None if model.at(some).kind == "link" else ("chmod", some, dice.choice([0o600, 0o640, 0o700, 0o755]))
+        return (
+            None
+            if model.at(some).kind == "link"
+            else ("chmod", some, dice.choice([0o600, 0o640, 0o700, 0o755]))
+        )
     if deed == "sync":
         return None if model.at(some).kind == "link" else ("sync", some, dice.choice(["", "data"]))
     if deed == "remove":
@@ -396,7 +434,13 @@ def draw_change(dice, model, deed, path):
         return "allocate", path, mode, dice.randrange(16000), dice.randint(1, 12000)
     how = dice.choice(HOWS)
     if how == "direct":
-        return "write", path, SECTOR * dice.randrange(5), dice.randbytes(SECTOR * dice.randint(1, 3)), how
+        return (
+            "write",
+            path,
+            SECTOR * dice.randrange(5),
+            dice.randbytes(SECTOR * dice.randint(1, 3)),
+            how,
+        )
     if how == "msync":
         if not size:
             return None

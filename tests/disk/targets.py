@@ -1,4 +1,5 @@
-"""What the model is held against: the disk's code without a mount, a mounted disk, and a file system of the kernel."""
+"""What the model is held against: the disk's code without a mount, a mounted disk, and a file
+system of the kernel."""
 import ctypes
 import errno
 import fcntl
@@ -9,7 +10,6 @@ import stat
 import struct
 import subprocess
 import time
-from pathlib import Path
 
 from model import PUNCH, SYNCED, paged, poke, tree_at
 
@@ -122,7 +122,8 @@ class Bare:
         self.ended()
 
     def takes(self, why):
-        """Whether it is asked a call that is refused so: the kernel keeps from a disk what makes no sense."""
+        """Whether it is asked a call that is refused so: the kernel keeps from a disk what makes no
+        sense."""
         return why != "kernel"
 
     def durable(self):
@@ -252,7 +253,9 @@ class Mounted(Calls):
             time.sleep(0.005)
 
     def order(self, *words):
-        return subprocess.run([self.program, *words], check=True, capture_output=True, text=True).stdout.rstrip("\n")
+        return subprocess.run(
+            [self.program, *words], check=True, capture_output=True, text=True
+        ).stdout.rstrip("\n")
 
     def cut(self, tear):
         said = self.order("cut", self.top, str(tear))
@@ -260,9 +263,14 @@ class Mounted(Calls):
         return said
 
     def end(self):
-        """Until it has called exec, a child of another thread holds what was open here: then it is busy."""
+        """Until it has called exec, a child of another thread holds what was open here: then it is
+        busy."""
         ended = time.monotonic() + 60
-        while (done := subprocess.run([self.program, "unmount", self.top], capture_output=True, text=True)).returncode:
+        while (
+            done := subprocess.run(
+                [self.program, "unmount", self.top], capture_output=True, text=True
+            )
+        ).returncode:
             assert "busy" in done.stderr and time.monotonic() < ended, done.stderr
             time.sleep(0.02)
         assert self.process.wait() == 0, "the disk failed at its end"

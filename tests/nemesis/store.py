@@ -1,8 +1,10 @@
-"""A store of three small servers, as hooks: each record goes to two of them, and is acknowledged by both.
+"""A store of three small servers, as hooks: each record goes to two of them, and is acknowledged by
+both.
 
     store.py HOOK [N] ..
 
-A server that is asked for a record by `check` asks the others where it lacks it, as one of them has it.
+A server that is asked for a record by `check` asks the others where it lacks it, as one of them has
+it.
 
 STORE_FAULT in the environment plants a fault:
 
@@ -46,7 +48,8 @@ def address(number: int) -> tuple[str, int]:
 
 
 class Server(socketserver.ThreadingTCPServer):
-    """Answers `put KEY VALUE ..` with `ok`, once all is on the disk, and `all` with its records and a dot."""
+    """Answers `put KEY VALUE ..` with `ok`, once all is on the disk, and `all` with its records and
+    a dot."""
 
     allow_reuse_address = daemon_threads = True
 
@@ -78,7 +81,8 @@ class Server(socketserver.ThreadingTCPServer):
         return value[::-1] if value and FAULT == "corrupt" and not int(key[2:]) % 9 else value
 
     def get(self, key: str) -> str:
-        """What it tells of a record. That there is none it knows if all were asked: one may be empty."""
+        """What it tells of a record. That there is none it knows if all were asked: one may be
+        empty."""
         if FAULT == "hole" and self.number == 1 and not int(key[2:]) % 7:
             return "none"
         if FAULT == "shy":
@@ -126,7 +130,11 @@ class Handler(socketserver.StreamRequestHandler):
                 self.server.put(dict(zip(words[1::2], words[2::2])))
                 self.wfile.write(b"ok\n")
             elif words[0] in ("own", "get"):
-                told = self.server.get(words[1]) if words[0] == "get" else self.server.own(words[1]) or "none"
+                told = (
+                    self.server.get(words[1])
+                    if words[0] == "get"
+                    else self.server.own(words[1]) or "none"
+                )
                 self.wfile.write(f"{told}\n.\n".encode())
             else:
                 with self.server.lock:

@@ -1,4 +1,5 @@
-"""Verdicts of small histories that are written out by hand. Expected are the definitions of docs/NEMESIS.md."""
+"""Verdicts of small histories that are written out by hand. Expected are the definitions of
+docs/NEMESIS.md."""
 import asyncio
 import itertools
 import json
@@ -56,14 +57,17 @@ class Verdicts(unittest.TestCase):
         self.assert_verdict(Verdict.LOST, Left(None, disks={0: {KEY: "torn"}}))
 
     def test_files_settle_what_no_disk_tells(self):
-        """Lost is what no disk tells and of which nothing stands in the files of those that don't tell all."""
+        """Lost is what no disk tells and of which nothing stands in the files of those that don't
+        tell all."""
         none, other = set(), {"r/000000002"}
         for disk in (None, {"?": "?"}, {"?": "?", KEY: "torn"}):
             with self.subTest(disk):
                 disks = {0: disk, 1: {}}
                 self.assert_verdict(Verdict.UNREADABLE, Left(None, disks=disks))
                 self.assert_verdict(Verdict.UNREADABLE, Left(None, disks=disks, traces={0: {KEY}}))
-                self.assert_verdict(Verdict.UNREADABLE, Left(None, disks={2: None} | disks, traces={0: none}))
+                self.assert_verdict(
+                    Verdict.UNREADABLE, Left(None, disks={2: None} | disks, traces={0: none})
+                )
                 self.assert_verdict(Verdict.LOST, Left(None, disks=disks, traces={0: other}))
         told = {0: {"?": "?", KEY: VALUE}, 1: None}
         self.assert_verdict(Verdict.KEPT, Left(None, disks=told, traces={0: none, 1: none}))
@@ -86,9 +90,19 @@ class Verdicts(unittest.TestCase):
 
     def test_wrong_are_keys_and_values_that_nobody_wrote(self):
         writes = {KEY: write(), "r/000000002": write("r/000000002", "b", type="info")}
-        right = [read(VALUE, 1), read(None, 2), read("b", 3, "r/000000002"), read("yes", 4, "ready")]
+        right = [
+            read(VALUE, 1),
+            read(None, 2),
+            read("b", 3, "r/000000002"),
+            read("yes", 4, "ready"),
+        ]
         self.assertEqual(wrong(writes, right), [])
-        faulty = [read("b", 5), read("x", 6, "r/000000002"), read("y", 7, "r/9"), read("z", 8, "r/9")]
+        faulty = [
+            read("b", 5),
+            read("x", 6, "r/000000002"),
+            read("y", 7, "r/9"),
+            read("z", 8, "r/9"),
+        ]
         self.assertEqual(wrong(writes, right + faulty), faulty[:3])
 
 
@@ -105,14 +119,30 @@ class Traces(unittest.TestCase):
                 path.parent.mkdir(exist_ok=True)
                 path.write_bytes(text)
             Path(folder, "link").symlink_to("nowhere")
-            return bool(traces(Path(folder), {KEY: self.VALUE, "r/000000002": "f" * 16}) - {"r/000000002"})
+            return bool(
+                traces(Path(folder), {KEY: self.VALUE, "r/000000002": "f" * 16}) - {"r/000000002"}
+            )
 
     def test_a_key_or_a_value_is_enough(self):
         key, value = KEY.encode(), self.VALUE.encode()
-        for text in (key, value, b"\xff" + key + b"#" + value, b"r/00000" + key + b"7", b"9a" + value + b"0"):
+        for text in (
+            key,
+            value,
+            b"\xff" + key + b"#" + value,
+            b"r/00000" + key + b"7",
+            b"9a" + value + b"0",
+        ):
             with self.subTest(text):
                 self.assertTrue(self.found(b"", text))
-        for text in (b"", b"\0" * 99, key[:-1], value[1:], b"r/00000\0" + key[7:], b"r/000000002", value.upper()):
+        for text in (
+            b"",
+            b"\0" * 99,
+            key[:-1],
+            value[1:],
+            b"r/00000\0" + key[7:],
+            b"r/000000002",
+            value.upper(),
+        ):
             with self.subTest(text):
                 self.assertFalse(self.found(b"", text))
 
@@ -121,7 +151,9 @@ class Traces(unittest.TestCase):
             for step in (1, 16, 99):
                 for before in range(40):
                     for filler in (b"\0", b"0"):
-                        with self.subTest(text, step=step, before=before, filler=filler), patch("nemesis.traces.STEP", step):
+                        with self.subTest(text, step=step, before=before, filler=filler), patch(
+                            "nemesis.traces.STEP", step
+                        ):
                             self.assertTrue(self.found(filler * before + text + filler * 20))
 
     def test_what_cannot_be_read_is_a_fault(self):
@@ -154,13 +186,20 @@ class Summaries(unittest.TestCase):
         self.assertEqual(told(100, [0.5, 0.5, 1.0], 1, 1), [])
         for acked in (7, 99):
             found = told(acked, [0.9, 1.0], 0, 0)
-            self.assertEqual([it.removeprefix("tested little: ").split()[0] for it in found], [str(acked), "for", "nothing"])
+            self.assertEqual(
+                [it.removeprefix("tested little: ").split()[0] for it in found],
+                [str(acked), "for", "nothing"],
+            )
         idle = "for 3.0 of 3.9 seconds no write was acknowledged, in 2 gaps of a second or more"
         self.assertEqual(told(100, [0.9, 1.0, 2.0], 1, 1), [f"tested little: {idle}"])
         self.assertTrue(told(100, [1.0], 1, 1)[0].endswith(" in 1 gap of a second or more"))
-        self.assertEqual(told(100, [0.5], 1, 0), ["tested little: nothing that was destroyed was healed"])
+        self.assertEqual(
+            told(100, [0.5], 1, 0), ["tested little: nothing that was destroyed was healed"]
+        )
         self.assertEqual(told(100, [0.5], 1, 0, is_control=True), [])
-        self.assertEqual(told(100, [0.5], 0, 0, is_control=True), ["tested little: nothing was destroyed"])
+        self.assertEqual(
+            told(100, [0.5], 0, 0, is_control=True), ["tested little: nothing was destroyed"]
+        )
         self.assertEqual(told(100, [0.5], 0, 0, partitions=1), [])
 
     def test_where_few_were_acknowledged_it_says_what_write_said(self):
@@ -189,14 +228,21 @@ class Whole(unittest.TestCase):
             with self.subTest(told=told, not_whole=not_whole):
                 self.assertEqual(checks.for_how_long(told, not_whole), seconds)
 
-
     def noes(self, *down, destroyed=(), clogged=()):
         """When process 2 was asked first and last, at 6, 7 and 8, where these were down at 7."""
         it = Store.__new__(Store)
-        it.names, it.not_whole, it.ledger = ["p0", "p1", "p2"], {}, unittest.mock.Mock(destroyed={2: ""})
+        it.names, it.not_whole, it.ledger = (
+            ["p0", "p1", "p2"],
+            {},
+            unittest.mock.Mock(destroyed={2: ""}),
+        )
         it.up, it.clogged = {0, 1, 2}, set()
         it._note_no(2, 6.0)
-        it.up, it.clogged, it.ledger.destroyed = it.up - {*down}, {*clogged}, dict.fromkeys([2, *destroyed])
+        it.up, it.clogged, it.ledger.destroyed = (
+            it.up - {*down},
+            {*clogged},
+            dict.fromkeys([2, *destroyed]),
+        )
         it._note_no(2, 7.0)
         it.up, it.clogged, it.ledger.destroyed = {0, 1, 2}, set(), {2: ""}
         it._note_no(2, 8.0)
@@ -259,16 +305,24 @@ class Cases(unittest.TestCase):
         self.assertEqual(case.fault(), fault)
         case = self.case(Left(None, disks=self.disks(unknown=[3])))
         self.assertEqual(case.verdict, Verdict.UNREADABLE)
-        self.assertEqual(case.fault(), "unknown: no read was answered, and whether the disk of k3 has it is unknown")
+        self.assertEqual(
+            case.fault(),
+            "unknown: no read was answered, and whether the disk of k3 has it is unknown",
+        )
 
     def test_files_are_evidence_where_a_disk_does_not_tell_all(self):
         disks = self.disks(unknown=[3]) | {4: {"?": "?"}}
         case = self.case(Left(None, disks=disks, traces={3: set(), 4: set()}))
         self.assertEqual(case.verdict, Verdict.LOST)
-        self.assertEqual(case.line()["lacks"], {f"k{n}": ["salvage" if n < 3 else "files"] for n in range(5)})
+        self.assertEqual(
+            case.line()["lacks"], {f"k{n}": ["salvage" if n < 3 else "files"] for n in range(5)}
+        )
         self.assertTrue(case.fault().endswith("and none has it: the store lost it"), case.fault())
         case = self.case(Left(None, disks=disks, traces={3: set(), 4: {KEY}}))
-        self.assertEqual(case.fault(), "unknown: no read was answered, and whether the disk of k4 has it is unknown")
+        self.assertEqual(
+            case.fault(),
+            "unknown: no read was answered, and whether the disk of k4 has it is unknown",
+        )
 
     def test_all_were_destroyed_as_the_guard_allowed(self):
         losses = [(0, 6.0, 7), (1, 6.0, 7), (2, 6.0, 7), (3, 7.0, 20), (4, 7.0, 20)]
@@ -281,9 +335,13 @@ class Cases(unittest.TestCase):
         mild = {"entry": 3, "does": "Reboot", "beyond": True, "t": 2.0, "targets": [2]}
         losses = [(2, 6.0, 7), (3, 6.0, 7)]
         case = self.case(Left({}, disks=self.disks()), losses, orders=[mild, order])
-        self.assertEqual(case.fault(), "beyond the guard since entry 7, which destroyed k2 k3 who could hold it")
+        self.assertEqual(
+            case.fault(), "beyond the guard since entry 7, which destroyed k2 k3 who could hold it"
+        )
         case = self.case(Left({}, disks=self.disks()), losses, orders=[order], able=(0, 3))
-        self.assertEqual(case.fault(), "beyond the guard since entry 7, which destroyed k3 who could hold it")
+        self.assertEqual(
+            case.fault(), "beyond the guard since entry 7, which destroyed k3 who could hold it"
+        )
         case = self.case(Left({}, disks=self.disks(4)), losses, orders=[order])
         self.assertTrue(case.fault().endswith("; k4 has it"))
         case = self.case(Left({}, disks=self.disks()), orders=[order | {"entry": 2, "t": 1.0}])
@@ -302,7 +360,9 @@ class Cases(unittest.TestCase):
         case = self.case(Left({}, disks=self.disks()), losses, heals)
         self.assertTrue(case.fault().endswith("and none has it: the store lost it"), case.fault())
         later = self.case(Left({}, disks=self.disks()), [(0, 6.0, 7), (1, 8.0, 11)], heals)
-        self.assertTrue(later.fault().endswith("`whole` was wrong, or the store lost it"), later.fault())
+        self.assertTrue(
+            later.fault().endswith("`whole` was wrong, or the store lost it"), later.fault()
+        )
 
     def test_a_process_lacks_it_and_read_has_it(self):
         left = Left({KEY: VALUE}, {0: {KEY: VALUE}, 2: {KEY: None}})
@@ -311,7 +371,11 @@ class Cases(unittest.TestCase):
             "k2 lacks it by `check`, and k0 and `read` has it: the store lost it there, or `check` is wrong",
         )
         case = self.case(left, losses=[(2, 6.0, 7)], heals=[(2, 7.0, 9)])
-        self.assertTrue(case.fault().endswith("k2 was healed by entry 9: `whole` was wrong, or the store lost it"))
+        self.assertTrue(
+            case.fault().endswith(
+                "k2 was healed by entry 9: `whole` was wrong, or the store lost it"
+            )
+        )
 
     def test_stale(self):
         late = Operation(1, "read", KEY, None, 5_300_000_000, 5_400_000_000, "ok", node=1)
@@ -376,10 +440,13 @@ class Waits(unittest.IsolatedAsyncioTestCase):
 
 
 class First(unittest.IsolatedAsyncioTestCase):
-    """When --check-hooks looks first, of a store that acknowledges a record, or none, at each look."""
+    """When --check-hooks looks first, of a store that acknowledges a record, or none, at each
+    look."""
 
     async def count(self, each):
-        run, clock = unittest.mock.Mock(), unittest.mock.Mock(monotonic=itertools.count(0.0, 0.1).__next__)
+        run, clock = unittest.mock.Mock(), unittest.mock.Mock(
+            monotonic=itertools.count(0.0, 0.1).__next__
+        )
         run.ledger.records = {}
 
         async def sleep(_):
@@ -406,15 +473,27 @@ class Words(unittest.TestCase):
         return [*checks.fitting(*measured, pauses, seconds)]
 
     def test_pauses_that_are_long_enough_are_kept(self):
-        self.assertEqual(self.fitting(0.4, 1.3), [f"{self.TAKE} --pauses 0,0.2,0.5,1,2,4 --seconds 60"])
-        self.assertEqual(self.fitting(6.0, 8.0, pauses=[8], seconds=90), [f"{self.TAKE} --pauses 8 --seconds 90"])
+        self.assertEqual(
+            self.fitting(0.4, 1.3), [f"{self.TAKE} --pauses 0,0.2,0.5,1,2,4 --seconds 60"]
+        )
+        self.assertEqual(
+            self.fitting(6.0, 8.0, pauses=[8], seconds=90), [f"{self.TAKE} --pauses 8 --seconds 90"]
+        )
 
     def test_a_pause_is_as_long_as_a_heal_and_a_run_as_ten(self):
         short = "--pauses are 1.3 s on average, shorter than a heal: orders would be lessened"
-        self.assertEqual(self.fitting(0.4, 4.0), [short, f"{self.TAKE} --pauses 1,4,8 --seconds 60"])
+        self.assertEqual(
+            self.fitting(0.4, 4.0), [short, f"{self.TAKE} --pauses 1,4,8 --seconds 60"]
+        )
         slow = self.fitting(15.2, 24.0)
         self.assertEqual(slow[0], short)
-        self.assertEqual(slow[1:], ["--seconds 60 leaves no time for 3 heals", f"{self.TAKE} --pauses 16,24,48 --seconds 300"])
+        self.assertEqual(
+            slow[1:],
+            [
+                "--seconds 60 leaves no time for 3 heals",
+                f"{self.TAKE} --pauses 16,24,48 --seconds 300",
+            ],
+        )
 
     def test_a_start_is_one_of_a_process_that_was_struck(self):
         words = unittest.mock.Mock(pauses=[8], seconds=90.0)
@@ -427,13 +506,18 @@ class Words(unittest.TestCase):
 
     def test_where_nothing_is_healed_a_pause_is_as_long_as_a_start(self):
         short = "--pauses are 1.3 s on average, shorter than a start: orders would be lessened"
-        self.assertEqual(self.fitting(2.1, 0.0), [short, f"{self.TAKE} --pauses 3,3,5 --seconds 60"])
+        self.assertEqual(
+            self.fitting(2.1, 0.0), [short, f"{self.TAKE} --pauses 3,3,5 --seconds 60"]
+        )
 
 
 class Pauses(unittest.TestCase):
     def test_what_never_comes_up_is_started_less_and_less_often(self):
         crashes = Crashes()
-        pauses = [(crashes.add(was_up, 1, []), crashes.pause())[1] for was_up in [False] * 8 + [True, False]]
+        pauses = [
+            (crashes.add(was_up, 1, []), crashes.pause())[1]
+            for was_up in [False] * 8 + [True, False]
+        ]
         self.assertEqual(pauses, [0.1, 0.2, 0.4, 0.8, 1.6, 3.2, 5, 5, 0.1, 0.1])
 
 
@@ -454,9 +538,23 @@ class Ends(unittest.TestCase):
         self.assertEqual(self.last(1), "with status 1: its log says nothing")
 
     def test_before_a_backtrace_is_why(self):
-        frames = ["#0  0x59aad9 in print_backtrace+9", "#1  0x446a37 in _ZL12sig_fatal_cb", "#10 0x69262f in coro_init+3f"]
-        begun = ["ready", "Segmentation fault", "  code: SEGV_MAPERR", "  siginfo: 0x7f06", "the server has already crashed"]
-        java = ["Exception in thread main: no space", "\tat store.Main.run(Main.java:7)", "\tat store.Main.main(Main.java:3)"]
+        frames = [
+            "#0  0x59aad9 in print_backtrace+9",
+            "#1  0x446a37 in _ZL12sig_fatal_cb",
+            "#10 0x69262f in coro_init+3f",
+        ]
+        begun = [
+            "ready",
+            "Segmentation fault",
+            "  code: SEGV_MAPERR",
+            "  siginfo: 0x7f06",
+            "the server has already crashed",
+        ]
+        java = [
+            "Exception in thread main: no space",
+            "\tat store.Main.run(Main.java:7)",
+            "\tat store.Main.main(Main.java:3)",
+        ]
         go = ["panic: no space", "goroutine 1 [running]:", "main.main()", "\t/src/main.go:5 +0x1d"]
         for log, line in (
             ([*begun, *frames], "Segmentation fault"),

@@ -3,9 +3,9 @@
 
     tests/pages/lengths.py
 
-What a program makes or prints stands between marks, and isn't counted. In *Use* a word has a letter:
-code within a line is one, a link is its text, and blocks of code have none. Of *Inside* all counts that
-stands between blanks, code and the signs of tables too.
+What a program makes or prints stands between marks, and isn't counted. In *Use* a word has a
+letter: code within a line is one, a link is its text, and blocks of code have none. Of *Inside* all
+counts that stands between blanks, code and the signs of tables too.
 """
 import re
 import sys
@@ -72,7 +72,10 @@ class Lengths(unittest.TestCase):
 
     def test_what_is_made_or_printed_is_left_out(self) -> None:
         of_source = made.BEGIN.format("x"), made.END
-        of_table = "<!-- begin: this table is generated from x -->", "<!-- end of the generated table -->"
+        of_table = (
+            "<!-- begin: this table is generated from x -->",
+            "<!-- end of the generated table -->",
+        )
         of_run = "<!-- begin: printed by x -->", "<!-- end of what was printed -->"
         for begin, end in (of_source, of_table, of_run):
             self.assertEqual(words(f"a\n{begin}\nb c\n{end}\nd"), 2)

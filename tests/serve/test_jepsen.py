@@ -13,7 +13,9 @@ EXAMPLE = ROOT / "examples/jepsen/guarded.clj"
 
 class Jepsen(Case):
     def test_it_asks_before_each_kill_and_again_without_an_answer(self) -> None:
-        if subprocess.run([ROOT / "tests/tools/needs", "the example for Jepsen", "clojure"]).returncode:
+        if subprocess.run(
+            [ROOT / "tests/tools/needs", "the example for Jepsen", "clojure"]
+        ).returncode:
             self.skipTest("SKIPPED the example for Jepsen: there is no clojure")
         built()
         server = self.server().start()
@@ -23,10 +25,10 @@ class Jepsen(Case):
             f'(guarded/struck {url} "p0" :RebootAndDelete)',
             f'(guarded/struck {url} "p2" :RebootAndDelete)',
             f'(guarded/struck {url} "nobody" :Reboot)',
-            f"(re-find #\"reply.*\" (guarded/up {url} 0))",
+            f'(re-find #"reply.*" (guarded/up {url} 0))',
             f'(try (guarded/act {url} "x") (catch clojure.lang.ExceptionInfo it (ex-data it)))',
             "(do (println :kill) (flush) (read-line))",
-            f"(re-find #\"reply.*\" (guarded/up {url} 2))",
+            f'(re-find #"reply.*" (guarded/up {url} 2))',
         )
         asks = "".join(f"(println {it})(flush)\n" for it in calls)
         program.write_text(f'(load-file "{EXAMPLE}")\n{asks}(System/exit 0)\n')

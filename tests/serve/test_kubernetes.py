@@ -1,4 +1,5 @@
-"""docs/KUBERNETES.md: its commands run with a kubectl of the test, and its manifest is read. There is no cluster."""
+"""docs/KUBERNETES.md: its commands run with a kubectl of the test, and its manifest is read. There
+is no cluster."""
 
 from __future__ import annotations
 
@@ -55,7 +56,9 @@ class Kubernetes(Case):
         self.assertEqual(server.check(), "legal 4")
 
     def test_the_server_starts_as_its_manifest_says(self) -> None:
-        program = "import json, sys, yaml; json.dump(list(yaml.safe_load_all(sys.stdin)), sys.stdout)"
+        program = (
+            "import json, sys, yaml; json.dump(list(yaml.safe_load_all(sys.stdin)), sys.stdout)"
+        )
         words = [ROOT / "tests/tools/needs", "the manifest for Kubernetes", "python3-yaml"]
         if subprocess.run(words).returncode:
             self.skipTest("SKIPPED the manifest for Kubernetes: there is no python3-yaml")

@@ -1,4 +1,5 @@
-"""The server on a disk whose power is cut: tools/lossy, which keeps what was synced and nothing else."""
+"""The server on a disk whose power is cut: tools/lossy, which keeps what was synced and nothing
+else."""
 
 from __future__ import annotations
 

@@ -52,7 +52,9 @@ TITLES = (
 def ends_of(sheet: xml.Element, count: int) -> list[int]:
     """How many entries there are up to the end of each column: each stands for as many as fit."""
     width = number(sheet, "data-width")
-    assert width == next(2**it for it in itertools.count() if count <= MOST_COLUMNS * 2**it), width
+    assert width == next(
+        2**it for it in itertools.count() if count <= MOST_COLUMNS * 2**it
+    ), width
     ends = [min(end + width, count) for end in range(0, count, width)]
     columns = number(sheet, "data-columns")
     assert columns == len(ends), f"{columns} columns, and not {len(ends)}"

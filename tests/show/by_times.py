@@ -142,9 +142,7 @@ def check_seconds(sheet: xml.Element, times: Times) -> None:
     assert found == due, found
 
 
-def drawn(
-    program: Program, path: Path, audit: bytes, events: Path, bad: int | None = None
-) -> str:
+def drawn(program: Program, path: Path, audit: bytes, events: Path, bad: int | None = None) -> str:
     """The picture of an audit by these events, held against both."""
     text = program.drawn(path, audit, 0 if bad is None else 5, "--times", events)
     sheet, config, entries = xml.fromstring(text), read_config(path), entries_of(audit)[:bad]

@@ -290,8 +290,7 @@ def check_legend(sheet: xml.Element) -> None:
         for (x, text), (after, _) in itertools.pairwise(words):
             assert x + 6 * len(text) < after - 10, f"{text} runs into what follows"
     shown = {
-        shape.get("class"): word.text
-        for shape, word in zip(legend[::2], legend[1::2], strict=True)
+        shape.get("class"): word.text for shape, word in zip(legend[::2], legend[1::2], strict=True)
     }
     assert shown["acked"] == "a record is acknowledged", shown
     assert shown["tick"] == "time passed", shown

@@ -328,7 +328,7 @@ class _Reader:
             self.fail(f"a value is missing, and {self.told()} follows")
         if word[0] in "\u201c\u201d\u201e\u2018\u2019\u00ab`":
             self.fail('a text stands between quotes as `"`', start, start + len(word))
-        told = f"`{word[:40]}` is no value: a text stands between quotes, as \"{word[:40]}\""
+        told = f'`{word[:40]}` is no value: a text stands between quotes, as "{word[:40]}"'
         self.fail(told, start, start + len(word))
 
     # Texts.

@@ -59,7 +59,12 @@ def parsed() -> argparse.Namespace:
     add("config", type=Path, metavar="CONFIG", help="the cluster file")
     add("hooks", type=Path, metavar="HOOKS", help="an executable that knows the store")
     add("--seed", type=int, default=1, help="orders are drawn from it (1)")
-    add("--seconds", type=float, default=60.0, help="how long records are written, once all are ready (60)")
+    add(
+        "--seconds",
+        type=float,
+        default=60.0,
+        help="how long records are written, once all are ready (60)",
+    )
     add("--plan", choices=PLANS, default="mixed", help="how orders are drawn (mixed)")
     kinds, mixed, blackout, partition = (
         ",".join(f"{it:g}" for it in those) for those in (KINDS, PAUSES, BLACKOUTS, PARTITIONS)
@@ -86,7 +91,12 @@ def parsed() -> argparse.Namespace:
     add("--hook-timeout", type=float, default=10.0, metavar="SECONDS", help=text)
     text = "ask a faultyard-serve by its socket or URL, and do what others are answered there too"
     add("--guard", metavar="SERVER", help=text)
-    add("--tokens", type=Path, metavar="FILE", help="tokens for --guard, as faultyard-serve has them")
+    add(
+        "--tokens",
+        type=Path,
+        metavar="FILE",
+        help="tokens for --guard, as faultyard-serve has them",
+    )
     add("--out", type=Path, metavar="FOLDER", help="empty or new; else a new one below TMPDIR")
     add("--keep", action="store_true", help="keep the data of the processes if nothing is lost")
     add("--quiet", action="store_true", help="print the summary alone")
@@ -230,7 +240,8 @@ def write_files(run: Run) -> str:
 
 
 def after_cuts(run: Run) -> list[str]:
-    """What may be the work of a power cut: records that are missing, and who did not start again."""
+    """What may be the work of a power cut: records that are missing, and who did not start
+    again."""
     lost = run.counts()["lost"]
     if not run.cuts or not (lost or run.down):
         return []

@@ -39,7 +39,8 @@ class Orders:
         return self._simulated() or (list(self._diced()), "drawn by this tool's own dice")
 
     def _simulated(self) -> tuple[list[Timed], str] | None:
-        """The orders of `faultyard simulate`, where it has the plan and the library can be asked."""
+        """The orders of `faultyard simulate`, where it has the plan and the library can be
+        asked."""
         words = self.words
         if words.kinds or words.plan not in {it.value for it in Plan} or words.seed not in SEEDS:
             return None

@@ -1,6 +1,5 @@
 """A run: orders are asked and done while records are written; then what is left is read."""
 import asyncio
-import time
 from argparse import Namespace
 from collections import Counter
 from contextlib import suppress
@@ -8,7 +7,7 @@ from dataclasses import replace
 from random import Random
 from typing import Any
 
-from faultyard import FaultyardError, Guard, Key, Kind
+from faultyard import FaultyardError, Guard
 
 from . import HOOK, Fault
 from .checks import HookCheck

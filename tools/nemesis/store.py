@@ -166,7 +166,8 @@ class Store(Harness):
             self._keeping[number] = self.tasks.create_task(self._keep(number))
 
     def _freeze(self, processes: Sequence[int]) -> None:
-        """Stops them before any ends, since a power cut leaves nobody the time for one more sync."""
+        """Stops them before any ends, since a power cut leaves nobody the time for one more
+        sync."""
         for number in processes:
             process = self._started.get(number)
             if process and process.returncode is None:

@@ -42,7 +42,8 @@ def tested_little(amount: Amount, is_control: bool = False) -> list[str]:
 
 
 def failures(failed: Mapping[str, int], said: str, count: int) -> str:
-    """How many writes had no acknowledgement, and what `write` wrote to standard error most often."""
+    """How many writes had no acknowledgement, and what `write` wrote to standard error most
+    often."""
     kinds = ", ".join(f"{number} {kind}" for kind, number in failed.items())
     text = f"{sum(failed.values())} writes weren't acknowledged ({kinds})"
     return f"{text}; `write` said most often, {count} times: {said}" if said else text

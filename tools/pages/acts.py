@@ -1,8 +1,8 @@
 """The tables of acts, replies, refusals and rules in docs/FORMATS.md.
 
-What each of them is, is the comment of its variant. Who may make an act, and for what it is refused,
-are two definitions. Examples are written here: the tests of the Python package make each act by a
-call, and read each reply.
+What each of them is, is the comment of its variant. Who may make an act, and for what it is
+refused, are two definitions. Examples are written here: the tests of the Python package make each
+act by a call, and read each reply.
 """
 
 from __future__ import annotations
@@ -104,7 +104,9 @@ def acts() -> str:
 
 def replies() -> str:
     found = variants("fy_acts/src/reply.rt", "Reply")
-    return table(("Reply", "What it says"), ((f"`{REPLIES[it]}`", told(says)) for it, says, _ in found))
+    return table(
+        ("Reply", "What it says"), ((f"`{REPLIES[it]}`", told(says)) for it, says, _ in found)
+    )
 
 
 def refusals() -> str:

@@ -33,7 +33,9 @@ def code_lines(source: str) -> set[int]:
         if token.type not in NO_CODE:
             found.update(range(token.start[0], token.end[0] + 1))
     for node in ast.walk(ast.parse(source)):
-        if isinstance(node, (ast.Module, ast.FunctionDef, ast.ClassDef)) and ast.get_docstring(node):
+        if isinstance(node, (ast.Module, ast.FunctionDef, ast.ClassDef)) and ast.get_docstring(
+            node
+        ):
             found.difference_update(lines_of(node.body[0]))
     texts = source.splitlines()
     return {number for number in found if texts[number - 1].strip()}

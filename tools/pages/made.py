@@ -50,8 +50,8 @@ def with_part(page: str, name: str, part: str) -> str:
 
 
 def by_hand(page: str) -> str:
-    """What of a page is written by hand: all that stands outside such marks, those of release/pages,
-    and those of tables that a run printed."""
+    """What of a page is written by hand: all that stands outside such marks, those of
+    release/pages, and those of tables that a run printed."""
     return re.sub(r"(?s)<!-- begin: .*?<!-- end of .*?-->", "", page)
 
 

@@ -241,8 +241,11 @@ def head_at(lines: list[str], at: int, indent: str) -> str:
     """A function's head, up to its body."""
     for end in range(at, len(lines)):
         line = lines[end]
-        if line == indent + "{" or line.endswith((" {", ";")) and line.startswith(indent) and (
-            end == at or line[len(indent)] in ")}w"
+        if (
+            line == indent + "{"
+            or line.endswith((" {", ";"))
+            and line.startswith(indent)
+            and (end == at or line[len(indent)] in ")}w")
         ):
             return "\n".join(lines[at : end + 1])
         if line.startswith(indent + "{"):

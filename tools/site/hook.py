@@ -68,7 +68,8 @@ def on_config(config: Any) -> Any:
 
 
 def on_files(files: Files, config: Any) -> Files:
-    """The pages of the navigation, what they link to, our style and script, beside the theme's own files."""
+    """The pages of the navigation, what they link to, our style and script, beside the theme's own
+    files."""
     own = [*config["extra_css"], *config["extra_javascript"]]
     found = dict.fromkeys([*pages_of(config["nav"]), *own])
     waiting = list(found)

@@ -1,4 +1,5 @@
-"""What the tests of the binding share: the clusters, random acts, and what `faultyard run` says of them."""
+"""What the tests of the binding share: the clusters, random acts, and what `faultyard run` says of
+them."""
 
 import json
 import os
@@ -23,8 +24,11 @@ KEYS = {"processid": "p", "machineid": "m", "zoneid": "z", "data_hall": "h", "dc
 
 
 def need(what, *programs):
-    """Skips a test, or a class of tests, where the machine lacks a program; tests/tools/needs says so."""
-    told = subprocess.run([ROOT / "tests/tools/needs", what, *programs], capture_output=True, text=True)
+    """Skips a test, or a class of tests, where the machine lacks a program; tests/tools/needs says
+    so."""
+    told = subprocess.run(
+        [ROOT / "tests/tools/needs", what, *programs], capture_output=True, text=True
+    )
     if told.returncode == 1:
         raise unittest.SkipTest(told.stdout.strip())
     if told.returncode != 0:
@@ -133,7 +137,8 @@ def run_script(config, acts):
 
 
 class RandomActs:
-    """Acts for the six processes and five actors of examples/c6.toml; some name what isn't there."""
+    """Acts for the six processes and five actors of examples/c6.toml; some name what isn't
+    there."""
 
     def __init__(self, seed):
         self.source = random.Random(seed)

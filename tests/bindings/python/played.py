@@ -48,7 +48,6 @@ A call answers one of these:
 import json
 import re
 
-import common
 import faultyard
 
 TYPED = {
@@ -158,7 +157,9 @@ def states_drawn(config, audit):
     drawn = {}
     for process, row in rows:
         marks = drawn[int(process)] = [set() for _ in range(count)]
-        for name, start, end in re.findall(r'class="(\w+)".* data-from="(\d+)" data-to="(\d+)"', row):
+        for name, start, end in re.findall(
+            r'class="(\w+)".* data-from="(\d+)" data-to="(\d+)"', row
+        ):
             for column in range(int(start), int(end)):
                 marks[column].add(name)
     return [[state(drawn[it][column]) for it in sorted(drawn)] for column in range(count)]

@@ -269,7 +269,8 @@ class GuardTests(common.Folder):
 
     def test_the_longest_line_and_its_longer_answer(self):
         guard = self.guard()
-        # The line has exactly 65,536 bytes: 58 beside the digits. One more byte of payload is too long.
+        # The line has exactly 65,536 bytes: 58 beside the digits. One more byte of payload is too
+        # long.
         begin = {"payload": "6b" * 32_739, "team": 1000000000}
         self.assertEqual(
             len(json.dumps({"by": 10, "act": {"begin": begin}}, separators=(",", ":"))), 65_536

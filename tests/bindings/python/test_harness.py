@@ -1,4 +1,5 @@
-"""What a harness of one's own takes from the Python binding: the cluster file, plans, the ledger, the server."""
+"""What a harness of one's own takes from the Python binding: the cluster file, plans, the ledger,
+the server."""
 
 import asyncio
 import json
@@ -72,7 +73,9 @@ class PlansTest(unittest.TestCase):
         for pauses in (None, [20.0, 25.0]):
             orders = self.drawn("blackout", pauses=pauses)
             self.assertEqual({order.pause for order in orders}, set(pauses or (4.0, 6.0, 8.0)))
-            self.assertEqual({(order.kind, order.key) for order in orders}, {(Kind.REBOOT, Key.ZONE)})
+            self.assertEqual(
+                {(order.kind, order.key) for order in orders}, {(Kind.REBOOT, Key.ZONE)}
+            )
 
     def test_partition_draws_its_own_pauses_or_those_given(self):
         for pauses in (None, [6.0, 10.0]):

@@ -335,7 +335,9 @@ class Helpers(unittest.TestCase):
             Path(folder, "b.old").write_text(other)
             found = fy.records_in(folder, "*.log")
             self.assertEqual(found, dict([one.split()]))
-            self.assertEqual(fy.records_in(folder, "*.old", "*.log"), dict([other.split(), one.split()]))
+            self.assertEqual(
+                fy.records_in(folder, "*.old", "*.log"), dict([other.split(), one.split()])
+            )
             self.assertEqual(fy.record_in("r/000000001", folder, "*"), "0123456789abcdef")
             self.assertIsNone(fy.record_in("r/000000003", folder, "*"))
             Path(folder, "c").write_text(one.replace("1 ", "3 "))
@@ -933,10 +935,10 @@ class ErlangNodes(unittest.TestCase):
         self.assertEqual(heard, [words, "1 + 1. epmd at 20003"])
 
     def test_an_expression_that_fails_is_refused(self):
-        why = "{{badmatch,false},\\\\n  [{erl_eval,expr}]}}\"}"
+        why = '{{badmatch,false},\\\\n  [{erl_eval,expr}]}}"}'
         fault = f"{{error, \"*** eval: {{'EXIT',\\\\n   {why}"
         status, _, said, _ = self.call("read", told=fault)
-        told = "Refused: {{badmatch,false}, [{erl_eval,expr}]}}\"}: 1 + 1\n"
+        told = 'Refused: {{badmatch,false}, [{erl_eval,expr}]}}"}: 1 + 1\n'
         self.assertEqual((status, said), (1, told))
         self.assertEqual(self.call("read", told="{error, x}")[2], "Refused: {error, x}: 1 + 1\n")
         long = self.call("read", told=f"{{error, {'x' * 99}}}")[2]

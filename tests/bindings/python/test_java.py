@@ -19,7 +19,8 @@ COMPILE = ["javac", "-Xlint:all", "-Werror", "--release", "11"]
 
 
 def flat(by, act):
-    """An act as GuardTest reads it: the actor, the name, and the members in the order of their names."""
+    """An act as GuardTest reads it: the actor, the name, and the members in the order of their
+    names."""
     ((name, members),) = act.items()
     words = [str(by), name]
     for member in sorted(members):
@@ -75,11 +76,20 @@ class Spelling:
 
     def escaped(self, text):
         """A text in which some characters are escaped."""
-        ways = (lambda it: it, lambda it: it, lambda it: f"\\u{ord(it):04x}", lambda it: f"\\U{ord(it):08X}")
+        ways = (
+            lambda it: it,
+            lambda it: it,
+            lambda it: f"\\u{ord(it):04x}",
+            lambda it: f"\\U{ord(it):08X}",
+        )
         return "".join(self.source.choice(ways)(it) for it in text)
 
     def string(self, text):
-        broken = self.escaped(text[:1]) + self.one_of("", "\\\n  ", "\\ \r\n\n\t") + self.escaped(text[1:])
+        broken = (
+            self.escaped(text[:1])
+            + self.one_of("", "\\\n  ", "\\ \r\n\n\t")
+            + self.escaped(text[1:])
+        )
         begin = self.one_of("", "\n", "\r\n")
         return self.one_of(
             f'"{self.escaped(text)}"', f"'{text}'", f'"""{begin}{broken}"""', f"'''{begin}{text}'''"
@@ -122,7 +132,13 @@ class Spelling:
                     place.append((key, self.string(f"{letter}{self.source.randrange(3)}")))
             processes.append(self.source.sample(place, len(place)))
         kinds = self.array([self.string(it) for it in common.KINDS])
-        grant = self.table([("kinds", self.array([])), ("key", self.string("zoneid")), ("value", self.string("z0"))])
+        grant = self.table(
+            [
+                ("kinds", self.array([])),
+                ("key", self.string("zoneid")),
+                ("value", self.string("z0")),
+            ]
+        )
         actors = [[("role", self.string("storage"))]]
         actors.append([("grants", f"[{grant},{{kinds={kinds}}}]"), ("role", self.string("fault"))])
         parts = [

@@ -1,4 +1,5 @@
-"""The library through ctypes: its table of calls against the header, and what only a guard in this process can meet."""
+"""The library through ctypes: its table of calls against the header, and what only a guard in this
+process can meet."""
 
 import ctypes
 import gc

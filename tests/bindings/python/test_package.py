@@ -1,4 +1,5 @@
-"""The package as its users meet it: installed without a network, the examples of its page, the pytest fixture."""
+"""The package as its users meet it: installed without a network, the examples of its page, the
+pytest fixture."""
 
 import os
 import re
@@ -29,13 +30,26 @@ def two(folder):
 class TypesTest(unittest.TestCase):
     def test_mypy_finds_nothing(self):
         common.need("the types of the Python package", "mypy")
-        words = ["mypy", "--strict", "--cache-dir=/dev/null", "src/faultyard", "src/faultyard_hooks"]
+        words = [
+            "mypy",
+            "--strict",
+            "--cache-dir=/dev/null",
+            "src/faultyard",
+            "src/faultyard_hooks",
+        ]
         ran = subprocess.run(words, cwd=PACKAGE, capture_output=True, text=True)
         self.assertEqual(ran.returncode, 0, ran.stdout + ran.stderr)
 
     def test_mypy_finds_nothing_in_the_tools(self):
         common.need("the types of the tools", "mypy")
-        words = ["mypy", "--strict", "--cache-dir=/dev/null", "keeper.py", "nemesis", "config_check"]
+        words = [
+            "mypy",
+            "--strict",
+            "--cache-dir=/dev/null",
+            "keeper.py",
+            "nemesis",
+            "config_check",
+        ]
         env = os.environ | {"MYPYPATH": str(PACKAGE / "src")}
         tools = common.ROOT / "tools"
         ran = subprocess.run(words, cwd=tools, env=env, capture_output=True, text=True)
@@ -144,7 +158,8 @@ class Installed(common.Folder, unittest.TestCase):
         self.assertTrue((site / "faultyard/pytest_plugin.py").exists())
 
     def pytest(self, text, ini="[pytest]\nfaultyard_cluster = two.toml\n", **more):
-        """What pytest says of a test file, where only the installed package tells it of the fixture."""
+        """What pytest says of a test file, where only the installed package tells it of the
+        fixture."""
         common.need("the pytest fixture", "pytest-3")
         two(self.folder)
         common.written(self.folder, "pytest.ini", ini)

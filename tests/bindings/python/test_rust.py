@@ -127,7 +127,9 @@ class Table(unittest.TestCase):
         ):
             body = re.search(rf"^typedef struct {struct} {{(.*?)^}}", HEADER, re.M | re.S)[1]
             fields = re.findall(r"^    (\w+) (\w+)(?:\[FY_(\w+)\])?;", body, re.M)
-            wanted = [(name, f"[u8; {room}]" if room else TYPES[kind]) for kind, name, room in fields]
+            wanted = [
+                (name, f"[u8; {room}]" if room else TYPES[kind]) for kind, name, room in fields
+            ]
             body = re.search(rf"^pub struct {its} {{(.*?)^}}", source("sys.rs"), re.M | re.S)[1]
             self.assertEqual(re.findall(r"^    pub (\w+): (.*),$", body, re.M), wanted)
             self.assertEqual(len(wanted), count)

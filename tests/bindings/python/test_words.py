@@ -47,7 +47,9 @@ class Words(unittest.TestCase):
         texts = re.findall(r"^\| `([^`]+)` \|", rows, re.M)
         line = '{{"act":{{"tick":{{"ticks":1}}}},"at":0,"by":0,"reply":{}}}'
         read = [type(read_entry(line.format(it).encode()).reply) for it in texts]
-        self.assertEqual(sorted(it.__name__ for it in read), sorted(it.__name__ for it in Reply.__args__))
+        self.assertEqual(
+            sorted(it.__name__ for it in read), sorted(it.__name__ for it in Reply.__args__)
+        )
 
 
 class KindsTest(unittest.TestCase):

@@ -1,10 +1,11 @@
 """What the refusal of a mutant depends on, as one digest.
 
-The prover checks the function that a mutant turns from its own text, the answers written for it, and what all that
-names: contracts of functions (never their bodies), types with what they are seen as, constants, definitions, lemmas,
-of its own crate and, where they are public, of the crates below; what these name in turn, and so on. A name counts
-wherever it stands, so the digest may name more than the prover reads, and not less. Comments and tests are no part of
-it. The layout that is read is that of rt fmt.
+The prover checks the function that a mutant turns from its own text, the answers written for it,
+and what all that names: contracts of functions (never their bodies), types with what they are seen
+as, constants, definitions, lemmas, of its own crate and, where they are public, of the crates
+below; what these name in turn, and so on. A name counts wherever it stands, so the digest may name
+more than the prover reads, and not less. Comments and tests are no part of it. The layout that is
+read is that of rt fmt.
 """
 import hashlib, os, re, subprocess
 from functools import cache
@@ -15,7 +16,8 @@ WORD = re.compile(r"[\w'](?:[\w'-]*[\w'])?")
 MARGIN_ITEM = re.compile(
     r"(?:pub(?:\([\w :]+\))? )?(?:unsafe )?(?:extern \"C\" )?(const fn|fn|struct|enum|union|type|const|static|trait|impl|mod|use|ghost use)\b"
 )
-# Traits whose functions are called without their name, by an operator, a loop, `?`, or where a value ends.
+# Traits whose functions are called without their name, by an operator, a loop, `?`, or where a
+# value ends.
 UNNAMED = re.compile(
     r"(?:\w+::)*(Model|Drop|From|Into|TryFrom|Iterator|IntoIterator|FromIterator|Extend|Deref|DerefMut|Index|IndexMut|PartialEq|Eq"
     r"|PartialOrd|Ord|Hash|Clone|Copy|Default|Debug|Display|Write|Read|Error|Termination|Not|Neg|\w+Assign|Add|Sub|Mul|Div|Rem"
@@ -25,7 +27,8 @@ FUNCTION = re.compile(r"(?:pub(?:\([\w :]+\))? )?(?:const )?(?:unsafe )?(?:exter
 
 
 class Part:
-    """A piece of a text: the names by which others name it (none: all of its crate depend on it), what it says to them, and whether a crate above can name it."""
+    """A piece of a text: the names by which others name it (none: all of its crate depend on it),
+    what it says to them, and whether a crate above can name it."""
 
     def __init__(self, names, text, is_public, body=""):
         self.names, self.text, self.is_public, self.body = frozenset(names), text, is_public, body
@@ -54,8 +57,15 @@ def parted(function, indent):
     lines, pad = function.split("\n"), " " * indent
     first = next(at for at, line in enumerate(lines) if FUNCTION.match(line.strip()))
     for at in range(first, len(lines)):
-        if lines[at] == pad + "{" or lines[at].startswith(pad) and lines[at][indent:indent + 1] != " " and lines[at].endswith(" {"):
-            return "\n".join(lines[:at] + [lines[at].removesuffix("{").rstrip()]), "\n".join(lines[at + 1:])
+        if (
+            lines[at] == pad + "{"
+            or lines[at].startswith(pad)
+            and lines[at][indent : indent + 1] != " "
+            and lines[at].endswith(" {")
+        ):
+            return "\n".join(lines[:at] + [lines[at].removesuffix("{").rstrip()]), "\n".join(
+                lines[at + 1 :]
+            )
     return function, ""
 
 
@@ -86,12 +96,20 @@ def parts_of_source(text):
 
 
 def parts_of_block(head, block, kind):
-    """The parts of an impl or a trait: its functions by their names where they are called so, and the rest by the types."""
+    """The parts of an impl or a trait: its functions by their names where they are called so, and
+    the rest by the types."""
     lines = block.split("\n")
     first = lines.index(head)
     inner = lines[first + 1 : -1]
     of_trait = kind == "trait" or re.match(r"(?:unsafe )?impl\b.* for ", head)
-    named = re.search(r"trait (\w+)" if kind == "trait" else r"\bfor (\w+)" if of_trait else r"impl(?:<[^>]*>)? (\w+)", head)
+    named = re.search(
+        r"trait (\w+)"
+        if kind == "trait"
+        else r"\bfor (\w+)"
+        if of_trait
+        else r"impl(?:<[^>]*>)? (\w+)",
+        head,
+    )
     owner = named[1] if named else ""
     parts, rest = [], []
     for item in blocks_of(inner, 4):
@@ -105,7 +123,11 @@ def parts_of_block(head, block, kind):
     if of_trait:
         trait = re.match(r"(?:unsafe )?impl(?:<[^>]*>)? (.*?) for ", head)
         whole = "\n".join([*lines[: first + 1], *rest, *(it.text for it in parts)])
-        by = owner if not trait or UNNAMED.match(trait[1]) else re.match(r"(?:\w+::)*(\w+)", trait[1])[1]
+        by = (
+            owner
+            if not trait or UNNAMED.match(trait[1])
+            else re.match(r"(?:\w+::)*(\w+)", trait[1])[1]
+        )
         return [Part({by}, whole if by == owner else head, True), *parts]
     if rest:
         parts.append(Part({owner}, "\n".join([*lines[: first + 1], *rest]), True))
@@ -141,7 +163,10 @@ def with_imports(parts, imports):
             for it in names.rstrip("}\n ").split(",") if brace else [""]:
                 name = re.split(r"::|\.| as ", it or path)[-1].strip()
                 pieces = [it for it in name.split("◌") if it]
-                if all(piece in words or not piece.isidentifier() and piece in part.text + part.body for piece in pieces):
+                if all(
+                    piece in words or not piece.isidentifier() and piece in part.text + part.body
+                    for piece in pieces
+                ):
                     used.append(f"{' '.join(path.split())}{' '.join(it.split())}")
         part.text = "\n".join([*sorted(used), part.text])
     return parts
@@ -149,7 +174,8 @@ def with_imports(parts, imports):
 
 @cache
 def parts_of(crate, of_whom):
-    """The parts of a crate that its own functions depend on, or with "above" those of the crates above."""
+    """The parts of a crate that its own functions depend on, or with "above" those of the crates
+    above."""
     found = []
     for part in ("src", "specs") if of_whom == "above" else PARTS:
         for file in files_of(f"crates/{crate}", (part,)):
@@ -167,7 +193,9 @@ def answers_of(crate):
     found = {}
     for file in files_of(f"crates/{crate}", ("proofs",)):
         if file.count("/") > 3:
-            found.setdefault(os.path.basename(os.path.dirname(file)).lstrip("+"), []).append(without_comments(read(file), "--"))
+            found.setdefault(os.path.basename(os.path.dirname(file)).lstrip("+"), []).append(
+                without_comments(read(file), "--")
+            )
     return found
 
 
@@ -211,7 +239,9 @@ def reach(crate, below):
 @cache
 def tactics_of(crate):
     """What the crate says of how each of its functions is proved."""
-    root = next(it for it in ("src/lib.rt", "src/main.rt") if os.path.isfile(f"crates/{crate}/{it}"))
+    root = next(
+        it for it in ("src/lib.rt", "src/main.rt") if os.path.isfile(f"crates/{crate}/{it}")
+    )
     return re.findall(r"(?m)^#!\[.*\]$", read(f"crates/{crate}/{root}"))
 
 
@@ -236,10 +266,13 @@ def digest(crate, below, edit_text, functions):
 def whole(crate, below):
     """The digest of all of a crate, and of all that those below it say to it."""
     texts = [*tactics_of(crate), *(f"{it.text}\n{it.body}" for it in parts_of(crate, "own"))]
-    texts += [text for function in sorted(answers_of(crate)) for text in answers_of(crate)[function]]
+    texts += [
+        text for function in sorted(answers_of(crate)) for text in answers_of(crate)[function]
+    ]
     return summed([*texts, *(it.text for low in below for it in parts_of(low, "above"))])
 
 
 def whole_digest(crate, below, edit_text):
-    """The digest of what a mutant's refusal depends on where another function than its own has the goal."""
+    """The digest of what a mutant's refusal depends on where another function than its own has the
+    goal."""
     return summed([edit_text, whole(crate, tuple(below))])

@@ -6,9 +6,11 @@ from mutating.edits import turned
 from mutating.sources import PARTS, files_of, read
 
 SECONDS_A_CHECK = 3600
-# An answer that fails by these words names a step that the edit took away: that says little of the contract.
+# An answer that fails by these words names a step that the edit took away: that says little of the
+# contract.
 BY_NAME = r"has no field|has no `|is not in scope|that can be named from here|was not admitted"
-# An answer that fails by this word is for a goal that the edit made trivial: the goal is tried without it.
+# An answer that fails by this word is for a goal that the edit made trivial: the goal is tried
+# without it.
 BY_TRIVIALITY = r"expected type `?Unit"
 
 WEAK = "weak: an answer names a step that it took away, which says little of the contract: turn a value"
@@ -24,8 +26,14 @@ def say(text):
 
 
 def unproved(folder):
-    """Proves the crate of a folder over what is kept, so that its room finds it and all below it built, and gives why that fails, if it does."""
-    how = {"stdin": subprocess.DEVNULL, "stdout": subprocess.PIPE, "stderr": subprocess.STDOUT, "errors": "replace"}
+    """Proves the crate of a folder over what is kept, so that its room finds it and all below it
+    built, and gives why that fails, if it does."""
+    how = {
+        "stdin": subprocess.DEVNULL,
+        "stdout": subprocess.PIPE,
+        "stderr": subprocess.STDOUT,
+        "errors": "replace",
+    }
     ran = subprocess.run(["rt", "check"], cwd=folder, **how)
     return " ".join(ran.stdout.split("\n")[-4:])[-300:] if ran.returncode else None
 
@@ -41,7 +49,10 @@ class Said:
     def goal_open(self, function):
         """The goal of the function that no answer is written for and no search proves."""
         for line in self.lines:
-            found = re.match(rf"fn (?:\S+::)?{re.escape(function)}: no proof.*`search` did not prove `([^`]*)`", line)
+            found = re.match(
+                rf"fn (?:\S+::)?{re.escape(function)}: no proof.*`search` did not prove `([^`]*)`",
+                line,
+            )
             if found:
                 return found[1]
         return None
@@ -50,7 +61,10 @@ class Said:
         """The function's own written answers that are refused: file, goal and why."""
         found = []
         for line in self.lines:
-            at = re.match(rf"(?:\./)?(proofs/(?:\S+/)?\+?{re.escape(function)}/\w+\.antt):\d+:\d+: error: (?:`([^`]*)`: )?(.*)", line)
+            at = re.match(
+                rf"(?:\./)?(proofs/(?:\S+/)?\+?{re.escape(function)}/\w+\.antt):\d+:\d+: error: (?:`([^`]*)`: )?(.*)",
+                line,
+            )
             if at:
                 found.append((at[1], at[2] or "", at[3]))
             elif found and line.startswith("  expected type"):
@@ -58,7 +72,8 @@ class Said:
         return found
 
     def against(self, paths):
-        """What a check says against functions of these paths and their closures, and what it says against others."""
+        """What a check says against functions of these paths and their closures, and what it says
+        against others."""
         told = ([], [])
         for line in self.lines:
             found = re.match(r"fn \w+::(\S+): (?:not proved|no proof|could not tell)", line)
@@ -68,7 +83,8 @@ class Said:
         return told
 
     def closure_goal_open(self, paths):
-        """The goal of a closure of these functions that no answer is written for and no search proves."""
+        """The goal of a closure of these functions that no answer is written for and no search
+        proves."""
         for line in self.against(paths)[0]:
             found = re.match(r"fn \S+::fn::\S+: no proof.*`search` did not prove `([^`]*)`", line)
             if found:
@@ -76,7 +92,16 @@ class Said:
         return None
 
     def any_goal(self):
-        return next((it for it in self.lines if re.match(r"fn \S+: (no proof: expected answers|not proved)|note: src/.*is not proved", it)), None)
+        return next(
+            (
+                it
+                for it in self.lines
+                if re.match(
+                    r"fn \S+: (no proof: expected answers|not proved)|note: src/.*is not proved", it
+                )
+            ),
+            None,
+        )
 
 
 def copied(folder, name, below):
@@ -84,26 +109,40 @@ def copied(folder, name, below):
     os.makedirs(f"{folder}/.git")
     shutil.copy("HANDLES", folder)
     with open(f"{folder}/crates.txt", "w") as its:
-        its.writelines(it + "\n" for it in read("crates.txt").splitlines() if re.split(r"[ :#]", it)[0] in (*below, name))
+        its.writelines(
+            it + "\n"
+            for it in read("crates.txt").splitlines()
+            if re.split(r"[ :#]", it)[0] in (*below, name)
+        )
     for low in [*below, name]:
         for part in (*PARTS, "out/rlib", *(["out/incremental"] if low == name else [])):
             if os.path.isdir(f"crates/{low}/{part}"):
-                shutil.copytree(f"crates/{low}/{part}", f"{folder}/crates/{low}/{part}", copy_function=linked)
+                shutil.copytree(
+                    f"crates/{low}/{part}", f"{folder}/crates/{low}/{part}", copy_function=linked
+                )
 
 
 @cache
 def toolchain():
     """The module of the toolchain that knows when a built crate is that of its text."""
-    sys.path.append(os.path.dirname(subprocess.run(["rt", "doc"], capture_output=True, text=True, check=True).stdout.strip()) + "/bin")
+    sys.path.append(
+        os.path.dirname(
+            subprocess.run(["rt", "doc"], capture_output=True, text=True, check=True).stdout.strip()
+        )
+        + "/bin"
+    )
     import rtlib
 
     return rtlib
 
 
 def stamp_all(folder, below):
-    """Marks the libraries of a copy as those of its text. `rt ci` has just built them, and leaves no mark, so rt would build them anew.
+    """Marks the libraries of a copy as those of its text. `rt ci` has just built them, and leaves
+    no mark, so rt would build them anew.
 
-    The copy is whole in itself: no other copy takes a library from it, since rt compares what each was built over."""
+    The copy is whole in itself: no other copy takes a library from it, since rt compares what each
+    was built over.
+    """
     for low in below:
         built = f"{folder}/crates/{low}/out/rlib"
         if os.path.isdir(f"{built}/{low}.rlib"):
@@ -115,7 +154,8 @@ def stamp_all(folder, below):
 
 
 def linked(source, target):
-    """Copies a file. One that nothing writes gets a second name where the disk allows it, which takes no room: rt makes a built crate anew elsewhere."""
+    """Copies a file. One that nothing writes gets a second name where the disk allows it, which
+    takes no room: rt makes a built crate anew elsewhere."""
     if "/out/rlib/" in source:
         try:
             os.link(source, target)
@@ -136,15 +176,25 @@ pub {name}_spec : {{M : Type 1}} → statement M
 class Room:
     """A copy of a copy that stays as it was made, in which one check at a time tries turned bodies.
 
-    With holes every function of these paths but the turned ones has a hole for its proof, and is taken at its contract's word:
-    it was proved elsewhere, and the prover judges a turned body by the contracts of what it calls."""
+    With holes every function of these paths but the turned ones has a hole for its proof, and is
+    taken at its contract's word: it was proved elsewhere, and the prover judges a turned body by
+    the contracts of what it calls.
+    """
 
     def __init__(self, folder, whole, name, said_to, holes=()):
         shutil.copytree(whole, folder, copy_function=linked)
         self.holes, self.filled = holes, {}
-        self.folder, self.whole, self.name, self.said_to, self.count = folder, whole, name, said_to, 0
+        self.folder, self.whole, self.name, self.said_to, self.count = (
+            folder,
+            whole,
+            name,
+            said_to,
+            0,
+        )
         self.crate = f"{folder}/crates/{name}"
-        self.texts = {os.path.relpath(it, self.crate): read(it) for it in files_of(self.crate, ("src",))}
+        self.texts = {
+            os.path.relpath(it, self.crate): read(it) for it in files_of(self.crate, ("src",))
+        }
         self.work = f"{self.crate}/out/incremental"
 
     def begin_anew(self):
@@ -167,10 +217,17 @@ class Room:
                     os.remove(it)
                 os.makedirs(at, exist_ok=True)
                 with open(f"{at}/Proof.antt", "w", encoding="utf-8") as its:
-                    its.write(HOLE.format(crate=self.name, module=path.replace("::", "."), name=path.rpartition("::")[2]))
+                    its.write(
+                        HOLE.format(
+                            crate=self.name,
+                            module=path.replace("::", "."),
+                            name=path.rpartition("::")[2],
+                        )
+                    )
 
     def check(self, members, is_whole=False, is_turned=True):
-        """Checks the functions that the members turn with their bodies, or the whole crate, and gives None where all of that is proved."""
+        """Checks the functions that the members turn with their bodies, or the whole crate, and
+        gives None where all of that is proved."""
         for path, text in turned(self.texts, members if is_turned else []).items():
             with open(f"{self.crate}/{path}", "w", encoding="utf-8") as file:
                 file.write(text)
@@ -180,23 +237,35 @@ class Room:
         words = ["rt", "check", "--jobs", "1", "--allow-holes"]
         if not is_whole or any(edit.law for edit in members):
             words += [it for path in sorted(paths) for it in ("--only", f"{self.name}::{path}")]
-        how = {"cwd": self.crate, "stdin": subprocess.DEVNULL, "stdout": subprocess.PIPE, "stderr": subprocess.STDOUT}
+        how = {
+            "cwd": self.crate,
+            "stdin": subprocess.DEVNULL,
+            "stdout": subprocess.PIPE,
+            "stderr": subprocess.STDOUT,
+        }
         ran = subprocess.run(words, errors="replace", timeout=SECONDS_A_CHECK, **how)
         self.count += 1
         if self.said_to:
-            with open(f"{self.said_to}/{self.name}-{os.path.basename(self.folder)}-{self.count}", "w") as file:
+            with open(
+                f"{self.said_to}/{self.name}-{os.path.basename(self.folder)}-{self.count}", "w"
+            ) as file:
                 file.write(f"turned: {' '.join(it.name for it in members)}\n{ran.stdout}")
         if not ran.returncode:
             return None
         return Said([it for it in ran.stdout.split("\n") if not it.startswith("so far: ")])
 
     def says_all(self, said, members):
-        """Whether a check speaks of functions, and with holes of none but the turned ones that it isn't proved."""
+        """Whether a check speaks of functions, and with holes of none but the turned ones that it
+        isn't proved."""
         if said is None or not said.reached_the_prover:
             return False
-        strays = said.against({it for edit in members for it in edit.paths})[1] if self.holes else []
+        strays = (
+            said.against({it for edit in members for it in edit.paths})[1] if self.holes else []
+        )
         for line in strays[:1]:
-            say(f"{self.name}: beside what was turned, and so tried again over its proofs: {line[:200]}")
+            say(
+                f"{self.name}: beside what was turned, and so tried again over its proofs: {line[:200]}"
+            )
         return not strays
 
     def without_answers(self, answers):
@@ -218,7 +287,8 @@ class Room:
 
 
 def refusal(said, edit):
-    """Where a check refuses a turned function by a goal of its own (else None), and whether by the names of a proof's steps alone."""
+    """Where a check refuses a turned function by a goal of its own (else None), and whether by the
+    names of a proof's steps alone."""
     weak = None
     for function in sorted(edit.functions):
         goal = said.goal_open(function)
@@ -232,7 +302,8 @@ def refusal(said, edit):
 
 
 def try_alone(room, edit, said=None):
-    """Tries one edit over the kept proofs, and gives whether it is refused, and a line that says how."""
+    """Tries one edit over the kept proofs, and gives whether it is refused, and a line that says
+    how."""
     if said is None:
         room.begin_anew()
         said = room.check([edit], is_whole=True)
@@ -244,20 +315,30 @@ def try_alone(room, edit, said=None):
     if found and not found[1]:
         return True, f"refused at {found[0]}"
     if found:
-        answers = [it for function in edit.functions for it in said.answers_refused(function) if it[1]]
+        answers = [
+            it for function in edit.functions for it in said.answers_refused(function) if it[1]
+        ]
         whole = room.without_answers(answers)
         again = room.check([edit], is_whole=True)
         room.put_back(whole)
         if again is None:
-            return False, f"NOT REFUSED: its goal {found[0]} is proved without the answer that was written for it"
+            return (
+                False,
+                f"NOT REFUSED: its goal {found[0]} is proved without the answer that was written for it",
+            )
         goals = [again.goal_open(it) for it in sorted(edit.functions) if again.goal_open(it)]
         return True, f"refused at {goals[0] if goals else found[0]} ({WEAK})"
     other = said.any_goal()
-    return (True, f"refused alone: {other[:200]}") if other else (False, f"NOT REFUSED by a goal: {' '.join(said.lines[:3])[:200]}")
+    return (
+        (True, f"refused alone: {other[:200]}")
+        if other
+        else (False, f"NOT REFUSED by a goal: {' '.join(said.lines[:3])[:200]}")
+    )
 
 
 def try_over_holes(room, edit):
-    """Tries one edit where the other functions have holes for proofs, and gives what try_alone does, or None where that says too little."""
+    """Tries one edit where the other functions have holes for proofs, and gives what try_alone
+    does, or None where that says too little."""
     said = room.check([edit]) if None not in edit.paths else None
     if not room.says_all(said, [edit]):
         return None
@@ -271,12 +352,17 @@ def try_over_holes(room, edit):
     whole = room.without_answers(answers)
     again = room.check([edit])
     room.put_back(whole)
-    goals = [again.goal_open(it) for it in sorted(edit.functions) if again.goal_open(it)] if room.says_all(again, [edit]) else []
+    goals = (
+        [again.goal_open(it) for it in sorted(edit.functions) if again.goal_open(it)]
+        if room.says_all(again, [edit])
+        else []
+    )
     return (True, f"refused at {goals[0]} ({WEAK})") if goals else None
 
 
 def settle(room, members, tell):
-    """Tries the members in one check, by halves where their text isn't read, and tells of each that it settles. Gives the others."""
+    """Tries the members in one check, by halves where their text isn't read, and tells of each that
+    it settles. Gives the others."""
     said = room.check(members)
     if said is not None and not said.reached_the_prover and len(members) > 1:
         half = len(members) // 2
@@ -292,16 +378,24 @@ def settle(room, members, tell):
 
 
 def try_unturned(room, members, tell):
-    """Checks the functions that the members turn as they are, and tells whether all but holes is proved: else a turned one could be refused for another reason."""
+    """Checks the functions that the members turn as they are, and tells whether all but holes is
+    proved: else a turned one could be refused for another reason."""
     said = room.check(members, is_turned=False)
-    told = [] if said is None else said.against(())[1] if said.reached_the_prover else said.lines[:3]
+    told = (
+        [] if said is None else said.against(())[1] if said.reached_the_prover else said.lines[:3]
+    )
     for edit in members:
-        tell(edit, not told, f"unturned: NOT PROVED: {told[0][:200]}" if told else "unturned: proved, but for holes")
+        tell(
+            edit,
+            not told,
+            f"unturned: NOT PROVED: {told[0][:200]}" if told else "unturned: proved, but for holes",
+        )
     return []
 
 
 def make_whole(folder, name, below, is_after_gate):
-    """Makes the copy of which a crate's rooms are copies, with the crate proved in it but after the gate, and gives why that fails, if it does."""
+    """Makes the copy of which a crate's rooms are copies, with the crate proved in it but after the
+    gate, and gives why that fails, if it does."""
     if is_after_gate:
         copied(folder, name, below)
         with proving:
