@@ -75,10 +75,10 @@ test:
 quick:
 	tests/suites quick
 
-## formats all crates, and the scripts in Python
+## formats all crates, and what isn't Rattle
 format:
 	for crate in crates/*; do (cd "$$crate" && rt fmt) || exit 1; done
-	tests/scripts/run format
+	tests/style/run format
 
 ## makes what pages say of the source: DEFINITIONS.md, CONTRACTS.md, the crates of ARCHITECTURE and
 ## their diagram, acts, replies, faults and statuses of FORMATS, the calls of LIBRARY, the lines of

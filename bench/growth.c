@@ -43,7 +43,8 @@ static void *piece(size_t alignment, size_t size)
 {
     static uintptr_t next, end;
     if (next == 0) {
-        void *room = mmap(NULL, MOST, PROT_READ | PROT_WRITE, MAP_PRIVATE | MAP_ANONYMOUS | MAP_NORESERVE, -1, 0);
+        void *room = mmap(NULL, MOST, PROT_READ | PROT_WRITE,
+                          MAP_PRIVATE | MAP_ANONYMOUS | MAP_NORESERVE, -1, 0);
         if (room == MAP_FAILED)
             return NULL;
         next = (uintptr_t)room;
@@ -75,7 +76,7 @@ void *realloc(void *old, size_t size)
     if (size <= had)
         return old;
     void *new = piece(HEADER, size);
-    return new != NULL && had != 0 ? memcpy(new, old, had) : new;
+    return new != NULL &&had != 0 ? memcpy(new, old, had) : new;
 }
 
 void *aligned_alloc(size_t alignment, size_t size)

@@ -22,9 +22,15 @@ fn policy(text: &str) -> Option<(Policy, &str)> {
         let (count, rest) = rest.split_once(',')?;
         let (key, rest) = rest.split_once(',')?;
         let (inner, rest) = policy(rest)?;
-        let count = count.parse().ok().filter(|count| (1..=1024).contains(count))?;
+        let count = count
+            .parse()
+            .ok()
+            .filter(|count| (1..=1024).contains(count))?;
         let key = KEYS.iter().position(|known| *known == key)?;
-        return Some((Policy::Across(count, key, Box::new(inner)), rest.strip_prefix(')')?));
+        return Some((
+            Policy::Across(count, key, Box::new(inner)),
+            rest.strip_prefix(')')?,
+        ));
     }
     let mut rest = text.strip_prefix("And(")?;
     let mut parts = Vec::new();
@@ -152,7 +158,10 @@ fn answers(input: &str) -> Option<Vec<u8>> {
         }
     }
     let everyone = (0..cluster.ids.len()).fold(Set::default(), |set, p| set.union(Set::of(p)));
-    if !policies.iter().all(|policy| cluster.satisfied(policy, everyone)) {
+    if !policies
+        .iter()
+        .all(|policy| cluster.satisfied(policy, everyone))
+    {
         return None;
     }
     let (mut destroyed, mut left) = (Set::default(), everyone);
@@ -163,8 +172,13 @@ fn answers(input: &str) -> Option<Vec<u8>> {
             continue;
         }
         let (with, without) = (destroyed.union(Set::of(p)), left.difference(Set::of(p)));
-        let may = policies.iter().all(|policy| !cluster.satisfied(policy, with))
-            && (!for_good || policies.iter().all(|policy| cluster.satisfied(policy, without)));
+        let may = policies
+            .iter()
+            .all(|policy| !cluster.satisfied(policy, with))
+            && (!for_good
+                || policies
+                    .iter()
+                    .all(|policy| cluster.satisfied(policy, without)));
         if may {
             destroyed = with;
             if for_good {
@@ -178,10 +192,16 @@ fn answers(input: &str) -> Option<Vec<u8>> {
 
 fn main() -> ExitCode {
     let mut input = Vec::new();
-    if std::io::stdin().take(LIMIT + 1).read_to_end(&mut input).is_err() {
+    if std::io::stdin()
+        .take(LIMIT + 1)
+        .read_to_end(&mut input)
+        .is_err()
+    {
         return ExitCode::from(3);
     }
-    let text = String::from_utf8(input).ok().filter(|text| text.len() as u64 <= LIMIT);
+    let text = String::from_utf8(input)
+        .ok()
+        .filter(|text| text.len() as u64 <= LIMIT);
     match text.as_deref().and_then(answers) {
         None => ExitCode::from(1),
         Some(written) => match std::io::stdout().write_all(&written) {

@@ -40,15 +40,20 @@ static fy_status ask(fy_guard *guard, int at, long process, way by)
     size_t told;
     switch (by) {
     case JUDGED:
-        return fy_guard_judge(guard, 1, FY_PROCESS, names[process], cases[at].kind, cases[at].floor, &struck, &rule, &named);
+        return fy_guard_judge(guard, 1, FY_PROCESS, names[process], cases[at].kind, cases[at].floor,
+                              &struck, &rule, &named);
     case KILLED:
-        return fy_guard_kill(guard, 1, FY_PROCESS, names[process], cases[at].kind, cases[at].floor, 0, &struck, &rule, &named);
+        return fy_guard_kill(guard, 1, FY_PROCESS, names[process], cases[at].kind, cases[at].floor,
+                             0, &struck, &rule, &named);
     case JUDGED_BY_NUMBER:
-        return fy_guard_judge_process(guard, 1, (uint32_t)process, cases[at].kind, cases[at].floor, &struck, &rule, &named);
+        return fy_guard_judge_process(guard, 1, (uint32_t)process, cases[at].kind, cases[at].floor,
+                                      &struck, &rule, &named);
     case KILLED_BY_NUMBER:
-        return fy_guard_kill_process(guard, 1, (uint32_t)process, cases[at].kind, cases[at].floor, 0, &struck, &rule, &named);
+        return fy_guard_kill_process(guard, 1, (uint32_t)process, cases[at].kind, cases[at].floor,
+                                     0, &struck, &rule, &named);
     default:
-        return fy_guard_act(guard, lines[process], strlen(lines[process]), buffer, sizeof buffer, &told);
+        return fy_guard_act(guard, lines[process], strlen(lines[process]), buffer, sizeof buffer,
+                            &told);
     }
 }
 
@@ -57,8 +62,9 @@ static double round_of(fy_guard *guard, int at, long kills, long processes, way 
 {
     uint32_t struck, rule;
     uint64_t named;
-    if (fy_guard_reset(guard) != FY_DONE
-        || fy_guard_kill(guard, 1, FY_PROCESS, "p0", FY_KILL_INSTANTLY, FY_KILL_INSTANTLY, 0, &struck, &rule, &named) != FY_DONE)
+    if (fy_guard_reset(guard) != FY_DONE ||
+        fy_guard_kill(guard, 1, FY_PROCESS, "p0", FY_KILL_INSTANTLY, FY_KILL_INSTANTLY, 0, &struck,
+                      &rule, &named) != FY_DONE)
         return -1;
     double began = now();
     for (long i = 0; i < kills; i++)
@@ -82,9 +88,10 @@ int main(int count, char **words)
         double best[WAYS] = {1e9, 1e9, 1e9, 1e9, 1e9};
         for (long p = 0; p < processes; p++) {
             snprintf(names[p], sizeof names[p], "p%ld", p);
-            snprintf(lines[p], sizeof lines[p],
-                     "{\"by\":1,\"act\":{\"kill\":{\"floor\":\"%s\",\"key\":\"processid\",\"kind\":\"%s\",\"tear\":0,\"value\":\"p%ld\"}}}",
-                     cases[at].floor_word, cases[at].kind_word, p);
+            snprintf(
+                lines[p], sizeof lines[p],
+                "{\"by\":1,\"act\":{\"kill\":{\"floor\":\"%s\",\"key\":\"processid\",\"kind\":\"%s\",\"tear\":0,\"value\":\"p%ld\"}}}",
+                cases[at].floor_word, cases[at].kind_word, p);
         }
         for (int round = 0; round < WAYS * ROUNDS; round++) {
             double took = round_of(&guard, at, kills, processes, (way)(round % WAYS));
@@ -94,9 +101,10 @@ int main(int count, char **words)
                 best[round % WAYS] = took;
         }
         double each = 1e9 / (double)kills;
-        printf("%ld processes, %s: %.0f ns a judgement, %.0f ns a kill, by number %.0f and %.0f ns, %.0f ns by a line\n", processes,
-               cases[at].name, best[JUDGED] * each, best[KILLED] * each, best[JUDGED_BY_NUMBER] * each,
-               best[KILLED_BY_NUMBER] * each, best[BY_LINE] * each);
+        printf(
+            "%ld processes, %s: %.0f ns a judgement, %.0f ns a kill, by number %.0f and %.0f ns, %.0f ns by a line\n",
+            processes, cases[at].name, best[JUDGED] * each, best[KILLED] * each,
+            best[JUDGED_BY_NUMBER] * each, best[KILLED_BY_NUMBER] * each, best[BY_LINE] * each);
     }
     fy_guard_close(&guard);
     return 0;

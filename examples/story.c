@@ -28,11 +28,14 @@ static void store(uint64_t message, uint32_t process)
 
 static void empty_zone(const char *zone)
 {
-    static const char *const KINDS[] = {"nothing", "RebootProcess", "Reboot", "RebootAndDelete", "KillInstantly"};
+    static const char *const KINDS[] = {"nothing", "RebootProcess", "Reboot", "RebootAndDelete",
+                                        "KillInstantly"};
     uint32_t struck, rule;
     uint64_t policy;
-    must(fy_guard_kill(&guard, FAULT, FY_ZONE, zone, FY_REBOOT_AND_DELETE, FY_REBOOT, 0, &struck, &rule, &policy));
-    printf("zone %s: %s%s\n", zone, KINDS[struck], rule == FY_TOO_MANY_DESTROYED ? ", or no copy would be left" : "");
+    must(fy_guard_kill(&guard, FAULT, FY_ZONE, zone, FY_REBOOT_AND_DELETE, FY_REBOOT, 0, &struck,
+                       &rule, &policy));
+    printf("zone %s: %s%s\n", zone, KINDS[struck],
+           rule == FY_TOO_MANY_DESTROYED ? ", or no copy would be left" : "");
 }
 
 int main(void)

@@ -266,7 +266,8 @@ inline constexpr Text STATUSES[] = {
     {"Short", "the buffer is too short"},
     {"Unwritten", "the act is made and stands in the journal, but its line could not be written"},
     {"NoEntry", "the journal has no entry at this place"},
-    {"Argument", "there is no such key, kind or floor, or process to kill, members don't rise, or a payload is too long"},
+    {"Argument",
+     "there is no such key, kind or floor, or process to kill, members don't rise, or a payload is too long"},
     {"Name", "the value of the target is no name"},
     {"Floor", "the floor of the kill is above its kind"},
     {"LineTooLong", "the line has more than 65,536 bytes"},
@@ -730,9 +731,9 @@ public:
     {
         std::uint32_t struck = 0, rule = 0;
         std::uint64_t named = 0;
-        const std::uint32_t status = fy_kill_process(
-            opened(), actor, process, static_cast<std::uint32_t>(kind),
-            static_cast<std::uint32_t>(floor), tear, &struck, &rule, &named);
+        const std::uint32_t status =
+            fy_kill_process(opened(), actor, process, static_cast<std::uint32_t>(kind),
+                            static_cast<std::uint32_t>(floor), tear, &struck, &rule, &named);
         require(status, FY_STRANGER);
         return verdict_of(struck, rule, named);
     }
@@ -745,9 +746,9 @@ public:
     {
         std::uint32_t struck = 0, rule = 0;
         std::uint64_t named = 0;
-        const std::uint32_t status = fy_judge_process(
-            opened(), actor, process, static_cast<std::uint32_t>(kind),
-            static_cast<std::uint32_t>(floor), &struck, &rule, &named);
+        const std::uint32_t status =
+            fy_judge_process(opened(), actor, process, static_cast<std::uint32_t>(kind),
+                             static_cast<std::uint32_t>(floor), &struck, &rule, &named);
         require(status, FY_STRANGER);
         return verdict_of(struck, rule, named);
     }
@@ -795,7 +796,8 @@ public:
      * that bars it is answered.
      * Throws in order Closed, Argument, Name, JournalFull, NoMemory; Refused where there is no such
      * actor. */
-    [[nodiscard]] Ruling clog(std::uint32_t actor, Key key, std::string_view value, std::uint64_t ticks)
+    [[nodiscard]] Ruling clog(std::uint32_t actor, Key key, std::string_view value,
+                              std::uint64_t ticks)
     {
         return ruling_of(made([&](fy_guard *guard, fy_reply *reply) {
             return fy_clog(guard, actor, static_cast<std::uint32_t>(key), detail::bytes(value),
@@ -871,9 +873,8 @@ public:
      * whose role is storage. */
     Synced sync(std::uint32_t actor, std::uint32_t process)
     {
-        const fy_reply reply = made([&](fy_guard *guard, fy_reply *told) {
-            return fy_sync(guard, actor, process, told);
-        });
+        const fy_reply reply = made(
+            [&](fy_guard *guard, fy_reply *told) { return fy_sync(guard, actor, process, told); });
         return {reply.synced, reply.message};
     }
 
@@ -1228,7 +1229,8 @@ private:
         return set;
     }
 
-    static Verdict verdict_of(std::uint32_t struck, std::uint32_t rule, std::uint64_t named) noexcept
+    static Verdict verdict_of(std::uint32_t struck, std::uint32_t rule,
+                              std::uint64_t named) noexcept
     {
         Verdict verdict;
         if (struck != FY_NONE)
@@ -1241,8 +1243,7 @@ private:
     }
 
     /* Makes an act by numbers, and answers what the library tells of it. */
-    template <typename Call>
-    fy_reply made(Call call)
+    template <typename Call> fy_reply made(Call call)
     {
         fy_reply reply = {};
         const std::uint32_t status = call(opened(), &reply);

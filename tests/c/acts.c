@@ -18,8 +18,8 @@ static const char *const KINDS[] = {"RebootProcess", "Reboot", "RebootAndDelete"
 static const char LETTERS[] = "pmzhd";
 
 /* The line of a random act; of a kill or a start also what it is by a call of its own. */
-static int line_of(char *line, uint32_t *actor, uint32_t *key, char *value, uint32_t *kind, uint32_t *floor,
-                   uint32_t *process)
+static int line_of(char *line, uint32_t *actor, uint32_t *key, char *value, uint32_t *kind,
+                   uint32_t *floor, uint32_t *process)
 {
     uint32_t act = below(20);
     *actor = below(6);
@@ -33,17 +33,20 @@ static int line_of(char *line, uint32_t *actor, uint32_t *key, char *value, uint
     int at = sprintf(line, "{\"by\":%u,\"act\":", (unsigned)*actor);
     line += at;
     if (act < 4)
-        sprintf(line, "{\"kill\":{\"floor\":\"%s\",\"key\":\"%s\",\"kind\":\"%s\",\"tear\":5,\"value\":\"%s\"}}}", KINDS[*floor],
-                KEYS[*key], KINDS[*kind], value);
+        sprintf(
+            line,
+            "{\"kill\":{\"floor\":\"%s\",\"key\":\"%s\",\"kind\":\"%s\",\"tear\":5,\"value\":\"%s\"}}}",
+            KINDS[*floor], KEYS[*key], KINDS[*kind], value);
     else if (act < 9)
         sprintf(line, "{\"up\":{\"process\":%u}}}", (unsigned)*process);
     else if (act < 10)
         sprintf(line, "{\"heal\":{\"process\":%u}}}", (unsigned)*process);
     else if (act < 11)
-        sprintf(line, "{\"form\":{\"members\":[%u,%u],\"policy\":%u}}}", (unsigned)below(3), (unsigned)(3 + below(3)),
-                (unsigned)below(2));
+        sprintf(line, "{\"form\":{\"members\":[%u,%u],\"policy\":%u}}}", (unsigned)below(3),
+                (unsigned)(3 + below(3)), (unsigned)below(2));
     else if (act < 13)
-        sprintf(line, "{\"begin\":{\"payload\":\"%02x\",\"team\":%u}}}", (unsigned)below(256), (unsigned)below(9));
+        sprintf(line, "{\"begin\":{\"payload\":\"%02x\",\"team\":%u}}}", (unsigned)below(256),
+                (unsigned)below(9));
     else if (act < 16)
         sprintf(line, "{\"deliver\":{\"message\":%u}}}", (unsigned)below(2000));
     else if (act < 18)
@@ -51,7 +54,8 @@ static int line_of(char *line, uint32_t *actor, uint32_t *key, char *value, uint
     else if (act < 19)
         sprintf(line, "{\"tick\":{\"ticks\":%u}}}", (unsigned)below(9));
     else
-        sprintf(line, "{ \"clog\" : {\"key\":\"%s\",\"value\":\"%s\",\"ticks\":3}}}", KEYS[*key], value);
+        sprintf(line, "{ \"clog\" : {\"key\":\"%s\",\"value\":\"%s\",\"ticks\":3}}}", KEYS[*key],
+                value);
     return act < 4 ? 1 : act < 9 ? 2 : 0;
 }
 
@@ -71,12 +75,13 @@ int main(int count, char **words)
         fprintf(script, "%s\n", line);
         fy_status status;
         if (own == 1 && below(2) == 0)
-            status = fy_guard_kill(&guard, actor, (fy_key)(key + 1), value, (fy_kind)(kind + 1), (fy_kind)(floor + 1), 5,
-                                   &struck, &rule, &named);
+            status = fy_guard_kill(&guard, actor, (fy_key)(key + 1), value, (fy_kind)(kind + 1),
+                                   (fy_kind)(floor + 1), 5, &struck, &rule, &named);
         else if (own == 2 && below(2) == 0)
             status = fy_guard_up(&guard, actor, process, &refusal);
         else
-            status = fy_guard_act(&guard, line, strlen(line), buffer, strlen(line) + FY_MOST_REPLY, &told);
+            status = fy_guard_act(&guard, line, strlen(line), buffer, strlen(line) + FY_MOST_REPLY,
+                                  &told);
         EQUAL(status == FY_DONE || status == FY_REFUSED, 1);
     }
     fputs(FY_AUDIT_HEADER, audit);

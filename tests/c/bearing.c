@@ -31,12 +31,14 @@ static int most(uint64_t destroyed, uint64_t left, int for_good)
 {
     int least = PEOPLE + 1;
     for (uint64_t set = 0; set < 1u << PEOPLE; set++)
-        if ((zones_of(destroyed | set) >= 2 || (for_good && zones_of(left & ~set) < 2)) && size_of(set) < least)
+        if ((zones_of(destroyed | set) >= 2 || (for_good && zones_of(left & ~set) < 2)) &&
+            size_of(set) < least)
             least = size_of(set);
     return least - 1;
 }
 
-static void bears(const fy_guard *guard, uint32_t emptied, uint32_t gone, uint32_t emptied_exact, uint32_t gone_exact)
+static void bears(const fy_guard *guard, uint32_t emptied, uint32_t gone, uint32_t emptied_exact,
+                  uint32_t gone_exact)
 {
     fy_borne borne = {77, 77, 77, 77};
     EQUAL(fy_guard_bears(guard, &borne), FY_DONE);
@@ -55,7 +57,9 @@ static void every_set(void)
         uint64_t destroyed[FY_SET_WORDS], left[FY_SET_WORDS];
         uint32_t refusal, process = below(PEOPLE);
         fy_kind kind = below(500) == 0 ? FY_KILL_INSTANTLY : (fy_kind)(1 + below(3));
-        EQUAL(fy_guard_kill_process(&guard, 1, process, kind, FY_REBOOT_PROCESS, 0, &struck, &rule, &named), FY_DONE);
+        EQUAL(fy_guard_kill_process(&guard, 1, process, kind, FY_REBOOT_PROCESS, 0, &struck, &rule,
+                                    &named),
+              FY_DONE);
         (void)fy_guard_up(&guard, 0, below(PEOPLE), &refusal);
         (void)fy_guard_heal(&guard, 0, below(PEOPLE), &refusal);
         EQUAL(fy_guard_destroyed_set(&guard, destroyed), FY_DONE);
@@ -81,13 +85,16 @@ static const char *const CROSSED =
 /* What `faultyard bears` prints of these clusters, and each status; FY_NO_MEMORY is that of memory.c. */
 static void cases(void)
 {
-    fy_guard six = open_guard(SIX), three = open_guard(THREE), crossed = open_guard(CROSSED), none = {NULL};
+    fy_guard six = open_guard(SIX), three = open_guard(THREE), crossed = open_guard(CROSSED),
+             none = {NULL};
     fy_borne borne = {77, 77, 77, 77};
     size_t count = 77;
     bears(&six, 1, 1, 1, 1);
     bears(&three, 2, 0, 1, 1);
     bears(&crossed, 2, 0, 0, 1);
-    EQUAL(fy_guard_kill(&six, 1, FY_ZONE, "z1", FY_KILL_INSTANTLY, FY_REBOOT, 0, &struck, &rule, &named), FY_DONE);
+    EQUAL(fy_guard_kill(&six, 1, FY_ZONE, "z1", FY_KILL_INSTANTLY, FY_REBOOT, 0, &struck, &rule,
+                        &named),
+          FY_DONE);
     bears(&six, 0, 0, 1, 1);
     EQUAL(fy_guard_journal_len(&six, &count), FY_DONE);
     EQUAL(count, 1);

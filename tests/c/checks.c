@@ -3,8 +3,11 @@
 #include "told.h"
 
 #define FIRST_HEADER "{\"audit\":1}\n"
-#define TICK(at, now) "{\"act\":{\"tick\":{\"ticks\":1}},\"at\":" at ",\"by\":0,\"reply\":{\"time\":" now "}}\n"
-#define HEAL(at) "{\"act\":{\"heal\":{\"process\":0}},\"at\":" at ",\"by\":0,\"reply\":{\"no\":[\"NotDestroyed\"]}}\n"
+#define TICK(at, now) \
+    "{\"act\":{\"tick\":{\"ticks\":1}},\"at\":" at ",\"by\":0,\"reply\":{\"time\":" now "}}\n"
+#define HEAL(at)                                     \
+    "{\"act\":{\"heal\":{\"process\":0}},\"at\":" at \
+    ",\"by\":0,\"reply\":{\"no\":[\"NotDestroyed\"]}}\n"
 
 static const char *const KILLED =
     "{\"act\":{\"kill\":{\"floor\":\"Reboot\",\"key\":\"zoneid\",\"kind\":\"KillInstantly\",\"tear\":0,\"value\":\"z0\"}},"
@@ -93,11 +96,24 @@ static void versions(void)
 static void faults(void)
 {
     static const char *const HEADERS[] = {
-        "", "\n", "{\"audit\":2}", "{\"audit\":3}\n", "{\"audit\": 2}\n", "{\"audit\":2}\r\n",
-        "\xef\xbb\xbf{\"audit\":2}\n", TICK("0", "1"),
+        "",
+        "\n",
+        "{\"audit\":2}",
+        "{\"audit\":3}\n",
+        "{\"audit\": 2}\n",
+        "{\"audit\":2}\r\n",
+        "\xef\xbb\xbf{\"audit\":2}\n",
+        TICK("0", "1"),
     };
     static const char *const LINES[] = {
-        "", "\n", "{}\n", TICK("1", "1"), TICK("0", "01"), FY_AUDIT_HEADER, TICK("0", "1") "\n", TICK("0", "1") TICK("1", "2"),
+        "",
+        "\n",
+        "{}\n",
+        TICK("1", "1"),
+        TICK("0", "01"),
+        FY_AUDIT_HEADER,
+        TICK("0", "1") "\n",
+        TICK("0", "1") TICK("1", "2"),
         "{\"act\": {\"tick\":{\"ticks\":1}},\"at\":0,\"by\":0,\"reply\":{\"time\":1}}\n",
         "{\"act\":{\"tick\":{\"ticks\":1}},\"at\":0,\"by\":0,\"reply\":{\"time\":1}}\r\n",
         "{\"act\":{\"tick\":{\"ticks\":1}},\"at\":0,\"by\":0,\"reply\":{\"time\":1}}",
@@ -137,7 +153,8 @@ static void of_a_guard(void)
     for (uint32_t i = 0; i < 200; i++) {
         uint32_t refusal;
         snprintf(name, sizeof name, "p%u", (unsigned)(i * 7 % 6));
-        fy_guard_kill(&guard, i % 6, FY_PROCESS, name, (fy_kind)(i % 3 + 1), FY_REBOOT_PROCESS, i, &struck, &rule, &named);
+        fy_guard_kill(&guard, i % 6, FY_PROCESS, name, (fy_kind)(i % 3 + 1), FY_REBOOT_PROCESS, i,
+                      &struck, &rule, &named);
         fy_guard_up(&guard, 0, i % 7, &refusal);
     }
     for (size_t at = 0; fy_guard_audit(&guard, at, line, sizeof line, &told) == FY_DONE; at++) {
@@ -198,9 +215,12 @@ static void longest_audit(void)
     line_is(&check, FY_AUDIT_HEADER, FY_DONE, FY_NO_BAD_ENTRY);
     for (uint32_t at = 0;; at++) {
         char tail[128];
-        int behind = snprintf(tail, sizeof tail, "\",\"team\":0}},\"at\":%u,\"by\":9,\"reply\":{\"no\":[\"NoTeam\"]}}\n", (unsigned)at);
+        int behind = snprintf(
+            tail, sizeof tail,
+            "\",\"team\":0}},\"at\":%u,\"by\":9,\"reply\":{\"no\":[\"NoTeam\"]}}\n", (unsigned)at);
         int front = snprintf(line, sizeof line, "{\"act\":{\"begin\":{\"payload\":\"");
-        size_t digits = (65537 - (size_t)behind - (size_t)front) / 2 * 2, length = (size_t)front + digits + (size_t)behind;
+        size_t digits = (65537 - (size_t)behind - (size_t)front) / 2 * 2,
+               length = (size_t)front + digits + (size_t)behind;
         memset(line + front, 'a', digits);
         memcpy(line + front + digits, tail, (size_t)behind);
         fy_status status = fy_check_line(&check, line, length, &first_bad);

@@ -11,19 +11,22 @@ static const char *REBOOTED_ZONE =
 static const char *KILL_ZONE =
     "{\"by\":1,\"act\":{\"kill\":{\"key\":\"zoneid\",\"value\":\"z1\",\"kind\":\"KillInstantly\",\"floor\":\"Reboot\",\"tear\":0}}}";
 
-static fy_status kill(fy_guard *guard, uint32_t actor, fy_key key, const char *value, fy_kind kind, fy_kind floor)
+static fy_status kill(fy_guard *guard, uint32_t actor, fy_key key, const char *value, fy_kind kind,
+                      fy_kind floor)
 {
     /* What is judged is what the kill then gets, but for a full journal. */
     uint32_t would_strike = 77, why = 77;
     uint64_t which = 77;
     size_t count = 0, after = 0;
     fy_guard_journal_len(guard, &count);
-    fy_status judged = fy_guard_judge(guard, actor, key, value, kind, floor, &would_strike, &why, &which);
+    fy_status judged =
+        fy_guard_judge(guard, actor, key, value, kind, floor, &would_strike, &why, &which);
     fy_guard_journal_len(guard, &after);
     EQUAL(after, count);
     struck = rule = 77;
     named = 77;
-    fy_status status = fy_guard_kill(guard, actor, key, value, kind, floor, 0, &struck, &rule, &named);
+    fy_status status =
+        fy_guard_kill(guard, actor, key, value, kind, floor, 0, &struck, &rule, &named);
     if (status == FY_JOURNAL_FULL) {
         EQUAL(judged, FY_DONE);
     } else {
@@ -45,7 +48,8 @@ static void worked_kill(void)
     EQUAL(struck, FY_KILL_INSTANTLY);
     EQUAL(rule, FY_NO_RULE);
     EQUAL(named, 0);
-    EQUAL(fy_guard_act(&guard, KILL_ZONE, strlen(KILL_ZONE), buffer, sizeof buffer, &told), FY_DONE);
+    EQUAL(fy_guard_act(&guard, KILL_ZONE, strlen(KILL_ZONE), buffer, sizeof buffer, &told),
+          FY_DONE);
     TEXT(buffer, told, REBOOTED_ZONE);
     EQUAL(fy_guard_journal_len(&guard, &count), FY_DONE);
     EQUAL(count, 2);
@@ -75,7 +79,8 @@ static void rules(void)
     fy_guard guard = open_guard(SIX);
     char buffer[512];
     size_t told;
-    const char *protect = "{\"by\":4,\"act\":{\"protect\":{\"process\":5,\"kinds\":[\"Reboot\",\"KillInstantly\"]}}}";
+    const char *protect =
+        "{\"by\":4,\"act\":{\"protect\":{\"process\":5,\"kinds\":[\"Reboot\",\"KillInstantly\"]}}}";
     EQUAL(kill(&guard, 1, FY_PROCESS, "nobody", FY_REBOOT, FY_REBOOT), FY_DONE);
     EQUAL(struck, FY_NONE);
     EQUAL(rule, FY_NO_TARGET);
@@ -142,11 +147,11 @@ static void refusals(void)
 }
 
 /* A set of processes below 64, which is all that it has. */
-#define SET(found, wanted)                \
-    do {                                  \
-        EQUAL((found)[0], wanted);        \
+#define SET(found, wanted)                              \
+    do {                                                \
+        EQUAL((found)[0], wanted);                      \
         for (int word = 1; word < FY_SET_WORDS; word++) \
-            EQUAL((found)[word], 0);      \
+            EQUAL((found)[word], 0);                    \
     } while (0)
 
 static void act(fy_guard *guard, const char *line)
@@ -161,7 +166,8 @@ static void act(fy_guard *guard, const char *line)
 }
 
 /* The sets of a guard: who is up, left, destroyed and gone. What has become of each process agrees. */
-static void sets_are(const fy_guard *guard, uint64_t up, uint64_t left, uint64_t destroyed, uint64_t gone)
+static void sets_are(const fy_guard *guard, uint64_t up, uint64_t left, uint64_t destroyed,
+                     uint64_t gone)
 {
     uint64_t set[FY_SET_WORDS];
     uint32_t state = 77;
@@ -257,7 +263,9 @@ static void reset(void)
         EQUAL(kill(&guard, 1, FY_ZONE, "z0", FY_KILL_INSTANTLY, FY_REBOOT), FY_DONE);
         EQUAL(struck, FY_KILL_INSTANTLY);
         sets_are(&guard, 0x3c, 0x3c, 0x03, 0x03);
-        EQUAL(fy_guard_audit(&guard, 1, round == 0 ? first : second, sizeof first, round == 0 ? &told : &again), FY_DONE);
+        EQUAL(fy_guard_audit(&guard, 1, round == 0 ? first : second, sizeof first,
+                             round == 0 ? &told : &again),
+              FY_DONE);
         EQUAL(fy_guard_reset(&guard), FY_DONE);
         EQUAL(fy_guard_journal_len(&guard, &count), FY_DONE);
         EQUAL(count, 0);
@@ -379,7 +387,8 @@ static void names(void)
         EQUAL(fy_guard_process(&guard, name, &process), FY_DONE);
         EQUAL(process, p);
     }
-    static const char *const none[] = {"p6", "m0", "P0", "p", "", "p 0", "-p0", "a23456789012345678901234567890123"};
+    static const char *const none[] = {"p6", "m0",  "P0",  "p",
+                                       "",   "p 0", "-p0", "a23456789012345678901234567890123"};
     for (size_t i = 0; i < sizeof none / sizeof *none; i++) {
         process = 77;
         EQUAL(fy_guard_process(&guard, none[i], &process), FY_DONE);
@@ -388,7 +397,8 @@ static void names(void)
     fy_guard_close(&guard);
 }
 
-static void seen_is(const fy_guard *guard, uint64_t now, uint64_t deliverable, uint32_t unsynced, uint32_t sleeping)
+static void seen_is(const fy_guard *guard, uint64_t now, uint64_t deliverable, uint32_t unsynced,
+                    uint32_t sleeping)
 {
     fy_seen seen;
     memset(&seen, 0x55, sizeof seen);
@@ -477,7 +487,8 @@ static void errors(void)
     EQUAL(kill(&guard, 1, FY_PROCESS, "", FY_REBOOT, FY_REBOOT), FY_NAME);
     EQUAL(kill(&guard, 1, FY_PROCESS, "-p", FY_REBOOT, FY_REBOOT), FY_NAME);
     EQUAL(kill(&guard, 1, FY_PROCESS, "p 0", FY_REBOOT, FY_REBOOT), FY_NAME);
-    EQUAL(kill(&guard, 1, FY_PROCESS, "a23456789012345678901234567890123", FY_REBOOT, FY_REBOOT), FY_NAME);
+    EQUAL(kill(&guard, 1, FY_PROCESS, "a23456789012345678901234567890123", FY_REBOOT, FY_REBOOT),
+          FY_NAME);
     EQUAL(kill(&guard, 1, FY_PROCESS, "p0", FY_REBOOT, FY_KILL_INSTANTLY), FY_FLOOR);
     EQUAL(fy_guard_act(&guard, "", 0, buffer, sizeof buffer, &told), FY_LINE_SYNTAX);
     EQUAL(fy_guard_act(&guard, "{}", 2, buffer, sizeof buffer, &told), FY_LINE_SYNTAX);
@@ -496,7 +507,8 @@ static void errors(void)
     EQUAL(fy_guard_act(&guard, KILL_ZONE, SIZE_MAX - FY_MOST_REPLY + 1, room, 1, &told), FY_SHORT);
     EQUAL(told, SIZE_MAX);
     told = 77;
-    EQUAL(fy_guard_act(&guard, KILL_ZONE, length, room, length + FY_MOST_REPLY - 1, &told), FY_SHORT);
+    EQUAL(fy_guard_act(&guard, KILL_ZONE, length, room, length + FY_MOST_REPLY - 1, &told),
+          FY_SHORT);
     EQUAL(told, length + FY_MOST_REPLY);
     EQUAL(room[0], 'x');
     EQUAL(fy_guard_journal_len(&guard, &count), FY_DONE);
@@ -541,18 +553,29 @@ static void cluster_files(void)
         {"journal_limit = 1\n", FY_CONFIG_FIELD, FY_PART_POLICIES, 0},
         {"=", FY_CONFIG_TOML, FY_WHOLE_FILE, 0},
         {"\xff", FY_CONFIG_TOML, FY_WHOLE_FILE, 0},
-        {"journal_limit = 0\n" REST("Across(2,zoneid,One())", "z1"), FY_CONFIG_LIMIT, FY_PART_JOURNAL_LIMIT, 0},
-        {"journal_limit = 1.0\n" REST("Across(2,zoneid,One())", "z1"), FY_CONFIG_FIELD, FY_PART_JOURNAL_LIMIT, 0},
-        {"journal_limit = 1\nmore = 1\n" REST("Across(2,zoneid,One())", "z1"), FY_CONFIG_FIELD, FY_PART_UNKNOWN, 0},
-        {"journal_limit = 1\n" REST("Across(2,zoneid,One())", "z 1"), FY_CONFIG_NAME, FY_PART_PROCESS, 1},
-        {"journal_limit = 1\nprotect = [{process = \"p0\", kinds = [\"Reboot\"]}, {process = \"p9\", kinds = [\"Reboot\"]}]\n"
-         REST("Across(2,zoneid,One())", "z1"), FY_CONFIG_NAME, FY_PART_PROTECT, 1},
-        {"journal_limit = 1\n" PROCESSES("Across(2,zoneid,One())", "z1") "actor = []\n", FY_CONFIG_LIMIT, FY_PART_ACTOR, 0},
-        {"journal_limit = 1\n" PROCESSES("Across(2,zoneid,One())", "z1")
-         "actor = [{role = \"fault\"}, {role = \"fault\", grants = [{kinds = [], key = \"zoneid\", value = \"-\"}]}]\n", FY_CONFIG_NAME, FY_PART_ACTOR, 1},
-        {"journal_limit = 1\n" REST("Across(2,zone,One())", "z1"), FY_CONFIG_POLICY, FY_PART_POLICIES, 0},
-        {"journal_limit = 1\n" REST("One()\", \"Across(2,zone,One())", "z1"), FY_CONFIG_POLICY, FY_PART_POLICIES, 1},
-        {"journal_limit = 1\n" REST("One()\", \"Across(3,zoneid,One())", "z1"), FY_CONFIG_UNMET, FY_PART_POLICIES, 1},
+        {"journal_limit = 0\n" REST("Across(2,zoneid,One())", "z1"), FY_CONFIG_LIMIT,
+         FY_PART_JOURNAL_LIMIT, 0},
+        {"journal_limit = 1.0\n" REST("Across(2,zoneid,One())", "z1"), FY_CONFIG_FIELD,
+         FY_PART_JOURNAL_LIMIT, 0},
+        {"journal_limit = 1\nmore = 1\n" REST("Across(2,zoneid,One())", "z1"), FY_CONFIG_FIELD,
+         FY_PART_UNKNOWN, 0},
+        {"journal_limit = 1\n" REST("Across(2,zoneid,One())", "z 1"), FY_CONFIG_NAME,
+         FY_PART_PROCESS, 1},
+        {"journal_limit = 1\nprotect = [{process = \"p0\", kinds = [\"Reboot\"]}, {process = \"p9\", kinds = [\"Reboot\"]}]\n" REST(
+             "Across(2,zoneid,One())", "z1"),
+         FY_CONFIG_NAME, FY_PART_PROTECT, 1},
+        {"journal_limit = 1\n" PROCESSES("Across(2,zoneid,One())", "z1") "actor = []\n",
+         FY_CONFIG_LIMIT, FY_PART_ACTOR, 0},
+        {"journal_limit = 1\n" PROCESSES(
+             "Across(2,zoneid,One())",
+             "z1") "actor = [{role = \"fault\"}, {role = \"fault\", grants = [{kinds = [], key = \"zoneid\", value = \"-\"}]}]\n",
+         FY_CONFIG_NAME, FY_PART_ACTOR, 1},
+        {"journal_limit = 1\n" REST("Across(2,zone,One())", "z1"), FY_CONFIG_POLICY,
+         FY_PART_POLICIES, 0},
+        {"journal_limit = 1\n" REST("One()\", \"Across(2,zone,One())", "z1"), FY_CONFIG_POLICY,
+         FY_PART_POLICIES, 1},
+        {"journal_limit = 1\n" REST("One()\", \"Across(3,zoneid,One())", "z1"), FY_CONFIG_UNMET,
+         FY_PART_POLICIES, 1},
     };
     uint32_t part;
     uint64_t place;
@@ -563,7 +586,8 @@ static void cluster_files(void)
         EQUAL(fy_guard_is_open(&guard), 0);
         part = 77;
         place = 77;
-        EQUAL(fy_guard_config_fault(files[i].text, strlen(files[i].text), &part, &place), files[i].status);
+        EQUAL(fy_guard_config_fault(files[i].text, strlen(files[i].text), &part, &place),
+              files[i].status);
         EQUAL(part, files[i].part);
         EQUAL(place, files[i].place);
     }
@@ -612,7 +636,9 @@ static void closed(void)
         EQUAL(fy_guard_up_set(none, left), FY_CLOSED);
         EQUAL(fy_guard_state(none, 0, &process), FY_CLOSED);
         EQUAL(fy_guard_needed(none, 0, &process), FY_CLOSED);
-        EQUAL(fy_guard_judge(none, 1, FY_PROCESS, "p0", FY_REBOOT, FY_REBOOT, &struck, &rule, &named), FY_CLOSED);
+        EQUAL(
+            fy_guard_judge(none, 1, FY_PROCESS, "p0", FY_REBOOT, FY_REBOOT, &struck, &rule, &named),
+            FY_CLOSED);
         EQUAL(fy_guard_gone_set(none, left), FY_CLOSED);
         EQUAL(fy_guard_targets(none, FY_ZONE, "z0", left), FY_CLOSED);
         EQUAL(fy_guard_process(none, "p0", &process), FY_CLOSED);
@@ -635,7 +661,8 @@ static void closed(void)
     EQUAL(fy_guard_up_set(&guard, NULL), FY_CLOSED);
     EQUAL(fy_guard_state(&guard, 0, NULL), FY_CLOSED);
     EQUAL(fy_guard_needed(&guard, 0, NULL), FY_CLOSED);
-    EQUAL(fy_guard_judge(&guard, 1, FY_PROCESS, "p0", FY_REBOOT, FY_REBOOT, NULL, &rule, &named), FY_CLOSED);
+    EQUAL(fy_guard_judge(&guard, 1, FY_PROCESS, "p0", FY_REBOOT, FY_REBOOT, NULL, &rule, &named),
+          FY_CLOSED);
     EQUAL(fy_guard_gone_set(&guard, NULL), FY_CLOSED);
     EQUAL(fy_guard_targets(&guard, FY_ZONE, "z0", NULL), FY_CLOSED);
     EQUAL(fy_guard_targets(&guard, FY_ZONE, NULL, left), FY_CLOSED);

@@ -59,7 +59,8 @@ static fy_status call(int which, fy_guard *guard, size_t line)
         fy_guard_close(&other);
         return status;
     case KILL:
-        return fy_guard_kill(guard, 1, FY_PROCESS, "p4", FY_REBOOT, FY_REBOOT, 0, &struck, &rule, &named);
+        return fy_guard_kill(guard, 1, FY_PROCESS, "p4", FY_REBOOT, FY_REBOOT, 0, &struck, &rule,
+                             &named);
     case KILL_PROCESS:
         return fy_guard_kill_process(guard, 1, 4, FY_REBOOT, FY_REBOOT, 0, &struck, &rule, &named);
     case UP:
@@ -166,8 +167,12 @@ static void ask(void)
     uint8_t kinds[6];
     size_t count;
     answered = 0;
-    EQUAL(fy_guard_judge(&guard, 1, FY_ZONE, "z0", FY_KILL_INSTANTLY, FY_REBOOT, &struck, &rule, &named), FY_DONE);
-    EQUAL(fy_guard_judge_process(&guard, 1, 0, FY_KILL_INSTANTLY, FY_REBOOT, &struck, &rule, &named), FY_DONE);
+    EQUAL(fy_guard_judge(&guard, 1, FY_ZONE, "z0", FY_KILL_INSTANTLY, FY_REBOOT, &struck, &rule,
+                         &named),
+          FY_DONE);
+    EQUAL(
+        fy_guard_judge_process(&guard, 1, 0, FY_KILL_INSTANTLY, FY_REBOOT, &struck, &rule, &named),
+        FY_DONE);
     EQUAL(fy_guard_killable(&guard, 1, kinds, sizeof kinds, &count), FY_DONE);
     EQUAL(fy_guard_up_set(&guard, set), FY_DONE);
     EQUAL(fy_guard_state(&guard, 0, &told), FY_DONE);
@@ -226,7 +231,8 @@ static void asked_for(void)
         longest = told;
     }
     EQUAL(longest > 2 * sizeof payload, 1);
-    printf("memory: reset asks for %zu bytes; audit asks at once for %zu of a line of %zu\n", asks(RESET, 0), largest, longest);
+    printf("memory: reset asks for %zu bytes; audit asks at once for %zu of a line of %zu\n",
+           asks(RESET, 0), largest, longest);
     fy_guard_close(&guard);
 }
 
@@ -255,8 +261,8 @@ int main(void)
                     EQUAL(now == length && memcmp(before, after, length) == 0, 1);
                 } else {
                     EQUAL(status == FY_DONE || status == FY_REFUSED, 1);
-                    EQUAL(now > length,
-                          which == KILL || which == KILL_PROCESS || which == UP || which == HEAL || which == ACT);
+                    EQUAL(now > length, which == KILL || which == KILL_PROCESS || which == UP ||
+                                            which == HEAL || which == ACT);
                     EQUAL(now == 0, which == RESET);
                 }
                 fy_guard_close(&guard);

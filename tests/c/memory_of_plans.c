@@ -6,7 +6,8 @@
 
 enum { ROOM = 20, WORDS = 50, WORDS_CALL = 0, SWIZZLE, ATTRITION, ORDERS, PLANS };
 
-static fy_status plan(int which, const fy_guard *guard, uint32_t *words, fy_order *orders, size_t *told)
+static fy_status plan(int which, const fy_guard *guard, uint32_t *words, fy_order *orders,
+                      size_t *told)
 {
     switch (which) {
     case WORDS_CALL:
@@ -15,7 +16,8 @@ static fy_status plan(int which, const fy_guard *guard, uint32_t *words, fy_orde
     case SWIZZLE:
         return fy_guard_swizzle_plan(guard, 9, 1, 10, orders, ROOM, told);
     case ATTRITION:
-        return fy_guard_attrition_plan(guard, 9, 1, 4, 1, FY_KILL_INSTANTLY, FY_REBOOT, 0, orders, ROOM, told);
+        return fy_guard_attrition_plan(guard, 9, 1, 4, 1, FY_KILL_INSTANTLY, FY_REBOOT, 0, orders,
+                                       ROOM, told);
     default:
         *told = ROOM;
         return fy_guard_plan_orders(guard, FY_PLAN_SWIZZLE, 9, 1, orders, ROOM);
@@ -90,7 +92,8 @@ static void checks(void)
                     if (met && read == FY_NO_MEMORY) {
                         unread++;
                         EQUAL(bad, FY_NO_BAD_ENTRY);
-                        EQUAL(fy_check_finding(&check, &count, &bad), at == 0 ? FY_NO_HEADER : FY_DONE);
+                        EQUAL(fy_check_finding(&check, &count, &bad),
+                              at == 0 ? FY_NO_HEADER : FY_DONE);
                         EQUAL(count, at == 0 ? 0 : at - 1);
                         read = fy_check_line(&check, LINES[at], strlen(LINES[at]), &bad);
                     }

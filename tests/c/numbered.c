@@ -13,17 +13,20 @@ static void tells(int line, fy_reply wanted)
     if (memcmp(&reply, &wanted, sizeof reply) == 0)
         return;
     wrong++;
-    fprintf(stderr, "line %d: refusal %u rule %u named %llu team %u record %u message %llu synced %llu now %llu marked %u acked %u\n",
-            line, (unsigned)reply.refusal, (unsigned)reply.rule, (unsigned long long)reply.named, (unsigned)reply.team,
-            (unsigned)reply.record, (unsigned long long)reply.message, (unsigned long long)reply.synced,
-            (unsigned long long)reply.now, (unsigned)reply.marked, (unsigned)reply.acked);
+    fprintf(
+        stderr,
+        "line %d: refusal %u rule %u named %llu team %u record %u message %llu synced %llu now %llu marked %u acked %u\n",
+        line, (unsigned)reply.refusal, (unsigned)reply.rule, (unsigned long long)reply.named,
+        (unsigned)reply.team, (unsigned)reply.record, (unsigned long long)reply.message,
+        (unsigned long long)reply.synced, (unsigned long long)reply.now, (unsigned)reply.marked,
+        (unsigned)reply.acked);
 }
 
-#define ANSWERS(wanted_status, call, ...)          \
-    do {                                           \
-        memset(&reply, 0x55, sizeof reply);        \
-        EQUAL(call, wanted_status);                \
-        tells(__LINE__, (fy_reply){__VA_ARGS__});  \
+#define ANSWERS(wanted_status, call, ...)         \
+    do {                                          \
+        memset(&reply, 0x55, sizeof reply);       \
+        EQUAL(call, wanted_status);               \
+        tells(__LINE__, (fy_reply){__VA_ARGS__}); \
     } while (0)
 
 /* The act is done, and tells these fields; it is refused; or nothing changed, since the status says so. */
@@ -36,7 +39,8 @@ static const uint32_t PAIR[] = {0, 2};
 
 static void killed(fy_guard *guard, const char *process, fy_kind kind)
 {
-    EQUAL(fy_guard_kill(guard, FAULT, FY_PROCESS, process, kind, kind, 0, &struck, &rule, &named), FY_DONE);
+    EQUAL(fy_guard_kill(guard, FAULT, FY_PROCESS, process, kind, kind, 0, &struck, &rule, &named),
+          FY_DONE);
     EQUAL(struck, kind);
 }
 
@@ -63,9 +67,11 @@ static void stored(void)
     entered(&guard, "{\"form\":{\"members\":[0,2],\"policy\":0}}", "{\"formed\":0}");
     DONE(fy_guard_form(&guard, STORAGE, PAIR, 2, 0, &reply), .team = 1);
     DONE(fy_guard_begin(&guard, STORAGE, 1, "", 0, &reply), .record = 0, .message = 0);
-    entered(&guard, "{\"begin\":{\"payload\":\"\",\"team\":1}}", "{\"begun\":{\"first\":0,\"record\":0}}");
+    entered(&guard, "{\"begin\":{\"payload\":\"\",\"team\":1}}",
+            "{\"begun\":{\"first\":0,\"record\":0}}");
     DONE(fy_guard_begin(&guard, STORAGE, 0, "hi", 2, &reply), .record = 1, .message = 2);
-    entered(&guard, "{\"begin\":{\"payload\":\"6869\",\"team\":0}}", "{\"begun\":{\"first\":2,\"record\":1}}");
+    entered(&guard, "{\"begin\":{\"payload\":\"6869\",\"team\":0}}",
+            "{\"begun\":{\"first\":2,\"record\":1}}");
     DONE(fy_guard_lose(&guard, STORAGE, 3, &reply), 0);
     entered(&guard, "{\"lose\":{\"message\":3}}", "\"done\"");
     DONE(fy_guard_resend(&guard, STORAGE, 1, 2, &reply), .message = 4);
@@ -88,7 +94,8 @@ static void stored(void)
     REFUSED(FY_ACKED, fy_guard_resend(&guard, STORAGE, 1, 2, &reply));
     /* Record 1 goes to process 1, which then takes the place of process 0. */
     REFUSED_BY(FY_STILL_NEEDS, 1, fy_guard_replace(&guard, STORAGE, 0, 0, 1, &reply));
-    entered(&guard, "{\"replace\":{\"into\":1,\"out\":0,\"team\":0}}", "{\"no\":[\"StillNeeds\",1]}");
+    entered(&guard, "{\"replace\":{\"into\":1,\"out\":0,\"team\":0}}",
+            "{\"no\":[\"StillNeeds\",1]}");
     DONE(fy_guard_copy(&guard, STORAGE, 2, 1, 1, &reply), .message = 8);
     entered(&guard, "{\"copy\":{\"from\":2,\"record\":1,\"to\":1}}", "{\"sent\":8}");
     DONE(fy_guard_deliver(&guard, STORAGE, 8, &reply), 0);
@@ -110,7 +117,8 @@ static void clogs(void)
 {
     fy_guard guard = open_guard(SIX);
     DONE(fy_guard_clog(&guard, FAULT, FY_ZONE, "z1", 3, &reply), 0);
-    entered(&guard, "{\"clog\":{\"key\":\"zoneid\",\"ticks\":3,\"value\":\"z1\"}}", "{\"ruled\":null}");
+    entered(&guard, "{\"clog\":{\"key\":\"zoneid\",\"ticks\":3,\"value\":\"z1\"}}",
+            "{\"ruled\":null}");
     state_is(&guard, 2, FY_STATE_UP | FY_STATE_CLOGGED);
     state_is(&guard, 4, FY_STATE_UP);
     DONE(fy_guard_form(&guard, STORAGE, PAIR, 2, 0, &reply), .team = 0);
@@ -123,18 +131,22 @@ static void clogs(void)
     DONE(fy_guard_tick(&guard, STORAGE, 3, &reply), .now = 3);
     state_is(&guard, 3, FY_STATE_UP);
     DONE(fy_guard_clog(&guard, FAULT, FY_MACHINE, "m9", 3, &reply), .rule = FY_NO_TARGET);
-    DONE(fy_guard_clog(&guard, GRANTLESS, FY_ZONE, "z2", 3, &reply), .rule = FY_NO_GRANT, .named = 4);
-    DONE(fy_guard_unclog(&guard, GRANTLESS, FY_PROCESS, "p5", &reply), .rule = FY_NO_GRANT, .named = 5);
+    DONE(fy_guard_clog(&guard, GRANTLESS, FY_ZONE, "z2", 3, &reply), .rule = FY_NO_GRANT,
+         .named = 4);
+    DONE(fy_guard_unclog(&guard, GRANTLESS, FY_PROCESS, "p5", &reply), .rule = FY_NO_GRANT,
+         .named = 5);
     DONE(fy_guard_protect(&guard, OPERATOR, 3, FY_KINDS_CLOG, &reply), 0);
     DONE(fy_guard_clog(&guard, FAULT, FY_ZONE, "z1", 3, &reply), .rule = FY_PROTECTED, .named = 3);
-    entered(&guard, "{\"clog\":{\"key\":\"zoneid\",\"ticks\":3,\"value\":\"z1\"}}", "{\"ruled\":[\"Protected\",3]}");
+    entered(&guard, "{\"clog\":{\"key\":\"zoneid\",\"ticks\":3,\"value\":\"z1\"}}",
+            "{\"ruled\":[\"Protected\",3]}");
     fy_guard_close(&guard);
 }
 
 /* Grants and protections of every set of kinds. */
 static void rights(void)
 {
-    static const char *const WORDS[] = {"\"RebootProcess\"", "\"Reboot\"", "\"RebootAndDelete\"", "\"KillInstantly\"", "\"Clog\""};
+    static const char *const WORDS[] = {"\"RebootProcess\"", "\"Reboot\"", "\"RebootAndDelete\"",
+                                        "\"KillInstantly\"", "\"Clog\""};
     fy_guard guard = open_guard(SIX);
     char kinds[128], act[256];
     for (uint32_t bits = 0; bits <= FY_KINDS_ALL; bits++) {
@@ -142,7 +154,8 @@ static void rights(void)
         kinds[0] = 0;
         for (int kind = 0; kind < 5; kind++)
             if (bits >> kind & 1)
-                length += (size_t)sprintf(kinds + length, "%s%s", length == 0 ? "" : ",", WORDS[kind]);
+                length +=
+                    (size_t)sprintf(kinds + length, "%s%s", length == 0 ? "" : ",", WORDS[kind]);
         DONE(fy_guard_give(&guard, OPERATOR, GRANTLESS, bits, FY_EVERYONE, NULL, &reply), 0);
         sprintf(act, "{\"give\":{\"actor\":3,\"kinds\":[%s],\"scope\":\"all\"}}", kinds);
         entered(&guard, act, "\"done\"");
@@ -158,13 +171,20 @@ static void rights(void)
     /* A grant of a zone covers the zone alone, and the kinds that it has. */
     uint32_t grant = FY_KINDS_REBOOT | FY_KINDS_CLOG;
     DONE(fy_guard_give(&guard, OPERATOR, GRANTLESS, grant, FY_ZONE, "z1", &reply), 0);
-    entered(&guard, "{\"give\":{\"actor\":3,\"kinds\":[\"Reboot\",\"Clog\"],\"scope\":{\"key\":\"zoneid\",\"value\":\"z1\"}}}", "\"done\"");
+    entered(
+        &guard,
+        "{\"give\":{\"actor\":3,\"kinds\":[\"Reboot\",\"Clog\"],\"scope\":{\"key\":\"zoneid\",\"value\":\"z1\"}}}",
+        "\"done\"");
     DONE(fy_guard_clog(&guard, GRANTLESS, FY_ZONE, "z1", 1, &reply), 0);
-    DONE(fy_guard_clog(&guard, GRANTLESS, FY_ZONE, "z2", 1, &reply), .rule = FY_NO_GRANT, .named = 4);
-    EQUAL(fy_guard_kill(&guard, GRANTLESS, FY_PROCESS, "p2", FY_REBOOT_AND_DELETE, FY_REBOOT, 0, &struck, &rule, &named), FY_DONE);
+    DONE(fy_guard_clog(&guard, GRANTLESS, FY_ZONE, "z2", 1, &reply), .rule = FY_NO_GRANT,
+         .named = 4);
+    EQUAL(fy_guard_kill(&guard, GRANTLESS, FY_PROCESS, "p2", FY_REBOOT_AND_DELETE, FY_REBOOT, 0,
+                        &struck, &rule, &named),
+          FY_DONE);
     EQUAL(struck, FY_REBOOT);
     DONE(fy_guard_take(&guard, OPERATOR, GRANTLESS, 0, &reply), 0);
-    DONE(fy_guard_clog(&guard, GRANTLESS, FY_ZONE, "z1", 1, &reply), .rule = FY_NO_GRANT, .named = 2);
+    DONE(fy_guard_clog(&guard, GRANTLESS, FY_ZONE, "z1", 1, &reply), .rule = FY_NO_GRANT,
+         .named = 2);
     fy_guard_close(&guard);
 }
 
@@ -201,7 +221,8 @@ static void actors(void)
 static void refusals(void)
 {
     fy_guard guard = open_guard(SIX);
-    static const uint32_t ABSENT[] = {0, 6}, SHORT[] = {0, 1}, GONE[] = {0, 5}, GONE_AND_SHORT[] = {4, 5};
+    static const uint32_t ABSENT[] = {0, 6}, SHORT[] = {0, 1}, GONE[] = {0, 5},
+                          GONE_AND_SHORT[] = {4, 5};
     static const uint8_t LONG[257] = {0};
     REFUSED(FY_NO_POLICY, fy_guard_form(&guard, STORAGE, PAIR, 2, 1, &reply));
     REFUSED(FY_NO_PROCESS, fy_guard_form(&guard, STORAGE, ABSENT, 2, 0, &reply));
@@ -278,7 +299,8 @@ static void limits(void)
     DONE(fy_guard_deliver(&guard, STORAGE, 3, &reply), 0);
     uint64_t message = 5;
     for (uint32_t record = 2; record < RECORDS - 1; record++)
-        DONE(fy_guard_begin(&guard, STORAGE, 0, "c", 1, &reply), .record = record, .message = message++);
+        DONE(fy_guard_begin(&guard, STORAGE, 0, "c", 1, &reply), .record = record,
+             .message = message++);
     EQUAL(message, 2 + MESSAGES);
     REFUSED(FY_NET_FULL, fy_guard_begin(&guard, STORAGE, 0, "d", 1, &reply));
     REFUSED(FY_NET_FULL, fy_guard_resend(&guard, STORAGE, 0, 1, &reply));
@@ -286,7 +308,8 @@ static void limits(void)
     REFUSED(FY_NET_FULL, fy_guard_sync(&guard, STORAGE, 0, &reply));
     DONE(fy_guard_sync(&guard, STORAGE, 1, &reply), .synced = 0, .message = message);
     DONE(fy_guard_lose(&guard, STORAGE, 1, &reply), 0);
-    DONE(fy_guard_begin(&guard, STORAGE, 0, "e", 1, &reply), .record = RECORDS - 1, .message = message);
+    DONE(fy_guard_begin(&guard, STORAGE, 0, "e", 1, &reply), .record = RECORDS - 1,
+         .message = message);
     REFUSED(FY_TOO_MANY, fy_guard_begin(&guard, STORAGE, 0, "f", 1, &reply));
     fy_guard_close(&guard);
 }
@@ -377,11 +400,11 @@ static void closed(void)
     fy_guard guard = {0};
     fy_reply untouched;
     memset(&untouched, 0x55, sizeof untouched);
-#define CLOSED(call)                                               \
-    do {                                                           \
-        memset(&reply, 0x55, sizeof reply);                        \
-        EQUAL(call, FY_CLOSED);                                    \
-        EQUAL(memcmp(&reply, &untouched, sizeof reply), 0);        \
+#define CLOSED(call)                                        \
+    do {                                                    \
+        memset(&reply, 0x55, sizeof reply);                 \
+        EQUAL(call, FY_CLOSED);                             \
+        EQUAL(memcmp(&reply, &untouched, sizeof reply), 0); \
     } while (0)
     fy_guard open = open_guard(SIX);
     for (int round = 0; round < 3; round++) {

@@ -14,12 +14,15 @@ static uint32_t below(uint32_t most)
 }
 
 static const char *const KEYS[] = {"processid", "machineid", "zoneid", "data_hall", "dcid"};
-static const char *const KINDS[] = {"RebootProcess", "Reboot", "RebootAndDelete", "KillInstantly", "Clog"};
-static const char *const RULES[] = {"", "NoTarget", "NoGrant", "Protected", "TooManyDestroyed", "TooFewLeft"};
+static const char *const KINDS[] = {"RebootProcess", "Reboot", "RebootAndDelete", "KillInstantly",
+                                    "Clog"};
+static const char *const RULES[] = {"",          "NoTarget",         "NoGrant",
+                                    "Protected", "TooManyDestroyed", "TooFewLeft"};
 static const char *const REFUSALS[] = {
-    "", "Stranger", "WrongRole", "TooMany", "NoPolicy", "NoProcess", "Gone", "TeamShort", "NoTeam", "Payload", "NetFull", "NoMessage",
-    "Clogged", "NotUp", "NoRecord", "NotMember", "Acked", "IsUp", "ClockEnd", "NoActor", "Full", "NoSuch", "NoCopy", "IsMember",
-    "NotDestroyed", "StillNeeds",
+    "",          "Stranger",  "WrongRole", "TooMany",      "NoPolicy",   "NoProcess", "Gone",
+    "TeamShort", "NoTeam",    "Payload",   "NetFull",      "NoMessage",  "Clogged",   "NotUp",
+    "NoRecord",  "NotMember", "Acked",     "IsUp",         "ClockEnd",   "NoActor",   "Full",
+    "NoSuch",    "NoCopy",    "IsMember",  "NotDestroyed", "StillNeeds",
 };
 static const char LETTERS[] = "pmzhd";
 
@@ -28,14 +31,31 @@ static fy_reply reply;
 static char act[LINE], told[LINE];
 
 /* How often a reply of each shape was met, and each refusal. */
-enum { VERDICT, RULED, BARRED, FORMED, BEGUN, STORED, MARKED, ACKED, SENT, SYNCED, TIME, DONE, SHAPES };
+enum {
+    VERDICT,
+    RULED,
+    BARRED,
+    FORMED,
+    BEGUN,
+    STORED,
+    MARKED,
+    ACKED,
+    SENT,
+    SYNCED,
+    TIME,
+    DONE,
+    SHAPES
+};
 static unsigned met[SHAPES], refused[FY_STILL_NEEDS + 1];
 
 /* The reply as an audit has it, where the act is done. */
-static void tell(int shape, fy_status status, const char *format, unsigned long long first, unsigned long long second)
+static void tell(int shape, fy_status status, const char *format, unsigned long long first,
+                 unsigned long long second)
 {
-    if (status == FY_REFUSED && (reply.refusal == FY_TEAM_SHORT || reply.refusal == FY_STILL_NEEDS)) {
-        sprintf(told, "{\"no\":[\"%s\",%llu]}", REFUSALS[reply.refusal], (unsigned long long)reply.named);
+    if (status == FY_REFUSED &&
+        (reply.refusal == FY_TEAM_SHORT || reply.refusal == FY_STILL_NEEDS)) {
+        sprintf(told, "{\"no\":[\"%s\",%llu]}", REFUSALS[reply.refusal],
+                (unsigned long long)reply.named);
     } else if (status == FY_REFUSED) {
         sprintf(told, "{\"no\":[\"%s\"]}", REFUSALS[reply.refusal]);
     } else {
@@ -80,16 +100,20 @@ static void verdict_told(fy_status status)
 /* A kill, a clog or the end of one. */
 static void strike(uint32_t by, uint32_t which)
 {
-    uint32_t key = below(5), kind = below(9) == 0 ? 3 : below(3), floor = below(kind + 1), ticks = below(9);
+    uint32_t key = below(5), kind = below(9) == 0 ? 3 : below(3), floor = below(kind + 1),
+             ticks = below(9);
     char value[16];
     sprintf(value, "%c%u", LETTERS[key], (unsigned)below(7));
     if (which == 0) {
-        sprintf(act, "{\"kill\":{\"floor\":\"%s\",\"key\":\"%s\",\"kind\":\"%s\",\"tear\":5,\"value\":\"%s\"}}", KINDS[floor], KEYS[key],
-                KINDS[kind], value);
-        verdict_told(fy_guard_kill(&guard, by, (fy_key)(key + 1), value, (fy_kind)(kind + 1), (fy_kind)(floor + 1), 5, &struck,
-                                   &rule, &named));
+        sprintf(
+            act,
+            "{\"kill\":{\"floor\":\"%s\",\"key\":\"%s\",\"kind\":\"%s\",\"tear\":5,\"value\":\"%s\"}}",
+            KINDS[floor], KEYS[key], KINDS[kind], value);
+        verdict_told(fy_guard_kill(&guard, by, (fy_key)(key + 1), value, (fy_kind)(kind + 1),
+                                   (fy_kind)(floor + 1), 5, &struck, &rule, &named));
     } else if (which == 1) {
-        sprintf(act, "{\"clog\":{\"key\":\"%s\",\"ticks\":%u,\"value\":\"%s\"}}", KEYS[key], (unsigned)ticks, value);
+        sprintf(act, "{\"clog\":{\"key\":\"%s\",\"ticks\":%u,\"value\":\"%s\"}}", KEYS[key],
+                (unsigned)ticks, value);
         rule_told(fy_guard_clog(&guard, by, (fy_key)(key + 1), value, ticks, &reply));
     } else {
         sprintf(act, "{\"unclog\":{\"key\":\"%s\",\"value\":\"%s\"}}", KEYS[key], value);
@@ -123,7 +147,8 @@ static void begin(uint32_t by)
     }
     sprintf(act + length, "\",\"team\":%u}}", (unsigned)team);
     fy_status status = fy_guard_begin(&guard, by, team, payload, count, &reply);
-    tell(BEGUN, status, "{\"begun\":{\"first\":%llu,\"record\":%llu}}", reply.message, reply.record);
+    tell(BEGUN, status, "{\"begun\":{\"first\":%llu,\"record\":%llu}}", reply.message,
+         reply.record);
 }
 
 /* The least message that can be delivered, or any. */
@@ -131,19 +156,22 @@ static void deliver(uint32_t by)
 {
     fy_seen seen;
     EQUAL(fy_guard_sight(&guard, &seen), FY_DONE);
-    uint64_t message = seen.deliverable == FY_NOTHING || below(4) == 0 ? below(3000) : seen.deliverable;
+    uint64_t message =
+        seen.deliverable == FY_NOTHING || below(4) == 0 ? below(3000) : seen.deliverable;
     sprintf(act, "{\"deliver\":{\"message\":%llu}}", (unsigned long long)message);
     fy_status status = fy_guard_deliver(&guard, by, message, &reply);
     if (status == FY_DONE && !reply.marked)
         tell(STORED, status, "\"stored\"", 0, 0);
     else
-        tell(reply.acked ? ACKED : MARKED, status, reply.acked ? "{\"marked\":true}" : "{\"marked\":false}", 0, 0);
+        tell(reply.acked ? ACKED : MARKED, status,
+             reply.acked ? "{\"marked\":true}" : "{\"marked\":false}", 0, 0);
 }
 
 /* An act of a storage actor on a record, a message, a process or the clock. */
 static void store(uint32_t by, uint32_t which)
 {
-    uint32_t record = below(40), process = below(7), other = below(7), team = below(9), number = below(3000);
+    uint32_t record = below(40), process = below(7), other = below(7), team = below(9),
+             number = below(3000);
     fy_status status;
     switch (which) {
     case 0:
@@ -151,14 +179,16 @@ static void store(uint32_t by, uint32_t which)
         tell(DONE, fy_guard_lose(&guard, by, number, &reply), "\"done\"", 0, 0);
         break;
     case 1:
-        sprintf(act, "{\"resend\":{\"process\":%u,\"record\":%u}}", (unsigned)process, (unsigned)record);
+        sprintf(act, "{\"resend\":{\"process\":%u,\"record\":%u}}", (unsigned)process,
+                (unsigned)record);
         status = fy_guard_resend(&guard, by, record, process, &reply);
         tell(SENT, status, "{\"sent\":%llu}", reply.message, 0);
         break;
     case 2:
         sprintf(act, "{\"sync\":{\"process\":%u}}", (unsigned)process);
         status = fy_guard_sync(&guard, by, process, &reply);
-        tell(SYNCED, status, "{\"synced\":{\"count\":%llu,\"first\":%llu}}", reply.synced, reply.message);
+        tell(SYNCED, status, "{\"synced\":{\"count\":%llu,\"first\":%llu}}", reply.synced,
+             reply.message);
         break;
     case 3:
         sprintf(act, "{\"tick\":{\"ticks\":%u}}", (unsigned)number % 5);
@@ -166,12 +196,14 @@ static void store(uint32_t by, uint32_t which)
         tell(TIME, status, "{\"time\":%llu}", reply.now, 0);
         break;
     case 4:
-        sprintf(act, "{\"copy\":{\"from\":%u,\"record\":%u,\"to\":%u}}", (unsigned)process, (unsigned)record, (unsigned)other);
+        sprintf(act, "{\"copy\":{\"from\":%u,\"record\":%u,\"to\":%u}}", (unsigned)process,
+                (unsigned)record, (unsigned)other);
         status = fy_guard_copy(&guard, by, process, record, other, &reply);
         tell(SENT, status, "{\"sent\":%llu}", reply.message, 0);
         break;
     default:
-        sprintf(act, "{\"replace\":{\"into\":%u,\"out\":%u,\"team\":%u}}", (unsigned)other, (unsigned)process, (unsigned)team);
+        sprintf(act, "{\"replace\":{\"into\":%u,\"out\":%u,\"team\":%u}}", (unsigned)other,
+                (unsigned)process, (unsigned)team);
         tell(DONE, fy_guard_replace(&guard, by, team, process, other, &reply), "\"done\"", 0, 0);
     }
 }
@@ -200,7 +232,8 @@ static void grant(uint32_t by, uint32_t which)
     char kinds[128] = "", scope[64] = "\"all\"", value[16] = "";
     for (int kind = 0; kind < 5; kind++)
         if (bits >> kind & 1)
-            length += (uint32_t)sprintf(kinds + length, "%s\"%s\"", length == 0 ? "" : ",", KINDS[kind]);
+            length +=
+                (uint32_t)sprintf(kinds + length, "%s\"%s\"", length == 0 ? "" : ",", KINDS[kind]);
     if (key > 0) {
         sprintf(value, "%c%u", LETTERS[key - 1], (unsigned)below(7));
         sprintf(scope, "{\"key\":\"%s\",\"value\":\"%s\"}", KEYS[key - 1], value);
@@ -208,8 +241,10 @@ static void grant(uint32_t by, uint32_t which)
     fy_status status;
     switch (which) {
     case 0:
-        sprintf(act, "{\"give\":{\"actor\":%u,\"kinds\":[%s],\"scope\":%s}}", (unsigned)actor, kinds, scope);
-        status = fy_guard_give(&guard, by, actor, bits, (fy_key)key, key == 0 ? NULL : value, &reply);
+        sprintf(act, "{\"give\":{\"actor\":%u,\"kinds\":[%s],\"scope\":%s}}", (unsigned)actor,
+                kinds, scope);
+        status =
+            fy_guard_give(&guard, by, actor, bits, (fy_key)key, key == 0 ? NULL : value, &reply);
         break;
     case 1:
         sprintf(act, "{\"take\":{\"actor\":%u,\"index\":%u}}", (unsigned)actor, (unsigned)process);

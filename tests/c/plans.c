@@ -45,8 +45,8 @@ static void shuffle(uint32_t *list, size_t length, const uint32_t *words)
 }
 
 /* An order by its numbers, and nothing but zeros behind its value. */
-static void order_is(const fy_order *order, uint32_t act, uint32_t key, char letter, uint32_t number, uint32_t kind,
-                     uint32_t floor, uint64_t tear, uint64_t ticks)
+static void order_is(const fy_order *order, uint32_t act, uint32_t key, char letter,
+                     uint32_t number, uint32_t kind, uint32_t floor, uint64_t tear, uint64_t ticks)
 {
     char value[FY_VALUE_BYTES] = {letter, (char)('0' + number)};
     EQUAL(order->act, act);
@@ -105,19 +105,23 @@ static size_t swizzle_is(const fy_guard *guard, uint64_t seed, uint64_t stream, 
 }
 
 /* The first machines of the shuffled ones are killed, and so many are spared. */
-static size_t attrition_is(const fy_guard *guard, uint64_t seed, uint64_t stream, uint32_t to_kill, uint32_t to_leave)
+static size_t attrition_is(const fy_guard *guard, uint64_t seed, uint64_t stream, uint32_t to_kill,
+                           uint32_t to_leave)
 {
     uint32_t words[WORDS], machines[PROCESSES] = {0, 1, 2, 3, 4, 5};
     fy_order orders[ROOM];
-    size_t most = to_leave < PROCESSES ? PROCESSES - to_leave : 0, count = to_kill < most ? to_kill : most, told = 77;
+    size_t most = to_leave < PROCESSES ? PROCESSES - to_leave : 0,
+           count = to_kill < most ? to_kill : most, told = 77;
     EQUAL(fy_guard_words(seed, stream, words, WORDS), FY_DONE);
     shuffle(machines, PROCESSES, words);
     memset(orders, 0x55, sizeof orders);
-    EQUAL(fy_guard_attrition_plan(guard, seed, stream, to_kill, to_leave, FY_KILL_INSTANTLY, FY_REBOOT, 5, orders, ROOM, &told),
+    EQUAL(fy_guard_attrition_plan(guard, seed, stream, to_kill, to_leave, FY_KILL_INSTANTLY,
+                                  FY_REBOOT, 5, orders, ROOM, &told),
           FY_DONE);
     EQUAL(told, count);
     for (size_t at = 0; at < count; at++)
-        order_is(&orders[at], FY_ORDER_KILL, FY_MACHINE, 'm', machines[at], FY_KILL_INSTANTLY, FY_REBOOT, 5, 0);
+        order_is(&orders[at], FY_ORDER_KILL, FY_MACHINE, 'm', machines[at], FY_KILL_INSTANTLY,
+                 FY_REBOOT, 5, 0);
     rest_stays(orders, told);
     return told;
 }
@@ -139,7 +143,9 @@ static void plans(void)
     /* Nothing is entered, and what becomes of the processes changes no plan. */
     EQUAL(fy_guard_journal_len(&guard, &count), FY_DONE);
     EQUAL(count, 0);
-    EQUAL(fy_guard_kill(&guard, 1, FY_MACHINE, "m0", FY_KILL_INSTANTLY, FY_KILL_INSTANTLY, 0, &struck, &rule, &named), FY_DONE);
+    EQUAL(fy_guard_kill(&guard, 1, FY_MACHINE, "m0", FY_KILL_INSTANTLY, FY_KILL_INSTANTLY, 0,
+                        &struck, &rule, &named),
+          FY_DONE);
     EQUAL(attrition_is(&guard, 9, 1, 6, 0), PROCESSES);
     fy_guard_close(&guard);
 }
@@ -163,7 +169,8 @@ static void rounds(void)
             EQUAL(orders[0].act, FY_ORDER_NONE);
         none += told == 0;
         some += told > 0;
-        EQUAL(fy_guard_attrition_plan(&guard, seed, stream, UINT32_MAX, 0, FY_REBOOT_AND_DELETE, FY_REBOOT, stream, plan, ROOM, &told),
+        EQUAL(fy_guard_attrition_plan(&guard, seed, stream, UINT32_MAX, 0, FY_REBOOT_AND_DELETE,
+                                      FY_REBOOT, stream, plan, ROOM, &told),
               FY_DONE);
         EQUAL(told, PROCESSES);
         EQUAL(fy_guard_plan_orders(&guard, FY_PLAN_ATTRITION, seed, actor, orders, ROOM), FY_DONE);
@@ -199,11 +206,15 @@ static void carried_out(void)
     fy_guard guard = open_guard(SIX);
     fy_order orders[FY_MOST_ORDERS];
     size_t told = 0;
-    EQUAL(fy_guard_attrition_plan(&guard, 7, 2, 2, 1, FY_KILL_INSTANTLY, FY_REBOOT, 0, orders, FY_MOST_ORDERS, &told), FY_DONE);
+    EQUAL(fy_guard_attrition_plan(&guard, 7, 2, 2, 1, FY_KILL_INSTANTLY, FY_REBOOT, 0, orders,
+                                  FY_MOST_ORDERS, &told),
+          FY_DONE);
     EQUAL(told, 2);
     for (size_t at = 0; at < told; at++)
-        EQUAL(fy_guard_kill(&guard, 1, (fy_key)orders[at].key, orders[at].value, (fy_kind)orders[at].kind,
-                            (fy_kind)orders[at].floor, orders[at].tear, &struck, &rule, &named), FY_DONE);
+        EQUAL(fy_guard_kill(&guard, 1, (fy_key)orders[at].key, orders[at].value,
+                            (fy_kind)orders[at].kind, (fy_kind)orders[at].floor, orders[at].tear,
+                            &struck, &rule, &named),
+              FY_DONE);
     fy_guard_close(&guard);
 }
 
@@ -221,7 +232,8 @@ static void refusals(void)
     EQUAL(told, whole);
     EQUAL(fy_guard_swizzle_plan(&guard, seed, 0, 10, orders, 0, &told), FY_SHORT);
     EQUAL(told, whole);
-    EQUAL(fy_guard_attrition_plan(&guard, seed, 0, 3, 1, FY_REBOOT, FY_REBOOT, 0, orders, 2, &told), FY_SHORT);
+    EQUAL(fy_guard_attrition_plan(&guard, seed, 0, 3, 1, FY_REBOOT, FY_REBOOT, 0, orders, 2, &told),
+          FY_SHORT);
     EQUAL(told, 3);
     static const struct {
         fy_kind kind, floor;
@@ -236,7 +248,9 @@ static void refusals(void)
     };
     for (size_t i = 0; i < sizeof kinds / sizeof *kinds; i++) {
         told = 77;
-        EQUAL(fy_guard_attrition_plan(&guard, seed, 0, 3, 1, kinds[i].kind, kinds[i].floor, 0, orders, 0, &told), kinds[i].status);
+        EQUAL(fy_guard_attrition_plan(&guard, seed, 0, 3, 1, kinds[i].kind, kinds[i].floor, 0,
+                                      orders, 0, &told),
+              kinds[i].status);
         EQUAL(told, 0);
     }
     EQUAL(fy_guard_plan_orders(&guard, (fy_plan)0, seed, 1, orders, ROOM), FY_ARGUMENT);
@@ -257,13 +271,16 @@ static void closed(void)
         const fy_guard *none = round == 0 ? &shut : NULL;
         EQUAL(fy_guard_plan_orders(none, FY_PLAN_MIXED, 0, 0, &order, 1), FY_CLOSED);
         EQUAL(fy_guard_swizzle_plan(none, 0, 0, 1, &order, 1, &told), FY_CLOSED);
-        EQUAL(fy_guard_attrition_plan(none, 0, 0, 1, 1, FY_REBOOT, FY_REBOOT, 0, &order, 1, &told), FY_CLOSED);
+        EQUAL(fy_guard_attrition_plan(none, 0, 0, 1, 1, FY_REBOOT, FY_REBOOT, 0, &order, 1, &told),
+              FY_CLOSED);
     }
     EQUAL(fy_guard_plan_orders(&guard, FY_PLAN_MIXED, 0, 0, NULL, 0), FY_CLOSED);
     EQUAL(fy_guard_swizzle_plan(&guard, 0, 0, 1, NULL, 0, &told), FY_CLOSED);
     EQUAL(fy_guard_swizzle_plan(&guard, 0, 0, 1, &order, 1, NULL), FY_CLOSED);
-    EQUAL(fy_guard_attrition_plan(&guard, 0, 0, 1, 1, FY_REBOOT, FY_REBOOT, 0, NULL, 0, &told), FY_CLOSED);
-    EQUAL(fy_guard_attrition_plan(&guard, 0, 0, 1, 1, FY_REBOOT, FY_REBOOT, 0, &order, 1, NULL), FY_CLOSED);
+    EQUAL(fy_guard_attrition_plan(&guard, 0, 0, 1, 1, FY_REBOOT, FY_REBOOT, 0, NULL, 0, &told),
+          FY_CLOSED);
+    EQUAL(fy_guard_attrition_plan(&guard, 0, 0, 1, 1, FY_REBOOT, FY_REBOOT, 0, &order, 1, NULL),
+          FY_CLOSED);
     fy_guard_close(&guard);
 }
 

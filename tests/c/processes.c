@@ -44,18 +44,21 @@ static fy_status both(fy_guard *by_name, fy_guard *by_number, asked order)
     const char *name = NAMES[order.process];
     struck = rule = 78;
     named = 78;
-    fy_status judged = fy_guard_judge(by_name, order.actor, FY_PROCESS, name, order.kind, order.floor, &struck_by_name,
-                                      &rule_by_name, &named_by_name);
-    EQUAL(fy_guard_judge_process(by_number, order.actor, order.process, order.kind, order.floor, &struck, &rule, &named), judged);
+    fy_status judged = fy_guard_judge(by_name, order.actor, FY_PROCESS, name, order.kind,
+                                      order.floor, &struck_by_name, &rule_by_name, &named_by_name);
+    EQUAL(fy_guard_judge_process(by_number, order.actor, order.process, order.kind, order.floor,
+                                 &struck, &rule, &named),
+          judged);
     EQUAL(struck, struck_by_name);
     EQUAL(rule, rule_by_name);
     EQUAL(named, named_by_name);
     struck = rule = 78;
     named = 78;
-    fy_status killed = fy_guard_kill(by_name, order.actor, FY_PROCESS, name, order.kind, order.floor, order.tear,
-                                     &struck_by_name, &rule_by_name, &named_by_name);
-    EQUAL(fy_guard_kill_process(by_number, order.actor, order.process, order.kind, order.floor, order.tear, &struck, &rule,
-                                &named),
+    fy_status killed =
+        fy_guard_kill(by_name, order.actor, FY_PROCESS, name, order.kind, order.floor, order.tear,
+                      &struck_by_name, &rule_by_name, &named_by_name);
+    EQUAL(fy_guard_kill_process(by_number, order.actor, order.process, order.kind, order.floor,
+                                order.tear, &struck, &rule, &named),
           killed);
     EQUAL(killed, judged);
     EQUAL(struck, struck_by_name);
@@ -73,7 +76,9 @@ static void same_kinds(const fy_guard *guard, uint32_t actor)
     fy_status status = fy_guard_killable(guard, actor, kinds, sizeof kinds, &told);
     EQUAL(told, PROCESSES);
     for (uint32_t p = 0; p < PROCESSES; p++) {
-        EQUAL(fy_guard_judge_process(guard, actor, p, FY_KILL_INSTANTLY, FY_REBOOT_PROCESS, &struck, &rule, &named), status);
+        EQUAL(fy_guard_judge_process(guard, actor, p, FY_KILL_INSTANTLY, FY_REBOOT_PROCESS, &struck,
+                                     &rule, &named),
+              status);
         EQUAL(kinds[p], status == FY_DONE ? struck : 77);
         killable[struck]++;
     }
@@ -99,7 +104,8 @@ static void same_audit(const fy_guard *by_name, const fy_guard *by_number)
 static void random_orders(void)
 {
     fy_guard by_name = open_guard(SIX_WITH("40000")), by_number = open_guard(SIX_WITH("40000"));
-    unsigned long seen[FY_FLOOR + 1] = {0}, struck_by[FY_KILL_INSTANTLY + 1] = {0}, barred_by[FY_TOO_FEW_LEFT + 1] = {0};
+    unsigned long seen[FY_FLOOR + 1] = {0}, struck_by[FY_KILL_INSTANTLY + 1] = {0},
+                                  barred_by[FY_TOO_FEW_LEFT + 1] = {0};
     uint32_t refusal, again;
     for (int i = 0; i < ORDERS; i++) {
         asked order = drawn();
@@ -109,16 +115,19 @@ static void random_orders(void)
         struck_by[struck]++;
         barred_by[rule]++;
         same_kinds(&by_number, order.actor);
-        EQUAL(fy_guard_up(&by_number, 0, order.process, &again), fy_guard_up(&by_name, 0, order.process, &refusal));
+        EQUAL(fy_guard_up(&by_number, 0, order.process, &again),
+              fy_guard_up(&by_name, 0, order.process, &refusal));
         EQUAL(again, refusal);
-        EQUAL(fy_guard_heal(&by_number, 0, order.process, &again), fy_guard_heal(&by_name, 0, order.process, &refusal));
+        EQUAL(fy_guard_heal(&by_number, 0, order.process, &again),
+              fy_guard_heal(&by_name, 0, order.process, &refusal));
         EQUAL(again, refusal);
     }
     EQUAL(seen[FY_DONE] > 0 && seen[FY_REFUSED] > 0 && seen[FY_FLOOR] > 0, 1);
     for (int kind = FY_NONE; kind <= FY_KILL_INSTANTLY; kind++)
         EQUAL(struck_by[kind] > 0, 1);
     EQUAL(killable[FY_NONE] > 0 && killable[FY_REBOOT] > 0 && killable[FY_KILL_INSTANTLY] > 0, 1);
-    EQUAL(barred_by[FY_NO_RULE] > 0 && barred_by[FY_NO_TARGET] > 0 && barred_by[FY_NO_GRANT] > 0, 1);
+    EQUAL(barred_by[FY_NO_RULE] > 0 && barred_by[FY_NO_TARGET] > 0 && barred_by[FY_NO_GRANT] > 0,
+          1);
     same_audit(&by_name, &by_number);
     fy_guard_close(&by_name);
     fy_guard_close(&by_number);
@@ -131,11 +140,15 @@ static void refused(fy_guard *guard, uint32_t process, int kind, int floor, fy_s
     fy_guard_journal_len(guard, &count);
     struck = rule = 77;
     named = 77;
-    EQUAL(fy_guard_judge_process(guard, 1, process, (fy_kind)kind, (fy_kind)floor, &struck, &rule, &named), wanted);
+    EQUAL(fy_guard_judge_process(guard, 1, process, (fy_kind)kind, (fy_kind)floor, &struck, &rule,
+                                 &named),
+          wanted);
     EQUAL(struck | rule | named, 0);
     struck = rule = 77;
     named = 77;
-    EQUAL(fy_guard_kill_process(guard, 1, process, (fy_kind)kind, (fy_kind)floor, 0, &struck, &rule, &named), wanted);
+    EQUAL(fy_guard_kill_process(guard, 1, process, (fy_kind)kind, (fy_kind)floor, 0, &struck, &rule,
+                                &named),
+          wanted);
     EQUAL(struck | rule | named, 0);
     fy_guard_journal_len(guard, &after);
     EQUAL(after, count);
@@ -154,21 +167,30 @@ static void statuses(void)
     /* A number of no process comes before a floor above the kind. */
     refused(&guard, PROCESSES, FY_REBOOT, FY_KILL_INSTANTLY, FY_ARGUMENT);
     refused(&guard, 5, FY_REBOOT, FY_KILL_INSTANTLY, FY_FLOOR);
-    EQUAL(fy_guard_kill_process(&guard, 9, 5, FY_REBOOT, FY_REBOOT, 0, &struck, &rule, &named), FY_REFUSED);
+    EQUAL(fy_guard_kill_process(&guard, 9, 5, FY_REBOOT, FY_REBOOT, 0, &struck, &rule, &named),
+          FY_REFUSED);
     EQUAL(struck | rule | named, 0);
-    EQUAL(fy_guard_kill_process(&guard, 1, 5, FY_REBOOT, FY_REBOOT, 0, &struck, &rule, &named), FY_DONE);
+    EQUAL(fy_guard_kill_process(&guard, 1, 5, FY_REBOOT, FY_REBOOT, 0, &struck, &rule, &named),
+          FY_DONE);
     EQUAL(struck, FY_REBOOT);
-    EQUAL(fy_guard_kill_process(&guard, 1, 5, FY_REBOOT, FY_REBOOT, 0, &struck, &rule, &named), FY_JOURNAL_FULL);
+    EQUAL(fy_guard_kill_process(&guard, 1, 5, FY_REBOOT, FY_REBOOT, 0, &struck, &rule, &named),
+          FY_JOURNAL_FULL);
     EQUAL(struck | rule | named, 0);
-    EQUAL(fy_guard_judge_process(&guard, 1, 5, FY_REBOOT, FY_REBOOT, &struck, &rule, &named), FY_DONE);
+    EQUAL(fy_guard_judge_process(&guard, 1, 5, FY_REBOOT, FY_REBOOT, &struck, &rule, &named),
+          FY_DONE);
     EQUAL(struck, FY_REBOOT);
-    EQUAL(fy_guard_judge_process(&guard, 9, 5, FY_REBOOT, FY_REBOOT, &struck, &rule, &named), FY_REFUSED);
+    EQUAL(fy_guard_judge_process(&guard, 9, 5, FY_REBOOT, FY_REBOOT, &struck, &rule, &named),
+          FY_REFUSED);
     EQUAL(fy_guard_journal_len(&guard, &count), FY_DONE);
     EQUAL(count, 2);
-    EQUAL(fy_guard_judge_process(&none, 1, 0, FY_REBOOT, FY_REBOOT, &struck, &rule, &named), FY_CLOSED);
-    EQUAL(fy_guard_kill_process(&none, 1, 0, FY_REBOOT, FY_REBOOT, 0, &struck, &rule, &named), FY_CLOSED);
-    EQUAL(fy_guard_judge_process(&guard, 1, 0, FY_REBOOT, FY_REBOOT, NULL, &rule, &named), FY_CLOSED);
-    EQUAL(fy_guard_kill_process(&guard, 1, 0, FY_REBOOT, FY_REBOOT, 0, &struck, &rule, NULL), FY_CLOSED);
+    EQUAL(fy_guard_judge_process(&none, 1, 0, FY_REBOOT, FY_REBOOT, &struck, &rule, &named),
+          FY_CLOSED);
+    EQUAL(fy_guard_kill_process(&none, 1, 0, FY_REBOOT, FY_REBOOT, 0, &struck, &rule, &named),
+          FY_CLOSED);
+    EQUAL(fy_guard_judge_process(&guard, 1, 0, FY_REBOOT, FY_REBOOT, NULL, &rule, &named),
+          FY_CLOSED);
+    EQUAL(fy_guard_kill_process(&guard, 1, 0, FY_REBOOT, FY_REBOOT, 0, &struck, &rule, NULL),
+          FY_CLOSED);
     fy_guard_close(&guard);
 }
 
@@ -183,8 +205,11 @@ static void killable_of_six(void)
     EQUAL(told, PROCESSES);
     EQUAL(memcmp(kinds, "\4\4\4\4\4\4", PROCESSES), 0);
     /* The second fault actor has the kinds KillInstantly and Reboot, the third none. */
-    EQUAL(fy_guard_protect(&guard, 4, 3, FY_KINDS_KILL_INSTANTLY | FY_KINDS_REBOOT_AND_DELETE, &reply), FY_DONE);
-    EQUAL(fy_guard_protect(&guard, 4, 4, FY_KINDS_KILL_INSTANTLY | FY_KINDS_REBOOT, &reply), FY_DONE);
+    EQUAL(fy_guard_protect(&guard, 4, 3, FY_KINDS_KILL_INSTANTLY | FY_KINDS_REBOOT_AND_DELETE,
+                           &reply),
+          FY_DONE);
+    EQUAL(fy_guard_protect(&guard, 4, 4, FY_KINDS_KILL_INSTANTLY | FY_KINDS_REBOOT, &reply),
+          FY_DONE);
     EQUAL(fy_guard_killable(&guard, 1, kinds, PROCESSES, &told), FY_DONE);
     EQUAL(memcmp(kinds, "\4\4\4\2\3\4", PROCESSES), 0);
     EQUAL(fy_guard_killable(&guard, 2, kinds, PROCESSES, &told), FY_DONE);
@@ -192,7 +217,9 @@ static void killable_of_six(void)
     EQUAL(fy_guard_killable(&guard, 3, kinds, PROCESSES, &told), FY_DONE);
     EQUAL(memcmp(kinds, "\0\0\0\0\0\0", PROCESSES), 0);
     /* With p0 gone, p1 of its zone may go too, and none of another zone may be emptied. */
-    EQUAL(fy_guard_kill_process(&guard, 1, 0, FY_KILL_INSTANTLY, FY_REBOOT, 0, &struck, &rule, &named), FY_DONE);
+    EQUAL(fy_guard_kill_process(&guard, 1, 0, FY_KILL_INSTANTLY, FY_REBOOT, 0, &struck, &rule,
+                                &named),
+          FY_DONE);
     EQUAL(struck, FY_KILL_INSTANTLY);
     EQUAL(fy_guard_killable(&guard, 1, kinds, PROCESSES, &told), FY_DONE);
     EQUAL(memcmp(kinds, "\0\4\2\2\1\2", PROCESSES), 0);

@@ -69,7 +69,9 @@ static void ask_for_plans(const fy_guard *guard)
     size_t told = 77;
     EQUAL(fy_guard_swizzle_plan(guard, 7, 1, 10, orders, 12, &told), FY_DONE);
     EQUAL(told <= 12, 1);
-    EQUAL(fy_guard_attrition_plan(guard, 7, 1, 2, 1, FY_KILL_INSTANTLY, FY_REBOOT, 0, orders, 12, &told), FY_DONE);
+    EQUAL(fy_guard_attrition_plan(guard, 7, 1, 2, 1, FY_KILL_INSTANTLY, FY_REBOOT, 0, orders, 12,
+                                  &told),
+          FY_DONE);
     EQUAL(told, 2);
 }
 
@@ -79,7 +81,8 @@ static void ask_for_a_copy(const fy_guard *guard)
     fy_guard other;
     size_t told = 77;
     EQUAL(fy_guard_try_copy(guard, &other), FY_DONE);
-    EQUAL(fy_guard_kill(&other, 1, FY_ZONE, "z1", FY_REBOOT, FY_REBOOT, 0, &struck, &rule, &named), FY_DONE);
+    EQUAL(fy_guard_kill(&other, 1, FY_ZONE, "z1", FY_REBOOT, FY_REBOOT, 0, &struck, &rule, &named),
+          FY_DONE);
     EQUAL(fy_guard_journal_len(&other, &told), FY_DONE);
     EQUAL(told, 2);
     fy_guard_close(&other);
@@ -116,10 +119,13 @@ static void ask(const fy_guard *guard)
     EQUAL(process, FY_STATE_DESTROYED | FY_STATE_GONE);
     EQUAL(fy_guard_needed(guard, 0, &process), FY_DONE);
     EQUAL(process, FY_NO_SUCH_RECORD);
-    EQUAL(fy_guard_judge(guard, 1, FY_ZONE, "z1", FY_KILL_INSTANTLY, FY_REBOOT, &struck, &rule, &named), FY_DONE);
+    EQUAL(fy_guard_judge(guard, 1, FY_ZONE, "z1", FY_KILL_INSTANTLY, FY_REBOOT, &struck, &rule,
+                         &named),
+          FY_DONE);
     EQUAL(struck, FY_REBOOT);
     EQUAL(rule, FY_TOO_MANY_DESTROYED);
-    EQUAL(fy_guard_judge_process(guard, 1, 2, FY_KILL_INSTANTLY, FY_REBOOT, &struck, &rule, &named), FY_DONE);
+    EQUAL(fy_guard_judge_process(guard, 1, 2, FY_KILL_INSTANTLY, FY_REBOOT, &struck, &rule, &named),
+          FY_DONE);
     EQUAL(struck, FY_REBOOT);
     EQUAL(rule, FY_TOO_MANY_DESTROYED);
     uint8_t kinds[6] = {77, 77, 77, 77, 77, 77};
@@ -144,11 +150,14 @@ static void ask(const fy_guard *guard)
 
 int main(void)
 {
-    fy_guard *guard = mmap(NULL, (size_t)sysconf(_SC_PAGESIZE), PROT_READ | PROT_WRITE, MAP_PRIVATE | MAP_ANONYMOUS, -1, 0);
+    fy_guard *guard = mmap(NULL, (size_t)sysconf(_SC_PAGESIZE), PROT_READ | PROT_WRITE,
+                           MAP_PRIVATE | MAP_ANONYMOUS, -1, 0);
     if (guard == MAP_FAILED)
         return 2;
     *guard = open_guard(SIX);
-    EQUAL(fy_guard_kill(guard, 1, FY_ZONE, "z0", FY_KILL_INSTANTLY, FY_REBOOT, 0, &struck, &rule, &named), FY_DONE);
+    EQUAL(fy_guard_kill(guard, 1, FY_ZONE, "z0", FY_KILL_INSTANTLY, FY_REBOOT, 0, &struck, &rule,
+                        &named),
+          FY_DONE);
     freeze(guard);
     ask(guard);
     pid_t child = fork();

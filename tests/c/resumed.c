@@ -5,9 +5,10 @@
 #include "told.h"
 
 #define FIRST_HEADER "{\"audit\":1}\n"
-#define TICK(at, now) "{\"act\":{\"tick\":{\"ticks\":1}},\"at\":" at ",\"by\":0,\"reply\":{\"time\":" now "}}\n"
-#define KILL(value, at, verdict)                                                                              \
-    "{\"act\":{\"kill\":{\"floor\":\"Reboot\",\"key\":\"zoneid\",\"kind\":\"KillInstantly\",\"tear\":0,"        \
+#define TICK(at, now) \
+    "{\"act\":{\"tick\":{\"ticks\":1}},\"at\":" at ",\"by\":0,\"reply\":{\"time\":" now "}}\n"
+#define KILL(value, at, verdict)                                                                         \
+    "{\"act\":{\"kill\":{\"floor\":\"Reboot\",\"key\":\"zoneid\",\"kind\":\"KillInstantly\",\"tear\":0," \
     "\"value\":\"" value "\"}},\"at\":" at ",\"by\":1,\"reply\":{\"verdict\":" verdict "}}\n"
 #define KILLED KILL("z0", "0", "{\"rule\":null,\"struck\":\"KillInstantly\"}")
 #define REBOOTED KILL("z1", "1", "{\"rule\":[\"TooManyDestroyed\",0],\"struck\":\"Reboot\"}")
@@ -15,11 +16,13 @@
 #define KILLED_TOO KILL("z1", "1", "{\"rule\":null,\"struck\":\"KillInstantly\"}")
 
 /* What opens a guard behind an audit of so many bytes. */
-static fy_status open_after(const char *config, const char *audit, size_t length, fy_guard *guard, uint32_t bad)
+static fy_status open_after(const char *config, const char *audit, size_t length, fy_guard *guard,
+                            uint32_t bad)
 {
     uint32_t first_bad = 77;
     memset(guard, 0x55, sizeof *guard);
-    fy_status status = fy_guard_open_after(config, strlen(config), audit, length, guard, &first_bad);
+    fy_status status =
+        fy_guard_open_after(config, strlen(config), audit, length, guard, &first_bad);
     EQUAL(first_bad, bad);
     EQUAL(fy_guard_is_open(guard), status == FY_DONE);
     return status;
@@ -44,7 +47,9 @@ static void worked(void)
     EQUAL(count, 1);
     EQUAL(fy_guard_audit(&guard, 0, line, sizeof line, &told), FY_DONE);
     TEXT(line, told, KILLED);
-    EQUAL(fy_guard_kill(&guard, 1, FY_ZONE, "z1", FY_KILL_INSTANTLY, FY_REBOOT, 0, &struck, &rule, &named), FY_DONE);
+    EQUAL(fy_guard_kill(&guard, 1, FY_ZONE, "z1", FY_KILL_INSTANTLY, FY_REBOOT, 0, &struck, &rule,
+                        &named),
+          FY_DONE);
     EQUAL(struck, FY_REBOOT);
     EQUAL(rule, FY_TOO_MANY_DESTROYED);
     EQUAL(fy_guard_audit(&guard, 1, line, sizeof line, &told), FY_DONE);
@@ -54,7 +59,8 @@ static void worked(void)
     EQUAL(fy_guard_journal_len(&guard, &count), FY_DONE);
     EQUAL(count, 0);
     fy_guard_close(&guard);
-    EQUAL(open_after(SIX, FY_AUDIT_HEADER, strlen(FY_AUDIT_HEADER), &guard, FY_NO_BAD_ENTRY), FY_DONE);
+    EQUAL(open_after(SIX, FY_AUDIT_HEADER, strlen(FY_AUDIT_HEADER), &guard, FY_NO_BAD_ENTRY),
+          FY_DONE);
     EQUAL(fy_guard_journal_len(&guard, &count), FY_DONE);
     EQUAL(count, 0);
     fy_guard_close(&guard);
@@ -68,7 +74,8 @@ static void faults(void)
     refused(SIX, FY_AUDIT_HEADER KILLED KILLED_TOO, FY_REFUTED, 1);
     refused(SIX, FY_AUDIT_HEADER KILLED KILLED_TOO TICK("2", "1"), FY_REFUTED, 1);
     refused(SIX, FY_AUDIT_HEADER TICK("0", "2"), FY_REFUTED, 0);
-    refused(TWO_PLACES, FY_AUDIT_HEADER TICK("0", "1") TICK("1", "2") TICK("2", "3"), FY_REFUTED, 2);
+    refused(TWO_PLACES, FY_AUDIT_HEADER TICK("0", "1") TICK("1", "2") TICK("2", "3"), FY_REFUTED,
+            2);
     refused(SIX, FIRST_HEADER, FY_NO_HEADER, FY_NO_BAD_ENTRY);
     refused(SIX, FIRST_HEADER TICK("0", "1"), FY_NO_HEADER, FY_NO_BAD_ENTRY);
     refused(SIX, "", FY_NO_HEADER, FY_NO_BAD_ENTRY);
@@ -83,7 +90,9 @@ static void faults(void)
     /* A cut within a line leaves half of it; behind a line feed it leaves a whole audit. */
     for (size_t length = 0; length < strlen(whole); length++) {
         size_t header = strlen(FY_AUDIT_HEADER);
-        fy_status wanted = length < header ? FY_NO_HEADER : whole[length - 1] == '\n' ? FY_DONE : FY_LINE_SYNTAX;
+        fy_status wanted = length < header             ? FY_NO_HEADER
+                           : whole[length - 1] == '\n' ? FY_DONE
+                                                       : FY_LINE_SYNTAX;
         EQUAL(open_after(SIX, whole, length, &guard, FY_NO_BAD_ENTRY), wanted);
         fy_guard_close(&guard);
     }
@@ -131,7 +140,9 @@ static size_t told_story(char *audit, size_t room, size_t *ends)
     EQUAL(fy_guard_open(SIX, strlen(SIX), &guard), FY_DONE);
     ends[0] = length;
     for (size_t at = 0; at < LINES; at++) {
-        EQUAL(fy_guard_act(&guard, STORY[at], strlen(STORY[at]), audit + length, room - length, &told), FY_DONE);
+        EQUAL(fy_guard_act(&guard, STORY[at], strlen(STORY[at]), audit + length, room - length,
+                           &told),
+              FY_DONE);
         length += told;
         ends[at + 1] = length;
     }
@@ -148,7 +159,8 @@ static void each_front(void)
         fy_guard guard;
         EQUAL(open_after(SIX, audit, ends[front], &guard, FY_NO_BAD_ENTRY), FY_DONE);
         for (size_t at = front; at < LINES; at++) {
-            EQUAL(fy_guard_act(&guard, STORY[at], strlen(STORY[at]), line, sizeof line, &told), FY_DONE);
+            EQUAL(fy_guard_act(&guard, STORY[at], strlen(STORY[at]), line, sizeof line, &told),
+                  FY_DONE);
             EQUAL(told, ends[at + 1] - ends[at]);
             EQUAL(memcmp(line, audit + ends[at], told), 0);
         }

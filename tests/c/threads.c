@@ -28,10 +28,12 @@ static void *play(void *given)
         uint32_t process = (here->first + i) % 6, mine, why, refusal;
         uint64_t which;
         snprintf(name, sizeof name, "p%u", (unsigned)process);
-        fy_guard_kill(&guard, 1, FY_PROCESS, name, FY_REBOOT_AND_DELETE, FY_REBOOT_PROCESS, i, &mine, &why, &which);
+        fy_guard_kill(&guard, 1, FY_PROCESS, name, FY_REBOOT_AND_DELETE, FY_REBOOT_PROCESS, i,
+                      &mine, &why, &which);
         fy_guard_up(&guard, 0, process, &refusal);
     }
-    for (size_t at = 0; fy_guard_audit(&guard, at, here->audit + here->length, 256, &told) == FY_DONE; at++)
+    for (size_t at = 0;
+         fy_guard_audit(&guard, at, here->audit + here->length, 256, &told) == FY_DONE; at++)
         here->length += told;
     fy_guard_close(&guard);
     return given;
@@ -59,12 +61,14 @@ static void *share(void *given)
         size_t told = 0;
         uint32_t process = (here->number + i) % 6;
         if (i % 2 == 0)
-            snprintf(line, sizeof line,
-                     "{\"by\":1,\"act\":{\"kill\":{\"floor\":\"RebootProcess\",\"key\":\"processid\",\"kind\":"
-                     "\"RebootAndDelete\",\"tear\":%u,\"value\":\"p%u\"}}}",
-                     (unsigned)here->number, (unsigned)process);
+            snprintf(
+                line, sizeof line,
+                "{\"by\":1,\"act\":{\"kill\":{\"floor\":\"RebootProcess\",\"key\":\"processid\",\"kind\":"
+                "\"RebootAndDelete\",\"tear\":%u,\"value\":\"p%u\"}}}",
+                (unsigned)here->number, (unsigned)process);
         else
-            snprintf(line, sizeof line, "{\"by\":0,\"act\":{\"up\":{\"process\":%u}}}", (unsigned)process);
+            snprintf(line, sizeof line, "{\"by\":0,\"act\":{\"up\":{\"process\":%u}}}",
+                     (unsigned)process);
         pthread_mutex_lock(&turn);
         fy_status status = fy_guard_act(&shared, line, strlen(line), buffer, sizeof buffer, &told);
         pthread_mutex_unlock(&turn);
@@ -153,7 +157,9 @@ int main(int count, char **words)
         EQUAL(pthread_join(threads[i], &done), 0);
         EQUAL(done != NULL, 1);
         EQUAL(beside[i].length > 100000, 1);
-        EQUAL(beside[i].length == alone[i].length && memcmp(beside[i].audit, alone[i].audit, alone[i].length) == 0, 1);
+        EQUAL(beside[i].length == alone[i].length &&
+                  memcmp(beside[i].audit, alone[i].audit, alone[i].length) == 0,
+              1);
     }
     for (int i = 0; i < 2; i++) {
         free(alone[i].audit);

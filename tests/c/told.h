@@ -7,54 +7,56 @@ static unsigned long checked, wrong;
 static uint32_t struck, rule;
 static uint64_t named;
 
-#define EQUAL(found, wanted)                                                                          \
-    do {                                                                                              \
-        unsigned long long found_ = (unsigned long long)(found), wanted_ = (unsigned long long)(wanted); \
-        checked++;                                                                                    \
-        if (found_ != wanted_) {                                                                      \
-            wrong++;                                                                                  \
-            fprintf(stderr, "%s:%d: %s is %llu, not %llu\n", __FILE__, __LINE__, #found, found_, wanted_); \
-        }                                                                                             \
+#define EQUAL(found, wanted)                                                                     \
+    do {                                                                                         \
+        unsigned long long found_ = (unsigned long long)(found),                                 \
+                           wanted_ = (unsigned long long)(wanted);                               \
+        checked++;                                                                               \
+        if (found_ != wanted_) {                                                                 \
+            wrong++;                                                                             \
+            fprintf(stderr, "%s:%d: %s is %llu, not %llu\n", __FILE__, __LINE__, #found, found_, \
+                    wanted_);                                                                    \
+        }                                                                                        \
     } while (0)
 
-#define TEXT(buffer, told, wanted)                                                                    \
-    do {                                                                                              \
-        checked++;                                                                                    \
-        if ((told) != strlen(wanted) || memcmp((buffer), (wanted), (told)) != 0) {                    \
-            wrong++;                                                                                  \
-            fprintf(stderr, "%s:%d: %.*s", __FILE__, __LINE__, (int)(told), (buffer));                \
-        }                                                                                             \
+#define TEXT(buffer, told, wanted)                                                     \
+    do {                                                                               \
+        checked++;                                                                     \
+        if ((told) != strlen(wanted) || memcmp((buffer), (wanted), (told)) != 0) {     \
+            wrong++;                                                                   \
+            fprintf(stderr, "%s:%d: %.*s", __FILE__, __LINE__, (int)(told), (buffer)); \
+        }                                                                              \
     } while (0)
 
 /* Two processes in two zones, the second zone's name and the policy given. */
-#define PROCESSES(policy, zone)                                                                       \
-    "policies = [\"" policy "\"]\n"                                                                   \
-    "process = [{processid = \"p0\", machineid = \"m0\", zoneid = \"z0\"},\n"                         \
+#define PROCESSES(policy, zone)                                               \
+    "policies = [\"" policy "\"]\n"                                           \
+    "process = [{processid = \"p0\", machineid = \"m0\", zoneid = \"z0\"},\n" \
     "  {processid = \"p1\", machineid = \"m1\", zoneid = \"" zone "\"}]\n"
 
 /* The same, with two actors. */
-#define REST(policy, zone)                                                                            \
-    PROCESSES(policy, zone)                                                                           \
+#define REST(policy, zone)  \
+    PROCESSES(policy, zone) \
     "actor = [{role = \"storage\"}, {role = \"fault\", grants = [{kinds = [\"Reboot\", \"KillInstantly\"]}]}]\n"
 
 /* examples/c6.toml: two copies in two of three zones, with a journal of so many entries. */
-#define SIX_WITH(limit)                                                                               \
-    "journal_limit = " limit "\n"                                                                     \
-    "policies = [\"Across(2,zoneid,One())\"]\n"                                                       \
-    "process = [\n"                                                                                   \
-    "  {processid = \"p0\", machineid = \"m0\", zoneid = \"z0\", dcid = \"d0\"},\n"                   \
-    "  {processid = \"p1\", machineid = \"m1\", zoneid = \"z0\", dcid = \"d0\"},\n"                   \
-    "  {processid = \"p2\", machineid = \"m2\", zoneid = \"z1\", dcid = \"d0\"},\n"                   \
-    "  {processid = \"p3\", machineid = \"m3\", zoneid = \"z1\", dcid = \"d0\"},\n"                   \
-    "  {processid = \"p4\", machineid = \"m4\", zoneid = \"z2\", dcid = \"d0\"},\n"                   \
-    "  {processid = \"p5\", machineid = \"m5\", zoneid = \"z2\", dcid = \"d0\"},\n"                   \
-    "]\n"                                                                                             \
-    "actor = [\n"                                                                                     \
-    "  {role = \"storage\"},\n"                                                                       \
+#define SIX_WITH(limit)                                                                                                               \
+    "journal_limit = " limit "\n"                                                                                                     \
+    "policies = [\"Across(2,zoneid,One())\"]\n"                                                                                       \
+    "process = [\n"                                                                                                                   \
+    "  {processid = \"p0\", machineid = \"m0\", zoneid = \"z0\", dcid = \"d0\"},\n"                                                   \
+    "  {processid = \"p1\", machineid = \"m1\", zoneid = \"z0\", dcid = \"d0\"},\n"                                                   \
+    "  {processid = \"p2\", machineid = \"m2\", zoneid = \"z1\", dcid = \"d0\"},\n"                                                   \
+    "  {processid = \"p3\", machineid = \"m3\", zoneid = \"z1\", dcid = \"d0\"},\n"                                                   \
+    "  {processid = \"p4\", machineid = \"m4\", zoneid = \"z2\", dcid = \"d0\"},\n"                                                   \
+    "  {processid = \"p5\", machineid = \"m5\", zoneid = \"z2\", dcid = \"d0\"},\n"                                                   \
+    "]\n"                                                                                                                             \
+    "actor = [\n"                                                                                                                     \
+    "  {role = \"storage\"},\n"                                                                                                       \
     "  {role = \"fault\", grants = [{kinds = [\"RebootProcess\", \"Reboot\", \"RebootAndDelete\", \"KillInstantly\", \"Clog\"]}]},\n" \
-    "  {role = \"fault\", grants = [{kinds = [\"KillInstantly\", \"Reboot\"]}]},\n"                   \
-    "  {role = \"fault\"},\n"                                                                         \
-    "  {role = \"operator\"},\n"                                                                      \
+    "  {role = \"fault\", grants = [{kinds = [\"KillInstantly\", \"Reboot\"]}]},\n"                                                   \
+    "  {role = \"fault\"},\n"                                                                                                         \
+    "  {role = \"operator\"},\n"                                                                                                      \
     "]\n"
 
 static const char *const SIX = SIX_WITH("1000");

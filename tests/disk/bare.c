@@ -151,7 +151,7 @@ static void show_below(const struct node *folder, const char *path)
         if (asprintf(&whole, "%s%s", path, name->text) < 0)
             fail("no memory");
         printf("%s %o %ju %jd ", whole, node->st.st_mode, (uintmax_t)node->st.st_nlink,
-            (intmax_t)node->st.st_size);
+               (intmax_t)node->st.st_size);
         if (node->target)
             printf("%s", node->target);
         else if (S_ISREG(node->st.st_mode))
@@ -179,9 +179,9 @@ static void cut(void)
 static const struct {
     const char *name;
     void (*call)(void);
-} CALLS[] = {{"make", make}, {"write", change}, {"resize", change}, {"allocate", change},
-    {"chmod", chmod_node}, {"rename", rename_node}, {"link", link_node}, {"remove", remove_node},
-    {"cut", cut}};
+} CALLS[] = {{"make", make},       {"write", change},       {"resize", change},
+             {"allocate", change}, {"chmod", chmod_node},   {"rename", rename_node},
+             {"link", link_node},  {"remove", remove_node}, {"cut", cut}};
 
 static void obey(const char *call)
 {

@@ -12,10 +12,12 @@ int main(void)
 
     if (fy_guard_open(config, length, &guard) != FY_DONE)
         return 1;
-    if (fy_guard_kill(&guard, 1, FY_ZONE, "z0", FY_KILL_INSTANTLY, FY_REBOOT, 0, &struck, &rule, &named) != FY_DONE ||
+    if (fy_guard_kill(&guard, 1, FY_ZONE, "z0", FY_KILL_INSTANTLY, FY_REBOOT, 0, &struck, &rule,
+                      &named) != FY_DONE ||
         struck != FY_KILL_INSTANTLY)
         return 2;
-    if (fy_guard_kill(&guard, 1, FY_ZONE, "z1", FY_KILL_INSTANTLY, FY_REBOOT, 0, &struck, &rule, &named) != FY_DONE ||
+    if (fy_guard_kill(&guard, 1, FY_ZONE, "z1", FY_KILL_INSTANTLY, FY_REBOOT, 0, &struck, &rule,
+                      &named) != FY_DONE ||
         struck != FY_REBOOT || rule != FY_TOO_MANY_DESTROYED || named != 0)
         return 3;
     fy_guard_close(&guard);

@@ -19,12 +19,14 @@ extern void *__libc_memalign(size_t alignment, size_t bytes);
 static unsigned long first, last;
 static _Atomic unsigned long *asked;
 
-static unsigned long number_of(const char *name) {
+static unsigned long number_of(const char *name)
+{
     const char *text = getenv(name);
     return text ? strtoul(text, NULL, 10) : 0;
 }
 
-__attribute__((constructor)) static void begin(void) {
+__attribute__((constructor)) static void begin(void)
+{
     const char *path = getenv("REFUSED_COUNT");
     int file = path ? open(path, O_RDWR | O_CLOEXEC) : -1;
     if (file < 0) {
@@ -40,7 +42,8 @@ __attribute__((constructor)) static void begin(void) {
     asked = mapped;
 }
 
-static int is_refused(void) {
+static int is_refused(void)
+{
     if (!asked) {
         return 0;
     }
@@ -48,26 +51,39 @@ static int is_refused(void) {
     return first <= number && number <= last;
 }
 
-static void *refuse(void) {
+static void *refuse(void)
+{
     errno = ENOMEM;
     return NULL;
 }
 
-void *malloc(size_t bytes) { return is_refused() ? refuse() : __libc_malloc(bytes); }
+void *malloc(size_t bytes)
+{
+    return is_refused() ? refuse() : __libc_malloc(bytes);
+}
 
-void *calloc(size_t count, size_t bytes) {
+void *calloc(size_t count, size_t bytes)
+{
     return is_refused() ? refuse() : __libc_calloc(count, bytes);
 }
 
-void *realloc(void *old, size_t bytes) { return is_refused() ? refuse() : __libc_realloc(old, bytes); }
+void *realloc(void *old, size_t bytes)
+{
+    return is_refused() ? refuse() : __libc_realloc(old, bytes);
+}
 
-void *memalign(size_t alignment, size_t bytes) {
+void *memalign(size_t alignment, size_t bytes)
+{
     return is_refused() ? refuse() : __libc_memalign(alignment, bytes);
 }
 
-void *aligned_alloc(size_t alignment, size_t bytes) { return memalign(alignment, bytes); }
+void *aligned_alloc(size_t alignment, size_t bytes)
+{
+    return memalign(alignment, bytes);
+}
 
-int posix_memalign(void **block, size_t alignment, size_t bytes) {
+int posix_memalign(void **block, size_t alignment, size_t bytes)
+{
     void *made = memalign(alignment, bytes);
     if (!made) {
         return ENOMEM;

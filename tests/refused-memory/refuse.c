@@ -48,9 +48,10 @@ static int counts;
 // are marks.
 static struct {
     int is_met, is_marked;
-} *told;
+} * told;
 
-static int is_refused(size_t bytes) {
+static int is_refused(size_t bytes)
+{
     if (bytes == MARK && told) {
         told->is_marked = 1;
         counts = !counts;
@@ -64,16 +65,19 @@ static int is_refused(size_t bytes) {
     return 1;
 }
 
-void *__interceptor_malloc(size_t bytes) {
+void *__interceptor_malloc(size_t bytes)
+{
     return is_refused(bytes) ? NULL : ___interceptor_malloc(bytes);
 }
 
-void *__interceptor_realloc(void *old, size_t bytes) {
+void *__interceptor_realloc(void *old, size_t bytes)
+{
     return is_refused(bytes) ? NULL : ___interceptor_realloc(old, bytes);
 }
 
 // Whether a run ended for want of memory.
-static int has_stopped(int status, const char *said) {
+static int has_stopped(int status, const char *said)
+{
     // The sanitizer asks the C library where the stack of a thread lies that starts, and gives up
     // where that has no memory.
     if (strstr(said, "CHECK failed: sanitizer") &&
@@ -100,7 +104,8 @@ static int has_stopped(int status, const char *said) {
 
 // Refuses a request of the process that returns 1. The other gets 0, with how that one ended and
 // what it said.
-static int run(unsigned long number, int *status, char *said) {
+static int run(unsigned long number, int *status, char *said)
+{
     int ends[2];
     told->is_met = 0;
     if (pipe(ends) != 0) {
@@ -131,13 +136,15 @@ static int run(unsigned long number, int *status, char *said) {
     return 0;
 }
 
-static double seconds(void) {
+static double seconds(void)
+{
     struct timespec now;
     clock_gettime(CLOCK_MONOTONIC, &now);
     return (double)now.tv_sec + 1e-9 * (double)now.tv_nsec;
 }
 
-__attribute__((constructor)) static void refuse(int count, char **words) {
+__attribute__((constructor)) static void refuse(int count, char **words)
+{
     if (count != 2 || words[1][0] == '-') {
         return;
     }

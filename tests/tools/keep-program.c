@@ -11,7 +11,8 @@ extern int strncmp(const char *one, const char *other, unsigned long count);
 #endif
 
 // `rt try` starts a program by its whole path.
-__attribute__((constructor)) static void keep_program(int count, char **words) {
+__attribute__((constructor)) static void keep_program(int count, char **words)
+{
     if (count > 0 && strncmp(words[0], BUILT_BELOW, sizeof BUILT_BELOW - 1) == 0) {
         link(words[0], KEPT);
     }

@@ -63,7 +63,7 @@ static int add_name(struct disk *disk, struct node *node, struct node *folder, c
 }
 
 int disk_make(struct disk *disk, struct node *folder, const char *text, const struct inode *what,
-    struct node **made)
+              struct node **made)
 {
     struct node *node = node_of(disk, what);
     int why = node ? disk_check_name(disk, text) : ENOMEM;
@@ -102,7 +102,7 @@ int disk_remove(struct disk *disk, struct node *folder, const char *text)
 }
 
 static struct item *item_of_rename(enum deed deed, struct name *from, struct node *to,
-    const char *to_text)
+                                   const char *to_text)
 {
     struct item *item = item_of_name(deed, from->node, from->folder, from->text);
     if (!item)
@@ -144,7 +144,7 @@ static int exchange(struct disk *disk, struct name *from, struct name *over)
 }
 
 static int rename_over(struct disk *disk, struct name *from, struct node *to, const char *to_text,
-    struct name *over)
+                       struct name *over)
 {
     struct name *name = name_of(to_text);
     struct item *item = item_of_rename(RENAME, from, to, to_text);
@@ -159,7 +159,7 @@ static int rename_over(struct disk *disk, struct name *from, struct node *to, co
 }
 
 int disk_rename(struct disk *disk, struct node *folder, const char *text, struct node *to,
-    const char *to_text, unsigned flags)
+                const char *to_text, unsigned flags)
 {
     struct name *from = disk_find(disk, folder, text), *over = disk_find(disk, to, to_text);
     int why = disk_check_name(disk, to_text);
@@ -221,7 +221,7 @@ void node_settle(struct node *node)
 {
     if (node->chain.first || !S_ISREG(node->st.st_mode))
         return;
-    (void)set_times(node);  // the folder's own are those of the sync
+    (void)set_times(node); // the folder's own are those of the sync
     if (node->opens || node->live < 0)
         return;
     close(node->live);
@@ -266,14 +266,14 @@ static bool has_room(const struct disk *disk, size_t length)
 {
     struct statvfs space;
     if (fstatvfs(disk->root->durable, &space))
-        return true;  // a write will say why
+        return true; // a write will say why
     return space.f_bavail * space.f_frsize >= disk->unsynced_bytes + length;
 }
 
 // Where the disk's folder has no room for what is unsynced, a write is durable at once, and so it
 // is told that there is none.
 static int write_through(struct disk *disk, struct node *node, const void *data, size_t length,
-    off_t place)
+                         off_t place)
 {
     int why = disk_sync_all(disk);
     return why ? why : put(node->durable, data, length, place);

@@ -30,34 +30,34 @@ struct chain {
 };
 
 struct node {
-    struct stat st;       // as users see it
-    int durable;          // the inode in the disk's folder, or -1
-    int live;             // the contents as users see them, or -1 if those are the durable ones
-    char *target;         // of a symbolic link
-    struct name *names;   // of a folder
-    struct node *parent;  // of a folder
-    struct chain chain;   // of a file: its unsynced items
+    struct stat st;      // as users see it
+    int durable;         // the inode in the disk's folder, or -1
+    int live;            // the contents as users see them, or -1 if those are the durable ones
+    char *target;        // of a symbolic link
+    struct name *names;  // of a folder
+    struct node *parent; // of a folder
+    struct chain chain;  // of a file: its unsynced items
     unsigned long references, opens;
 };
 
 struct name {
-    struct name *next, *previous;  // in the folder
-    struct name *after;            // in the bucket of the table
+    struct name *next, *previous; // in the folder
+    struct name *after;           // in the bucket of the table
     struct node *folder, *node;
     char text[];
 };
 
 struct disk {
     struct node *root;
-    struct item *ring;   // all unsynced items in order, between its `after` and its `before`
-    struct chain names;  // those of names
+    struct item *ring;  // all unsynced items in order, between its `after` and its `before`
+    struct chain names; // those of names
     struct name **table;
     size_t table_size, name_count, unsynced_bytes;
-    size_t longest_name;  // that the disk's folder can have
+    size_t longest_name; // that the disk's folder can have
     ino_t numbers;
-    bool is_deaf;      // a sync does nothing
-    double writeback;  // after so many seconds what was done is durable by itself; 0 for never
-    int failed;        // why something couldn't be made durable, or 0
+    bool is_deaf;     // a sync does nothing
+    double writeback; // after so many seconds what was done is durable by itself; 0 for never
+    int failed;       // why something couldn't be made durable, or 0
 };
 
 struct count {
@@ -68,7 +68,7 @@ struct inode {
     mode_t mode;
     uid_t user;
     gid_t group;
-    const char *target;  // of a symbolic link
+    const char *target; // of a symbolic link
 };
 
 // The disk that is in a folder, which no other process may have open.
@@ -83,13 +83,13 @@ void node_drop(struct node *node, unsigned long references);
 int disk_check_name(const struct disk *disk, const char *text);
 struct name *disk_find(const struct disk *disk, const struct node *folder, const char *text);
 int disk_make(struct disk *disk, struct node *folder, const char *text, const struct inode *what,
-    struct node **made);
+              struct node **made);
 // Only a file may have several names.
 int disk_link(struct disk *disk, struct node *node, struct node *folder, const char *text);
 int disk_remove(struct disk *disk, struct node *folder, const char *text);
 // The flags are those of renameat2.
 int disk_rename(struct disk *disk, struct node *folder, const char *text, struct node *to,
-    const char *to_text, unsigned flags);
+                const char *to_text, unsigned flags);
 
 // Owners, modes and times are durable at once. `wanted` has those that are to be set.
 enum { SET_MODE = 1, SET_USER = 2, SET_GROUP = 4, SET_TIMES = 8 };

@@ -7,15 +7,15 @@
 enum deed { WRITE, RESIZE, ZERO, MAKE, REMOVE, RENAME, EXCHANGE };
 
 struct item {
-    struct item *before, *after;  // of all items, in order
-    struct item *next;            // in its chain
+    struct item *before, *after; // of all items, in order
+    struct item *next;           // in its chain
     enum deed deed;
-    double at;                    // when it was done
-    struct node *node;            // what it was done to
-    struct node *folder, *to;     // of a name: where; of a rename: where to as well
-    struct node *other;           // of an exchange: what it was exchanged for
+    double at;                // when it was done
+    struct node *node;        // what it was done to
+    struct node *folder, *to; // of a name: where; of a rename: where to as well
+    struct node *other;       // of an exchange: what it was exchanged for
     char *text, *to_text;
-    off_t place;                  // of what was written or zeroed; or the size
+    off_t place; // of what was written or zeroed; or the size
     size_t length;
     char data[];
 };

@@ -35,7 +35,7 @@ static const char HELP_TEXT[] =
     "  --writeback SECONDS  what is so old is durable by itself (30); 0 for never\n"
     "  -h, --help           print help\n";
 
-static const double WRITEBACK = 30;  // as Linux has it
+static const double WRITEBACK = 30; // as Linux has it
 
 static int refuse(void)
 {
@@ -73,8 +73,9 @@ static bool read_seconds(const char *text, double *seconds)
 static bool read_words(int count, char **texts, struct words *words)
 {
     static const struct option known[] = {{"deaf", no_argument, NULL, 'd'},
-        {"foreground", no_argument, NULL, 'f'}, {"writeback", required_argument, NULL, 'w'},
-        {NULL, 0, NULL, 0}};
+                                          {"foreground", no_argument, NULL, 'f'},
+                                          {"writeback", required_argument, NULL, 'w'},
+                                          {NULL, 0, NULL, 0}};
     int found;
     *words = (struct words){.writeback = WRITEBACK};
     while ((found = getopt_long(count, texts, "f", known, NULL)) != -1) {
@@ -164,7 +165,7 @@ static bool find_mounted(const char *path, struct mounted *found)
     while (mounts && found->mount && (entry = getmntent(mounts))) {
         if (strcmp(entry->mnt_dir, found->mount) != 0)
             continue;
-        free(found->disk);  // the last one is on top
+        free(found->disk); // the last one is on top
         found->disk =
             strcmp(entry->mnt_type, "fuse." LOSSY_TYPE) == 0 ? strdup(entry->mnt_fsname) : NULL;
     }
@@ -238,7 +239,7 @@ static int cut_disk(const struct mounted *it, uint64_t tear)
         return fail(it->mount, why);
     wait_for_its_end(it->disk);
     printf("%" PRIu64 " of %" PRIu64 " unsynced items survive\n", order.count.survived,
-        order.count.unsynced);
+           order.count.unsynced);
     return DONE;
 }
 

@@ -12,7 +12,7 @@
 #include <time.h>
 #include <unistd.h>
 
-static const double FOREVER = 1e6;  // nothing changes behind the kernel's back
+static const double FOREVER = 1e6; // nothing changes behind the kernel's back
 
 static struct disk *disk_of(fuse_req_t request)
 {
@@ -37,7 +37,7 @@ static struct fuse_entry_param entry_of(struct node *node)
 {
     struct fuse_entry_param entry = {.attr_timeout = FOREVER, .entry_timeout = FOREVER};
     if (!node)
-        return entry;  // the kernel remembers that there is none
+        return entry; // the kernel remembers that there is none
     entry.ino = (fuse_ino_t)node;
     entry.attr = stat_of(node);
     node->references++;
@@ -69,7 +69,7 @@ static void forget(fuse_req_t request, fuse_ino_t number, uint64_t count)
 }
 
 static int make(fuse_req_t request, fuse_ino_t in, const char *text, mode_t mode,
-    const char *target, struct node **made)
+                const char *target, struct node **made)
 {
     const struct fuse_ctx *caller = fuse_req_ctx(request);
     struct node *folder = node_at(request, in);
@@ -82,7 +82,7 @@ static int make(fuse_req_t request, fuse_ino_t in, const char *text, mode_t mode
 }
 
 static void make_any(fuse_req_t request, fuse_ino_t folder, const char *text, mode_t mode,
-    const char *target)
+                     const char *target)
 {
     struct node *node = NULL;
     int why = make(request, folder, text, mode, target, &node);
@@ -90,7 +90,7 @@ static void make_any(fuse_req_t request, fuse_ino_t folder, const char *text, mo
 }
 
 static void make_node(fuse_req_t request, fuse_ino_t folder, const char *text, mode_t mode,
-    dev_t device)
+                      dev_t device)
 {
     (void)device;
     if (S_ISCHR(mode) || S_ISBLK(mode))
@@ -105,7 +105,7 @@ static void make_folder(fuse_req_t request, fuse_ino_t folder, const char *text,
 }
 
 static void make_symlink(fuse_req_t request, const char *target, fuse_ino_t folder,
-    const char *text)
+                         const char *text)
 {
     make_any(request, folder, text, S_IFLNK | 0777, target);
 }
@@ -123,7 +123,7 @@ static void take(fuse_req_t request, fuse_ino_t folder, const char *text)
 }
 
 static void change_name(fuse_req_t request, fuse_ino_t folder, const char *text, fuse_ino_t to,
-    const char *to_text, unsigned flags)
+                        const char *to_text, unsigned flags)
 {
     struct node *from = node_at(request, folder), *into = node_at(request, to);
     fuse_reply_err(request, disk_rename(disk_of(request), from, text, into, to_text, flags));
@@ -154,20 +154,21 @@ static struct timespec time_of(int is_now, struct timespec wanted)
 
 static int wanted_of(const struct node *node, struct stat *wanted, int to_set)
 {
-    int what = (to_set & FUSE_SET_ATTR_MODE ? SET_MODE : 0)
-        | (to_set & FUSE_SET_ATTR_UID ? SET_USER : 0) | (to_set & FUSE_SET_ATTR_GID ? SET_GROUP : 0)
-        | (to_set & (FUSE_SET_ATTR_ATIME | FUSE_SET_ATTR_MTIME) ? SET_TIMES : 0);
+    int what = (to_set & FUSE_SET_ATTR_MODE ? SET_MODE : 0) |
+               (to_set & FUSE_SET_ATTR_UID ? SET_USER : 0) |
+               (to_set & FUSE_SET_ATTR_GID ? SET_GROUP : 0) |
+               (to_set & (FUSE_SET_ATTR_ATIME | FUSE_SET_ATTR_MTIME) ? SET_TIMES : 0);
     wanted->st_atim = to_set & FUSE_SET_ATTR_ATIME
-        ? time_of(to_set & FUSE_SET_ATTR_ATIME_NOW, wanted->st_atim)
-        : node->st.st_atim;
+                          ? time_of(to_set & FUSE_SET_ATTR_ATIME_NOW, wanted->st_atim)
+                          : node->st.st_atim;
     wanted->st_mtim = to_set & FUSE_SET_ATTR_MTIME
-        ? time_of(to_set & FUSE_SET_ATTR_MTIME_NOW, wanted->st_mtim)
-        : node->st.st_mtim;
+                          ? time_of(to_set & FUSE_SET_ATTR_MTIME_NOW, wanted->st_mtim)
+                          : node->st.st_mtim;
     return what;
 }
 
 static void set_attributes(fuse_req_t request, fuse_ino_t number, struct stat *wanted, int to_set,
-    struct fuse_file_info *file)
+                           struct fuse_file_info *file)
 {
     struct node *node = node_at(request, number);
     int why = 0, what;
@@ -191,7 +192,7 @@ static void opened(struct node *node, struct fuse_file_info *file)
 }
 
 static void create_file(fuse_req_t request, fuse_ino_t folder, const char *text, mode_t mode,
-    struct fuse_file_info *file)
+                        struct fuse_file_info *file)
 {
     struct node *node = NULL;
     int why = make(request, folder, text, S_IFREG | mode, NULL, &node);
@@ -227,7 +228,7 @@ static void close_file(fuse_req_t request, fuse_ino_t number, struct fuse_file_i
 }
 
 static void read_file(fuse_req_t request, fuse_ino_t number, size_t size, off_t place,
-    struct fuse_file_info *file)
+                      struct fuse_file_info *file)
 {
     char *part = malloc(size);
     ssize_t got = part ? pread(node_contents(node_at(request, number)), part, size, place) : -1;
@@ -240,11 +241,11 @@ static void read_file(fuse_req_t request, fuse_ino_t number, size_t size, off_t 
 }
 
 static void write_file(fuse_req_t request, fuse_ino_t number, const char *data, size_t size,
-    off_t place, struct fuse_file_info *file)
+                       off_t place, struct fuse_file_info *file)
 {
     struct node *node = node_at(request, number);
     int why = disk_write(disk_of(request), node, data, size, place);
-    if (!why && file->flags & O_DSYNC)  // O_SYNC has this bit too
+    if (!why && file->flags & O_DSYNC) // O_SYNC has this bit too
         why = disk_sync(disk_of(request), node);
     if (why)
         fuse_reply_err(request, why);
@@ -253,7 +254,7 @@ static void write_file(fuse_req_t request, fuse_ino_t number, const char *data, 
 }
 
 static void sync_node(fuse_req_t request, fuse_ino_t number, int is_data_only,
-    struct fuse_file_info *file)
+                      struct fuse_file_info *file)
 {
     (void)is_data_only;
     (void)file;
@@ -261,7 +262,7 @@ static void sync_node(fuse_req_t request, fuse_ino_t number, int is_data_only,
 }
 
 static void allocate(fuse_req_t request, fuse_ino_t number, int mode, off_t place, off_t length,
-    struct fuse_file_info *file)
+                     struct fuse_file_info *file)
 {
     struct node *node = node_at(request, number);
     (void)file;
@@ -276,7 +277,7 @@ struct listing {
 };
 
 static int list(fuse_req_t request, struct listing *listing, const char *text,
-    const struct node *node)
+                const struct node *node)
 {
     size_t begin = listing->length, size = fuse_add_direntry(request, NULL, 0, text, NULL, 0);
     char *data = realloc(listing->data, begin + size);
@@ -314,7 +315,7 @@ static void open_folder(fuse_req_t request, fuse_ino_t number, struct fuse_file_
 }
 
 static void read_folder(fuse_req_t request, fuse_ino_t number, size_t size, off_t place,
-    struct fuse_file_info *file)
+                        struct fuse_file_info *file)
 {
     const struct listing *listing = (const struct listing *)file->fh;
     size_t from = (size_t)place < listing->length ? (size_t)place : listing->length;
@@ -354,7 +355,7 @@ static void cut(fuse_req_t request, struct order *order)
     if (disk->failed)
         say_failed(disk, "not all that survives the cut could be written");
     fuse_reply_ioctl(request, 0, order, sizeof *order);
-    _exit(disk->failed ? 1 : 0);  // the machine is off
+    _exit(disk->failed ? 1 : 0); // the machine is off
 }
 
 static void sync_everything(fuse_req_t request, struct order *order)
@@ -367,7 +368,8 @@ static void sync_everything(fuse_req_t request, struct order *order)
 }
 
 static void obey(fuse_req_t request, fuse_ino_t number, unsigned command, void *argument,
-    struct fuse_file_info *file, unsigned flags, const void *in, size_t in_size, size_t out_size)
+                 struct fuse_file_info *file, unsigned flags, const void *in, size_t in_size,
+                 size_t out_size)
 {
     const struct fuse_ctx *caller = fuse_req_ctx(request);
     struct order order;
@@ -430,11 +432,11 @@ static const struct fuse_lowlevel_ops CALLS = {
 static int add_options(struct fuse_args *args, const char *folder)
 {
     char *options = strdup("default_permissions,subtype=" LOSSY_TYPE), *source = NULL;
-    bool is_short = !options || asprintf(&source, "fsname=%s", folder) < 0
-        || fuse_opt_add_opt_escaped(&options, source)
-        || (geteuid() == 0 && fuse_opt_add_opt(&options, "allow_other"))
-        || fuse_opt_add_arg(args, "faultyard-lossy") || fuse_opt_add_arg(args, "-o")
-        || fuse_opt_add_arg(args, options);
+    bool is_short = !options || asprintf(&source, "fsname=%s", folder) < 0 ||
+                    fuse_opt_add_opt_escaped(&options, source) ||
+                    (geteuid() == 0 && fuse_opt_add_opt(&options, "allow_other")) ||
+                    fuse_opt_add_arg(args, "faultyard-lossy") || fuse_opt_add_arg(args, "-o") ||
+                    fuse_opt_add_arg(args, options);
     free(options);
     free(source);
     return is_short ? ENOMEM : 0;

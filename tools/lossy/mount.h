@@ -9,8 +9,8 @@
 #define LOSSY_TYPE "faultyard-lossy"
 
 struct order {
-    uint64_t tear;       // of a cut
-    struct count count;  // the answer: what was unsynced, and what of it survived
+    uint64_t tear;      // of a cut
+    struct count count; // the answer: what was unsynced, and what of it survived
 };
 
 #define LOSSY_SYNC _IOWR('y', 1, struct order)

@@ -59,7 +59,7 @@ struct name *name_of(const char *text)
 
 static struct name **bucket_of(const struct disk *disk, const struct node *folder, const char *text)
 {
-    uint64_t hash = 14695981039346656037U ^ folder->st.st_ino;  // FNV-1a
+    uint64_t hash = 14695981039346656037U ^ folder->st.st_ino; // FNV-1a
     for (; *text; text++)
         hash = (hash ^ (unsigned char)*text) * 1099511628211U;
     return &disk->table[(hash ^ hash >> 32) % disk->table_size];

@@ -46,7 +46,7 @@ static int load_target(struct node *node, int in, const char *text, off_t size)
 }
 
 static int load_contents(struct disk *disk, struct node *node, int in, const char *text,
-    struct linked **linked)
+                         struct linked **linked)
 {
     bool is_folder = S_ISDIR(node->st.st_mode);
     int flags = O_CLOEXEC | O_NOFOLLOW | (is_folder ? O_RDONLY | O_DIRECTORY : O_RDWR);
@@ -72,7 +72,7 @@ static struct node *node_as(struct disk *disk, const struct stat *st)
 
 // A node with one reference, of which a name takes one more.
 static int load(struct disk *disk, int in, const char *text, struct linked **linked,
-    struct node **loaded)
+                struct node **loaded)
 {
     struct stat st;
     struct node *node;
@@ -99,7 +99,7 @@ static int load(struct disk *disk, int in, const char *text, struct linked **lin
 }
 
 static int load_name(struct disk *disk, struct node *folder, const char *text,
-    struct linked **linked)
+                     struct linked **linked)
 {
     const struct timespec modified = folder->st.st_mtim, changed = folder->st.st_ctim;
     struct node *node = NULL;

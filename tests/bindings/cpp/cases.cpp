@@ -42,7 +42,7 @@ static void throws(int line, Status status, std::optional<Refusal> refusal, Call
 
 #define HOLDS(condition) EQUAL(condition, true)
 #define THROWS(status, ...) throws(__LINE__, Status::status, std::nullopt, [&] { __VA_ARGS__; })
-#define REFUSES(refusal, ...)                                                                      \
+#define REFUSES(refusal, ...) \
     throws(__LINE__, Status::Refused, Refusal::refusal, [&] { __VA_ARGS__; })
 
 /* How many requests for memory the library is granted: the linker has malloc and realloc come here
@@ -366,7 +366,8 @@ static void goes_on()
           guard.kill(1, Key::Zone, "z1", Kind::KillInstantly, Kind::Reboot));
     HOLDS(other.audit() == guard.audit());
     HOLDS(Guard::open_after(SIX, header).audit() == header);
-    const std::string tick = "{\"act\":{\"tick\":{\"ticks\":1}},\"at\":0,\"by\":0,\"reply\":{\"time\":";
+    const std::string tick =
+        "{\"act\":{\"tick\":{\"ticks\":1}},\"at\":0,\"by\":0,\"reply\":{\"time\":";
     THROWS(Refuted, (void)Guard::open_after(SIX, header + tick + "2}}\n"));
     try {
         (void)Guard::open_after(SIX, before + "{\"act\":{\"tick\":{\"ticks\":1}},\"at\":1,"
@@ -457,8 +458,8 @@ static void numbered_records()
     HOLDS(guard.sync(0, 1) == synced);
     synced.count = 1;
     HOLDS(guard.sync(0, 0) == synced && synced != Synced());
-    HOLDS(is_entered(guard, "{\"sync\":{\"process\":0}}",
-                     "{\"synced\":{\"count\":1,\"first\":5}}"));
+    HOLDS(
+        is_entered(guard, "{\"sync\":{\"process\":0}}", "{\"synced\":{\"count\":1,\"first\":5}}"));
     synced.first = 6;
     HOLDS(guard.sync(0, 2) == synced);
     EQUAL(guard.tick(0, 9), 9);
@@ -949,16 +950,16 @@ static void simulated_plans()
     const std::vector<Order> rolled = guard.plan_orders(Plan::Rolling, 7, 1, 13);
     const Kind kinds[] = {Kind::RebootProcess, Kind::Reboot, Kind::RebootAndDelete};
     for (std::size_t turn = 0; turn < 13; turn++)
-        HOLDS(rolled.at(turn) == (Order{OrderAct::Kill, Key::Process,
-                                        "p" + std::to_string(turn % 6), kinds[turn / 6],
-                                        Kind::RebootProcess, 0, 0}));
+        HOLDS(rolled.at(turn) ==
+              (Order{OrderAct::Kill, Key::Process, "p" + std::to_string(turn % 6), kinds[turn / 6],
+                     Kind::RebootProcess, 0, 0}));
     bool rests = false;
     for (uint64_t seed = 0; seed < 64; seed++) {
         const std::vector<uint32_t> drawn = words(seed, 3, 8);
         const uint64_t stream = uint64_t{drawn[7]} << 32 | drawn[6];
-        HOLDS(guard.plan_orders(Plan::Attrition, seed, 3, 6) ==
-              guard.attrition_plan(seed, stream, 6, 0, Kind::RebootAndDelete, Kind::Reboot,
-                                   stream));
+        HOLDS(
+            guard.plan_orders(Plan::Attrition, seed, 3, 6) ==
+            guard.attrition_plan(seed, stream, 6, 0, Kind::RebootAndDelete, Kind::Reboot, stream));
         const bool none = guard.plan_orders(Plan::Mixed, seed, 3, 1).at(0).act == OrderAct::None;
         EQUAL(none, drawn[0] % 64 == 63);
         rests = rests || none;
@@ -977,8 +978,8 @@ static void long_plans()
     std::string config = "journal_limit = 9\npolicies = [\"One()\"]\nprocess = [";
     for (int process = 0; process < 200; process++) {
         const std::string number = std::to_string(process);
-        config += "{processid = \"p" + number + "\", machineid = \"m" + number +
-                  "\", zoneid = \"z\"},";
+        config +=
+            "{processid = \"p" + number + "\", machineid = \"m" + number + "\", zoneid = \"z\"},";
     }
     config += "]\nactor = [{role = \"fault\"}]\n";
     const Guard guard{config};

@@ -35,8 +35,7 @@ static std::uint32_t small_number(std::string_view &line)
 }
 
 /* The value of an enum that has a word. */
-template <typename Enum>
-static Enum value_of(std::string_view word)
+template <typename Enum> static Enum value_of(std::string_view word)
 {
     for (std::uint32_t number = 1; number <= 5; number++) {
         const Enum value = static_cast<Enum>(number);

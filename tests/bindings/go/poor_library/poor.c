@@ -111,7 +111,8 @@ uint32_t fy_judge_process(const fy_guard *guard, uint32_t actor, uint32_t proces
     return FY_ARGUMENT;
 }
 
-uint32_t fy_killable(const fy_guard *guard, uint32_t actor, uint8_t *kinds, size_t room, size_t *told)
+uint32_t fy_killable(const fy_guard *guard, uint32_t actor, uint8_t *kinds, size_t room,
+                     size_t *told)
 {
     require_turn();
     *told = 0;
@@ -316,7 +317,8 @@ size_t fy_journal_len(const fy_guard *guard)
     return 1;
 }
 
-uint32_t fy_audit(const fy_guard *guard, size_t at, uint8_t *buffer, size_t buffer_length, size_t *told)
+uint32_t fy_audit(const fy_guard *guard, size_t at, uint8_t *buffer, size_t buffer_length,
+                  size_t *told)
 {
     require_turn();
     return FY_NO_MEMORY;
