@@ -4,7 +4,8 @@ ghost use Rattle.std.specs.Option.{option_copied};
 ghost use Rattle.fy_disk.specs.Disk.{empty_disk, written, all_synced, crashed, outlives, survivors};
 
 use crate::Item;
-use std::alloc::Global;
+use fy_locality::{TryCopy, try_copy_each};
+use std::alloc::{AllocError, Global};
 use std::marker::Model;
 
 /// The items of one process in order of writing, and how many of them, from the first on, are
@@ -27,6 +28,15 @@ impl Model for Disk {
     } };
 
     ghost invariant = { λ d. d.synced ≤ length d.items.items };
+}
+
+impl TryCopy for Disk {
+    fn try_copy(&self, alloc: Global) -> Result<Disk, AllocError> {
+        Ok(Disk {
+            items: try_copy_each(alloc, &self.items)?,
+            synced: self.synced,
+        })
+    }
 }
 
 impl Disk {

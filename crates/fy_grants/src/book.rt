@@ -83,6 +83,23 @@ impl Book {
         })
     }
 
+    /// An equal book, in memory of its own.
+    ///
+    /// # Errors
+    ///
+    /// Where there is no memory.
+    pub fn try_copy(&self, alloc: Global) -> Result<Book, AllocError>
+        ensures { IfOk result (λ copy. copy ≡ self.now) }
+    {
+        Ok(Book {
+            processes: self.processes.try_copy(alloc)?,
+            grants: copied_grants(alloc, &self.grants)?,
+            given: self.given,
+            covers: Vec::from_slice(alloc, &self.covers)?,
+            protections: self.protections.try_copy(alloc)?,
+        })
+    }
+
     /// How many actors there are.
     pub fn actors(&self) -> usize
         ensures { result ≡ length self.now.grants }
@@ -275,6 +292,18 @@ fn no_grants(alloc: Global, actors: u32) -> Result<Vec<Vec<Grant>>, AllocError>
         lists.push(Vec::new(alloc))?;
     }
     Ok(lists)
+}
+
+/// A copy of each actor's list of grants.
+fn copied_grants(alloc: Global, lists: &[Vec<Grant>]) -> Result<Vec<Vec<Grant>>, AllocError>
+    ensures { IfOk result (λ copies.
+        map (λ own. own.items) copies.items ≡ map (λ own. own.items) lists.now) }
+{
+    let mut copies = Vec::with_capacity(alloc, lists.len())?;
+    for own in lists {
+        copies.push_reserved(Vec::from_slice(alloc, own)?);
+    }
+    Ok(copies)
 }
 
 /// As many covers of no grants as there are actors.

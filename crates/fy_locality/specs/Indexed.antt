@@ -50,7 +50,7 @@ pub record AreValueIndexes (processes : List Locality) (places : List ValueIndex
 
 -- names that differ, an index for each key, and places in them
 pub record IsIndexed
-    (processes : List Locality) (ids machines zones halls centers : Entries) (places : List ValueIndexes)
+    (processes : List Locality) (ids machines zones halls data_centers : Entries) (places : List ValueIndexes)
     : Type 0 where
   pub few : length processes ≤ MOST_PROCESSES
   pub own : filter_map (value_in Process) processes ≡ values_of processes Process
@@ -58,5 +58,5 @@ pub record IsIndexed
   pub machines_are : IsIndex processes Machine machines
   pub zones_are : IsIndex processes Zone zones
   pub halls_are : IsIndex processes DataHall halls
-  pub centers_are : IsIndex processes DataCenter centers
+  pub data_centers_are : IsIndex processes DataCenter data_centers
   pub places_are : AreValueIndexes processes places

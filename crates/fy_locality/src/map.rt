@@ -22,7 +22,7 @@ pub struct Map {
     machines: IndexMap<Name, ProcSet>,
     zones: IndexMap<Name, ProcSet>,
     halls: IndexMap<Name, ProcSet>,
-    centers: IndexMap<Name, ProcSet>,
+    data_centers: IndexMap<Name, ProcSet>,
     places: Vec<ValueIndexes>,
 }
 
@@ -48,7 +48,7 @@ impl Model for Map {
 
     ghost invariant = { λ m.
         IsIndexed m.processes.items
-        m.ids.entries m.machines.entries m.zones.entries m.halls.entries m.centers.entries
+        m.ids.entries m.machines.entries m.zones.entries m.halls.entries m.data_centers.entries
         m.places.items };
 }
 
@@ -66,7 +66,7 @@ impl Map {
             machines: IndexMap::new(alloc),
             zones: IndexMap::new(alloc),
             halls: IndexMap::new(alloc),
-            centers: IndexMap::new(alloc),
+            data_centers: IndexMap::new(alloc),
             places: Vec::new(alloc),
         }
     }
@@ -96,7 +96,7 @@ impl Map {
             Key::Machine => &self.machines,
             Key::Zone => &self.zones,
             Key::DataHall => &self.halls,
-            Key::DataCenter => &self.centers,
+            Key::DataCenter => &self.data_centers,
         }
     }
 
@@ -196,7 +196,7 @@ impl Map {
     {
         let processes = Vec::from_slice(alloc, &self.processes)?;
         let places = Vec::from_slice(alloc, &self.places)?;
-        let centers = copied(&self.centers)?;
+        let data_centers = copied(&self.data_centers)?;
         let ((ids, machines), (zones, halls)) = four_copied(
             &self.ids,
             &self.machines,
@@ -209,7 +209,7 @@ impl Map {
             machines,
             zones,
             halls,
-            centers,
+            data_centers,
             places,
         })
     }
@@ -226,21 +226,21 @@ impl Map {
         machine: &str,
         zone: &str,
         hall: Option<&str>,
-        dc: Option<&str>,
+        data_center: Option<&str>,
     ) -> Result<ProcId, MapFault>
         ensures refused { let given = locality_of id.now machine.now zone.now
-            (option_copied hall.entry) (option_copied dc.entry) in
+            (option_copied hall.entry) (option_copied data_center.entry) in
             (fault : MapFault) → refusal_of self.old given ≡ Some fault → result ≡ Err fault }
         ensures memory { let given = locality_of id.now machine.now zone.now
-            (option_copied hall.entry) (option_copied dc.entry) in
+            (option_copied hall.entry) (option_copied data_center.entry) in
             refusal_of self.old given ≡ None → IfErr result (λ fault. fault ≡ NoMemory) }
         ensures number { IfOk result (λ p. p.0 ≡ length self.old) }
         ensures added { let given = locality_of id.now machine.now zone.now
-            (option_copied hall.entry) (option_copied dc.entry) in
+            (option_copied hall.entry) (option_copied data_center.entry) in
             IfOk result (λ p. self.new ≡ self.old ++ given ∷ []) }
         ensures err { OnErr result (self.new ≡ self.old) }
     {
-        match Locality::make(id, machine, zone, hall, dc) {
+        match Locality::make(id, machine, zone, hall, data_center) {
             Ok(locality) => self.push(locality),
             Err(BadName) => Err(MapFault::Name),
         }
@@ -282,14 +282,14 @@ impl Map {
         self.machines.reserve(1)?;
         self.zones.reserve(1)?;
         self.halls.reserve(1)?;
-        self.centers.reserve(1)?;
+        self.data_centers.reserve(1)?;
         self.places.reserve(1)?;
         let _number = add_to_index(&mut self.ids, Some(locality.process), number);
         let places = ValueIndexes {
             machine: add_to_index(&mut self.machines, Some(locality.machine), number),
             zone: add_to_index(&mut self.zones, Some(locality.zone), number),
             data_hall: add_to_index(&mut self.halls, locality.data_hall, number),
-            data_center: add_to_index(&mut self.centers, locality.data_center, number),
+            data_center: add_to_index(&mut self.data_centers, locality.data_center, number),
         };
         self.processes.push_reserved(locality);
         self.places.push_reserved(places);
@@ -306,7 +306,7 @@ impl Drop for Map {
             machines: _,
             zones: _,
             halls: _,
-            centers: _,
+            data_centers: _,
             places: _,
         } = self;
     }

@@ -12,11 +12,11 @@ use crate::limits::{LAST_TICK, MOST_IN_FLIGHT};
 use crate::pool::Pool;
 use crate::{Body, NetFault};
 use fy_locality::{ProcId, ProcSet};
-use std::alloc::Global;
+use std::alloc::{AllocError, Global};
 use std::marker::Model;
 
 /// The messages in flight between the processes and the client, which processes are clogged, and
-/// the time. `may_be_clogged` has everyone who was clogged and not unclogged since.
+/// the time. `may_be_clogged` has everyone who is clogged, and may have others whose clogs have ended.
 #[derive(Drop)]
 pub struct Net {
     pool: Pool,
@@ -57,6 +57,23 @@ impl Net {
             until,
             may_be_clogged: ProcSet::empty(),
             room: 0,
+        })
+    }
+
+    /// An equal network, in memory of its own.
+    ///
+    /// # Errors
+    ///
+    /// `AllocError` only if an allocation fails.
+    pub fn try_copy(&self, alloc: Global) -> Result<Net, AllocError>
+        ensures { IfOk result (λ copy. copy ≡ self.now) }
+    {
+        Ok(Net {
+            pool: self.pool.try_copy(alloc)?,
+            clock: self.clock,
+            until: Vec::from_slice(alloc, &self.until)?,
+            may_be_clogged: self.may_be_clogged,
+            room: self.room,
         })
     }
 
@@ -196,6 +213,14 @@ impl Net {
             }
         }
         clogged
+    }
+
+    /// Forgets whose clogs have ended, so that `all_clogged` asks nobody else from then on than who
+    /// is clogged now, or will be. Nothing that a network is seen as changes. Takes no memory.
+    pub fn forget_ended(&mut self)
+        ensures { self.new ≡ self.old }
+    {
+        self.may_be_clogged = self.all_clogged();
     }
 
     /// The time, in ticks from 0 to 2^40.
