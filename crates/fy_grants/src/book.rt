@@ -1,7 +1,7 @@
 //! The book of grants and protections.
 ghost use Rattle.std.specs.Prelude.{◌≡◌, ◌<◌, ◌&&◌, not, ℕ, length, [], map, replicate, Some, None, IfOk, IfErr, IsOk, OnOk, OnErr};
 ghost use Rattle.std.specs.FinSet as sets;
-ghost use Rattle.fy_kinds.specs.Kinds.{in_either, in_first_alone, no_deed};
+ghost use Rattle.fy_kinds.specs.Kinds.{in_either, in_first_alone};
 ghost use Rattle.fy_grants.specs.Covers.{bare};
 ghost use Rattle.fy_grants.specs.Least.{LeastWith};
 ghost use Rattle.fy_grants.specs.Rights.{grants_of, protections_of, no_rights, is_covered, is_protected, give_refusal, with_grant, take_refusal, without_grant, with_protection};

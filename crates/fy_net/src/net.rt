@@ -1,11 +1,11 @@
 //! The network: its messages stand in a pool, in which each call finds its message at once.
-ghost use Rattle.std.specs.Prelude.{◌≡◌, ◌+◌, ◌^◌, ◌<◌, ◌≤◌, ℕ, max, length, Some, None, IfOk, IfErr, IfSome, OnOk, OnErr, IsOk, IsOkAnd, IsTrue};
+ghost use Rattle.std.specs.Prelude.{◌≡◌, ◌+◌, ◌^◌, ◌<◌, ◌≤◌, ℕ, max, length, Some, None, IfOk, IfErr, IfSome, OnOk, OnErr, IsOk, IsOkAnd};
 ghost use Rattle.std.specs.List.{All};
 ghost use Rattle.std.specs.FinSet as sets;
 ghost use Rattle.fy_locality.specs.declared.TheConstants.{MOST_PROCESSES};
 ghost use Rattle.fy_net.specs.declared.fault.NetFault.{NetFault};
 ghost use Rattle.fy_net.specs.declared.fault.NetFault.TheVariants.{NoMemory};
-ghost use Rattle.fy_net.specs.Net.{quiet, process_of, body_of, without_message, with_sent, without_acks_of, is_clogged, clogged_for, unclogged, is_free, first_free_of, reserve_refusal, take_refusal, lose_refusal, advance_refusal, NoneFreeBelow, IsNetState};
+ghost use Rattle.fy_net.specs.Net.{quiet, process_of, body_of, without_message, with_sent, without_acks_of, is_clogged, clogged_for, unclogged, first_free_of, reserve_refusal, take_refusal, lose_refusal, advance_refusal, NoneFreeBelow, IsNetState};
 
 use crate::clog::clog_lasts;
 use crate::limits::{LAST_TICK, MOST_IN_FLIGHT};

@@ -3,7 +3,7 @@ ghost use Rattle.std.specs.Prelude.{◌≡◌, ℕ, ◌+◌, ◌-◌, ◌^◌, �
 ghost use Rattle.std.specs.List.{All};
 ghost use Rattle.std.specs.Vec.{vec_capacity};
 ghost use Rattle.std.specs.FinSet as sets;
-ghost use Rattle.fy_net.specs.Net.{body_of, process_of, is_ack_from, without};
+ghost use Rattle.fy_net.specs.Net.{body_of, process_of, is_ack_from};
 ghost use Rattle.fy_net.specs.Places.{may_be_taken};
 ghost use Rattle.fy_net.specs.Slots.{there_of, vacated, IsThereAt};
 ghost use Rattle.fy_net.specs.declared.pool.Pool.{Pool};

@@ -1,7 +1,6 @@
 //! A policy's tree with counts, for every group of processes at once.
-ghost use Rattle.std.specs.Prelude.{is_some, IfOk, IsTrue, ◌≡◌, ◌+◌, ◌^◌, ◌<◌, ◌≤◌, ℕ, Bool, true, false, not, ◌||◌, nat_lt, List, length, slice_index_or};
+ghost use Rattle.std.specs.Prelude.{is_some, IfOk, IsTrue, ◌≡◌, ◌+◌, ◌^◌, ◌<◌, ◌≤◌, ℕ, Bool, true, false, ◌||◌, nat_lt, List, length, slice_index_or};
 ghost use Rattle.std.specs.FinSet as sets;
-ghost use Rattle.fy_locality.specs.declared.TheConstants.{MOST_PROCESSES};
 ghost use Rattle.fy_locality.specs.declared.locality.Locality.{Locality};
 ghost use Rattle.fy_locality.specs.Locality.{value_of};
 ghost use Rattle.fy_policy.specs.Sat.{satisfies};

@@ -1,5 +1,5 @@
 //! The numbers of a team's records.
-ghost use Rattle.std.specs.Prelude.{◌≡◌, [], ◌∷◌, ◌++◌, OnOk, OnErr, IfOk};
+ghost use Rattle.std.specs.Prelude.{◌≡◌, [], ◌∷◌, ◌++◌, OnOk, OnErr};
 
 use fy_locality::TryCopy;
 use std::alloc::{AllocError, Global};
