@@ -10,5 +10,5 @@ invariant_of-self c =
       processes = c.self.invariant.processes;
       few = c.self.invariant.few;
       spare = c.self.invariant.spare;
-      clogs = λ p out. ap (λ (net : NetState). is_clogged net p) c.self.view_is ∙ sym (c.all_clogged.ensures p) ∙ out;
+      clogs = λ p out. ap (λ (net : NetState). is_clogged net p) c.self.view_is ∙ sym (c.all_clogged-self-inside.ensures p) ∙ out;
     }
