@@ -14,7 +14,8 @@ ghost use Rattle.fy_cluster.specs.Sights.{IsLeastKeeper, Sees, clogged_in, statu
 use crate::machine::Machine;
 use crate::trail::Trail;
 use crate::{Config, Fault, Sight, Status, laws};
-use fy_acts::{Act, Entry, Reply};
+use fy_acts::{Act, Entry, Refusal, Reply};
+use fy_decide::{judge, judge_process};
 use fy_kinds::{KillOrder, Kind};
 use fy_locality::{ProcId, ProcSet};
 use fy_net::Body;
@@ -165,8 +166,12 @@ impl ClusterState {
         ensures survives { Survives self.new.setup self.new.journal }
     {
         laws::journals_survive();
-        self.machine
-            .enter_kill(&mut self.trail, &self.config, by, process, order)
+        let reply = self.machine.kill_process(&self.config, by, process, order);
+        let at = self.trail.len() as u32;
+        let act = Act::Kill { order: *order };
+        let killed = Entry { at, by, act, reply };
+        self.trail.push(&killed);
+        reply
     }
 
     /// Whether so many acts were entered as the configuration allows.
@@ -265,7 +270,12 @@ impl ClusterState {
     pub fn judge(&self, by: u32, order: &KillOrder) -> Reply
         ensures { result ≡ replied self.now by (Kill order.now) }
     {
-        self.machine.judge(&self.config, by, order)
+        let Some(_) = self.config.role(by) else {
+            return Reply::No(Refusal::Stranger);
+        };
+        let machine = &self.machine;
+        let verdict = judge(&machine.dead, &machine.book, self.config.map(), by, order);
+        Reply::Verdict(verdict)
     }
 
     /// What `judge` answers for an order that names the process with this number alone, by its name:
@@ -279,14 +289,15 @@ impl ClusterState {
             → NamesProcess self.now.setup.processes process.0 order
             → reply ≡ replied self.now by (Kill order)) }
     {
-        if process.0 < self.config.map().len() {
-            Some(
-                self.machine
-                    .judge_process(&self.config, by, process, kind, floor),
-            )
-        } else {
-            None
+        if process.0 >= self.config.map().len() {
+            return None;
         }
+        let Some(_) = self.config.role(by) else {
+            return Some(Reply::No(Refusal::Stranger));
+        };
+        let machine = &self.machine;
+        let verdict = judge_process(&machine.dead, &machine.book, by, process, kind, floor);
+        Some(Reply::Verdict(verdict))
     }
 
     /// Of an acknowledged record, the least member of its team that isn't destroyed and has the
