@@ -218,6 +218,7 @@ bench: build lib
 	bench/bodies.sh
 	bench/configs.sh
 	if command -v $(CC) > /dev/null; then bench/kills.sh $(BESIDE); fi
+	if command -v $(CC) > /dev/null; then bench/copies.sh; fi
 
 ## removes what was built, and what earlier checks kept
 clean:

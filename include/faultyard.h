@@ -443,8 +443,8 @@ static inline fy_status fy_guard_reset(fy_guard *guard)
 }
 
 /* Opens a second guard with the journal of an open one, to look ahead: what is done with one changes
- * nothing of the other, and each is closed. The acts of the journal are made once more, so the call
- * takes as long as they took. What `*other` was is written over; where it isn't opened, it is closed.
+ * nothing of the other, and each is closed. The state is copied, and no act of the journal is made
+ * again. What `*other` was is written over; where it isn't opened, it is closed.
  *
  * FY_CLOSED where the guard isn't open, or a pointer is null; and where both pointers are the same,
  * whose guard stays open. FY_NO_MEMORY. */

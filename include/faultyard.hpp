@@ -680,7 +680,7 @@ public:
     void reset() { require(fy_reset(opened())); }
 
     /* A second guard with the same journal, to look ahead: what is done with one changes nothing of
-     * the other. The acts of the journal are made once more, so the call takes as long as they took.
+     * the other. The state is copied, and no act of the journal is made again.
      * Throws Closed, NoMemory. */
     [[nodiscard]] Guard try_copy() const
     {

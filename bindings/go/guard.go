@@ -119,8 +119,8 @@ func (guard *Guard) Reset() error {
 }
 
 // TryCopy opens a second guard with the same journal, to look ahead: what is done with one changes
-// nothing of the other. The acts of the journal are made once more, so the call takes as long as
-// they took. Its error is the first of ErrClosed, ErrNoMemory.
+// nothing of the other. The state is copied, and no act of the journal is made again. Its error is
+// the first of ErrClosed, ErrNoMemory.
 func (guard *Guard) TryCopy() (*Guard, error) {
 	other := new(Guard)
 	var status C.uint32_t

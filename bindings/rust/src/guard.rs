@@ -106,8 +106,7 @@ impl Guard {
     }
 
     /// Opens a second guard with the same journal, to look ahead: what is done with one changes
-    /// nothing of the other. The acts of the journal are made once more, so the call takes as long
-    /// as they took.
+    /// nothing of the other. The state is copied, and no act of the journal is made again.
     ///
     /// # Errors
     ///

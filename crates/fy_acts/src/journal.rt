@@ -1,12 +1,12 @@
 //! The journal of a cluster.
-ghost use Rattle.std.specs.Prelude.{◌≡◌, ◌+◌, ◌<◌, ◌≤◌, Err, max, length, slice_get, IsOk, IfErr, IfSome, OnOk, OnErr};
+ghost use Rattle.std.specs.Prelude.{◌≡◌, ◌+◌, ◌<◌, ◌≤◌, Err, max, length, slice_get, IsOk, IfOk, IfErr, IfSome, OnOk, OnErr};
 ghost use Rattle.std.specs.Option.{option_copied};
 ghost use Rattle.fy_acts.specs.Journal.{empty_journal, entered, IsLog};
 ghost use Rattle.fy_acts.specs.declared.fault.JournalFault.TheVariants.{TooMany, NoMemory};
 ghost use Rattle.fy_acts.specs.declared.version.Version.TheVariants.{First, Second};
 
 use crate::{Act, Entry, JournalFault, MOST_ENTRIES, Reply, Version};
-use std::alloc::Global;
+use std::alloc::{AllocError, Global};
 use std::marker::Model;
 
 /// Every act asked of a cluster with its reply, the oldest first. Each entry is numbered by its
@@ -64,6 +64,25 @@ impl Journal {
             entries: Vec::new(alloc),
             room: 0,
         }
+    }
+
+    /// An equal journal, in memory of its own.
+    ///
+    /// # Errors
+    ///
+    /// `AllocError` only if an allocation fails.
+    pub fn try_copy(&self, alloc: Global) -> Result<Journal, AllocError>
+        ensures { IfOk result (λ copy. copy ≡ self.now) }
+    {
+        let mut entries = Vec::with_capacity(alloc, self.entries.capacity())?;
+        for entry in &self.entries {
+            entries.push_reserved(entry.try_copy(alloc)?);
+        }
+        Ok(Journal {
+            version: self.version,
+            entries,
+            room: self.room,
+        })
     }
 
     /// The version of the rules by which the journal is read. It never changes.

@@ -96,9 +96,8 @@ fn copied(alloc: Global, cluster: &Cluster) -> Result<Box<Cluster>, AllocError>
     Ok(Box::new(alloc, copy)?)
 }
 
-/// Opens a second guard with the journal of an open one, to look ahead. The acts of the journal are
-/// made once more, so the call takes as long as they took. What the other guard was before is
-/// forgotten.
+/// Opens a second guard with the journal of an open one, to look ahead. The state is copied, and no
+/// act of the journal is made again. What the other guard was before is forgotten.
 ///
 /// # Errors
 ///

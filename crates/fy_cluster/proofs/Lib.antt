@@ -1,6 +1,5 @@
 pub mod Acknowledging
 pub mod ByPlace
-pub mod Copied
 pub mod CopyTo
 pub mod Deliverable
 pub mod Delivered

@@ -462,6 +462,13 @@ message_of h (Deliver n) = slice_get (sent h) n
 message_of h (Lose n) = slice_get (sent h) n
 message_of h _ = None
 
+-- the record of the acknowledgement in flight that the act would deliver
+abbrev pub record_marked : History → Act → Option ℕ
+record_marked h (Deliver n) =
+    if in_flight h n
+    then option_map (λ w. w.0) (option_and_then ack_of (message_of h (Deliver n))) else None
+record_marked h _ = None
+
 -- a store of the record to each of these processes
 abbrev pub stores_of : ℕ → List ProcId → List Body
 stores_of rec processes = map (λ p. Store rec p) processes

@@ -12,7 +12,7 @@ ghost use Rattle.fy_cluster.specs.Execution.{history_of, opened, replied, entere
 ghost use Rattle.fy_acts.specs.declared.act.Act.TheVariants.{Kill};
 ghost use Rattle.fy_cluster.specs.Sights.{IsLeastKeeper, Sees, status_of, needed_of, up_in};
 
-use crate::{ClusterState, Config, Fault, Sight, Status, laws};
+use crate::{ClusterState, Config, Fault, Sight, Status};
 use fy_acts::{Act, Journal, Reply};
 use fy_kinds::{KillOrder, Kind};
 use fy_locality::{ProcId, ProcSet};
@@ -93,8 +93,8 @@ impl Cluster {
         })
     }
 
-    /// A copy with the same journal, to look ahead. Its acts are made once more, so it takes as long
-    /// as they took.
+    /// A copy with the same journal, to look ahead. What is copied is the state, and no act is made
+    /// again.
     ///
     /// # Errors
     ///
@@ -102,20 +102,11 @@ impl Cluster {
     pub fn try_copy(&self, alloc: Global) -> Result<Cluster, AllocError>
         ensures { IfOk result (λ copy. copy ≡ self.now) }
     {
-        laws::one_entry_more();
-        let journal = self.journal();
-        let mut copy = Cluster::make(alloc, self.config().try_copy(alloc)?)?;
-        copy.make_room(journal.len())?;
-        for entry in journal.entries() {
-            let act = entry.act.try_copy(alloc)?;
-            match copy.apply(entry.by, act) {
-                Ok(_) => {}
-                Err(Fault::NoMemory) => return Err(AllocError),
-                // The acts of a journal find room in one of the same limit.
-                Err(Fault::JournalFull) => unreachable!(),
-            }
-        }
-        Ok(copy)
+        Ok(Cluster {
+            alloc,
+            state: self.state.try_copy(alloc, self.journal.entries())?,
+            journal: self.journal.try_copy(alloc)?,
+        })
     }
 
     /// Does an act of the actor with this number, where no rule refuses it, and enters act and

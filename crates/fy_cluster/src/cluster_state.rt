@@ -1,10 +1,10 @@
 //! The state of a cluster: it replies to acts, and keeps no journal.
-ghost use Rattle.std.specs.Prelude.{◌≡◌, ◌↔◌, ◌<◌, ◌≤◌, ℕ, length, IfOk, IsTrue, OnOk, OnErr, Err, IfErr, IsSome, IfSome, None};
+ghost use Rattle.std.specs.Prelude.{◌≡◌, ◌≢◌, ◌↔◌, ◌<◌, ◌≤◌, ℕ, length, IfOk, IsTrue, OnOk, OnErr, Err, IfErr, IsSome, IfSome, Some, None};
 ghost use Rattle.std.specs.FinSet as sets;
 ghost use Rattle.fy_kinds.specs.Kinds.{rank};
 ghost use Rattle.fy_kinds.specs.Orders.{Order};
 ghost use Rattle.fy_decide.specs.Verdicts.{NamesProcess};
-ghost use Rattle.fy_cluster.specs.History.{destroyed, left, acked, keeper};
+ghost use Rattle.fy_cluster.specs.History.{destroyed, left, acked, keeper, record_marked};
 ghost use Rattle.fy_cluster.specs.declared.fault.Fault.TheVariants.{JournalFull};
 ghost use Rattle.fy_cluster.specs.Survival.{Survives};
 ghost use Rattle.fy_cluster.specs.Execution.{history_of, opened, replied, entered, next_entry};
@@ -14,9 +14,11 @@ ghost use Rattle.fy_cluster.specs.Sights.{IsLeastKeeper, Sees, clogged_in, statu
 use crate::machine::Machine;
 use crate::trail::Trail;
 use crate::{Config, Fault, Sight, Status, laws};
-use fy_acts::{Act, Entry, Reply};
+use fy_acts::{Act, Entry, Refusal, Reply};
+use fy_decide::{judge, judge_process};
 use fy_kinds::{KillOrder, Kind};
 use fy_locality::{ProcId, ProcSet};
+use fy_net::Body;
 use std::alloc::{AllocError, Global};
 use std::marker::Model;
 
@@ -75,6 +77,27 @@ impl ClusterState {
             config,
             trail: Trail::make(alloc)?,
             machine,
+        })
+    }
+
+    /// An equal state, in memory of its own. Its journal is handed in, since a state keeps none.
+    ///
+    /// # Errors
+    ///
+    /// `AllocError` where there is no memory for it.
+    pub(crate) fn try_copy(
+        &self,
+        alloc: Global,
+        journal: &[Entry],
+    ) -> Result<ClusterState, AllocError>
+        requires { journal.now ≡ self.now.journal }
+        ensures { IfOk result (λ copy. copy ≡ self.now) }
+    {
+        Ok(ClusterState {
+            alloc,
+            config: self.config.try_copy(alloc)?,
+            trail: Trail::of(alloc, journal)?,
+            machine: self.machine.try_copy(alloc)?,
         })
     }
 
@@ -143,8 +166,12 @@ impl ClusterState {
         ensures survives { Survives self.new.setup self.new.journal }
     {
         laws::journals_survive();
-        self.machine
-            .enter_kill(&mut self.trail, &self.config, by, process, order)
+        let reply = self.machine.kill_process(&self.config, by, process, order);
+        let at = self.trail.len() as u32;
+        let act = Act::Kill { order: *order };
+        let killed = Entry { at, by, act, reply };
+        self.trail.push(&killed);
+        reply
     }
 
     /// Whether so many acts were entered as the configuration allows.
@@ -190,6 +217,31 @@ impl ClusterState {
         self.machine.net.all_clogged()
     }
 
+    /// Forgets whose clogs have ended, so that `clogged` asks nobody else from then on than who is
+    /// clogged now, or will be. Nothing that a state is seen as changes. Takes no memory.
+    pub fn forget_ended(&mut self)
+        ensures { self.new ≡ self.old }
+    {
+        self.machine.net.forget_ended();
+    }
+
+    /// The record of the acknowledgement that this act would deliver now: `None` where it is no
+    /// `Deliver`, or no acknowledgement in flight has that number. Once the act is entered, no other
+    /// record is acknowledged that wasn't. Takes no memory.
+    pub fn marks(&self, act: &Act) -> Option<u32>
+        ensures record { result ≡ record_marked (history_of self.now) act.now }
+        ensures others { (by r : ℕ) → result ≢ Some r
+            → acked (history_of (entered self.now by act.now)) r ≡ acked (history_of self.now) r }
+    {
+        let Act::Deliver { message } = act else {
+            return None;
+        };
+        match self.machine.net.body(*message) {
+            Some(Body::Synced { rec, .. }) => Some(rec),
+            Some(Body::Store { .. }) | None => None,
+        }
+    }
+
     /// The state of the process with this number; `None` where there is no such process.
     pub fn status(&self, process: ProcId) -> Option<Status>
         ensures { result ≡ status_of self.now.setup (history_of self.now) process.0 }
@@ -218,7 +270,12 @@ impl ClusterState {
     pub fn judge(&self, by: u32, order: &KillOrder) -> Reply
         ensures { result ≡ replied self.now by (Kill order.now) }
     {
-        self.machine.judge(&self.config, by, order)
+        let Some(_) = self.config.role(by) else {
+            return Reply::No(Refusal::Stranger);
+        };
+        let machine = &self.machine;
+        let verdict = judge(&machine.dead, &machine.book, self.config.map(), by, order);
+        Reply::Verdict(verdict)
     }
 
     /// What `judge` answers for an order that names the process with this number alone, by its name:
@@ -232,14 +289,15 @@ impl ClusterState {
             → NamesProcess self.now.setup.processes process.0 order
             → reply ≡ replied self.now by (Kill order)) }
     {
-        if process.0 < self.config.map().len() {
-            Some(
-                self.machine
-                    .judge_process(&self.config, by, process, kind, floor),
-            )
-        } else {
-            None
+        if process.0 >= self.config.map().len() {
+            return None;
         }
+        let Some(_) = self.config.role(by) else {
+            return Some(Reply::No(Refusal::Stranger));
+        };
+        let machine = &self.machine;
+        let verdict = judge_process(&machine.dead, &machine.book, by, process, kind, floor);
+        Some(Reply::Verdict(verdict))
     }
 
     /// Of an acknowledged record, the least member of its team that isn't destroyed and has the

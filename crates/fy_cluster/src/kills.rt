@@ -1,5 +1,5 @@
 //! The act Kill: the targets of an order are struck, and recorded as lost where the kind destroys.
-ghost use Rattle.std.specs.Prelude.{◌≡◌, ◌<◌, ℕ, true, false, [], length, slice_set, Some, Ok};
+ghost use Rattle.std.specs.Prelude.{◌≡◌, ◌<◌, ℕ, true, false, length, slice_set, Some, Ok};
 ghost use Rattle.std.specs.FinSet as sets;
 ghost use Rattle.fy_decide.specs.declared.dead_book.Loss.{Loss};
 ghost use Rattle.fy_decide.specs.Targets.{targeted};
@@ -16,7 +16,7 @@ ghost use Rattle.fy_cluster.specs.Standing.{Point, Refines, StepsTo, RepliesOrOo
 use crate::Config;
 use crate::machine::Machine;
 use fy_acts::{Refusal, Reply};
-use fy_decide::{DeadBook, Loss, Targets, judge, judge_aimed, judge_process};
+use fy_decide::{DeadBook, Loss, Targets, judge_aimed};
 use fy_disk::Disks;
 use fy_kinds::{KillOrder, Kind};
 use fy_locality::{Map, ProcId, ProcSet};
@@ -124,21 +124,9 @@ impl Machine {
         self.strike(by, order, &found)
     }
 
-    /// Strikes the process that an order names alone, as `kill` does. The name isn't looked up.
-    fn kill_process(&mut self, by: u32, process: ProcId, order: &KillOrder) -> Reply
-        ghost point: { Point }
-        requires stands { Refines point.setup point.before self.old }
-        requires by { by ≡ point.by }
-        requires named { NamesProcess point.setup.processes process.0 order.now }
-        ensures { StepsTo point (Kill order.now) result self.new }
-    {
-        let found = self.dead.aimed_at_process(process);
-        self.strike(by, order, &found)
-    }
-
-    /// Replies to a kill of the process that an order names alone, and strikes it where no rule
-    /// refuses it. An unknown actor is refused first. Takes no memory.
-    pub(crate) fn reply_to_kill(
+    /// Strikes the process that an order names alone, as `kill` does. An unknown actor is refused
+    /// first. The name isn't looked up. Takes no memory.
+    pub(crate) fn kill_process(
         &mut self,
         config: &Config,
         by: u32,
@@ -155,45 +143,7 @@ impl Machine {
         if config.role(by).is_none() {
             return Reply::No(Refusal::Stranger);
         }
-        self.kill_process(by, process, order)
-    }
-
-    /// The reply that a kill by an actor would get. It changes nothing.
-    pub(crate) fn judge(&self, config: &Config, by: u32, order: &KillOrder) -> Reply
-        requires stands { (h : History) × Refines config.now h self.now }
-        ensures { (h : History) → Refines config.now h self.now
-            → result ≡ reply config.now h by (Kill order.now) }
-    {
-        match config.role(by) {
-            Some(_) => {
-                let verdict = judge(&self.dead, &self.book, config.map(), by, order);
-                Reply::Verdict(verdict)
-            }
-            None => Reply::No(Refusal::Stranger),
-        }
-    }
-
-    /// The reply that a kill of one process by an actor would get, by these two kinds. It changes
-    /// nothing. The name isn't looked up.
-    pub(crate) fn judge_process(
-        &self,
-        config: &Config,
-        by: u32,
-        process: ProcId,
-        kind: Kind,
-        floor: Kind,
-    ) -> Reply
-        requires stands { (h : History) × Refines config.now h self.now }
-        requires process { process.0 < length config.now.processes }
-        ensures { (h : History) (order : Order) → Refines config.now h self.now
-            → order.kind ≡ kind → order.floor ≡ floor
-            → NamesProcess config.now.processes process.0 order
-            → result ≡ reply config.now h by (Kill order) }
-    {
-        let Some(_) = config.role(by) else {
-            return Reply::No(Refusal::Stranger);
-        };
-        let verdict = judge_process(&self.dead, &self.book, by, process, kind, floor);
-        Reply::Verdict(verdict)
+        let found = self.dead.aimed_at_process(process);
+        self.strike(by, order, &found)
     }
 }

@@ -1,5 +1,5 @@
 //! The acts Deliver, Lose and Sync: messages arrive or are lost, and what was written is synced.
-ghost use Rattle.std.specs.Prelude.{◌≡◌, ◌≤◌, ◌<◌, ◌+◌, ◌++◌, Some, None, map, length, slice_set, OnOk, OnErr, IfErr};
+ghost use Rattle.std.specs.Prelude.{◌≡◌, ◌≤◌, ◌<◌, Some, None, map, length, slice_set, OnOk, OnErr, IfErr};
 ghost use Rattle.fy_net.specs.Net.{body_of, take_refusal, without_message};
 ghost use Rattle.fy_net.specs.declared.message.Body.TheVariants.{Store, Synced};
 ghost use Rattle.fy_acts.specs.declared.act.Act.TheVariants.{Deliver, Lose, Sync};

@@ -1,6 +1,6 @@
 //! A machine before anything happened.
-ghost use Rattle.std.specs.Prelude.{◌≡◌, ◌≤◌, ◌<◌, ◌+◌, ◌++◌, ◌==◌, ◌&&◌, ◌||◌, ℕ, [], length, filter, IfOk, OnOk};
-ghost use Rattle.std.specs.List.{All, list_any};
+ghost use Rattle.std.specs.Prelude.{◌≡◌, ◌≤◌, ◌<◌, ◌+◌, ◌++◌, ◌||◌, ℕ, [], length, IfOk, OnOk};
+ghost use Rattle.std.specs.List.{All};
 ghost use Rattle.fy_locality.specs.declared.TheConstants.{MOST_PROCESSES};
 ghost use Rattle.fy_kinds.specs.Kinds.{Deed, has};
 ghost use Rattle.fy_grants.specs.declared.book.TheConstants.{MOST_GRANTS};

@@ -1,5 +1,5 @@
 //! The act Replace: a process comes in the place of a team's member.
-ghost use Rattle.std.specs.Prelude.{◌≡◌, ◌<◌, ◌≤◌, ℕ, length, All};
+ghost use Rattle.std.specs.Prelude.{◌≡◌, ◌<◌, ℕ, All};
 ghost use Rattle.std.specs.FinSet as sets;
 ghost use Rattle.fy_team.specs.Teams.{is_among, swapped};
 ghost use Rattle.fy_acts.specs.declared.act.Act.TheVariants.{Replace};

@@ -3,7 +3,7 @@ ghost use Rattle.std.specs.Prelude.{◌≡◌, ◌<◌, length};
 ghost use Rattle.fy_cluster.specs.Setup.{Setup};
 ghost use Rattle.fy_cluster.specs.History.{History};
 ghost use Rattle.fy_cluster.specs.Standing.{Refines};
-ghost use Rattle.fy_cluster.specs.Sights.{status_at, needed_at};
+ghost use Rattle.fy_cluster.specs.Sights.{status_at};
 
 use crate::machine::Machine;
 use fy_locality::ProcId;

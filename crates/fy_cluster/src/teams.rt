@@ -1,5 +1,5 @@
 //! The acts Form, Begin and Resend: a team forms, a record begins, a record is sent once more.
-ghost use Rattle.std.specs.Prelude.{◌≡◌, ◌≤◌, ◌<◌, ◌+◌, ◌++◌, map, length};
+ghost use Rattle.std.specs.Prelude.{◌≡◌, ◌≤◌, ◌<◌, map, length};
 ghost use Rattle.std.specs.List.{All};
 ghost use Rattle.fy_net.specs.declared.message.Body.TheVariants.{Store};
 ghost use Rattle.fy_acts.specs.declared.act.Act.TheVariants.{Form, Begin, Resend};

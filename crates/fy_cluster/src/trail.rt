@@ -1,5 +1,5 @@
 //! The journal of a cluster's state, which clauses alone read.
-ghost use Rattle.std.specs.Prelude.{◌≡◌, ◌<◌, ◌++◌, ◌∷◌, [], length, IfOk};
+ghost use Rattle.std.specs.Prelude.{◌≡◌, ◌<◌, ◌≤◌, ◌++◌, ◌∷◌, [], length, IfOk};
 ghost use Rattle.fy_cluster.specs.declared.config.TheConstants.{MOST_JOURNAL_ENTRIES};
 
 use crate::MOST_JOURNAL_ENTRIES;
@@ -40,6 +40,22 @@ impl Trail {
         let mut entries = Vec::new(alloc);
         entries.reserve(MOST_JOURNAL_ENTRIES as usize)?;
         Ok(Trail { entries })
+    }
+
+    /// These entries.
+    ///
+    /// # Errors
+    ///
+    /// As of [`Trail::make`].
+    pub(crate) fn of(alloc: Global, entries: &[Entry]) -> Result<Trail, AllocError>
+        requires { length entries.now ≤ MOST_JOURNAL_ENTRIES }
+        ensures { IfOk result (λ trail. trail ≡ entries.now) }
+    {
+        let mut trail = Trail::make(alloc)?;
+        for entry in entries {
+            trail.push(entry);
+        }
+        Ok(trail)
     }
 
     /// Appends an entry. Takes no memory.

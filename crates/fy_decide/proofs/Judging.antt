@@ -28,9 +28,6 @@ use Rattle.fy_policy.specs.Tree.{Tree}
 use Rattle.fy_policy.specs.Laws.{TestIsSatisfaction}
 use Rattle.fy_policy.specs.Sat.{satisfies}
 use Rattle.fy_locality.specs.declared.locality.Locality.{Locality}
-use Rattle.fy_locality.specs.Locality.{has_value}
-use Rattle.fy_locality.specs.Values.{ProcessesHaveValues}
-use Rattle.fy_kinds.specs.declared.order.Target.{Target}
 use Rattle.std.proofs.lemmas.Iterator.Adapters.{position_from-zero}
 
 pub swapped : (a b : Bool) → (a && b) ≡ (b && a)

@@ -1,7 +1,8 @@
 -- tallies of one set, one by each policy: sets that come and go, and what is found
-use Rattle.std.proofs.Common.{zero, suc, ◌≡◌, ◌↔◌, ℕ, ◌+◌, ◌-◌, ◌<◌, ◌≤◌, Bool, true, false, true≢false, cond, ◌&&◌, ◌||◌, not, eqb, ltb, List, [], ◌∷◌, ◌++◌, length, map, get_or, set, take, drop, Vec, Global, refl, sym, ap, ◌∙◌, arith}
+use Rattle.std.proofs.Common.{zero, suc, ◌≡◌, ◌↔◌, ℕ, ◌+◌, ◌-◌, ◌<◌, ◌≤◌, Bool, true, false, true≢false, cond, ◌&&◌, ◌||◌, not, eqb, ltb, List, [], ◌∷◌, ◌++◌, length, map, get_or, set, take, drop, Vec, Global, refl, sym, ap, subst, ◌∙◌, arith}
 use Rattle.std.specs.Prelude.{Option, Some, None, is_some, IfNone}
-use Rattle.std.specs.List.{list_all, position, position_from, position_or_len}
+use Rattle.std.proofs.lemmas.List.Elements.{All-map}
+use Rattle.std.specs.List.{All, list_all, position, position_from, position_or_len}
 use Rattle.std.specs.Ordering.{nat_cmp}
 use Rattle.std.specs.FinSet as sets
 use Rattle.std.specs.Cmp.{nat_cmp_total, unsigned_tied}
@@ -259,3 +260,10 @@ module _ (law : TestIsSatisfaction) where
 
   pub may-of-test : (dead : Losses) (s : ℕ → Bool) (loss : Loss) (answer : Bool) → answer ≡ may_lose dead s loss → (answer ≡ true) ↔ MayLose dead s loss
   may-of-test dead s loss answer is = (λ e. (may-law dead s loss).0 (sym is ∙ e), λ h. is ∙ (may-law dead s loss).1 h)
+
+-- ---- the map of each of them
+pub all_over : (processes : List Locality) (policies : List Tree) (s : sets.FinSet nat_cmp) (map_of : List Locality) (tallies : List Tallied) → map_of ≡ processes → tallies ≡ tallied processes policies s
+    → All (λ (tally : Tallied). map_of ≡ tally.processes) tallies
+all_over processes policies s map_of tallies same are =
+    subst (All (λ (tally : Tallied). map_of ≡ tally.processes)) (sym are)
+    (All-map (λ (tally : Tallied). map_of ≡ tally.processes) (λ P. record { processes = processes; policy = P; set = s }) policies (λ k d within. same))

@@ -10,7 +10,8 @@ ghost use Rattle.fy_decide.specs.Targets.{targeted, lone};
 ghost use Rattle.fy_decide.specs.Verdicts.{targets, loss_of};
 
 use crate::tallies::{
-    drop_from_each, first_satisfied_with, first_short_without, put_in_each, tallies_of,
+    copied_tallies, drop_from_each, first_satisfied_with, first_short_without, put_in_each,
+    tallies_of,
 };
 use crate::targets::Targets;
 use fy_kinds::{Kind, Target};
@@ -174,6 +175,28 @@ impl DeadBook {
             policies,
             destroyed: ProcSet::empty(),
             left,
+            destroyed_tallies,
+            left_tallies,
+        })
+    }
+
+    /// An equal book, in memory of its own: its tallies share a map with it, and nothing with
+    /// this book, to which nothing is written.
+    ///
+    /// # Errors
+    ///
+    /// Want of memory.
+    pub fn try_copy(&self, alloc: Global) -> Result<DeadBook, AllocError>
+        ensures { IfOk result (λ copy. copy ≡ self.now) }
+    {
+        let map = Arc::new(alloc, self.map.try_copy(alloc)?)?;
+        let destroyed_tallies = copied_tallies(alloc, &map, &self.destroyed_tallies)?;
+        let left_tallies = copied_tallies(alloc, &map, &self.left_tallies)?;
+        Ok(DeadBook {
+            map,
+            policies: try_copy_all(alloc, &self.policies)?,
+            destroyed: self.destroyed,
+            left: self.left,
             destroyed_tallies,
             left_tallies,
         })

@@ -2,7 +2,7 @@
 ghost use Rattle.std.specs.Prelude.{◌≡◌, ◌<◌, not, map, IfOk};
 ghost use Rattle.std.specs.Arc.{arc_value};
 ghost use Rattle.std.specs.FinSet as sets;
-ghost use Rattle.std.specs.List.{position};
+ghost use Rattle.std.specs.List.{All, position};
 ghost use Rattle.fy_locality.specs.declared.TheConstants.{MOST_PROCESSES};
 ghost use Rattle.fy_policy.specs.Sat.{satisfies};
 ghost use Rattle.fy_decide.specs.Tallies.{tallied, with_all, without_all};
@@ -35,6 +35,26 @@ pub(crate) fn tallies_of(
         tallies.push(tally)?;
     }
     Ok(tallies)
+}
+
+/// Equal tallies over an equal map, which the copy of their book shares with them.
+///
+/// # Errors
+///
+/// Want of memory.
+pub(crate) fn copied_tallies(
+    alloc: Global,
+    map: &Arc<Map>,
+    tallies: &[Tally],
+) -> Result<Vec<Tally>, AllocError>
+    requires { All (λ tally. arc_value map.now ≡ tally.processes) tallies.now }
+    ensures { IfOk result (λ copies. copies.items ≡ tallies.now) }
+{
+    let mut copies = Vec::with_capacity(alloc, tallies.len())?;
+    for tally in tallies {
+        copies.push_reserved(tally.try_copy_shared(alloc, map)?);
+    }
+    Ok(copies)
 }
 
 /// Puts a set into a tally. Takes no memory.

@@ -1,10 +1,11 @@
 //! The disk of one process.
-ghost use Rattle.std.specs.Prelude.{◌≡◌, ◌≤◌, [], ◌∷◌, ◌++◌, length, take, drop, vec_len, slice_get, IfOk, IfErr, OnOk};
+ghost use Rattle.std.specs.Prelude.{◌≡◌, ◌≤◌, length, take, drop, slice_get, IfErr, OnOk};
 ghost use Rattle.std.specs.Option.{option_copied};
 ghost use Rattle.fy_disk.specs.Disk.{empty_disk, written, all_synced, crashed, outlives, survivors};
 
 use crate::Item;
-use std::alloc::Global;
+use fy_locality::{TryCopy, try_copy_each};
+use std::alloc::{AllocError, Global};
 use std::marker::Model;
 
 /// The items of one process in order of writing, and how many of them, from the first on, are
@@ -27,6 +28,15 @@ impl Model for Disk {
     } };
 
     ghost invariant = { λ d. d.synced ≤ length d.items.items };
+}
+
+impl TryCopy for Disk {
+    fn try_copy(&self, alloc: Global) -> Result<Disk, AllocError> {
+        Ok(Disk {
+            items: try_copy_each(alloc, &self.items)?,
+            synced: self.synced,
+        })
+    }
 }
 
 impl Disk {

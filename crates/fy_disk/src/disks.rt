@@ -6,7 +6,7 @@ ghost use Rattle.fy_disk.specs.Disks.{disk_of, has_synced, has_unsynced};
 
 use crate::holders::{add_holder, open, remove_holder};
 use crate::{Disk, Item};
-use fy_locality::{MOST_PROCESSES, ProcId, ProcSet};
+use fy_locality::{MOST_PROCESSES, ProcId, ProcSet, try_copy_each};
 use std::alloc::{AllocError, Global};
 use std::marker::Model;
 
@@ -59,6 +59,21 @@ impl Disks {
             disks: blank_disks(alloc, processes)?,
             holders: Vec::new(alloc),
             with_unsynced: ProcSet::empty(),
+        })
+    }
+
+    /// Equal disks, in memory of their own.
+    ///
+    /// # Errors
+    ///
+    /// `AllocError` only if an allocation fails.
+    pub fn try_copy(&self, alloc: Global) -> Result<Disks, AllocError>
+        ensures { IfOk result (λ copy. copy ≡ self.now) }
+    {
+        Ok(Disks {
+            disks: try_copy_each(alloc, &self.disks)?,
+            holders: Vec::from_slice(alloc, &self.holders)?,
+            with_unsynced: self.with_unsynced,
         })
     }
 

@@ -9,13 +9,12 @@ use Rattle.std.proofs.lemmas.Bool.{cases_eq}
 use Rattle.fy_locality.specs.declared.locality.Locality.{Locality}
 use Rattle.fy_kinds.specs.declared.kind.Kind.TheVariants.{RebootProcess, Reboot, RebootAndDelete, KillInstantly}
 use Rattle.fy_kinds.specs.declared.kind_set.KindSet.{KindSet}
-use Rattle.fy_kinds.specs.Kinds.{Deed, Striking, Clogging, has, has_all, only, in_either}
+use Rattle.fy_kinds.specs.Kinds.{Deed, Striking, Clogging, has, has_all, only}
 use Rattle.fy_grants.specs.declared.grant.Grant.{Grant}
-use Rattle.fy_grants.specs.declared.grant.Scope.TheVariants.{All}
 use Rattle.fy_grants.specs.declared.cover.Cover.{Cover}
 use Rattle.fy_grants.specs.declared.book.TheConstants.{MOST_GRANTS}
 use Rattle.fy_grants.specs.Covers.{bare, covers, set_at, IsCoverOf, IsGroupOf, LeavesOpen, IsGrantBook}
-use Rattle.fy_grants.specs.Rights.{is_granted, is_covered, is_in_scope}
+use Rattle.fy_grants.specs.Rights.{is_granted, is_covered}
 use Rattle.fy_grants.proofs.Lists.{counted_none, counted_more, counted_less}
 use Rattle.fy_grants.proofs.Covering.{and_false, left_out}
 

@@ -1,7 +1,7 @@
 //! The book of grants and protections.
 ghost use Rattle.std.specs.Prelude.{◌≡◌, ◌<◌, ◌&&◌, not, ℕ, length, [], map, replicate, Some, None, IfOk, IfErr, IsOk, OnOk, OnErr};
 ghost use Rattle.std.specs.FinSet as sets;
-ghost use Rattle.fy_kinds.specs.Kinds.{in_either, in_first_alone, no_deed};
+ghost use Rattle.fy_kinds.specs.Kinds.{in_either, in_first_alone};
 ghost use Rattle.fy_grants.specs.Covers.{bare};
 ghost use Rattle.fy_grants.specs.Least.{LeastWith};
 ghost use Rattle.fy_grants.specs.Rights.{grants_of, protections_of, no_rights, is_covered, is_protected, give_refusal, with_grant, take_refusal, without_grant, with_protection};
@@ -80,6 +80,23 @@ impl Book {
             given: 0,
             covers: bare_covers(alloc, actors)?,
             protections: Protections::make(alloc, map.len())?,
+        })
+    }
+
+    /// An equal book, in memory of its own.
+    ///
+    /// # Errors
+    ///
+    /// Where there is no memory.
+    pub fn try_copy(&self, alloc: Global) -> Result<Book, AllocError>
+        ensures { IfOk result (λ copy. copy ≡ self.now) }
+    {
+        Ok(Book {
+            processes: self.processes.try_copy(alloc)?,
+            grants: copied_grants(alloc, &self.grants)?,
+            given: self.given,
+            covers: Vec::from_slice(alloc, &self.covers)?,
+            protections: self.protections.try_copy(alloc)?,
         })
     }
 
@@ -275,6 +292,18 @@ fn no_grants(alloc: Global, actors: u32) -> Result<Vec<Vec<Grant>>, AllocError>
         lists.push(Vec::new(alloc))?;
     }
     Ok(lists)
+}
+
+/// A copy of each actor's list of grants.
+fn copied_grants(alloc: Global, lists: &[Vec<Grant>]) -> Result<Vec<Vec<Grant>>, AllocError>
+    ensures { IfOk result (λ copies.
+        map (λ own. own.items) copies.items ≡ map (λ own. own.items) lists.now) }
+{
+    let mut copies = Vec::with_capacity(alloc, lists.len())?;
+    for own in lists {
+        copies.push_reserved(Vec::from_slice(alloc, own)?);
+    }
+    Ok(copies)
 }
 
 /// As many covers of no grants as there are actors.

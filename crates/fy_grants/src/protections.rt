@@ -52,6 +52,20 @@ impl Protections {
         Ok(Protections { kinds, noted })
     }
 
+    /// Equal protections, in memory of their own.
+    ///
+    /// # Errors
+    ///
+    /// Where there is no memory.
+    pub(crate) fn try_copy(&self, alloc: Global) -> Result<Protections, AllocError>
+        ensures { IfOk result (λ copy. copy ≡ self.now) }
+    {
+        Ok(Protections {
+            kinds: Vec::from_slice(alloc, &self.kinds)?,
+            noted: self.noted,
+        })
+    }
+
     /// How many processes there are.
     pub(crate) fn len(&self) -> usize
         ensures { result ≡ length self.now }

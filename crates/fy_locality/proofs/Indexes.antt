@@ -118,7 +118,7 @@ IsIndexed-nil = record {
   machines_are = IsIndex-nil Machine;
   zones_are = IsIndex-nil Zone;
   halls_are = IsIndex-nil DataHall;
-  centers_are = IsIndex-nil DataCenter;
+  data_centers_are = IsIndex-nil DataCenter;
   places_are = AreValueIndexes-nil;
 }
 
@@ -141,20 +141,20 @@ not_refused processes id e = go (is_member bytes_eq (values_of processes Process
     go false is false many e = (is, let h : length processes < MOST_PROCESSES = grind (arith, nat_tests) in h)
 
 -- what a Map keeps, after one process more with a new name
-pub IsIndexed-push : (processes : List Locality) (new : Locality) (ids machines zones halls centers ids' machines' zones' halls' centers' : Entries) (places : List ValueIndexes) (kept : ValueIndexes)
-    → IsIndexed processes ids machines zones halls centers places → id_refusal processes new.process ≡ None
+pub IsIndexed-push : (processes : List Locality) (new : Locality) (ids machines zones halls data_centers ids' machines' zones' halls' data_centers' : Entries) (places : List ValueIndexes) (kept : ValueIndexes)
+    → IsIndexed processes ids machines zones halls data_centers places → id_refusal processes new.process ≡ None
     → AddsToIndex ids (Some new.process) (length processes) ids' → AddsToIndex machines (Some new.machine) (length processes) machines' → AddsToIndex zones (Some new.zone) (length processes) zones'
-    → AddsToIndex halls new.data_hall (length processes) halls' → AddsToIndex centers new.data_center (length processes) centers'
+    → AddsToIndex halls new.data_hall (length processes) halls' → AddsToIndex data_centers new.data_center (length processes) data_centers'
     → IsValueIndex (keys_of machines') (Some new.machine) kept.machine → IsValueIndex (keys_of zones') (Some new.zone) kept.zone
-    → IsValueIndex (keys_of halls') new.data_hall kept.data_hall → IsValueIndex (keys_of centers') new.data_center kept.data_center
-    → IsIndexed (processes ++ new ∷ []) ids' machines' zones' halls' centers' (places ++ kept ∷ [])
-IsIndexed-push processes new ids machines zones halls centers ids' machines' zones' halls' centers' places kept was taken i m z h c on_machine on_zone in_hall in_center =
+    → IsValueIndex (keys_of halls') new.data_hall kept.data_hall → IsValueIndex (keys_of data_centers') new.data_center kept.data_center
+    → IsIndexed (processes ++ new ∷ []) ids' machines' zones' halls' data_centers' (places ++ kept ∷ [])
+IsIndexed-push processes new ids machines zones halls data_centers ids' machines' zones' halls' data_centers' places kept was taken i m z h c on_machine on_zone in_hall in_center =
     let fresh = not_refused processes new.process taken in
     let own_later = own_names-push processes new was.own fresh.0 in
     let machines_later = IsIndex-push processes new Machine machines machines' was.machines_are m in
     let zones_later = IsIndex-push processes new Zone zones zones' was.zones_are z in
     let halls_later = IsIndex-push processes new DataHall halls halls' was.halls_are h in
-    let centers_later = IsIndex-push processes new DataCenter centers centers' was.centers_are c in
+    let data_centers_later = IsIndex-push processes new DataCenter data_centers data_centers' was.data_centers_are c in
     record {
       few = let n : length (processes ++ new ∷ []) ≡ length processes + 1 = length_push processes new in let room : length processes < MOST_PROCESSES = fresh.1 in omega arith;
       own = own_later;
@@ -162,13 +162,13 @@ IsIndexed-push processes new ids machines zones halls centers ids' machines' zon
       machines_are = machines_later;
       zones_are = zones_later;
       halls_are = halls_later;
-      centers_are = centers_later;
+      data_centers_are = data_centers_later;
       places_are = AreValueIndexes-push processes new places kept was.places_are (λ key. elim key as (λ k. IsValueIndex (values_of (processes ++ new ∷ []) k) (value_in k new) (value_index_in k (length processes) kept)) [
         | Process ↦ own_stands processes new own_later
         | Machine ↦ subst (λ names. IsValueIndex names (Some new.machine) kept.machine) machines_later.seen on_machine
         | Zone ↦ subst (λ names. IsValueIndex names (Some new.zone) kept.zone) zones_later.seen on_zone
         | DataHall ↦ subst (λ names. IsValueIndex names new.data_hall kept.data_hall) halls_later.seen in_hall
-        | DataCenter ↦ subst (λ names. IsValueIndex names new.data_center kept.data_center) centers_later.seen in_center
+        | DataCenter ↦ subst (λ names. IsValueIndex names new.data_center kept.data_center) data_centers_later.seen in_center
       ]);
     }
 
@@ -195,17 +195,17 @@ pub AddsToIndex-from : (old was : Entries) (value : Option (List ℕ)) (p n : �
 AddsToIndex-from old was value p n new notes from number = subst (λ es. AddsToIndex es value n new) from (subst (λ k. AddsToIndex old value k new) number notes)
 
 -- equal parts
-pub IsIndexed-same : (processes : List Locality) (ids machines zones halls centers : Entries) (places : List ValueIndexes) (processes' : List Locality) (ids' machines' zones' halls' centers' : Entries) (places' : List ValueIndexes)
-    → IsIndexed processes ids machines zones halls centers places → processes' ≡ processes → ids' ≡ ids → machines' ≡ machines → zones' ≡ zones → halls' ≡ halls → centers' ≡ centers → places' ≡ places
-    → IsIndexed processes' ids' machines' zones' halls' centers' places'
-IsIndexed-same processes ids machines zones halls centers places processes' ids' machines' zones' halls' centers' places' was p i m z h c at = record {
+pub IsIndexed-same : (processes : List Locality) (ids machines zones halls data_centers : Entries) (places : List ValueIndexes) (processes' : List Locality) (ids' machines' zones' halls' data_centers' : Entries) (places' : List ValueIndexes)
+    → IsIndexed processes ids machines zones halls data_centers places → processes' ≡ processes → ids' ≡ ids → machines' ≡ machines → zones' ≡ zones → halls' ≡ halls → data_centers' ≡ data_centers → places' ≡ places
+    → IsIndexed processes' ids' machines' zones' halls' data_centers' places'
+IsIndexed-same processes ids machines zones halls data_centers places processes' ids' machines' zones' halls' data_centers' places' was p i m z h c at = record {
   few = subst (λ ps. length ps ≤ MOST_PROCESSES) (sym p) was.few;
   own = subst (λ ps. filter_map (value_in Process) ps ≡ values_of ps Process) (sym p) was.own;
   ids_are = same Process ids ids' was.ids_are i;
   machines_are = same Machine machines machines' was.machines_are m;
   zones_are = same Zone zones zones' was.zones_are z;
   halls_are = same DataHall halls halls' was.halls_are h;
-  centers_are = same DataCenter centers centers' was.centers_are c;
+  data_centers_are = same DataCenter data_centers data_centers' was.data_centers_are c;
   places_are = subst (λ ps. AreValueIndexes ps places') (sym p) (subst (AreValueIndexes processes) (sym at) was.places_are);
 }
   where

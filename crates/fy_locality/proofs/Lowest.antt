@@ -1,5 +1,5 @@
 -- words whose lowest bits are 1: the set of all numbers below one
-use Rattle.std.proofs.Common.{◌≡◌, ℕ, ◌+◌, ◌-◌, ◌*◌, ◌/◌, ◌%◌, ◌^◌, ◌<◌, ◌≤◌, Bool, false, ◌&&◌, List, length, inl, inr, sym, ap, ◌∙◌, arith, eqb, ltb, get_or}
+use Rattle.std.proofs.Common.{◌≡◌, ℕ, ◌+◌, ◌-◌, ◌*◌, ◌/◌, ◌%◌, ◌^◌, ◌<◌, ◌≤◌, Bool, ◌&&◌, List, length, inl, inr, sym, ap, ◌∙◌, arith, eqb, ltb, get_or}
 use Rattle.std.specs.Int.{bit_at}
 use Rattle.std.specs.FinSet as sets
 use Rattle.std.proofs.Math.ListN.{set as put_at}

@@ -6,6 +6,7 @@ use Rattle.std.specs.List.{filter_map}
 use Rattle.std.specs.Map.{keys_of, lookup}
 use Rattle.std.specs.Str.{bytes_eq}
 use Rattle.fy_locality.specs.declared.TheConstants.{MOST_PROCESSES}
+use Rattle.fy_locality.specs.declared.map.Indexes.{Indexes}
 use Rattle.fy_locality.specs.declared.map.ValueIndexes.{ValueIndexes}
 use Rattle.fy_locality.specs.declared.locality.Locality.{Locality}
 use Rattle.fy_locality.specs.declared.key.Key.{Key}
@@ -26,6 +27,14 @@ pub record IsIndex (processes : List Locality) (key : Key) (entries : Entries) :
   pub grouped :
       (v : List ℕ) (q : ℕ)
       → sets.contains (group_of entries v) q ≡ has_value processes key v q
+
+-- each key's index has the same entries in both
+pub record HasSameEntries (old new : Indexes) : Type 0 where
+  pub ids : new.ids.entries ≡ old.ids.entries
+  pub machines : new.machines.entries ≡ old.machines.entries
+  pub zones : new.zones.entries ≡ old.zones.entries
+  pub halls : new.halls.entries ≡ old.halls.entries
+  pub data_centers : new.data_centers.entries ≡ old.data_centers.entries
 
 -- a value stands at its place among the names, and what is no value has no place
 abbrev pub IsValueIndex : List (List ℕ) → Option (List ℕ) → Option ℕ → Type 0
@@ -50,7 +59,7 @@ pub record AreValueIndexes (processes : List Locality) (places : List ValueIndex
 
 -- names that differ, an index for each key, and places in them
 pub record IsIndexed
-    (processes : List Locality) (ids machines zones halls centers : Entries) (places : List ValueIndexes)
+    (processes : List Locality) (ids machines zones halls data_centers : Entries) (places : List ValueIndexes)
     : Type 0 where
   pub few : length processes ≤ MOST_PROCESSES
   pub own : filter_map (value_in Process) processes ≡ values_of processes Process
@@ -58,5 +67,5 @@ pub record IsIndexed
   pub machines_are : IsIndex processes Machine machines
   pub zones_are : IsIndex processes Zone zones
   pub halls_are : IsIndex processes DataHall halls
-  pub centers_are : IsIndex processes DataCenter centers
+  pub data_centers_are : IsIndex processes DataCenter data_centers
   pub places_are : AreValueIndexes processes places

@@ -8,6 +8,7 @@ mod map;
 mod name;
 mod process_set;
 mod processes;
+mod try_copy;
 
 pub use key::Key;
 pub use locality::Locality;
@@ -15,6 +16,7 @@ pub use map::{Map, MapFault};
 pub use name::{BadName, Name};
 pub use process_set::{ProcSet, SET_WORDS};
 pub use processes::Processes;
+pub use try_copy::{TryCopy, try_copy_each};
 
 /// The most processes that a map has. Their numbers are below it, and so is each member of a set of
 /// processes.

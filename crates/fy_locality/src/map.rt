@@ -6,7 +6,7 @@ ghost use Rattle.std.specs.Map.{keys_of};
 ghost use Rattle.indexmap.specs.IndexMap.{spare};
 ghost use Rattle.fy_locality.specs.declared.key.Key.TheVariants.{Process};
 ghost use Rattle.fy_locality.specs.Locality.{value_of, has_value, values_of, NamesDiffer, ArePeers, locality_of, id_refusal, refusal_of};
-ghost use Rattle.fy_locality.specs.Indexed.{IsIndex, IsValueIndex, group_of};
+ghost use Rattle.fy_locality.specs.Indexed.{HasSameEntries, IsIndex, IsValueIndex, group_of};
 ghost use Rattle.fy_locality.specs.Noted.{AddsToIndex};
 
 use crate::{BadName, Key, Locality, MOST_PROCESSES, Name, ProcId, ProcSet};
@@ -14,16 +14,56 @@ use indexmap::IndexMap;
 use std::alloc::{AllocError, AllocFailed, Global};
 use std::marker::Model;
 
-/// The processes in order of their numbers, and for each key its values in the order in which they
-/// were first seen, each with the processes that have it.
+/// The processes in order of their numbers, and where they stand.
 pub struct Map {
     processes: Vec<Locality>,
-    ids: IndexMap<Name, ProcSet>,
-    machines: IndexMap<Name, ProcSet>,
-    zones: IndexMap<Name, ProcSet>,
-    halls: IndexMap<Name, ProcSet>,
-    centers: IndexMap<Name, ProcSet>,
+    indexes: Indexes,
     places: Vec<ValueIndexes>,
+}
+
+/// The values of a key in the order in which they were first seen, each with the processes that
+/// have it.
+type Index = IndexMap<Name, ProcSet>;
+
+/// An index for each key.
+struct Indexes {
+    ids: Index,
+    machines: Index,
+    zones: Index,
+    halls: Index,
+    data_centers: Index,
+}
+
+// Written out and not derived: see `Drop` in docs/DECISIONS.md.
+impl Drop for Indexes {
+    fn drop(self) {
+        let Indexes {
+            ids: _,
+            machines: _,
+            zones: _,
+            halls: _,
+            data_centers: _,
+        } = self;
+    }
+}
+
+impl Indexes {
+    /// The same values with the same processes, in memory of their own.
+    ///
+    /// # Errors
+    ///
+    /// Want of memory.
+    fn try_copy(&self) -> Result<Indexes, AllocError>
+        ensures { IfOk result (HasSameEntries self.now) }
+    {
+        Ok(Indexes {
+            ids: self.ids.clone()?,
+            machines: self.machines.clone()?,
+            zones: self.zones.clone()?,
+            halls: self.halls.clone()?,
+            data_centers: self.data_centers.clone()?,
+        })
+    }
 }
 
 /// Where the values of one process stand among the values of their keys, so that no name has to be
@@ -48,8 +88,8 @@ impl Model for Map {
 
     ghost invariant = { λ m.
         IsIndexed m.processes.items
-        m.ids.entries m.machines.entries m.zones.entries m.halls.entries m.centers.entries
-        m.places.items };
+        m.indexes.ids.entries m.indexes.machines.entries m.indexes.zones.entries
+        m.indexes.halls.entries m.indexes.data_centers.entries m.places.items };
 }
 
 impl Map {
@@ -62,11 +102,13 @@ impl Map {
     {
         Map {
             processes: Vec::new(alloc),
-            ids: IndexMap::new(alloc),
-            machines: IndexMap::new(alloc),
-            zones: IndexMap::new(alloc),
-            halls: IndexMap::new(alloc),
-            centers: IndexMap::new(alloc),
+            indexes: Indexes {
+                ids: IndexMap::new(alloc),
+                machines: IndexMap::new(alloc),
+                zones: IndexMap::new(alloc),
+                halls: IndexMap::new(alloc),
+                data_centers: IndexMap::new(alloc),
+            },
             places: Vec::new(alloc),
         }
     }
@@ -87,16 +129,16 @@ impl Map {
     }
 
     /// The values of a key, each with the processes that have it.
-    fn index(&self, key: Key) -> &IndexMap<Name, ProcSet>
+    fn index(&self, key: Key) -> &Index
         ensures index { IsIndex self.now key result.now.entries }
         ensures few { length self.now ≤ MOST_PROCESSES }
     {
         match key {
-            Key::Process => &self.ids,
-            Key::Machine => &self.machines,
-            Key::Zone => &self.zones,
-            Key::DataHall => &self.halls,
-            Key::DataCenter => &self.centers,
+            Key::Process => &self.indexes.ids,
+            Key::Machine => &self.indexes.machines,
+            Key::Zone => &self.indexes.zones,
+            Key::DataHall => &self.indexes.halls,
+            Key::DataCenter => &self.indexes.data_centers,
         }
     }
 
@@ -180,7 +222,7 @@ impl Map {
         ensures within { IfSome result (λ p. p.0 < length self.now) }
         ensures missing { IfNone result ((p : ℕ) → value_of self.now Process p ≢ Some id.now) }
     {
-        match self.ids.get_index_of(id) {
+        match self.indexes.ids.get_index_of(id) {
             Some(at) => Some(ProcId(at as u32)),
             None => None,
         }
@@ -194,23 +236,10 @@ impl Map {
     pub fn try_copy(&self, alloc: Global) -> Result<Map, AllocError>
         ensures { IfOk result (λ copy. copy ≡ self.now) }
     {
-        let processes = Vec::from_slice(alloc, &self.processes)?;
-        let places = Vec::from_slice(alloc, &self.places)?;
-        let centers = copied(&self.centers)?;
-        let ((ids, machines), (zones, halls)) = four_copied(
-            &self.ids,
-            &self.machines,
-            &self.zones,
-            &self.halls,
-        )?;
         Ok(Map {
-            processes,
-            ids,
-            machines,
-            zones,
-            halls,
-            centers,
-            places,
+            processes: Vec::from_slice(alloc, &self.processes)?,
+            indexes: self.indexes.try_copy()?,
+            places: Vec::from_slice(alloc, &self.places)?,
         })
     }
 
@@ -226,21 +255,21 @@ impl Map {
         machine: &str,
         zone: &str,
         hall: Option<&str>,
-        dc: Option<&str>,
+        data_center: Option<&str>,
     ) -> Result<ProcId, MapFault>
         ensures refused { let given = locality_of id.now machine.now zone.now
-            (option_copied hall.entry) (option_copied dc.entry) in
+            (option_copied hall.entry) (option_copied data_center.entry) in
             (fault : MapFault) → refusal_of self.old given ≡ Some fault → result ≡ Err fault }
         ensures memory { let given = locality_of id.now machine.now zone.now
-            (option_copied hall.entry) (option_copied dc.entry) in
+            (option_copied hall.entry) (option_copied data_center.entry) in
             refusal_of self.old given ≡ None → IfErr result (λ fault. fault ≡ NoMemory) }
         ensures number { IfOk result (λ p. p.0 ≡ length self.old) }
         ensures added { let given = locality_of id.now machine.now zone.now
-            (option_copied hall.entry) (option_copied dc.entry) in
+            (option_copied hall.entry) (option_copied data_center.entry) in
             IfOk result (λ p. self.new ≡ self.old ++ given ∷ []) }
         ensures err { OnErr result (self.new ≡ self.old) }
     {
-        match Locality::make(id, machine, zone, hall, dc) {
+        match Locality::make(id, machine, zone, hall, data_center) {
             Ok(locality) => self.push(locality),
             Err(BadName) => Err(MapFault::Name),
         }
@@ -249,7 +278,7 @@ impl Map {
     fn refusal(&self, id: &Name) -> Option<MapFault>
         ensures { result ≡ id_refusal self.now id.now }
     {
-        if self.ids.contains_key(id) {
+        if self.indexes.ids.contains_key(id) {
             return Some(MapFault::Twice);
         }
         if self.processes.len() >= MOST_PROCESSES as usize {
@@ -278,18 +307,18 @@ impl Map {
             return Err(fault);
         }
         self.processes.reserve(1)?;
-        self.ids.reserve(1)?;
-        self.machines.reserve(1)?;
-        self.zones.reserve(1)?;
-        self.halls.reserve(1)?;
-        self.centers.reserve(1)?;
+        self.indexes.ids.reserve(1)?;
+        self.indexes.machines.reserve(1)?;
+        self.indexes.zones.reserve(1)?;
+        self.indexes.halls.reserve(1)?;
+        self.indexes.data_centers.reserve(1)?;
         self.places.reserve(1)?;
-        let _number = add_to_index(&mut self.ids, Some(locality.process), number);
+        let _number = add_to_index(&mut self.indexes.ids, Some(locality.process), number);
         let places = ValueIndexes {
-            machine: add_to_index(&mut self.machines, Some(locality.machine), number),
-            zone: add_to_index(&mut self.zones, Some(locality.zone), number),
-            data_hall: add_to_index(&mut self.halls, locality.data_hall, number),
-            data_center: add_to_index(&mut self.centers, locality.data_center, number),
+            machine: add_to_index(&mut self.indexes.machines, Some(locality.machine), number),
+            zone: add_to_index(&mut self.indexes.zones, Some(locality.zone), number),
+            data_hall: add_to_index(&mut self.indexes.halls, locality.data_hall, number),
+            data_center: add_to_index(&mut self.indexes.data_centers, locality.data_center, number),
         };
         self.processes.push_reserved(locality);
         self.places.push_reserved(places);
@@ -302,11 +331,7 @@ impl Drop for Map {
     fn drop(self) {
         let Map {
             processes: _,
-            ids: _,
-            machines: _,
-            zones: _,
-            halls: _,
-            centers: _,
+            indexes: _,
             places: _,
         } = self;
     }
@@ -346,60 +371,8 @@ impl<T: Drop> From<AllocFailed<T>> for MapFault {
     }
 }
 
-/// A copy of the values of a key with their processes, in memory of its own.
-///
-/// # Errors
-///
-/// Want of memory.
-fn copied(index: &IndexMap<Name, ProcSet>) -> Result<IndexMap<Name, ProcSet>, AllocError>
-    ensures { IfOk result (λ copy. copy.entries ≡ index.now.entries) }
-{
-    index.clone()
-}
-
-/// Two copied indices.
-type Copies = (IndexMap<Name, ProcSet>, IndexMap<Name, ProcSet>);
-
-/// Two of them at once.
-///
-/// # Errors
-///
-/// Want of memory.
-fn both_copied(
-    first: &IndexMap<Name, ProcSet>,
-    second: &IndexMap<Name, ProcSet>,
-) -> Result<Copies, AllocError>
-    ensures { IfOk result (λ copies. (copies.0.entries ≡ first.now.entries)
-        × (copies.1.entries ≡ second.now.entries)) }
-{
-    let first = copied(first)?;
-    let second = copied(second)?;
-    Ok((first, second))
-}
-
-/// Four of them at once, two by two.
-///
-/// # Errors
-///
-/// Want of memory.
-fn four_copied(
-    first: &IndexMap<Name, ProcSet>,
-    second: &IndexMap<Name, ProcSet>,
-    third: &IndexMap<Name, ProcSet>,
-    fourth: &IndexMap<Name, ProcSet>,
-) -> Result<(Copies, Copies), AllocError>
-    ensures first { IfOk result (λ copies. (copies.0.0.entries ≡ first.now.entries)
-        × (copies.0.1.entries ≡ second.now.entries)) }
-    ensures second { IfOk result (λ copies. (copies.1.0.entries ≡ third.now.entries)
-        × (copies.1.1.entries ≡ fourth.now.entries)) }
-{
-    let first = both_copied(first, second)?;
-    let second = both_copied(third, fourth)?;
-    Ok((first, second))
-}
-
 /// The processes kept for a value.
-fn group(index: &IndexMap<Name, ProcSet>, value: &Name) -> ProcSet
+fn group(index: &Index, value: &Name) -> ProcSet
     ensures { result ≡ group_of index.now.entries value.now }
 {
     match index.get(value) {
@@ -410,11 +383,7 @@ fn group(index: &IndexMap<Name, ProcSet>, value: &Name) -> ProcSet
 
 /// Puts a process into the set of its value, and says where that value stands; nothing where it has
 /// none.
-fn add_to_index(
-    index: &mut IndexMap<Name, ProcSet>,
-    value: Option<Name>,
-    p: ProcId,
-) -> Option<usize>
+fn add_to_index(index: &mut Index, value: Option<Name>, p: ProcId) -> Option<usize>
     requires room { 0 < spare index.old }
     requires small { p.0 < MOST_PROCESSES }
     ensures notes { AddsToIndex index.old.entries value p.0 index.new.entries }

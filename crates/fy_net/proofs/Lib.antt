@@ -3,6 +3,7 @@ pub mod Candidates
 pub mod Chaining
 pub mod Chains
 pub mod Clogs
+pub mod Copies
 pub mod Flights
 pub mod Keeping
 pub mod Numbers

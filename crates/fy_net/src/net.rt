@@ -1,22 +1,22 @@
 //! The network: its messages stand in a pool, in which each call finds its message at once.
-ghost use Rattle.std.specs.Prelude.{◌≡◌, ◌+◌, ◌^◌, ◌<◌, ◌≤◌, ℕ, max, length, Some, None, IfOk, IfErr, IfSome, OnOk, OnErr, IsOk, IsOkAnd, IsTrue};
+ghost use Rattle.std.specs.Prelude.{◌≡◌, ◌+◌, ◌^◌, ◌<◌, ◌≤◌, ℕ, max, length, Some, None, IfOk, IfErr, IfSome, OnOk, OnErr, IsOk, IsOkAnd};
 ghost use Rattle.std.specs.List.{All};
 ghost use Rattle.std.specs.FinSet as sets;
 ghost use Rattle.fy_locality.specs.declared.TheConstants.{MOST_PROCESSES};
 ghost use Rattle.fy_net.specs.declared.fault.NetFault.{NetFault};
 ghost use Rattle.fy_net.specs.declared.fault.NetFault.TheVariants.{NoMemory};
-ghost use Rattle.fy_net.specs.Net.{quiet, process_of, body_of, without_message, with_sent, without_acks_of, is_clogged, clogged_for, unclogged, is_free, first_free_of, reserve_refusal, take_refusal, lose_refusal, advance_refusal, NoneFreeBelow, IsNetState};
+ghost use Rattle.fy_net.specs.Net.{quiet, process_of, body_of, without_message, with_sent, without_acks_of, is_clogged, clogged_for, unclogged, first_free_of, reserve_refusal, take_refusal, lose_refusal, advance_refusal, NoneFreeBelow, IsNetState};
 
 use crate::clog::clog_lasts;
 use crate::limits::{LAST_TICK, MOST_IN_FLIGHT};
 use crate::pool::Pool;
 use crate::{Body, NetFault};
 use fy_locality::{ProcId, ProcSet};
-use std::alloc::Global;
+use std::alloc::{AllocError, Global};
 use std::marker::Model;
 
 /// The messages in flight between the processes and the client, which processes are clogged, and
-/// the time. `may_be_clogged` has everyone who was clogged and not unclogged since.
+/// the time. `may_be_clogged` has everyone who is clogged, and may have others whose clogs have ended.
 #[derive(Drop)]
 pub struct Net {
     pool: Pool,
@@ -57,6 +57,23 @@ impl Net {
             until,
             may_be_clogged: ProcSet::empty(),
             room: 0,
+        })
+    }
+
+    /// An equal network, in memory of its own.
+    ///
+    /// # Errors
+    ///
+    /// `AllocError` only if an allocation fails.
+    pub fn try_copy(&self, alloc: Global) -> Result<Net, AllocError>
+        ensures { IfOk result (λ copy. copy ≡ self.now) }
+    {
+        Ok(Net {
+            pool: self.pool.try_copy(alloc)?,
+            clock: self.clock,
+            until: Vec::from_slice(alloc, &self.until)?,
+            may_be_clogged: self.may_be_clogged,
+            room: self.room,
         })
     }
 
@@ -196,6 +213,14 @@ impl Net {
             }
         }
         clogged
+    }
+
+    /// Forgets whose clogs have ended, so that `all_clogged` asks nobody else from then on than who
+    /// is clogged now, or will be. Nothing that a network is seen as changes. Takes no memory.
+    pub fn forget_ended(&mut self)
+        ensures { self.new ≡ self.old }
+    {
+        self.may_be_clogged = self.all_clogged();
     }
 
     /// The time, in ticks from 0 to 2^40.

@@ -3,7 +3,7 @@ ghost use Rattle.std.specs.Prelude.{◌≡◌, ℕ, ◌+◌, ◌-◌, ◌^◌, �
 ghost use Rattle.std.specs.List.{All};
 ghost use Rattle.std.specs.Vec.{vec_capacity};
 ghost use Rattle.std.specs.FinSet as sets;
-ghost use Rattle.fy_net.specs.Net.{body_of, process_of, is_ack_from, without};
+ghost use Rattle.fy_net.specs.Net.{body_of, process_of, is_ack_from};
 ghost use Rattle.fy_net.specs.Places.{may_be_taken};
 ghost use Rattle.fy_net.specs.Slots.{there_of, vacated, IsThereAt};
 ghost use Rattle.fy_net.specs.declared.pool.Pool.{Pool};
@@ -76,6 +76,17 @@ fn lower(one: Option<usize>, other: Option<usize>) -> Option<usize>
     }
 }
 
+/// A copy of a list with as much room.
+fn copied_with_room<T: Copy>(alloc: Global, list: &Vec<T>) -> Result<Vec<T>, AllocError>
+    ensures items { IfOk result (λ copy. copy.items ≡ list.now.items) }
+    ensures len { IfOk result (λ copy. vec_len copy ≡ vec_len list.now) }
+    ensures capacity { IfOk result (λ copy. vec_capacity list.now ≤ vec_capacity copy) }
+{
+    let mut copy = Vec::with_capacity(alloc, list.capacity())?;
+    copy.extend_from_slice(list)?;
+    Ok(copy)
+}
+
 impl Pool {
     /// A pool with no message and no room.
     pub(crate) fn make(alloc: Global, processes: u32) -> Result<Pool, AllocError>
@@ -95,6 +106,25 @@ impl Pool {
             ends,
             processes,
             busy: ProcSet::empty(),
+        })
+    }
+
+    /// A pool with the same messages, and with as much room.
+    pub(crate) fn try_copy(&self, alloc: Global) -> Result<Pool, AllocError>
+        requires { IsPool self.now }
+        ensures pool { IfOk result IsPool }
+        ensures same { IfOk result (λ copy.
+            there_of copy.slots.items ≡ there_of self.now.slots.items) }
+        ensures like { IfOk result (KeepsRoom self.now) }
+    {
+        Ok(Pool {
+            slots: copied_with_room(alloc, &self.slots)?,
+            there: self.there,
+            sent: self.sent,
+            links: copied_with_room(alloc, &self.links)?,
+            ends: Vec::from_slice(alloc, &self.ends)?,
+            processes: self.processes,
+            busy: self.busy,
         })
     }
 

@@ -1,5 +1,5 @@
 //! The slots that messages stand in.
-ghost use Rattle.std.specs.Prelude.{◌≡◌, ℕ, IfSome, IfNone, None};
+ghost use Rattle.std.specs.Prelude.{◌≡◌, IfSome, IfNone, None};
 ghost use Rattle.fy_net.specs.Net.{Rises, body_of};
 ghost use Rattle.fy_net.specs.Slots.{messages_of, there_of, IsThereAt};
 

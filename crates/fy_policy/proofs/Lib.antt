@@ -1,5 +1,6 @@
 pub mod Answered
 pub mod Bounds
+pub mod Copies
 pub mod Counts
 pub mod Leaders
 pub mod Left

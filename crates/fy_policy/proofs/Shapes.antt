@@ -1,11 +1,10 @@
 -- the tree of a shape with several parts
-use Rattle.std.proofs.Common.{◌≡◌, List, [], ◌∷◌, ◌++◌, Global, Vec, Bool, true, false, ◌&&◌, ℕ, ◌<◌, ◌≤◌, Box, zero, suc, length, get_or, refl, sym, ap, subst, ◌∙◌, arith}
+use Rattle.std.proofs.Common.{◌≡◌, List, [], ◌∷◌, ◌++◌, Global, Vec, Bool, true, false, ◌&&◌, ℕ, ◌<◌, zero, suc, length, get_or, refl, sym, ap, subst, ◌∙◌, arith}
 use mathlib.Core.Former.{Count}
 use Rattle.std.specs.List.{list_all}
 use Rattle.std.proofs.lemmas.List.Folds.{list_all_at}
 use Rattle.fy_locality.specs.declared.locality.Locality.{Locality}
-use Rattle.fy_locality.specs.declared.key.Key.{Key}
-use Rattle.fy_policy.specs.declared.shape.Shape.{Shape, Across, And, And', Row_of-Shape, end_of-Shape, more_of-Shape, items-the_row-Shape, items_hidden-the_row-Shape-0}
+use Rattle.fy_policy.specs.declared.shape.Shape.{Shape, And, And', Row_of-Shape, end_of-Shape, more_of-Shape, items-the_row-Shape, items_hidden-the_row-Shape-0}
 use Rattle.fy_policy.specs.Sat.{satisfies, all_satisfy}
 use Rattle.fy_policy.specs.Shape.{tree_of, parts_of}
 use Rattle.fy_policy.specs.Tree.{Tree, every, Parts, none, part, AreWellFormed, IsWellFormed}

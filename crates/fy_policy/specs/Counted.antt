@@ -156,6 +156,13 @@ pub record IsBuiltFrom
   pub groups : HasGroups (length processes) node
   pub right : AreCountersOf processes at (λ _. false) node
 
+-- a counted tree of the same policy, whose groups and counts are right wherever the other's are
+pub record CountsAlike (old new : Node) : Type 0 where
+  pub tree : tree_of_node new ≡ tree_of_node old
+  pub groups : (n : ℕ) → HasGroups n old → HasGroups n new
+  pub right : (processes : List Locality) (at : ℕ → ℕ) (s : ℕ → Bool)
+      → AreCountersOf processes at s old → AreCountersOf processes at s new
+
 -- what a Tally is seen as: the processes of its map, its policy, and a set
 pub record Tallied : Type 0 where
   pub processes : List Locality

@@ -30,7 +30,13 @@ pub(crate) fn build_counters(
             };
             let counts = zeros(alloc, map.len() + 1)?;
             let inner = Box::new(alloc, inner)?;
-            Ok(Some(Node::Across(*wanted, *key, below, counts, inner)))
+            Ok(Some(Node::Across {
+                wanted: *wanted,
+                key: *key,
+                places: below,
+                counts,
+                inner,
+            }))
         }
         Shape::And(parts) => {
             let mut so_far = None;

@@ -1,11 +1,10 @@
 //! A policy's tree with counts, for every group of processes at once.
-ghost use Rattle.std.specs.Prelude.{is_some, IfOk, IsTrue, ◌≡◌, ◌+◌, ◌^◌, ◌<◌, ◌≤◌, ℕ, Bool, true, false, not, ◌||◌, nat_lt, List, length, slice_index_or};
+ghost use Rattle.std.specs.Prelude.{is_some, IfOk, IsTrue, ◌≡◌, ◌+◌, ◌^◌, ◌<◌, ◌≤◌, ℕ, Bool, true, false, ◌||◌, nat_lt, List, length, slice_index_or};
 ghost use Rattle.std.specs.FinSet as sets;
-ghost use Rattle.fy_locality.specs.declared.TheConstants.{MOST_PROCESSES};
 ghost use Rattle.fy_locality.specs.declared.locality.Locality.{Locality};
 ghost use Rattle.fy_locality.specs.Locality.{value_of};
 ghost use Rattle.fy_policy.specs.Sat.{satisfies};
-ghost use Rattle.fy_policy.specs.Counted.{tree_of_node, IsRepresentative, AreCountersOf, IsRecounted, recounted, group_at, within, toggled, toggled_by, CanToggle, CanToggleOne, HasGroup, HasGroups, AreCountersAt};
+ghost use Rattle.fy_policy.specs.Counted.{tree_of_node, IsRepresentative, AreCountersOf, IsRecounted, recounted, group_at, within, toggled, toggled_by, CanToggle, CanToggleOne, HasGroup, HasGroups, AreCountersAt, CountsAlike};
 
 use fy_locality::{Key, Map, ProcId, ProcSet, laws};
 use std::alloc::{AllocError, Global};
@@ -17,9 +16,17 @@ use std::alloc::{AllocError, Global};
 pub(crate) enum Node {
     /// For each group how many of its processes are in the set.
     One(Vec<u32>),
-    /// The count that is wanted, the key, for each process its group below, for each group of this
-    /// node how many of its groups below are satisfied, and the node below.
-    Across(u32, Key, Vec<u32>, Vec<u32>, Box<Node>),
+    /// So many groups of the node below, which parts processes by the key too.
+    Across {
+        /// How many of them have to be satisfied.
+        wanted: u32,
+        key: Key,
+        /// For each process its group below.
+        places: Vec<u32>,
+        /// For each group of this node how many of its groups below are satisfied.
+        counts: Vec<u32>,
+        inner: Box<Node>,
+    },
     /// Two policies at once.
     Both(Box<Node>, Box<Node>),
 }
@@ -59,7 +66,7 @@ pub(crate) fn is_satisfied_at(node: &Node, group: u32) -> bool
 {
     match node {
         Node::One(counts) => count_at(counts, group) > 0,
-        Node::Across(wanted, _, _, counts, _) => count_at(counts, group) >= *wanted,
+        Node::Across { wanted, counts, .. } => count_at(counts, group) >= *wanted,
         Node::Both(first, second) => is_satisfied_at(first, group)
             && is_satisfied_at(second, group),
     }
@@ -78,7 +85,13 @@ pub(crate) fn toggle(node: &mut Node, map: &Map, group: u32, p: ProcId, joins: b
 {
     match node {
         Node::One(counts) => recount(counts, group, !joins, joins),
-        Node::Across(_, key, places, counts, inner) => {
+        Node::Across {
+            key,
+            places,
+            counts,
+            inner,
+            ..
+        } => {
             laws::values_differ();
             laws::values_occur();
             let below = count_at(places, p.0);
@@ -114,7 +127,13 @@ pub(crate) fn satisfied_after_toggle(
 {
     match node {
         Node::One(counts) => some_after(count_at(counts, group), those, joins),
-        Node::Across(wanted, key, places, counts, inner) => {
+        Node::Across {
+            wanted,
+            key,
+            places,
+            counts,
+            inner,
+        } => {
             laws::processes_have_values();
             laws::values_differ();
             laws::values_occur();
@@ -162,7 +181,13 @@ pub(crate) fn satisfied_after_one_toggle(
 {
     match node {
         Node::One(counts) => some_after_one(count_at(counts, group), joins),
-        Node::Across(wanted, key, places, counts, inner) => {
+        Node::Across {
+            wanted,
+            key,
+            places,
+            counts,
+            inner,
+        } => {
             laws::processes_have_values();
             laws::values_differ();
             laws::values_occur();
@@ -267,6 +292,48 @@ pub(crate) fn representatives_by_key(
         below.push(representative(map, places, ProcId(p), key))?;
     }
     Ok(below)
+}
+
+/// A node with the same counts, in memory of its own.
+///
+/// # Errors
+///
+/// Want of memory.
+pub(crate) fn copied_node(alloc: Global, node: &Node) -> Result<Node, AllocError>
+    ensures { IfOk result (CountsAlike node.now) }
+{
+    match node {
+        Node::One(counts) => {
+            let counts = Vec::from_slice(alloc, counts)?;
+            Ok(Node::One(counts))
+        }
+        Node::Across {
+            wanted,
+            key,
+            places,
+            counts,
+            inner,
+        } => {
+            let places = Vec::from_slice(alloc, places)?;
+            let counts = Vec::from_slice(alloc, counts)?;
+            let inner = copied_node(alloc, inner)?;
+            let inner = Box::new(alloc, inner)?;
+            Ok(Node::Across {
+                wanted: *wanted,
+                key: *key,
+                places,
+                counts,
+                inner,
+            })
+        }
+        Node::Both(first, second) => {
+            let first = copied_node(alloc, first)?;
+            let first = Box::new(alloc, first)?;
+            let second = copied_node(alloc, second)?;
+            let second = Box::new(alloc, second)?;
+            Ok(Node::Both(first, second))
+        }
+    }
 }
 
 /// As many zeros as are asked for.

@@ -1,5 +1,5 @@
 //! Policies within the limits.
-ghost use Rattle.std.specs.Prelude.{◌≡◌, ◌≤◌, ◌↔◌, IsTrue};
+ghost use Rattle.std.specs.Prelude.{◌≡◌, ◌↔◌, IsTrue};
 ghost use Rattle.std.specs.FinSet as sets;
 ghost use Rattle.fy_policy.specs.Sat.{Sat, satisfies};
 ghost use Rattle.fy_policy.specs.Shape.{tree_of};

@@ -8,7 +8,8 @@ ghost use Rattle.fy_policy.specs.Sat.{satisfies};
 use crate::Policy;
 use crate::build_counters::build_counters;
 use crate::node::{
-    Node, is_satisfied_at, satisfied_after_one_toggle, satisfied_after_toggle, toggle, zeros,
+    Node, copied_node, is_satisfied_at, satisfied_after_one_toggle, satisfied_after_toggle, toggle,
+    zeros,
 };
 use fy_locality::{Map, ProcId, ProcSet};
 use std::alloc::{AllocError, Global};
@@ -91,6 +92,25 @@ impl Tally {
             policy: policy.try_copy(alloc)?,
             node,
             set: ProcSet::empty(),
+        })
+    }
+
+    /// An equal tally over an equal map, which the copy's holder shares with it. Nothing of it is
+    /// shared with this tally.
+    ///
+    /// # Errors
+    ///
+    /// Want of memory.
+    pub fn try_copy_shared(&self, alloc: Global, map: &Arc<Map>) -> Result<Tally, AllocError>
+        requires { arc_value map.now ≡ self.now.processes }
+        ensures { IfOk result (λ copy. copy ≡ self.now) }
+    {
+        Ok(Tally {
+            map: Arc::try_clone(map)?,
+            everyone: self.everyone,
+            policy: self.policy.try_copy(alloc)?,
+            node: copied_node(alloc, &self.node)?,
+            set: self.set,
         })
     }
 

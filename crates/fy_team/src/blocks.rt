@@ -1,7 +1,6 @@
 //! For each block of records who has marked one of them, so that a heal passes over the blocks that
 //! a process has no mark in.
 ghost use Rattle.std.specs.Prelude.{◌≡◌, ◌<◌, ◌≤◌, ◌*◌, ◌+◌, ℕ, length, OnOk, OnErr};
-ghost use Rattle.std.specs.FinSet as sets;
 ghost use Rattle.fy_team.specs.Index.{set_of_block};
 
 use fy_locality::ProcSet;

@@ -1,6 +1,7 @@
 //! The numbers of a team's records.
-ghost use Rattle.std.specs.Prelude.{◌≡◌, [], ◌∷◌, ◌++◌, OnOk, OnErr, IfOk};
+ghost use Rattle.std.specs.Prelude.{◌≡◌, [], ◌∷◌, ◌++◌, OnOk, OnErr};
 
+use fy_locality::TryCopy;
 use std::alloc::{AllocError, Global};
 use std::marker::Model;
 
@@ -16,6 +17,13 @@ impl Model for Numbers {
     ghost Value = { List ℕ };
 
     ghost view = { λ n. n.numbers.items };
+}
+
+impl TryCopy for Numbers {
+    fn try_copy(&self, alloc: Global) -> Result<Numbers, AllocError> {
+        let numbers = Vec::from_slice(alloc, &self.numbers)?;
+        Ok(Numbers { numbers })
+    }
 }
 
 impl Numbers {

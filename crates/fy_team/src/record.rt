@@ -6,7 +6,8 @@ ghost use Rattle.fy_team.specs.Counts.{CountsMissing, WasMissing, missing_among,
 
 use crate::Members;
 use fy_disk::Payload;
-use fy_locality::{MOST_PROCESSES, ProcId, ProcSet};
+use fy_locality::{MOST_PROCESSES, ProcId, ProcSet, TryCopy};
+use std::alloc::{AllocError, Global};
 use std::marker::Model;
 
 /// A record: the number of its team, its payload, the processes that have marked it, how many
@@ -46,6 +47,18 @@ impl Drop for KeptRecord {
             missing: _,
             acked: _,
         } = self;
+    }
+}
+
+impl TryCopy for KeptRecord {
+    fn try_copy(&self, alloc: Global) -> Result<KeptRecord, AllocError> {
+        Ok(KeptRecord {
+            team: self.team,
+            payload: self.payload.try_copy(alloc)?,
+            marks: self.marks,
+            missing: self.missing,
+            acked: self.acked,
+        })
     }
 }
 

@@ -3,7 +3,8 @@ ghost use Rattle.std.specs.Prelude.{◌≡◌, true, false};
 ghost use Rattle.fy_team.specs.Teams.{is_among, with_member};
 
 use crate::Members;
-use fy_locality::ProcId;
+use fy_locality::{ProcId, TryCopy};
+use std::alloc::{AllocError, Global};
 use std::marker::Model;
 
 /// A team: its members, and the number of its policy.
@@ -27,6 +28,15 @@ impl Drop for KeptTeam {
             members: _,
             policy: _,
         } = self;
+    }
+}
+
+impl TryCopy for KeptTeam {
+    fn try_copy(&self, alloc: Global) -> Result<KeptTeam, AllocError> {
+        Ok(KeptTeam {
+            members: self.members.try_copy(alloc)?,
+            policy: self.policy,
+        })
     }
 }
 

@@ -16,9 +16,9 @@ use crate::record::KeptRecord;
 use crate::team::KeptTeam;
 use crate::{Members, TeamFault, laws};
 use fy_disk::Payload;
-use fy_locality::{MOST_PROCESSES, Map, ProcId, ProcSet};
+use fy_locality::{MOST_PROCESSES, Map, ProcId, ProcSet, try_copy_each};
 use fy_policy::Policy;
-use std::alloc::Global;
+use std::alloc::{AllocError, Global};
 use std::marker::Model;
 
 /// Teams, the records that were begun for them, and which processes have marked each record. Teams
@@ -79,6 +79,23 @@ impl Teams {
             marked: Vec::new(alloc),
             member_sets: Vec::new(alloc),
         }
+    }
+
+    /// Equal teams with equal records, in memory of their own.
+    ///
+    /// # Errors
+    ///
+    /// `AllocError` only if an allocation fails.
+    pub fn try_copy(&self, alloc: Global) -> Result<Teams, AllocError>
+        ensures { IfOk result (λ copy. copy ≡ self.now) }
+    {
+        Ok(Teams {
+            teams: try_copy_each(alloc, &self.teams)?,
+            records: try_copy_each(alloc, &self.records)?,
+            numbers: try_copy_each(alloc, &self.numbers)?,
+            marked: Vec::from_slice(alloc, &self.marked)?,
+            member_sets: Vec::from_slice(alloc, &self.member_sets)?,
+        })
     }
 
     /// Forms a team that names the policy with this number, and returns the team's number.

@@ -98,7 +98,7 @@ pub record IsBorne (dead : Losses) (loss : Loss) (found : Borne) : Type 0 where
   pub machines : IsGroup dead Machine loss found.machines
   pub zones : IsGroup dead Zone loss found.zones
   pub halls : IsGroup dead DataHall loss found.halls
-  pub centers : IsGroup dead DataCenter loss found.centers
+  pub data_centers : IsGroup dead DataCenter loss found.data_centers
 
 -- what a cluster bears of each kind of loss, and who is left
 pub record IsFindings (dead : Losses) (found : Findings) : Type 0 where

@@ -24,7 +24,7 @@ pub struct Borne {
     pub machines: Group,
     pub zones: Group,
     pub halls: Group,
-    pub centers: Group,
+    pub data_centers: Group,
 }
 
 /// All that a cluster bears, and who is left in it.
@@ -98,7 +98,7 @@ pub(crate) fn borne_of(
         machines: group_of(alloc, dead, map, Key::Machine, loss)?,
         zones: group_of(alloc, dead, map, Key::Zone, loss)?,
         halls: group_of(alloc, dead, map, Key::DataHall, loss)?,
-        centers: group_of(alloc, dead, map, Key::DataCenter, loss)?,
+        data_centers: group_of(alloc, dead, map, Key::DataCenter, loss)?,
     })
 }
 

@@ -1,5 +1,5 @@
 //! How many processes it takes at least to satisfy a policy, counted up the policy's tree.
-ghost use Rattle.std.specs.Prelude.{◌≡◌, ◌≤◌, IfOk, List};
+ghost use Rattle.std.specs.Prelude.{◌≤◌, IfOk, List};
 ghost use Rattle.std.specs.FinSet as sets;
 ghost use Rattle.fy_locality.specs.declared.locality.Locality.{Locality};
 ghost use Rattle.fy_decide.specs.Safety.{everyone};

@@ -105,7 +105,7 @@ fn write_borne(
     text.push_str(",")?;
     write_group(text, case.map, &borne.halls)?;
     text.push_str(",")?;
-    write_group(text, case.map, &borne.centers)?;
+    write_group(text, case.map, &borne.data_centers)?;
     text.push_str("]}")
 }
 

@@ -96,7 +96,7 @@ fn write_borne(
     write_group(text, case.map, &borne.machines)?;
     write_group(text, case.map, &borne.zones)?;
     write_group(text, case.map, &borne.halls)?;
-    write_group(text, case.map, &borne.centers)
+    write_group(text, case.map, &borne.data_centers)
 }
 
 /// What a policy bears: the end of its line.

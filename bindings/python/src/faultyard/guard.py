@@ -341,8 +341,8 @@ class Guard:
     def try_copy(self) -> Guard:
         """A second guard with the same journal, to look ahead; each is closed.
 
-        What is done with one changes nothing of the other. The acts of the journal are made once
-        more, so the call takes as long as they took. Over the pipe it raises `NotOffered`.
+        What is done with one changes nothing of the other. The state is copied, and no act of the
+        journal is made again. Over the pipe it raises `NotOffered`.
         """
         with self._lock:
             transport = self._at_work().try_copy()

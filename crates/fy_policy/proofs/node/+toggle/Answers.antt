@@ -17,7 +17,7 @@ returns-then-has_key-clause-right t c = λ at s it can.
     let fits : group_at c.in-Across.places.items c.args.p.0 ≤ length c.args.map.now = place-fits c.args.map.now at s c.args.p.0 c.args.joins c.args.group it.few can.known can.here it.inside can.was c.args.node.now _ _ c.in-Across.places c.in-Across.counts c.in-Across.inner c.in-Across.is it.right in
     let right' =
     c.toggle.ensures.right (group_at c.in-Across.places.items) s (record { few = it.few; right = (subst (AreCountersOf c.args.map.now (group_at c.in-Across.places.items) s) (sym c.deref_mut-in-Across.ensures.value) below); inside = (subst (λ k. k ≤ length c.args.map.now) (sym place) fits) }) (record { known = can.known; here = sym place; was = can.was }) in
-    across-toggled c.args.map.now at s c.args.p.0 c.args.joins c.args.group it.few can.known can.here it.inside can.was c.args.node.now c.in-Across.field-0 c.in-Across.key c.in-Across.places c.in-Across.counts c.in-Across.inner c.in-Across.is it.right
+    across-toggled c.args.map.now at s c.args.p.0 c.args.joins c.args.group it.few can.known can.here it.inside can.was c.args.node.now c.in-Across.wanted c.in-Across.key c.in-Across.places c.in-Across.counts c.in-Across.inner c.in-Across.is it.right
     c.values_differ.ensures c.values_occur.ensures (with_items c.in-Across.counts c.recount-then-has_key.new.counts) (with_value c.in-Across.inner c.toggle.new.node) c.is_satisfied_at-before.result c.is_satisfied_at-after.result
     (sym c.has_key.ensures ∙ c.if-has_key.true)
     (read-below c.args.map.now (group_at c.in-Across.places.items) s c.deref-in-Across.result.now c.in-Across.inner.value c.count_at-below.result _ c.is_satisfied_at-before.result c.is_satisfied_at-before.ensures c.deref-in-Across.ensures place below fits)
@@ -33,7 +33,7 @@ returns-else-has_key-clause-right t c = λ at s it can.
     let fits : group_at c.in-Across.places.items c.args.p.0 ≤ length c.args.map.now = place-fits c.args.map.now at s c.args.p.0 c.args.joins c.args.group it.few can.known can.here it.inside can.was c.args.node.now _ _ c.in-Across.places c.in-Across.counts c.in-Across.inner c.in-Across.is it.right in
     let right' =
     c.toggle.ensures.right (group_at c.in-Across.places.items) s (record { few = it.few; right = (subst (AreCountersOf c.args.map.now (group_at c.in-Across.places.items) s) (sym c.deref_mut-in-Across.ensures.value) below); inside = (subst (λ k. k ≤ length c.args.map.now) (sym place) fits) }) (record { known = can.known; here = sym place; was = can.was }) in
-    across-keyless c.args.map.now at s c.args.p.0 c.args.joins c.args.group it.few can.known can.here it.inside can.was c.args.node.now c.in-Across.field-0 c.in-Across.key c.in-Across.places c.in-Across.counts c.in-Across.inner c.in-Across.is it.right
+    across-keyless c.args.map.now at s c.args.p.0 c.args.joins c.args.group it.few can.known can.here it.inside can.was c.args.node.now c.in-Across.wanted c.in-Across.key c.in-Across.places c.in-Across.counts c.in-Across.inner c.in-Across.is it.right
     (with_value c.in-Across.inner c.toggle.new.node) (sym c.has_key.ensures ∙ c.if-has_key.false) (c.toggle.ensures.tree ∙ ap tree_of_node c.deref_mut-in-Across.ensures.value) right'
 
 pub returns-in-Both-clause-right : goal.returns-in-Both-clause-right

@@ -1,4 +1,4 @@
-use Rattle.std.proofs.Common.{◌||◌, ◌&&◌, not, eqb, sym, ap, ◌∙◌, arith}
+use Rattle.std.proofs.Common.{◌||◌, eqb, ap, ◌∙◌}
 use Rattle.std.specs.FinSet as sets
 use Rattle.fy_team.proofs.Counting.{has_inserted, has_removed}
 use Rattle.fy_team.proofs.forming.swap_in.Goals as goal

@@ -17,5 +17,5 @@ returns c =
       machines = c.in_ok-group_of.ensures;
       zones = c.in_ok-group_of-2.ensures;
       halls = c.in_ok-group_of-3.ensures;
-      centers = c.in_ok-group_of-4.ensures;
+      data_centers = c.in_ok-group_of-4.ensures;
     }

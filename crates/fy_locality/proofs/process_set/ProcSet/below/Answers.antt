@@ -1,5 +1,5 @@
-use Rattle.std.proofs.Common.{◌∙◌, ap, arith}
-use Rattle.fy_locality.proofs.Lowest.{lowest_one, contains_lowest}
+use Rattle.std.proofs.Common.{arith}
+use Rattle.fy_locality.proofs.Lowest.{contains_lowest}
 use Rattle.fy_locality.proofs.Words.{AreWords-zeros}
 use Rattle.fy_locality.proofs.process_set.ProcSet.below.Goals as goal
 

@@ -1,4 +1,3 @@
-use Rattle.std.proofs.Common.{◌≡◌, ℕ}
 use Rattle.fy_locality.proofs.Lowest.{HasLowest}
 use Rattle.fy_locality.proofs.process_set.ProcSet.below.Given as goal
 

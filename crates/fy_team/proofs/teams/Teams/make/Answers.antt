@@ -1,7 +1,7 @@
 use Rattle.std.proofs.Common.{◌<◌, ◌≤◌, [], length, sym, subst, arith}
 use Rattle.std.proofs.lemmas.List.Elements.{All-nil}
 use Rattle.fy_team.specs.Teams.{Team, Record, AreMembers}
-use Rattle.fy_team.specs.Counts.{Counted, TeamsInvariant, CountsMissingIn}
+use Rattle.fy_team.specs.Counts.{TeamsInvariant, CountsMissingIn}
 use Rattle.fy_team.specs.Index.{TeamsHeld}
 use Rattle.fy_team.specs.declared.limits.TheConstants.{MOST_BYTES}
 use Rattle.fy_team.proofs.Kept.{TeamsKept-none, SetsRight-none}

@@ -1,4 +1,0 @@
-use Rattle.fy_cluster.proofs.machine.Machine.reply_to_kill.Given as goal
-
-abbrev pub ghost-kill_process : goal.ghost-kill_process
-ghost-kill_process g a = g.point

@@ -1,0 +1,5 @@
+use Rattle.fy_grants.proofs.book.Book.try_copy.Goals as goal
+
+pub invariant_of-result : goal.invariant_of-result
+invariant_of-result c =
+    rw (c.in_ok-try_copy.ensures, c.in_ok-copied_grants.ensures, c.deref.ensures.value, c.in_ok-from_slice.ensures.items, c.deref-2.ensures.value) c.self.invariant
