@@ -10,7 +10,9 @@ use Rattle.fy_judge.specs.declared.stop.JudgeFault.{JudgeFault}
 use Rattle.fy_judge.specs.declared.stop.JudgeStop.TheVariants.{TooLong, Line, Read as StopRead, Write as StopWrite}
 use Rattle.fy_judge.specs.declared.input.TakeFault.{TakeFault}
 use Rattle.fy_judge.specs.declared.input.TakeFault.TheVariants.{Fault, NoMemory as LineNoMemory}
-use Rattle.fy_judge.specs.JudgeViews.{IfFault, line_stop_of}
+use Rattle.fy_lines.specs.declared.input.InputFault.{InputFault}
+use Rattle.fy_lines.specs.declared.input.InputFault.TheVariants as input
+use Rattle.fy_judge.specs.JudgeViews.{IfFault, line_stop_of, input_stop_of}
 use Rattle.fy_decide.specs.Safety.{first_unmet}
 use Rattle.fy_judge.specs.JudgeLines.{Input, empty_input, parse_line, Step, FollowLines}
 use Rattle.fy_judge.specs.declared.judge.TheConstants.{MOST_JUDGE_BYTES}
@@ -82,3 +84,11 @@ unmet_refused NoMemory i r refused memory is bytes faultless = tt
 pub known_long : (o : Option (List ℕ)) → IfSome o (λ xs. MOST_JUDGE_BYTES < length xs) → IfSome o (λ xs. Judges xs (Err TooLong))
 known_long None h = tt
 known_long (Some xs) h = too_long h
+
+-- the stop for an input that is not read whole is its refusal
+pub input_refused : (o : Option (List ℕ)) (fault : InputFault)
+    → (fault ≡ input.TooLong → IfSome o (λ xs. MOST_JUDGE_BYTES < length xs))
+    → IfJudgeRefusal (input_stop_of fault) (IfSome o (λ xs. Judges xs (Err (input_stop_of fault))))
+input_refused o input.TooLong long = known_long o (long refl)
+input_refused o input.Reader long = tt
+input_refused o input.NoMemory long = tt

@@ -52,9 +52,9 @@ known word = if bytes_eq word (codes "-") then None else Some word
 abbrev pub parse_arguments : Option Keyword → List (List ℕ) → Option ParsedLine
 parse_arguments (Some KeywordPolicy) (word ∷ []) = if is_text word then Some (policy word) else None
 parse_arguments (Some (KeywordAsk loss)) (word ∷ []) = if is_name word then Some (ask loss word) else None
-parse_arguments (Some KeywordProcess) (id ∷ machine ∷ zone ∷ hall ∷ center ∷ []) =
-    if are_names (locality_of id machine zone (known hall) (known center))
-    then Some (process (locality_of id machine zone (known hall) (known center))) else None
+parse_arguments (Some KeywordProcess) (id ∷ machine ∷ zone ∷ hall ∷ data_center ∷ []) =
+    if are_names (locality_of id machine zone (known hall) (known data_center))
+    then Some (process (locality_of id machine zone (known hall) (known data_center))) else None
 parse_arguments _ _ = None
 
 -- what words say, the first of which is the keyword

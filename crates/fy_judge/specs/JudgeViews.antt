@@ -3,10 +3,12 @@ use Rattle.std.specs.Prelude.{◌≢◌, ℕ, List}
 use Rattle.std.specs.List.{AllByRecursion}
 use Rattle.fy_judge.specs.declared.stop.JudgeFault.{JudgeFault}
 use Rattle.fy_judge.specs.declared.stop.JudgeStop.{JudgeStop}
-use Rattle.fy_judge.specs.declared.stop.JudgeStop.TheVariants.{Line, NoMemory as StopNoMemory}
+use Rattle.fy_judge.specs.declared.stop.JudgeStop.TheVariants.{TooLong, Line, Read, NoMemory as StopNoMemory}
 use Rattle.fy_judge.specs.declared.input.TakeFault.{TakeFault}
 use Rattle.fy_judge.specs.declared.input.TakeFault.TheVariants.{Fault, NoMemory}
 use Rattle.fy_judge.specs.declared.stop.JudgeFault.TheVariants.{Policy, Twice, TooMany}
+use Rattle.fy_lines.specs.declared.input.InputFault.{InputFault}
+use Rattle.fy_lines.specs.declared.input.InputFault.TheVariants.{TooLong as input_too_long, Reader, NoMemory as input_no_memory}
 use Rattle.fy_policy.specs.declared.fault.PolicyFault.{PolicyFault}
 use Rattle.fy_policy.specs.declared.fault.PolicyFault.TheVariants.{NoMemory as no_memory}
 use Rattle.fy_locality.specs.declared.map.MapFault.{MapFault}
@@ -36,3 +38,9 @@ process_fault_of _ = NoMemory
 abbrev pub line_stop_of : ℕ → TakeFault → JudgeStop
 line_stop_of line (Fault fault) = Line line fault
 line_stop_of line NoMemory = StopNoMemory
+
+-- the stop for an input that is not read whole
+abbrev pub input_stop_of : InputFault → JudgeStop
+input_stop_of input_too_long = TooLong
+input_stop_of Reader = Read
+input_stop_of input_no_memory = StopNoMemory

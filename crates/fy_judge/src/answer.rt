@@ -1,6 +1,5 @@
 //! The answers to the asks.
-ghost use Rattle.std.specs.Prelude.{◌≡◌, ◌<◌, ◌++◌, ℕ, List, length, OnOk, IfOk};
-ghost use Rattle.std.specs.FinSet as sets;
+ghost use Rattle.std.specs.Prelude.{◌≡◌, ◌<◌, List, length, IfOk};
 ghost use Rattle.fy_judge.specs.declared.line.Ask.{Ask};
 ghost use Rattle.fy_judge.specs.JudgeLines.{Input};
 ghost use Rattle.fy_judge.specs.JudgeTexts.{answer_of, answer_line, answers_text, granted_after};

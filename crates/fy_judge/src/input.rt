@@ -1,7 +1,7 @@
 //! What the lines so far say.
 ghost use Rattle.std.specs.Prelude.{◌≡◌, ◌≢◌, Some, OnOk, IfErr};
 ghost use Rattle.fy_judge.specs.JudgeLines.{policy, process, ask, parse_line, empty_input, Step, IsInput};
-ghost use Rattle.fy_judge.specs.JudgeViews.{IfFault, policy_fault_of, process_fault_of};
+ghost use Rattle.fy_judge.specs.JudgeViews.{IfFault, process_fault_of};
 
 use crate::line::{Ask, Keyword, asked_id, first_word, keyword_in, policy_text, process_of};
 use crate::stop::JudgeFault;
@@ -26,6 +26,24 @@ impl<T: Drop> From<AllocFailed<T>> for TakeFault {
 
     fn from(_: AllocFailed<T>) -> TakeFault {
         TakeFault::NoMemory
+    }
+}
+
+impl From<PolicyFault> for TakeFault {
+    ghost use Rattle.fy_judge.specs.JudgeViews.{policy_fault_of};
+    ghost use Rattle.std.specs.Prelude.{◌≡◌};
+
+    ghost from_gives = { λ fault taken. taken ≡ policy_fault_of fault };
+
+    fn from(fault: PolicyFault) -> TakeFault {
+        match fault {
+            PolicyFault::NoMemory => TakeFault::NoMemory,
+            PolicyFault::TooLong
+            | PolicyFault::Syntax
+            | PolicyFault::Count
+            | PolicyFault::Depth
+            | PolicyFault::Nodes => TakeFault::Fault(JudgeFault::Policy),
+        }
     }
 }
 
@@ -137,10 +155,7 @@ impl Input {
         if !self.map.is_empty() {
             return Err(TakeFault::Fault(JudgeFault::Syntax));
         }
-        let policy = match read_policy(alloc, text) {
-            Ok(policy) => policy,
-            Err(fault) => return Err(policy_fault(fault)),
-        };
+        let policy = read_policy(alloc, text)?;
         if self.policies.len() >= MOST_POLICIES {
             return Err(TakeFault::Fault(JudgeFault::TooMany));
         }
@@ -180,20 +195,6 @@ impl Input {
         };
         self.asks.push(Ask { loss, process })?;
         Ok(())
-    }
-}
-
-/// A policy's fault as a fault of its line.
-fn policy_fault(fault: PolicyFault) -> TakeFault
-    ensures { result ≡ policy_fault_of fault }
-{
-    match fault {
-        PolicyFault::NoMemory => TakeFault::NoMemory,
-        PolicyFault::TooLong
-        | PolicyFault::Syntax
-        | PolicyFault::Count
-        | PolicyFault::Depth
-        | PolicyFault::Nodes => TakeFault::Fault(JudgeFault::Policy),
     }
 }
 

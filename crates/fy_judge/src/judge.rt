@@ -1,5 +1,5 @@
 //! The engine behind `faultyard judge`: bytes in, answers out.
-ghost use Rattle.std.specs.Prelude.{◌≡◌, ◌≤◌, ◌≢◌, ◌+◌, ℕ, List, length, IfOk, IfErr, OnErr, IfSome, true, ◌<◌};
+ghost use Rattle.std.specs.Prelude.{◌≡◌, ◌≤◌, ◌≢◌, ◌+◌, ℕ, List, length, IfOk, IfErr, IfSome, true, ◌<◌};
 ghost use Rattle.std.specs.Io.KnownBytes.{Appends};
 ghost use Rattle.fy_lines.specs.Prefixes.{AppendsProperPrefix};
 ghost use Rattle.fy_lines.specs.Readings.{ReadsAtMost};
@@ -11,7 +11,7 @@ use crate::answer::answer_asks;
 use crate::input::{Input, TakeFault};
 use crate::stop::{JudgeFault, JudgeStop};
 use fy_decide::{DeadBook, MakeFault};
-use fy_lines::{InputFault, OutputFault, first_line, read_limited, write_bytes};
+use fy_lines::{first_line, read_limited, write_bytes};
 use std::alloc::Global;
 use std::io::{Read, Write};
 
@@ -73,10 +73,7 @@ fn answers(alloc: Global, input: &Input) -> Result<Vec<u8>, JudgeStop>
     ensures no_other { IfErr result (λ stop. (stop ≢ JudgeStop.Read) × (stop ≢ JudgeStop.Write)) }
 {
     match DeadBook::make(alloc, input.map(), input.policies()) {
-        Ok(mut dead) => match answer_asks(alloc, input, &mut dead) {
-            Ok(text) => Ok(text),
-            Err(_) => Err(JudgeStop::NoMemory),
-        },
+        Ok(mut dead) => Ok(answer_asks(alloc, input, &mut dead)?),
         Err(fault) => Err(dead_book_stop(fault)),
     }
 }
@@ -88,13 +85,8 @@ fn answer_bytes(alloc: Global, bytes: &[u8]) -> Result<Vec<u8>, JudgeStop>
     ensures refused { IfErr result (λ stop. IfJudgeRefusal stop (Judges bytes.now (Err stop))) }
     ensures no_other { IfErr result (λ stop. (stop ≢ JudgeStop.Read) × (stop ≢ JudgeStop.Write)) }
 {
-    match read_lines(alloc, bytes) {
-        Ok(input) => match answers(alloc, &input) {
-            Ok(text) => Ok(text),
-            Err(stop) => Err(stop),
-        },
-        Err(stop) => Err(stop),
-    }
+    let input = read_lines(alloc, bytes)?;
+    answers(alloc, &input)
 }
 
 /// Reads policies, processes and asks from the reader to its end, and writes a line for each ask.
@@ -132,18 +124,8 @@ pub fn run_judge<R: Read, W: Write>(
     ensures no_further { ReadsAtMost (R.remaining reader.old) (R.remaining reader.new)
         (MOST_JUDGE_BYTES + 1) }
 {
-    let bytes = match read_limited(alloc, reader, MOST_JUDGE_BYTES) {
-        Ok(bytes) => bytes,
-        Err(InputFault::TooLong) => return Err(JudgeStop::TooLong),
-        Err(InputFault::Reader) => return Err(JudgeStop::Read),
-        Err(InputFault::NoMemory) => return Err(JudgeStop::NoMemory),
-    };
-    let text = match answer_bytes(alloc, &bytes) {
-        Ok(text) => text,
-        Err(stop) => return Err(stop),
-    };
-    match write_bytes(writer, &text) {
-        Ok(()) => Ok(true),
-        Err(OutputFault) => Err(JudgeStop::Write),
-    }
+    let bytes = read_limited(alloc, reader, MOST_JUDGE_BYTES)?;
+    let text = answer_bytes(alloc, &bytes)?;
+    write_bytes(writer, &text)?;
+    Ok(true)
 }

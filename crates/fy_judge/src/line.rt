@@ -1,6 +1,6 @@
 //! What a line of `judge`'s input says, from its words. No fault is named here: where a word isn't
 //! what it has to be there is no answer, and the line is then refused in `input.rt`.
-ghost use Rattle.std.specs.Prelude.{◌≡◌, ◌∷◌, ◌++◌, [], ℕ, length, MatchOption, IfSome, IfNone, IsOk, IfOk, IsTrue, true, nat_lt, ◌↔◌};
+ghost use Rattle.std.specs.Prelude.{◌≡◌, ◌∷◌, ◌++◌, [], length, MatchOption, IfSome, IfNone, IsOk, IfOk, IsTrue, true, nat_lt, ◌↔◌};
 ghost use Rattle.std.specs.List.{list_all};
 ghost use Rattle.std.specs.Option.{option_map, option_map_or};
 ghost use Rattle.fy_locality.specs.Name.{is_name};
@@ -144,20 +144,20 @@ fn located(
     machine: &[u8],
     zone: &[u8],
     hall: &[u8],
-    center: &[u8],
+    data_center: &[u8],
 ) -> Result<Locality, BadName>
     ensures accepted { IsOk result
-        ↔ IsTrue
-        (are_names (locality_of id.now machine.now zone.now (known hall.now) (known center.now))) }
-    ensures value { IfOk result
-        (λ l. l ≡ locality_of id.now machine.now zone.now (known hall.now) (known center.now)) }
+        ↔ IsTrue (are_names (locality_of id.now machine.now zone.now
+        (known hall.now) (known data_center.now))) }
+    ensures value { IfOk result (λ l. l ≡ locality_of id.now machine.now zone.now
+        (known hall.now) (known data_center.now)) }
 {
     Ok(Locality {
         process: Name::from_bytes(id)?,
         machine: Name::from_bytes(machine)?,
         zone: Name::from_bytes(zone)?,
         data_hall: optional_name(hall)?,
-        data_center: optional_name(center)?,
+        data_center: optional_name(data_center)?,
     })
 }
 
@@ -181,12 +181,13 @@ pub(crate) fn policy_text(rest: &[u8]) -> Option<&str>
 
 /// A process, where the words are its five.
 pub(crate) fn process_of(rest: &[u8]) -> Option<Locality>
-    ensures { option_map process result ≡ parse_arguments (Some Keyword.Process) (tokens_of rest.now) }
+    ensures { option_map process result
+        ≡ parse_arguments (Some Keyword.Process) (tokens_of rest.now) }
 {
-    let Some((id, machine, zone, hall, center)) = five_words(rest) else {
+    let Some((id, machine, zone, hall, data_center)) = five_words(rest) else {
         return None;
     };
-    match located(id, machine, zone, hall, center) {
+    match located(id, machine, zone, hall, data_center) {
         Ok(locality) => Some(locality),
         Err(BadName) => None,
     }

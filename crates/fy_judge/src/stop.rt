@@ -1,4 +1,8 @@
 //! Why `judge` stops before its work is done.
+ghost use Rattle.std.specs.Prelude.{◌≡◌};
+
+use fy_lines::{InputFault, OutputFault};
+use std::alloc::AllocError;
 
 /// What is wrong with a line of `judge`'s input, in the order in which a line's faults are sought;
 /// `PolicyUnmet` comes after every line is faultless.
@@ -31,4 +35,38 @@ pub enum JudgeStop {
     Write,
     /// There is no memory for the work.
     NoMemory,
+}
+
+impl From<InputFault> for JudgeStop {
+    ghost use Rattle.fy_judge.specs.JudgeViews.{input_stop_of};
+
+    ghost from_gives = { λ fault stop. stop ≡ input_stop_of fault };
+
+    fn from(fault: InputFault) -> JudgeStop {
+        match fault {
+            InputFault::TooLong => JudgeStop::TooLong,
+            InputFault::Reader => JudgeStop::Read,
+            InputFault::NoMemory => JudgeStop::NoMemory,
+        }
+    }
+}
+
+impl From<OutputFault> for JudgeStop {
+    ghost use Rattle.fy_judge.specs.declared.stop.JudgeStop.TheVariants.{Write};
+
+    ghost from_gives = { λ _ stop. stop ≡ Write };
+
+    fn from(_fault: OutputFault) -> JudgeStop {
+        JudgeStop::Write
+    }
+}
+
+impl From<AllocError> for JudgeStop {
+    ghost use Rattle.fy_judge.specs.declared.stop.JudgeStop.TheVariants.{NoMemory};
+
+    ghost from_gives = { λ _ stop. stop ≡ NoMemory };
+
+    fn from(_refused: AllocError) -> JudgeStop {
+        JudgeStop::NoMemory
+    }
 }
