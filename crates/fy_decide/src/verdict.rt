@@ -28,8 +28,8 @@ struct Case<'a> {
         → sets.contains (targeted targets.now) q ≡ true → q < length dead.now.processes },
 }
 
-// Of one process each question is a few instructions, which a call would double: so all are put into
-// the function that finds the verdict.
+// Of one process each question is a few instructions, which a call would double: so all are put
+// into the function that finds the verdict.
 impl Case<'_> {
     /// The least target that no grant of the actor with all these kinds covers. Of a lone target no
     /// set is made.
@@ -211,8 +211,9 @@ impl Case<'_> {
     }
 }
 
-/// Whether a rule that bars one kind of kill bars this one too, whoever asks: without a target there
-/// is none for any kind, and where too many would be destroyed, they are for each kind that destroys.
+/// Whether a rule that bars one kind of kill bars this one too, whoever asks: without a target
+/// there is none for any kind, and where too many would be destroyed, they are for each kind that
+/// destroys.
 fn bars_too(rule: Rule, kind: Kind) -> bool
     ensures { IsTrue result → (situation : Situation) (other : Kind) (s : ℕ → Bool)
         → bar situation (Striking other) s ≡ Some rule

@@ -112,8 +112,8 @@ impl Cover {
         Some(set.difference(covered))
     }
 
-    /// Whether a grant with this kind covers a process, where one kind is asked about; else nothing,
-    /// as of [`Cover::uncovered_in`]. Makes no set.
+    /// Whether a grant with this kind covers a process, where one kind is asked about; else
+    /// nothing, as of [`Cover::uncovered_in`]. Makes no set.
     pub(crate) fn covers(&self, kinds: KindSet, p: ProcId) -> Option<bool>
         ensures { IfSome result (Tells self.now kinds p.0) }
     {

@@ -1,5 +1,5 @@
-//! Bytes in, lines, bytes out: whole inputs up to a limit, their lines one by one, lines of an input
-//! that is still being written, and texts out through a loop of its own over `write`.
+//! Bytes in, lines, bytes out: whole inputs up to a limit, their lines one by one, lines of an
+//! input that is still being written, and texts out through a loop of its own over `write`.
 #![tactic(auto)]
 
 mod feed;

@@ -6,8 +6,8 @@ ghost use Rattle.fy_locality.specs.Members.{TakesLeast};
 use crate::{ProcId, ProcSet};
 use std::marker::Model;
 
-/// What is left of a set, by rising number. `ProcSet::iter` makes one. No process of it is below the
-/// word at the place `first`, so that the words before it are passed over once.
+/// What is left of a set, by rising number. `ProcSet::iter` makes one. No process of it is below
+/// the word at the place `first`, so that the words before it are passed over once.
 #[derive(Drop)]
 pub struct Processes {
     pub(crate) rest: ProcSet,

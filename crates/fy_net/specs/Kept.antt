@@ -17,8 +17,8 @@ net_state net = record {
   room = net.room;
 }
 
--- what always holds of the fields: they stand for a network, the pool is one for its processes, at most
--- 1,024, the room is memory that is there, and only who may be clogged is
+-- what always holds of the fields: they stand for a network, the pool is one for its processes, at
+-- most 1,024, the room is memory that is there, and only who may be clogged is
 pub record NetInvariant (net : Inside) : Type 0 where
   pub sound : IsNetState (net_state net)
   pub pool : IsPool net.pool

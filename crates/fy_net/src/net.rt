@@ -16,7 +16,8 @@ use std::alloc::{AllocError, Global};
 use std::marker::Model;
 
 /// The messages in flight between the processes and the client, which processes are clogged, and
-/// the time. `may_be_clogged` has everyone who is clogged, and may have others whose clogs have ended.
+/// the time. `may_be_clogged` has everyone who is clogged, and may have others whose clogs have
+/// ended.
 #[derive(Drop)]
 pub struct Net {
     pool: Pool,

@@ -24,10 +24,10 @@ use std::marker::Model;
 /// Teams, the records that were begun for them, and which processes have marked each record. Teams
 /// and records are known by their numbers, from 0 in the order in which they came.
 ///
-/// `numbers` has for each team the numbers of its records, so that a replacement looks at no others.
-/// `marked` has for each block of records the processes that may have marked one that isn't
-/// acknowledged, so that a heal passes over the blocks that a process has no mark in. `member_sets` has the
-/// members of each team as a set.
+/// `numbers` has for each team the numbers of its records, so that a replacement looks at no
+/// others. `marked` has for each block of records the processes that may have marked one that isn't
+/// acknowledged, so that a heal passes over the blocks that a process has no mark in. `member_sets`
+/// has the members of each team as a set.
 pub struct Teams {
     teams: Vec<KeptTeam>,
     records: Vec<KeptRecord>,

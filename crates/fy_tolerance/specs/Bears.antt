@@ -59,7 +59,8 @@ pub record IsTolerance (dead : Losses) (policy : Tree) (loss : Loss) (found : To
     pub none : found.any ≡ 0 → sets.len found.too_many ≡ 1
     pub exact : HasNoAnd policy → sets.len found.too_many ≡ found.any + 1
 
--- the processes left that have a value of a key: those of a machine, a zone, a hall or a data centre
+-- the processes left that have a value of a key: those of a machine, a zone, a hall or a data
+-- centre
 abbrev pub left_with_value : Losses → Key → List ℕ → ℕ → Bool
 left_with_value dead key value p = sets.contains dead.left p && has_value dead.processes key value p
 

@@ -33,8 +33,8 @@ HasNoAnd one = Unit {0}
 HasNoAnd (across n key policy) = HasNoAnd policy
 HasNoAnd (every parts) = ⊥
 
--- with the free ones of the group, the set found satisfies the policy; it has no more processes than
--- it takes
+-- with the free ones of the group, the set found satisfies the policy; it has no more processes
+-- than it takes
 pub record IsEnough
     (processes : List Locality) (policy : Tree) (group free : ℕ → Bool) (found : Part) : Type 0
   where
