@@ -176,12 +176,8 @@ impl ClusterState {
         ensures survives { Survives self.new.setup self.new.journal }
     {
         laws::journals_survive();
-        let reply = self.machine.kill_process(&self.config, by, process, order);
-        let at = self.trail.len() as u32;
-        let act = Act::Kill { order: *order };
-        let killed = Entry { at, by, act, reply };
-        self.trail.push(&killed);
-        reply
+        self.machine
+            .enter_kill(&mut self.trail, &self.config, by, process, order)
     }
 
     /// Whether so many acts were entered as the configuration allows.
