@@ -17,7 +17,8 @@ use Rattle.fy_cluster.specs.Setup.{Setup}
 use Rattle.fy_cluster.specs.History.{History, Step, step_of, some_is, is_accepted, delivers, message_of, ack_of, sent, in_flight, delivers_ack_of, acked, record_marked}
 use Rattle.fy_cluster.specs.Replies.{IsNext, reply, reasons, refusals, answer, on_delivery, is_acked_with}
 use Rattle.fy_cluster.specs.Execution.{Execution, history_of, next_entry, entered}
-use Rattle.fy_cluster.specs.Standing.{RefinesNet}
+use Rattle.fy_cluster.specs.declared.machine.Machine.{Machine}
+use Rattle.fy_cluster.specs.Standing.{RefinesNet, RefinesJournal}
 use Rattle.fy_cluster.proofs.Flights.{body_flying}
 use Rattle.fy_cluster.proofs.Journals.{after-append, length-history}
 use Rattle.fy_cluster.proofs.Strikes.{accepted}
@@ -124,3 +125,12 @@ marked_by_body c h net k n =
     at : (b : Bool) → option_map (λ w. w.0) (option_and_then ack_of (if b then slice_get (sent h) n else None)) ≡ (if b then option_map (λ w. w.0) (option_and_then ack_of (slice_get (sent h) n)) else None)
     at true = refl
     at false = refl
+
+-- no other act delivers
+pub marks_none : (h : History) (act : Act) → ((n : ℕ) → act ≡ Deliver n → ⊥) → None ≡ record_marked h act
+marks_none h (Deliver n) other = absurd (other n refl)
+marks_none h _ other = refl
+
+-- what the network has under the number of an act that delivers is what the act marks
+pub marked_now : (x : Execution) (m : Machine) → RefinesJournal x.setup x.journal m → (act : Act) (n : ℕ) → act ≡ Deliver n → option_map (λ w. w.0) (option_and_then ack_of (body_of m.net.in_flight n)) ≡ record_marked (history_of x) act
+marked_now x m kept act n is = marked_by_body x.setup (history_of x) m.net kept.stands.net n ∙ ap (record_marked (history_of x)) (sym is)

@@ -9,6 +9,8 @@ use crate::machine::Machine;
 use crate::trail::Trail;
 use crate::{Config, Fault};
 use fy_acts::{Act, Entry, Refusal, Reply};
+use fy_kinds::KillOrder;
+use fy_locality::ProcId;
 use std::alloc::Global;
 
 impl Machine {
@@ -36,6 +38,39 @@ impl Machine {
         let entry = Entry { at, by, act, reply };
         trail.push(&entry);
         Ok(entry)
+    }
+
+    /// Replies to a kill of the process that an order names alone, and appends both to the trail,
+    /// as `enter` does. The entry is the caller's to make. The name isn't looked up. Takes no
+    /// memory.
+    pub(crate) fn enter_kill(
+        &mut self,
+        trail: &mut Trail,
+        config: &Config,
+        by: u32,
+        process: ProcId,
+        order: &KillOrder,
+    ) -> Reply
+        ghost point: { Point }
+        requires stands { Refines point.setup point.before self.old }
+        requires config { config.now ≡ point.setup }
+        requires by { by ≡ point.by }
+        requires named { NamesProcess point.setup.processes process.0 order.now }
+        requires room { length trail.old < MOST_JOURNAL_ENTRIES }
+        ensures answered { RepliesOrOom point (Kill order.now) (Ok result) self.new }
+        ensures entered { trail.new ≡ trail.old ++ record {
+          at = length trail.old;
+          by = by;
+          act = Kill order.now;
+          reply = result;
+        } ∷ [] }
+    {
+        let reply = self.kill_process(config, by, process, order);
+        let at = trail.len() as u32;
+        let act = Act::Kill { order: *order };
+        let killed = Entry { at, by, act, reply };
+        trail.push(&killed);
+        reply
     }
 
     /// Replies to an act, and does it where no rule refuses it. An unknown actor, or one whose role

@@ -1,10 +1,10 @@
 //! The state of a cluster: it replies to acts, and keeps no journal.
-ghost use Rattle.std.specs.Prelude.{◌≡◌, ◌≢◌, ◌↔◌, ◌<◌, ◌≤◌, ℕ, length, IfOk, IsTrue, OnOk, OnErr, Err, IfErr, IsSome, IfSome, Some, None};
+ghost use Rattle.std.specs.Prelude.{◌≡◌, ◌≢◌, ◌↔◌, ◌<◌, ◌≤◌, ℕ, length, IfOk, IsTrue, OnOk, OnErr, Err, IfErr, IsSome, IfSome, Some, None, option_map};
 ghost use Rattle.std.specs.FinSet as sets;
 ghost use Rattle.fy_kinds.specs.Kinds.{rank};
 ghost use Rattle.fy_kinds.specs.Orders.{Order};
 ghost use Rattle.fy_decide.specs.Verdicts.{NamesProcess};
-ghost use Rattle.fy_cluster.specs.History.{destroyed, left, acked, keeper, record_marked};
+ghost use Rattle.fy_cluster.specs.History.{destroyed, left, ack_of, acked, keeper, record_marked};
 ghost use Rattle.fy_cluster.specs.declared.fault.Fault.TheVariants.{JournalFull};
 ghost use Rattle.fy_cluster.specs.Survival.{Survives};
 ghost use Rattle.fy_cluster.specs.Execution.{history_of, opened, replied, entered, next_entry};
@@ -57,6 +57,16 @@ impl Drop for ClusterState {
             trail: _,
             machine: _,
         } = self;
+    }
+}
+
+/// The record that a message acknowledges, if it is an acknowledgement.
+fn acknowledged_by(message: Body) -> Option<u32>
+    ensures { result ≡ option_map (λ told. told.0) (ack_of message) }
+{
+    match message {
+        Body::Synced { rec, .. } => Some(rec),
+        Body::Store { .. } => None,
     }
 }
 
@@ -166,12 +176,8 @@ impl ClusterState {
         ensures survives { Survives self.new.setup self.new.journal }
     {
         laws::journals_survive();
-        let reply = self.machine.kill_process(&self.config, by, process, order);
-        let at = self.trail.len() as u32;
-        let act = Act::Kill { order: *order };
-        let killed = Entry { at, by, act, reply };
-        self.trail.push(&killed);
-        reply
+        self.machine
+            .enter_kill(&mut self.trail, &self.config, by, process, order)
     }
 
     /// Whether so many acts were entered as the configuration allows.
@@ -229,16 +235,13 @@ impl ClusterState {
     /// `Deliver`, or no acknowledgement in flight has that number. Once the act is entered, no other
     /// record is acknowledged that wasn't. Takes no memory.
     pub fn marks(&self, act: &Act) -> Option<u32>
-        ensures record { result ≡ record_marked (history_of self.now) act.now }
+        ensures marked { result ≡ record_marked (history_of self.now) act.now }
         ensures others { (by r : ℕ) → result ≢ Some r
             → acked (history_of (entered self.now by act.now)) r ≡ acked (history_of self.now) r }
     {
-        let Act::Deliver { message } = act else {
-            return None;
-        };
-        match self.machine.net.body(*message) {
-            Some(Body::Synced { rec, .. }) => Some(rec),
-            Some(Body::Store { .. }) | None => None,
+        match act {
+            Act::Deliver { message } => acknowledged_by(self.machine.net.body(*message)?),
+            _ => None,
         }
     }
 

@@ -1,4 +1,4 @@
-use Rattle.std.proofs.Common.{◌≡◌, ◌<◌, ℕ, true, length, sym, ap, subst}
+use Rattle.std.proofs.Common.{◌≡◌, true, ap, subst}
 use Rattle.std.specs.FinSet as sets
 use Rattle.fy_disk.specs.Disk.{empty_disk}
 use Rattle.fy_decide.specs.Targets.{targeted}

@@ -2,7 +2,7 @@ use Rattle.std.proofs.Common.{◌≡◌, sym, subst}
 use Rattle.fy_acts.specs.declared.act.Act.TheVariants.{Kill}
 use Rattle.fy_acts.specs.declared.reply.Reply.TheVariants.{No, Verdict}
 use Rattle.fy_acts.specs.declared.reply.Refusal.TheVariants.{Stranger}
-use Rattle.fy_cluster.specs.Execution.{Execution, history_of, replied}
+use Rattle.fy_cluster.specs.Execution.{Execution, replied}
 use Rattle.fy_cluster.specs.History.{history}
 use Rattle.fy_cluster.proofs.Shown.{judged_now, judged_stranger}
 use Rattle.fy_cluster.proofs.cluster_state.ClusterState.judge.Goals as goal
