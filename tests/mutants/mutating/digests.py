@@ -2,10 +2,11 @@
 
 The prover checks the function that a mutant turns from its own text, the answers written for it, and what all that
 names: contracts of functions (never their bodies), types with what they are seen as, constants, definitions, lemmas,
-of its own crate and of the crates below; what these name in turn, and so on. A search uses no lemma that isn't named,
-by an answer or an attribute. A name counts wherever it stands, so the digest may name more than the prover reads, and
-not less. Functions whose calls lead back to themselves have one proof, so the bodies of all are part of it. Comments
-and tests are no part of it. The layout that is read is that of rt fmt.
+of its own crate and of the crates below; what these name in turn, and so on. Of a lemma it is what that states: its proof
+is the gate's to check. A search uses no lemma that isn't named, by an answer or an attribute. A name counts wherever it
+stands, so the digest may name more than the prover reads, and not less. Functions whose calls lead back to themselves
+have one proof, so the bodies of all are part of it. Comments and tests are no part of it. The layout that is read is
+that of rt fmt.
 """
 import hashlib, os, re, subprocess, textwrap
 from functools import cache
@@ -158,7 +159,7 @@ def names_in(group):
 
 
 def definitions(text, is_stated=False):
-    """The definitions or lemmas of a file of specs/ or proofs/, and its imports; of a lemma, if that is asked, what it states alone."""
+    """The definitions of a file of specs/, or of proofs/, where what is stated alone counts of what no other file sees into; and its imports."""
     text = re.sub(r"\n{2,}", "\n", without_comments(text, "--"))
     is_import = re.compile(r"(?:pub )?(?:use|mod)\b")
     blocks = [it for it in re.split(r"\n(?=[^\s})\]])", text) if it.strip()]
@@ -204,26 +205,15 @@ def with_imports(parts, imports):
 
 
 @cache
-def parts_of(crate, of_whom):
-    """The parts of a crate that its own functions depend on, or with "above" those of the crates above."""
+def parts_of(crate, folders):
+    """The parts of these folders of a crate; of answers, which are those of one function, none."""
     found = []
-    for part in ("src", "specs") if of_whom == "above" else PARTS:
-        for file in files_of(f"crates/{crate}", (part,)):
-            if part == "proofs" and file.count("/") > 3:
-                continue
+    for file in files_of(f"crates/{crate}", folders):
+        folder = file.split("/")[2]
+        if folder != "proofs" or file.count("/") == 3:
             text = without_tests(file, read(file))
-            parts, imports = parts_of_source(text) if part == "src" else definitions(text)
+            parts, imports = parts_of_source(text) if folder == "src" else definitions(text, folder == "proofs")
             found += with_imports(parts, imports)
-    return [it for it in found if it.is_public or of_whom == "own"]
-
-
-@cache
-def lemmas_of(crate):
-    """What the lemmas of a crate state, and the definitions beside them."""
-    found = []
-    for file in files_of(f"crates/{crate}", ("proofs",)):
-        if file.count("/") == 3:
-            found += with_imports(*definitions(read(file), is_stated=True))
     return found
 
 
@@ -257,15 +247,15 @@ def kit():
 
 def said_to(crate, below):
     """What the crates below say to a crate."""
-    said = [it for low in below for it in parts_of(low, "above")]
-    return said + [it for low in cited_by(crate, below) for it in lemmas_of(low)]
+    said = [it for low in below for it in parts_of(low, ("src", "specs")) if it.is_public]
+    return said + [it for low in cited_by(crate, below) for it in parts_of(low, ("proofs",))]
 
 
 class Reach:
     """The parts that a crate's own functions may depend on, by their names."""
 
     def __init__(self, crate, below):
-        self.own = parts_of(crate, "own")
+        self.own = parts_of(crate, PARTS)
         self.always, self.named = [], {}
         for part in [*self.own, *said_to(crate, below)]:
             if not part.names:
@@ -323,8 +313,9 @@ def digest(crate, below, edit_text, functions):
 @cache
 def whole(crate, below):
     """The digest of all of a crate, and of all that those below it say to it."""
-    texts = [*tactics_of(crate), *(f"{it.text}\n{it.body}" for it in parts_of(crate, "own"))]
-    texts += [text for function in sorted(answers_of(crate)) for text in answers_of(crate)[function]]
+    texts = []
+    for file in files_of(f"crates/{crate}"):
+        texts += [file, without_comments(without_tests(file, read(file)), "//" if file.endswith(".rt") else "--")]
     return summed([*texts, *(it.text for it in said_to(crate, below))])
 
 
