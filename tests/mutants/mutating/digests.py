@@ -2,12 +2,14 @@
 
 The prover checks the function that a mutant turns from its own text, the answers written for it,
 and what all that names: contracts of functions (never their bodies), types with what they are seen
-as, constants, definitions, lemmas, of its own crate and, where they are public, of the crates
-below; what these name in turn, and so on. A name counts wherever it stands, so the digest may name
-more than the prover reads, and not less. Comments and tests are no part of it. The layout that is
-read is that of rt fmt.
+as, constants, definitions, lemmas, of its own crate and of the crates below; what these name in
+turn, and so on. Of a lemma it is what that states: its proof is the gate's to check. A search uses
+no lemma that isn't named, by an answer or an attribute. A name counts wherever it stands, so the
+digest may name more than the prover reads, and not less. Functions whose calls lead back to
+themselves have one proof, so the bodies of all are part of it. Comments and tests are no part of
+it. The layout that is read is that of rt fmt.
 """
-import hashlib, os, re, subprocess
+import hashlib, os, re, subprocess, textwrap
 from functools import cache
 
 from mutating.sources import PARTS, files_of, read, without_comments, without_tests
@@ -24,15 +26,24 @@ UNNAMED = re.compile(
     r"|BitAnd|BitOr|BitXor|Shl|Shr)\b"
 )
 FUNCTION = re.compile(r"(?:pub(?:\([\w :]+\))? )?(?:const )?(?:unsafe )?(?:extern \"C\" )?fn (\w+)")
+CYCLE = re.compile(r"#\[cycle\((\w+)\)\]")
+# What can stand before the name of a definition. The body of one without any, or with `pub` alone,
+# is not seen elsewhere.
+MARK = r"(?:abbrev|axiom|data|infix[lr]? \d+|opaque|private|pub|record|ruleset|unfoldable)"
+IS_SEEN = re.compile(
+    r"(?:\w+ )*(?:abbrev|axiom|data|infix[lr]?|mutual|record|ruleset|unfoldable)\b"
+)
+DEFINED = re.compile(rf"(?:{MARK} )*([^\s:({{]+)")
+MUTUAL = re.compile(r"(?:\w+ )*mutual\n")
 
 
 class Part:
     """A piece of a text: the names by which others name it (none: all of its crate depend on it),
-    what it says to them, and whether a crate above can name it."""
+    what it says to them, and whether a crate above can depend on it."""
 
     def __init__(self, names, text, is_public, body=""):
         self.names, self.text, self.is_public, self.body = frozenset(names), text, is_public, body
-        self.words = frozenset(WORD.findall(text))
+        self.words, self.imports = frozenset(WORD.findall(text)), []
 
 
 def blocks_of(lines, indent):
@@ -50,6 +61,12 @@ def blocks_of(lines, indent):
             block = []
     if block:
         yield "\n".join(block)
+
+
+def first_line(block, indent):
+    """The line on which an item begins, behind its attributes."""
+    lines = (it for it in block.split("\n") if len(it) - len(it.lstrip()) == indent)
+    return next((it for it in lines if not it.lstrip().startswith(("#", ")", "]"))), "")
 
 
 def parted(function, indent):
@@ -73,24 +90,23 @@ def parts_of_source(text):
     """The parts of a file of src/, and its imports."""
     imports, parts = [], []
     for block in blocks_of(without_comments(text).split("\n"), 0):
-        head = next((it for it in block.split("\n") if not it.startswith("#")), "")
+        head = first_line(block, 0)
         kind = MARGIN_ITEM.match(head)
         kind = kind[1] if kind else ""
-        is_public = head.startswith("pub ")
         if kind in ("use", "ghost use"):
             imports.append(block)
+            parts += renamed_by(block)
         elif kind == "fn":
             says, body = parted(block, 0)
-            parts.append(Part({FUNCTION.match(head)[1]}, says, is_public, body))
+            parts.append(Part({FUNCTION.match(head)[1]}, says, head.startswith("pub "), body))
         elif kind in ("impl", "trait") and block.endswith("}"):
             parts += parts_of_block(head, block, kind)
         elif kind in ("struct", "enum", "union", "type", "const", "static", "const fn"):
             name = re.search(rf"\b{kind} (?:mut )?(\w+)", head)[1]
             variants = re.findall(r"(?m)^    (\w+)[ ,({]", block) if kind == "enum" else []
-            parts.append(Part({name, *variants}, block, is_public))
-        elif kind == "mod":
-            continue
-        elif block.strip():
+            # (what is private stands behind what is public, as a constant's value does)
+            parts.append(Part({name, *variants}, block, True))
+        elif kind != "mod" or block != head or block.endswith("}"):
             parts.append(Part((), block, True))
     return parts, imports
 
@@ -99,8 +115,9 @@ def parts_of_block(head, block, kind):
     """The parts of an impl or a trait: its functions by their names where they are called so, and
     the rest by the types."""
     lines = block.split("\n")
-    first = lines.index(head)
-    inner = lines[first + 1 : -1]
+    inner = lines[lines.index(head) + 1 : -1]
+    # an attribute of the block is one of each function in it
+    head_of_all = "\n".join(lines[: lines.index(head) + 1])
     of_trait = kind == "trait" or re.match(r"(?:unsafe )?impl\b.* for ", head)
     named = re.search(
         r"trait (\w+)"
@@ -113,78 +130,143 @@ def parts_of_block(head, block, kind):
     owner = named[1] if named else ""
     parts, rest = [], []
     for item in blocks_of(inner, 4):
-        at = next((it.strip() for it in item.split("\n") if not it.strip().startswith("#")), "")
+        at = first_line(item, 4).strip()
         found = FUNCTION.match(at)
         if not found:
             rest.append(item)
             continue
         says, body = parted(item, 4)
-        parts.append(Part({found[1]}, f"{head}\n{says}", of_trait or at.startswith("pub "), body))
+        # the value of a constant depends on the body of a const fn
+        is_const = re.match(r"(?:pub(?:\([\w :]+\))? )?const ", at) is not None
+        seen, is_public = item if is_const else says, is_const or of_trait or at.startswith("pub ")
+        parts.append(Part({found[1]}, f"{head_of_all}\n{seen}", is_public, body))
     if of_trait:
         trait = re.match(r"(?:unsafe )?impl(?:<[^>]*>)? (.*?) for ", head)
-        whole = "\n".join([*lines[: first + 1], *rest, *(it.text for it in parts)])
-        by = (
-            owner
-            if not trait or UNNAMED.match(trait[1])
-            else re.match(r"(?:\w+::)*(\w+)", trait[1])[1]
-        )
-        return [Part({by}, whole if by == owner else head, True), *parts]
+        if not trait or UNNAMED.match(trait[1]):
+            return [
+                Part({owner}, "\n".join([head_of_all, *rest, *(it.text for it in parts)]), True),
+                *parts,
+            ]
+        names = {owner, re.match(r"(?:\w+::)*(\w+)", trait[1])[1]}
+        return [Part(names, "\n".join([head_of_all, *rest]), True), *parts]
     if rest:
-        parts.append(Part({owner}, "\n".join([*lines[: first + 1], *rest]), True))
+        parts.append(Part({owner}, "\n".join([head_of_all, *rest]), True))
     return parts
 
 
-def definitions(text):
-    """The definitions or lemmas of a file of specs/ or proofs/, and its imports."""
-    text = without_comments(text, "--")
-    parts, imports = [], []
-    for block in re.split(r"\n(?=[^\s})\]])", re.sub(r"\n{2,}", "\n", text)):
-        found = re.match(r"(?:(?:abbrev|pub|record|data|opaque|private) )*([^\s:({]+)", block)
-        if not found:
-            continue
-        if found[1] in ("use", "mod"):
-            imports.append(block)
-            continue
-        names = {found[1]}
-        if re.match(r"(?:pub )?data\b", block):
-            names.update(re.findall(r"(?m)^ +(?:pub )?(\w+)(?: \w+)* :", block))
-        # an operator is used without its name
-        parts.append(Part(names if WORD.fullmatch(found[1]) else (), block, True))
+def groups_of(text):
+    """The definitions of a text, each in its blocks: what it is, and then its equations in their
+    order."""
+    groups = []
+    for block in re.split(r"\n(?=[^\s})\]])", text.strip("\n")):
+        is_first = MUTUAL.match(block) or re.match(rf"{MARK} |[^\s:({{]+\s*:\s", f"{block}\n")
+        if is_first or not groups:
+            groups.append([block])
+        else:
+            groups[-1].append(block)
+    return groups
+
+
+def names_in(group):
+    """The names of what a group defines; none where that is an operator, which is used without its
+    name."""
+    if MUTUAL.match(group[0]):
+        inner = groups_of(textwrap.dedent(group[0].partition("\n")[2]))
+        names = [names_in(it) for it in inner if not it[0].startswith("unfolding ")]
+        return set().union(*names) if all(names) else set()
+    first, *heads = (found and found[1] for found in map(DEFINED.match, group))
+    if not first or not WORD.fullmatch(first):
+        return set()
+    names = {first, *(it for it in heads if it and it != "unfolding")}
+    if re.match(r"(?:pub )?data\b", group[0]):
+        for found in re.findall(r"(?m)^ +(?:pub )?((?:[\w'-]+ )+):", group[0]):
+            names.update(found.split())
+    return names
+
+
+def definitions(text, is_stated=False):
+    """The definitions of a file of specs/, or of proofs/, where what is stated alone counts of what
+    no other file sees into; and its imports."""
+    text = re.sub(r"\n{2,}", "\n", without_comments(text, "--"))
+    is_import = re.compile(r"(?:pub )?(?:use|mod)\b")
+    blocks = [it for it in re.split(r"\n(?=[^\s})\]])", text) if it.strip()]
+    imports = [it for it in blocks if is_import.match(it)]
+    parts = [it for block in imports for it in renamed_by(block)]
+    defined = [it for it in blocks if not is_import.match(it)]
+    for group in groups_of("\n".join(defined)) if defined else []:
+        said = group if not is_stated or IS_SEEN.match(group[0]) else group[:1]
+        parts.append(Part(names_in(group), "\n".join(said), True))
     return parts, imports
+
+
+def brought_by(block):
+    """The names that an import brings, each with what it stands for."""
+    path, brace, names = " ".join(block.strip(" \t\n;").split()).partition("{")
+    if "{" in names:
+        return [(it, path + brace + names) for it in WORD.findall(names)]
+    each = [it.strip() for it in names.rstrip("} ").split(",")] if brace else [""]
+    return [
+        (re.split(r"::|\.| as ", it or path)[-1].strip(), path + it)
+        for it in each
+        if it or not brace
+    ]
+
+
+def renamed_by(block):
+    """What an import gives another name, for those who use it by that name from elsewhere."""
+    return [
+        Part({name}, said, True)
+        for name, said in brought_by(block)
+        if " as " in said and block.startswith("pub ")
+    ]
 
 
 def with_imports(parts, imports):
     """Adds to each part the imports whose names it uses."""
+    brought = [it for block in imports for it in brought_by(block)]
     for part in parts:
-        words = part.words | set(WORD.findall(part.body))
+        words, text = part.words | set(WORD.findall(part.body)), part.text + part.body
         used = []
-        for line in imports:
-            path, brace, names = line.strip(" \t\n;").partition("{")
-            for it in names.rstrip("}\n ").split(",") if brace else [""]:
-                name = re.split(r"::|\.| as ", it or path)[-1].strip()
-                pieces = [it for it in name.split("◌") if it]
-                if all(
-                    piece in words or not piece.isidentifier() and piece in part.text + part.body
-                    for piece in pieces
-                ):
-                    used.append(f"{' '.join(path.split())}{' '.join(it.split())}")
+        for name, said in brought:
+            pieces = [it for it in name.split("◌") if it]
+            if name == "*" or all(
+                it in words or not it.isidentifier() and it in text for it in pieces
+            ):
+                used.append(said)
+                # another name for it names it too
+                if " as " in said:
+                    part.words |= set(WORD.findall(said))
         part.text = "\n".join([*sorted(used), part.text])
+        part.imports = brought
     return parts
 
 
 @cache
-def parts_of(crate, of_whom):
-    """The parts of a crate that its own functions depend on, or with "above" those of the crates
-    above."""
+def parts_of(crate, folders):
+    """The parts of these folders of a crate; of answers, which are those of one function, none."""
     found = []
-    for part in ("src", "specs") if of_whom == "above" else PARTS:
-        for file in files_of(f"crates/{crate}", (part,)):
-            if part == "proofs" and file.count("/") > 3:
-                continue
+    for file in files_of(f"crates/{crate}", folders):
+        folder = file.split("/")[2]
+        if folder != "proofs" or file.count("/") == 3:
             text = without_tests(file, read(file))
-            parts, imports = parts_of_source(text) if part == "src" else definitions(text)
+            parts, imports = (
+                parts_of_source(text) if folder == "src" else definitions(text, folder == "proofs")
+            )
             found += with_imports(parts, imports)
-    return [it for it in found if it.is_public or of_whom == "own"]
+    return found
+
+
+@cache
+def cited_by(crate, below):
+    """The crates below of which a crate cites lemmas, and those of which these cite some."""
+    of_whom = re.compile(rf"\b({'|'.join(below) or '(?!)'})(?:\.|::)proofs\b")
+    found, left = set(), [crate]
+    while left:
+        texts = map(read, files_of(f"crates/{left.pop()}"))
+        new = {low for text in texts for low in of_whom.findall(text)} - found - {crate}
+        found |= new
+        left += sorted(new)
+    return sorted(found)
 
 
 @cache
@@ -204,13 +286,19 @@ def kit():
     return subprocess.run(["rt", "version"], capture_output=True, check=True).stdout
 
 
+def said_to(crate, below):
+    """What the crates below say to a crate."""
+    said = [it for low in below for it in parts_of(low, ("src", "specs")) if it.is_public]
+    return said + [it for low in cited_by(crate, below) for it in parts_of(low, ("proofs",))]
+
+
 class Reach:
     """The parts that a crate's own functions may depend on, by their names."""
 
     def __init__(self, crate, below):
-        self.own = parts_of(crate, "own")
+        self.own = parts_of(crate, PARTS)
         self.always, self.named = [], {}
-        for part in [*self.own, *(it for low in below for it in parts_of(low, "above"))]:
+        for part in [*self.own, *said_to(crate, below)]:
             if not part.names:
                 self.always.append(part)
             for name in part.names:
@@ -255,21 +343,28 @@ def summed(texts):
 def digest(crate, below, edit_text, functions):
     """The digest of what a mutant's refusal at a goal of one of these functions depends on."""
     its = reach(crate, tuple(below))
-    texts = [edit_text, *tactics_of(crate)]
-    texts += [f"{it.text}\n{it.body}" for it in its.own if it.names & functions]
-    for function in sorted(functions):
-        texts += answers_of(crate).get(function, [])
+    groups = {it for part in its.own if part.names & functions for it in CYCLE.findall(part.text)}
+    turned = [it for it in its.own if it.names & functions or groups & set(CYCLE.findall(it.text))]
+    texts = [edit_text, *tactics_of(crate), *(f"{it.text}\n{it.body}" for it in turned)]
+    words = set(WORD.findall(edit_text))
+    texts += sorted({said for it in turned for name, said in it.imports if name in words})
+    for folder in sorted({*functions, *groups, *(name for it in turned for name in it.names)}):
+        texts += answers_of(crate).get(folder, [])
     return summed([*texts, *sorted(its.of(WORD.findall("\n".join(texts))))])
 
 
 @cache
 def whole(crate, below):
     """The digest of all of a crate, and of all that those below it say to it."""
-    texts = [*tactics_of(crate), *(f"{it.text}\n{it.body}" for it in parts_of(crate, "own"))]
-    texts += [
-        text for function in sorted(answers_of(crate)) for text in answers_of(crate)[function]
-    ]
-    return summed([*texts, *(it.text for low in below for it in parts_of(low, "above"))])
+    texts = []
+    for file in files_of(f"crates/{crate}"):
+        texts += [
+            file,
+            without_comments(
+                without_tests(file, read(file)), "//" if file.endswith(".rt") else "--"
+            ),
+        ]
+    return summed([*texts, *(it.text for it in said_to(crate, below))])
 
 
 def whole_digest(crate, below, edit_text):
