@@ -1,12 +1,10 @@
 //! What an entry did, from what the entries before say.
-ghost use Rattle.std.specs.Prelude.{◌≡◌, ◌≤◌, ℕ, false, length, map, slice_get, IfOk};
+ghost use Rattle.std.specs.Prelude.{◌≡◌, ◌≤◌, ℕ, length, map, slice_get, IfOk};
 ghost use Rattle.std.specs.FinSet as sets;
-ghost use Rattle.std.specs.Option.{option_map_or};
 ghost use Rattle.fy_decide.specs.Verdicts.{targets};
-ghost use Rattle.fy_cluster.specs.Setup.{Setup};
 ghost use Rattle.fy_net.specs.declared.message.Body.TheVariants.{Synced};
 ghost use Rattle.fy_cluster.specs.declared.config.TheConstants.{MOST_JOURNAL_ENTRIES};
-ghost use Rattle.fy_cluster.specs.History.{History, left, targets_of, message_of, sends_of, stores_of, acks_of, members_of, records, unsynced, sent, step_of};
+ghost use Rattle.fy_cluster.specs.History.{targets_of, message_of, sends_of, stores_of, acks_of, members_of, records, unsynced, sent, step_of};
 ghost use Rattle.fy_check_by_rules.specs.Past.{as_step, history_of};
 
 use crate::network::sent;

@@ -59,8 +59,8 @@ impl Drop for Cluster {
 ///
 /// # Errors
 ///
-/// In this order: `JournalFull` where the journal is at its limit; `NoMemory`. The journal is then as
-/// it was.
+/// In this order: `JournalFull` where the journal is at its limit; `NoMemory`. The journal is then
+/// as it was.
 fn make_place(journal: &mut Journal, state: &ClusterState) -> Result<(), Fault>
     ensures full { (state.now.setup.limit ≤ length state.now.journal) ↔ (result ≡ Err JournalFull) }
     ensures room { OnOk result (length state.now.journal < state.now.setup.limit) }
@@ -254,9 +254,9 @@ impl Cluster {
         self.state.judge(by, order)
     }
 
-    /// What `judge` answers for an order that names the process with this number alone, by its name:
-    /// by this kind, or where that is barred by a milder one down to the floor. `None` where there
-    /// is no such process. It enters nothing, takes no memory, and looks up no name.
+    /// What `judge` answers for an order that names the process with this number alone, by its
+    /// name: by this kind, or where that is barred by a milder one down to the floor. `None` where
+    /// there is no such process. It enters nothing, takes no memory, and looks up no name.
     pub fn judge_process(&self, by: u32, process: ProcId, kind: Kind, floor: Kind) -> Option<Reply>
         requires { rank floor ≤ rank kind }
         ensures none { (length self.now.setup.processes ≤ process.0) ↔ (result ≡ None) }

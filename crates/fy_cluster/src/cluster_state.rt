@@ -232,8 +232,8 @@ impl ClusterState {
     }
 
     /// The record of the acknowledgement that this act would deliver now: `None` where it is no
-    /// `Deliver`, or no acknowledgement in flight has that number. Once the act is entered, no other
-    /// record is acknowledged that wasn't. Takes no memory.
+    /// `Deliver`, or no acknowledgement in flight has that number. Once the act is entered, no
+    /// other record is acknowledged that wasn't. Takes no memory.
     pub fn marks(&self, act: &Act) -> Option<u32>
         ensures marked { result ≡ record_marked (history_of self.now) act.now }
         ensures others { (by r : ℕ) → result ≢ Some r
@@ -281,9 +281,9 @@ impl ClusterState {
         Reply::Verdict(verdict)
     }
 
-    /// What `judge` answers for an order that names the process with this number alone, by its name:
-    /// by this kind, or where that is barred by a milder one down to the floor. `None` where there
-    /// is no such process. No name is looked up.
+    /// What `judge` answers for an order that names the process with this number alone, by its
+    /// name: by this kind, or where that is barred by a milder one down to the floor. `None` where
+    /// there is no such process. No name is looked up.
     pub fn judge_process(&self, by: u32, process: ProcId, kind: Kind, floor: Kind) -> Option<Reply>
         requires { rank floor ≤ rank kind }
         ensures none { (length self.now.setup.processes ≤ process.0) ↔ (result ≡ None) }

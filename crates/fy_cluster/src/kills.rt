@@ -45,8 +45,8 @@ fn strike_disks(disks: &mut Disks, targets: &ProcSet, kind: Kind, tear: u64)
     }
 }
 
-/// Of these processes those whose disks a strike may change: a reboot leaves a disk as it is that has
-/// nothing to sync.
+/// Of these processes those whose disks a strike may change: a reboot leaves a disk as it is that
+/// has nothing to sync.
 fn changed_by(disks: &Disks, targets: &ProcSet, kind: Kind) -> ProcSet
     ensures within { (p : ℕ) → sets.contains result p ≡ true → sets.contains targets.now p ≡ true }
     ensures same { (p tear : ℕ) → sets.contains targets.now p ≡ true

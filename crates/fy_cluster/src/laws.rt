@@ -98,8 +98,8 @@ pub fn journals_survive()
     records_kept();
 }
 
-/// Of a store of one's own that keeps the three premises, each acknowledged record has a holder that
-/// isn't destroyed, at every moment.
+/// Of a store of one's own that keeps the three premises, each acknowledged record has a holder
+/// that isn't destroyed, at every moment.
 pub fn holders_are_left()
     ensures { HoldersAreLeft }
 {

@@ -1,6 +1,6 @@
 //! Whether something else was done for an order than its reply says.
 ghost use Rattle.std.specs.Prelude.{◌≡◌};
-ghost use Rattle.fy_events.specs.Answers.{answered, same_done, struck_done, differs};
+ghost use Rattle.fy_events.specs.Answers.{answered, struck_done, differs};
 
 use crate::Done;
 use fy_acts::{Act, Entry, Reply};

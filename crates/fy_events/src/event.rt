@@ -1,7 +1,6 @@
 //! What a line of a file of events says of an entry.
 ghost use Rattle.std.specs.Prelude.{◌≡◌, codes, option_map, option_and_then, IfOk, IfErr, IfSome, ◌<◌, Ok, Err};
 ghost use Rattle.json.specs.Value.{value_view};
-ghost use Rattle.json.specs.Json.{Json};
 ghost use Rattle.json.specs.Find.{get, as_number};
 ghost use Rattle.fy_events.specs.Events.{done_named, done_from, done_of, follows, told, LineOf, IsNext};
 ghost use Rattle.fy_events.specs.declared.TheConstants.{MOST_MICROS};

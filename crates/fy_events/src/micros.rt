@@ -1,7 +1,7 @@
 //! Numbers of events, exactly from their decimal text: no float stands between.
-ghost use Rattle.std.specs.Prelude.{◌≡◌, ◌+◌, ◌-◌, ◌*◌, ◌^◌, ◌<◌, ◌≤◌, ◌++◌, ℕ, IfSome, length, take, min, if◌then◌else◌, slice_index};
+ghost use Rattle.std.specs.Prelude.{◌≡◌, ◌+◌, ◌-◌, ◌*◌, ◌^◌, ◌<◌, ◌≤◌, ◌++◌, ℕ, IfSome, length, take, min};
 ghost use Rattle.std.specs.Str.Parse.{digits_value, AllDigits};
-ghost use Rattle.fast_float.specs.Text.{Parts, scan, minus};
+ghost use Rattle.fast_float.specs.Text.{scan};
 ghost use Rattle.fy_events.specs.declared.TheConstants.{MOST_MICROS};
 ghost use Rattle.fy_events.specs.Micros.{micros_from, whole_from, millionths, millionth_point};
 

@@ -37,8 +37,8 @@ fn comes_next(state: &mut ClusterState, version: Version, entry: Entry) -> Resul
     }
 }
 
-/// Checks a journal entry by entry: each act is made once more, and the reply is compared. The entry
-/// is dropped then, so memory doesn't grow with their number.
+/// Checks a journal entry by entry: each act is made once more, and the reply is compared. The
+/// entry is dropped then, so memory doesn't grow with their number.
 #[derive(Drop)]
 pub struct Replayer {
     state: ClusterState,

@@ -1,5 +1,5 @@
 //! Steps of a place at the turnstile.
-ghost use Rattle.std.specs.Prelude.{◌≡◌, [], ◌∷◌, None, true};
+ghost use Rattle.std.specs.Prelude.{◌≡◌, [], None};
 ghost use Rattle.fy_cluster.specs.Replies.{Legal};
 ghost use Rattle.fy_actors.specs.Desk.{entries_by};
 ghost use Rattle.fy_shared.specs.Yard.{StartsWith};

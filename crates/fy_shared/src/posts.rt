@@ -99,8 +99,9 @@ fn take_turns<R: Wait, G: Gate>(
 ///
 /// An actor that is known to play a part has kept to it: each of its acts is the one that came
 /// next, by the journal before it. At `Ended` no act is left, at `Limit` it has made `max` acts
-/// more, and it fails by `JournalFull` only where the journal is full. At `Shut` the gate was asked of
-/// the post's actor and of a turn below `max`, and such an actor has made an act in each turn before.
+/// more, and it fails by `JournalFull` only where the journal is full. At `Shut` the gate was asked
+/// of the post's actor and of a turn below `max`, and such an actor has made an act in each turn
+/// before.
 pub fn run_actors<R: Threads + Wait + Sync, G: Gate>(
     rt: &R,
     shared: &Shared,

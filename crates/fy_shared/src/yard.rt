@@ -1,10 +1,9 @@
 //! The cluster that actors share, and their seats.
-ghost use Rattle.std.specs.Prelude.{◌≡◌, ◌↔◌, ◌<◌, ◌≤◌, [], ◌∷◌, length, map, All, IfOk, IfErr, IfSome, Some, Ok, vec_len};
+ghost use Rattle.std.specs.Prelude.{◌≡◌, ◌↔◌, ◌<◌, ◌≤◌, [], ◌∷◌, length, map, All, IfOk, IfErr, Some, Ok, vec_len};
 ghost use Rattle.std.specs.Vec.{vec_capacity};
 ghost use Rattle.fy_actors.specs.Desk.{DeskState, Worked, execution_of};
 ghost use Rattle.fy_actors.specs.Parts.{PlaysTurn};
 ghost use Rattle.fy_cluster.specs.Setup.{IsMet};
-ghost use Rattle.fy_cluster.specs.Replies.{Legal};
 ghost use Rattle.fy_cluster.specs.declared.fault.Fault.TheVariants.{JournalFull};
 ghost use Rattle.fy_shared.specs.Turnstile.{first_view};
 ghost use Rattle.fy_shared.specs.Places.{IsPlaceOf, Gathered, seat_state};
