@@ -1,5 +1,5 @@
 -- lines that are gathered and handed on while acts are entered
-use Rattle.std.proofs.Common.{arith, suc, ◌≡◌, ◌∙◌, ◌≤◌, ◌<◌, ◌+◌, ℕ, List, [], ◌∷◌, ◌++◌, map, length, sym, ap, subst, append_assoc, length-append, Option}
+use Rattle.std.proofs.Common.{arith, suc, ◌≡◌, ◌∙◌, ◌≤◌, ◌<◌, ◌+◌, ℕ, List, [], ◌∷◌, ◌++◌, map, length, sym, ap, subst, append_assoc, length-append, Option, inr, refl}
 use Rattle.std.specs.Io.KnownBytes.{Appends}
 use Rattle.std.proofs.KnownBytes.{Appends-trans}
 use Rattle.fy_lines.specs.Prefixes.{AppendsProperPrefix}
@@ -8,7 +8,10 @@ use Rattle.fy_spelling.specs.Values.{text_of}
 use Rattle.fy_spelling.specs.declared.command.Command.{Command}
 use Rattle.fy_audit.specs.AuditText.{entry_line}
 use Rattle.fy_cluster.specs.Execution.{Execution, next_entry, entered}
-use Rattle.fy_streams.specs.Outputs.{FlushesFront}
+use Rattle.fy_cluster.specs.declared.fault.Fault.{Fault}
+use Rattle.fy_cluster.specs.declared.fault.Fault.TheVariants as cluster
+use Rattle.fy_streams.specs.Stops.{entering_stop}
+use Rattle.fy_streams.specs.Outputs.{FlushesFront, IsOutputStop}
 use Rattle.fy_run.specs.RunTexts.{asked, made_by, lines_of_entries}
 use Rattle.fy_run.proofs.Acting.{one_longer}
 use Rattle.fy_run.proofs.Guarding.{short_behind}
@@ -76,6 +79,12 @@ pub not_full : (execution : Execution) (command : Command) (rest commands : List
 not_full execution command rest commands here room full =
     let count : length commands ≡ suc (length rest) = ap length here in
     omega arith
+
+-- where there is room, an act isn't entered for want of memory alone
+pub only_memory : (fault : Fault) → (fault ≡ cluster.JournalFull → ⊥) →
+    IsOutputStop (entering_stop fault)
+only_memory cluster.JournalFull room = absurd (room refl)
+only_memory cluster.NoMemory room = inr refl
 
 -- what was kept of a text goes out too
 pub all_flushed : (first second third : Option (List ℕ)) (text kept whole : List ℕ) →

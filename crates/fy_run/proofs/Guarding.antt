@@ -1,16 +1,15 @@
 -- the lines of a script that is still being written, and what was answered to them
-use Rattle.std.proofs.Common.{arith, Bool, true, ◌&&◌, nat_le, ◌≡◌, ◌∙◌, ◌≤◌, ◌+◌, ◌-◌, ℕ, List, [], ◌∷◌, ◌++◌, map, length, refl, sym, ap, subst, suc, append_assoc, append-nil, length-append, Option, Some, None}
+use Rattle.std.proofs.Common.{arith, Bool, true, ◌&&◌, nat_le, ◌≡◌, ◌∙◌, ◌≤◌, ◌+◌, ℕ, List, [], ◌∷◌, ◌++◌, map, length, refl, sym, ap, subst, suc, append_assoc, append-nil, length-append, Option, Some, None}
 use Rattle.std.proofs.lemmas.List.{map-append}
 use Rattle.std.proofs.lemmas.Bool.{and_parts}
 use Rattle.std.proofs.lemmas.Bool.Decides.{nat_tests}
 use Rattle.std.specs.Prelude.{IfSome, Result, Ok, Err}
 use Rattle.std.specs.List.{flat_map}
 use Rattle.std.specs.Io.KnownBytes.{Appends, IsAtEnd}
-use Rattle.std.proofs.KnownBytes.{Appends-nil, Appends-trans, Appends-kept}
+use Rattle.std.proofs.KnownBytes.{Appends-nil, Appends-trans, Appends-kept, Keeps-refl}
 use Rattle.fy_lines.specs.Lines.{lines_of}
 use Rattle.fy_lines.specs.Prefixes.{AppendsProperPrefix}
 use Rattle.fy_lines.specs.Readings.{ReadsLine}
-use Rattle.fy_acts.specs.declared.act.Act.{Act}
 use Rattle.fy_acts.specs.declared.entry.Entry.{Entry}
 use Rattle.fy_spelling.specs.Command.{LineOf, LineAnswers}
 use Rattle.fy_spelling.specs.declared.command.Command.{Command}
@@ -27,7 +26,9 @@ use Rattle.fy_cluster.specs.Survival.{by_and_act}
 use Rattle.fy_cluster.specs.Execution.{Execution, opened, entered}
 use Rattle.fy_run.specs.RunTexts.{asked, lines_of_entries, IfRunRefusal}
 use Rattle.fy_run.specs.GuardTexts.{Answered, AnsweredFrom, room_in, StopsAtLine, AllAnswered, AreBefore, AnsweredBefore, FirstAnswered, AreInTurn, AnswersAll, AnswersBefore, AnswersSome, AppendsAtLeast, entry_of, GivesCommand, NoCommand, NoAnswer}
-use Rattle.fy_streams.specs.Stops.{command_stop, IsRunStop}
+use Rattle.fy_cluster.specs.declared.fault.Fault.{Fault}
+use Rattle.fy_cluster.specs.declared.fault.Fault.TheVariants as cluster_fault
+use Rattle.fy_streams.specs.Stops.{entering_stop, command_stop, IsRunStop}
 use Rattle.fy_streams.specs.declared.stop.Stop.{Stop}
 use Rattle.fy_streams.specs.declared.stop.Stop.TheVariants.{JudgeTooLong, JudgeLine, Config, Script, JournalFull, Audit, Events, SwarmClose, Read, Write, NoMemory}
 
@@ -578,3 +579,13 @@ no_answer_own {execution} {now} {command} {out} {short} {stop} (NoAnswer.short t
 pub same_stop : (result : Result Bool Stop) (stop other : Stop) → result ≡ Err stop →
     result ≡ Err other → stop ≡ other
 same_stop result stop other is also = cc
+
+-- a command that isn't entered has no answer
+pub no_entry : (execution : Execution) (command : Command) (now : Execution)
+    (out : Option (List ℕ)) (fault : Fault) →
+    (fault ≡ cluster_fault.JournalFull → execution.setup.limit ≤ length execution.journal) →
+    NoAnswer execution command now out out (entering_stop fault)
+no_entry execution command now out cluster_fault.JournalFull full =
+    NoAnswer.full refl (full refl) (Keeps-refl out)
+no_entry execution command now out cluster_fault.NoMemory full =
+    NoAnswer.no_memory refl (Keeps-refl out)

@@ -1,7 +1,7 @@
 //! The engine behind `faultyard guard`: a line of a script in, and its entry out before the next
 //! line is asked for.
 ghost use Rattle.std.specs.Prelude.{◌≡◌, ◌≤◌, ◌+◌, ◌⊎◌, length, true, Ok, Err, IfOk, IfErr, OnOk, IfSome, IfNone};
-ghost use Rattle.std.specs.Io.KnownBytes.{Appends, IsAtEnd, Keeps};
+ghost use Rattle.std.specs.Io.KnownBytes.{Appends, IsAtEnd};
 ghost use Rattle.fy_lines.specs.Prefixes.{AppendsProperPrefix};
 ghost use Rattle.fy_lines.specs.Readings.{ReadsWithinLine, ReadsInsideLine};
 ghost use Rattle.fy_spelling.specs.declared.command.TheConstants.{MOST_LINE_BYTES};
@@ -13,7 +13,6 @@ ghost use Rattle.fy_run.specs.GuardTexts.{AllAnswered, AnsweredBefore, FirstAnsw
 ghost use Rattle.fy_run.specs.RunTexts.{IfRunRefusal};
 ghost use Rattle.fy_streams.specs.Stops.{command_stop, IsRunStop};
 
-use crate::entering::enter;
 use fy_audit::{
     Command, LineFault, MOST_LINE_BYTES, ScriptFault, Version, header_text, push_entry_line,
 };
@@ -93,17 +92,11 @@ fn answer<W: Write>(
     ensures err { IfErr result (NoAnswer cluster.old command cluster.new
         (W.contents writer.old) (W.contents writer.new)) }
 {
-    let entry = match enter(cluster, command) {
-        Ok(entry) => entry,
-        Err(stop) => return Err(stop),
-    };
+    let (by, act) = command.into_parts();
+    let entry = cluster.enter(by, act)?;
     text.clear();
-    let Ok(()) = push_entry_line(text, &entry) else {
-        return Err(Stop::NoMemory);
-    };
-    let Ok(()) = write_bytes(writer, text) else {
-        return Err(Stop::Write);
-    };
+    push_entry_line(text, &entry)?;
+    write_bytes(writer, text)?;
     Ok(())
 }
 
@@ -149,15 +142,11 @@ pub fn answer_lines<R: BufRead, W: Write>(
     let (mut line, mut text) = (Vec::new(alloc), Vec::new(alloc));
     let mut number = 1;
     'lines: loop {
-        let command = match next_command(alloc, reader, &mut line, number) {
-            Ok(Some(command)) => command,
-            Ok(None) => return Ok(true),
-            Err(stop) => return Err(stop),
+        let Some(command) = next_command(alloc, reader, &mut line, number)? else {
+            return Ok(true);
         };
-        match answer(&mut cluster, command, &mut text, writer) {
-            Ok(()) => number += 1,
-            Err(stop) => return Err(stop),
-        }
+        answer(&mut cluster, command, &mut text, writer)?;
+        number += 1;
     }
 }
 
@@ -197,14 +186,8 @@ pub fn run_guard<R: BufRead, W: Write>(
         (AppendsProperPrefix (W.contents writer.old) (W.contents writer.new)) }
     ensures no_other { IfErr result IsRunStop }
 {
-    let Ok(config) = config.try_copy(alloc) else {
-        return Err(Stop::NoMemory);
-    };
-    let Ok(cluster) = ClusterState::make(alloc, config) else {
-        return Err(Stop::NoMemory);
-    };
-    let Ok(()) = write_bytes(writer, header_text(Version::Second).as_bytes()) else {
-        return Err(Stop::Write);
-    };
+    let config = config.try_copy(alloc)?;
+    let cluster = ClusterState::make(alloc, config)?;
+    write_bytes(writer, header_text(Version::Second).as_bytes())?;
     answer_lines(alloc, cluster, reader, writer)
 }

@@ -2,7 +2,6 @@
 //! line.
 #![tactic(auto)]
 
-mod entering;
 mod guard;
 mod run;
 

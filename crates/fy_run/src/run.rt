@@ -12,7 +12,6 @@ ghost use Rattle.fy_run.specs.RunTexts.{asked, made_by, lines_of_entries, HasAud
 ghost use Rattle.fy_streams.specs.Outputs.{FlushesFront, IsOutputStop};
 ghost use Rattle.fy_streams.specs.Stops.{script_stop, IsRunStop};
 
-use crate::entering::enter;
 use fy_audit::{Command, MOST_SCRIPT_BYTES, ScriptFault, Version, read_script};
 use fy_cluster::{ClusterState, Config};
 use fy_lines::{InputFault, laws, read_limited};
@@ -54,14 +53,9 @@ fn answer_all<W: Write>(
 {
     laws::short_after_whole();
     for command in commands {
-        let entry = match enter(cluster, command) {
-            Ok(entry) => entry,
-            Err(stop) => return Err(stop),
-        };
-        match buffer.push(writer, &entry) {
-            Ok(()) => {}
-            Err(stop) => return Err(stop),
-        }
+        let (by, act) = command.into_parts();
+        let entry = cluster.enter(by, act)?;
+        buffer.push(writer, &entry)?;
     }
     Ok(())
 }
@@ -88,22 +82,11 @@ fn write_answers<W: Write>(
     ensures fault { IfErr result IsOutputStop }
 {
     laws::short_after_whole();
-    let Ok(config) = config.try_copy(alloc) else {
-        return Err(Stop::NoMemory);
-    };
-    let Ok(mut cluster) = ClusterState::make(alloc, config) else {
-        return Err(Stop::NoMemory);
-    };
-    let Ok(mut buffer) = AuditBuffer::begin(alloc, Version::Second) else {
-        return Err(Stop::NoMemory);
-    };
-    match answer_all(&mut cluster, commands, &mut buffer, writer) {
-        Ok(()) => {}
-        Err(stop) => return Err(stop),
-    }
-    let Ok(()) = buffer.flush(writer) else {
-        return Err(Stop::Write);
-    };
+    let config = config.try_copy(alloc)?;
+    let mut cluster = ClusterState::make(alloc, config)?;
+    let mut buffer = AuditBuffer::begin(alloc, Version::Second)?;
+    answer_all(&mut cluster, commands, &mut buffer, writer)?;
+    buffer.flush(writer)?;
     Ok(())
 }
 
@@ -176,15 +159,10 @@ pub fn run_script<R: Read, W: Write>(
         (MOST_SCRIPT_BYTES + 1) }
 {
     fy_cluster::laws::one_entry_more();
-    let commands = match load_script(alloc, reader) {
-        Ok(commands) => commands,
-        Err(stop) => return Err(stop),
-    };
+    let commands = load_script(alloc, reader)?;
     if commands.len() > config.journal_limit() as usize {
         return Err(Stop::JournalFull);
     }
-    match write_answers(alloc, config, commands, writer) {
-        Ok(()) => Ok(true),
-        Err(stop) => Err(stop),
-    }
+    write_answers(alloc, config, commands, writer)?;
+    Ok(true)
 }

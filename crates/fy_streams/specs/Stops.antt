@@ -22,6 +22,8 @@ use Rattle.fy_judge.specs.declared.stop.JudgeFault.{JudgeFault}
 use Rattle.fy_judge.specs.declared.stop.JudgeFault.TheVariants.{Syntax, Policy, Twice, TooMany, Unknown, PolicyUnmet}
 use Rattle.fy_judge.specs.declared.stop.JudgeStop.{JudgeStop}
 use Rattle.fy_judge.specs.declared.stop.JudgeStop.TheVariants as judge
+use Rattle.fy_cluster.specs.declared.fault.Fault.{Fault}
+use Rattle.fy_cluster.specs.declared.fault.Fault.TheVariants as cluster
 use Rattle.fy_streams.specs.declared.stop.Stop.{Stop}
 use Rattle.fy_streams.specs.declared.stop.Stop.TheVariants.{JudgeTooLong, JudgeLine, Config, Script, JournalFull, Audit, Events, SwarmClose, Read, Write, NoMemory}
 
@@ -144,6 +146,11 @@ judge_stop (judge.Line line fault) = JudgeLine line fault
 judge_stop judge.Read = Read
 judge_stop judge.Write = Write
 judge_stop judge.NoMemory = NoMemory
+
+-- the stop for an act that isn't entered
+abbrev pub entering_stop : Fault → Stop
+entering_stop cluster.JournalFull = JournalFull
+entering_stop cluster.NoMemory = NoMemory
 
 -- the stop for a cluster file that is refused
 abbrev pub config_stop : ConfigFault → Stop

@@ -86,12 +86,8 @@ impl AuditBuffer {
         ensures fault { IfErr result IsOutputStop }
     {
         laws::short_after_whole();
-        let Ok(()) = self.flush_if_full(writer) else {
-            return Err(Stop::Write);
-        };
-        let Ok(()) = push_entry_line(&mut self.gathered, entry) else {
-            return Err(Stop::NoMemory);
-        };
+        self.flush_if_full(writer)?;
+        push_entry_line(&mut self.gathered, entry)?;
         Ok(())
     }
 }
@@ -112,16 +108,10 @@ pub fn write_audit<W: Write>(alloc: Global, journal: &Journal, writer: &mut W) -
     ensures fault { IfErr result IsOutputStop }
 {
     laws::short_after_whole();
-    let Ok(mut buffer) = AuditBuffer::begin(alloc, journal.version()) else {
-        return Err(Stop::NoMemory);
-    };
+    let mut buffer = AuditBuffer::begin(alloc, journal.version())?;
     for entry in journal.entries() {
-        if let Err(stop) = buffer.push(writer, entry) {
-            return Err(stop);
-        }
+        buffer.push(writer, entry)?;
     }
-    let Ok(()) = buffer.flush(writer) else {
-        return Err(Stop::Write);
-    };
+    buffer.flush(writer)?;
     Ok(true)
 }

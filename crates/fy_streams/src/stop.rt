@@ -7,6 +7,7 @@ ghost use Rattle.fy_streams.specs.Stops.{fault_word, line_word, audit_line_word,
 ghost use Rattle.fy_streams.specs.declared.stop.Stop.TheVariants.{Write as write_fault};
 
 use fy_audit::{AuditFault, AuditLineFault, LineFault, ScriptFault};
+use fy_cluster::Fault;
 use fy_config::{ConfigFault, Part};
 use fy_events::{EventFault, EventsFault};
 use fy_judge::{JudgeFault, JudgeStop};
@@ -61,6 +62,19 @@ impl From<JudgeStop> for Stop {
             JudgeStop::Read => Stop::Read,
             JudgeStop::Write => Stop::Write,
             JudgeStop::NoMemory => Stop::NoMemory,
+        }
+    }
+}
+
+impl From<Fault> for Stop {
+    ghost use Rattle.fy_streams.specs.Stops.{entering_stop};
+
+    ghost from_gives = { λ fault stop. stop ≡ entering_stop fault };
+
+    fn from(fault: Fault) -> Stop {
+        match fault {
+            Fault::JournalFull => Stop::JournalFull,
+            Fault::NoMemory => Stop::NoMemory,
         }
     }
 }

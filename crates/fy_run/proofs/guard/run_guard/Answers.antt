@@ -12,16 +12,16 @@ use Rattle.fy_run.specs.GuardTexts.{AllAnswered, AnsweredBefore, AnsweredBeforeC
 use Rattle.fy_run.proofs.Guarding.{all_headed, appends_headed, at_least_headed, before_headed, header_short, short_headed, some_headed, turn_headed}
 use Rattle.fy_run.proofs.guard.run_guard.Goals as goal
 
-pub returns-in_default-write_bytes-clause-front_out :
-    goal.returns-in_default-write_bytes-clause-front_out
-returns-in_default-write_bytes-clause-front_out g c _ =
+pub returns-in_err-write_bytes-clause-front_out :
+    goal.returns-in_err-write_bytes-clause-front_out
+returns-in_err-write_bytes-clause-front_out g c _ =
     let before = g.W.Write.contents c.args.writer.now in
     let after = g.W.Write.contents c.write_bytes.new.writer in
     let bytes = c.as_bytes.ensures.value in
     let text = c.header_text.ensures in
     let head : c.as_bytes.result.now ≡ header Second = cc in
     header_short c.args.config.now (g.R.Read.remaining c.args.reader.now) before after
-    (subst (AppendsProperPrefix before after) head c.in_default-write_bytes.ensures.short)
+    (subst (AppendsProperPrefix before after) head c.in_err-write_bytes.ensures.short)
 
 pub returns-clause-answered : goal.returns-clause-answered
 returns-clause-answered g c =
@@ -34,8 +34,8 @@ returns-clause-answered g c =
     let text = c.header_text.ensures in
     let head : c.as_bytes.result.now ≡ header Second = cc in
     let out : Appends before mid (header Second) =
-    subst (Appends before mid) head c.in-Ok-write_bytes.ensures.ok in
-    let same : c.in-Ok-make.cluster ≡ opened setup = c.in-Ok-make.ensures ∙ ap opened c.in-Ok.ensures in
+    subst (Appends before mid) head c.in_ok-write_bytes.ensures.ok in
+    let same : c.in_ok-cluster.cluster ≡ opened setup = c.in_ok-cluster.ensures ∙ ap opened c.in_ok-config.ensures in
     IfOk-weaker c.answer_lines.result _ _
     (λ done those. (
       those.0,
@@ -56,8 +56,8 @@ returns-clause-refused g c =
     let text = c.header_text.ensures in
     let head : c.as_bytes.result.now ≡ header Second = cc in
     let out : Appends before mid (header Second) =
-    subst (Appends before mid) head c.in-Ok-write_bytes.ensures.ok in
-    let same : c.in-Ok-make.cluster ≡ opened setup = c.in-Ok-make.ensures ∙ ap opened c.in-Ok.ensures in
+    subst (Appends before mid) head c.in_ok-write_bytes.ensures.ok in
+    let same : c.in_ok-cluster.cluster ≡ opened setup = c.in_ok-cluster.ensures ∙ ap opened c.in_ok-config.ensures in
     IfErr-weaker c.answer_lines.result _ _
     (λ stop those. before_headed setup known stop (Appends mid after) (Appends before after)
     (appends_headed before mid after out)
@@ -77,8 +77,8 @@ returns-clause-in_turn g c =
     let text = c.header_text.ensures in
     let head : c.as_bytes.result.now ≡ header Second = cc in
     let out : Appends before mid (header Second) =
-    subst (Appends before mid) head c.in-Ok-write_bytes.ensures.ok in
-    let same : c.in-Ok-make.cluster ≡ opened setup = c.in-Ok-make.ensures ∙ ap opened c.in-Ok.ensures in
+    subst (Appends before mid) head c.in_ok-write_bytes.ensures.ok in
+    let same : c.in_ok-cluster.cluster ≡ opened setup = c.in_ok-cluster.ensures ∙ ap opened c.in_ok-config.ensures in
     inr (turn_headed setup ReadsWithinLine known left (AppendsAtLeast mid after)
     (AppendsAtLeast before after) (at_least_headed before mid after out)
     (subst (λ from. AnsweredInTurn (AnsweredFrom from) known left (AppendsAtLeast mid after)) same
@@ -96,8 +96,8 @@ returns-clause-read_fault g c is =
     let text = c.header_text.ensures in
     let head : c.as_bytes.result.now ≡ header Second = cc in
     let out : Appends before mid (header Second) =
-    subst (Appends before mid) head c.in-Ok-write_bytes.ensures.ok in
-    let same : c.in-Ok-make.cluster ≡ opened setup = c.in-Ok-make.ensures ∙ ap opened c.in-Ok.ensures in
+    subst (Appends before mid) head c.in_ok-write_bytes.ensures.ok in
+    let same : c.in_ok-cluster.cluster ≡ opened setup = c.in_ok-cluster.ensures ∙ ap opened c.in_ok-config.ensures in
     turn_headed setup (λ rest left. ReadsInsideLine rest left MOST_LINE_BYTES) known left
     (Appends mid after) (Appends before after) (appends_headed before mid after out)
     (subst (λ from. AnsweredBeforeCut (AnsweredFrom from) known left (Appends mid after)) same
@@ -115,8 +115,8 @@ returns-clause-no_memory g c is =
     let text = c.header_text.ensures in
     let head : c.as_bytes.result.now ≡ header Second = cc in
     let out : Appends before mid (header Second) =
-    subst (Appends before mid) head c.in-Ok-write_bytes.ensures.ok in
-    let same : c.in-Ok-make.cluster ≡ opened setup = c.in-Ok-make.ensures ∙ ap opened c.in-Ok.ensures in
+    subst (Appends before mid) head c.in_ok-write_bytes.ensures.ok in
+    let same : c.in_ok-cluster.cluster ≡ opened setup = c.in_ok-cluster.ensures ∙ ap opened c.in_ok-config.ensures in
     inr (turn_headed setup ReadsWithinLine known left (Appends mid after) (Appends before after)
     (appends_headed before mid after out)
     (subst (λ from. AnsweredInTurn (AnsweredFrom from) known left (Appends mid after)) same
@@ -133,8 +133,8 @@ returns-clause-front_out g c is =
     let text = c.header_text.ensures in
     let head : c.as_bytes.result.now ≡ header Second = cc in
     let out : Appends before mid (header Second) =
-    subst (Appends before mid) head c.in-Ok-write_bytes.ensures.ok in
-    let same : c.in-Ok-make.cluster ≡ opened setup = c.in-Ok-make.ensures ∙ ap opened c.in-Ok.ensures in
+    subst (Appends before mid) head c.in_ok-write_bytes.ensures.ok in
+    let same : c.in_ok-cluster.cluster ≡ opened setup = c.in_ok-cluster.ensures ∙ ap opened c.in_ok-config.ensures in
     some_headed setup known (AppendsProperPrefix mid after) (AppendsProperPrefix before after)
     (short_headed before mid after out)
     (subst (λ from. FirstAnswered (AnsweredFrom from) known (AppendsProperPrefix mid after)) same

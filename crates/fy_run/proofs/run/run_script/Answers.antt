@@ -1,13 +1,16 @@
 use Rattle.std.proofs.Common.{inr, arith, refl}
+use Rattle.std.proofs.lemmas.Result.{err_from_is_err_and}
 use Rattle.std.specs.Io.KnownBytes.{Appends}
 use Rattle.fy_lines.specs.Prefixes.{AppendsProperPrefix}
 use Rattle.fy_run.proofs.Acting.{has_written, is_refused, is_full}
 use Rattle.fy_run.proofs.run.run_script.Goals as goal
 
-pub returns-in-Err-clause-refused : goal.returns-in-Err-clause-refused
-returns-in-Err-clause-refused g c =
-    is_refused c.args.config.now (g.R.Read.remaining c.args.reader.now) c.in-Err.stop
-    c.in-Err.ensures.refused c.in-Err.ensures.no_other.0
+pub returns-in_err-commands-clause-refused : goal.returns-in_err-commands-clause-refused
+returns-in_err-commands-clause-refused g c =
+    let p = err_from_is_err_and c.from_residual.result c.from_residual.ensures.1 in
+    rw (p.1, p.2)
+    (is_refused c.args.config.now (g.R.Read.remaining c.args.reader.now) c.in_err-commands.field-0.0
+    c.in_err-commands.ensures.refused c.in_err-commands.ensures.no_other.0)
 
 pub returns-then-len-journal_limit-clause-refused :
     goal.returns-then-len-journal_limit-clause-refused
@@ -15,42 +18,42 @@ returns-then-len-journal_limit-clause-refused g c =
     let many = c.len.ensures in
     let limit = c.journal_limit.ensures in
     let more = c.if-len-journal_limit.true in
-    is_full c.args.config.now (g.R.Read.remaining c.args.reader.now) c.in-Ok.commands.items
-    c.in-Ok.ensures.read (omega arith)
+    is_full c.args.config.now (g.R.Read.remaining c.args.reader.now) c.in_ok-commands.commands.items
+    c.in_ok-commands.ensures.read (omega arith)
 
-pub returns-in-Ok-write_answers-clause-done : goal.returns-in-Ok-write_answers-clause-done
-returns-in-Ok-write_answers-clause-done g c =
+pub returns-clause-done : goal.returns-clause-done
+returns-clause-done g c =
     let many = c.len.ensures in
     let limit = c.journal_limit.ensures in
     let few = c.if-len-journal_limit.false in (
       refl,
       has_written c.one_entry_more.ensures.next c.args.config.now
-          (g.R.Read.remaining c.args.reader.now) c.in-Ok.commands.items
+          (g.R.Read.remaining c.args.reader.now) c.in_ok-commands.commands.items
           (Appends (g.W.Write.contents c.args.writer.now)
           (g.W.Write.contents c.write_answers.new.writer))
-          c.in-Ok.ensures.read (omega arith) c.in-Ok-write_answers.ensures.ok,
+          c.in_ok-commands.ensures.read (omega arith) c.in_ok-write_answers.ensures.ok,
     )
 
-pub returns-in-Err-write_answers-clause-front_out :
-    goal.returns-in-Err-write_answers-clause-front_out
-returns-in-Err-write_answers-clause-front_out g c _ =
+pub returns-in_err-write_answers-clause-front_out :
+    goal.returns-in_err-write_answers-clause-front_out
+returns-in_err-write_answers-clause-front_out g c _ =
     let many = c.len.ensures in
     let limit = c.journal_limit.ensures in
     let few = c.if-len-journal_limit.false in
     has_written c.one_entry_more.ensures.next c.args.config.now
-    (g.R.Read.remaining c.args.reader.now) c.in-Ok.commands.items
+    (g.R.Read.remaining c.args.reader.now) c.in_ok-commands.commands.items
     (AppendsProperPrefix (g.W.Write.contents c.args.writer.now)
     (g.W.Write.contents c.write_answers.new.writer))
-    c.in-Ok.ensures.read (omega arith) c.in-Err-write_answers.ensures.short
+    c.in_ok-commands.ensures.read (omega arith) c.in_err-write_answers.ensures.short
 
-pub returns-in-Err-write_answers-clause-no_memory :
-    goal.returns-in-Err-write_answers-clause-no_memory
-returns-in-Err-write_answers-clause-no_memory g c _ =
+pub returns-in_err-write_answers-clause-no_memory :
+    goal.returns-in_err-write_answers-clause-no_memory
+returns-in_err-write_answers-clause-no_memory g c _ =
     let many = c.len.ensures in
     let limit = c.journal_limit.ensures in
     let few = c.if-len-journal_limit.false in
     inr (has_written c.one_entry_more.ensures.next c.args.config.now
-    (g.R.Read.remaining c.args.reader.now) c.in-Ok.commands.items
+    (g.R.Read.remaining c.args.reader.now) c.in_ok-commands.commands.items
     (AppendsProperPrefix (g.W.Write.contents c.args.writer.now)
     (g.W.Write.contents c.write_answers.new.writer))
-    c.in-Ok.ensures.read (omega arith) c.in-Err-write_answers.ensures.short)
+    c.in_ok-commands.ensures.read (omega arith) c.in_err-write_answers.ensures.short)
