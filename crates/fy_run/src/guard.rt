@@ -71,7 +71,8 @@ fn next_command<R: BufRead>(
     }
 }
 
-/// Applies a command and writes its entry, with one call of `write` where the writer takes it whole.
+/// Applies a command and writes its entry, with one call of `write` where the writer takes it
+/// whole.
 ///
 /// # Errors
 ///
