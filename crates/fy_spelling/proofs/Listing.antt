@@ -1,12 +1,13 @@
 -- what is found in an act's value is the act that is listed so
-use Rattle.std.proofs.Common.{◌≡◌, ℕ, Bool, true, false, cond, List, [], ◌∷◌, codes, Option, Some, option_map, bytes_eq, refl, sym, ap, subst, ◌∙◌}
+use Rattle.std.proofs.Common.{◌≡◌, ℕ, Bool, true, false, cond, List, [], ◌∷◌, codes, Option, Some, None, option_map, bytes_eq, refl, sym, ap, subst, ◌∙◌}
 use Rattle.std.proofs.lemmas.Slice.Eq.{bytes_eq-Decides}
 use Rattle.serde_json.specs.Data.{Data}
 use Rattle.fy_kinds.specs.Kinds.{Deed}
 use Rattle.fy_kinds.specs.Members.{Members}
 use Rattle.fy_kinds.specs.declared.order.Target.{Target}
 use Rattle.fy_locality.specs.declared.ProcId.{ProcId}
-use Rattle.fy_spelling.specs.Candidate.{sole, one, two, three, five, u64_from, u32_from, process_from, members_from, kind_from, target_from, kinds_from, payload_from, target_in, scope_from, u64_in, process_in, clog_in, order_in, form_in, begin_in, give_in, protection_in, resend_in, take_in, copy_in, replace_in, clog_or_tick_from, message_act_from, rights_act_from, healing_act_from, named_act_from, act_from, command_from}
+use Rattle.std.specs.Option.{option_or}
+use Rattle.fy_spelling.specs.Candidate.{sole, one, two, three, five, u64_from, u32_from, process_from, members_from, kind_from, target_from, kinds_from, payload_from, target_in, scope_from, u64_in, process_in, clog_in, order_in, form_in, begin_in, give_in, protection_in, resend_in, take_in, copy_in, replace_in, clog_or_tick_from, message_act_from, rights_act_from, healing_act_from, plain_act_from, named_act_from, act_from, command_from}
 use Rattle.fy_spelling.specs.Command.{gathered, asking}
 use Rattle.fy_spelling.specs.Fits.{IsU32, IsU64, IsProcess, FitsTarget, FitsAct}
 use Rattle.fy_spelling.specs.Values.{with_fields, under, whole, order_value, protection_value, process_value, act_listing, kinds_in}
@@ -290,7 +291,7 @@ told_moved name d a =
     (at_word Lists name (codes "resend") _ _ d a (told_resend d a)
     (at_word Lists name (codes "sync") _ _ d a (told_sync d a)
     (at_word Lists name (codes "up") _ _ d a (told_up d a)
-    (told_aimed name d a)))))
+    (λ e. absurd (let no : ⊥ = cc in no))))))
 
 told_righted : (name : List ℕ) (d : Data) (a : Act) → rights_act_from name d ≡ Some a → Lists (under name d) a
 told_righted name d a =
@@ -300,14 +301,31 @@ told_righted name d a =
     (told_protection act.Protect (codes "protect") (λ kinds p set. refl) (λ p set. refl) (λ p set h. h) d a)
     (at_word Lists name (codes "unprotect") _ _ d a
     (told_protection act.Unprotect (codes "unprotect") (λ kinds p set. refl) (λ p set. refl) (λ p set h. h) d a)
-    (told_moved name d a))))
+    (λ e. absurd (let no : ⊥ = cc in no)))))
 
 told_healed : (name : List ℕ) (d : Data) (a : Act) → healing_act_from name d ≡ Some a → Lists (under name d) a
 told_healed name d a =
     at_word Lists name (codes "copy") _ _ d a (told_copy d a)
     (at_word Lists name (codes "replace") _ _ d a (told_replace d a)
     (at_word Lists name (codes "heal") _ _ d a (told_heal d a)
-    (told_righted name d a)))
+    (λ e. absurd (let no : ⊥ = cc in no))))
+
+-- the first of two, or the other
+at_either : {A : Type 0} (P : Type 0) (p q : Option A) (a : A) → (p ≡ Some a → P) → (q ≡ Some a → P)
+    → option_or p q ≡ Some a → P
+at_either P None q a first second e = second e
+at_either P (Some x) q a first second e = first e
+
+told_plain : (name : List ℕ) (d : Data) (a : Act) → plain_act_from name d ≡ Some a → Lists (under name d) a
+told_plain name d a =
+    let aimed = clog_or_tick_from name d in
+    let moved = message_act_from name d in
+    let righted = rights_act_from name d in
+    at_either _ (option_or (option_or aimed moved) righted) (healing_act_from name d) a
+    (at_either _ (option_or aimed moved) righted a
+    (at_either _ aimed moved a (told_aimed name d a) (told_moved name d a))
+    (told_righted name d a))
+    (told_healed name d a)
 
 -- an act that is no kill
 told_other :
@@ -322,7 +340,7 @@ told_asked name d asked =
     at_word IsFor name (codes "kill") _ _ d asked (told_order d asked)
     (at_word IsFor name (codes "form") _ _ d asked (told_other (under (codes "form") d) _ asked (told_form d))
     (at_word IsFor name (codes "begin") _ _ d asked (told_other (under (codes "begin") d) _ asked (told_begin d))
-    (told_other (under name d) _ asked (told_healed name d))))
+    (told_other (under name d) _ asked (told_plain name d))))
 
 pub told_act : (d : Data) (asked : UncheckedAct) → act_from d ≡ Some asked → IsFor d asked
 told_act d asked e =

@@ -24,7 +24,7 @@ use Rattle.fy_kinds.specs.declared.kind.Kind.TheVariants.{RebootProcess, Reboot,
 use Rattle.fy_kinds.specs.declared.order.Target.{Target}
 use Rattle.fy_grants.specs.declared.grant.Scope.{Scope}
 use Rattle.fy_grants.specs.declared.grant.Scope.TheVariants.{All, Where}
-use Rattle.fy_spelling.specs.Fits.{IsByte, FitsTarget, FitsScope}
+use Rattle.fy_spelling.specs.Fits.{IsByte, FitsTarget, FitsScope, FitsAct}
 use Rattle.fy_spelling.specs.Values.{whole, in_order, act_data, rule_data, reply_data, text_of}
 use Rattle.fy_spelling.specs.Plain.{command_text}
 use Rattle.fy_spelling.specs.Pieces.{target_text, order_text, clog_text, processes_text, deeds_text, form_text, begin_text, give_text, protection_text, act_text, asked_text, rule_text, verdict_text, ruled_text, refusal_text, marked_text, reply_text, entry_pieces, NeedsNoEscape}
@@ -195,6 +195,27 @@ unprotect_same : (p : ProcId) (kinds : Members) → protection_text (codes "{\"u
 unfolding serde_json_on_literals
 unprotect_same p kinds =
     list_shape (codes "{\"unprotect\":{\"kinds\":[") (deeds_text false (in_order kinds)) (codes ",\"process\":") (decimal p.0) ∙ rw (deeds_same false (in_order kinds)) refl
+
+-- the names and bytes of an act that fits need no escape
+pub bare_of : (a : Act) → FitsAct a → NeedsNoEscape a
+bare_of (Kill order) h = h.0
+bare_of (Clog target ticks) h = h.0
+bare_of (Unclog target) h = h
+bare_of (Form members policy) h = tt
+bare_of (Begin team payload) h = h.1
+bare_of (Deliver message) h = tt
+bare_of (Lose message) h = tt
+bare_of (Resend rec process) h = tt
+bare_of (Sync process) h = tt
+bare_of (Up process) h = tt
+bare_of (Tick ticks) h = tt
+bare_of (Give grant) h = h.1
+bare_of (Take actor index) h = tt
+bare_of (Protect process kinds) h = tt
+bare_of (Unprotect process kinds) h = tt
+bare_of (CopyTo from rec to) h = tt
+bare_of (Replace team out into) h = tt
+bare_of (Heal process) h = tt
 
 -- the pieces of an act make its text
 pub act_same : (a : Act) → NeedsNoEscape a → act_text a ≡ compact_text (act_data a)

@@ -1,5 +1,6 @@
 -- what a value asks for, if anything: each act is told by the one member of its object
 use Rattle.std.specs.Prelude.{◌≡◌, ◌<◌, ℕ, ◌^◌, nat_lt, List, [], ◌∷◌, codes, if◌then◌else◌, bytes_eq, Option, Some, None, option_map, Result, Ok, Err}
+use Rattle.std.specs.Option.{option_or}
 use Rattle.serde_json.specs.Data.{Data, Items, no_items, item, Members as Fields, no_members, member}
 use Rattle.serde_json.specs.Find.{as_object, as_array, as_str, as_number, as_u64}
 use Rattle.hex.specs.Hex.{decode_of, encode_lower}
@@ -311,7 +312,7 @@ message_act_from name d =
     else if bytes_eq name (codes "resend") then resend_in d
     else if bytes_eq name (codes "sync") then option_map act.Sync (process_in d)
     else if bytes_eq name (codes "up") then option_map act.Up (process_in d)
-    else clog_or_tick_from name d
+    else None
 
 -- an act of rights, by its name
 abbrev pub rights_act_from : List ℕ → Data → Option Act
@@ -322,7 +323,7 @@ rights_act_from name d =
     option_map (λ p. act.Protect p.0 p.1) (protection_in d)
     else if bytes_eq name (codes "unprotect") then
     option_map (λ p. act.Unprotect p.0 p.1) (protection_in d)
-    else message_act_from name d
+    else None
 
 -- an act of healing, by its name
 abbrev pub healing_act_from : List ℕ → Data → Option Act
@@ -330,7 +331,13 @@ healing_act_from name d =
     if bytes_eq name (codes "copy") then copy_in d
     else if bytes_eq name (codes "replace") then replace_in d
     else if bytes_eq name (codes "heal") then option_map act.Heal (process_in d)
-    else rights_act_from name d
+    else None
+
+-- any act but a kill, a form and a begin: one group at most has its name
+abbrev pub plain_act_from : List ℕ → Data → Option Act
+plain_act_from name d =
+    option_or (option_or (option_or (clog_or_tick_from name d) (message_act_from name d))
+    (rights_act_from name d)) (healing_act_from name d)
 
 -- any act, by its name
 abbrev pub named_act_from : List ℕ → Data → Option UncheckedAct
@@ -338,7 +345,7 @@ named_act_from name d =
     if bytes_eq name (codes "kill") then order_in d
     else if bytes_eq name (codes "form") then option_map Other (form_in d)
     else if bytes_eq name (codes "begin") then option_map Other (begin_in d)
-    else option_map Other (healing_act_from name d)
+    else option_map Other (plain_act_from name d)
 
 -- what an act's value asks for
 abbrev pub act_from : Data → Option UncheckedAct

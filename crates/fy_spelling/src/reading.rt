@@ -2,7 +2,7 @@
 ghost use Rattle.std.specs.Prelude.{◌≡◌, IfOk, IfSome, IfNone, option_map};
 ghost use Rattle.serde_json.specs.Data.{Data};
 ghost use Rattle.serde_json.specs.View.{view};
-ghost use Rattle.fy_spelling.specs.Candidate.{u64_in, process_in, clog_in, order_in, form_in, begin_in, give_in, protection_in, resend_in, take_in, copy_in, replace_in, clog_or_tick_from, message_act_from, rights_act_from, healing_act_from, named_act_from, act_from, command_from, IsCheckedAct};
+ghost use Rattle.fy_spelling.specs.Candidate.{u64_in, process_in, clog_in, order_in, form_in, begin_in, give_in, protection_in, resend_in, take_in, copy_in, replace_in, clog_or_tick_from, message_act_from, rights_act_from, healing_act_from, plain_act_from, named_act_from, act_from, command_from, IsCheckedAct};
 ghost use Rattle.fy_spelling.specs.Command.{IsJson, LineAnswers};
 ghost use Rattle.fy_spelling.specs.declared.reading.UncheckedAct.TheVariants.{Other};
 
@@ -219,7 +219,7 @@ fn message_act_from(name: &str, value: &Value) -> Option<Act>
             let process = process_in(value)?;
             Some(Act::Up { process })
         }
-        _ => clog_or_tick_from(name, value),
+        _ => None,
     }
 }
 
@@ -238,11 +238,11 @@ fn rights_act_from(name: &str, value: &Value) -> Option<Act>
             let (process, kinds) = protection_in(value)?;
             Some(Act::Unprotect { process, kinds })
         }
-        _ => message_act_from(name, value),
+        _ => None,
     }
 }
 
-/// An act of healing, or any act but a kill, a form or a begin, by its name.
+/// An act of healing, by its name.
 fn healing_act_from(name: &str, value: &Value) -> Option<Act>
     ensures { result ≡ healing_act_from name.now (view value.now) }
 {
@@ -253,8 +253,18 @@ fn healing_act_from(name: &str, value: &Value) -> Option<Act>
             let process = process_in(value)?;
             Some(Act::Heal { process })
         }
-        _ => rights_act_from(name, value),
+        _ => None,
     }
+}
+
+/// Any act but a kill, a form and a begin, by its name: one group at most has it.
+fn plain_act_from(name: &str, value: &Value) -> Option<Act>
+    ensures { result ≡ plain_act_from name.now (view value.now) }
+{
+    clog_or_tick_from(name, value)
+        .or(message_act_from(name, value))
+        .or(rights_act_from(name, value))
+        .or(healing_act_from(name, value))
 }
 
 /// An act that is no kill.
@@ -279,7 +289,7 @@ fn named_act_from(
         "kill" => Ok(order_in(value)),
         "form" => Ok(other(form_in(alloc, value)?)),
         "begin" => Ok(other(begin_in(alloc, value)?)),
-        _ => Ok(other(healing_act_from(name, value))),
+        _ => Ok(other(plain_act_from(name, value))),
     }
 }
 

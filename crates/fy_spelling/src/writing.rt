@@ -1,5 +1,5 @@
 //! Texts of acts, replies, entries and commands, written after what a buffer has.
-ghost use Rattle.std.specs.Prelude.{◌≡◌, ◌++◌, OnOk, OnErr, IfOk, decimal, codes, string_bytes, take};
+ghost use Rattle.std.specs.Prelude.{◌≡◌, ◌+◌, ◌<◌, ◌≤◌, ◌++◌, OnOk, OnErr, IfOk, decimal, codes, string_bytes, length, take, vec_capacity};
 ghost use Rattle.fy_spelling.specs.Values.{text_of};
 ghost use Rattle.fy_spelling.specs.AppendsOrOom.{AppendsOrOom};
 ghost use Rattle.fy_spelling.specs.Pieces.{one_text, between_text, asked_text, front_text, entry_pieces, NeedsNoEscape};
@@ -8,7 +8,7 @@ ghost use Rattle.fy_spelling.specs.Plain.{command_text};
 mod acts;
 mod replies;
 
-use crate::fits::entry_is_representable;
+use crate::fits::{act_fits, entry_is_representable};
 use crate::{Command, Entry};
 use acts::put_act;
 use itoa::Buffer;
@@ -18,7 +18,7 @@ use std::alloc::{AllocError, Global};
 /// Writes a text.
 #[inline(always)]
 fn put(out: &mut Vec<u8>, text: &str) -> Result<(), AllocError>
-    ensures { AppendsOrOom result out.old.items out.new.items text.now }
+    ensures { AppendsOrOom result out.old out.new text.now }
 {
     out.extend_from_slice(text.as_bytes())
 }
@@ -26,7 +26,7 @@ fn put(out: &mut Vec<u8>, text: &str) -> Result<(), AllocError>
 /// Writes a number in decimal.
 #[inline(always)]
 fn put_decimal(out: &mut Vec<u8>, n: u64) -> Result<(), AllocError>
-    ensures { AppendsOrOom result out.old.items out.new.items (decimal n) }
+    ensures { AppendsOrOom result out.old out.new (decimal n) }
 {
     let mut digits = Buffer::new();
     put(out, digits.format(n))
@@ -35,7 +35,7 @@ fn put_decimal(out: &mut Vec<u8>, n: u64) -> Result<(), AllocError>
 /// A text and then a number.
 #[inline(always)]
 fn put_number(out: &mut Vec<u8>, head: &str, n: u64) -> Result<(), AllocError>
-    ensures { AppendsOrOom result out.old.items out.new.items (head.now ++ decimal n) }
+    ensures { AppendsOrOom result out.old out.new (head.now ++ decimal n) }
 {
     put(out, head)?;
     put_decimal(out, n)
@@ -44,7 +44,7 @@ fn put_number(out: &mut Vec<u8>, head: &str, n: u64) -> Result<(), AllocError>
 /// A text and then a word.
 #[inline(always)]
 fn put_word(out: &mut Vec<u8>, head: &str, word: &str) -> Result<(), AllocError>
-    ensures { AppendsOrOom result out.old.items out.new.items (head.now ++ word.now) }
+    ensures { AppendsOrOom result out.old out.new (head.now ++ word.now) }
 {
     put(out, head)?;
     put(out, word)
@@ -53,7 +53,7 @@ fn put_word(out: &mut Vec<u8>, head: &str, word: &str) -> Result<(), AllocError>
 /// A number between two texts.
 #[inline(always)]
 fn put_between(out: &mut Vec<u8>, head: &str, n: u64, tail: &str) -> Result<(), AllocError>
-    ensures { AppendsOrOom result out.old.items out.new.items (between_text head.now n tail.now) }
+    ensures { AppendsOrOom result out.old out.new (between_text head.now n tail.now) }
 {
     put_number(out, head, n)?;
     put(out, tail)
@@ -62,14 +62,14 @@ fn put_between(out: &mut Vec<u8>, head: &str, n: u64, tail: &str) -> Result<(), 
 /// An object with one number.
 #[inline(always)]
 fn put_one(out: &mut Vec<u8>, head: &str, n: u64) -> Result<(), AllocError>
-    ensures { AppendsOrOom result out.old.items out.new.items (one_text head.now n) }
+    ensures { AppendsOrOom result out.old out.new (one_text head.now n) }
 {
     put_between(out, head, n, "}}")
 }
 
 /// Writes a command; where memory is refused, a part of it may stay.
 fn put_pieces(out: &mut Vec<u8>, command: &Command) -> Result<(), AllocError>
-    ensures text { AppendsOrOom result out.old.items out.new.items (asked_text command.now) }
+    ensures text { AppendsOrOom result out.old out.new (asked_text command.now) }
     ensures bare { OnOk result (NeedsNoEscape command.now.act) }
 {
     put_number(out, "{\"by\":", command.by as u64)?;
@@ -87,6 +87,7 @@ fn all_or_nothing(
     ensures answer { result ≡ put }
     ensures ok { OnOk result (out.new.items ≡ out.old.items) }
     ensures err { OnErr result (out.new.items ≡ take length out.old.items) }
+    ensures capacity { vec_capacity out.new ≡ vec_capacity out.old }
 {
     match put {
         Ok(()) => Ok(()),
@@ -113,7 +114,7 @@ pub fn put_command(out: &mut Vec<u8>, command: &Command) -> Result<(), AllocErro
 
 /// Writes an entry up to its reply.
 fn put_front(out: &mut Vec<u8>, entry: &Entry) -> Result<(), AllocError>
-    ensures text { AppendsOrOom result out.old.items out.new.items (front_text entry.now) }
+    ensures text { AppendsOrOom result out.old out.new (front_text entry.now) }
     ensures bare { OnOk result (NeedsNoEscape entry.now.act) }
 {
     put(out, "{\"act\":")?;
@@ -124,7 +125,7 @@ fn put_front(out: &mut Vec<u8>, entry: &Entry) -> Result<(), AllocError>
 
 /// Writes an entry; where memory is refused, a part of it may stay.
 fn put_entry_pieces(out: &mut Vec<u8>, entry: &Entry) -> Result<(), AllocError>
-    ensures text { AppendsOrOom result out.old.items out.new.items (entry_pieces entry.now) }
+    ensures text { AppendsOrOom result out.old out.new (entry_pieces entry.now) }
     ensures bare { OnOk result (NeedsNoEscape entry.now.act) }
 {
     put_front(out, entry)?;
@@ -135,11 +136,16 @@ fn put_entry_pieces(out: &mut Vec<u8>, entry: &Entry) -> Result<(), AllocError>
 ///
 /// # Errors
 ///
-/// `AllocError` where there is no memory for it; the buffer then has what it had.
+/// `AllocError` where there is no memory for it, and the buffer's capacity is too small for it; the
+/// buffer then has what it had.
 pub fn put_entry(out: &mut Vec<u8>, entry: &Entry) -> Result<(), AllocError>
     ensures ok { OnOk result (out.new.items ≡ out.old.items ++ text_of entry.now) }
     ensures err { OnErr result (out.new.items ≡ out.old.items) }
+    ensures full { OnErr result
+        (vec_capacity out.old < length out.old.items + length (text_of entry.now)) }
+    ensures capacity { OnOk result (vec_capacity out.old ≤ vec_capacity out.new) }
 {
+    act_fits(&entry.act);
     let length = out.len();
     let put = put_entry_pieces(out, entry);
     all_or_nothing(out, length, put)

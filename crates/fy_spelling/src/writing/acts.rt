@@ -21,7 +21,7 @@ use std::alloc::AllocError;
 /// An object with two numbers.
 #[inline(always)]
 fn put_two(out: &mut Vec<u8>, a: &str, m: u64, b: &str, n: u64) -> Result<(), AllocError>
-    ensures { AppendsOrOom result out.old.items out.new.items (two_text a.now m b.now n) }
+    ensures { AppendsOrOom result out.old out.new (two_text a.now m b.now n) }
 {
     put_number(out, a, m)?;
     put_one(out, b, n)
@@ -30,7 +30,7 @@ fn put_two(out: &mut Vec<u8>, a: &str, m: u64, b: &str, n: u64) -> Result<(), Al
 /// A name between two texts.
 #[inline(always)]
 fn put_name(out: &mut Vec<u8>, head: &str, name: &Name, tail: &str) -> Result<(), AllocError>
-    ensures text { AppendsOrOom result out.old.items out.new.items (head.now ++ (name.now ++ tail.now)) }
+    ensures text { AppendsOrOom result out.old out.new (head.now ++ (name.now ++ tail.now)) }
     ensures name { OnOk result (is_name name.now ≡ true) }
 {
     put(out, head)?;
@@ -41,7 +41,7 @@ fn put_name(out: &mut Vec<u8>, head: &str, name: &Name, tail: &str) -> Result<()
 /// A number, and then a name under `value`.
 #[inline(always)]
 fn put_valued(out: &mut Vec<u8>, head: &str, n: u64, value: &Name) -> Result<(), AllocError>
-    ensures text { AppendsOrOom result out.old.items out.new.items (valued_text head.now n value.now) }
+    ensures text { AppendsOrOom result out.old out.new (valued_text head.now n value.now) }
     ensures name { OnOk result (is_name value.now ≡ true) }
 {
     put_number(out, head, n)?;
@@ -51,7 +51,7 @@ fn put_valued(out: &mut Vec<u8>, head: &str, n: u64, value: &Name) -> Result<(),
 /// A key, and then a name under `value`.
 #[inline(always)]
 fn put_target(out: &mut Vec<u8>, head: &str, target: &Target, tail: &str) -> Result<(), AllocError>
-    ensures text { AppendsOrOom result out.old.items out.new.items (target_text head.now target.now tail.now) }
+    ensures text { AppendsOrOom result out.old out.new (target_text head.now target.now tail.now) }
     ensures name { OnOk result (FitsTarget target.now) }
 {
     put_word(out, head, target.key.text())?;
@@ -60,7 +60,7 @@ fn put_target(out: &mut Vec<u8>, head: &str, target: &Target, tail: &str) -> Res
 
 /// Writes a target's key and the order's kind, within a kill.
 fn put_keys(out: &mut Vec<u8>, key: &str, kind: &str) -> Result<(), AllocError>
-    ensures { AppendsOrOom result out.old.items out.new.items (keys_text key.now kind.now) }
+    ensures { AppendsOrOom result out.old out.new (keys_text key.now kind.now) }
 {
     put_word(out, "\",\"key\":\"", key)?;
     put_word(out, "\",\"kind\":\"", kind)
@@ -68,7 +68,7 @@ fn put_keys(out: &mut Vec<u8>, key: &str, kind: &str) -> Result<(), AllocError>
 
 /// Writes a kill's floor, and then its target's key and its kind.
 fn put_words(out: &mut Vec<u8>, floor: &str, key: &str, kind: &str) -> Result<(), AllocError>
-    ensures { AppendsOrOom result out.old.items out.new.items (words_text floor.now key.now kind.now) }
+    ensures { AppendsOrOom result out.old out.new (words_text floor.now key.now kind.now) }
 {
     put_word(out, "{\"kill\":{\"floor\":\"", floor)?;
     put_keys(out, key, kind)
@@ -76,7 +76,7 @@ fn put_words(out: &mut Vec<u8>, floor: &str, key: &str, kind: &str) -> Result<()
 
 /// Writes a Kill.
 fn put_kill(out: &mut Vec<u8>, order: &KillOrder) -> Result<(), AllocError>
-    ensures text { AppendsOrOom result out.old.items out.new.items (order_text order.now) }
+    ensures text { AppendsOrOom result out.old out.new (order_text order.now) }
     ensures name { OnOk result (FitsTarget order.now.target) }
 {
     let target = order.target();
@@ -91,7 +91,7 @@ fn put_kill(out: &mut Vec<u8>, order: &KillOrder) -> Result<(), AllocError>
 
 /// Writes a Clog.
 fn put_clog(out: &mut Vec<u8>, target: &Target, ticks: u64) -> Result<(), AllocError>
-    ensures text { AppendsOrOom result out.old.items out.new.items (clog_text target.now ticks) }
+    ensures text { AppendsOrOom result out.old out.new (clog_text target.now ticks) }
     ensures name { OnOk result (FitsTarget target.now) }
 {
     put_word(out, "{\"clog\":{\"key\":\"", target.key.text())?;
@@ -100,7 +100,7 @@ fn put_clog(out: &mut Vec<u8>, target: &Target, ticks: u64) -> Result<(), AllocE
 
 /// Writes the numbers of processes, with commas between.
 fn put_processes(out: &mut Vec<u8>, processes: &[ProcId]) -> Result<(), AllocError>
-    ensures { AppendsOrOom result out.old.items out.new.items (processes_text false processes.now) }
+    ensures { AppendsOrOom result out.old out.new (processes_text false processes.now) }
 {
     let mut later = false;
     for p in processes {
@@ -115,7 +115,7 @@ fn put_processes(out: &mut Vec<u8>, processes: &[ProcId]) -> Result<(), AllocErr
 
 /// Writes a Form.
 fn put_form(out: &mut Vec<u8>, members: &[ProcId], policy: u32) -> Result<(), AllocError>
-    ensures { AppendsOrOom result out.old.items out.new.items (form_text members.now policy) }
+    ensures { AppendsOrOom result out.old out.new (form_text members.now policy) }
 {
     put(out, "{\"form\":{\"members\":[")?;
     put_processes(out, members)?;
@@ -128,7 +128,7 @@ const DIGITS: &[u8; 16] = b"0123456789abcdef";
 /// Two digits for each byte.
 #[tactic(auto, unfolding(hex::specs::Hex::encode_with))]
 fn put_bytes(out: &mut Vec<u8>, bytes: &[u8]) -> Result<(), AllocError>
-    ensures text { AppendsOrOom result out.old.items out.new.items (encode_lower bytes.now) }
+    ensures text { AppendsOrOom result out.old out.new (encode_lower bytes.now) }
     ensures bytes { OnOk result (AllByRecursion IsByte bytes.now) }
 {
     for &byte in bytes {
@@ -141,7 +141,7 @@ fn put_bytes(out: &mut Vec<u8>, bytes: &[u8]) -> Result<(), AllocError>
 
 /// Writes a Begin.
 fn put_begin(out: &mut Vec<u8>, team: u32, payload: &Payload) -> Result<(), AllocError>
-    ensures text { AppendsOrOom result out.old.items out.new.items (begin_text team payload.now) }
+    ensures text { AppendsOrOom result out.old out.new (begin_text team payload.now) }
     ensures bytes { OnOk result (AllByRecursion IsByte payload.now) }
 {
     put(out, "{\"begin\":{\"payload\":\"")?;
@@ -151,7 +151,7 @@ fn put_begin(out: &mut Vec<u8>, team: u32, payload: &Payload) -> Result<(), Allo
 
 /// A word of a list, with a comma where one stands before it.
 fn put_listed(out: &mut Vec<u8>, later: bool, word: &str) -> Result<(), AllocError>
-    ensures { AppendsOrOom result out.old.items out.new.items
+    ensures { AppendsOrOom result out.old out.new
         (comma_if later ++ (codes "\"" ++ (word.now ++ codes "\""))) }
 {
     put_word(out, if later { ",\"" } else { "\"" }, word)?;
@@ -160,7 +160,7 @@ fn put_listed(out: &mut Vec<u8>, later: bool, word: &str) -> Result<(), AllocErr
 
 /// Writes the words of a set of kinds, the mildest first and clogging last.
 fn put_kinds(out: &mut Vec<u8>, kinds: KindSet) -> Result<(), AllocError>
-    ensures { AppendsOrOom result out.old.items out.new.items (deeds_text false (in_order kinds)) }
+    ensures { AppendsOrOom result out.old out.new (deeds_text false (in_order kinds)) }
 {
     let mut later = false;
     for &kind in &MILDEST_FIRST {
@@ -177,7 +177,7 @@ fn put_kinds(out: &mut Vec<u8>, kinds: KindSet) -> Result<(), AllocError>
 
 /// Writes the scope of a grant, and the end of the act.
 fn put_scope(out: &mut Vec<u8>, scope: &Scope) -> Result<(), AllocError>
-    ensures text { AppendsOrOom result out.old.items out.new.items (scope_text scope.now) }
+    ensures text { AppendsOrOom result out.old out.new (scope_text scope.now) }
     ensures name { OnOk result (FitsScope scope.now) }
 {
     match scope {
@@ -188,7 +188,7 @@ fn put_scope(out: &mut Vec<u8>, scope: &Scope) -> Result<(), AllocError>
 
 /// Writes a Give.
 fn put_give(out: &mut Vec<u8>, grant: &Grant) -> Result<(), AllocError>
-    ensures text { AppendsOrOom result out.old.items out.new.items (give_text grant.now) }
+    ensures text { AppendsOrOom result out.old out.new (give_text grant.now) }
     ensures name { OnOk result (FitsScope grant.now.scope) }
 {
     put_number(out, "{\"give\":{\"actor\":", grant.actor as u64)?;
@@ -204,7 +204,7 @@ fn put_protection(
     kinds: KindSet,
     process: ProcId,
 ) -> Result<(), AllocError>
-    ensures { AppendsOrOom result out.old.items out.new.items (protection_text head.now kinds process) }
+    ensures { AppendsOrOom result out.old out.new (protection_text head.now kinds process) }
 {
     put(out, head)?;
     put_kinds(out, kinds)?;
@@ -214,7 +214,7 @@ fn put_protection(
 /// Writes a Resend.
 #[inline(always)]
 fn put_resend(out: &mut Vec<u8>, rec: u32, process: ProcId) -> Result<(), AllocError>
-    ensures { AppendsOrOom result out.old.items out.new.items (act_text (Resend rec process)) }
+    ensures { AppendsOrOom result out.old out.new (act_text (Resend rec process)) }
 {
     let head = "{\"resend\":{\"process\":";
     put_two(out, head, process.0 as u64, ",\"record\":", rec as u64)
@@ -223,7 +223,7 @@ fn put_resend(out: &mut Vec<u8>, rec: u32, process: ProcId) -> Result<(), AllocE
 /// Writes a Take.
 #[inline(always)]
 fn put_take(out: &mut Vec<u8>, actor: u32, index: u32) -> Result<(), AllocError>
-    ensures { AppendsOrOom result out.old.items out.new.items (act_text (Take actor index)) }
+    ensures { AppendsOrOom result out.old out.new (act_text (Take actor index)) }
 {
     let head = "{\"take\":{\"actor\":";
     put_two(out, head, actor as u64, ",\"index\":", index as u64)
@@ -232,7 +232,7 @@ fn put_take(out: &mut Vec<u8>, actor: u32, index: u32) -> Result<(), AllocError>
 /// Writes a CopyTo.
 #[inline(always)]
 fn put_copy(out: &mut Vec<u8>, from: ProcId, rec: u32, to: ProcId) -> Result<(), AllocError>
-    ensures { AppendsOrOom result out.old.items out.new.items (act_text (CopyTo from rec to)) }
+    ensures { AppendsOrOom result out.old out.new (act_text (CopyTo from rec to)) }
 {
     put_number(out, "{\"copy\":{\"from\":", from.0 as u64)?;
     put_two(out, ",\"record\":", rec as u64, ",\"to\":", to.0 as u64)
@@ -241,7 +241,7 @@ fn put_copy(out: &mut Vec<u8>, from: ProcId, rec: u32, to: ProcId) -> Result<(),
 /// A member of a team with the process that takes its place.
 #[inline(always)]
 fn put_replace(out: &mut Vec<u8>, team: u32, member: ProcId, into: ProcId) -> Result<(), AllocError>
-    ensures { AppendsOrOom result out.old.items out.new.items (act_text (Replace team member into)) }
+    ensures { AppendsOrOom result out.old out.new (act_text (Replace team member into)) }
 {
     put_number(out, "{\"replace\":{\"into\":", into.0 as u64)?;
     put_two(out, ",\"out\":", member.0 as u64, ",\"team\":", team as u64)
@@ -249,7 +249,7 @@ fn put_replace(out: &mut Vec<u8>, team: u32, member: ProcId, into: ProcId) -> Re
 
 /// Writes the text of an act.
 pub(super) fn put_act(out: &mut Vec<u8>, act: &Act) -> Result<(), AllocError>
-    ensures text { AppendsOrOom result out.old.items out.new.items (act_text act.now) }
+    ensures text { AppendsOrOom result out.old out.new (act_text act.now) }
     ensures bare { OnOk result (NeedsNoEscape act.now) }
 {
     match act {

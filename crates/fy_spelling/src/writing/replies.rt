@@ -11,7 +11,7 @@ use std::alloc::AllocError;
 
 /// Writes a rule as a list, or `null` for none.
 fn put_rule(out: &mut Vec<u8>, rule: Option<Rule>) -> Result<(), AllocError>
-    ensures { AppendsOrOom result out.old.items out.new.items (rule_text rule) }
+    ensures { AppendsOrOom result out.old out.new (rule_text rule) }
 {
     match rule {
         None => put(out, "null"),
@@ -31,7 +31,7 @@ fn put_rule(out: &mut Vec<u8>, rule: Option<Rule>) -> Result<(), AllocError>
 
 /// Writes the kind that struck, or `null` for none, with the entry's end.
 fn put_struck(out: &mut Vec<u8>, struck: Option<Kind>) -> Result<(), AllocError>
-    ensures { AppendsOrOom result out.old.items out.new.items (struck_text struck) }
+    ensures { AppendsOrOom result out.old out.new (struck_text struck) }
 {
     match struck {
         None => put(out, ",\"struck\":null}}}"),
@@ -41,7 +41,7 @@ fn put_struck(out: &mut Vec<u8>, struck: Option<Kind>) -> Result<(), AllocError>
 
 /// Writes the word of the kind that struck, with the entry's end.
 fn put_kind(out: &mut Vec<u8>, kind: &str) -> Result<(), AllocError>
-    ensures { AppendsOrOom result out.old.items out.new.items
+    ensures { AppendsOrOom result out.old out.new
         (codes ",\"struck\":\"" ++ (kind.now ++ codes "\"}}}")) }
 {
     put_word(out, ",\"struck\":\"", kind)?;
@@ -50,7 +50,7 @@ fn put_kind(out: &mut Vec<u8>, kind: &str) -> Result<(), AllocError>
 
 /// Writes the reply to a kill.
 fn put_verdict(out: &mut Vec<u8>, verdict: &Verdict) -> Result<(), AllocError>
-    ensures { AppendsOrOom result out.old.items out.new.items (verdict_text verdict.now) }
+    ensures { AppendsOrOom result out.old out.new (verdict_text verdict.now) }
 {
     put(out, ",\"reply\":{\"verdict\":{\"rule\":")?;
     put_rule(out, verdict.rule)?;
@@ -59,7 +59,7 @@ fn put_verdict(out: &mut Vec<u8>, verdict: &Verdict) -> Result<(), AllocError>
 
 /// Writes the reply to a clog or to an end of clogs: the rule that bars it, or none.
 fn put_ruled(out: &mut Vec<u8>, rule: Option<Rule>) -> Result<(), AllocError>
-    ensures { AppendsOrOom result out.old.items out.new.items (ruled_text rule) }
+    ensures { AppendsOrOom result out.old out.new (ruled_text rule) }
 {
     put(out, ",\"reply\":{\"ruled\":")?;
     put_rule(out, rule)?;
@@ -68,7 +68,7 @@ fn put_ruled(out: &mut Vec<u8>, rule: Option<Rule>) -> Result<(), AllocError>
 
 /// Writes the reply to a Begin.
 fn put_begun(out: &mut Vec<u8>, rec: u32, first: u64) -> Result<(), AllocError>
-    ensures { AppendsOrOom result out.old.items out.new.items (begun_text rec first) }
+    ensures { AppendsOrOom result out.old out.new (begun_text rec first) }
 {
     put_number(out, ",\"reply\":{\"begun\":{\"first\":", first)?;
     put_between(out, ",\"record\":", rec as u64, "}}}")
@@ -76,7 +76,7 @@ fn put_begun(out: &mut Vec<u8>, rec: u32, first: u64) -> Result<(), AllocError>
 
 /// Writes the reply to a Sync.
 fn put_synced(out: &mut Vec<u8>, first: u64, count: u32) -> Result<(), AllocError>
-    ensures { AppendsOrOom result out.old.items out.new.items (synced_text first count) }
+    ensures { AppendsOrOom result out.old out.new (synced_text first count) }
 {
     put_number(out, ",\"reply\":{\"synced\":{\"count\":", count as u64)?;
     put_between(out, ",\"first\":", first, "}}}")
@@ -84,7 +84,7 @@ fn put_synced(out: &mut Vec<u8>, first: u64, count: u32) -> Result<(), AllocErro
 
 /// Writes the reply to the delivery of an acknowledgement.
 fn put_marked(out: &mut Vec<u8>, acked: bool) -> Result<(), AllocError>
-    ensures { AppendsOrOom result out.old.items out.new.items (marked_text acked) }
+    ensures { AppendsOrOom result out.old out.new (marked_text acked) }
 {
     if acked {
         put(out, ",\"reply\":{\"marked\":true}}")
@@ -129,7 +129,7 @@ fn refusal_word(refusal: Refusal) -> &'static str
 /// What stands behind the word of a refusal: its number, if it has one, and the entry's end.
 #[inline(always)]
 fn put_refusal_end(out: &mut Vec<u8>, refusal: Refusal) -> Result<(), AllocError>
-    ensures { AppendsOrOom result out.old.items out.new.items (refusal_end refusal) }
+    ensures { AppendsOrOom result out.old out.new (refusal_end refusal) }
 {
     match refusal {
         Refusal::TeamShort { policy } => put_between(out, "\",", policy as u64, "]}}"),
@@ -140,7 +140,7 @@ fn put_refusal_end(out: &mut Vec<u8>, refusal: Refusal) -> Result<(), AllocError
 
 /// Writes the reply that refuses an act.
 fn put_refusal(out: &mut Vec<u8>, refusal: Refusal) -> Result<(), AllocError>
-    ensures { AppendsOrOom result out.old.items out.new.items (refusal_text refusal) }
+    ensures { AppendsOrOom result out.old out.new (refusal_text refusal) }
 {
     put_word(out, ",\"reply\":{\"no\":[\"", refusal_word(refusal))?;
     put_refusal_end(out, refusal)
@@ -148,7 +148,7 @@ fn put_refusal(out: &mut Vec<u8>, refusal: Refusal) -> Result<(), AllocError>
 
 /// Writes a reply with what stands before it in an entry, and the entry's end.
 pub(super) fn put_reply(out: &mut Vec<u8>, reply: &Reply) -> Result<(), AllocError>
-    ensures { AppendsOrOom result out.old.items out.new.items (reply_text reply.now) }
+    ensures { AppendsOrOom result out.old out.new (reply_text reply.now) }
 {
     match reply {
         Reply::Verdict(verdict) => put_verdict(out, verdict),

@@ -5,7 +5,7 @@ use Rattle.fy_spelling.proofs.writing.put_command.Goals as goal
 
 pub returns-clause-ok : goal.returns-clause-ok
 returns-clause-ok c =
-    put_whole c.put_pieces-put.result _ _ _ _ c.put_pieces-put.new.out.items _
+    put_whole c.put_pieces-put.result _ _ _ c.args.out.now c.put_pieces-put.new.out _
     c.all_or_nothing.ensures.answer c.put_pieces-put.ensures.text
     (on_ok c.put_pieces-put.result (command_same c.args.command.now) c.put_pieces-put.ensures.bare)
     c.all_or_nothing.ensures.ok
@@ -13,5 +13,5 @@ returns-clause-ok c =
 pub returns-clause-err : goal.returns-clause-err
 returns-clause-err c =
     let count : c.len-length.result ≡ length c.args.out.now.items = search rules in
-    put_none c.put_pieces-put.result _ _ c.args.out.now.items c.put_pieces-put.new.out.items _ c.len-length.result
+    put_none c.put_pieces-put.result _ _ c.args.out.now c.put_pieces-put.new.out _ c.len-length.result
     c.all_or_nothing.ensures.answer c.put_pieces-put.ensures.text count c.all_or_nothing.ensures.err

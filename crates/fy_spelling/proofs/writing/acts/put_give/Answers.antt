@@ -10,7 +10,7 @@ returns-clause-text c =
     let actor = codes "{\"give\":{\"actor\":" ++ decimal grant.actor in
     let middle = codes ",\"kinds\":[" in
     let kinds = deeds_text false (in_order grant.kinds) in
-    joins _ actor (middle ++ (kinds ++ scope_text grant.scope)) _ _ _
+    joins _ actor (middle ++ (kinds ++ scope_text grant.scope)) c.args.out.now c.put_number.new.out _
     c.in_ok-put_number.ensures
-    (joins _ middle (kinds ++ scope_text grant.scope) _ _ _ c.in_ok-put.ensures
-    (joins _ kinds (scope_text grant.scope) _ _ _ c.in_ok-put_kinds.ensures c.put_scope.ensures.text))
+    (joins _ middle (kinds ++ scope_text grant.scope) c.put_number.new.out c.put.new.out _ c.in_ok-put.ensures
+    (joins _ kinds (scope_text grant.scope) c.put.new.out c.put_kinds.new.out _ c.in_ok-put_kinds.ensures c.put_scope.ensures.text))

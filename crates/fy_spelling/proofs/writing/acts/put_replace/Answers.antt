@@ -6,5 +6,5 @@ use Rattle.fy_spelling.proofs.writing.acts.put_replace.Goals as goal
 pub returns : goal.returns
 returns c =
     joins _ (codes "{\"replace\":{\"into\":" ++ decimal c.args.into.0)
-    (two_text (codes ",\"out\":") c.args.member.0 (codes ",\"team\":") c.args.team) _ _ _
+    (two_text (codes ",\"out\":") c.args.member.0 (codes ",\"team\":") c.args.team) c.args.out.now c.put_number.new.out _
     c.in_ok-put_number.ensures c.put_two.ensures

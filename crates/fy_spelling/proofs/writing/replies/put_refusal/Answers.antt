@@ -6,6 +6,6 @@ use Rattle.fy_spelling.proofs.writing.replies.put_refusal.Goals as goal
 pub returns : goal.returns
 returns c =
     let head = codes ",\"reply\":{\"no\":[\"" in
-    joins _ (head ++ refusal_word c.args.refusal) (refusal_end c.args.refusal) _ _ _
-    (c.in_ok-put_word.ensures ∙ ap (λ word. c.args.out.now.items ++ (head ++ word)) c.refusal_word.ensures)
+    joins _ (head ++ refusal_word c.args.refusal) (refusal_end c.args.refusal) c.args.out.now c.put_word.new.out _
+    (c.in_ok-put_word.ensures.0 ∙ ap (λ word. c.args.out.now.items ++ (head ++ word)) c.refusal_word.ensures, c.in_ok-put_word.ensures.1)
     c.put_refusal_end.ensures
