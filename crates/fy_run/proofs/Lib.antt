@@ -1,3 +1,4 @@
 pub mod Acting
 pub mod Gathering
 pub mod Guarding
+pub mod Loading

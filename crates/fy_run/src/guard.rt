@@ -58,6 +58,7 @@ fn next_command<R: BufRead>(
         ReadsInsideLine (R.remaining reader.old) (R.remaining reader.new) MOST_LINE_BYTES) }
     ensures no_further { ReadsWithinLine (R.remaining reader.old) (R.remaining reader.new) }
 {
+    // These faults are of a line, so no `From` says them: it has no number.
     match next_line(reader, line, MOST_LINE_BYTES) {
         Ok(true) => {}
         Ok(false) => return Ok(None),

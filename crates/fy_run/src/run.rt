@@ -10,7 +10,7 @@ ghost use Rattle.fy_audit.specs.declared.script.TheConstants.{MOST_SCRIPT_BYTES}
 ghost use Rattle.fy_cluster.specs.Execution.{opened};
 ghost use Rattle.fy_run.specs.RunTexts.{asked, made_by, lines_of_entries, HasAudit, Runs, IfScriptFault, IfRunRefusal};
 ghost use Rattle.fy_streams.specs.Outputs.{FlushesFront, IsOutputStop};
-ghost use Rattle.fy_streams.specs.Stops.{script_stop, IsRunStop};
+ghost use Rattle.fy_streams.specs.Stops.{IsRunStop};
 
 use fy_audit::{Command, MOST_SCRIPT_BYTES, ScriptFault, Version, read_script};
 use fy_cluster::{ClusterState, Config};
@@ -18,17 +18,6 @@ use fy_lines::{InputFault, laws, read_limited};
 use fy_streams::{AuditBuffer, Stop};
 use std::alloc::Global;
 use std::io::{Read, Write};
-
-/// The stop for a script that is refused.
-fn script_stop(fault: ScriptFault) -> Stop
-    ensures stop { result ≡ script_stop fault }
-    ensures own { IsRunStop result }
-{
-    match fault {
-        ScriptFault::NoMemory => Stop::NoMemory,
-        fault => Stop::Script { fault },
-    }
-}
 
 /// Enters the commands one after another, and puts the line of each entry into the buffer.
 ///
@@ -104,6 +93,7 @@ fn load_script<R: Read>(alloc: Global, reader: &mut R) -> Result<Vec<Command>, S
     ensures no_further { ReadsAtMost (R.remaining reader.old) (R.remaining reader.new)
         (MOST_SCRIPT_BYTES + 1) }
 {
+    // What is too long differs by what is read, so no `From` says it.
     let bytes = match read_limited(alloc, reader, MOST_SCRIPT_BYTES) {
         Ok(bytes) => bytes,
         Err(InputFault::TooLong) => {
@@ -114,10 +104,7 @@ fn load_script<R: Read>(alloc: Global, reader: &mut R) -> Result<Vec<Command>, S
         Err(InputFault::Reader) => return Err(Stop::Read),
         Err(InputFault::NoMemory) => return Err(Stop::NoMemory),
     };
-    match read_script(alloc, &bytes) {
-        Ok(commands) => Ok(commands),
-        Err(fault) => Err(script_stop(fault)),
-    }
+    Ok(read_script(alloc, &bytes)?)
 }
 
 /// Reads a script from the reader to its end, applies its commands to a cluster of this

@@ -1,10 +1,12 @@
 -- what is known of the bytes of a cluster file
 use Rattle.std.proofs.Common.{◌≡◌, ℕ, List, Option, Some, None, Err, subst}
-use Rattle.std.specs.Prelude.{IfSome}
+use Rattle.std.specs.Prelude.{IfSome, Result}
 use Rattle.fy_config.specs.Config.{ConfigOf, UnlessOom}
 use Rattle.fy_config.specs.declared.fault.ConfigFault.{ConfigFault}
 use Rattle.fy_config.specs.declared.fault.ConfigFault.TheVariants.{TooLong, Toml, Field, Limit, Name, Policy, PolicyUnmet, NoMemory}
-use Rattle.fy_streams.specs.Stops.{config_stop, IfConfigFault}
+use Rattle.fy_streams.specs.Stops.{config_stop, IfConfigFault, IsConfigStop}
+use Rattle.fy_streams.specs.declared.stop.Stop.{Stop}
+use Rattle.fy_streams.specs.declared.stop.Stop.TheVariants.{Read}
 
 -- what holds of the bytes that were read holds of those that were to come
 pub if_known : (known : Option (List ℕ)) (read : List ℕ) (P : List ℕ → Type 0) →
@@ -24,3 +26,29 @@ fault_told known read (Name part index) same holds = if_known known read _ same 
 fault_told known read (Policy index) same holds = if_known known read _ same holds
 fault_told known read (PolicyUnmet index) same holds = if_known known read _ same holds
 fault_told known read NoMemory same holds = tt
+
+-- it is a stop of a cluster file
+pub fault_own : (fault : ConfigFault) → IsConfigStop (config_stop fault)
+fault_own TooLong = tt
+fault_own Toml = tt
+fault_own (Field part) = tt
+fault_own (Limit part) = tt
+fault_own (Name part index) = tt
+fault_own (Policy index) = tt
+fault_own (PolicyUnmet index) = tt
+fault_own NoMemory = tt
+
+-- and none of a reader that fails
+pub fault_unread : (fault : ConfigFault) → config_stop fault ≡ Read → ⊥
+fault_unread TooLong is = cc
+fault_unread Toml is = cc
+fault_unread (Field part) is = cc
+fault_unread (Limit part) is = cc
+fault_unread (Name part index) is = cc
+fault_unread (Policy index) is = cc
+fault_unread (PolicyUnmet index) is = cc
+fault_unread NoMemory is = cc
+
+pub same_stop : {T : Type 0} → (result : Result T Stop) (stop other : Stop) →
+    result ≡ Err stop → result ≡ Err other → stop ≡ other
+same_stop result stop other is also = cc

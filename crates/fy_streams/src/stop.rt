@@ -79,6 +79,32 @@ impl From<Fault> for Stop {
     }
 }
 
+impl From<ConfigFault> for Stop {
+    ghost use Rattle.fy_streams.specs.Stops.{config_stop};
+
+    ghost from_gives = { λ fault stop. stop ≡ config_stop fault };
+
+    fn from(fault: ConfigFault) -> Stop {
+        match fault {
+            ConfigFault::NoMemory => Stop::NoMemory,
+            fault => Stop::Config { fault },
+        }
+    }
+}
+
+impl From<ScriptFault> for Stop {
+    ghost use Rattle.fy_streams.specs.Stops.{script_stop};
+
+    ghost from_gives = { λ fault stop. stop ≡ script_stop fault };
+
+    fn from(fault: ScriptFault) -> Stop {
+        match fault {
+            ScriptFault::NoMemory => Stop::NoMemory,
+            fault => Stop::Script { fault },
+        }
+    }
+}
+
 impl From<AllocError> for Stop {
     ghost use Rattle.fy_streams.specs.declared.stop.Stop.TheVariants.{NoMemory};
 

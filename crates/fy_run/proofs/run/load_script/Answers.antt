@@ -1,0 +1,37 @@
+use Rattle.std.proofs.Common.{Err, ◌∙◌, ap, subst}
+use Rattle.std.proofs.lemmas.Result.{err_from_is_err_and}
+use Rattle.fy_audit.specs.Script.{ScriptAnswers}
+use Rattle.fy_streams.specs.Stops.{script_stop}
+use Rattle.fy_streams.specs.declared.stop.Stop.TheVariants.{Read}
+use Rattle.fy_streams.proofs.Loading.{same_stop}
+use Rattle.fy_run.proofs.Loading.{script_told, script_own, script_unfull, script_unread, script_unwritten}
+use Rattle.fy_run.proofs.run.load_script.Goals as goal
+
+pub returns-in_err-read_script-clause-refused : goal.returns-in_err-read_script-clause-refused
+returns-in_err-read_script-clause-refused g c =
+    let known = g.R.Read.remaining c.args.reader.now in
+    let fault = c.in_err-read_script.field-0.0 in
+    let holds =
+    subst (λ bytes. ScriptAnswers bytes (Err fault)) c.deref.ensures.value
+    c.in_err-read_script.ensures.refused in
+    let p = err_from_is_err_and c.from_residual.result c.from_residual.ensures.1 in
+    rw (p.1, p.2) (script_told known c.in-Ok.bytes.items fault c.in-Ok.ensures.all holds)
+
+pub returns-in_err-read_script-clause-no_other : goal.returns-in_err-read_script-clause-no_other
+returns-in_err-read_script-clause-no_other g c =
+    let fault = c.in_err-read_script.field-0.0 in
+    let p = err_from_is_err_and c.from_residual.result c.from_residual.ensures.1 in
+    rw (p.1, p.2) (script_unfull fault, script_unwritten fault)
+
+pub returns-in_err-read_script-clause-own : goal.returns-in_err-read_script-clause-own
+returns-in_err-read_script-clause-own g c =
+    let p = err_from_is_err_and c.from_residual.result c.from_residual.ensures.1 in
+    rw (p.1, p.2) (script_own c.in_err-read_script.field-0.0)
+
+pub returns-in_err-read_script-clause-read_fault :
+    goal.returns-in_err-read_script-clause-read_fault
+returns-in_err-read_script-clause-read_fault g c is =
+    let fault = c.in_err-read_script.field-0.0 in
+    let p = err_from_is_err_and c.from_residual.result c.from_residual.ensures.1 in
+    absurd (script_unread fault
+    (same_stop c.from_residual.result (script_stop fault) Read (p.1 ∙ ap Err p.2) is))
