@@ -1,4 +1,5 @@
--- The values whose compact text reads back: whole numbers of 64 bits, texts in UTF-8, members in order.
+-- The values whose compact text reads back: whole numbers of 64 bits, texts in UTF-8, members in
+-- order.
 use Rattle.std.specs.Prelude.{◌≡◌, ◌<◌, ◌^◌, IsUtf8, ⊤}
 use Rattle.serde_json.specs.Data.{Num, unsigned, negative, float, Data, null, boolean, number, string, array, object, Items, no_items, item, Members, no_members, member, put}
 

@@ -1,9 +1,8 @@
 //! The bounds that the types of acts, replies and entries set, shown for the proof, and the one
 //! that is tested. But for that test the functions do nothing, and the compiler leaves nothing of
 //! them.
-ghost use Rattle.std.specs.Prelude.{◌≡◌, ◌↔◌, IsTrue, true};
+ghost use Rattle.std.specs.Prelude.{◌↔◌, IsTrue, true};
 ghost use Rattle.std.specs.List.{AllByRecursion};
-ghost use Rattle.fy_team.specs.Teams.{AreMembers};
 ghost use Rattle.fy_spelling.specs.Fits.{IsU32, IsU64, IsByte, IsProcess, FitsTarget, FitsScope, FitsMembers, FitsAct, FitsRule, FitsRefusal, FitsReply};
 ghost use Rattle.fy_spelling.specs.Representable.{IsRepresentableRule, IsRepresentableReply, IsRepresentable};
 

@@ -1,6 +1,5 @@
 //! The parts of acts in JSON values: members of objects, numbers, words and lists.
-ghost use Rattle.std.specs.Prelude.{◌≡◌, Some, None, if◌then◌else◌, [], ◌++◌, ◌∷◌, IfOk, OnOk, option_map};
-ghost use Rattle.std.specs.Option.{option_copied};
+ghost use Rattle.std.specs.Prelude.{◌≡◌, Some, None, if◌then◌else◌, IfOk, option_map};
 ghost use Rattle.serde_json.specs.View.{view, items_view, members_view};
 ghost use Rattle.fy_team.specs.Members.{are_members};
 ghost use Rattle.fy_spelling.specs.Candidate.{next_at, sole, one, two, three, five, u64_from, u32_from, process_from, processes_from, members_from, kind_from, key_from, name_from, target_from, kinds_from, payload_from, deeds_from, deed_from, scope_from, target_in};

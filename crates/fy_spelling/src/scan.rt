@@ -1,7 +1,7 @@
 //! Lines in their one plain spelling, read from front to back with no JSON value between. What is
 //! found is what the line says. The scan misses any other spelling, and may miss this one: the line
 //! is then read as a JSON value.
-ghost use Rattle.std.specs.Prelude.{◌≡◌, IfSome};
+ghost use Rattle.std.specs.Prelude.{IfSome};
 ghost use Rattle.fy_spelling.specs.Command.{ParsesAs};
 ghost use Rattle.fy_spelling.specs.EntryLine.{IsTextOf};
 

@@ -1,7 +1,6 @@
 //! `read_command`, the reader of a script's lines: a scan reads a line in its plain spelling, as a
 //! shortcut; any other line is read as a JSON value. Both answer the same, so the scan is there for
 //! speed alone.
-ghost use Rattle.std.specs.Prelude.{◌≡◌};
 ghost use Rattle.fy_spelling.specs.Command.{LineAnswers};
 
 use crate::reading::read_command_by_value;

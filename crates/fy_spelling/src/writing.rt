@@ -1,5 +1,5 @@
 //! Texts of acts, replies, entries and commands, written after what a buffer has.
-ghost use Rattle.std.specs.Prelude.{◌≡◌, ◌+◌, ◌<◌, ◌≤◌, ◌++◌, OnOk, OnErr, IfOk, decimal, codes, string_bytes, length, take, vec_capacity};
+ghost use Rattle.std.specs.Prelude.{◌≡◌, ◌+◌, ◌<◌, ◌≤◌, ◌++◌, OnOk, OnErr, IfOk, decimal, string_bytes, length, take, vec_capacity};
 ghost use Rattle.fy_spelling.specs.Values.{text_of};
 ghost use Rattle.fy_spelling.specs.AppendsOrOom.{AppendsOrOom};
 ghost use Rattle.fy_spelling.specs.Pieces.{one_text, between_text, asked_text, front_text, entry_pieces, NeedsNoEscape};

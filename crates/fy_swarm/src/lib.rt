@@ -1,5 +1,5 @@
-//! The engine of `swarm`: every actor of a cluster is let loose on a thread of its own, and the audit
-//! of what came of it goes out.
+//! The engine of `swarm`: every actor of a cluster is let loose on a thread of its own, and the
+//! audit of what came of it goes out.
 #![tactic(auto)]
 
 mod cast;

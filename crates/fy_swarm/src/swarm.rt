@@ -178,7 +178,8 @@ fn run_all_actors<R: Threads + Wait + Sync>(
 ///
 /// `NoMemory` where memory is refused, to an actor too: nothing is out, or a front of the audit and
 /// never all of it. `Write` where the writer fails or takes no byte: a front of the audit is out,
-/// and never all of it. It is never `SwarmClose`: every seat is handed in, so the cluster is closed.
+/// and never all of it. It is never `SwarmClose`: every seat is handed in, so the cluster is
+/// closed.
 pub fn run_swarm<R: Threads + Wait + Sync, W: Write>(
     rt: &R,
     alloc: Global,

@@ -1,5 +1,5 @@
 //! Scans an act at the front of a line, and gives what stands behind it too.
-ghost use Rattle.std.specs.Prelude.{◌≡◌, ◌++◌, IfSome, codes, decimal};
+ghost use Rattle.std.specs.Prelude.{◌≡◌, ◌++◌, IfSome, codes};
 ghost use Rattle.fy_locality.specs.Key.{key_text};
 ghost use Rattle.fy_kinds.specs.Kinds.{kind_text};
 ghost use Rattle.fy_spelling.specs.Pieces.{one_text, two_text, three_text, valued_text, words_text, scope_text, act_text};

@@ -3,7 +3,7 @@
 //! may miss a reply and never mistake one; what is missed is read as a JSON value.
 ghost use Rattle.std.specs.Prelude.{◌≡◌, ◌++◌, IfSome, codes};
 ghost use Rattle.fy_spelling.specs.Fits.{FitsRule, FitsRefusal, FitsReply};
-ghost use Rattle.fy_spelling.specs.Pieces.{between_text, rule_text, struck_text, verdict_text, ruled_text, refusal_text, marked_text, reply_text};
+ghost use Rattle.fy_spelling.specs.Pieces.{between_text, rule_text, struck_text, refusal_text, reply_text};
 
 use super::words::{is_exactly, kind_after, skip, string_after, u32_after, u64_after};
 use crate::{Refusal, Reply};

@@ -1,5 +1,5 @@
 //! Writes the text of an act: promised byte for byte, cut into pieces at will.
-ghost use Rattle.std.specs.Prelude.{◌≡◌, ◌++◌, OnOk, decimal, codes, true, false};
+ghost use Rattle.std.specs.Prelude.{◌≡◌, ◌++◌, OnOk, codes, true, false};
 ghost use Rattle.serde_json.specs.Written.{comma_if};
 ghost use Rattle.std.specs.List.{AllByRecursion};
 ghost use Rattle.hex.specs.Hex.{encode_lower};
@@ -8,7 +8,7 @@ ghost use Rattle.fy_acts.specs.declared.act.Act.TheVariants.{Resend, Take, CopyT
 ghost use Rattle.fy_spelling.specs.Fits.{IsByte, FitsTarget, FitsScope};
 ghost use Rattle.fy_spelling.specs.Values.{in_order};
 ghost use Rattle.fy_spelling.specs.AppendsOrOom.{AppendsOrOom};
-ghost use Rattle.fy_spelling.specs.Pieces.{one_text, two_text, valued_text, target_text, keys_text, words_text, order_text, clog_text, processes_text, deeds_text, form_text, begin_text, scope_text, give_text, protection_text, act_text, NeedsNoEscape};
+ghost use Rattle.fy_spelling.specs.Pieces.{two_text, valued_text, target_text, keys_text, words_text, order_text, clog_text, processes_text, deeds_text, form_text, begin_text, scope_text, give_text, protection_text, act_text, NeedsNoEscape};
 
 use super::{put, put_decimal, put_number, put_one, put_word};
 use crate::Act;

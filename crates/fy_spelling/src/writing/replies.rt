@@ -1,6 +1,6 @@
 //! Writes the text of a reply, which is the last member of an entry, with the entry's end. The
 //! texts are promised byte for byte (docs/FORMATS.md); how they are cut into pieces is free.
-ghost use Rattle.std.specs.Prelude.{◌≡◌, ◌++◌, OnOk, codes};
+ghost use Rattle.std.specs.Prelude.{◌≡◌, ◌++◌, codes};
 ghost use Rattle.fy_spelling.specs.AppendsOrOom.{AppendsOrOom};
 ghost use Rattle.fy_spelling.specs.Pieces.{rule_text, struck_text, verdict_text, ruled_text, begun_text, synced_text, refusal_word, refusal_end, refusal_text, marked_text, reply_text};
 
