@@ -1,5 +1,5 @@
 //! The text of an audit as it is written: its header, and the line of an entry.
-ghost use Rattle.std.specs.Prelude.{◌≡◌, ◌++◌, OnOk, OnErr};
+ghost use Rattle.std.specs.Prelude.{◌≡◌, ◌+◌, ◌<◌, ◌++◌, OnOk, OnErr, length, vec_capacity};
 ghost use Rattle.fy_audit.specs.AuditText.{header, entry_line};
 
 use crate::{Entry, Version};
@@ -20,10 +20,13 @@ pub fn header_text(version: Version) -> &'static str
 ///
 /// # Errors
 ///
-/// `AllocError` where there is no memory for it; the text then has what it had.
+/// `AllocError` where there is no memory for it, and the text's capacity is too small for it; the
+/// text then has what it had.
 pub fn push_entry_line(text: &mut Vec<u8>, entry: &Entry) -> Result<(), AllocError>
     ensures ok { OnOk result (text.new.items ≡ text.old.items ++ entry_line entry.now) }
     ensures err { OnErr result (text.new.items ≡ text.old.items) }
+    ensures full { OnErr result
+        (vec_capacity text.old < length text.old.items + length (entry_line entry.now)) }
 {
     let length = text.len();
     put_entry(text, entry)?;
