@@ -132,15 +132,15 @@ fn has_entry(version: Version, entry: &Entry) -> bool
     version.knows(&entry.act) && knows_reply(version, entry.reply)
 }
 
-/// The entry of a line, which has to stand at this place in an audit of the version. The line has no
-/// line feed: one follows it. `room` is a buffer that is overwritten.
+/// The entry of a line, which has to stand at this place in an audit of the version. The line has
+/// no line feed: one follows it. `room` is a buffer that is overwritten.
 ///
 /// Asks that the line isn't too long.
 ///
 /// # Errors
 ///
-/// `Syntax` where the line isn't the text of such an entry; `NoMemory` in its place, where memory is
-/// refused.
+/// `Syntax` where the line isn't the text of such an entry; `NoMemory` in its place, where memory
+/// is refused.
 pub fn read_entry_at(
     alloc: Global,
     line: &[u8],
