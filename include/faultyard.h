@@ -62,8 +62,8 @@ typedef enum fy_status {
     FY_REFUSED = 3,         /* The act is refused, and stands in the journal with its refusal. */
     FY_SHORT = 4,           /* The buffer is too short; how long it has to be is told. */
     FY_UNWRITTEN = 5,       /* The act is made and stands in the journal, but its line could not be
-                               written: fy_guard_audit reads it. No test has met it, since the memory
-                               for a line is asked for before its act is made. */
+                               written, as it has over FY_MOST_REPLY bytes more than the line that
+                               asked for it: fy_guard_audit reads it. No test has met it. */
     FY_NO_ENTRY = 6,        /* The journal has no entry at this place. */
     FY_ARGUMENT = 7,        /* A number for a key, a kind or a floor is that of none, or a bit of a set of
                                kinds is; members don't rise, or are too many; a payload is too long; there

@@ -49,10 +49,13 @@ pub data NotMade (old : Execution) : Status → Type 0 where
   full : old.setup.limit ≤ length old.journal → NotMade old JournalFull
   no_memory : HasRoom old → NotMade old NoMemory
 
--- a command has no answer: it makes no entry, or its entry's line could not be had
-pub data NoAnswer (old new : Execution) (command : Command) : Status → Type 0 where
-  not_made : (status : Status) → NotMade old status → new ≡ old → NoAnswer old new command status
-  unwritten : HasRoom old → IsMade old new command → NoAnswer old new command Unwritten
+-- a command has no answer: it makes no entry, or its entry's line could not be had, which is longer
+-- than the room that a text had for it
+pub data NoAnswer (old new : Execution) (command : Command) (room : ℕ) : Status → Type 0 where
+  not_made : (status : Status) → NotMade old status → new ≡ old →
+      NoAnswer old new command room status
+  unwritten : HasRoom old → IsMade old new command →
+      room < length (entry_line (entry_of old command)) → NoAnswer old new command room Unwritten
 
 -- why a line makes no entry: it is no command, the journal is full, or there was no memory
 pub data NotEntered (old : Execution) (line : List ℕ) : Status → Type 0 where
@@ -61,12 +64,14 @@ pub data NotEntered (old : Execution) (line : List ℕ) : Status → Type 0 wher
       NotEntered old line JournalFull
   no_memory : NotEntered old line NoMemory
 
--- a line has no answer: it makes no entry, or its command's line could not be had
-pub data NoLine (old new : Execution) (line : List ℕ) : Status → Type 0 where
+-- a line has no answer: it makes no entry, or its command's line could not be had, which is longer
+-- than the room for it
+pub data NoLine (old new : Execution) (line : List ℕ) (room : ℕ) : Status → Type 0 where
   not_entered : (status : Status) → NotEntered old line status → new ≡ old →
-      NoLine old new line status
+      NoLine old new line room status
   unwritten : (command : Command) → LineOf line (Ok command) → HasRoom old →
-      IsMade old new command → NoLine old new line Unwritten
+      IsMade old new command → room < length (entry_line (entry_of old command)) →
+      NoLine old new line room Unwritten
 
 -- a line is answered by a text: it is a command, which is entered where there is room, and the text
 -- is its entry's line
@@ -93,17 +98,19 @@ abbrev pub room_for : List ℕ → ℕ
 room_for line = length line + MOST_REPLY_BYTES
 
 -- what a line came to. Where the buffer has too few bytes, nothing else is looked at. Else it came
--- to an act whose entry's line is told; to an act whose entry's line could not be had, as there was no
--- memory for it, or is longer than the buffer; or to none, and nothing changed. But for a line that is
--- told, or longer than the buffer, what is told is how many bytes the buffer has to have
+-- to an act whose entry's line is told; to an act whose entry's line could not be had, as it has
+-- more bytes than the buffer has to have, and there was no memory for it or it is longer than the
+-- buffer; or to none, and nothing changed. But for a line that is told, or longer than the buffer,
+-- what is told is how many bytes the buffer has to have
 pub data Acts (old new : Execution) (line before after : List ℕ) (told : ℕ) : Status → Type 0 where
   short : IsShort before (room_for line) told → new ≡ old → after ≡ before →
       Acts old new line before after told Short
   answered : room_for line ≤ length before → (text : List ℕ) → IsAnswered old new line text →
       Tells before after told text → Acts old new line before after told Done
   unwritten : room_for line ≤ length before → (command : Command) → LineOf line (Ok command) →
-      HasRoom old → IsMade old new command → after ≡ before → told ≡ room_for line →
-      Acts old new line before after told Unwritten
+      HasRoom old → IsMade old new command →
+      room_for line < length (entry_line (entry_of old command)) → after ≡ before →
+      told ≡ room_for line → Acts old new line before after told Unwritten
   too_long : room_for line ≤ length before → (text : List ℕ) → IsAnswered old new line text →
       IsShort before (length text) told → after ≡ before →
       Acts old new line before after told Unwritten

@@ -1,5 +1,5 @@
 //! Lines in, and the lines of their entries out.
-ghost use Rattle.std.specs.Prelude.{◌≡◌, ◌≢◌, ◌≤◌, ◌+◌, length, IsTrue, IsFalse, IfOk, IfErr, OnOk, OnErr};
+ghost use Rattle.std.specs.Prelude.{◌≡◌, ◌≢◌, ◌<◌, length, vec_capacity, IsTrue, IsFalse, IfOk, IfErr, OnOk, OnErr};
 ghost use Rattle.std.specs.Ptr.{null_ptr};
 ghost use Rattle.fy_audit.specs.AuditText.{entry_line};
 ghost use Rattle.fy_c.specs.Acting.{entry_of, HasRoom, IsMade, NotMade, NoAnswer, NoLine, IsAnswered, Tells, IsShort, Acts, HasLine, NotRead, Reads, line_status, command_status};
@@ -39,7 +39,8 @@ fn command_status(fault: CommandFault) -> Status
 
 /// Puts an entry's line into a text, in place of what it has.
 fn put_line(text: &mut Vec<u8>, entry: &Entry) -> Result<(), AllocError>
-    ensures { OnOk result (text.new.items ≡ entry_line entry.now) }
+    ensures line { OnOk result (text.new.items ≡ entry_line entry.now) }
+    ensures full { OnErr result (vec_capacity text.old < length (entry_line entry.now)) }
 {
     text.clear();
     push_entry_line(text, entry)
@@ -65,7 +66,7 @@ fn answer(cluster: &mut Cluster, command: Command, text: &mut Vec<u8>) -> Result
     ensures made { OnOk result (IsMade cluster.old cluster.new command) }
     ensures room { OnOk result (HasRoom cluster.old) }
     ensures text { OnOk result (text.new.items ≡ entry_line (entry_of cluster.old command)) }
-    ensures err { IfErr result (NoAnswer cluster.old cluster.new command) }
+    ensures err { IfErr result (NoAnswer cluster.old cluster.new command (vec_capacity text.old)) }
 {
     match make(cluster, command) {
         Ok(()) => {}
@@ -87,13 +88,13 @@ fn answer(cluster: &mut Cluster, command: Command, text: &mut Vec<u8>) -> Result
 ///
 /// In order: `LineTooLong`, `LineSyntax` and `Floor` for a line that is no command, `JournalFull`;
 /// and `NoMemory`: nothing changed then. `Unwritten` where the act is made and the line couldn't be
-/// had.
+/// had: it has more bytes than that room, and there was no memory for it.
 fn act(alloc: Global, guard: &mut FyGuard, line: &[u8], room: usize) -> Result<Vec<u8>, Status>
     requires { guard.old.at ≢ null_ptr }
     ensures open { guard.new.at ≢ null_ptr }
     ensures answered { IfOk result (λ text.
         IsAnswered guard.old.value guard.new.value line.now text.items) }
-    ensures err { IfErr result (NoLine guard.old.value guard.new.value line.now) }
+    ensures err { IfErr result (NoLine guard.old.value guard.new.value line.now room) }
 {
     let Ok(mut text) = Vec::with_capacity(alloc, room) else {
         return Err(Status::NoMemory);
@@ -131,9 +132,9 @@ fn tell(text: &[u8], buffer: &mut [u8], told: &mut usize) -> bool
 /// `Short` where the buffer is shorter than that, and its length goes to `told`. Then in order:
 /// `LineTooLong`, `LineSyntax` and `Floor` for a line that is no command, and `JournalFull`.
 /// `NoMemory` can take the place of any but the first. Nothing changed then. `Unwritten` where the
-/// act is made and stands in the journal, and its line couldn't be had: there was no memory for it,
-/// or it is longer than the buffer. Its length goes to `told` where it is longer, and after each
-/// other error the length that the buffer has to have.
+/// act is made and stands in the journal, and its line couldn't be had: it has over 128 bytes more
+/// than `line`, and there was no memory for it or it is longer than the buffer. Its length goes to
+/// `told` where it is longer, and after each other error the length that the buffer has to have.
 #[unsafe(no_mangle)]
 pub extern "C" fn fy_act(
     alloc: Global,

@@ -1,5 +1,5 @@
 //! Audits that are checked line by line.
-ghost use Rattle.std.specs.Prelude.{◌≡◌, ◌≤◌, ◌+◌, ℕ, List, [], ◌++◌, length, IfOk, IfErr, OnOk, OnErr};
+ghost use Rattle.std.specs.Prelude.{◌≡◌, ◌+◌, ℕ, List, [], ◌++◌, IfOk, IfErr, OnOk, OnErr};
 ghost use Rattle.fy_cluster.specs.Setup.{Setup};
 ghost use Rattle.fy_c.specs.Checking.{HasProgress, HasChecked, bad_number, count_of, bad_of, line_fault_status, audit_status, next_number, Refuses, ReadsOn};
 

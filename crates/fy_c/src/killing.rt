@@ -1,18 +1,21 @@
 //! Kills, ordered and answered by numbers.
-ghost use Rattle.std.specs.Prelude.{◌≡◌, ◌≢◌, IfOk, IfErr};
+ghost use Rattle.std.specs.Prelude.{◌≡◌, ◌≢◌, Ok, IfOk, IfErr, IfSome};
 ghost use Rattle.std.specs.Ptr.{null_ptr};
-ghost use Rattle.fy_c.specs.Entering.{status_of};
+ghost use Rattle.fy_decide.specs.Verdicts.{NamesProcess};
+ghost use Rattle.fy_acts.specs.declared.act.Act.TheVariants.{Kill};
+ghost use Rattle.fy_c.specs.Entering.{Applies, status_of};
 ghost use Rattle.fy_c.specs.Killing.{IsOrderOf, NoOrder, IsKilled, Kills, IsJudged, Judges, told_of, untold};
 ghost use Rattle.fy_c.specs.Statuses.{Answers};
 
 use crate::entering::{apply, status_of};
 use crate::handle::FyGuard;
+use crate::killing_process::apply_kill;
 use crate::numbers::{key_of, kind_of, named_by, rule_number, struck_number};
 use crate::status::Status;
 use fy_acts::{Act, Reply};
 use fy_cluster::{Cluster, Fault};
 use fy_kinds::{KillOrder, Target};
-use fy_locality::Name;
+use fy_locality::{Key, Map, Name, ProcId};
 
 /// What C is told of a verdict.
 #[derive(Clone, Copy, PartialEq, Eq)]
@@ -32,17 +35,22 @@ pub(crate) const UNTOLD: Told = Told {
     named: 0,
 };
 
-/// What C is told of an answer to a kill.
-fn told_of(answer: Result<Reply, Fault>) -> Told
-    ensures { result ≡ told_of answer }
+/// The status of a reply to a kill, and what C is told of it.
+pub(crate) fn reply_outcome(reply: Reply) -> (Status, Told)
+    ensures status { result.0 ≡ status_of (Ok reply) }
+    ensures told { result.1 ≡ told_of (Ok reply) }
 {
-    match answer {
-        Ok(Reply::Verdict(verdict)) => Told {
-            struck: struck_number(verdict.struck),
-            rule: rule_number(verdict.rule),
-            named: named_by(verdict.rule),
-        },
-        _ => UNTOLD,
+    match reply {
+        Reply::Verdict(verdict) => {
+            let told = Told {
+                struck: struck_number(verdict.struck),
+                rule: rule_number(verdict.rule),
+                named: named_by(verdict.rule),
+            };
+            (Status::Done, told)
+        }
+        Reply::No(_) => (Status::Refused, UNTOLD),
+        _ => (Status::Done, UNTOLD),
     }
 }
 
@@ -51,7 +59,10 @@ pub(crate) fn outcome_of(answer: Result<Reply, Fault>) -> (Status, Told)
     ensures status { result.0 ≡ status_of answer }
     ensures told { result.1 ≡ told_of answer }
 {
-    (status_of(answer), told_of(answer))
+    match answer {
+        Ok(reply) => reply_outcome(reply),
+        Err(_) => (status_of(answer), UNTOLD),
+    }
 }
 
 /// An order by the numbers of its key and its kinds.
@@ -84,20 +95,50 @@ fn order_of(key: u32, value: &[u8], kind: u32, floor: u32, tear: u64) -> Result<
     }
 }
 
-/// Orders a kill, and applies it where an order is given.
-fn kill(guard: &mut FyGuard, actor: u32, order: Result<KillOrder, Status>) -> (Status, Told)
+/// The process that an order names alone, by its name.
+fn named_process(map: &Map, order: &KillOrder) -> Option<ProcId>
+    ensures { IfSome result (λ process. NamesProcess map.now process.0 order.now) }
+{
+    let target = order.target();
+    match target.key {
+        Key::Process => map.find(&target.value),
+        _ => None,
+    }
+}
+
+/// Applies a kill by an actor to the cluster of an open guard. Where the order names a process, its
+/// name is looked up once, here.
+///
+/// # Errors
+///
+/// In order: `JournalFull`, `NoMemory`. The cluster is then as it was.
+fn apply_order(guard: &mut FyGuard, by: u32, order: &KillOrder) -> Result<Reply, Fault>
     requires { guard.old.at ≢ null_ptr }
     ensures open { guard.new.at ≢ null_ptr }
-    ensures given { IfOk order (λ order. IsKilled guard.old.value guard.new.value actor order result.0 result.1) }
+    ensures applied { Applies guard.old.value guard.new.value by (Kill order.now) result }
+{
+    match named_process(guard.cluster().config().map(), order) {
+        Some(process) => apply_kill(guard, by, process, order),
+        None => apply(guard, by, Act::Kill { order: *order }),
+    }
+}
+
+/// Orders a kill, and applies it where an order is given.
+fn carry_out(guard: &mut FyGuard, actor: u32, order: Result<KillOrder, Status>) -> (Status, Told)
+    requires { guard.old.at ≢ null_ptr }
+    ensures open { guard.new.at ≢ null_ptr }
+    ensures given { IfOk order (λ order.
+        IsKilled guard.old.value guard.new.value actor order result.0 result.1) }
     ensures not_given { IfErr order (λ status. (guard.new.value ≡ guard.old.value)
         × (result ≡ (status, untold))) }
 {
-    let order = match order {
-        Ok(order) => order,
-        Err(status) => return (status, UNTOLD),
-    };
-    let answer = apply(guard, actor, Act::Kill { order });
-    outcome_of(answer)
+    match order {
+        Ok(order) => {
+            let answer = apply_order(guard, actor, &order);
+            outcome_of(answer)
+        }
+        Err(status) => (status, UNTOLD),
+    }
 }
 
 /// Orders a kill by an actor: of the processes whose key has a value, by a kind or where that is
@@ -131,7 +172,7 @@ pub extern "C" fn fy_kill(
         (record { struck = struck.new; rule = rule.new; named = named.new })) }
 {
     let order = order_of(key, value, kind, floor, tear);
-    let (status, told) = kill(guard, actor, order);
+    let (status, told) = carry_out(guard, actor, order);
     *struck = told.struck;
     *rule = told.rule;
     *named = told.named;
@@ -139,16 +180,18 @@ pub extern "C" fn fy_kill(
 }
 
 /// What a kill by an actor would get now, where an order is given.
-fn judge(cluster: &Cluster, actor: u32, order: Result<KillOrder, Status>) -> (Status, Told)
+fn expected_outcome(
+    cluster: &Cluster,
+    actor: u32,
+    order: Result<KillOrder, Status>,
+) -> (Status, Told)
     ensures given { IfOk order (λ order. IsJudged cluster.now actor order result.0 result.1) }
     ensures not_given { IfErr order (λ status. result ≡ (status, untold)) }
 {
-    let order = match order {
-        Ok(order) => order,
-        Err(status) => return (status, UNTOLD),
-    };
-    let reply = Ok(cluster.judge(actor, &order));
-    outcome_of(reply)
+    match order {
+        Ok(order) => reply_outcome(cluster.judge(actor, &order)),
+        Err(status) => (status, UNTOLD),
+    }
 }
 
 /// What `fy_kill` would answer now to the same order, if the journal had room. It enters nothing, and
@@ -178,9 +221,9 @@ pub extern "C" fn fy_judge(
         (record { struck = struck.new; rule = rule.new; named = named.new })) }
 {
     let order = order_of(key, value, kind, floor, 0);
-    let (status, verdict) = judge(guard.cluster(), actor, order);
-    *struck = verdict.struck;
-    *rule = verdict.rule;
-    *named = verdict.named;
+    let (status, told) = expected_outcome(guard.cluster(), actor, order);
+    *struck = told.struck;
+    *rule = told.rule;
+    *named = told.named;
     status.number()
 }

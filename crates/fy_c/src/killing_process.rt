@@ -10,7 +10,7 @@ ghost use Rattle.fy_c.specs.KillingProcess.{IsOrderOn, AreKindsOn, NoOrderOn, Ki
 ghost use Rattle.fy_c.specs.Statuses.{Answers};
 
 use crate::handle::FyGuard;
-use crate::killing::{Told, UNTOLD, outcome_of};
+use crate::killing::{Told, UNTOLD, outcome_of, reply_outcome};
 use crate::numbers::kind_of;
 use crate::status::Status;
 use fy_acts::Reply;
@@ -58,10 +58,7 @@ fn order_on(map: &Map, process: u32, kind: u32, floor: u32, tear: u64) -> Result
     ensures none { IfErr result (NoOrderOn map.now
         (record { process = process; kind = kind; floor = floor; tear = tear })) }
 {
-    let (kind, floor) = match kinds_on(map, process, kind, floor) {
-        Ok(kinds) => kinds,
-        Err(status) => return Err(status),
-    };
+    let (kind, floor) = kinds_on(map, process, kind, floor)?;
     let Some(value) = map.value(ProcId(process), Key::Process) else {
         // Each process has a name.
         unreachable!();
@@ -79,7 +76,7 @@ fn order_on(map: &Map, process: u32, kind: u32, floor: u32, tear: u64) -> Result
 /// # Errors
 ///
 /// In order: `JournalFull`, `NoMemory`. The cluster is then as it was.
-fn apply_kill(
+pub(crate) fn apply_kill(
     guard: &mut FyGuard,
     by: u32,
     process: ProcId,
@@ -169,7 +166,7 @@ pub(crate) fn judge_process(
         // The number was found to be that of a process.
         unreachable!();
     };
-    outcome_of(Ok(reply))
+    reply_outcome(reply)
 }
 
 /// What `fy_kill_process` would answer now to the same order, if the journal had room. It enters

@@ -1,9 +1,7 @@
 //! Guards opened where an audit ends.
-ghost use Rattle.std.specs.Prelude.{◌≡◌, ◌↔◌, List, ◌∷◌, [], ◌++◌, length, None, Some, Ok, IfOk, IfErr, IfSome, IsTrue, OnErr};
+ghost use Rattle.std.specs.Prelude.{◌≡◌, ◌↔◌, ◌∷◌, [], ◌++◌, length, None, Some, Ok, IfOk, IfErr, IfSome, IsTrue};
 ghost use Rattle.fy_acts.specs.declared.entry.Entry.{Entry};
-ghost use Rattle.fy_audit.specs.Audit.{AuditOf};
 ghost use Rattle.fy_cluster.specs.Replies.{Legal};
-ghost use Rattle.fy_config.specs.Config.{ConfigOf};
 ghost use Rattle.fy_acts.specs.declared.version.Version.TheVariants.{Second};
 ghost use Rattle.fy_c.specs.Resuming.{Follows, NotFollowed, OpensAfter, Refutes};
 ghost use Rattle.fy_c.specs.Statuses.{Answers};

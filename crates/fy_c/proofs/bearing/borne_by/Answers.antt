@@ -1,4 +1,4 @@
-use Rattle.std.proofs.Common.{◌≡◌, ◌≤◌, ◌<◌, ℕ, Bool, true, length, sym, ap, subst, ◌∙◌}
+use Rattle.std.proofs.Common.{◌≡◌, ◌≤◌, ◌<◌, length, sym, ap, subst, ◌∙◌}
 use Rattle.fy_policy.specs.Counted.{number_of}
 use Rattle.fy_tolerance.specs.Bears.{least_any}
 use Rattle.fy_tolerance.proofs.Tolerating.{all_bear}

@@ -1,6 +1,6 @@
 use Rattle.std.proofs.Common.{refl, subst}
-use Rattle.fy_kinds.specs.declared.kind.Kind.TheVariants.{RebootProcess, KillInstantly}
-use Rattle.fy_c.specs.KillingProcess.{GivenProcess, JudgesProcess}
+use Rattle.fy_kinds.specs.declared.kind.Kind.TheVariants.{RebootProcess}
+use Rattle.fy_c.specs.KillingProcess.{JudgesProcess}
 use Rattle.fy_c.specs.Numbers.{kind_number}
 use Rattle.fy_c.proofs.killable.hardest_on.Goals as goal
 

@@ -12,13 +12,13 @@ returns-clause-judged c =
       floor = c.args.floor;
       tear = 0;
     } in (
-      c.judge-status.result.0,
+      c.expected_outcome-status.result.0,
       c.number.ensures,
       subst
-          (λ execution. Judges execution c.args.actor given c.judge-status.result.1
-          c.judge-status.result.0)
+          (λ execution. Judges execution c.args.actor given c.expected_outcome-status.result.1
+          c.expected_outcome-status.result.0)
           c.cluster.ensures.value
           (judges c.cluster.result.now c.args.actor given c.order_of-order.result
-          c.judge-status.result c.order_of-order.ensures.order c.order_of-order.ensures.none
-          c.judge-status.ensures.given c.judge-status.ensures.not_given),
+          c.expected_outcome-status.result c.order_of-order.ensures.order c.order_of-order.ensures.none
+          c.expected_outcome-status.ensures.given c.expected_outcome-status.ensures.not_given),
     )

@@ -1,6 +1,6 @@
 use Rattle.std.proofs.Common.{refl}
 use Rattle.std.proofs.lemmas.Bool.{false≢true}
-use Rattle.fy_c.specs.Killing.{AreNumbers, NoOrder}
+use Rattle.fy_c.specs.Killing.{NoOrder}
 use Rattle.fy_c.proofs.killing.order_of.Goals as goal
 
 pub returns-in_default-clause-none : goal.returns-in_default-clause-none

@@ -25,7 +25,7 @@ returns c =
     let same : c.map.result.now ≡ c.args.cluster.now.setup.processes =
     c.map.ensures ∙ ap (λ (setup : Setup). setup.processes) c.config.ensures in
     judges_process c.args.cluster.now c.args.actor given c.in-Ok.kinds.0 c.in-Ok.kinds.1
-    c.in-Some.reply c.outcome_of.result.0 c.outcome_of.result.1
+    c.in-Some.reply c.reply_outcome.result.0 c.reply_outcome.result.1
     (subst (λ processes. AreKindsOn processes given c.in-Ok.kinds.0 c.in-Ok.kinds.1) same
     (c.in-Ok.ensures.given 0))
-    c.in-Ok.ensures.ordered c.in-Some.ensures.some c.outcome_of.ensures.status c.outcome_of.ensures.told
+    c.in-Ok.ensures.ordered c.in-Some.ensures.some c.reply_outcome.ensures.status c.reply_outcome.ensures.told

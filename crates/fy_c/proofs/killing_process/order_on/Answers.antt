@@ -5,18 +5,18 @@ use Rattle.fy_c.proofs.Processes.{has_name}
 use Rattle.fy_c.proofs.killing_process.order_on.Goals as goal
 
 pub value-requires : goal.value-requires
-value-requires c = (c.in-Ok.ensures.given c.args.tear).process
+value-requires c = (c.in_ok-kind.ensures.given c.args.tear).process
 
 pub unreachable-requires : goal.unreachable-requires
 unreachable-requires c =
     let name = has_name c.args.map.now c.args.process
-    (c.in-Ok.ensures.given c.args.tear).process in
+    (c.in_ok-kind.ensures.given c.args.tear).process in
     c.in_default.not-Some name.0 (c.value.ensures ∙ name.1)
 
-pub returns-in-Ok-make-clause-order : goal.returns-in-Ok-make-clause-order
-returns-in-Ok-make-clause-order c =
-    let are = c.in-Ok.ensures.given c.args.tear in
-    let made = c.in-Ok-make.ensures in
+pub returns-in-Ok-clause-order : goal.returns-in-Ok-clause-order
+returns-in-Ok-clause-order c =
+    let are = c.in_ok-kind.ensures.given c.args.tear in
+    let made = c.in-Ok.ensures in
     record {
       named = record {
         key = ap (λ (target : Target). target.key) made.target;
