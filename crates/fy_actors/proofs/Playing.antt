@@ -40,11 +40,11 @@ drives_plays was now result d =
 
 -- ---- entries and parts
 
-by_append : (a : ℕ) (xs ys : List Entry)
+pub by_append : (a : ℕ) (xs ys : List Entry)
     → entries_by a (xs ++ ys) ≡ entries_by a xs ++ entries_by a ys
 by_append a xs ys = filter-append (λ (e : Entry). e.by == a) xs ys
 
-by_first : (a : ℕ) (e : Entry) (es : List Entry) → e.by ≡ a
+pub by_first : (a : ℕ) (e : Entry) (es : List Entry) → e.by ≡ a
     → entries_by a (e ∷ es) ≡ e ∷ entries_by a es
 by_first a e es is =
     ap (λ (b : Bool). cond b (e ∷ entries_by a es) (entries_by a es)) (eq-eqb e.by a is)

@@ -1,14 +1,13 @@
 -- what turns and acts at a desk come to
-use Rattle.std.proofs.Common.{◌≡◌, ◌≤◌, ◌↔◌, Bool, true, false, nat_lt, if◌then◌else◌, Option, Some, None, IsSome, Err, List, [], ◌∷◌, length, refl, ap, map, take, get_or, ◌<◌, ◌+◌, ◌++◌, ◌∙◌, ℕ, subst}
+use Rattle.std.proofs.Common.{◌≡◌, ◌≤◌, ◌↔◌, Bool, true, false, nat_lt, if◌then◌else◌, Option, Some, None, IsSome, Err, List, [], ◌∷◌, length, refl, ap, map, take, get_or, ◌<◌, ◌+◌, ◌++◌, ◌∙◌, ℕ}
 use Rattle.std.proofs.lemmas.List.{take_more}
-use Rattle.std.proofs.Math.Bridge.{le_prop}
 use Rattle.fy_kinds.specs.declared.kind.Kind.{Kind}
-use Rattle.fy_kinds.specs.declared.order.Target.{Target}
 use Rattle.fy_locality.specs.declared.key.Key.TheVariants.{Machine}
 use Rattle.fy_kinds.specs.Kinds.{rank}
 use Rattle.fy_kinds.specs.Orders.{Order}
 use Rattle.fy_acts.specs.declared.act.Act.TheVariants.{Kill}
 use Rattle.fy_acts.specs.declared.act.Act.{Act}
+use Rattle.fy_acts.proofs.Compared.{same_parts}
 use Rattle.fy_cluster.specs.declared.fault.Fault.{Fault}
 use Rattle.fy_cluster.specs.declared.fault.Fault.TheVariants.{JournalFull}
 use Rattle.fy_actors.specs.Desk.{DeskState, receipt, after_act, Worked}
@@ -68,18 +67,6 @@ held_up sight was fault left full =
     (some_while was.0 sight (nat_lt was.0.made was.0.acts) was.0.team left) full
 
 -- ---- orders for one machine after another
-
-abbrev order_of : Target → (k f : Kind) → ℕ → rank f ≤ rank k → Order
-order_of t k f n o = record { target = t; kind = k; floor = f; tear = n; ordered = o }
-
--- orders of the same parts are the same, whatever shows that the floor isn't above the kind
-same_parts : (a : Order) (t : Target) (k f : Kind) (n : ℕ) (o : rank f ≤ rank k) → a.target ≡ t
-    → a.kind ≡ k → a.floor ≡ f → a.tear ≡ n → a ≡ order_of t k f n o
-same_parts a t k f n o et ek ef en =
-    subst (λ (f : Kind). (o : rank f ≤ rank k) → a ≡ order_of t k f n o) ef
-    (subst (λ (k : Kind). (o : rank a.floor ≤ rank k) → a ≡ order_of t k a.floor n o) ek
-    (λ o'. λ i. order_of (et i) a.kind a.floor (en i) (le_prop a.ordered o' i)))
-    o
 
 pub one_order : (a : Order) (machine : List ℕ) (k f : Kind) (n : ℕ) (o : rank f ≤ rank k)
     → a.target ≡ record { key = Machine; value = machine } → a.kind ≡ k → a.floor ≡ f → a.tear ≡ n

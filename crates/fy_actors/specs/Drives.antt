@@ -26,17 +26,17 @@ pub record Drive : Type 0 where
   pub team : Team
   pub made : ℕ
 
--- the first that is possible: deliver a message, sync a process, start one, let a tick pass
-abbrev pub move_by : Sight → Act
-move_by sight =
+-- the first that is possible: deliver a message, sync a process, start one, let so many ticks pass
+abbrev pub next_move : Sight → ℕ → Act
+next_move sight ticks =
     option_map_or Deliver sight.deliverable
-    (option_map_or Sync sight.unsynced (option_map_or Up sight.sleeping (Tick 1)))
+    (option_map_or Sync sight.unsynced (option_map_or Up sight.sleeping (Tick ticks)))
 
 -- the payload that comes next is begun, or data is moved where none is left: the first act was the
 -- team's
 abbrev pub begin_or_move : Drive → Sight → ℕ → Act
 begin_or_move drive sight team =
-    option_map_or (Begin team) (slice_get drive.payloads (drive.made - 1)) (move_by sight)
+    option_map_or (Begin team) (slice_get drive.payloads (drive.made - 1)) (next_move sight 1)
 
 -- the act that comes next while the team stands so
 abbrev pub act_while : Drive → Sight → Team → Option Act

@@ -1,9 +1,11 @@
 -- what is drawn from random words
-use Rattle.std.specs.Prelude.{◌≡◌, ℕ, zero, suc, ◌+◌, ◌-◌, ◌%◌, ◌==◌, min, nat_lt, List, [], ◌∷◌, length, take, drop, swap, if◌then◌else◌}
+use Rattle.std.specs.Prelude.{◌≡◌, ℕ, zero, suc, ◌+◌, ◌-◌, ◌%◌, ◌==◌, min, nat_lt, ◌*◌, List, [], ◌∷◌, length, map, take, drop, swap, if◌then◌else◌}
+use Rattle.std.specs.List.{range_with_len}
 use Rattle.fy_locality.specs.declared.ProcId.{ProcId}
 use Rattle.fy_locality.specs.declared.locality.Locality.{Locality}
 use Rattle.fy_locality.specs.declared.key.Key.TheVariants.{Machine}
 use Rattle.fy_locality.specs.Locality.{values_of}
+use Rattle.fy_actors.specs.Words.{stream_outputs}
 use Rattle.fy_actors.specs.declared.plans.SwizzlePlan.{SwizzlePlan}
 
 -- from this index down to 1, each item is swapped with the one at or below it that the next word
@@ -43,3 +45,13 @@ abbrev pub machines_to_kill : List ℕ → List Locality → ℕ → ℕ → Lis
 machines_to_kill words processes to_kill to_leave =
     let machines = values_of processes Machine in
     take (min to_kill (length machines - to_leave)) (shuffled words machines)
+
+-- ---- plans of all processes
+
+-- every process, by number
+abbrev pub everyone : List Locality → List ProcId
+everyone processes = map (λ p. record { 0 = p }) (range_with_len 0 (length processes))
+
+-- the words of such a plan: two for each process, from a stream of the seed
+abbrev pub plan_words : List Locality → (seed stream : ℕ) → List ℕ
+plan_words processes seed stream = stream_outputs seed stream (2 * length processes)

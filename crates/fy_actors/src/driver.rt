@@ -1,7 +1,7 @@
 //! Storing payloads and moving data.
 ghost use Rattle.std.specs.Prelude.{◌≡◌, ◌-◌, ◌^◌, ◌<◌, Some, IfOk, IsTrue};
 ghost use Rattle.fy_actors.specs.Desk.{Worked};
-ghost use Rattle.fy_actors.specs.Drives.{move_by, begin_or_move, next_act, team_after, is_refused, goes_on, Drives};
+ghost use Rattle.fy_actors.specs.Drives.{next_move, begin_or_move, next_act, team_after, is_refused, goes_on, Drives};
 ghost use Rattle.fy_actors.specs.Parts.{PlaysTurn};
 ghost use Rattle.fy_actors.specs.Parts.Part.{Stores};
 ghost use Rattle.fy_actors.specs.declared.driver.Team.TheVariants.{Unformed};
@@ -86,9 +86,10 @@ impl Drop for StorageDriver {
     }
 }
 
-/// The act that moves data next.
-fn move_by(sight: Sight) -> Act
-    ensures { result ≡ move_by sight }
+/// The act that moves data next, the first that is possible: it delivers the least message, syncs
+/// the least process, starts the least one, or lets so many ticks pass.
+pub fn next_move(sight: Sight, ticks: u64) -> Act
+    ensures { result ≡ next_move sight ticks }
 {
     if let Some(message) = sight.deliverable {
         return Act::Deliver { message };
@@ -98,7 +99,7 @@ fn move_by(sight: Sight) -> Act
     }
     match sight.sleeping {
         Some(process) => Act::Up { process },
-        None => Act::Tick { ticks: 1 },
+        None => Act::Tick { ticks },
     }
 }
 
@@ -158,7 +159,7 @@ impl StorageDriver {
                 let payload = payload.try_copy(self.alloc)?;
                 Ok(Act::Begin { team, payload })
             }
-            None => Ok(move_by(sight)),
+            None => Ok(next_move(sight, 1)),
         }
     }
 

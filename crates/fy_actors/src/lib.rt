@@ -3,6 +3,7 @@
 
 mod attrition;
 mod desk;
+mod drawn;
 mod driver;
 pub mod laws;
 mod plans;
@@ -10,9 +11,11 @@ mod schedule;
 mod seeded;
 mod swizzle;
 
-pub use attrition::{Attrition, AttritionFault};
+pub use attrition::{AttritionFault, attrition_acts};
 pub use desk::{Desk, FaultActor, Turn};
-pub use driver::StorageDriver;
+pub use drawn::{draw_attrition, draw_swizzle, everyone};
+pub use driver::{StorageDriver, next_move};
 pub use plans::{AttritionPlan, PlanFault, SwizzlePlan, attrition_plan, swizzle_plan};
-pub use seeded::words;
-pub use swizzle::Swizzle;
+pub use schedule::Schedule;
+pub use seeded::{generator, words};
+pub use swizzle::{process_target, swizzle_acts};

@@ -1,16 +1,19 @@
 //! Acts that are made one a turn.
-ghost use Rattle.std.specs.Prelude.{◌≡◌, ◌≤◌, length};
+ghost use Rattle.std.specs.Prelude.{◌≡◌};
 ghost use Rattle.fy_actors.specs.Schedules.{begun, FollowsSchedule};
 ghost use Rattle.fy_actors.specs.Desk.{Worked};
+ghost use Rattle.fy_actors.specs.Parts.{PlaysTurn};
+ghost use Rattle.fy_actors.specs.Parts.Part.{Acts};
 
-use crate::{Desk, Turn};
+use crate::{Desk, FaultActor, Turn};
 use fy_acts::Act;
 use fy_cluster::Fault;
 use std::alloc::Global;
 use std::marker::Model;
 
-/// Acts in the order in which they are made, one a turn, and how many were made.
-pub(crate) struct Schedule {
+/// An actor whose acts are known from the start: acts in the order in which they are made, one a
+/// turn, and how many were made.
+pub struct Schedule {
     alloc: Global,
     acts: Vec<Act>,
     made: usize,
@@ -47,10 +50,17 @@ impl Schedule {
             made: 0,
         }
     }
+}
+
+impl FaultActor for Schedule {
+    ghost use Rattle.fy_actors.specs.Parts.Part.{Acts as Playing};
+
+    ghost part = { λ schedule. Playing schedule };
 
     /// Makes the act that comes next. After a fault it is still the next one.
-    pub(crate) fn turn(&mut self, desk: &mut Desk) -> Result<Turn, Fault>
+    fn turn(&mut self, desk: &mut Desk) -> Result<Turn, Fault>
         ensures turn { FollowsSchedule (self.old, desk.old) (self.new, desk.new) result }
+        ensures plays { PlaysTurn (Acts self.old, desk.old) (Acts self.new, desk.new) result }
         ensures worked { Worked desk.old desk.new }
     {
         let Some(act) = self.acts.get(self.made) else {

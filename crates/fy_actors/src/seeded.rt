@@ -1,5 +1,6 @@
 //! Random words from a seed.
 ghost use Rattle.std.specs.Prelude.{◌≡◌, IfOk};
+ghost use Rattle.rand_chacha.specs.ChaCha.{key_of};
 ghost use Rattle.fy_actors.specs.Words.{seed_bytes, stream_outputs};
 
 use rand_chacha::ChaCha8Rng;
@@ -17,8 +18,17 @@ fn seed_bytes(seed: u64) -> [u8; 32]
     bytes
 }
 
-/// The first `count` outputs of a stream of `ChaCha8`. Its key is the seed as 8 bytes, the low one
-/// first, and 24 zero bytes. Each actor may have a stream of its own.
+/// A stream of a seed, from its first word on: one of `ChaCha8`, whose key is the seed as 8 bytes,
+/// the low one first, and 24 zero bytes. Each actor may have a stream of its own.
+pub fn generator(seed: u64, stream: u64) -> ChaCha8Rng
+    ensures { result ≡ record { key = key_of (seed_bytes seed); stream = stream; word_pos = 0 } }
+{
+    let mut generator = ChaCha8Rng::from_seed(seed_bytes(seed));
+    generator.set_stream(stream);
+    generator
+}
+
+/// The first `count` words of a stream of a seed.
 ///
 /// # Errors
 ///
@@ -27,8 +37,7 @@ fn seed_bytes(seed: u64) -> [u8; 32]
 pub fn words(alloc: Global, seed: u64, stream: u64, count: usize) -> Result<Vec<u32>, AllocError>
     ensures { IfOk result (λ made. made.items ≡ stream_outputs seed stream count) }
 {
-    let mut generator = ChaCha8Rng::from_seed(seed_bytes(seed));
-    generator.set_stream(stream);
+    let mut generator = generator(seed, stream);
     let mut words = Vec::new(alloc);
     for _ in 0..count {
         words.push(generator.next_word())?;

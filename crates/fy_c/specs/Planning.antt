@@ -8,12 +8,11 @@ use Rattle.fy_kinds.specs.Kinds.{rank}
 use Rattle.fy_acts.specs.declared.act.Act.{Act}
 use Rattle.fy_acts.specs.declared.act.Act.TheVariants.{Kill, Clog, Unclog}
 use Rattle.fy_actors.specs.Words.{stream_outputs}
-use Rattle.fy_actors.specs.Plans.{IsSwizzle, machines_to_kill}
+use Rattle.fy_actors.specs.Plans.{IsSwizzle, machines_to_kill, everyone, plan_words}
 use Rattle.fy_actors.specs.Schedules.{process_target, swizzle_acts, attrition_acts}
 use Rattle.fy_actors.specs.declared.plans.SwizzlePlan.{SwizzlePlan}
 use Rattle.fy_players.specs.declared.faults.Plan.{Plan}
 use Rattle.fy_players.specs.declared.faults.Plan.TheVariants.{Mixed, Attrition, Swizzle, Rolling}
-use Rattle.fy_players.specs.Rounds.{everyone, plan_words}
 use Rattle.fy_players.specs.Orders.{AreOrders}
 use Rattle.fy_c.specs.Numbers.{key_number, kind_number}
 use Rattle.fy_c.specs.declared.planning.TheConstants.{VALUE_BYTES}

@@ -4,7 +4,7 @@ ghost use Rattle.fy_players.specs.declared.faults.Plan.{Plan};
 ghost use Rattle.fy_acts.specs.declared.act.Act.TheVariants as act;
 ghost use Rattle.std.specs.Ptr.{null_ptr};
 ghost use Rattle.fy_kinds.specs.Kinds.{rank};
-ghost use Rattle.fy_actors.specs.Schedules.{process_target, swizzle_acts, attrition_acts};
+ghost use Rattle.fy_actors.specs.Schedules.{swizzle_acts, attrition_acts};
 ghost use Rattle.fy_c.specs.Numbers.{key_number};
 ghost use Rattle.fy_c.specs.Planning.{Draws, with_zeros, order_of, orders_of, clog_of, unclog_of, kill_of, no_order, IsSwizzleOf, AreKinds, NoKindAndFloor, machines_of, IsAttritionOf, Gives, Plans, PlansAttrition, plan_number, AreOrdersOf, FillsWithOrders};
 ghost use Rattle.fy_c.specs.Statuses.{Answers};
@@ -12,11 +12,11 @@ ghost use Rattle.fy_c.specs.Statuses.{Answers};
 use crate::handle::FyGuard;
 use crate::numbers::{kind_number, kind_of};
 use crate::status::Status;
-use fy_actors::{AttritionPlan, SwizzlePlan, words};
+use fy_actors::{AttritionPlan, SwizzlePlan, draw_attrition, draw_swizzle, process_target, words};
 use fy_acts::Act;
 use fy_kinds::{KillOrder, Kind, Target};
 use fy_locality::{Key, Map, Name, ProcId};
-use fy_players::{Orders, Plan, draw_attrition, draw_swizzle};
+use fy_players::{Orders, Plan};
 use std::alloc::{AllocError, Global};
 
 /// How many bytes the value of an order has: a name of the most characters, and a zero behind it.
@@ -90,20 +90,6 @@ fn with_zeros(name: &Name) -> [u8; VALUE_BYTES]
     let mut value = [0; VALUE_BYTES];
     value[..text.len()].copy_from_slice(text);
     value
-}
-
-/// A process by its name.
-fn process_target(map: &Map, p: ProcId) -> Target
-    requires { p.0 < length map.now }
-    ensures { result ≡ process_target map.now p }
-{
-    let Some(value) = map.value(p, Key::Process) else {
-        unreachable!();
-    };
-    Target {
-        key: Key::Process,
-        value,
-    }
 }
 
 /// The order to clog a process.

@@ -1,3 +1,2 @@
-pub mod Drawn
 pub mod Setups
 pub mod Spreads

@@ -7,6 +7,7 @@ use Rattle.fy_locality.specs.declared.locality.Locality.{Locality}
 use Rattle.fy_acts.specs.declared.act.Act.{Act}
 use Rattle.fy_acts.specs.declared.act.Act.TheVariants as act
 use Rattle.fy_cluster.specs.declared.sight.Sight.{Sight}
+use Rattle.fy_actors.specs.Drives.{next_move}
 use Rattle.fy_cluster.specs.declared.status.Status.{Status}
 use Rattle.fy_cluster.specs.History.{left, keeper}
 use Rattle.fy_cluster.specs.Sights.{status_of, needed_of}
@@ -84,9 +85,7 @@ member_at teams place word =
 
 -- the first that is possible: deliver a message, sync a process, start one, let ticks pass
 abbrev pub move_by : Sight → Act
-move_by sight =
-    option_map_or act.Deliver sight.deliverable
-    (option_map_or act.Sync sight.unsynced (option_map_or act.Up sight.sleeping (act.Tick TICKS_AT_ONCE)))
+move_by sight = next_move sight TICKS_AT_ONCE
 
 -- a team of processes that stand evenly apart
 abbrev pub forms : Execution → Words → Act × Note

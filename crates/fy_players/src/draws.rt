@@ -1,10 +1,9 @@
 //! The words of turns.
 ghost use Rattle.std.specs.Prelude.{◌≡◌};
-ghost use Rattle.fy_actors.specs.Words.{seed_bytes};
 ghost use Rattle.fy_players.specs.Draws.{stream_of, word_of, words_of};
 
+use fy_actors::generator;
 use rand_chacha::ChaCha8Rng;
-use rand_core::SeedableRng;
 use rand_core::utils::NextWord;
 use std::marker::Model;
 
@@ -36,24 +35,14 @@ impl Model for Draws {
     ghost view = { λ d. d.generator };
 }
 
-/// A seed as 32 bytes: its own 8, the low one first, and then zeros.
-#[tactic(auto, unfolding(fy_actors::specs::Words::seed_bytes))]
-fn seed_bytes(seed: u64) -> [u8; 32]
-    ensures { result ≡ seed_bytes seed }
-{
-    let mut bytes = [0; 32];
-    bytes[..8].copy_from_slice(&seed.to_le_bytes());
-    bytes
-}
-
 impl Draws {
     /// A stream of the seed, from its first word on.
     pub fn make(seed: u64, stream: u64) -> Draws
         ensures { result ≡ stream_of seed stream }
     {
-        let mut generator = ChaCha8Rng::from_seed(seed_bytes(seed));
-        generator.set_stream(stream);
-        Draws { generator }
+        Draws {
+            generator: generator(seed, stream),
+        }
     }
 
     /// The next word.

@@ -17,5 +17,4 @@ pub use faults::{FaultPlayer, Plan};
 pub use knowledge::{Mending, Note};
 pub use orders::Orders;
 pub use player::{Part, Player};
-pub use rounds::{draw_attrition, draw_swizzle};
 pub use storage::StoragePlayer;

@@ -5,13 +5,14 @@ ghost use Rattle.fy_cluster.specs.History.{left};
 ghost use Rattle.fy_cluster.specs.Execution.{history_of};
 ghost use Rattle.fy_cluster.specs.Sights.{Sees};
 ghost use Rattle.fy_players.specs.Knowledge.{no_knowledge, learned};
-ghost use Rattle.fy_players.specs.Storage.{choice_of, is_on_step, is_taken, spread, team_at, member_of, member_at, move_by, forms, is_behind, begins_at, begins, late, resends, mostly, hands_over, refills, new_mending, mending_of, mends, replaces, tends_by, tends, copies, stores};
+ghost use Rattle.fy_players.specs.Storage.{choice_of, is_on_step, is_taken, spread, team_at, member_of, member_at, forms, is_behind, begins_at, begins, late, resends, mostly, hands_over, refills, new_mending, mending_of, mends, replaces, tends_by, tends, copies, stores};
 ghost use Rattle.fy_acts.specs.declared.act.Act.TheVariants as act;
 ghost use Rattle.fy_players.specs.Picks.{ticks_of};
 
 use crate::draws::Words;
 use crate::knowledge::{Knowledge, Known, Latest, Mending, Note};
 use crate::picks::{NOBODY, TICKS_AT_ONCE, pick, pick_bytes, pick_place, pick_process, pick_ticks};
+use fy_actors::next_move;
 use fy_acts::{Act, Reply};
 use fy_cluster::{Cluster, Sight, Status};
 use fy_disk::Payload;
@@ -93,24 +94,6 @@ impl Model for StoragePlayer {
 impl Drop for StoragePlayer {
     fn drop(self) {
         let StoragePlayer { alloc: _, known: _ } = self;
-    }
-}
-
-/// The act that moves data next.
-fn move_by(sight: Sight) -> Act
-    ensures { result ≡ move_by sight }
-{
-    if let Some(message) = sight.deliverable {
-        return Act::Deliver { message };
-    }
-    if let Some(process) = sight.unsynced {
-        return Act::Sync { process };
-    }
-    match sight.sleeping {
-        Some(process) => Act::Up { process },
-        None => Act::Tick {
-            ticks: TICKS_AT_ONCE,
-        },
     }
 }
 
@@ -417,12 +400,12 @@ impl Knowledge {
         ensures { result ≡ tends cluster.now sight self.now words }
     {
         let Some(place) = pick_place(words.first, self.teams.len()) else {
-            return (move_by(sight), Note::Plain);
+            return (next_move(sight, TICKS_AT_ONCE), Note::Plain);
         };
         let process = member_at(&self.teams, place, words.second);
         match cluster.status(process) {
             Some(status) => self.tend_by(cluster, words, process, status),
-            None => (move_by(sight), Note::Plain),
+            None => (next_move(sight, TICKS_AT_ONCE), Note::Plain),
         }
     }
 }
@@ -456,7 +439,7 @@ impl StoragePlayer {
         ensures { IfOk result (λ made. made ≡ begins sight self.now words) }
     {
         if self.known.is_behind(sight) {
-            return Ok((move_by(sight), Note::Plain));
+            return Ok((next_move(sight, TICKS_AT_ONCE), Note::Plain));
         }
         let payload = Payload::from_vec(pick_bytes(self.alloc, words.second)?);
         let place = pick_place(words.first, self.known.teams.len());
@@ -478,7 +461,7 @@ impl StoragePlayer {
         match choice_of(words.choice) {
             Choice::Form => self.form(cluster, words),
             Choice::Begin => self.begin(sight, words),
-            Choice::Move => Ok((move_by(sight), Note::Plain)),
+            Choice::Move => Ok((next_move(sight, TICKS_AT_ONCE), Note::Plain)),
             Choice::DeliverLate => Ok((self.known.deliver_late(words), Note::Plain)),
             Choice::Lose => Ok((self.known.lose_late(words), Note::Plain)),
             Choice::Resend => Ok((self.known.resend(words), Note::Plain)),

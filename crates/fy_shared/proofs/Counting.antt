@@ -8,8 +8,9 @@ use native.Mathlib.Decide.{ℕ_discrete}
 use lib.ListN.{get_elem?}
 use Rattle.fy_acts.specs.declared.entry.Entry.{Entry}
 use Rattle.fy_actors.specs.Desk.{entries_by}
+use Rattle.fy_actors.proofs.Playing.{by_first}
 use Rattle.fy_shared.specs.Turnstile.{NotAmong, Distinct}
-use Rattle.fy_shared.proofs.Journals.{by_first, by_passed}
+use Rattle.fy_shared.proofs.Journals.{by_passed}
 
 -- numbers that differ, and that are there
 

@@ -1,20 +1,11 @@
 -- what a longer journal has
-use Rattle.std.proofs.Common.{◌≡◌, ◌≢◌, ℕ, List, [], ◌∷◌, ◌++◌, Bool, cond, ◌==◌, sym, refl, ap, ◌∙◌, arith, eq-eqb, ne_eqb, length, length-append, ◌≤◌, append-nil, append_assoc}
-use Rattle.std.proofs.lemmas.List.Elements.{filter-append}
+use Rattle.std.proofs.Common.{◌≡◌, ◌≢◌, ℕ, List, [], ◌∷◌, ◌++◌, Bool, cond, sym, refl, ap, ◌∙◌, arith, ne_eqb, length, length-append, ◌≤◌, append-nil, append_assoc}
 use Rattle.fy_acts.specs.declared.entry.Entry.{Entry}
 use Rattle.fy_actors.specs.Desk.{entries_by, OnlyBy}
+use Rattle.fy_actors.proofs.Playing.{by_append, by_first}
 use Rattle.fy_shared.specs.Yard.{StartsWith}
 
-pub by_append : (a : ℕ) (xs ys : List Entry)
-    → entries_by a (xs ++ ys) ≡ entries_by a xs ++ entries_by a ys
-by_append a xs ys = filter-append (λ (e : Entry). e.by == a) xs ys
-
--- an entry is kept where it is of the actor, and passed over where it isn't
-pub by_first : (a : ℕ) (e : Entry) (es : List Entry) → e.by ≡ a
-    → entries_by a (e ∷ es) ≡ e ∷ entries_by a es
-by_first a e es is =
-    ap (λ (b : Bool). cond b (e ∷ entries_by a es) (entries_by a es)) (eq-eqb e.by a is)
-
+-- an entry of another actor is passed over
 pub by_passed : (a : ℕ) (e : Entry) (es : List Entry) → e.by ≢ a
     → entries_by a (e ∷ es) ≡ entries_by a es
 by_passed a e es is =

@@ -8,13 +8,14 @@ use Rattle.fy_actors.specs.declared.desk.Turn.TheVariants.{More, Ended as Over}
 use Rattle.fy_actors.specs.Desk.{entries_by}
 use Rattle.fy_actors.specs.Parts.{Part, KeepsTo, Tells, TurnsKeepTo, OthersChangeNoPart, AnswersTell}
 use Rattle.fy_actors.specs.Parts.Part.{Unspecified}
+use Rattle.fy_actors.proofs.Playing.{by_append}
 use Rattle.fy_shared.specs.Yard.{Yard, SeatState, StartsWith, IsSameSeat, SeesMore, Turned}
 use Rattle.fy_shared.specs.Posts.{MaySeeMore, ShutAt, EndsSo, Ran}
 use Rattle.fy_shared.specs.AtDesk.{desk_of}
 use Rattle.fy_shared.specs.Parts.{PlaysAt, KeepsPart}
 use Rattle.fy_shared.specs.declared.posts.End.{End}
 use Rattle.fy_shared.specs.declared.posts.End.TheVariants.{Ended, Limit, Shut, Failed}
-use Rattle.fy_shared.proofs.Journals.{by_append, begins_more}
+use Rattle.fy_shared.proofs.Journals.{begins_more}
 
 none_long : (xs : List Entry) → length xs ≡ 0 → xs ≡ []
 none_long [] e = refl

@@ -1,7 +1,6 @@
 -- who plays which actor of a swarm, and what is written of it
-use Rattle.std.specs.Prelude.{◌≡◌, ◌≤◌, ◌⊎◌, ℕ, ◌*◌, ◌%◌, Bool, true, false, List, [], ◌∷◌, length, map, take, Contains, ◌<◌, Option, Some, None, slice_get}
+use Rattle.std.specs.Prelude.{◌≡◌, ◌≤◌, ◌⊎◌, ℕ, ◌%◌, Bool, true, false, List, [], ◌∷◌, length, map, take, Contains, ◌<◌, Option, Some, None, slice_get}
 use Rattle.std.specs.List.{range_with_len, count_by}
-use Rattle.fy_locality.specs.declared.ProcId.{ProcId}
 use Rattle.fy_locality.specs.declared.locality.Locality.{Locality}
 use Rattle.fy_kinds.specs.declared.kind.Kind.TheVariants.{Reboot, KillInstantly}
 use Rattle.fy_kinds.specs.Kinds.{rank}
@@ -12,8 +11,7 @@ use Rattle.fy_cluster.specs.Setup.{Setup}
 use Rattle.fy_cluster.specs.Survival.{Survives}
 use Rattle.fy_cluster.specs.declared.role.Role.{Role}
 use Rattle.fy_cluster.specs.declared.role.Role.TheVariants.{Fault, Storage, Operator}
-use Rattle.fy_actors.specs.Words.{stream_outputs}
-use Rattle.fy_actors.specs.Plans.{IsSwizzle, machines_to_kill}
+use Rattle.fy_actors.specs.Plans.{IsSwizzle, machines_to_kill, everyone, plan_words}
 use Rattle.fy_actors.specs.Schedules.{begun, swizzle_acts, attrition_acts}
 use Rattle.fy_actors.specs.Drives.{Drive}
 use Rattle.fy_actors.specs.Desk.{entries_by}
@@ -26,10 +24,6 @@ use Rattle.fy_shared.specs.Parts.{KeepsPart}
 use Rattle.fy_swarm.specs.declared.player.Player.{Player}
 use Rattle.fy_swarm.specs.declared.player.Player.TheVariants.{Stores, Swizzles, Kills}
 
--- every process, by number
-abbrev pub all_processes : List Locality → List ProcId
-all_processes processes = map (λ p. record { 0 = p }) (range_with_len 0 (length processes))
-
 -- four payloads of a byte each, 0 to 3
 abbrev pub payloads : List (List ℕ)
 payloads = map (λ byte. byte ∷ []) (range_with_len 0 4)
@@ -37,17 +31,13 @@ payloads = map (λ byte. byte ∷ []) (range_with_len 0 4)
 -- who stores these in a team of all processes, under the first policy, by 200 acts in all
 abbrev pub storing : List Locality → Drive
 storing processes = record {
-  members = all_processes processes;
+  members = everyone processes;
   policy = 0;
   payloads = payloads;
   acts = 200;
   team = Unformed;
   made = 0;
 }
-
--- an actor's words: two for each process, from the actor's own stream of the seed
-abbrev pub actor_words : List Locality → ℕ → ℕ → List ℕ
-actor_words processes seed actor = stream_outputs seed actor (2 * length processes)
 
 -- whether a role is that of fault actors
 abbrev pub is_fault : Role → Bool
@@ -66,12 +56,12 @@ pub data Plays (setup : Setup) (seed actor : ℕ) : Option Player → Type 0 whe
       Plays setup seed actor (Some (Stores (storing setup.processes)))
   swizzles : (plan : SwizzlePlan) → slice_get setup.roles actor ≡ Some Fault →
       faults_before setup.roles actor % 2 ≡ 0 →
-      IsSwizzle (actor_words setup.processes seed actor) (all_processes setup.processes) plan →
+      IsSwizzle (plan_words setup.processes seed actor) (everyone setup.processes) plan →
       Plays setup seed actor (Some (Swizzles (begun (swizzle_acts setup.processes plan 10))))
   kills : (ordered : rank Reboot ≤ rank KillInstantly) → slice_get setup.roles actor ≡ Some Fault →
       faults_before setup.roles actor % 2 ≡ 1 →
       Plays setup seed actor (Some (Kills (begun (attrition_acts KillInstantly Reboot 0 ordered
-      (machines_to_kill (actor_words setup.processes seed actor) setup.processes 2 1)))))
+      (machines_to_kill (plan_words setup.processes seed actor) setup.processes 2 1)))))
   rests : slice_get setup.roles actor ≡ Some Operator → Plays setup seed actor None
 
 -- whether a swarm lets an actor of the role act; nobody has a number beyond the actors

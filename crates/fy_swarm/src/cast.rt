@@ -1,21 +1,18 @@
 //! Who plays an actor of a swarm, by its role and number.
-ghost use Rattle.std.specs.Prelude.{◌≡◌, ◌*◌, ◌<◌, ◌≤◌, length, IfOk, slice_get, if◌then◌else◌};
+ghost use Rattle.std.specs.Prelude.{◌≡◌, ◌<◌, ◌≤◌, length, IfOk, slice_get, if◌then◌else◌};
 ghost use Rattle.fy_actors.specs.Schedules.{begun, swizzle_acts, attrition_acts};
-ghost use Rattle.fy_actors.specs.Plans.{IsSwizzle, machines_to_kill};
+ghost use Rattle.fy_actors.specs.Plans.{IsSwizzle, machines_to_kill, everyone, plan_words};
 ghost use Rattle.fy_actors.specs.declared.plans.SwizzlePlan.{SwizzlePlan as Plan};
 ghost use Rattle.fy_kinds.specs.Kinds.{rank};
 ghost use Rattle.fy_kinds.specs.declared.kind.Kind.TheVariants as kind;
-ghost use Rattle.fy_swarm.specs.Swarm.{all_processes, payloads, storing, actor_words, is_fault, faults_before, Plays};
+ghost use Rattle.fy_swarm.specs.Swarm.{payloads, storing, is_fault, faults_before, Plays};
 
 use crate::player::Player;
-use fy_actors::{
-    Attrition, AttritionFault, PlanFault, StorageDriver, Swizzle, attrition_plan, swizzle_plan,
-    words,
-};
+use fy_actors::{AttritionFault, Schedule, StorageDriver, draw_attrition, draw_swizzle, everyone};
 use fy_cluster::{Config, Role};
 use fy_disk::Payload;
 use fy_kinds::Kind;
-use fy_locality::{Map, ProcId};
+use fy_locality::Map;
 use fy_team::Members;
 use std::alloc::{AllocError, Global};
 
@@ -29,18 +26,6 @@ const CLOG_TICKS: u64 = 10;
 const TO_KILL: u32 = 2;
 
 const TO_LEAVE: u32 = 1;
-
-/// Every process, by number.
-#[tactic(auto, using(crate::proofs::Playing::one_process_more))]
-fn all_processes(alloc: Global, map: &Map) -> Result<Vec<ProcId>, AllocError>
-    ensures { IfOk result (λ all. all.items ≡ all_processes map.now) }
-{
-    let mut all = Vec::new(alloc);
-    for p in 0..map.len() {
-        all.push(ProcId(p))?;
-    }
-    Ok(all)
-}
 
 /// Four payloads of a byte each, 0 to 3.
 #[tactic(auto, using(crate::proofs::Playing::one_payload_more))]
@@ -59,42 +44,32 @@ fn storage(alloc: Global, map: &Map) -> Result<StorageDriver, AllocError>
     ensures { IfOk result (λ driver. driver ≡ storing map.now) }
 {
     let _few = map.len();
-    let Ok(members) = Members::from_vec(all_processes(alloc, map)?) else {
+    let Ok(members) = Members::from_vec(everyone(alloc, map)?) else {
         unreachable!();
     };
     let payloads = payloads(alloc)?;
     Ok(StorageDriver::make(alloc, members, 0, payloads, STORAGE_ACTS))
 }
 
-/// Who clogs the processes that the words choose and frees them again.
-fn swizzle(alloc: Global, map: &Map, words: &[u32]) -> Result<Swizzle, AllocError>
-    requires { 2 * length map.now ≤ length words.now }
-    ensures { IfOk result (λ actor. (plan : Plan) × IsSwizzle words.now (all_processes map.now) plan
-        × (actor ≡ begun (swizzle_acts map.now plan 10))) }
+/// Who clogs the processes that the words of this actor choose and frees them again.
+fn swizzle(alloc: Global, map: &Map, seed: u64, actor: u32) -> Result<Schedule, AllocError>
+    ensures { IfOk result (λ made. (plan : Plan)
+        × IsSwizzle (plan_words map.now seed actor) (everyone map.now) plan
+        × (made ≡ begun (swizzle_acts map.now plan 10))) }
 {
-    let all = all_processes(alloc, map)?;
-    let plan = match swizzle_plan(alloc, words, &all) {
-        Ok(plan) => plan,
-        Err(PlanFault::NoMemory) => return Err(AllocError),
-        Err(PlanFault::WordsShort { .. }) => unreachable!(),
-    };
-    Swizzle::make(alloc, map, &plan, CLOG_TICKS)
+    let plan = draw_swizzle(alloc, map, seed, actor as u64)?;
+    Schedule::swizzle(alloc, map, &plan, CLOG_TICKS)
 }
 
-/// Who kills the machines that the words choose.
-fn attrition(alloc: Global, map: &Map, words: &[u32]) -> Result<Attrition, AllocError>
-    requires { 2 * length map.now ≤ length words.now }
-    ensures { (ordered : rank kind.Reboot ≤ rank kind.KillInstantly) → IfOk result (λ actor.
-        actor ≡ begun (attrition_acts kind.KillInstantly kind.Reboot 0 ordered
-        (machines_to_kill words.now map.now 2 1))) }
+/// Who kills the machines that the words of this actor choose.
+fn attrition(alloc: Global, map: &Map, seed: u64, actor: u32) -> Result<Schedule, AllocError>
+    ensures { (ordered : rank kind.Reboot ≤ rank kind.KillInstantly) → IfOk result (λ made.
+        made ≡ begun (attrition_acts kind.KillInstantly kind.Reboot 0 ordered
+        (machines_to_kill (plan_words map.now seed actor) map.now 2 1))) }
 {
-    let plan = match attrition_plan(alloc, words, map, TO_KILL, TO_LEAVE) {
-        Ok(plan) => plan,
-        Err(PlanFault::NoMemory) => return Err(AllocError),
-        Err(PlanFault::WordsShort { .. }) => unreachable!(),
-    };
-    match Attrition::make(alloc, &plan, Kind::KillInstantly, Kind::Reboot, 0) {
-        Ok(actor) => Ok(actor),
+    let plan = draw_attrition(alloc, map, seed, actor as u64, TO_KILL, TO_LEAVE)?;
+    match Schedule::attrition(alloc, &plan, Kind::KillInstantly, Kind::Reboot, 0) {
+        Ok(made) => Ok(made),
         Err(AttritionFault::NoMemory) => Err(AllocError),
         Err(AttritionFault::Floor) => unreachable!(),
     }
@@ -152,11 +127,10 @@ pub fn player_of(
         Role::Storage => Ok(Some(Player::Stores(storage(alloc, map)?))),
         Role::Operator => Ok(None),
         Role::Fault => {
-            let words = words(alloc, seed, actor as u64, 2 * map.len() as usize)?;
             if faults_before(config, actor) % 2 == 0 {
-                Ok(Some(Player::Swizzles(swizzle(alloc, map, &words)?)))
+                Ok(Some(Player::Swizzles(swizzle(alloc, map, seed, actor)?)))
             } else {
-                Ok(Some(Player::Kills(attrition(alloc, map, &words)?)))
+                Ok(Some(Player::Kills(attrition(alloc, map, seed, actor)?)))
             }
         }
     }

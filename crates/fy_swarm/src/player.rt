@@ -1,5 +1,5 @@
 //! Who plays an actor of a swarm, at a desk.
-use fy_actors::{Attrition, Desk, FaultActor, StorageDriver, Swizzle, Turn};
+use fy_actors::{Desk, FaultActor, Schedule, StorageDriver, Turn};
 use fy_cluster::Fault;
 
 /// Who plays an actor.
@@ -8,9 +8,9 @@ pub enum Player {
     /// Forms a team of all processes, stores four payloads there and moves data.
     Stores(StorageDriver),
     /// Clogs processes and frees them again.
-    Swizzles(Swizzle),
+    Swizzles(Schedule),
     /// Kills machines.
-    Kills(Attrition),
+    Kills(Schedule),
 }
 
 // One type of all players, so that whatever the role the part of a boxed one is known.
@@ -22,8 +22,8 @@ impl FaultActor for Player {
     fn turn(&mut self, desk: &mut Desk) -> Result<Turn, Fault> {
         match self {
             Player::Stores(driver) => driver.turn(desk),
-            Player::Swizzles(swizzle) => swizzle.turn(desk),
-            Player::Kills(attrition) => attrition.turn(desk),
+            Player::Swizzles(schedule) => schedule.turn(desk),
+            Player::Kills(schedule) => schedule.turn(desk),
         }
     }
 }

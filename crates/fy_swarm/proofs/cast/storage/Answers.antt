@@ -7,5 +7,5 @@ pub unreachable-requires : goal.unreachable-requires
 unreachable-requires c =
     let bad : false ≡ true =
     c.in_default.ensures.accepted
-    (subst AreMembers (sym c.in_ok-all_processes.ensures) (are_members c.args.map.now c.len-few.ensures.few)) in
+    (subst AreMembers (sym c.in_ok-everyone.ensures) (are_members c.args.map.now c.len-few.ensures.few)) in
     absurd (search rules)

@@ -1,7 +1,7 @@
 use Rattle.std.proofs.Common.{rules, ◌≡◌, ◌∙◌, sym}
 use Rattle.fy_actors.specs.declared.plans.PlanFault.TheVariants.{NoMemory, WordsShort}
-use Rattle.fy_players.proofs.Drawn.{attrition_enough}
-use Rattle.fy_players.proofs.rounds.draw_attrition.Goals as goal
+use Rattle.fy_actors.proofs.PlansOfAll.{attrition_enough}
+use Rattle.fy_actors.proofs.drawn.draw_attrition.Goals as goal
 
 pub unreachable-requires : goal.unreachable-requires
 unreachable-requires c =

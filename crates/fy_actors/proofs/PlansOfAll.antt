@@ -1,4 +1,4 @@
--- rounds: how many words they take, who is in them, and their acts
+-- plans of all processes: how many words they take, and who is in them
 use Rattle.std.proofs.Common.{arith, ◌≡◌, ◌∙◌, ◌≤◌, ◌<◌, ◌+◌, ◌-◌, ◌*◌, ◌%◌, ◌==◌, ℕ, zero, suc, Bool, true, false, List, [], ◌∷◌, ◌++◌, length, map, get_or, refl, sym, ap, ap₂, subst, not}
 use Rattle.std.specs.Prelude.{if◌then◌else◌, nat_lt, take, drop}
 use Rattle.std.specs.List.{All, range_with_len, filter_map, swap}
@@ -10,17 +10,9 @@ use Rattle.fy_locality.specs.declared.ProcId.{ProcId}
 use Rattle.fy_locality.specs.declared.locality.Locality.{Locality}
 use Rattle.fy_locality.specs.declared.key.Key.TheVariants.{Machine}
 use Rattle.fy_locality.specs.Locality.{value_in, values_of, first_seen}
-use Rattle.std.proofs.Math.Bridge.{le_prop}
-use Rattle.fy_kinds.specs.declared.kind.Kind.{Kind}
-use Rattle.fy_kinds.specs.declared.order.Target.{Target}
-use Rattle.fy_kinds.specs.Kinds.{rank}
-use Rattle.fy_kinds.specs.Orders.{Order}
-use Rattle.fy_acts.specs.declared.act.Act.TheVariants.{Kill}
-use Rattle.fy_actors.specs.Schedules.{attrition_act}
-use Rattle.fy_actors.specs.Plans.{chosen, shuffled, shuffled_from, swizzle_need, IsSwizzle}
+use Rattle.fy_actors.specs.Plans.{chosen, shuffled, shuffled_from, swizzle_need, IsSwizzle, everyone}
 use Rattle.fy_actors.specs.declared.plans.SwizzlePlan.{SwizzlePlan}
 use Rattle.fy_actors.specs.Words.{stream_outputs}
-use Rattle.fy_players.specs.Rounds.{everyone}
 
 -- ---- words
 
@@ -39,7 +31,7 @@ pub one_process_more : (n : ℕ) →
 one_process_more n =
     map-range_with_len_more process 0 n n (let e : 0 + n ≡ n = omega arith in e)
 
-at_place : (n k : ℕ) (d : ProcId) → k < n → get_or (map process (range_with_len 0 n)) k d ≡ process k
+pub at_place : (n k : ℕ) (d : ProcId) → k < n → get_or (map process (range_with_len 0 n)) k d ≡ process k
 at_place n k d within =
     get_or-map-range_with_len process 0 n k k d within (let e : 0 + k ≡ k = omega arith in e)
 
@@ -50,7 +42,7 @@ all_below n k d lt =
     let within : k < n = omega arith in
     subst (λ (p : ProcId). p.0 < n) (sym (at_place n k d within)) within
 
-everybody_count : (processes : List Locality) → length (everyone processes) ≡ length processes
+pub everybody_count : (processes : List Locality) → length (everyone processes) ≡ length processes
 everybody_count processes = length-map-range_with_len process 0 (length processes)
 
 -- ---- who is in a swizzle
@@ -168,22 +160,3 @@ attrition_enough seed stream processes count words counted drawn =
     let long = word_count seed stream (2 * count) in
     let taken = ap length drawn in
     omega arith
-
--- ---- orders for machines
-
-abbrev order_of : Target → (k f : Kind) → ℕ → rank f ≤ rank k → Order
-order_of t k f n o = record { target = t; kind = k; floor = f; tear = n; ordered = o }
-
--- orders of the same parts are the same, whatever shows that the floor isn't above the kind
-same_parts : (a : Order) (t : Target) (k f : Kind) (n : ℕ) (o : rank f ≤ rank k) → a.target ≡ t →
-    a.kind ≡ k → a.floor ≡ f → a.tear ≡ n → a ≡ order_of t k f n o
-same_parts a t k f n o et ek ef en =
-    subst (λ (f : Kind). (o : rank f ≤ rank k) → a ≡ order_of t k f n o) ef
-    (subst (λ (k : Kind). (o : rank a.floor ≤ rank k) → a ≡ order_of t k a.floor n o) ek
-    (λ o'. λ i. order_of (et i) a.kind a.floor (en i) (le_prop a.ordered o' i)))
-    o
-
-pub one_order : (a : Order) (machine : List ℕ) (k f : Kind) (n : ℕ) (o : rank f ≤ rank k) →
-    a.target ≡ record { key = Machine; value = machine } → a.kind ≡ k → a.floor ≡ f → a.tear ≡ n →
-    Kill a ≡ attrition_act k f n o machine
-one_order a machine k f n o et ek ef en = ap Kill (same_parts a _ k f n o et ek ef en)

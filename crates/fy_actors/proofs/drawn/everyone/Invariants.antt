@@ -1,6 +1,6 @@
 use Rattle.std.proofs.Common.{◌≡◌, ◌≤◌, map, length}
 use Rattle.std.specs.List.{range_with_len}
-use Rattle.fy_players.proofs.rounds.everyone.Given as goal
+use Rattle.fy_actors.proofs.drawn.everyone.Given as goal
 
 abbrev pub invariant-loop-p : goal.invariant-loop-p
 invariant-loop-p l =

@@ -1,8 +1,8 @@
 use Rattle.std.proofs.Common.{rules, ◌≡◌, ◌∙◌, sym, subst}
 use Rattle.fy_actors.specs.Plans.{IsSwizzle}
 use Rattle.fy_actors.specs.declared.plans.PlanFault.TheVariants.{NoMemory, WordsShort}
-use Rattle.fy_players.proofs.Drawn.{swizzle_enough, swizzles_within}
-use Rattle.fy_players.proofs.rounds.draw_swizzle.Goals as goal
+use Rattle.fy_actors.proofs.PlansOfAll.{swizzle_enough, swizzles_within}
+use Rattle.fy_actors.proofs.drawn.draw_swizzle.Goals as goal
 
 pub unreachable-requires : goal.unreachable-requires
 unreachable-requires c =

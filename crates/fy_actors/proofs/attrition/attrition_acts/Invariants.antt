@@ -1,7 +1,7 @@
 use Rattle.std.proofs.Common.{◌≡◌, ◌≤◌, take}
 use Rattle.fy_kinds.specs.Kinds.{rank}
 use Rattle.fy_actors.specs.Schedules.{attrition_acts}
-use Rattle.fy_actors.proofs.attrition.kill_orders.Given as goal
+use Rattle.fy_actors.proofs.attrition.attrition_acts.Given as goal
 
 abbrev pub invariant-loop-machine : goal.invariant-loop-machine
 invariant-loop-machine l =

@@ -2,7 +2,7 @@ use Rattle.std.proofs.Common.{◌∙◌, sym, ap, ap₂, ◌++◌, ◌∷◌, []
 use Rattle.fy_acts.specs.declared.act.Act.{Act}
 use Rattle.fy_actors.specs.Schedules.{attrition_act}
 use Rattle.fy_actors.proofs.Working.{one_order, one_act_more}
-use Rattle.fy_actors.proofs.attrition.kill_orders.Goals as goal
+use Rattle.fy_actors.proofs.attrition.attrition_acts.Goals as goal
 
 pub loop-machine-preserved : goal.loop-machine-preserved
 loop-machine-preserved c = λ ordered.
