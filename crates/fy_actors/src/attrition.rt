@@ -29,8 +29,8 @@ impl From<AllocError> for AttritionFault {
     }
 }
 
-/// An order to kill each machine by a kind, or by a milder one down to the floor. A reboot keeps the
-/// unsynced writes that `tear` says.
+/// An order to kill each machine by a kind, or by a milder one down to the floor. A reboot keeps
+/// the unsynced writes that `tear` says.
 ///
 /// Asks that the floor isn't above the kind.
 ///

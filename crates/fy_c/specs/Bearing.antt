@@ -35,8 +35,8 @@ is_exact_at any one = one.any == any && sets.len one.too_many == one.any + 1
 abbrev pub is_exact : ℕ → List Tolerance → Bool
 is_exact any found = list_any (is_exact_at any) found
 
--- any so many may be lost, by the least number of the policies; where it is exact, no greater number
--- is borne; and 0 always is exact
+-- any so many may be lost, by the least number of the policies; where it is exact, no greater
+-- number is borne; and 0 always is exact
 pub record IsBorneBy (dead : Losses) (loss : Loss) (any exact : ℕ) : Type 0 where
   pub found : List Tolerance
   pub tolerances : AllZip (λ policy one. IsTolerance dead policy loss one) dead.policies found

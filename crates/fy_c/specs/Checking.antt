@@ -80,9 +80,9 @@ abbrev pub IsAuditWith : (List ℕ → Type 0) → List ℕ → Type 0
 IsAuditWith WasRead front =
     (bytes : List ℕ) → WasRead bytes → (it : Audit) × AuditOf (bytes ++ front) (Ok it)
 
--- what is asked of a line of this number before memory is: with it there aren't too many bytes behind
--- those that were read; no more stand before its line feed than a line may have; and a first line
--- begins with the header of a version
+-- what is asked of a line of this number before memory is: with it there aren't too many bytes
+-- behind those that were read; no more stand before its line feed than a line may have; and a first
+-- line begins with the header of a version
 pub record MayBeRead (WasRead : List ℕ → Type 0) (number : ℕ) (line : List ℕ) : Type 0 where
   pub fits : (bytes : List ℕ) → WasRead bytes → length (bytes ++ line) ≤ MOST_AUDIT_BYTES
   pub short : (front : List ℕ) (after : List (List ℕ)) → lines_of line ≡ front ∷ after →
@@ -90,8 +90,8 @@ pub record MayBeRead (WasRead : List ℕ → Type 0) (number : ℕ) (line : List
   pub begins : number ≡ 1 → (version : Version) × (rest : List ℕ) × (line ≡ header version ++ rest)
 
 -- why a line of this number isn't read behind bytes that were read, in order: there are too many
--- with it; it is faulty; nothing is given; more follows its line feed. Or there was no memory, and all
--- that is asked before holds
+-- with it; it is faulty; nothing is given; more follows its line feed. Or there was no memory, and
+-- all that is asked before holds
 pub data Refuses (WasRead : List ℕ → Type 0) (number : ℕ) (line : List ℕ) : Status → Type 0 where
   too_long : ((bytes : List ℕ) → WasRead bytes → AuditOf (bytes ++ line) (Err audit.TooLong)) →
       Refuses WasRead number line AuditTooLong

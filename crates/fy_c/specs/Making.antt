@@ -139,8 +139,8 @@ pub record IsGiveOf (actor bits key : ℕ) (value : List ℕ) (act : Act) : Type
   pub scope_is : IsScopeOf key value scope
   pub act_is : act ≡ Give (record { actor = actor; kinds = kinds; scope = scope })
 
--- why no grant is given, the first that holds: a bit is that of no kind; the number is neither 0 nor
--- that of a key, or the bytes are no name
+-- why no grant is given, the first that holds: a bit is that of no kind; the number is neither 0
+-- nor that of a key, or the bytes are no name
 pub data NoGive (bits key : ℕ) (value : List ℕ) : Status → Type 0 where
   no_kinds : AreNoKinds bits → NoGive bits key value Argument
   no_scope : (kinds : Members) → bits ≡ bits_of kinds → key ≢ 0 → (status : Status) →

@@ -25,8 +25,8 @@ pub record Follows (setup : Setup) (audit : List ℕ) (execution : Execution) : 
   pub read : AuditOf audit (Ok (record { version = Second; entries = execution.journal }))
   pub legal : Legal setup execution.journal
 
--- the audit has no more bytes than one may have, and begins with the header of the second version and
--- the lines of these entries, which are a legal journal
+-- the audit has no more bytes than one may have, and begins with the header of the second version
+-- and the lines of these entries, which are a legal journal
 pub record BeginsLegal (setup : Setup) (audit : List ℕ) (entries : List Entry) (rest : List ℕ)
     : Type 0 where
   pub bound : length audit ≤ MOST_AUDIT_BYTES
@@ -46,9 +46,9 @@ pub record Refutes (setup : Setup) (audit : List ℕ) (at : ℕ) : Type 0 where
   pub wrong : Legal setup (before ++ bad ∷ []) → ⊥
   pub place : at ≡ length before
 
--- why an audit isn't followed, in order: it is too long; it has no header; it is of the first version;
--- it begins with a legal journal, and the next line is faulty. Or there was no memory, which is asked
--- for once all entries so far are a legal journal
+-- why an audit isn't followed, in order: it is too long; it has no header; it is of the first
+-- version; it begins with a legal journal, and the next line is faulty. Or there was no memory,
+-- which is asked for once all entries so far are a legal journal
 pub data NotFollowed (setup : Setup) (audit : List ℕ) : Status → Type 0 where
   too_long : AuditOf audit (Err TooLong) → NotFollowed setup audit AuditTooLong
   no_header : AuditOf audit (Err (Line 1 Header)) → NotFollowed setup audit NoHeader

@@ -73,7 +73,8 @@ pub extern "C" fn fy_is_acked(guard: &mut FyGuard, rec: u32) -> u32
 }
 
 /// The state of a process as bits: 1 where it is up, 2 where it is clogged, 4 where it is
-/// destroyed, 8 where it is gone for good. 4,294,967,295 where there is no process with this number.
+/// destroyed, 8 where it is gone for good. 4,294,967,295 where there is no process with this
+/// number.
 #[unsafe(no_mangle)]
 pub extern "C" fn fy_state(guard: &mut FyGuard, process: u32) -> u32
     requires { guard.old.at ≢ null_ptr }
@@ -126,8 +127,8 @@ fn told_seen(sight: Sight) -> FySeen
     }
 }
 
-/// Writes the time, and what there is to do next: the least message to deliver, the least process to
-/// sync and the least one to start.
+/// Writes the time, and what there is to do next: the least message to deliver, the least process
+/// to sync and the least one to start.
 #[unsafe(no_mangle)]
 pub extern "C" fn fy_sight(guard: &mut FyGuard, seen: &mut FySeen)
     requires { guard.old.at ≢ null_ptr }

@@ -103,9 +103,9 @@ fn borne_in(alloc: Global, cluster: &Cluster) -> Result<FyBorne, AllocError>
     })
 }
 
-/// Writes how many processes, whichever they are, may still be emptied together, and how many may be
-/// killed for good, as the journal left the cluster; and whether each number is exact. Those lost
-/// already count too. It enters nothing.
+/// Writes how many processes, whichever they are, may still be emptied together, and how many may
+/// be killed for good, as the journal left the cluster; and whether each number is exact. Those
+/// lost already count too. It enters nothing.
 ///
 /// # Errors
 ///

@@ -1,6 +1,6 @@
 //! Callers: each call that asks something of its caller is made here, on a guard or a check that
-//! another call has opened. They are proved with the crate, so what is asked can be met, and is kept
-//! from call to call. Nothing calls them, so the library has none of their code.
+//! another call has opened. They are proved with the crate, so what is asked can be met, and is
+//! kept from call to call. Nothing calls them, so the library has none of their code.
 ghost use Rattle.std.specs.Prelude.{◌≢◌};
 ghost use Rattle.std.specs.Ptr.{null_ptr};
 

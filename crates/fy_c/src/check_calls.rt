@@ -64,10 +64,10 @@ pub extern "C" fn fy_end_check(alloc: Global, check: FyCheck)
 ///
 /// # Errors
 ///
-/// In order: `AuditTooLong` where the lines so far have more than 268,435,456 bytes; `NoHeader` where
-/// the first line is no header; `LineTooLong`; `LineSyntax` for a line that is not the one text of an
-/// entry that may come next, or that is no one line. `NoMemory` can take the place of the last.
-/// Nothing changes.
+/// In order: `AuditTooLong` where the lines so far have more than 268,435,456 bytes; `NoHeader`
+/// where the first line is no header; `LineTooLong`; `LineSyntax` for a line that is not the one
+/// text of an entry that may come next, or that is no one line. `NoMemory` can take the place of
+/// the last. Nothing changes.
 #[unsafe(no_mangle)]
 pub extern "C" fn fy_read_line(
     alloc: Global,

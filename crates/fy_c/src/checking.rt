@@ -120,8 +120,8 @@ fn read_header(alloc: Global, config: &Config, line: &[u8]) -> Result<Begun, Sta
 ///
 /// # Errors
 ///
-/// In order: `AuditTooLong`; `LineTooLong`; `LineSyntax`. `NoMemory` can take the place of the last.
-/// Nothing changes.
+/// In order: `AuditTooLong`; `LineTooLong`; `LineSyntax`. `NoMemory` can take the place of the
+/// last. Nothing changes.
 fn read_entry(alloc: Global, begun: &mut Begun, line: &[u8]) -> Result<(), Status>
     ensures read { OnOk result ((setup : Setup) (bytes : List ℕ) →
         HasProgress setup bytes begun.old → HasProgress setup (bytes ++ line.now) begun.new) }

@@ -69,8 +69,8 @@ pub(crate) fn outcome_of(answer: Result<Reply, Fault>) -> (Status, Told)
 ///
 /// # Errors
 ///
-/// In order: `Argument` where a number is that of no key or kind; `Name` where the value is no name;
-/// `Floor` where the floor is above the kind.
+/// In order: `Argument` where a number is that of no key or kind; `Name` where the value is no
+/// name; `Floor` where the floor is above the kind.
 fn order_of(key: u32, value: &[u8], kind: u32, floor: u32, tear: u64) -> Result<KillOrder, Status>
     ensures order { IfOk result (IsOrderOf
         (record { key = key; value = value.now; kind = kind; floor = floor; tear = tear })) }
@@ -142,16 +142,16 @@ fn carry_out(guard: &mut FyGuard, actor: u32, order: Result<KillOrder, Status>) 
 }
 
 /// Orders a kill by an actor: of the processes whose key has a value, by a kind or where that is
-/// barred by a milder one down to the floor. The number of the kind that struck goes to `struck`, or
-/// 0; that of the rule that bars the ordered kind to `rule`, or 0; and the process or the policy that
-/// the rule names to `named`.
+/// barred by a milder one down to the floor. The number of the kind that struck goes to `struck`,
+/// or 0; that of the rule that bars the ordered kind to `rule`, or 0; and the process or the policy
+/// that the rule names to `named`.
 ///
 /// # Errors
 ///
-/// In order: `Argument` where a number is that of no key or kind; `Name` where the value is no name;
-/// `Floor` where the floor is above the kind; `JournalFull`; `NoMemory`: nothing changed then.
-/// `Refused` where there is no actor with this number, and the act stands in the journal all the
-/// same.
+/// In order: `Argument` where a number is that of no key or kind; `Name` where the value is no
+/// name; `Floor` where the floor is above the kind; `JournalFull`; `NoMemory`: nothing changed
+/// then. `Refused` where there is no actor with this number, and the act stands in the journal all
+/// the same.
 #[unsafe(no_mangle)]
 pub extern "C" fn fy_kill(
     guard: &mut FyGuard,
@@ -194,13 +194,14 @@ fn expected_outcome(
     }
 }
 
-/// What `fy_kill` would answer now to the same order, if the journal had room. It enters nothing, and
-/// takes no memory. The three numbers are those of `fy_kill`.
+/// What `fy_kill` would answer now to the same order, if the journal had room. It enters nothing,
+/// and takes no memory. The three numbers are those of `fy_kill`.
 ///
 /// # Errors
 ///
-/// In order: `Argument` where a number is that of no key or kind; `Name` where the value is no name;
-/// `Floor` where the floor is above the kind; `Refused` where there is no actor with this number.
+/// In order: `Argument` where a number is that of no key or kind; `Name` where the value is no
+/// name; `Floor` where the floor is above the kind; `Refused` where there is no actor with this
+/// number.
 #[unsafe(no_mangle)]
 pub extern "C" fn fy_judge(
     guard: &mut FyGuard,

@@ -26,8 +26,8 @@ pub fn what_was_read_is_found()
     ensures { WhatWasReadIsFound }
 {}
 
-/// The number for no process, no record, no message, no bad entry and every process, the most bytes of
-/// a reply and of a payload, and the bytes of an order's value, as numbers.
+/// The number for no process, no record, no message, no bad entry and every process, the most bytes
+/// of a reply and of a payload, and the bytes of an order's value, as numbers.
 pub fn limits()
     ensures nobody { NOBODY ≡ 4294967295 }
     ensures no_record { NO_RECORD ≡ 4294967295 }

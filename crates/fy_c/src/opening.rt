@@ -29,7 +29,8 @@ pub(crate) fn begun(alloc: Global, config: &[u8]) -> Result<Cluster, Status>
     }
 }
 
-/// Opens a guard of a cluster in which nothing happened yet. What the guard was before is forgotten.
+/// Opens a guard of a cluster in which nothing happened yet. What the guard was before is
+/// forgotten.
 ///
 /// # Errors
 ///
@@ -67,7 +68,8 @@ fn fresh(alloc: Global, cluster: &Cluster) -> Result<Cluster, AllocError>
     Cluster::make(alloc, config)
 }
 
-/// Puts an open guard back to where nothing happened yet, without its cluster file being read again.
+/// Puts an open guard back to where nothing happened yet, without its cluster file being read
+/// again.
 ///
 /// # Errors
 ///

@@ -189,9 +189,9 @@ fn give(orders: &[FyOrder], buffer: &mut [FyOrder], told: &mut usize) -> Status
     Status::Done
 }
 
-/// Writes the orders of a swizzle to the front of a buffer: those of the first, third, .. fault actor
-/// of a swarm whose number is the stream, where they clog for 10 ticks. How many there are goes to
-/// `told`.
+/// Writes the orders of a swizzle to the front of a buffer: those of the first, third, .. fault
+/// actor of a swarm whose number is the stream, where they clog for 10 ticks. How many there are
+/// goes to `told`.
 ///
 /// # Errors
 ///
@@ -238,7 +238,8 @@ struct Asked {
 ///
 /// # Errors
 ///
-/// In order: `Argument` where a number is that of no kind; `Floor` where the floor is above the kind.
+/// In order: `Argument` where a number is that of no kind; `Floor` where the floor is above the
+/// kind.
 fn kinds_of(asked: Asked) -> Result<(Kind, Kind), Status>
     ensures kinds { IfOk result (λ kinds. AreKinds asked kinds.0 kinds.1) }
     ensures none { IfErr result (NoKindAndFloor asked) }
@@ -302,15 +303,15 @@ fn attrition(
     kill_orders(alloc, &plan.machines, kind, floor, asked.tear)
 }
 
-/// Writes the orders of an attrition to the front of a buffer: those of the second, fourth, .. fault
-/// actor of a swarm whose number is the stream, where they kill 2 machines and leave 1, by
+/// Writes the orders of an attrition to the front of a buffer: those of the second, fourth, ..
+/// fault actor of a swarm whose number is the stream, where they kill 2 machines and leave 1, by
 /// `KillInstantly` with the floor `Reboot` and the tear 0. How many there are goes to `told`.
 ///
 /// # Errors
 ///
-/// In order: `Argument` where a number is that of no kind; `Floor` where the floor is above the kind;
-/// `NoMemory`: 0 goes to `told`. `Short` where the buffer has room for fewer. Nothing is written to
-/// the buffer then.
+/// In order: `Argument` where a number is that of no kind; `Floor` where the floor is above the
+/// kind; `NoMemory`: 0 goes to `told`. `Short` where the buffer has room for fewer. Nothing is
+/// written to the buffer then.
 #[unsafe(no_mangle)]
 pub extern "C" fn fy_attrition_plan(
     alloc: Global,

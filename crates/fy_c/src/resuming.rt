@@ -16,8 +16,8 @@ use fy_audit::{AuditReader, Version};
 use fy_cluster::{Cluster, Fault, laws};
 use std::alloc::{AllocError, Global};
 
-/// Whether the entry may come next in the journal of a cluster. Where it may, that journal then ends
-/// with it.
+/// Whether the entry may come next in the journal of a cluster. Where it may, that journal then
+/// ends with it.
 fn comes_next(cluster: &mut Cluster, entry: Entry) -> Result<bool, AllocError>
     requires { entry.at ≡ length cluster.old.journal }
     ensures next { IfOk result (λ next. IsTrue next
@@ -43,7 +43,8 @@ fn comes_next(cluster: &mut Cluster, entry: Entry) -> Result<bool, AllocError>
 /// # Errors
 ///
 /// In order: `AuditTooLong`; `NoHeader`, for an audit of the first version too; `LineTooLong` or
-/// `LineSyntax` of a line before the first bad entry. `NoMemory` can take the place of the last two.
+/// `LineSyntax` of a line before the first bad entry. `NoMemory` can take the place of the last
+/// two.
 fn follow(alloc: Global, cluster: &mut Cluster, audit: &[u8]) -> Result<Option<u32>, Status>
     requires { cluster.old.journal ≡ [] }
     ensures followed { result ≡ Ok None → Follows cluster.old.setup audit.now cluster.new }

@@ -65,8 +65,8 @@ fn scope_of(key: u32, value: &[u8]) -> Result<Scope, Status>
 ///
 /// # Errors
 ///
-/// In order: `Argument` where a bit is that of no kind, or the number neither `EVERYONE` nor that of
-/// a key; `Name` where the bytes are no name.
+/// In order: `Argument` where a bit is that of no kind, or the number neither `EVERYONE` nor that
+/// of a key; `Name` where the bytes are no name.
 fn give_of(actor: u32, kinds: u32, key: u32, value: &[u8]) -> Result<Act, Status>
     ensures given { IfOk result (IsGiveOf actor kinds key value.now) }
     ensures not_given { IfErr result (NoGive kinds key value.now) }

@@ -16,7 +16,8 @@ use fy_locality::ProcId;
 use fy_team::{MOST_MEMBERS, Members};
 use std::alloc::{AllocError, Global};
 
-/// How many bytes a payload may have: 32,000, so that the line of its entry has no more than 65,536.
+/// How many bytes a payload may have: 32,000, so that the line of its entry has no more than
+/// 65,536.
 pub const MOST_PAYLOAD: usize = 32_000;
 
 /// Whether each number is above the one before it.

@@ -18,8 +18,8 @@ use Rattle.fy_players.specs.declared.faults.Choice.TheVariants as choice
 use Rattle.fy_players.specs.Picks.{floor_of, key_of, value_at, target_of, ticks_of, tear_of}
 use Rattle.fy_players.specs.Rounds.{swizzle_round, attrition_round}
 
--- a fault actor: the seed from which its rounds are drawn, its plan, how many turns it took, and the
--- round that is under way
+-- a fault actor: the seed from which its rounds are drawn, its plan, how many turns it took, and
+-- the round that is under way
 pub record FaultState : Type 0 where
   pub seed : ℕ
   pub plan : Plan

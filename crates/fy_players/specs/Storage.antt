@@ -164,8 +164,8 @@ abbrev pub replaces : Execution → Knowledge → Words → Act × Note
 replaces x known words =
     let mending = mending_of x known words in (mends x mending, Mends mending)
 
--- the care of a member: once in eight it is healed, whatever its state; who is gone is replaced, who
--- is down is started, who is destroyed is filled and healed, and who is well is synced
+-- the care of a member: once in eight it is healed, whatever its state; who is gone is replaced,
+-- who is down is started, who is destroyed is filled and healed, and who is well is synced
 abbrev pub tends_by : Execution → Knowledge → Words → ProcId → Status → Act × Note
 tends_by x known words process status =
     if words.fourth % 8 == 0 then (act.Heal process, Plain)

@@ -7,8 +7,8 @@ use rand_chacha::ChaCha8Rng;
 use rand_core::utils::NextWord;
 use std::marker::Model;
 
-/// The words of a turn, in the order in which they are drawn: the first says what kind of act comes,
-/// and the last two are the halves of a tear.
+/// The words of a turn, in the order in which they are drawn: the first says what kind of act
+/// comes, and the last two are the halves of a tear.
 #[derive(Clone, Copy, PartialEq, Eq, Debug)]
 pub struct Words {
     pub choice: u32,

@@ -28,8 +28,9 @@ pub enum Plan {
     Rolling,
 }
 
-/// A fault actor: the seed from which its rounds are drawn, its plan, how many turns it took, and the
-/// acts of the round that is under way, with how many of them were made. It keeps its allocator.
+/// A fault actor: the seed from which its rounds are drawn, its plan, how many turns it took, and
+/// the acts of the round that is under way, with how many of them were made. It keeps its
+/// allocator.
 pub struct FaultPlayer {
     alloc: Global,
     seed: u64,

@@ -13,7 +13,8 @@ pub(crate) const NOBODY: u32 = 1_000_000;
 /// More ticks than the clock has.
 pub(crate) const NO_TICKS: u64 = 2_199_023_255_552;
 
-/// So many ticks pass, or are a part of a clog: a quarter of a second where a tick is a millisecond.
+/// So many ticks pass, or are a part of a clog: a quarter of a second where a tick is a
+/// millisecond.
 pub(crate) const TICKS_AT_ONCE: u64 = 250;
 
 /// One byte more than a record may have.

@@ -128,8 +128,8 @@ impl Part {
 }
 
 impl Player {
-    /// The actor with this number, before its first turn. Its words are those of the stream with its
-    /// number.
+    /// The actor with this number, before its first turn. Its words are those of the stream with
+    /// its number.
     pub fn make(alloc: Global, seed: u64, plan: Plan, actor: u32, role: Role) -> Player
         ensures { result ≡ player_of seed plan actor role }
     {
@@ -140,8 +140,8 @@ impl Player {
         }
     }
 
-    /// Takes a turn: does one act, by the next words of its stream, and learns the reply. Once in 256
-    /// who stores or operates acts by a number that no actor has.
+    /// Takes a turn: does one act, by the next words of its stream, and learns the reply. Once in
+    /// 256 who stores or operates acts by a number that no actor has.
     ///
     /// # Errors
     ///

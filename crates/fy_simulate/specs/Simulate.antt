@@ -80,8 +80,8 @@ pub data Turns (lots : List ℕ) (start : Stage) : ℕ → Stage → Type 0 wher
 abbrev pub acts_by : (actor : ℕ) → List Entry → List Act
 acts_by actor journal = map (λ e. e.act) (entries_by actor journal)
 
--- the journal that a seed makes: so many turns, or as many as it may have entries. What a fault actor
--- made are the orders of its plan, whatever the others did
+-- the journal that a seed makes: so many turns, or as many as it may have entries. What a fault
+-- actor made are the orders of its plan, whatever the others did
 pub record IsSimulated (c : Setup) (seed : ℕ) (plan : Plan) (acts : ℕ) (journal : List Entry)
     : Type 0 where
   pub survives : Survives c journal

@@ -175,8 +175,8 @@ fn play(
 }
 
 /// Lets the actors of a cluster of this configuration take so many turns, or as many as its journal
-/// may have entries, and writes the audit. Whose turn it is and what it does is drawn from the seed,
-/// for each actor and for the turns from a stream of its own; fault actors follow the plan.
+/// may have entries, and writes the audit. Whose turn it is and what it does is drawn from the
+/// seed, for each actor and for the turns from a stream of its own; fault actors follow the plan.
 ///
 /// All turns are taken before the first byte is written.
 ///

@@ -1,5 +1,5 @@
 //! Who plays an actor of a swarm, by its role and number.
-ghost use Rattle.std.specs.Prelude.{◌≡◌, ◌<◌, ◌≤◌, length, IfOk, slice_get, if◌then◌else◌};
+ghost use Rattle.std.specs.Prelude.{◌≡◌, ◌<◌, ◌≤◌, length, IfOk, if◌then◌else◌};
 ghost use Rattle.fy_actors.specs.Schedules.{begun, swizzle_acts, attrition_acts};
 ghost use Rattle.fy_actors.specs.Plans.{IsSwizzle, machines_to_kill, everyone, plan_words};
 ghost use Rattle.fy_actors.specs.declared.plans.SwizzlePlan.{SwizzlePlan as Plan};

@@ -1,6 +1,6 @@
 //! The engine behind `faultyard swarm`: every actor of a cluster is let loose on a thread of its
 //! own, and the audit of what came of it goes out.
-ghost use Rattle.std.specs.Prelude.{◌≡◌, ◌≢◌, ◌<◌, ◌⊎◌, ◌++◌, ℕ, List, length, map, true, false, All, Contains, IfOk, IfErr, IsOk, OnOk, Some, Err, slice_get};
+ghost use Rattle.std.specs.Prelude.{◌≡◌, ◌≢◌, ◌<◌, ◌⊎◌, ◌++◌, ℕ, List, length, map, true, false, All, Contains, IfOk, IfErr, IsOk, Some, Err, slice_get};
 ghost use Rattle.std.specs.List.{AllZip};
 ghost use Rattle.std.specs.Io.KnownBytes.{Appends};
 ghost use Rattle.fy_lines.specs.Prefixes.{AppendsProperPrefix};
