@@ -310,3 +310,19 @@ ended_laid (Even width) n columns ends laid ended order = absurd (let bad : ⊥ 
 ended_laid (Laid listed) n columns ends laid ended order =
     let same : listed.items ≡ ends = cc in
     subst (λ es. AreAllMade es n columns) same (ended (subst AreInOrder (sym same) order))
+
+-- columns that end where others do are laid out as these
+pub ended_alike : (plan : Plan) (n : ℕ) (old new : List Column) → ends_of new ≡ ends_of old → AreEnded plan n old → AreEnded plan n new
+ended_alike (Even width) n old new same ended = (
+  ended.0,
+  let even = ended.1 in
+      record { layout = even.layout; is_layout = even.is_layout; ends = same ∙ even.ends },
+)
+ended_alike (Laid ends) n old new same ended = λ order.
+    let count : length new ≡ length old =
+    sym (length-map new (λ (x : Column). x.end)) ∙ ap length same ∙ length-map old (λ (x : Column). x.end) in
+    let all = ended order in
+    record {
+      made = same ∙ all.made ∙ ap (λ m. take m ends.items) (sym count);
+      later = λ k end l e. all.later k end (omega arith) e;
+    }

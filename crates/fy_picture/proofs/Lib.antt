@@ -3,6 +3,7 @@ mod Afters
 mod Folding
 mod Laying
 mod Losing
+mod Marking
 pub mod Recorders
 mod Recordings
 pub mod Sets

@@ -1,8 +1,10 @@
 -- who is shown destroyed and left, and how many more a policy could bear
-use Rattle.std.proofs.Common.{◌≡◌, ◌∙◌, ◌+◌, ◌==◌, ◌&&◌, ◌||◌, ℕ, zero, suc, Bool, true, false, not, cond, List, [], ◌∷◌, ◌++◌, length, length-append, filter, Some, refl, sym, ap, ap₂, arith, true≢false, add-one}
+use Rattle.std.proofs.Common.{◌≡◌, ◌∙◌, ◌+◌, ◌<◌, ◌==◌, ◌&&◌, ◌||◌, ℕ, zero, suc, inl, inr, Bool, true, false, not, cond, List, [], ◌∷◌, ◌++◌, length, length-append, filter, get_or, slice_get, slice_set, Some, refl, sym, subst, ap, ap₂, arith, true≢false, add-one, if◌then◌else◌}
 use Rattle.std.specs.List.{range_with_len}
 use Rattle.std.specs.Ordering.{nat_cmp}
 use Rattle.std.specs.FinSet as sets
+use Rattle.std.proofs.Math.Seq.{map-set_same}
+use Rattle.std.proofs.lemmas.Bool.{cases_lt, eq-eqb, ne_eqb}
 use Rattle.std.proofs.lemmas.List.Elements.{filter-append}
 use Rattle.fy_locality.specs.declared.locality.Locality.{Locality}
 use Rattle.fy_policy.specs.Tree.{Tree}
@@ -10,9 +12,12 @@ use Rattle.fy_policy.specs.Sat.{satisfies}
 use Rattle.fy_decide.specs.Safety.{with_set, without_set}
 use Rattle.fy_cluster.specs.Setup.{Setup}
 use Rattle.fy_cluster.specs.History.{History}
-use Rattle.fy_picture.specs.declared.killable.LossCounts.{LossCounts}
-use Rattle.fy_picture.specs.Columns.{AreCounts}
-use Rattle.fy_picture.specs.Killable.{is_killable, killable_by, killable, killable_at, AreCountsAt, AreLossesOf, AreSame}
+use Rattle.fy_picture.specs.declared.column.Column.{Column}
+use Rattle.fy_picture.specs.declared.column.States.{States}
+use Rattle.fy_picture.specs.Columns.{AreCounts, AreStates}
+use Rattle.fy_picture.specs.Killable.{is_killable, killable_by, killable, killable_at, AreCounted, AreCountsAt, HaveSameLosses, states_in}
+use Rattle.fy_picture.specs.Layouts.{ends_of}
+use Rattle.fy_picture.proofs.Acking.{after_set}
 use Rattle.std.specs.Cmp.{nat_cmp_total, unsigned_tied}
 
 -- ---- sets
@@ -106,27 +111,44 @@ module _ (processes : List Locality) (P : Tree) (destroyed left : sets.FinSet na
       ∙ parts is_left is_whole
 
 -- the same losses leave the same number
-pub killable_same : (processes : List Locality) (P : Tree) (one other : LossCounts) → AreSame one other → killable_at processes P one ≡ killable_at processes P other
+killable_same : (processes : List Locality) (P : Tree) (one other : States) → HaveSameLosses one other → killable_at processes P one ≡ killable_at processes P other
 killable_same processes P one other same = λ i. killable_by processes P (λ p. same.destroyed p i) (λ p. same.left p i)
 
--- the losses of a history leave the number of the history
-pub killable_of : (c : Setup) (h : History) (P : Tree) (losses : LossCounts) → AreLossesOf c h losses → killable_at c.processes P losses ≡ killable c h P
-killable_of c h P losses are = λ i. killable_by c.processes P (λ p. are.destroyed p i) (λ p. are.left p i)
+-- the states of a history leave the number of the history
+killable_of : (c : Setup) (h : History) (P : Tree) (states : States) → AreStates c h states → killable_at c.processes P states ≡ killable c h P
+killable_of c h P states are = λ i. killable_by c.processes P (λ p. are.destroyed p i) (λ p. are.left p i)
 
 -- counts at losses that are the same
-pub counts_same : (processes : List Locality) (policies : List Tree) (one other : LossCounts) (counts : List ℕ) → AreSame one other → AreCountsAt processes policies one counts → AreCountsAt processes policies other counts
+pub counts_same : (processes : List Locality) (policies : List Tree) (one other : States) (counts : List ℕ) → HaveSameLosses one other → AreCountsAt processes policies one counts → AreCountsAt processes policies other counts
 counts_same processes policies one other counts same are = record {
   count = are.count;
   each = λ place P e. are.each place P e ∙ ap Some (killable_same processes P one other same);
 }
 
--- counts at the losses of a history
-pub counts_of : (c : Setup) (h : History) (losses : LossCounts) (counts : List ℕ) → AreLossesOf c h losses → AreCountsAt c.processes c.policies losses counts → AreCounts c h counts
-counts_of c h losses counts of are = record {
+-- counts in the states of a history
+pub counts_of : (c : Setup) (h : History) (states : States) (counts : List ℕ) → AreStates c h states → AreCountsAt c.processes c.policies states counts → AreCounts c h counts
+counts_of c h states counts of are = record {
   count = are.count;
-  each = λ place P e. are.each place P e ∙ ap Some (killable_of c h P losses of);
+  each = λ place P e. are.each place P e ∙ ap Some (killable_of c h P states of);
 }
 
--- counts at losses that are those of a history
-pub counts_now : (c : Setup) (h : History) (kept losses : LossCounts) (counts : List ℕ) → AreSame kept losses → AreLossesOf c h losses → AreCountsAt c.processes c.policies kept counts → AreCounts c h counts
-counts_now c h kept losses counts same of are = counts_of c h losses counts of (counts_same c.processes c.policies kept losses counts same are)
+-- one column more has its counts, and all else of the columns stays
+pub count_one : (c : Setup) (start now : List Column) (k : ℕ) (own y : Column) → k < length now → own ≡ get_or now k own → y.end ≡ own.end → y.states ≡ own.states → AreCountsAt c.processes c.policies y.states y.counts.items
+    → ends_of now ≡ ends_of start → states_in now ≡ states_in start → AreCounted c k now
+    → (ends_of (slice_set now k y) ≡ ends_of start) × (states_in (slice_set now k y) ≡ states_in start) × AreCounted c (k + 1) (slice_set now k y)
+count_one c start now k own y within is end states counts ends all counted = (
+  map-set_same (λ (x : Column). x.end) now k y own (end ∙ ap (λ (x : Column). x.end) is) ∙ ends,
+  map-set_same (λ (x : Column). x.states) now k y own (states ∙ ap (λ (x : Column). x.states) is) ∙ all,
+  λ j column less there. elim (cases_lt j k) [
+    | inl below ↦
+        counted j column below
+        (sym (after_set now k j y own within (omega arith) ∙ ap (λ b. if b then Some y else slice_get now j) (ne_eqb j k (λ e. omega arith)))
+        ∙ there)
+    | inr past ↦
+        let same : j ≡ k = omega arith in
+        let found : Some y ≡ Some column =
+        sym (after_set now k j y own within (omega arith) ∙ ap (λ b. if b then Some y else slice_get now j) (eq-eqb j k same)) ∙ there in
+        let that : y ≡ column = cc in
+        subst (λ (x : Column). AreCountsAt c.processes c.policies x.states x.counts.items) that counts
+  ],
+)

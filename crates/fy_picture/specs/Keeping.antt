@@ -36,6 +36,10 @@ abbrev pub says_acked : Reply → Bool
 says_acked (Marked acked) = acked
 says_acked _ = false
 
+-- the record that an entry with this reply acknowledges, where it delivers an acknowledgement of one
+abbrev pub acknowledged : Reply → Option ℕ → Option ℕ
+acknowledged reply marked = if says_acked reply then marked else None
+
 -- the place noted of a record behind one more entry: the one that was, or else that of the entry
 -- where the record is acknowledged now
 abbrev pub noted : (at : ℕ) → (is_acked : Bool) → Option ℕ → Option ℕ

@@ -1,5 +1,5 @@
 -- how many more a policy could bear
-use Rattle.std.specs.Prelude.{◌≡◌, ◌==◌, ℕ, Bool, ◌&&◌, not, List, [], ◌∷◌, length, filter, slice_get, Some}
+use Rattle.std.specs.Prelude.{◌≡◌, ◌==◌, ◌<◌, ℕ, Bool, ◌&&◌, not, List, [], ◌∷◌, length, filter, map, slice_get, Some}
 use Rattle.std.specs.FinSet as sets
 use Rattle.std.specs.List.{range_with_len}
 use Rattle.fy_locality.specs.declared.locality.Locality.{Locality}
@@ -8,8 +8,8 @@ use Rattle.fy_decide.specs.Safety.{may_destroy}
 use Rattle.fy_decide.specs.declared.dead_book.Loss.TheVariants.{Gone}
 use Rattle.fy_cluster.specs.Setup.{Setup}
 use Rattle.fy_cluster.specs.History.{History, destroyed, left}
-use Rattle.fy_picture.specs.declared.killable.Killable.{Killable}
-use Rattle.fy_picture.specs.declared.killable.LossCounts.{LossCounts}
+use Rattle.fy_picture.specs.declared.column.Column.{Column}
+use Rattle.fy_picture.specs.declared.column.States.{States}
 
 -- a process that is left and not destroyed could be killed for good next, as far as one policy
 -- goes: the destroyed with it are short of the policy, and those left without it satisfy it
@@ -27,30 +27,31 @@ killable_by processes P destroyed left =
 abbrev pub killable : Setup → History → Tree → ℕ
 killable c h P = killable_by c.processes P (destroyed h) (left c h)
 
--- ---- what is kept of losses while a journal is recorded
+-- ---- the counts of columns
 
--- who is destroyed and who is left in a history
-pub record AreLossesOf (c : Setup) (h : History) (losses : LossCounts) : Type 0 where
-  pub destroyed : (p : ℕ) → sets.contains losses.destroyed p ≡ destroyed h p
-  pub left : (p : ℕ) → sets.contains losses.left p ≡ left c h p
+-- how many could go in these states
+abbrev pub killable_at : List Locality → Tree → States → ℕ
+killable_at processes P states =
+    killable_by processes P (sets.contains states.destroyed) (sets.contains states.left)
 
--- the two losses are of the same processes
-pub record AreSame (one other : LossCounts) : Type 0 where
-  pub destroyed : (p : ℕ) → sets.contains one.destroyed p ≡ sets.contains other.destroyed p
-  pub left : (p : ℕ) → sets.contains one.left p ≡ sets.contains other.left p
-
--- how many could go at these losses
-abbrev pub killable_at : List Locality → Tree → LossCounts → ℕ
-killable_at processes P losses =
-    killable_by processes P (sets.contains losses.destroyed) (sets.contains losses.left)
-
--- for each policy, how many could go at these losses
-pub record AreCountsAt (processes : List Locality) (policies : List Tree) (losses : LossCounts)
+-- for each policy, how many could go in these states
+pub record AreCountsAt (processes : List Locality) (policies : List Tree) (states : States)
     (counts : List ℕ) : Type 0 where
   pub count : length counts ≡ length policies
   pub each : (place : ℕ) (P : Tree) → slice_get policies place ≡ Some P
-      → slice_get counts place ≡ Some (killable_at processes P losses)
+      → slice_get counts place ≡ Some (killable_at processes P states)
 
--- what is kept is known of the losses that are kept beside it
-abbrev pub IsKnown : Setup → Killable → Type 0
-IsKnown c kept = AreCountsAt c.processes c.policies kept.losses kept.counts.items
+-- the same processes are destroyed and left
+pub record HaveSameLosses (one other : States) : Type 0 where
+  pub destroyed : (p : ℕ) → sets.contains one.destroyed p ≡ sets.contains other.destroyed p
+  pub left : (p : ℕ) → sets.contains one.left p ≡ sets.contains other.left p
+
+-- what columns show of processes
+abbrev pub states_in : List Column → List States
+states_in columns = map (λ column. column.states) columns
+
+-- so many columns have the counts of their own states
+abbrev pub AreCounted : Setup → ℕ → List Column → Type 0
+AreCounted c count columns =
+    (k : ℕ) (column : Column) → k < count → slice_get columns k ≡ Some column →
+    AreCountsAt c.processes c.policies column.states column.counts.items

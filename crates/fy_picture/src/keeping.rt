@@ -1,9 +1,9 @@
 //! Which process keeps each record at the end of a journal, and which entry acknowledged it.
-ghost use Rattle.std.specs.Prelude.{◌≡◌, ◌≤◌, ◌<◌, ◌&&◌, ℕ, IfOk, OnOk, IsTrue, is_some, length, option_map, slice_get};
+ghost use Rattle.std.specs.Prelude.{◌≡◌, ◌≤◌, ◌<◌, ◌==◌, ℕ, IfOk, OnOk, IsTrue, is_some, length, option_map, slice_get};
 ghost use Rattle.fy_cluster.specs.Execution.{history_of};
-ghost use Rattle.fy_cluster.specs.History.{acked, begins, records};
+ghost use Rattle.fy_cluster.specs.History.{begins, records, some_is};
 ghost use Rattle.fy_picture.specs.declared.TheConstants.{MOST_KEPT};
-ghost use Rattle.fy_picture.specs.Keeping.{BeginsNext, ListsKeepers, Notes, noted, says_acked, with_begun};
+ghost use Rattle.fy_picture.specs.Keeping.{BeginsNext, ListsKeepers, Notes, acknowledged, noted, says_acked, with_begun};
 
 use crate::MOST_KEPT;
 use fy_acts::{Act, Entry, Reply};
@@ -33,35 +33,22 @@ fn says_acked(reply: Reply) -> bool
     }
 }
 
-/// The place noted of a record after one more entry: the one that was noted, or else that of the
-/// entry, where the record is acknowledged now.
-fn noted(cluster: &ClusterState, rec: u32, place: Option<u32>, at: u32) -> Option<u32>
-    ensures { result ≡ noted at (acked (history_of cluster.now) rec) place }
+/// The record that an entry with this reply acknowledges, where it delivers a process's
+/// acknowledgement of the record `marked`.
+pub(crate) fn acknowledged(reply: Reply, marked: Option<u32>) -> Option<u32>
+    ensures { result ≡ acknowledged reply marked }
 {
-    match place {
-        Some(earlier) => Some(earlier),
-        None => if cluster.keeper(rec).is_some() {
-            Some(at)
-        } else {
-            None
-        },
-    }
+    if says_acked(reply) { marked } else { None }
 }
 
-/// Notes the cluster's last entry, which stands at this place and has this reply, for each record
-/// that it acknowledged.
-fn note(cluster: &ClusterState, at: u32, reply: Reply, acked_at: &mut Vec<Option<u32>>)
-    requires { length acked_at.old.items ≤ MOST_KEPT }
+/// Notes that the entry at this place acknowledged a record, where no earlier entry did.
+fn note(acked_at: &mut Vec<Option<u32>>, rec: usize, at: u32)
     ensures count { length acked_at.new.items ≡ length acked_at.old.items }
     ensures each { (r : ℕ) → slice_get acked_at.new.items r
-        ≡ option_map (noted at (says_acked reply && acked (history_of cluster.now) r))
-        (slice_get acked_at.old.items r) }
+        ≡ option_map (noted at (rec == r)) (slice_get acked_at.old.items r) }
 {
-    if !says_acked(reply) {
-        return;
-    }
-    for rec in 0..acked_at.len() {
-        acked_at[rec] = noted(cluster, rec as u32, acked_at[rec], at);
+    if rec < acked_at.len() {
+        acked_at[rec] = acked_at[rec].or(Some(at));
     }
 }
 
@@ -91,23 +78,20 @@ fn note_begun(acked_at: &mut Vec<Option<u32>>, is_begun: bool) -> Result<(), All
     Ok(())
 }
 
-/// Notes the cluster's last entry: for a record that it began, and for each that it acknowledged.
+/// Notes the entry at this place: for a record that it begins, and for the one that it acknowledges.
 pub(crate) fn note_entry(
-    cluster: &ClusterState,
     at: u32,
-    reply: Reply,
     is_begun: bool,
+    acked: Option<u32>,
     acked_at: &mut Vec<Option<u32>>,
 ) -> Result<(), AllocError>
-    ensures { length (with_begun is_begun acked_at.old.items) ≤ MOST_KEPT → OnOk result (Notes at
-        (λ r. says_acked reply && acked (history_of cluster.now) r)
+    ensures { OnOk result (Notes at (λ r. some_is (λ rec. rec == r) acked)
         (with_begun is_begun acked_at.old.items) acked_at.new.items) }
 {
     note_begun(acked_at, is_begun)?;
-    if acked_at.len() > MOST_KEPT as usize {
-        return Ok(());
+    if let Some(rec) = acked {
+        note(acked_at, rec as usize, at);
     }
-    note(cluster, at, reply, acked_at);
     Ok(())
 }
 

@@ -1,23 +1,17 @@
 //! For each policy, how many processes could each be killed for good next. `fy_tolerance` asks another
 //! question: how many together.
-ghost use Rattle.std.specs.Prelude.{◌≡◌, ◌<◌, ℕ, IfOk, OnOk, IsTrue};
+ghost use Rattle.std.specs.Prelude.{◌≡◌, ◌<◌, ℕ, Some, IfOk, OnOk, IsTrue, length, slice_get};
 ghost use Rattle.std.specs.FinSet as sets;
-ghost use Rattle.fy_cluster.specs.Execution.{history_of};
 ghost use Rattle.fy_locality.specs.declared.TheConstants.{MOST_PROCESSES};
-ghost use Rattle.fy_picture.specs.Columns.{AreCounts};
-ghost use Rattle.fy_picture.specs.Killable.{AreCountsAt, AreLossesOf, AreSame, IsKnown, is_killable, killable_at};
+ghost use Rattle.fy_picture.specs.declared.column.Column.{Column};
+ghost use Rattle.fy_picture.specs.Killable.{AreCounted, AreCountsAt, HaveSameLosses, is_killable, killable_at, states_in};
+ghost use Rattle.fy_picture.specs.Layouts.{ends_of};
 
-use fy_cluster::ClusterState;
+use crate::column::{Column, States};
+use fy_cluster::Config;
 use fy_locality::{Map, ProcId, ProcSet};
 use fy_policy::{Policy, satisfied};
 use std::alloc::{AllocError, Global};
-
-/// The processes that are destroyed and those that are left, after some entries.
-#[derive(Clone, Copy)]
-pub(crate) struct LossCounts {
-    destroyed: ProcSet,
-    left: ProcSet,
-}
 
 /// Whether two sets have the same processes.
 fn is_same_set(one: &ProcSet, other: &ProcSet) -> bool
@@ -26,37 +20,37 @@ fn is_same_set(one: &ProcSet, other: &ProcSet) -> bool
     one.difference(other).is_empty() && other.difference(one).is_empty()
 }
 
-/// Whether two losses are of the same processes.
-fn is_same(one: &LossCounts, other: &LossCounts) -> bool
-    ensures { IsTrue result → AreSame one.now other.now }
+/// Whether the same processes are destroyed and left in two states.
+fn has_same_losses(one: &States, other: &States) -> bool
+    ensures { IsTrue result → HaveSameLosses one.now other.now }
 {
     is_same_set(&one.destroyed, &other.destroyed) && is_same_set(&one.left, &other.left)
 }
 
 /// Whether a process that is left and not destroyed could be killed for good next, as far as one
 /// policy goes.
-fn is_killable(policy: &Policy, map: &Map, losses: &LossCounts, p: ProcId) -> bool
+fn is_killable(policy: &Policy, map: &Map, states: &States, p: ProcId) -> bool
     requires { p.0 < MOST_PROCESSES }
-    ensures { result ≡ is_killable map.now policy.now (sets.contains losses.now.destroyed)
-        (sets.contains losses.now.left) p.0 }
+    ensures { result ≡ is_killable map.now policy.now (sets.contains states.now.destroyed)
+        (sets.contains states.now.left) p.0 }
 {
-    if !losses.left.contains(p) || losses.destroyed.contains(p) {
+    if !states.left.contains(p) || states.destroyed.contains(p) {
         return false;
     }
     let mut one = ProcSet::empty();
     one.put(p);
-    !satisfied(policy, map, &losses.destroyed.union(&one))
-        && satisfied(policy, map, &losses.left.difference(&one))
+    !satisfied(policy, map, &states.destroyed.union(&one))
+        && satisfied(policy, map, &states.left.difference(&one))
 }
 
 /// How many processes could each be killed for good next.
 #[tactic(auto, using(crate::proofs::Losing::count_next))]
-fn count_killable(policy: &Policy, map: &Map, losses: &LossCounts) -> u32
-    ensures { result ≡ killable_at map.now policy.now losses.now }
+fn count_killable(policy: &Policy, map: &Map, states: &States) -> u32
+    ensures { result ≡ killable_at map.now policy.now states.now }
 {
     let mut count = 0;
     for p in 0..map.len() {
-        if is_killable(policy, map, losses, ProcId(p)) {
+        if is_killable(policy, map, states, ProcId(p)) {
             count += 1;
         }
     }
@@ -68,80 +62,57 @@ fn counts_at(
     alloc: Global,
     map: &Map,
     policies: &[Policy],
-    losses: &LossCounts,
+    states: &States,
 ) -> Result<Vec<u32>, AllocError>
-    ensures { IfOk result (λ counts. AreCountsAt map.now policies.now losses.now counts.items) }
+    ensures { IfOk result (λ counts. AreCountsAt map.now policies.now states.now counts.items) }
 {
     let mut counts = Vec::new(alloc);
     for policy in policies {
-        counts.push(count_killable(policy, map, losses))?;
+        counts.push(count_killable(policy, map, states))?;
     }
     Ok(counts)
 }
 
-/// The losses of a cluster now.
-fn losses_of(cluster: &ClusterState) -> LossCounts
-    ensures { AreLossesOf cluster.now.setup (history_of cluster.now) result }
+/// For each policy, how many processes could each be killed for good next at a column. Where the
+/// column before has the same losses, its counts are copied.
+fn next_counts(
+    alloc: Global,
+    config: &Config,
+    columns: &[Column],
+    k: usize,
+) -> Result<Vec<u32>, AllocError>
+    requires within { k < length columns.now }
+    requires counted { AreCounted config.now k columns.now }
+    ensures { IfOk result (λ counts. (column : Column) → slice_get columns.now k ≡ Some column
+        → AreCountsAt config.now.processes config.now.policies column.states counts.items) }
 {
-    LossCounts {
-        destroyed: cluster.destroyed(),
-        left: cluster.left(),
-    }
-}
-
-/// The last losses, and for each policy how many processes could each be killed for good after
-/// them.
-#[derive(Drop)]
-pub(crate) struct Killable {
-    losses: LossCounts,
-    counts: Vec<u32>,
-}
-
-impl Killable {
-    /// What the cluster lets be killed now.
-    pub(crate) fn begin(alloc: Global, cluster: &ClusterState) -> Result<Killable, AllocError>
-        ensures { IfOk result (IsKnown cluster.now.setup) }
-    {
-        let losses = losses_of(cluster);
-        let config = cluster.config();
-        let counts = counts_at(alloc, config.map(), config.policies(), &losses)?;
-        Ok(Killable { losses, counts })
-    }
-
-    /// Counts anew where the losses changed.
-    fn recount(
-        &mut self,
-        alloc: Global,
-        cluster: &ClusterState,
-        losses: LossCounts,
-    ) -> Result<(), AllocError>
-        ensures known { IsKnown cluster.now.setup self.old → OnOk result
-            (IsKnown cluster.now.setup self.new) }
-        ensures same { OnOk result (AreSame self.new.losses losses) }
-    {
-        if is_same(&self.losses, &losses) {
-            return Ok(());
+    let states = &columns[k].states;
+    if k > 0 {
+        let before = &columns[k - 1];
+        if has_same_losses(&before.states, states) {
+            let counts = Vec::from_slice(alloc, &before.counts)?;
+            return Ok(counts);
         }
-        let config = cluster.config();
-        self.counts = counts_at(alloc, config.map(), config.policies(), &losses)?;
-        self.losses = losses;
-        Ok(())
     }
+    let fresh = counts_at(alloc, config.map(), config.policies(), states)?;
+    Ok(fresh)
+}
 
-    /// For each policy, how many processes of the cluster could each be killed for good next. They
-    /// are counted anew only where the losses changed.
-    pub(crate) fn next(
-        &mut self,
-        alloc: Global,
-        cluster: &ClusterState,
-    ) -> Result<Vec<u32>, AllocError>
-        ensures counts { IsKnown cluster.now.setup self.old → IfOk result (λ counts.
-            AreCounts cluster.now.setup (history_of cluster.now) counts.items) }
-        ensures known { IsKnown cluster.now.setup self.old → OnOk result
-            (IsKnown cluster.now.setup self.new) }
-    {
-        self.recount(alloc, cluster, losses_of(cluster))?;
-        let counts = Vec::from_slice(alloc, &self.counts)?;
-        Ok(counts)
+/// Counts for each column, and by each policy, how many processes could each be killed for good
+/// next.
+pub(crate) fn count_columns(
+    alloc: Global,
+    config: &Config,
+    columns: &mut Vec<Column>,
+) -> Result<(), AllocError>
+    ensures ends { OnOk result (ends_of columns.new.items ≡ ends_of columns.old.items) }
+    ensures states { OnOk result (states_in columns.new.items ≡ states_in columns.old.items) }
+    ensures counted { OnOk result
+        (AreCounted config.now (length columns.new.items) columns.new.items) }
+{
+    for k in 0..columns.len() {
+        let counts = next_counts(alloc, config, columns, k)?;
+        columns[k].counts = counts;
     }
+    Ok(())
 }

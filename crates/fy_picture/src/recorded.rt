@@ -2,15 +2,14 @@
 ghost use Rattle.std.specs.Prelude.{◌≡◌, ◌++◌, ◌∷◌, [], List, ℕ, None, Some, IfOk, OnOk, IsSomeAnd, length};
 ghost use Rattle.fy_cluster.specs.Execution.{opened};
 ghost use Rattle.fy_cluster.specs.Replies.{Legal};
-ghost use Rattle.fy_picture.specs.Killable.{IsKnown};
 ghost use Rattle.fy_picture.specs.Layouts.{AreAllMade, AreEnded, AreEven, AreInOrder, HasRoom, IsFresh, IsLate, IsWidth, laid_by};
-ghost use Rattle.fy_picture.specs.Pictures.{IsPicture, ShowEnds};
-ghost use Rattle.fy_picture.specs.Recorded.{EndsColumn, IsRecorded, IsSameBut, columns_of};
+ghost use Rattle.fy_picture.specs.Pictures.{IsPicture};
+ghost use Rattle.fy_picture.specs.Recorded.{EndsColumn, IsRecorded, IsSameBut, ShowStates, columns_of};
 ghost use Rattle.fy_picture.specs.SoFar.{DueHaveEnded, is_full, with_room};
 
 use crate::column::{Column, states_of};
-use crate::keeping::{begins_next, keepers_of, note_entry};
-use crate::killable::Killable;
+use crate::keeping::{acknowledged, begins_next, keepers_of, note_entry};
+use crate::killable::count_columns;
 use crate::layout::{Plan, fold, full_width, is_due, is_open, width_of};
 use crate::{MOST_KEPT, Picture};
 use fy_acts::Entry;
@@ -23,11 +22,10 @@ pub(crate) struct Recorded {
     pub(crate) alloc: Global,
     pub(crate) state: ClusterState,
     pub(crate) plan: Plan,
+    /// Those that have ended. Their counts are made at the end, since most may be folded away.
     pub(crate) columns: Vec<Column>,
     /// How many good entries there are.
     pub(crate) entries: u32,
-    /// The counts after the losses at the last column's end.
-    pub(crate) killable: Killable,
     /// Of each record that was begun, the entry that acknowledged it.
     pub(crate) acked_at: Vec<Option<u32>>,
 }
@@ -42,14 +40,12 @@ impl Recorded {
         ensures none { IfOk result (λ recorded. recorded.columns.items ≡ []) }
     {
         let state = ClusterState::make(alloc, config)?;
-        let killable = Killable::begin(alloc, &state)?;
         Ok(Recorded {
             alloc,
             state,
             plan,
             columns: Vec::new(alloc),
             entries: 0,
-            killable,
             acked_at: Vec::new(alloc),
         })
     }
@@ -91,15 +87,14 @@ impl Recorded {
 
     /// Ends a column.
     fn end_column(&mut self) -> Result<(), AllocError>
-        requires { IsKnown self.old.state.setup self.old.killable }
         ensures { OnOk result (EndsColumn self.old self.new) }
     {
-        let counts = self.killable.next(self.alloc, &self.state)?;
+        self.state.forget_ended();
         let states = states_of(&self.state);
         self.columns.push(Column {
             end: self.entries,
             states,
-            counts,
+            counts: Vec::new(self.alloc),
         })?;
         Ok(())
     }
@@ -130,7 +125,7 @@ impl Recorded {
         requires room { HasRoom self.old.plan (length self.old.columns.items) self.old.entries }
         requires late { IsLate self.old.plan (length self.old.columns.items) self.old.entries }
         ensures same { OnOk result (IsSameBut self.old self.new) }
-        ensures columns { OnOk result (ShowEnds self.old.state.setup self.old.state.journal
+        ensures columns { OnOk result (ShowStates self.old.state.setup self.old.state.journal
             self.new.columns.items) }
         ensures ended { OnOk result (AreEnded self.old.plan (length self.old.state.journal)
             self.new.columns.items) }
@@ -154,18 +149,20 @@ impl Recorded {
             (DueHaveEnded self.old.entries (columns_of self.old) (columns_of self.new)) }
     {
         fy_cluster::laws::one_entry_more();
-        fy_cluster::laws::acknowledged_by_reply();
+        fy_cluster::laws::clients_told();
         self.end_due()?;
         let known = self.told();
         let is_begun = begins_next(&self.state, &entry, known);
         let (at, by, act, reply) = entry.into_parts();
+        let marked = self.state.marks(&act);
         let Ok(_) = self.state.enter(by, act) else {
             return Err(AllocError);
         };
         // A legal journal has at most this many entries.
         let limit = self.state.config().journal_limit();
         self.entries = self.entries.saturating_add(1).min(limit);
-        note_entry(&self.state, at, reply, is_begun, &mut self.acked_at)?;
+        let acked = acknowledged(reply, marked);
+        note_entry(at, is_begun, acked, &mut self.acked_at)?;
         Ok(())
     }
 
@@ -182,6 +179,7 @@ impl Recorded {
     {
         self.end_due()?;
         self.end_last()?;
+        count_columns(self.alloc, self.state.config(), &mut self.columns)?;
         let width = width_of(&self.plan);
         let count = self.told().min(MOST_KEPT as usize) as u32;
         let keepers = keepers_of(self.alloc, &self.state, count)?;
@@ -191,7 +189,6 @@ impl Recorded {
             plan: _,
             columns,
             entries: _,
-            killable: _,
             acked_at,
         } = self;
         Ok(Picture {

@@ -8,7 +8,7 @@ use Rattle.fy_picture.proofs.killable.counts_at.Goals as goal
 
 pub loop-policy-preserved : goal.loop-policy-preserved
 loop-policy-preserved c =
-    let f = λ (P : Tree). killable_at c.args.map.now P c.args.losses.now in
+    let f = λ (P : Tree). killable_at c.args.map.now P c.args.states.now in
     let i = c.loop-policy.policy-index in
     let pushed : c.push.new.self.items ≡ c.loop-policy.counts.items ++ c.count_killable.result ∷ [] = c.in_ok-push.ensures.items in
     pushed ∙ ap (λ ns. ns ++ c.count_killable.result ∷ []) c.loop-policy.invariant
@@ -18,7 +18,7 @@ loop-policy-preserved c =
 
 pub returns : goal.returns
 returns c =
-    let f = λ (P : Tree). killable_at c.args.map.now P c.args.losses.now in
+    let f = λ (P : Tree). killable_at c.args.map.now P c.args.states.now in
     let all : c.loop-policy.counts.items ≡ map f c.args.policies.now =
     c.loop-policy.invariant ∙ ap (map f) (take_all c.loop-policy.policy-index c.args.policies.now (omega arith)) in
     record {

@@ -14,7 +14,6 @@ returns-clause-recorded c =
       columns = show_none c.in_ok-state.state.setup c.in_ok-state.state.journal c.new.result.items c.new.ensures.items;
       laid = subst (λ (x : Execution). AreSoFar c.args.plan (length x.journal) c.new.result.items) (sym opened)
           (so_far_none c.args.plan c.new.result.items c.requires c.new.ensures.items);
-      counts = c.in_ok-killable.ensures;
       acked = subst (λ (x : Execution). AreAckedAt x.setup x.journal c.new-2.result.items) (sym opened)
           (none_acked c.args.config c.new-2.result.items c.new-2.ensures.items);
     }

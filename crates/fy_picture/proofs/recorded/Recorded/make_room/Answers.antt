@@ -15,7 +15,6 @@ returns-in-Some-clause-recorded c =
       laid = so_far_fold old.plan c.in-Some.width (length old.state.journal) old.columns.items c.fold.new.columns.items c.requires.laid
           (subst (λ n. IsFull old.plan (length old.columns.items) n c.in-Some.width) c.requires.count full)
           c.fold.ensures.half c.fold.ensures.whole c.fold.ensures.each;
-      counts = c.requires.counts;
       acked = c.requires.acked;
     }
 
