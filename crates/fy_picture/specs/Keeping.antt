@@ -36,7 +36,8 @@ abbrev pub says_acked : Reply → Bool
 says_acked (Marked acked) = acked
 says_acked _ = false
 
--- the record that an entry with this reply acknowledges, where it delivers an acknowledgement of one
+-- the record that an entry with this reply acknowledges, where it delivers an acknowledgement of
+-- one
 abbrev pub acknowledged : Reply → Option ℕ → Option ℕ
 acknowledged reply marked = if says_acked reply then marked else None
 

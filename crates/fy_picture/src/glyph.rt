@@ -29,8 +29,8 @@ fn is_kind(struck: Option<Kind>, ordered: Kind) -> bool
     }
 }
 
-/// Whether the entry is an order that struck as ordered: a kill by its own kind, or a clog or an end
-/// of clogs that no rule barred. Its glyph is filled then, and that of any other order hollow.
+/// Whether the entry is an order that struck as ordered: a kill by its own kind, or a clog or an
+/// end of clogs that no rule barred. Its glyph is filled then, and that of any other order hollow.
 pub fn struck_as_ordered(entry: &Entry) -> bool
     ensures { result ≡ struck_as_ordered entry.now.act entry.now.reply }
 {

@@ -78,7 +78,8 @@ fn note_begun(acked_at: &mut Vec<Option<u32>>, is_begun: bool) -> Result<(), All
     Ok(())
 }
 
-/// Notes the entry at this place: for a record that it begins, and for the one that it acknowledges.
+/// Notes the entry at this place: for a record that it begins, and for the one that it
+/// acknowledges.
 pub(crate) fn note_entry(
     at: u32,
     is_begun: bool,

@@ -1,5 +1,5 @@
-//! For each policy, how many processes could each be killed for good next. `fy_tolerance` asks another
-//! question: how many together.
+//! For each policy, how many processes could each be killed for good next. `fy_tolerance` asks
+//! another question: how many together.
 ghost use Rattle.std.specs.Prelude.{◌≡◌, ◌<◌, ℕ, Some, IfOk, OnOk, IsTrue, length, slice_get};
 ghost use Rattle.std.specs.FinSet as sets;
 ghost use Rattle.fy_locality.specs.declared.TheConstants.{MOST_PROCESSES};

@@ -18,8 +18,8 @@ pub struct Picture {
     /// How many entries a column stands for, where all stand for as many; the last may stand for
     /// fewer.
     pub width: Option<usize>,
-    /// The cluster at the end of each column: at most `MOST_COLUMNS` where all are even, else one for
-    /// each end that was given and reached.
+    /// The cluster at the end of each column: at most `MOST_COLUMNS` where all are even, else one
+    /// for each end that was given and reached.
     pub columns: Vec<Column>,
     /// Of each record that was begun, by its number and up to `MOST_KEPT` of them, which process
     /// keeps it at the end.

@@ -1,5 +1,5 @@
-//! What stands round the rows: the head with its colours, the legend, names, the axis, and orders in
-//! words.
+//! What stands round the rows: the head with its colours, the legend, names, the axis, and orders
+//! in words.
 ghost use Rattle.std.specs.Prelude.{OnOk, string_bytes};
 ghost use Rattle.fy_svg.specs.Documents.{AppendsMark};
 
@@ -14,8 +14,8 @@ use fy_picture::Column;
 use std::alloc::AllocError;
 
 /// Hues that the colour-blind can tell apart (Okabe and Ito), in steps of lightness: the states and
-/// the paper differ in grey, every two of them, by a contrast of 1.6 (WCAG). The paper is light and,
-/// where the viewer asks for it, dark; a filled glyph has a rim of its colour.
+/// the paper differ in grey, every two of them, by a contrast of 1.6 (WCAG). The paper is light
+/// and, where the viewer asks for it, dark; a filled glyph has a rim of its colour.
 const STYLE: &str = "<style>
 .paper { fill: #ffffff; }
 text { font: 11px sans-serif; fill: #1a1a1a; }
@@ -39,7 +39,8 @@ text { font: 11px sans-serif; fill: #1a1a1a; }
 </style>
 ";
 
-/// What is drawn by the times of events alone. A ring has a rim of the paper, as a filled glyph has.
+/// What is drawn by the times of events alone. A ring has a rim of the paper, as a filled glyph
+/// has.
 const TIMED_STYLE: &str = "<style>
 .otherwise { fill: #1a1a1a; stroke: #ffffff; stroke-width: 1.6; paint-order: stroke; }
 .ups { fill: none; stroke: #1a1a1a; stroke-width: 1.5; }
