@@ -132,12 +132,12 @@ fn process_given(
     machine: &str,
     zone: &str,
     hall: Option<&str>,
-    center: Option<&str>,
+    data_center: Option<&str>,
 ) -> Option<Locality>
     ensures { result ≡ process_given (locality_of process.now machine.now zone.now
-        (option_copied hall.entry) (option_copied center.entry)) }
+        (option_copied hall.entry) (option_copied data_center.entry)) }
 {
-    match Locality::make(process, machine, zone, hall, center) {
+    match Locality::make(process, machine, zone, hall, data_center) {
         Ok(locality) => Some(locality),
         Err(BadName) => None,
     }
@@ -151,8 +151,8 @@ fn process_in(table: &Table) -> Option<Option<Locality>>
     let machine = text_at(table, "machineid")?;
     let zone = text_at(table, "zoneid")?;
     let hall = text_if_any(find(table, "data_hall"))?;
-    let center = text_if_any(find(table, "dcid"))?;
-    Some(process_given(process, machine, zone, hall, center))
+    let data_center = text_if_any(find(table, "dcid"))?;
+    Some(process_given(process, machine, zone, hall, data_center))
 }
 
 /// The process of a value, and within it none where one of its texts is no name.

@@ -8,7 +8,7 @@ use Rattle.fy_acts.specs.declared.reply.Reply.{Reply}
 use Rattle.fy_acts.specs.declared.reply.Reply.TheVariants.{Verdict, Begun, Stored, Marked, Sent, Done, No}
 use Rattle.fy_cluster.specs.Replies.{Legal}
 use Rattle.fy_laws.specs.Clusters.{six, four, process, struck, weakened, barred}
-use Rattle.fy_laws.specs.Targets.{centers}
+use Rattle.fy_laws.specs.Targets.{data_centers}
 use Rattle.fy_laws.specs.Wrong as wrong
 use Rattle.fy_laws.proofs.Played.{cluster_on_literals}
 
@@ -58,14 +58,14 @@ pub replication_before_protection : Legal six wrong.replication_before_protectio
 unfolding cluster_on_literals
 replication_before_protection l = replication_or_protection l.1.1.1.0.right
 
-pub two_zones_by_center : Legal centers wrong.two_zones_by_center → ⊥
+pub two_zones_by_data_center : Legal data_centers wrong.two_zones_by_data_center → ⊥
 unfolding cluster_on_literals
-two_zones_by_center l = killed_or_rebooted l.1.0.right
+two_zones_by_data_center l = killed_or_rebooted l.1.0.right
 
 rebooted_or_barred : struck Reboot ≡ barred (NoGrant (process 4)) → ⊥
 rebooted_or_barred e = let rules : None ≡ Some (NoGrant (process 4)) = ap rule_of e in absurd (cc)
 
-pub covered_in_part : Legal centers wrong.covered_in_part → ⊥
+pub covered_in_part : Legal data_centers wrong.covered_in_part → ⊥
 unfolding cluster_on_literals
 covered_in_part l = rebooted_or_barred l.1.1.0.right
 

@@ -44,8 +44,8 @@ protected =
     ∷ entry 3 3 (kill (process_named (codes "p1"))) (barred (NoGrant (process 1)))
     ∷ []
 
--- replication bars a kill of a second zone; on the same order a missing grant is named first, and so
--- is a protection
+-- replication bars a kill of a second zone; on the same order a missing grant is named first, and
+-- so is a protection
 abbrev pub first_of_the_rules : List Entry
 first_of_the_rules =
     entry 0 1 (empty (process_named (codes "p0"))) (struck RebootAndDelete)

@@ -15,18 +15,18 @@ use Rattle.fy_laws.specs.Permission.{permission, rebooting}
 
 -- a process in no data hall
 abbrev pub placed : (process machine zone : List ℕ) → Option (List ℕ) → Locality
-placed process machine zone center = record {
+placed process machine zone data_center = record {
   process = process;
   machine = machine;
   zone = zone;
   data_hall = None;
-  data_center = center;
+  data_center = data_center;
 }
 
 -- machine m1 has two of the three processes of zone z1; data centre d1 has a process in each of two
 -- zones, and the last process is in none
-abbrev pub two_centers : List Locality
-two_centers =
+abbrev pub two_data_centers : List Locality
+two_data_centers =
     placed (codes "p0") (codes "m0") (codes "z0") (Some (codes "d0"))
     ∷ placed (codes "p1") (codes "m1") (codes "z1") (Some (codes "d0"))
     ∷ placed (codes "p2") (codes "m1") (codes "z1") (Some (codes "d0"))
@@ -36,25 +36,25 @@ two_centers =
     ∷ []
 
 -- the actors and the policy are those of the six
-abbrev pub centers : Setup
-centers = cluster two_centers in_two_zones 1000
+abbrev pub data_centers : Setup
+data_centers = cluster two_data_centers in_two_zones 1000
 
 -- all processes of a machine
 abbrev pub machine_named : List ℕ → Target
 machine_named name = record { key = Machine; value = name }
 
 -- all processes of a data center
-abbrev pub center_named : List ℕ → Target
-center_named name = record { key = DataCenter; value = name }
+abbrev pub data_center_named : List ℕ → Target
+data_center_named name = record { key = DataCenter; value = name }
 
 -- a machine is killed; then each data centre that is named is only rebooted, and the third has no
 -- process
-abbrev pub by_machine_and_center : List Entry
-by_machine_and_center =
+abbrev pub by_machine_and_data_center : List Entry
+by_machine_and_data_center =
     entry 0 1 (kill (machine_named (codes "m1"))) (struck KillInstantly)
-    ∷ entry 1 1 (kill (center_named (codes "d1"))) (weakened Reboot (TooManyDestroyed 0))
-    ∷ entry 2 1 (kill (center_named (codes "d0"))) (weakened Reboot (TooManyDestroyed 0))
-    ∷ entry 3 1 (reboot (center_named (codes "d2")) 0) (barred NoTarget)
+    ∷ entry 1 1 (kill (data_center_named (codes "d1"))) (weakened Reboot (TooManyDestroyed 0))
+    ∷ entry 2 1 (kill (data_center_named (codes "d0"))) (weakened Reboot (TooManyDestroyed 0))
+    ∷ entry 3 1 (reboot (data_center_named (codes "d2")) 0) (barred NoTarget)
     ∷ []
 
 -- a grant for one of two zones doesn't cover a data centre in both; a second grant does, until the
@@ -62,9 +62,9 @@ by_machine_and_center =
 abbrev pub covered_by_two_grants : List Entry
 covered_by_two_grants =
     entry 0 4 (Give (permission rebooting (Where (zone_named (codes "z1"))))) Done
-    ∷ entry 1 3 (reboot (center_named (codes "d1")) 0) (barred (NoGrant (process 4)))
+    ∷ entry 1 3 (reboot (data_center_named (codes "d1")) 0) (barred (NoGrant (process 4)))
     ∷ entry 2 4 (Give (permission rebooting (Where (zone_named (codes "z2"))))) Done
-    ∷ entry 3 3 (reboot (center_named (codes "d1")) 0) (struck Reboot)
+    ∷ entry 3 3 (reboot (data_center_named (codes "d1")) 0) (struck Reboot)
     ∷ entry 4 4 (Take 3 0) Done
-    ∷ entry 5 3 (reboot (center_named (codes "d1")) 0) (barred (NoGrant (process 3)))
+    ∷ entry 5 3 (reboot (data_center_named (codes "d1")) 0) (barred (NoGrant (process 3)))
     ∷ []

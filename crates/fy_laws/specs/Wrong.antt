@@ -10,7 +10,7 @@ use Rattle.fy_acts.specs.declared.entry.Entry.{Entry}
 use Rattle.fy_cluster.specs.Setup.{Setup}
 use Rattle.fy_laws.specs.Clusters.{entry, process, zone_named, process_named, kill, empty, reboot, copy, replace, heal, struck, weakened, barred, cluster, six_processes, in_two_zones}
 use Rattle.fy_laws.specs.Permission.{permission, destroying, rebooting}
-use Rattle.fy_laws.specs.Targets.{center_named}
+use Rattle.fy_laws.specs.Targets.{data_center_named}
 use Rattle.fy_laws.specs.Records.{pair, hi, written_and_synced, forgotten}
 use Rattle.fy_laws.specs.Messages.{begun}
 use Rattle.fy_laws.specs.Healed.{healed, sent_and_healed, marked_and_healed}
@@ -60,14 +60,14 @@ replication_before_protection =
     ∷ []
 
 -- a data centre is killed that has a process in each of two zones
-abbrev pub two_zones_by_center : List Entry
-two_zones_by_center = entry 0 1 (kill (center_named (codes "d1"))) (struck KillInstantly) ∷ []
+abbrev pub two_zones_by_data_center : List Entry
+two_zones_by_data_center = entry 0 1 (kill (data_center_named (codes "d1"))) (struck KillInstantly) ∷ []
 
 -- one grant covers a data centre of which it covers a part
 abbrev pub covered_in_part : List Entry
 covered_in_part =
     entry 0 4 (Give (permission rebooting (Where (zone_named (codes "z1"))))) Done
-    ∷ entry 1 3 (reboot (center_named (codes "d1")) 0) (struck Reboot)
+    ∷ entry 1 3 (reboot (data_center_named (codes "d1")) 0) (struck Reboot)
     ∷ []
 
 -- the first message has number 1

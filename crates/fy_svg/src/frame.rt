@@ -218,15 +218,17 @@ pub(crate) fn write_names(
 ) -> Result<(), AllocError> {
     let y = y_of(row).saturating_add(ROW - 6);
     let p = lane.process;
-    let (center, hall, zone) = match above {
+    let (data_center, hall, zone) = match above {
         Some(above) => (
-            above.center != lane.center,
-            above.center != lane.center || above.hall != lane.hall,
-            above.center != lane.center || above.hall != lane.hall || above.zone != lane.zone,
+            above.data_center != lane.data_center,
+            above.data_center != lane.data_center || above.hall != lane.hall,
+            above.data_center != lane.data_center
+                || above.hall != lane.hall
+                || above.zone != lane.zone,
         ),
         None => (true, true, true),
     };
-    if center {
+    if data_center {
         write_value(text, map, p, Key::DataCenter, 6, y)?;
     }
     if hall {

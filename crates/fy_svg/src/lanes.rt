@@ -6,7 +6,7 @@ use std::alloc::{AllocError, Global};
 /// process itself. Rows are in this order.
 #[derive(Clone, Copy, PartialEq, Eq, PartialOrd, Ord)]
 pub(crate) struct Lane {
-    pub center: u32,
+    pub data_center: u32,
     pub hall: u32,
     pub zone: u32,
     pub process: u32,
@@ -15,7 +15,7 @@ pub(crate) struct Lane {
 /// The least process without a value, of each key of a row.
 #[derive(Drop)]
 struct Valueless {
-    center: Option<u32>,
+    data_center: Option<u32>,
     hall: Option<u32>,
     zone: Option<u32>,
 }
@@ -36,14 +36,14 @@ fn first_like(map: &Map, p: ProcId, key: Key, valueless: &mut Option<u32>) -> u3
 pub(crate) fn lanes_of(alloc: Global, map: &Map) -> Result<Vec<Lane>, AllocError> {
     let mut lanes = Vec::new(alloc);
     let mut valueless = Valueless {
-        center: None,
+        data_center: None,
         hall: None,
         zone: None,
     };
     for process in 0..map.len() {
         let p = ProcId(process);
         lanes.push(Lane {
-            center: first_like(map, p, Key::DataCenter, &mut valueless.center),
+            data_center: first_like(map, p, Key::DataCenter, &mut valueless.data_center),
             hall: first_like(map, p, Key::DataHall, &mut valueless.hall),
             zone: first_like(map, p, Key::Zone, &mut valueless.zone),
             process,

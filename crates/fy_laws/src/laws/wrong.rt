@@ -1,8 +1,8 @@
 //! Wrong journals, none of which is legal.
 ghost use Rattle.fy_cluster.specs.Replies.{Legal};
 ghost use Rattle.fy_laws.specs.Clusters.{six, four};
-ghost use Rattle.fy_laws.specs.Targets.{centers};
-ghost use Rattle.fy_laws.specs.Wrong.{second_zone_killed, place_left_out, grant_overlooked, protection_named_first, replication_before_grant, replication_before_protection, two_zones_by_center, covered_in_part, number_left_out, marked_unsynced, ack_never_sent, sent_though_acknowledged, too_few_left, mark_kept, ack_kept, healed_in_need, replaced_in_need, replaced_by_member, replaced_short, acknowledged_by_replace, copied_from_nothing, copied_while_down, healed_and_counted, back_and_not_counted, short_lived, two_ticks};
+ghost use Rattle.fy_laws.specs.Targets.{data_centers};
+ghost use Rattle.fy_laws.specs.Wrong.{second_zone_killed, place_left_out, grant_overlooked, protection_named_first, replication_before_grant, replication_before_protection, two_zones_by_data_center, covered_in_part, number_left_out, marked_unsynced, ack_never_sent, sent_though_acknowledged, too_few_left, mark_kept, ack_kept, healed_in_need, replaced_in_need, replaced_by_member, replaced_short, acknowledged_by_replace, copied_from_nothing, copied_while_down, healed_and_counted, back_and_not_counted, short_lived, two_ticks};
 
 /// A kill that is to be weakened isn't answered as one that struck.
 pub fn second_zone_killed()
@@ -35,13 +35,13 @@ pub fn replication_before_protection()
 {}
 
 /// A data centre in two zones isn't killed as one zone is.
-pub fn two_zones_by_center()
-    ensures { Legal centers two_zones_by_center → ⊥ }
+pub fn two_zones_by_data_center()
+    ensures { Legal data_centers two_zones_by_data_center → ⊥ }
 {}
 
 /// A grant for a part of a target doesn't cover it.
 pub fn covered_in_part()
-    ensures { Legal centers covered_in_part → ⊥ }
+    ensures { Legal data_centers covered_in_part → ⊥ }
 {}
 
 /// No message number is left out.
