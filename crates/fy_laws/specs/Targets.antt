@@ -43,7 +43,7 @@ data_centers = cluster two_data_centers in_two_zones 1000
 abbrev pub machine_named : List ℕ → Target
 machine_named name = record { key = Machine; value = name }
 
--- all processes of a data center
+-- all processes of a data centre
 abbrev pub data_center_named : List ℕ → Target
 data_center_named name = record { key = DataCenter; value = name }
 
