@@ -4,12 +4,12 @@ ghost use Rattle.std.specs.Prelude.{◌≡◌, ◌≢◌, ◌+◌, ◌⊎◌, If
 ghost use Rattle.std.specs.Io.KnownBytes.{Appends};
 ghost use Rattle.fy_lines.specs.Prefixes.{AppendsProperPrefix};
 ghost use Rattle.fy_lines.specs.Readings.{ReadsAtMost};
-ghost use Rattle.fy_audit.specs.Audit.{AuditOf};
 ghost use Rattle.fy_audit.specs.declared.audit.TheConstants.{MOST_AUDIT_BYTES};
 ghost use Rattle.fy_check.specs.CheckTexts.{HasVerdict};
 ghost use Rattle.fy_streams.specs.Outputs.{IsOutputStop};
 ghost use Rattle.fy_check.specs.Checked.{IsChecked};
-ghost use Rattle.fy_streams.specs.Stops.{IfAuditFault, IsCheckStop};
+ghost use Rattle.fy_check.specs.Inputs.{TellsFault};
+ghost use Rattle.fy_streams.specs.Stops.{IsCheckStop};
 ghost use Rattle.fy_bears.specs.BearsTexts.{IsSpelledOut, IsToldAtStart, IsToldOf, Tells};
 
 use crate::spelling::Spelling;
@@ -17,7 +17,7 @@ use crate::told::{Told, told_after, told_at_start};
 use fy_audit::MOST_AUDIT_BYTES;
 use fy_check::{replay_audit, write_finding};
 use fy_cluster::Config;
-use fy_lines::{OutputFault, write_bytes};
+use fy_lines::write_bytes;
 use fy_streams::Stop;
 use std::alloc::Global;
 use std::io::{Read, Write};
@@ -38,13 +38,9 @@ fn write_told<S: Spelling, W: Write>(
         W.contents writer.new ≡ W.contents writer.old) }
     ensures no_other { IfErr result IsOutputStop }
 {
-    let Ok(text) = form.spell(alloc, config, told) else {
-        return Err(Stop::NoMemory);
-    };
-    match write_bytes(writer, text.as_bytes()) {
-        Ok(()) => Ok(()),
-        Err(OutputFault) => Err(Stop::Write),
-    }
+    let text = form.spell(alloc, config, told)?;
+    write_bytes(writer, text.as_bytes())?;
+    Ok(())
 }
 
 /// Writes what a cluster bears from its start on, when nothing is lost yet.
@@ -69,14 +65,9 @@ pub fn run_bears<S: Spelling, W: Write>(
         W.contents writer.new ≡ W.contents writer.old) }
     ensures no_other { IfErr result IsOutputStop }
 {
-    let told = match told_at_start(alloc, config) {
-        Ok(told) => told,
-        Err(stop) => return Err(stop),
-    };
-    match write_told(alloc, config, &told, form, writer) {
-        Ok(()) => Ok(true),
-        Err(stop) => Err(stop),
-    }
+    let told = told_at_start(alloc, config)?;
+    write_told(alloc, config, &told, form, writer)?;
+    Ok(true)
 }
 
 /// Reads an audit from the reader to its end, checks it, and writes what the cluster bears from
@@ -103,8 +94,7 @@ pub fn run_bears_after<S: Spelling, R: Read, W: Write>(
         (Appends (W.contents writer.old) (W.contents writer.new))) }
     ensures refuted { result ≡ Ok false → HasVerdict config.now (R.remaining reader.old) false
         (Appends (W.contents writer.old) (W.contents writer.new)) }
-    ensures refused { IfErr result (λ stop. IfAuditFault stop
-        (λ fault. IfSome (R.remaining reader.old) (λ bytes. AuditOf bytes (Err fault)))) }
+    ensures refused { IfErr result (TellsFault (R.remaining reader.old)) }
     ensures nothing_out { IfErr result (λ stop. stop ≢ Stop.Write →
         W.contents writer.new ≡ W.contents writer.old) }
     ensures front_out { result ≡ Err Stop.Write →
@@ -119,20 +109,12 @@ pub fn run_bears_after<S: Spelling, R: Read, W: Write>(
     ensures no_further { ReadsAtMost (R.remaining reader.old) (R.remaining reader.new)
         (MOST_AUDIT_BYTES + 1) }
 {
-    let audit = match replay_audit(alloc, config, reader) {
-        Ok(audit) => audit,
-        Err(stop) => return Err(stop),
-    };
+    let audit = replay_audit(alloc, config, reader)?;
     let finding = audit.finding();
     if finding.first_bad.is_some() {
         return write_finding(finding, writer);
     }
-    let told = match told_after(alloc, &audit) {
-        Ok(told) => told,
-        Err(stop) => return Err(stop),
-    };
-    match write_told(alloc, config, &told, form, writer) {
-        Ok(()) => Ok(true),
-        Err(stop) => Err(stop),
-    }
+    let told = told_after(alloc, &audit)?;
+    write_told(alloc, config, &told, form, writer)?;
+    Ok(true)
 }

@@ -34,9 +34,7 @@ pub(crate) fn told_at_start(alloc: Global, config: &Config) -> Result<Told, Stop
     let Ok(dead) = DeadBook::make(alloc, map, policies) else {
         return Err(Stop::NoMemory);
     };
-    let Ok(findings) = findings_of(alloc, &dead, map, policies) else {
-        return Err(Stop::NoMemory);
-    };
+    let findings = findings_of(alloc, &dead, map, policies)?;
     Ok(Told {
         before: None,
         findings,
@@ -73,13 +71,12 @@ fn told_of(alloc: Global, cluster: &ClusterState) -> Result<Told, Stop>
     ensures memory { IfErr result (λ stop. stop ≡ Stop.NoMemory) }
 {
     let losses = losses_in(cluster);
+    // A cluster survives its losses, so only memory can lack here too.
     let Ok(dead) = book_in(alloc, cluster, &losses) else {
         return Err(Stop::NoMemory);
     };
     let config = cluster.config();
-    let Ok(findings) = findings_of(alloc, &dead, config.map(), config.policies()) else {
-        return Err(Stop::NoMemory);
-    };
+    let findings = findings_of(alloc, &dead, config.map(), config.policies())?;
     Ok(Told {
         before: Some(losses),
         findings,

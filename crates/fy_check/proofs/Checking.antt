@@ -1,42 +1,37 @@
 -- what is said of an audit that was read
-use Rattle.std.proofs.Common.{rules, ◌≡◌, ◌∙◌, ℕ, List, Option, Some, None, Result, Ok, Err, IfOk, IfErr, Bool, true, false, length, subst, sym}
+use Rattle.std.proofs.Common.{rules, ◌≡◌, ◌∙◌, ℕ, List, Option, Some, None, Result, Ok, Err, IfOk, IfErr, Bool, true, false, [], length, ap, subst, sym}
 use Rattle.std.specs.Prelude.{IfSome}
 use Rattle.std.specs.Option.{option_map_or}
-use Rattle.fy_audit.specs.Audit.{AuditOf, AuditAnswers}
-use Rattle.fy_audit.specs.declared.audit.AuditFault.{AuditFault}
-use Rattle.fy_audit.specs.declared.audit.AuditFault.TheVariants.{TooLong, Line, NoMemory}
-use Rattle.fy_acts.specs.declared.entry.Entry.{Entry}
 use Rattle.fy_acts.specs.declared.version.Version.{Version}
+use Rattle.fy_cluster.specs.Execution.{Execution}
 use Rattle.fy_cluster.specs.Setup.{Setup}
-use Rattle.fy_replay.specs.Replayed.{HasFirstBad, HasReplayed}
+use Rattle.fy_replay.specs.Replayed.{HasFirstBad, HasReplayed, Replayed}
 use Rattle.fy_check.specs.declared.check.Finding.{Finding}
 use Rattle.fy_check.specs.declared.check.ReplayedAudit.{ReplayedAudit}
 use Rattle.fy_streams.specs.declared.stop.Stop.{Stop}
 use Rattle.fy_streams.specs.declared.stop.Stop.TheVariants.{Write}
-use Rattle.fy_streams.specs.Stops.{audit_stop, IfAuditFault}
 use Rattle.fy_check.specs.CheckTexts.{legal_line, bad_line, finding_line, Finds, HasVerdict, IsFound}
 use Rattle.fy_check.specs.Checked.{IsReplayed}
+use Rattle.fy_check.specs.Inputs.{IsReadInto}
 
--- the stop for what a reader of an audit answers
-pub stop_is_told : (bytes : List ℕ) (fault : AuditFault) (stop : Stop) →
-    AuditAnswers bytes (Err fault) → stop ≡ audit_stop fault →
-    IfAuditFault stop (λ told. AuditOf bytes (Err told))
-stop_is_told bytes TooLong stop told is = subst (λ s. IfAuditFault s (λ f. AuditOf bytes (Err f))) (sym is) told
-stop_is_told bytes (Line number fault) stop told is = subst (λ s. IfAuditFault s (λ f. AuditOf bytes (Err f))) (sym is) told
-stop_is_told bytes NoMemory stop told is = subst (λ s. IfAuditFault s (λ f. AuditOf bytes (Err f))) (sym is) tt
+-- what a replayer begins with is of its configuration
+pub begins_with : (setup : Setup) (begun : Replayed) → HasReplayed setup [] begun → begun.first_bad ≡ None →
+    begun.execution.setup ≡ setup
+begins_with setup begun has none = ap (λ (e : Execution). e.setup) (has.execution none)
 
--- what was replayed of the bytes of a reader
-pub replayed_known : (setup : Setup) (known : Option (List ℕ)) (version : Version) (entries : List Entry) (replayed : ReplayedAudit) →
-    IfSome known (λ bytes. AuditOf bytes (Ok (record { version = version; entries = entries }))) →
-    replayed.count ≡ length entries → replayed.replayer.version ≡ version → HasReplayed setup entries replayed.replayer →
+-- an audit that was read into a replayer was replayed
+pub replayed_known : (setup : Setup) (known : Option (List ℕ)) (version : Version) (begun : Replayed) (replayed : ReplayedAudit) →
+    begun.execution.setup ≡ setup → begun.version ≡ version →
+    IfSome known (λ bytes. IsReadInto bytes version replayed.count (λ entries.
+    HasReplayed begun.execution.setup entries replayed.replayer × (replayed.replayer.version ≡ begun.version))) →
     IfSome known (λ bytes. IsReplayed setup bytes replayed)
-replayed_known setup None version entries replayed read count same those = tt
-replayed_known setup (Some bytes) version entries replayed read count same those = record {
-  audit = record { version = version; entries = entries };
-  read = read;
-  count = count;
-  version = same;
-  those = those;
+replayed_known setup None version begun replayed same of is = tt
+replayed_known setup (Some bytes) version begun replayed same of is = record {
+  audit = is.audit;
+  read = is.read;
+  count = is.count_is;
+  version = is.holds.1 ∙ of ∙ is.version_is;
+  those = subst (λ s. HasReplayed s is.audit.entries replayed.replayer) same is.holds.0;
 }
 
 -- what is found of bytes that were replayed

@@ -1,5 +1,5 @@
 -- what was taken of an audit that is read piece by piece
-use Rattle.std.proofs.Common.{◌≡◌, ◌∙◌, ◌≤◌, ◌<◌, ◌+◌, ◌-◌, ℕ, List, [], ◌∷◌, ◌++◌, length, drop, Option, Some, None, Ok, Err, refl, sym, ap, subst, arith, append_assoc, append-nil, length-append, drop_at}
+use Rattle.std.proofs.Common.{◌≡◌, ◌∙◌, ◌≤◌, ◌<◌, ◌+◌, ◌-◌, ℕ, List, [], ◌∷◌, ◌++◌, length, drop, Option, Some, None, Ok, refl, sym, ap, subst, arith, append_assoc, append-nil, length-append, drop_at}
 use Rattle.std.specs.Prelude.{IfSome}
 use Rattle.std.specs.Io.KnownBytes.{Consumes, IsAtEnd}
 use Rattle.std.proofs.KnownBytes.{Consumes-nil, Consumes-trans}
@@ -23,8 +23,7 @@ use Rattle.fy_audit.proofs.Steps.{one_line_more, one_more_from}
 use Rattle.fy_acts.specs.declared.version.Version.{Version}
 use Rattle.fy_streams.specs.declared.stop.Stop.{Stop}
 use Rattle.fy_streams.specs.declared.stop.Stop.TheVariants.{Audit, Read}
-use Rattle.fy_streams.specs.Stops.{IfAuditFault}
-use Rattle.fy_check.specs.Inputs.{InputState, HasTaken, IsRefused, IsInputStop, input_stop}
+use Rattle.fy_check.specs.Inputs.{InputState, HasTaken, IsReadInto, IsRefused, IsInputStop, TellsFault, input_stop}
 
 -- an audit of this version, of which so many entries were taken, behind this window
 abbrev pub behind : Version → ℕ → WindowState → InputState
@@ -34,10 +33,6 @@ behind version place window = record {
   held = window.held;
   read = window.read;
 }
-
--- so may be what a stop tells of known bytes
-abbrev pub Tells : Option (List ℕ) → Stop → Type 0
-Tells known stop = IfAuditFault stop (λ fault. IfSome known (λ bytes. AuditOf bytes (Err fault)))
 
 -- nothing more was read
 abbrev pub reads_none : (window : WindowState) (left : Option (List ℕ)) → Consumes left left [] → ReadsOn window window left left
@@ -104,6 +99,19 @@ reads_at_most known before left entries version place most old new taken on few 
     let count = on.counted in
     (front ++ on.more, Consumes-trans known before left front on.more taken.front on.consumed, omega arith)
 
+-- all entries were taken, and this holds of them
+pub read_into_known : (known : Option (List ℕ)) (version was : Version) (count : ℕ) (entries : List Entry)
+    (P : List Entry → Type 0) → IfSome known (λ bytes. AuditOf bytes (Ok (record { version = version; entries = entries })))
+    → was ≡ version → count ≡ length entries → P entries → IfSome known (λ bytes. IsReadInto bytes was count P)
+read_into_known None version was count entries P read same many holds = tt
+read_into_known (Some bytes) version was count entries P read same many holds = record {
+  audit = record { version = version; entries = entries };
+  read = read;
+  version_is = same;
+  count_is = many;
+  holds = holds;
+}
+
 -- more than the known bytes may be were read
 is_longer : (known left : Option (List ℕ)) (front : List ℕ) (most : ℕ) → Consumes known left front → length front ≡ most + 1
     → IfSome known (λ bytes. most < length bytes)
@@ -117,7 +125,7 @@ is_longer (Some bytes) (Some rest) front most consumed long =
 -- what is told where not all can be read
 pub cut_tells : (known before left : Option (List ℕ)) (entries : List Entry) (version : Version) (place : ℕ)
     (old new : WindowState) (why : InputFault) → HasTaken known before entries (behind version place old)
-    → ReadsOn old new before left → IsCut new.read MOST_AUDIT_BYTES why → Tells known (input_stop why)
+    → ReadsOn old new before left → IsCut new.read MOST_AUDIT_BYTES why → TellsFault known (input_stop why)
 cut_tells known before left entries version place old new input.TooLong taken on cut =
     let front = audit_text version entries ++ old.held in
     let long = length-append front on.more in
@@ -158,7 +166,7 @@ FaultyAhead version place held fault = (more : List ℕ) → BeginsFaulty versio
 faulty_known : (known : Option (List ℕ)) (entries : List Entry) (version : Version) (place : ℕ) (held more : List ℕ)
     (fault : AuditLineFault)
     → IfSome known (λ bytes. HasRead bytes entries (record { version = version; place = place; rest = held ++ more }))
-    → BeginsFaulty version place (held ++ more) fault → Tells known (Audit (Line (place + 2) fault))
+    → BeginsFaulty version place (held ++ more) fault → TellsFault known (Audit (Line (place + 2) fault))
 faulty_known None entries version place held more fault read faulty = tt
 faulty_known (Some bytes) entries version place held more fault read faulty =
     stops_are_faults bytes entries (record { version = version; place = place; rest = held ++ more })
@@ -168,7 +176,7 @@ faulty_known (Some bytes) entries version place held more fault read faulty =
 pub faulty_tells : (known before left : Option (List ℕ)) (entries : List Entry) (version : Version) (place : ℕ)
     (old new : WindowState) (fault : AuditLineFault) → HasTaken known before entries (behind version place old)
     → ReadsOn old new before left → IsAtEnd left → new.read ≤ MOST_AUDIT_BYTES → FaultyAhead version place old.held fault
-    → Tells known (Audit (Line (place + 2) fault))
+    → TellsFault known (Audit (Line (place + 2) fault))
 faulty_tells known before left entries version place old new fault taken on end few faulty =
     faulty_known known entries version place old.held on.more fault
     (read_whole known before left entries version place old new taken on end few) (faulty on.more)
@@ -176,7 +184,7 @@ faulty_tells known before left entries version place old new fault taken on end 
 -- what is told of a last line that lacks its line feed
 pub last_faulty : (known left : Option (List ℕ)) (entries : List Entry) (version : Version) (place : ℕ) (window : WindowState)
     → HasTaken known left entries (behind version place window) → IsAtEnd left → IsLine window.held → 0 < length window.held
-    → length window.held ≤ MOST_LINE_BYTES → Tells known (Audit (Line (place + 2) of_line.Syntax))
+    → length window.held ≤ MOST_LINE_BYTES → TellsFault known (Audit (Line (place + 2) of_line.Syntax))
 last_faulty known left entries version place window taken end whole some short =
     faulty_known known entries version place window.held [] of_line.Syntax
     (read_whole known left left entries version place window window taken (reads_none window left (Consumes-nil left)) end taken.within)
@@ -203,11 +211,11 @@ syntax_ahead version place held line same after split is faulty more =
 pub refused_tells : (known before left : Option (List ℕ)) (entries : List Entry) (version : Version) (place : ℕ)
     (old new : WindowState) (fault : AuditLineFault) (stop : Stop) → HasTaken known before entries (behind version place old)
     → ReadsOn old new before left → IsRefused (place + 2) fault new.read left stop → FaultyAhead version place old.held fault
-    → Tells known stop
+    → TellsFault known stop
 refused_tells known before left entries version place old new fault stop taken on (IsRefused.faulty is end few) faulty =
-    subst (Tells known) (sym is) (faulty_tells known before left entries version place old new fault taken on end few faulty)
+    subst (TellsFault known) (sym is) (faulty_tells known before left entries version place old new fault taken on end few faulty)
 refused_tells known before left entries version place old new fault stop taken on (IsRefused.cut why is cut) faulty =
-    subst (Tells known) (sym is) (cut_tells known before left entries version place old new why taken on cut)
+    subst (TellsFault known) (sym is) (cut_tells known before left entries version place old new why taken on cut)
 
 empty : (xs : List ℕ) → length xs ≡ 0 → xs ≡ []
 empty [] none = refl
@@ -282,7 +290,7 @@ first_reads known left first new most on zero few =
     (on.more, on.consumed, omega arith)
 
 pub first_cut : (known left : Option (List ℕ)) (first new : WindowState) (why : InputFault) → ReadsOn first new known left
-    → first.read ≡ 0 → IsCut new.read MOST_AUDIT_BYTES why → Tells known (input_stop why)
+    → first.read ≡ 0 → IsCut new.read MOST_AUDIT_BYTES why → TellsFault known (input_stop why)
 first_cut known left first new input.TooLong on zero cut =
     let count = on.counted in
     is_longer known left on.more MOST_AUDIT_BYTES on.consumed (omega arith)
@@ -315,7 +323,7 @@ begun known left version first held new rest slides none zero within split dropp
 no_header_known : (known before left : Option (List ℕ)) (first held new : WindowState)
     → Slides first held known before → first.held ≡ [] → first.read ≡ 0 → ReadsOn held new before left → IsAtEnd left
     → new.read ≤ MOST_AUDIT_BYTES → ((more : List ℕ) → HasNoHeader (held.held ++ more))
-    → Tells known (Audit (Line 1 of_line.Header))
+    → TellsFault known (Audit (Line 1 of_line.Header))
 no_header_known None before left first held new slides none zero on end few unheaded = tt
 no_header_known (Some bytes) None left first held new slides none zero on end few unheaded = absurd slides.consumed
 no_header_known (Some bytes) (Some rest) None first held new slides none zero on end few unheaded = absurd on.consumed
@@ -334,16 +342,16 @@ no_header_known (Some bytes) (Some rest) (Some last) first held new slides none 
 -- what is told where there is no header, once the rest was read
 pub header_tells : (known before left : Option (List ℕ)) (first held new : WindowState) (stop : Stop)
     → Slides first held known before → first.held ≡ [] → first.read ≡ 0 → ReadsOn held new before left
-    → IsRefused 1 of_line.Header new.read left stop → ((more : List ℕ) → HasNoHeader (held.held ++ more)) → Tells known stop
+    → IsRefused 1 of_line.Header new.read left stop → ((more : List ℕ) → HasNoHeader (held.held ++ more)) → TellsFault known stop
 header_tells known before left first held new stop slides none zero on (IsRefused.faulty is end few) unheaded =
-    subst (Tells known) (sym is) (no_header_known known before left first held new slides none zero on end few unheaded)
+    subst (TellsFault known) (sym is) (no_header_known known before left first held new slides none zero on end few unheaded)
 header_tells known before left first held new stop slides none zero on (IsRefused.cut why is cut) unheaded =
-    subst (Tells known) (sym is) (first_cut known left first new why (on_after_slide first held new known before left slides on) zero cut)
+    subst (TellsFault known) (sym is) (first_cut known left first new why (on_after_slide first held new known before left slides on) zero cut)
 
 -- all was read, and has no line feed
 pub last_tells : (known left : Option (List ℕ)) (first held : WindowState) → Slides first held known left → first.held ≡ []
     → first.read ≡ 0 → IsAtEnd left → held.read ≤ MOST_AUDIT_BYTES → HasNoHeader held.held
-    → Tells known (Audit (Line 1 of_line.Header))
+    → TellsFault known (Audit (Line 1 of_line.Header))
 last_tells None left first held slides none zero end few unheaded = tt
 last_tells (Some bytes) None first held slides none zero end few unheaded = absurd slides.consumed
 last_tells (Some bytes) (Some rest) first held slides none zero end few unheaded =

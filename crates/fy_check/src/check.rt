@@ -1,44 +1,31 @@
 //! The engine behind `faultyard check`: an audit in, a line out that confirms or refutes it.
-ghost use Rattle.std.specs.Prelude.{◌≡◌, ◌≢◌, ◌+◌, ℕ, Bool, List, Option, IfOk, IfErr, IfSome, Err, codes, is_none};
+ghost use Rattle.std.specs.Prelude.{◌≡◌, ◌≢◌, ◌+◌, ℕ, Bool, List, Option, IfOk, IfErr, IfSome, OnOk, Err, codes, is_none};
 ghost use Rattle.std.specs.Io.KnownBytes.{Appends};
 ghost use Rattle.fy_lines.specs.Prefixes.{AppendsProperPrefix};
 ghost use Rattle.fy_lines.specs.Readings.{ReadsAtMost};
-ghost use Rattle.fy_audit.specs.Audit.{AuditOf};
 ghost use Rattle.fy_audit.specs.declared.audit.TheConstants.{MOST_AUDIT_BYTES};
 ghost use Rattle.fy_cluster.specs.Setup.{Setup};
 ghost use Rattle.fy_check.specs.CheckTexts.{HasVerdict, IfFound, finding_line};
 ghost use Rattle.fy_check.specs.Checked.{IsReplayed};
-ghost use Rattle.fy_check.specs.Inputs.{IsInputStop};
-ghost use Rattle.fy_streams.specs.Stops.{numbered, audit_stop, IfAuditFault, IsCheckStop};
+ghost use Rattle.fy_check.specs.Inputs.{IsInputStop, TellsFault};
+ghost use Rattle.fy_streams.specs.Stops.{numbered, IsCheckStop};
 
-use crate::input::AuditInput;
-use fy_audit::laws::an_audit_is_read_entry_by_entry;
-use fy_audit::{AuditFault, AuditReader, MOST_AUDIT_BYTES};
+use crate::input::{AuditInput, input_stop};
+use fy_audit::MOST_AUDIT_BYTES;
 use fy_cluster::Config;
-use fy_lines::{InputFault, OutputFault, read_limited};
+use fy_lines::read_limited;
 use fy_replay::Replayer;
 use fy_streams::{Stop, write_numbered};
 use std::alloc::Global;
 use std::io::{Read, Write};
 
-/// The stop for an audit that is refused.
-pub fn audit_stop(fault: AuditFault) -> Stop
-    ensures stop { result ≡ audit_stop fault }
-    ensures own { IsCheckStop result }
-    ensures no_output { result ≢ Stop.Read × result ≢ Stop.Write }
-{
-    match fault {
-        AuditFault::NoMemory => Stop::NoMemory,
-        fault => Stop::Audit { fault },
-    }
-}
-
 /// The bytes of the audit that a reader gives.
 pub fn load_audit<R: Read>(alloc: Global, reader: &mut R) -> Result<Vec<u8>, Stop>
     ensures read { IfOk result (λ read. IfSome (R.remaining reader.old)
         (λ bytes. read.items ≡ bytes)) }
-    ensures refused { IfErr result (λ stop. IfAuditFault stop
-        (λ fault. IfSome (R.remaining reader.old) (λ bytes. AuditOf bytes (Err fault)))) }
+    ensures within { OnOk result
+        (ReadsAtMost (R.remaining reader.old) (R.remaining reader.new) MOST_AUDIT_BYTES) }
+    ensures refused { IfErr result (TellsFault (R.remaining reader.old)) }
     ensures no_write { IfErr result (λ stop. stop ≢ Stop.Write) }
     ensures own { IfErr result IsCheckStop }
     ensures read_fault { result ≡ Err Stop.Read →
@@ -48,11 +35,7 @@ pub fn load_audit<R: Read>(alloc: Global, reader: &mut R) -> Result<Vec<u8>, Sto
 {
     match read_limited(alloc, reader, MOST_AUDIT_BYTES) {
         Ok(bytes) => Ok(bytes),
-        Err(InputFault::TooLong) => Err(Stop::Audit {
-            fault: AuditFault::TooLong,
-        }),
-        Err(InputFault::Reader) => Err(Stop::Read),
-        Err(InputFault::NoMemory) => Err(Stop::NoMemory),
+        Err(fault) => Err(input_stop(fault)),
     }
 }
 
@@ -103,78 +86,18 @@ pub fn replay_audit<R: Read>(
 ) -> Result<ReplayedAudit, Stop>
     ensures replayed { IfOk result (λ replayed. IfSome (R.remaining reader.old)
         (λ bytes. IsReplayed config.now bytes replayed)) }
-    ensures refused { IfErr result (λ stop. IfAuditFault stop
-        (λ fault. IfSome (R.remaining reader.old) (λ bytes. AuditOf bytes (Err fault)))) }
+    ensures refused { IfErr result (TellsFault (R.remaining reader.old)) }
     ensures own { IfErr result IsInputStop }
     ensures read_fault { result ≡ Err Stop.Read →
         ReadsAtMost (R.remaining reader.old) (R.remaining reader.new) MOST_AUDIT_BYTES }
     ensures no_further { ReadsAtMost (R.remaining reader.old) (R.remaining reader.new)
         (MOST_AUDIT_BYTES + 1) }
 {
-    let mut input = match AuditInput::begin(alloc, reader) {
-        Ok(input) => input,
-        Err(stop) => return Err(stop),
-    };
-    let Ok(config) = config.try_copy(alloc) else {
-        return Err(Stop::NoMemory);
-    };
-    let Ok(mut replayer) = Replayer::begin(alloc, config, input.version()) else {
-        return Err(Stop::NoMemory);
-    };
-    loop {
-        match input.next_entry(reader) {
-            Ok(Some(entry)) => {
-                let Ok(()) = replayer.enter(entry) else {
-                    return Err(Stop::NoMemory);
-                };
-            }
-            Ok(None) => {
-                return Ok(ReplayedAudit {
-                    count: input.place(),
-                    replayer,
-                });
-            }
-            Err(stop) => return Err(stop),
-        }
-    }
-}
-
-/// What [`replay_audit`] answers of an audit whose bytes are held, of which no reading can fail.
-///
-/// # Errors
-///
-/// The stops of `run_check`, but `Read` and `Write`.
-pub fn replay_bytes(alloc: Global, config: &Config, bytes: &[u8]) -> Result<ReplayedAudit, Stop>
-    ensures replayed { IfOk result (IsReplayed config.now bytes.now) }
-    ensures refused { IfErr result (λ stop. IfAuditFault stop
-        (λ fault. AuditOf bytes.now (Err fault))) }
-    ensures own { IfErr result IsCheckStop }
-    ensures no_output { IfErr result (λ stop. stop ≢ Stop.Read × stop ≢ Stop.Write) }
-{
-    an_audit_is_read_entry_by_entry();
-    let mut reader = match AuditReader::begin(alloc, bytes) {
-        Ok(reader) => reader,
-        Err(fault) => return Err(audit_stop(fault)),
-    };
-    let Ok(config) = config.try_copy(alloc) else {
-        return Err(Stop::NoMemory);
-    };
-    let Ok(mut replayer) = Replayer::begin(alloc, config, reader.version()) else {
-        return Err(Stop::NoMemory);
-    };
-    while !reader.is_at_end() {
-        let entry = match reader.next_entry() {
-            Ok(entry) => entry,
-            Err(fault) => return Err(audit_stop(fault)),
-        };
-        let Ok(()) = replayer.enter(entry) else {
-            return Err(Stop::NoMemory);
-        };
-    }
-    Ok(ReplayedAudit {
-        count: reader.place(),
-        replayer,
-    })
+    let mut input = AuditInput::begin(alloc, reader)?;
+    let config = config.try_copy(alloc)?;
+    let mut replayer = Replayer::begin(alloc, config, input.version())?;
+    let count = input.read_into(reader, &mut replayer)?;
+    Ok(ReplayedAudit { count, replayer })
 }
 
 /// Writes the line that says whether an audit is legal: its head, and a number.
@@ -186,10 +109,8 @@ fn say<W: Write>(legal: bool, head: &str, number: u64, writer: &mut W) -> Result
         × AppendsProperPrefix (W.contents writer.old) (W.contents writer.new)
         (numbered head.now number (codes "\n"))) }
 {
-    match write_numbered(writer, head, number, "\n") {
-        Ok(()) => Ok(legal),
-        Err(OutputFault) => Err(Stop::Write),
-    }
+    write_numbered(writer, head, number, "\n")?;
+    Ok(legal)
 }
 
 /// Writes the line for what was found of an audit: `legal N` where its N entries are what the rules
@@ -240,8 +161,7 @@ pub fn run_check<R: Read, W: Write>(
 ) -> Result<bool, Stop>
     ensures done { IfOk result (λ legal. HasVerdict config.now (R.remaining reader.old) legal
         (Appends (W.contents writer.old) (W.contents writer.new))) }
-    ensures refused { IfErr result (λ stop. IfAuditFault stop
-        (λ fault. IfSome (R.remaining reader.old) (λ bytes. AuditOf bytes (Err fault)))) }
+    ensures refused { IfErr result (TellsFault (R.remaining reader.old)) }
     ensures nothing_out { IfErr result (λ stop. stop ≢ Stop.Write →
         W.contents writer.new ≡ W.contents writer.old) }
     ensures front_out { result ≡ Err Stop.Write → (legal : Bool)
@@ -253,8 +173,6 @@ pub fn run_check<R: Read, W: Write>(
     ensures no_further { ReadsAtMost (R.remaining reader.old) (R.remaining reader.new)
         (MOST_AUDIT_BYTES + 1) }
 {
-    match replay_audit(alloc, config, reader) {
-        Ok(audit) => write_finding(audit.finding(), writer),
-        Err(stop) => Err(stop),
-    }
+    let audit = replay_audit(alloc, config, reader)?;
+    write_finding(audit.finding(), writer)
 }

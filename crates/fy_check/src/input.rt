@@ -5,9 +5,9 @@ ghost use Rattle.fy_lines.specs.Windows.{ReadsOn};
 ghost use Rattle.fy_acts.specs.declared.entry.Entry.{Entry};
 ghost use Rattle.fy_audit.specs.Audit.{AuditOf};
 ghost use Rattle.fy_audit.specs.declared.audit.TheConstants.{MOST_AUDIT_BYTES};
-ghost use Rattle.fy_streams.specs.Stops.{IfAuditFault, IsCheckStop};
-ghost use Rattle.fy_check.specs.Inputs.{HasTaken, HasTakenOne, IsRefused, IsInputStop, input_stop};
+ghost use Rattle.fy_check.specs.Inputs.{HasTaken, HasTakenOne, IsReadInto, IsRefused, IsInputStop, TellsFault, input_stop};
 
+use crate::sink::Sink;
 use fy_audit::{
     AuditFault, AuditLineFault, Entry, EntryFault, MOST_AUDIT_BYTES, MOST_LINE_BYTES, Version,
     after_header, read_entry_at,
@@ -43,7 +43,7 @@ impl Model for AuditInput {
 }
 
 /// The stop for an audit of which not all can be read.
-fn input_stop(fault: InputFault) -> Stop
+pub fn input_stop(fault: InputFault) -> Stop
     ensures stop { result ≡ input_stop fault }
     ensures own { IsInputStop result }
 {
@@ -65,8 +65,8 @@ fn line_stop(number: u32, fault: AuditLineFault) -> Stop
     }
 }
 
-/// The stop for a faulty line of which more may follow. The rest is read for it: the audit may be too long, or the reader
-/// may fail, which is told in place of any line.
+/// The stop for a faulty line of which more may follow. The rest is read for it: the audit may be
+/// too long, or the reader may fail, which is told in place of any line.
 fn refuse<R: Read>(window: &mut Window, reader: &mut R, number: u32, fault: AuditLineFault) -> Stop
     requires within { window.old.read ≤ MOST_AUDIT_BYTES }
     ensures read { ReadsOn window.old window.new (R.remaining reader.old) (R.remaining reader.new) }
@@ -89,17 +89,14 @@ impl AuditInput {
     pub fn begin<R: Read>(alloc: Global, reader: &mut R) -> Result<AuditInput, Stop>
         ensures begun { IfOk result
             (HasTaken (R.remaining reader.old) (R.remaining reader.new) []) }
-        ensures refused { IfErr result (λ stop. IfAuditFault stop
-            (λ fault. IfSome (R.remaining reader.old) (λ bytes. AuditOf bytes (Err fault)))) }
+        ensures refused { IfErr result (TellsFault (R.remaining reader.old)) }
         ensures own { IfErr result IsInputStop }
         ensures read_fault { result ≡ Err Stop.Read →
             ReadsAtMost (R.remaining reader.old) (R.remaining reader.new) MOST_AUDIT_BYTES }
         ensures no_further { ReadsAtMost (R.remaining reader.old) (R.remaining reader.new)
             (MOST_AUDIT_BYTES + 1) }
     {
-        let Ok(mut window) = Window::make(alloc) else {
-            return Err(Stop::NoMemory);
-        };
+        let mut window = Window::make(alloc)?;
         match window.find_line(reader, MOST_LINE_BYTES, MOST_AUDIT_BYTES) {
             Ok(NextLine::Whole(_)) => {}
             Ok(NextLine::Last(_)) => return Err(line_stop(1, AuditLineFault::Header)),
@@ -131,7 +128,7 @@ impl AuditInput {
     }
 
     /// The place of the next entry, from 0: how many were read.
-    pub fn place(&self) -> u32
+    fn place(&self) -> u32
         ensures { result ≡ self.now.place }
     {
         self.place
@@ -144,7 +141,7 @@ impl AuditInput {
     /// `Audit` where the audit is too long, wherever that shows, or its next line is faulty; `Read`
     /// where the reader fails, in place of a faulty line too: the rest is read for that. `NoMemory`
     /// where memory is refused.
-    pub fn next_entry<R: Read>(&mut self, reader: &mut R) -> Result<Option<Entry>, Stop>
+    fn next_entry<R: Read>(&mut self, reader: &mut R) -> Result<Option<Entry>, Stop>
         requires { self.old.read ≤ MOST_AUDIT_BYTES }
         ensures taken { IfOk result (λ next. IfSome next
             (HasTakenOne (R.remaining reader.old) (R.remaining reader.new) self.old self.new)) }
@@ -154,7 +151,7 @@ impl AuditInput {
         ensures count { result ≡ Ok None → self.new.place ≡ self.old.place }
         ensures refused { IfErr result (λ stop. (known : Option (List ℕ)) →
             (entries : List Entry) → HasTaken known (R.remaining reader.old) entries self.old →
-            IfAuditFault stop (λ fault. IfSome known (λ bytes. AuditOf bytes (Err fault)))) }
+            TellsFault known stop) }
         ensures own { IfErr result IsInputStop }
         ensures read_fault { result ≡ Err Stop.Read → (known : Option (List ℕ)) →
             (entries : List Entry) → HasTaken known (R.remaining reader.old) entries self.old →
@@ -191,5 +188,36 @@ impl AuditInput {
             }
             Err(EntryFault::NoMemory) => Err(Stop::NoMemory),
         }
+    }
+
+    /// Reads all entries, each into a sink, and answers how many there are. It is asked once, at the
+    /// first entry.
+    ///
+    /// # Errors
+    ///
+    /// `Audit` where the audit is too long, wherever that shows, or has a faulty line; `Read` where
+    /// the reader fails, in place of a faulty line too; `NoMemory` where memory is refused.
+    pub fn read_into<R: Read, S: Sink>(&mut self, reader: &mut R, sink: &mut S) -> Result<u32, Stop>
+        requires first { (known : Option (List ℕ))
+            × HasTaken known (R.remaining reader.old) [] self.old }
+        requires begun { S.has_taken sink.old [] sink.old }
+        ensures read { IfOk result (λ count. (known : Option (List ℕ)) →
+            HasTaken known (R.remaining reader.old) [] self.old → IfSome known (λ bytes.
+            IsReadInto bytes self.old.version count
+            (λ entries. S.has_taken sink.old entries sink.new))) }
+        ensures refused { IfErr result (λ stop. (known : Option (List ℕ)) →
+            HasTaken known (R.remaining reader.old) [] self.old → TellsFault known stop) }
+        ensures own { IfErr result IsInputStop }
+        ensures read_fault { result ≡ Err Stop.Read → (known : Option (List ℕ)) →
+            HasTaken known (R.remaining reader.old) [] self.old →
+            ReadsAtMost known (R.remaining reader.new) MOST_AUDIT_BYTES }
+        ensures no_further { (known : Option (List ℕ)) →
+            HasTaken known (R.remaining reader.old) [] self.old →
+            ReadsAtMost known (R.remaining reader.new) (MOST_AUDIT_BYTES + 1) }
+    {
+        while let Some(entry) = self.next_entry(reader)? {
+            sink.enter(entry)?;
+        }
+        Ok(self.place())
     }
 }

@@ -4,9 +4,8 @@
 mod check;
 mod input;
 pub mod laws;
+mod sink;
 
-pub use check::{
-    Finding, ReplayedAudit, audit_stop, load_audit, replay_audit, replay_bytes, run_check,
-    write_finding,
-};
-pub use input::AuditInput;
+pub use check::{Finding, ReplayedAudit, load_audit, replay_audit, run_check, write_finding};
+pub use input::{AuditInput, input_stop};
+pub use sink::Sink;

@@ -78,16 +78,11 @@ pub fn run_guard_after<A: Read, R: BufRead, W: Write, F: Write>(
     ensures no_further { ReadsAtMost (A.remaining audit.old) (A.remaining audit.new)
         (MOST_AUDIT_BYTES + 1) }
 {
-    let replayed = match replay_audit(alloc, config, audit) {
-        Ok(replayed) => replayed,
-        Err(stop) => return Err(stop),
-    };
+    let replayed = replay_audit(alloc, config, audit)?;
     let finding = replayed.finding();
     if finding.first_bad.is_some() {
         return write_finding(finding, found);
     }
-    match cluster_after(replayed) {
-        Ok(cluster) => answer_lines(alloc, cluster, reader, writer),
-        Err(stop) => Err(stop),
-    }
+    let cluster = cluster_after(replayed)?;
+    answer_lines(alloc, cluster, reader, writer)
 }

@@ -3,14 +3,14 @@ ghost use Rattle.std.specs.Prelude.{◌≡◌, ◌≢◌, ◌+◌, ℕ, Ok, Err,
 ghost use Rattle.std.specs.Io.KnownBytes.{Appends};
 ghost use Rattle.fy_lines.specs.Prefixes.{AppendsProperPrefix};
 ghost use Rattle.fy_lines.specs.Readings.{ReadsAtMost};
-ghost use Rattle.fy_audit.specs.Audit.{AuditOf};
 ghost use Rattle.fy_audit.specs.declared.audit.TheConstants.{MOST_AUDIT_BYTES};
-ghost use Rattle.fy_check.specs.Inputs.{IsInputStop, input_stop};
-ghost use Rattle.fy_streams.specs.Stops.{IfAuditFault, IsCheckStop};
+ghost use Rattle.fy_check.specs.Inputs.{IsInputStop, TellsFault};
+ghost use Rattle.fy_streams.specs.Stops.{IsCheckStop};
 ghost use Rattle.fy_guard.specs.Cuts.{IsCutAt, IsCutLine, IsUncut, whole_text};
 
-use fy_audit::{AuditFault, MOST_AUDIT_BYTES, MOST_LINE_BYTES};
-use fy_lines::{InputFault, NextLine, OutputFault, Window};
+use fy_audit::{MOST_AUDIT_BYTES, MOST_LINE_BYTES};
+use fy_check::input_stop;
+use fy_lines::{NextLine, Window};
 use fy_streams::{Stop, write_numbered};
 use std::alloc::Global;
 use std::io::{Read, Write};
@@ -24,20 +24,6 @@ pub struct Cut {
     pub whole: u64,
 }
 
-/// The stop for an audit of which not all can be read.
-fn input_stop(fault: InputFault) -> Stop
-    ensures stop { result ≡ input_stop fault }
-    ensures own { IsInputStop result }
-{
-    match fault {
-        InputFault::TooLong => Stop::Audit {
-            fault: AuditFault::TooLong,
-        },
-        InputFault::Reader => Stop::Read,
-        InputFault::NoMemory => Stop::NoMemory,
-    }
-}
-
 /// Looks for a last line of an audit that is cut. `None` where there is none, or where a line has
 /// more bytes than one may have. Memory doesn't grow with the audit.
 ///
@@ -49,8 +35,7 @@ pub fn cut_line<A: Read>(alloc: Global, audit: &mut A) -> Result<Option<Cut>, St
     ensures found { IfOk result (λ cut. IfSome cut (λ cut. IfSome (A.remaining audit.old)
         (λ bytes. IsCutAt bytes cut.line cut.whole))) }
     ensures none { result ≡ Ok None → IfSome (A.remaining audit.old) IsUncut }
-    ensures refused { IfErr result (λ stop. IfAuditFault stop (λ fault.
-        IfSome (A.remaining audit.old) (λ bytes. AuditOf bytes (Err fault)))) }
+    ensures refused { IfErr result (TellsFault (A.remaining audit.old)) }
     ensures own { IfErr result IsInputStop }
     ensures read_fault { result ≡ Err Stop.Read →
         ReadsAtMost (A.remaining audit.old) (A.remaining audit.new) MOST_AUDIT_BYTES }
@@ -105,16 +90,12 @@ pub fn write_whole<A: Read, W: Write>(
     ensures no_further { ReadsAtMost (A.remaining audit.old) (A.remaining audit.new)
         (MOST_AUDIT_BYTES + 1) }
 {
-    let cut = match cut_line(alloc, audit) {
-        Ok(Some(cut)) => cut,
-        Ok(None) => return Ok(()),
-        Err(stop) => return Err(stop),
+    let Some(cut) = cut_line(alloc, audit)? else {
+        return Ok(());
     };
     if cut.line != number {
         return Ok(());
     }
-    match write_numbered(writer, "audit: whole to ", cut.whole, "\n") {
-        Ok(()) => Ok(()),
-        Err(OutputFault) => Err(Stop::Write),
-    }
+    write_numbered(writer, "audit: whole to ", cut.whole, "\n")?;
+    Ok(())
 }

@@ -1,31 +1,25 @@
 -- what is known of the document that show writes
-use Rattle.std.proofs.Common.{◌≡◌, ◌∙◌, ℕ, List, Option, Some, None, Ok, Err, Bool, true, false, length, take, refl, ap, subst, sym, arith}
-use Rattle.std.specs.Prelude.{IfSome, is_none, is_some, not, unwrap_or}
+use Rattle.std.proofs.Common.{◌≡◌, ◌∙◌, ℕ, List, Option, Some, None, Result, Ok, Err, Bool, true, false, length, take, refl, ap, subst, sym, arith}
+use Rattle.std.specs.Prelude.{IfSome, OnOk, is_none, is_some, not, unwrap_or}
 use Rattle.std.proofs.lemmas.Bool.{true≢false}
 use Rattle.std.proofs.lemmas.List.{take_all}
 use Rattle.fy_acts.specs.declared.entry.Entry.{Entry}
 use Rattle.fy_acts.specs.declared.version.Version.{Version}
-use Rattle.fy_audit.specs.Audit.{AuditOf, AuditAnswers}
-use Rattle.fy_audit.specs.declared.audit.AuditFault.{AuditFault}
-use Rattle.fy_audit.specs.declared.audit.AuditFault.TheVariants.{TooLong, Line, NoMemory}
 use Rattle.fy_cluster.specs.Setup.{Setup}
 use Rattle.fy_cluster.specs.Execution.{Execution}
 use Rattle.fy_replay.specs.Replayed.{HasFirstBad}
 use Rattle.fy_check.specs.Checked.{IsChecked}
-use Rattle.fy_streams.specs.declared.stop.Stop.{Stop}
-use Rattle.fy_streams.specs.Stops.{audit_stop, IfAuditFault}
+use Rattle.fy_check.specs.Inputs.{IsReadInto}
 use Rattle.fy_svg.specs.Documents.{IsDocument}
-use Rattle.fy_picture.specs.Recording.{HasRecorded, Recording}
+use Rattle.fy_picture.specs.Recording.{HasRecorded, Recording, begun}
 use Rattle.fy_show.specs.declared.show.Drawn.{Drawn}
 use Rattle.fy_show.specs.Shows.{HasDocument, IsDrawn, IsDrawnEvenly}
 
--- the stop for what a reader of an audit answers
-pub stop_is_told : (bytes : List ℕ) (fault : AuditFault) (stop : Stop) →
-    AuditAnswers bytes (Err fault) → stop ≡ audit_stop fault →
-    IfAuditFault stop (λ told. AuditOf bytes (Err told))
-stop_is_told bytes TooLong stop told is = subst (λ s. IfAuditFault s (λ f. AuditOf bytes (Err f))) (sym is) told
-stop_is_told bytes (Line number fault) stop told is = subst (λ s. IfAuditFault s (λ f. AuditOf bytes (Err f))) (sym is) told
-stop_is_told bytes NoMemory stop told is = subst (λ s. IfAuditFault s (λ f. AuditOf bytes (Err f))) (sym is) tt
+-- what three facts of a call that went well give
+pub all_on_ok : {T E : Type 0} (result : Result T E) (P Q R S : Type 0) → (P → Q → R → S)
+    → OnOk result P → OnOk result Q → OnOk result R → OnOk result S
+all_on_ok (Ok done) P Q R S gives p q r = gives p q r
+all_on_ok (Err fault) P Q R S gives p q r = tt
 
 -- while no entry is bad, the next one's place is how many were recorded
 pub next_place : (setup : Setup) (entries : List Entry) (recording : Recording) → HasRecorded setup entries recording → recording.first_bad ≡ None → length entries ≡ length recording.execution.journal
@@ -34,22 +28,30 @@ next_place setup entries recording has none =
     ∙ ap (λ o. length (take (unwrap_or o (length entries)) entries)) none
     ∙ ap length (take_all (length entries) entries (omega arith)))
 
--- an audit whose bytes are known was drawn
-pub drawn_known : (setup : Setup) (known : Option (List ℕ)) (version : Version) (entries : List Entry) (drawn : Drawn)
-    → IfSome known (λ bytes. AuditOf bytes (Ok (record { version = version; entries = entries })))
-    → drawn.count ≡ length entries → drawn.drawing.version ≡ version → HasRecorded setup entries drawn.drawing → drawn.drawing.columns.laid ≡ None
-    → IfSome known (λ bytes. IsDrawnEvenly setup bytes drawn)
-drawn_known setup None version entries drawn read count same those even = tt
-drawn_known setup (Some bytes) version entries drawn read count same those even = record {
-  is = record {
-    audit = record { version = version; entries = entries };
-    read = read;
-    version = same;
-    those = those;
-    laid_is = even;
-  };
-  count = count;
+-- an audit that was read into a drawing, which began so, was drawn
+pub drawn_of : (setup : Setup) (bytes : List ℕ) (version : Version) (laid : Option (List ℕ)) (count : ℕ) (start now : Recording)
+    → start ≡ begun version setup laid
+    → IsReadInto bytes version count (λ entries. HasRecorded start.execution.setup entries now
+    × (now.version ≡ start.version) × (now.columns.laid ≡ start.columns.laid))
+    → IsDrawn setup bytes laid now
+drawn_of setup bytes version laid count start now is read = record {
+  audit = read.audit;
+  read = read.read;
+  version = read.holds.1 ∙ ap (λ (r : Recording). r.version) is ∙ read.version_is;
+  those = subst (λ s. HasRecorded s read.audit.entries now) (ap (λ (r : Recording). r.execution.setup) is) read.holds.0;
+  laid_is = read.holds.2 ∙ ap (λ (r : Recording). r.columns.laid) is;
 }
+
+-- so was one in even columns, where its bytes are known
+pub drawn_known : (setup : Setup) (known : Option (List ℕ)) (version : Version) (start : Recording) (drawn : Drawn)
+    → start ≡ begun version setup None
+    → IfSome known (λ bytes. IsReadInto bytes version drawn.count (λ entries. HasRecorded start.execution.setup entries drawn.drawing
+    × (drawn.drawing.version ≡ start.version) × (drawn.drawing.columns.laid ≡ start.columns.laid)))
+    → IfSome known (λ bytes. IsDrawnEvenly setup bytes drawn)
+unfolding drawn_of
+drawn_known setup None version start drawn is read = tt
+drawn_known setup (Some bytes) version start drawn is read =
+    record { is = drawn_of setup bytes version None drawn.count start drawn.drawing is read; count = read.count_is }
 
 pub none_is : (o : Option ℕ) (none : Bool) → not none ≡ is_some o → none ≡ is_none o
 none_is None true is = refl

@@ -3,25 +3,26 @@ ghost use Rattle.std.specs.Prelude.{◌≡◌, ◌≢◌, ◌⊎◌, ◌+◌, �
 ghost use Rattle.std.specs.Io.KnownBytes.{Appends};
 ghost use Rattle.fy_lines.specs.Prefixes.{AppendsProperPrefix};
 ghost use Rattle.fy_lines.specs.Readings.{ReadsAtMost};
-ghost use Rattle.fy_audit.specs.Audit.{AuditOf};
 ghost use Rattle.fy_audit.specs.declared.audit.TheConstants.{MOST_AUDIT_BYTES};
 ghost use Rattle.fy_events.specs.Events.{EventsOf, Rises};
 ghost use Rattle.fy_events.specs.declared.event.Event.{Event};
 ghost use Rattle.fy_events.specs.declared.TheConstants.{MOST_EVENTS_BYTES};
-ghost use Rattle.fy_streams.specs.Stops.{IfAuditFault, IfEventsFault, IsCheckStop, IsTimesStop};
+ghost use Rattle.fy_streams.specs.Stops.{IfAuditFault, IfEventsFault, IsTimesStop};
 ghost use Rattle.fy_check.specs.CheckTexts.{IsFound};
+ghost use Rattle.fy_check.specs.Inputs.{IsInputStop, TellsFault};
 ghost use Rattle.fy_picture.specs.Recording.{Recording};
 ghost use Rattle.fy_svg.specs.Documents.{IsDocument};
 ghost use Rattle.fy_show.specs.Shows.{AreRefused, HasTimedDocument, IsDrawn, IsDrawnByTime};
 
-use fy_audit::laws::{an_audit_is_read_entry_by_entry, audits_are_unambiguous};
-use fy_audit::{AuditReader, MOST_AUDIT_BYTES};
-use fy_check::{Finding, audit_stop, load_audit, replay_bytes};
+use crate::sketch::Sketch;
+use fy_audit::MOST_AUDIT_BYTES;
+use fy_audit::laws::audits_are_unambiguous;
+use fy_check::{AuditInput, Finding, load_audit, replay_audit};
 use fy_cluster::Config;
 use fy_events::{
     Event, EventsFault, MOST_EVENTS_BYTES, TimeColumns, columns_by_time, events_before, read_events,
 };
-use fy_lines::{InputFault, OutputFault, read_limited, write_bytes};
+use fy_lines::{InputFault, read_limited, write_bytes};
 use fy_picture::MOST_COLUMNS;
 use fy_streams::Stop;
 use fy_svg::Drawing;
@@ -72,19 +73,16 @@ fn events_of(alloc: Global, bytes: &[u8], count: u32) -> Result<Vec<Event>, Stop
 /// What is found of an audit that is held whole.
 fn finding_of(alloc: Global, config: &Config, bytes: &[u8]) -> Result<Finding, Stop>
     ensures found { IfOk result (IsFound config.now bytes.now) }
-    ensures refused { IfErr result (λ stop. IfAuditFault stop
-        (λ fault. AuditOf bytes.now (Err fault))) }
-    ensures own { IfErr result IsCheckStop }
-    ensures no_output { IfErr result (λ stop. stop ≢ Stop.Read × stop ≢ Stop.Write) }
+    ensures refused { IfErr result (TellsFault (Some bytes.now)) }
+    ensures own { IfErr result IsInputStop }
 {
-    match replay_bytes(alloc, config, bytes) {
-        Ok(replayed) => Ok(replayed.finding()),
-        Err(stop) => Err(stop),
-    }
+    let mut rest = bytes;
+    let replayed = replay_audit(alloc, config, &mut rest)?;
+    Ok(replayed.finding())
 }
 
-/// Reads an audit whose bytes are held, entry by entry, and has each checked and drawn, in columns by
-/// the times of events.
+/// Reads an audit that is held whole, and has each entry checked and drawn, in columns by the times
+/// of events.
 fn draw_in(
     alloc: Global,
     config: &Config,
@@ -93,29 +91,16 @@ fn draw_in(
     events: Vec<Event>,
 ) -> Result<Drawing, Stop>
     ensures drawn { IfOk result (IsDrawn config.now bytes.now (Some columns.ends.items)) }
-    ensures refused { IfErr result (λ stop. IfAuditFault stop
-        (λ fault. AuditOf bytes.now (Err fault))) }
-    ensures own { IfErr result IsCheckStop }
-    ensures no_output { IfErr result (λ stop. stop ≢ Stop.Read × stop ≢ Stop.Write) }
+    ensures refused { IfErr result (TellsFault (Some bytes.now)) }
+    ensures own { IfErr result IsInputStop }
 {
-    an_audit_is_read_entry_by_entry();
-    let mut reader = match AuditReader::begin(alloc, bytes) {
-        Ok(reader) => reader,
-        Err(fault) => return Err(audit_stop(fault)),
-    };
-    let version = reader.version();
-    let Ok(mut drawing) = Drawing::begin_by_time(alloc, config, version, columns, events) else {
-        return Err(Stop::NoMemory);
-    };
-    while !reader.is_at_end() {
-        let entry = match reader.next_entry() {
-            Ok(entry) => entry,
-            Err(fault) => return Err(audit_stop(fault)),
-        };
-        let Ok(()) = drawing.enter(entry) else {
-            return Err(Stop::NoMemory);
-        };
-    }
+    let mut rest = bytes;
+    let mut input = AuditInput::begin(alloc, &mut rest)?;
+    let version = input.version();
+    let drawing = Drawing::begin_by_time(alloc, config, version, columns, events)?;
+    let mut sketch = Sketch(drawing);
+    input.read_into(&mut rest, &mut sketch)?;
+    let Sketch(drawing) = sketch;
     Ok(drawing)
 }
 
@@ -129,16 +114,12 @@ fn draw(
 ) -> Result<Drawing, Stop>
     requires { Rises finding.count None events.items }
     ensures drawn { IfOk result (IsDrawnByTime config.now bytes.now finding events.items) }
-    ensures refused { IfErr result (λ stop. IfAuditFault stop
-        (λ fault. AuditOf bytes.now (Err fault))) }
-    ensures own { IfErr result IsCheckStop }
-    ensures no_output { IfErr result (λ stop. stop ≢ Stop.Read × stop ≢ Stop.Write) }
+    ensures refused { IfErr result (TellsFault (Some bytes.now)) }
+    ensures own { IfErr result IsInputStop }
 {
     let good = finding.first_bad.unwrap_or(finding.count);
     let drawn = events_before(&events, good);
-    let Ok(columns) = columns_by_time(alloc, drawn, good, MOST_COLUMNS) else {
-        return Err(Stop::NoMemory);
-    };
+    let columns = columns_by_time(alloc, drawn, good, MOST_COLUMNS)?;
     draw_in(alloc, config, bytes, columns, events)
 }
 
@@ -160,21 +141,12 @@ fn document(
     ensures events_refused { IfErr result (λ stop. IfEventsFault stop
         (λ fault. EventsOf finding.count lines.now (Err fault))) }
     ensures own { IfErr result IsTimesStop }
-    ensures no_output { IfErr result (λ stop. stop ≢ Stop.Read × stop ≢ Stop.Write) }
+    ensures no_write { IfErr result (λ stop. stop ≢ Stop.Write) }
 {
     audits_are_unambiguous();
-    let events = match events_of(alloc, lines, finding.count) {
-        Ok(events) => events,
-        Err(stop) => return Err(stop),
-    };
-    let drawing = match draw(alloc, config, bytes, finding, events) {
-        Ok(drawing) => drawing,
-        Err(stop) => return Err(stop),
-    };
-    match drawing.finish(config) {
-        Ok(text) => Ok(text),
-        Err(_) => Err(Stop::NoMemory),
-    }
+    let events = events_of(alloc, lines, finding.count)?;
+    let drawing = draw(alloc, config, bytes, finding, events)?;
+    Ok(drawing.finish(config)?)
 }
 
 /// Reads an audit and a file of events, each from its reader to its end, and writes one SVG document
@@ -199,8 +171,7 @@ pub fn run_show_by_time<R: Read, E: Read, W: Write>(
     ensures done { IfOk result (λ legal.
         HasTimedDocument config.now (R.remaining reader.old) (E.remaining events.old) legal
         (Appends (W.contents writer.old) (W.contents writer.new))) }
-    ensures audit_refused { IfErr result (λ stop. IfAuditFault stop
-        (λ fault. IfSome (R.remaining reader.old) (λ bytes. AuditOf bytes (Err fault)))) }
+    ensures audit_refused { IfErr result (TellsFault (R.remaining reader.old)) }
     ensures unread { IfErr result (λ stop. IfAuditFault stop
         (λ fault. E.remaining events.new ≡ E.remaining events.old)) }
     ensures events_refused { IfErr result (λ stop. IfEventsFault stop
@@ -219,24 +190,10 @@ pub fn run_show_by_time<R: Read, E: Read, W: Write>(
     ensures no_event_further { ReadsAtMost (E.remaining events.old) (E.remaining events.new)
         (MOST_EVENTS_BYTES + 1) }
 {
-    let bytes = match load_audit(alloc, reader) {
-        Ok(bytes) => bytes,
-        Err(stop) => return Err(stop),
-    };
-    let finding = match finding_of(alloc, config, &bytes) {
-        Ok(finding) => finding,
-        Err(stop) => return Err(stop),
-    };
-    let lines = match load_events(alloc, events) {
-        Ok(lines) => lines,
-        Err(stop) => return Err(stop),
-    };
-    let text = match document(alloc, config, &bytes, finding, &lines) {
-        Ok(text) => text,
-        Err(stop) => return Err(stop),
-    };
-    match write_bytes(writer, text.as_bytes()) {
-        Ok(()) => Ok(finding.first_bad.is_none()),
-        Err(OutputFault) => Err(Stop::Write),
-    }
+    let bytes = load_audit(alloc, reader)?;
+    let finding = finding_of(alloc, config, &bytes)?;
+    let lines = load_events(alloc, events)?;
+    let text = document(alloc, config, &bytes, finding, &lines)?;
+    write_bytes(writer, text.as_bytes())?;
+    Ok(finding.first_bad.is_none())
 }

@@ -3,6 +3,7 @@
 
 mod by_time;
 mod show;
+mod sketch;
 
 pub use by_time::run_show_by_time;
 pub use show::run_show;

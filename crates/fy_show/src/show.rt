@@ -3,19 +3,19 @@ ghost use Rattle.std.specs.Prelude.{◌≡◌, ◌≢◌, ◌+◌, Bool, None, I
 ghost use Rattle.std.specs.Io.KnownBytes.{Appends};
 ghost use Rattle.fy_lines.specs.Prefixes.{AppendsProperPrefix};
 ghost use Rattle.fy_lines.specs.Readings.{ReadsAtMost};
-ghost use Rattle.fy_audit.specs.Audit.{AuditOf};
 ghost use Rattle.fy_audit.specs.declared.audit.TheConstants.{MOST_AUDIT_BYTES};
-ghost use Rattle.fy_streams.specs.Stops.{IfAuditFault, IsCheckStop};
+ghost use Rattle.fy_streams.specs.Stops.{IsCheckStop};
 ghost use Rattle.fy_check.specs.Checked.{IsChecked};
-ghost use Rattle.fy_check.specs.Inputs.{IsInputStop};
+ghost use Rattle.fy_check.specs.Inputs.{IsInputStop, TellsFault};
 ghost use Rattle.fy_picture.specs.Recording.{Recording};
 ghost use Rattle.fy_svg.specs.Documents.{IsDocument};
 ghost use Rattle.fy_show.specs.Shows.{HasDocument, IsDrawn, IsDrawnEvenly};
 
+use crate::sketch::Sketch;
 use fy_audit::MOST_AUDIT_BYTES;
 use fy_check::AuditInput;
 use fy_cluster::Config;
-use fy_lines::{OutputFault, write_bytes};
+use fy_lines::write_bytes;
 use fy_streams::Stop;
 use fy_svg::Drawing;
 use std::alloc::Global;
@@ -34,37 +34,19 @@ pub(crate) struct Drawn {
 fn draw<R: Read>(alloc: Global, config: &Config, reader: &mut R) -> Result<Drawn, Stop>
     ensures drawn { IfOk result (λ drawn. IfSome (R.remaining reader.old)
         (λ bytes. IsDrawnEvenly config.now bytes drawn)) }
-    ensures refused { IfErr result (λ stop. IfAuditFault stop
-        (λ fault. IfSome (R.remaining reader.old) (λ bytes. AuditOf bytes (Err fault)))) }
+    ensures refused { IfErr result (TellsFault (R.remaining reader.old)) }
     ensures own { IfErr result IsInputStop }
     ensures read_fault { result ≡ Err Stop.Read →
         ReadsAtMost (R.remaining reader.old) (R.remaining reader.new) MOST_AUDIT_BYTES }
     ensures no_further { ReadsAtMost (R.remaining reader.old) (R.remaining reader.new)
         (MOST_AUDIT_BYTES + 1) }
 {
-    let mut input = match AuditInput::begin(alloc, reader) {
-        Ok(input) => input,
-        Err(stop) => return Err(stop),
-    };
-    let Ok(mut drawing) = Drawing::begin(alloc, config, input.version()) else {
-        return Err(Stop::NoMemory);
-    };
-    loop {
-        match input.next_entry(reader) {
-            Ok(Some(entry)) => {
-                let Ok(()) = drawing.enter(entry) else {
-                    return Err(Stop::NoMemory);
-                };
-            }
-            Ok(None) => {
-                return Ok(Drawn {
-                    count: input.place(),
-                    drawing,
-                });
-            }
-            Err(stop) => return Err(stop),
-        }
-    }
+    let mut input = AuditInput::begin(alloc, reader)?;
+    let drawing = Drawing::begin(alloc, config, input.version())?;
+    let mut sketch = Sketch(drawing);
+    let count = input.read_into(reader, &mut sketch)?;
+    let Sketch(drawing) = sketch;
+    Ok(Drawn { count, drawing })
 }
 
 /// The document of an audit, and whether it is legal.
@@ -73,23 +55,17 @@ fn document<R: Read>(alloc: Global, config: &Config, reader: &mut R) -> Result<(
         × IfSome (R.remaining reader.old) (λ bytes. IsChecked config.now bytes document.0
         × IsDrawn config.now bytes None drawing)
         × IsDocument drawing (string_bytes document.1)) }
-    ensures refused { IfErr result (λ stop. IfAuditFault stop
-        (λ fault. IfSome (R.remaining reader.old) (λ bytes. AuditOf bytes (Err fault)))) }
+    ensures refused { IfErr result (TellsFault (R.remaining reader.old)) }
     ensures own { IfErr result IsInputStop }
     ensures read_fault { result ≡ Err Stop.Read →
         ReadsAtMost (R.remaining reader.old) (R.remaining reader.new) MOST_AUDIT_BYTES }
     ensures no_further { ReadsAtMost (R.remaining reader.old) (R.remaining reader.new)
         (MOST_AUDIT_BYTES + 1) }
 {
-    let Drawn { count: _, drawing } = match draw(alloc, config, reader) {
-        Ok(drawn) => drawn,
-        Err(stop) => return Err(stop),
-    };
+    let drawn = draw(alloc, config, reader)?;
+    let Drawn { count: _, drawing } = drawn;
     let legal = drawing.first_bad().is_none();
-    match drawing.finish(config) {
-        Ok(text) => Ok((legal, text)),
-        Err(_) => Err(Stop::NoMemory),
-    }
+    Ok((legal, drawing.finish(config)?))
 }
 
 /// Reads an audit from the reader to its end, checks it, and writes one SVG document that shows its
@@ -111,8 +87,7 @@ pub fn run_show<R: Read, W: Write>(
 ) -> Result<bool, Stop>
     ensures done { IfOk result (λ legal. HasDocument config.now (R.remaining reader.old) legal
         (Appends (W.contents writer.old) (W.contents writer.new))) }
-    ensures refused { IfErr result (λ stop. IfAuditFault stop
-        (λ fault. IfSome (R.remaining reader.old) (λ bytes. AuditOf bytes (Err fault)))) }
+    ensures refused { IfErr result (TellsFault (R.remaining reader.old)) }
     ensures nothing_out { IfErr result (λ stop. stop ≢ Stop.Write →
         W.contents writer.new ≡ W.contents writer.old) }
     ensures front_out { result ≡ Err Stop.Write → (legal : Bool)
@@ -124,12 +99,7 @@ pub fn run_show<R: Read, W: Write>(
     ensures no_further { ReadsAtMost (R.remaining reader.old) (R.remaining reader.new)
         (MOST_AUDIT_BYTES + 1) }
 {
-    let (legal, text) = match document(alloc, config, reader) {
-        Ok(document) => document,
-        Err(stop) => return Err(stop),
-    };
-    match write_bytes(writer, text.as_bytes()) {
-        Ok(()) => Ok(legal),
-        Err(OutputFault) => Err(Stop::Write),
-    }
+    let (legal, text) = document(alloc, config, reader)?;
+    write_bytes(writer, text.as_bytes())?;
+    Ok(legal)
 }

@@ -1,12 +1,5 @@
-use Rattle.std.proofs.Common.{Bool, Result, Ok, Err, ap}
-use Rattle.fy_streams.specs.declared.stop.Stop.{Stop}
+use Rattle.std.proofs.Common.{rules}
 use Rattle.fy_bears.proofs.bears.run_bears.Goals as goal
 
--- the same stop, without whether it is done
-stopped : Result Bool Stop → Result (Unit {0}) Stop
-stopped (Ok done) = Ok tt
-stopped (Err stop) = Err stop
-
-pub returns-clause-short : goal.returns-clause-short
-unfolding stopped
-returns-clause-short g c is = (c.in-Ok.told, c.in-Ok.ensures.told, c.in-Err-write_told.ensures.short (ap stopped is))
+pub returns-in_err-write_told-clause-short : goal.returns-in_err-write_told-clause-short
+returns-in_err-write_told-clause-short g c is = (c.in_ok-told.told, c.in_ok-told.ensures.told, c.in_err-write_told.ensures.short (search rules))

@@ -1,4 +1,4 @@
-use Rattle.std.proofs.Common.{◌≡◌, ℕ, Bool, true, false, List, Option, Some, None, Result, Ok, Err, IfOk, IfErr, IfSome, is_some, is_none, inl, inr, refl, sym, ap, ◌∙◌, subst}
+use Rattle.std.proofs.Common.{rules, ◌≡◌, ℕ, Bool, true, false, List, Option, Some, None, Result, Ok, Err, IfOk, IfErr, IfSome, is_some, is_none, inl, inr, refl, sym, ◌∙◌, subst}
 use Rattle.std.proofs.lemmas.Bool.{false≢true}
 use Rattle.std.specs.Io.KnownBytes.{Appends}
 use Rattle.fy_lines.specs.Prefixes.{AppendsProperPrefix}
@@ -7,7 +7,8 @@ use Rattle.std.specs.Option.{option_map_or}
 use Rattle.fy_replay.specs.Replayed.{HasFirstBad}
 use Rattle.fy_check.specs.CheckTexts.{Finds, HasVerdict, IsFound, bad_line, finding_line, legal_line}
 use Rattle.fy_streams.specs.declared.stop.Stop.{Stop}
-use Rattle.fy_streams.specs.declared.stop.Stop.TheVariants.{Write}
+use Rattle.fy_streams.specs.declared.stop.Stop.TheVariants.{NoMemory, Read, Write}
+use Rattle.fy_streams.specs.Outputs.{IsOutputStop}
 use Rattle.fy_check.specs.Checked.{IsChecked, IsReplayed}
 use Rattle.fy_check.specs.declared.check.ReplayedAudit.{ReplayedAudit}
 use Rattle.fy_cluster.specs.Setup.{Setup}
@@ -19,7 +20,7 @@ pub returns-then-is_some-clause-refuted : goal.returns-then-is_some-clause-refut
 returns-then-is_some-clause-refuted g c = λ is.
     let known = g.R.Read.remaining c.args.reader.now in
     let whole = Appends (g.W.Write.contents c.args.writer.now) (g.W.Write.contents c.write_finding.new.writer) in
-    let found = c.finding-finding.ensures.found c.args.config.now known c.in-Ok.ensures.replayed in
+    let found = c.finding-finding.ensures.found c.args.config.now known c.in_ok-audit.ensures.replayed in
     subst (λ r. IfOk r (λ legal. HasVerdict c.args.config.now known legal whole)) is
     (c.write_finding.ensures.out c.args.config.now known found)
 
@@ -35,10 +36,10 @@ legal_found setup (Some bytes) finding found e = record {
   legal_is = none_bad finding.first_bad e;
 }
 
-pub returns-in-Ok-write_told-clause-done : goal.returns-in-Ok-write_told-clause-done
-returns-in-Ok-write_told-clause-done g c =
+pub returns-clause-done : goal.returns-clause-done
+returns-clause-done g c =
     legal_found c.args.config.now (g.R.Read.remaining c.args.reader.now) c.finding-finding.result
-    (c.finding-finding.ensures.found c.args.config.now (g.R.Read.remaining c.args.reader.now) c.in-Ok.ensures.replayed)
+    (c.finding-finding.ensures.found c.args.config.now (g.R.Read.remaining c.args.reader.now) c.in_ok-audit.ensures.replayed)
     (sym c.is_some.ensures ∙ c.if-is_some.false)
 
 none_of : (o : Option ℕ) → is_some o ≡ false → o ≡ None
@@ -54,24 +55,28 @@ told_known : (setup : Setup) (known : Option (List ℕ)) (audit : ReplayedAudit)
 told_known setup None audit told spells goes replayed those out = tt
 told_known setup (Some bytes) audit told spells goes replayed those out = (told, those bytes replayed, out)
 
-pub returns-in-Ok-write_told-clause-written : goal.returns-in-Ok-write_told-clause-written
-returns-in-Ok-write_told-clause-written g c = λ _.
+pub returns-clause-written : goal.returns-clause-written
+returns-clause-written g c = λ _.
     let none = sym c.finding-finding.ensures.first_bad ∙ none_of c.finding-finding.result.first_bad (sym c.is_some.ensures ∙ c.if-is_some.false) in
-    told_known c.args.config.now (g.R.Read.remaining c.args.reader.now) c.in-Ok.audit c.in-Ok-told_after.told (g.S.Spelling.spells c.args.form.now c.args.config.now)
-    _ c.in-Ok.ensures.replayed (λ bytes replayed. c.in-Ok-told_after.ensures.told c.args.config.now bytes replayed none) c.in-Ok-write_told.ensures.written
-
--- the same stop, without whether it is done
-stopped : Result Bool Stop → Result (Unit {0}) Stop
-stopped (Ok done) = Ok tt
-stopped (Err stop) = Err stop
+    told_known c.args.config.now (g.R.Read.remaining c.args.reader.now) c.in_ok-audit.audit c.in_ok-told.told (g.S.Spelling.spells c.args.form.now c.args.config.now)
+    _ c.in_ok-audit.ensures.replayed (λ bytes replayed. c.in_ok-told.ensures.told c.args.config.now bytes replayed none) c.in_ok-write_told.ensures.written
 
 -- a text that goes out in part is that of what is told of a legal audit
-pub returns-clause-front_out : goal.returns-clause-front_out
-unfolding stopped
-returns-clause-front_out g c is =
+pub returns-in_err-write_told-clause-front_out : goal.returns-in_err-write_told-clause-front_out
+returns-in_err-write_told-clause-front_out g c is =
     let none = sym c.finding-finding.ensures.first_bad ∙ none_of c.finding-finding.result.first_bad (sym c.is_some.ensures ∙ c.if-is_some.false) in
-    inr (told_known c.args.config.now (g.R.Read.remaining c.args.reader.now) c.in-Ok.audit c.in-Ok-told_after.told (g.S.Spelling.spells c.args.form.now c.args.config.now)
-    _ c.in-Ok.ensures.replayed (λ bytes replayed. c.in-Ok-told_after.ensures.told c.args.config.now bytes replayed none) (c.in-Err-write_told.ensures.short (ap stopped is)))
+    inr (told_known c.args.config.now (g.R.Read.remaining c.args.reader.now) c.in_ok-audit.audit c.in_ok-told.told (g.S.Spelling.spells c.args.form.now c.args.config.now)
+    _ c.in_ok-audit.ensures.replayed (λ bytes replayed. c.in_ok-told.ensures.told c.args.config.now bytes replayed none) (c.in_err-write_told.ensures.short (search rules)))
+
+-- nothing is read once the text is written
+unread : (stop : Stop) → IsOutputStop stop → stop ≡ Read → ⊥
+unread stop (inl write) is = let bad : Write ≡ Read = sym write ∙ is in let no : ⊥ = cc in no
+unread stop (inr memory) is = let bad : NoMemory ≡ Read = sym memory ∙ is in let no : ⊥ = cc in no
+
+pub returns-in_err-write_told-clause-read_fault : goal.returns-in_err-write_told-clause-read_fault
+returns-in_err-write_told-clause-read_fault g c = λ is.
+    let read : c.in_err-write_told.field-0.0 ≡ Read = search rules in
+    absurd (unread c.in_err-write_told.field-0.0 c.in_err-write_told.ensures.no_other read)
 
 -- the line of a bad entry
 bad_known : (setup : Setup) (known : Option (List ℕ)) (finding : Finding) (at : ℕ) (goes : List ℕ → Type 0)
@@ -98,7 +103,7 @@ returns-then-is_some-clause-front_out g c = λ is.
     let known = g.R.Read.remaining c.args.reader.now in
     let short = AppendsProperPrefix (g.W.Write.contents c.args.writer.now) (g.W.Write.contents c.write_finding.new.writer) in
     let finding = c.finding-finding.result in
-    let found = c.finding-finding.ensures.found c.args.config.now known c.in-Ok.ensures.replayed in
+    let found = c.finding-finding.ensures.found c.args.config.now known c.in_ok-audit.ensures.replayed in
     let bad = some_of finding.first_bad (sym c.is_some.ensures ∙ c.if-is_some.true) in
     inl (bad_known c.args.config.now known finding bad.0 short found bad.1
     (cut_short short (finding_line finding) c.write_finding.result c.write_finding.ensures.short is))

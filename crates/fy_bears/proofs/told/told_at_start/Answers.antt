@@ -9,5 +9,5 @@ returns-clause-told c = record {
   book =
       subst (λ qs. IsFresh c.args.config.now.processes qs c.in-Ok.dead) c.policies-policies.ensures
       (subst (λ ps. IsFresh ps c.policies-policies.result.now c.in-Ok.dead) c.map-map.ensures c.in-Ok.ensures.made);
-  found = c.in-Ok-findings_of.ensures;
+  found = c.in_ok-findings.ensures;
 }

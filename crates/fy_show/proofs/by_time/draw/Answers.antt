@@ -11,12 +11,12 @@ returns-clause-drawn c =
     let good = c.unwrap_or-good.result in
     let drawn : c.events_before-drawn.result.now ≡ events_before events good =
     c.events_before-drawn.ensures.those ∙ ap (λ es. events_before es good) c.deref.ensures.value in
-    IfOk-weaker c.draw_in.result (IsDrawn c.args.config.now c.args.bytes.now (Some c.in-Ok.columns.ends.items))
+    IfOk-weaker c.draw_in.result (IsDrawn c.args.config.now c.args.bytes.now (Some c.in_ok-columns.columns.ends.items))
     (IsDrawnByTime c.args.config.now c.args.bytes.now c.args.finding events)
     (λ drawing is. record {
-      columns = c.in-Ok.columns;
-      are_columns = subst (λ n. AreTimeColumns (events_before events n) n MOST_COLUMNS c.in-Ok.columns) c.unwrap_or-good.ensures
-          (subst (λ es. AreTimeColumns es good MOST_COLUMNS c.in-Ok.columns) drawn c.in-Ok.ensures.columns);
+      columns = c.in_ok-columns.columns;
+      are_columns = subst (λ n. AreTimeColumns (events_before events n) n MOST_COLUMNS c.in_ok-columns.columns) c.unwrap_or-good.ensures
+          (subst (λ es. AreTimeColumns es good MOST_COLUMNS c.in_ok-columns.columns) drawn c.in_ok-columns.ensures.columns);
       drawn = is;
     })
     c.draw_in.ensures.drawn

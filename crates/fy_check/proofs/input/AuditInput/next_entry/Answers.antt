@@ -5,8 +5,8 @@ use Rattle.fy_audit.specs.Audit.{BeginsWith}
 use Rattle.fy_audit.specs.declared.audit.TheConstants.{MOST_AUDIT_BYTES}
 use Rattle.fy_audit.specs.declared.audit.AuditLineFault.TheVariants as of_line
 use Rattle.fy_streams.specs.declared.stop.Stop.TheVariants.{Read}
-use Rattle.fy_check.specs.Inputs.{HasTaken}
-use Rattle.fy_check.proofs.Taking.{Tells, slid, taken_on, taken_one, reads_at_most, cut_most, cut_unread, last_faulty, long_ahead, syntax_ahead, refused_tells, refused_most, refused_unread}
+use Rattle.fy_check.specs.Inputs.{HasTaken, TellsFault}
+use Rattle.fy_check.proofs.Taking.{slid, taken_on, taken_one, reads_at_most, cut_most, cut_unread, last_faulty, long_ahead, syntax_ahead, refused_tells, refused_most, refused_unread}
 use Rattle.fy_check.proofs.input.AuditInput.next_entry.Goals as goal
 
 pub returns-in-Err-clause-read_fault : goal.returns-in-Err-clause-read_fault
@@ -34,7 +34,7 @@ returns-in-Last-clause-refused g c known entries taken =
     let long = last.0.long in
     let few = last.1 in
     let some : 0 < length now.held = search rules in
-    subst (Tells known) (sym c.line_stop.ensures)
+    subst (TellsFault known) (sym c.line_stop.ensures)
     (last_faulty known _ entries input.version input.place now
     (taken_on known _ _ entries input.version input.place input.window now
     (subst (HasTaken known _ entries) (sym c.self.view_is) taken) c.find_line.ensures.slides c.in-Ok.ensures.within)
