@@ -258,8 +258,8 @@ fn arguments(rt: &HostRuntime) -> Result<Vec<String>, ExitCode>
     }
 }
 
-/// Says that there is no plan of the name that was given. `clap` would, but its list of names has no
-/// value that a contract can name.
+/// Says that there is no plan of the name that was given. `clap` would, but its list of names has
+/// no value that a contract can name.
 fn unplanned(rt: &HostRuntime) -> ExitCode
     ensures { exit_status result ≡ 2 }
 {

@@ -49,6 +49,7 @@ pub record IsToldOf (setup : Setup) (bytes : List ℕ) (told : Told) : Type 0 wh
 abbrev pub IsSpelledOut : (stands goes : List ℕ → Type 0) → Type 0
 IsSpelledOut stands goes = (text : List ℕ) × stands text × goes text
 
--- a text that stands for what is told went out, whole or in part, and what is told is as it has to be
+-- a text that stands for what is told went out, whole or in part, and what is told is as it has to
+-- be
 abbrev pub Tells : (Told → Type 0) → (Told → List ℕ → Type 0) → (List ℕ → Type 0) → Type 0
 Tells is_told spells goes = (told : Told) × is_told told × IsSpelledOut (spells told) goes

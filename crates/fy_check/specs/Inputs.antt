@@ -61,7 +61,8 @@ input_stop input.TooLong = audit_stopped audit.TooLong
 input_stop input.Reader = Read
 input_stop input.NoMemory = NoMemory
 
--- the stop where a line, of this number, is faulty: by that, or by a fault of the whole in its place
+-- the stop where a line, of this number, is faulty: by that, or by a fault of the whole in its
+-- place
 pub data IsRefused (number : ℕ) (fault : AuditLineFault) (read : ℕ) (left : Option (List ℕ)) (stop : Stop)
     : Type 0 where
   faulty : stop ≡ audit_stopped (audit.Line number fault) → IsAtEnd left → read ≤ MOST_AUDIT_BYTES →

@@ -118,7 +118,8 @@ fn say<W: Write>(legal: bool, head: &str, number: u64, writer: &mut W) -> Result
 ///
 /// # Errors
 ///
-/// `Write` where the writer fails or takes no byte: a front of the line is out, and never all of it.
+/// `Write` where the writer fails or takes no byte: a front of the line is out, and never all of
+/// it.
 pub fn write_finding<W: Write>(finding: Finding, writer: &mut W) -> Result<bool, Stop>
     ensures told { IfOk result (λ legal. legal ≡ is_none finding.first_bad) }
     ensures line { IfOk result (λ _. Appends (W.contents writer.old) (W.contents writer.new)

@@ -18,8 +18,8 @@ use std::alloc::Global;
 use std::io::Read;
 use std::marker::Model;
 
-/// An audit that is read piece by piece from a reader, which each call is given. Memory doesn't grow
-/// with its entries.
+/// An audit that is read piece by piece from a reader, which each call is given. Memory doesn't
+/// grow with its entries.
 #[derive(Drop)]
 pub struct AuditInput {
     alloc: Global,
@@ -190,8 +190,8 @@ impl AuditInput {
         }
     }
 
-    /// Reads all entries, each into a sink, and answers how many there are. It is asked once, at the
-    /// first entry.
+    /// Reads all entries, each into a sink, and answers how many there are. It is asked once, at
+    /// the first entry.
     ///
     /// # Errors
     ///

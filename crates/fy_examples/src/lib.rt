@@ -1,5 +1,5 @@
-//! Each crate as its callers use it: a short run through its public calls. What the calls ask for is
-//! proved here.
+//! Each crate as its callers use it: a short run through its public calls. What the calls ask for
+//! is proved here.
 #![tactic(auto)]
 
 #[cfg(test)]

@@ -1,5 +1,5 @@
-//! A shared cluster: an order from a seat, two seats that meet, a post with an actor of its own, and
-//! the close.
+//! A shared cluster: an order from a seat, two seats that meet, a post with an actor of its own,
+//! and the close.
 ghost use Rattle.std.specs.Prelude.{◌≡◌, ◌≤◌, All, IfOk, Some, length};
 
 use crate::single::config_for;

@@ -24,14 +24,14 @@ use std::io::{BufRead, Read, Write};
 /// written behind it is one audit.
 ///
 /// Where an entry of the audit isn't what the rules give, the line of `run_check` goes to another
-/// writer, for what is written may stand behind the audit. The answer is whether the audit is legal.
-/// No line is read before the audit is, to its end.
+/// writer, for what is written may stand behind the audit. The answer is whether the audit is
+/// legal. No line is read before the audit is, to its end.
 ///
 /// # Errors
 ///
-/// `Audit` for an audit that is refused, and with the fault of a header for a legal one of the first
-/// version; `Read` where its reader fails; `NoMemory`; `Write` where the other writer fails or takes
-/// no byte: no line was read then, and nothing is out. Then those of `answer_lines`.
+/// `Audit` for an audit that is refused, and with the fault of a header for a legal one of the
+/// first version; `Read` where its reader fails; `NoMemory`; `Write` where the other writer fails
+/// or takes no byte: no line was read then, and nothing is out. Then those of `answer_lines`.
 pub fn run_guard_after<A: Read, R: BufRead, W: Write, F: Write>(
     alloc: Global,
     config: &Config,

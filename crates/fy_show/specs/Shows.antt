@@ -51,8 +51,8 @@ HasDocument setup known legal P =
     × (drawing : Recording) × IsDrawn setup bytes None drawing
     × (text : List ℕ) × IsDocument drawing text × P text)
 
--- known bytes of an audit that was read and checked, what was found of it, and known bytes of a file
--- of events
+-- known bytes of an audit that was read and checked, what was found of it, and known bytes of a
+-- file of events
 abbrev pub IfBothKnown : Setup → (audit events : Option (List ℕ))
     → (List ℕ → Finding → List ℕ → Type 0) → Type 0
 IfBothKnown setup audit events P =

@@ -149,9 +149,9 @@ fn document(
     Ok(drawing.finish(config)?)
 }
 
-/// Reads an audit and a file of events, each from its reader to its end, and writes one SVG document
-/// as `run_show` does, whose columns are laid by the times of the events. The answer is whether the
-/// audit is legal.
+/// Reads an audit and a file of events, each from its reader to its end, and writes one SVG
+/// document as `run_show` does, whose columns are laid by the times of the events. The answer is
+/// whether the audit is legal.
 ///
 /// The audit is read and checked first, and then the events are read. All is drawn before the first
 /// byte is written.
@@ -159,8 +159,8 @@ fn document(
 /// # Errors
 ///
 /// `Audit` for an audit that is refused: no event is read then. `Events` for a file of events that
-/// is refused, `Read` where one of the readers fails, `NoMemory` where memory is refused. Nothing is
-/// written but after `Write`, when a front of the document is out, and never all of it.
+/// is refused, `Read` where one of the readers fails, `NoMemory` where memory is refused. Nothing
+/// is written but after `Write`, when a front of the document is out, and never all of it.
 pub fn run_show_by_time<R: Read, E: Read, W: Write>(
     alloc: Global,
     config: &Config,
