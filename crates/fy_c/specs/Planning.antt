@@ -177,7 +177,8 @@ pub record AreOrdersOf (processes : List Locality) (plan : Plan) (seed actor cou
   pub turns : length acts ≡ count
   pub told : orders ≡ orders_of acts
 
--- a buffer is filled with such orders; or the number is that of no plan, or there was no memory
+-- a buffer is filled with such orders; or the number is that of no plan; or it is one's, and there
+-- was no memory
 pub data FillsWithOrders (processes : List Locality) (number seed actor : ℕ)
     (before after : List FyOrder) : Status → Type 0 where
   filled : (plan : Plan) → number ≡ plan_number plan →
@@ -185,4 +186,5 @@ pub data FillsWithOrders (processes : List Locality) (number seed actor : ℕ)
       FillsWithOrders processes number seed actor before after Done
   no_plan : ((plan : Plan) → number ≢ plan_number plan) → after ≡ before →
       FillsWithOrders processes number seed actor before after Argument
-  no_memory : after ≡ before → FillsWithOrders processes number seed actor before after NoMemory
+  no_memory : (plan : Plan) → number ≡ plan_number plan → after ≡ before →
+      FillsWithOrders processes number seed actor before after NoMemory

@@ -1,8 +1,8 @@
 //! The picture of a journal.
-ghost use Rattle.std.specs.Prelude.{Err, IfErr, IfOk, OnOk, length};
+ghost use Rattle.std.specs.Prelude.{Err, IfErr, IfOk, OnOk, IsSomeAnd, length};
 ghost use Rattle.fy_cluster.specs.Versions.{LegalUnder};
 ghost use Rattle.fy_replay.specs.Check.{ChecksOrOom};
-ghost use Rattle.fy_picture.specs.Layouts.{AreEven};
+ghost use Rattle.fy_picture.specs.Layouts.{AreEven, IsWidth};
 ghost use Rattle.fy_picture.specs.Pictures.{IsPicture};
 
 use crate::{Column, Recorder};
@@ -37,7 +37,8 @@ pub struct Picture {
 pub fn draw(alloc: Global, config: &Config, journal: &Journal) -> Result<Picture, CheckFault>
     ensures picture { IfOk result (IsPicture config.now journal.now.entries) }
     ensures even { IfOk result (λ picture.
-        AreEven (length journal.now.entries) picture.columns.items) }
+        AreEven (length journal.now.entries) picture.columns.items
+        × IsSomeAnd picture.width (IsWidth (length journal.now.entries))) }
     ensures legal { OnOk result
         (LegalUnder journal.now.version config.now journal.now.entries) }
     ensures bad { IfErr result (λ fault.

@@ -11,8 +11,11 @@ returns-in_default-clause-filled c =
 
 pub returns-in_default-plan_orders-clause-filled :
     goal.returns-in_default-plan_orders-clause-filled
-returns-in_default-plan_orders-clause-filled c =
-    (NoMemory, c.number-in_default-plan_orders.ensures, FillsWithOrders.no_memory refl)
+returns-in_default-plan_orders-clause-filled c = (
+  NoMemory,
+  c.number-in_default-plan_orders.ensures,
+  FillsWithOrders.no_memory c.in-Some.plan c.in-Some.ensures.some refl,
+)
 
 pub returns-clause-filled : goal.returns-clause-filled
 returns-clause-filled c =

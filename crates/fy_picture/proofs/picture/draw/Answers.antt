@@ -1,9 +1,10 @@
 use Rattle.std.proofs.Common.{rules, ◌+◌, ◌∙◌, [], length, take, refl, sym, ap, subst}
+use Rattle.std.specs.Prelude.{IsSomeAnd}
 use Rattle.std.proofs.lemmas.List.{take_all, length-take-le}
 use Rattle.std.proofs.lemmas.Option.{slice_get_read}
 use Rattle.fy_acts.specs.declared.entry.Entry.{Entry}
 use Rattle.fy_cluster.specs.Execution.{Execution}
-use Rattle.fy_picture.specs.Layouts.{AreEven}
+use Rattle.fy_picture.specs.Layouts.{AreEven, IsWidth}
 use Rattle.fy_picture.specs.Pictures.{IsPicture}
 use Rattle.fy_picture.specs.Recording.{HasRecorded, Recording}
 use Rattle.fy_picture.proofs.Recorders.{all_are_legal, all_recorded, bad_of_all, one_more_recorded, upto}
@@ -57,8 +58,9 @@ returns-clause-even c =
     let entries = c.args.journal.now.entries in
     let all = take_all c.loop-entry.entry-index entries (search rules) in
     let is = all_recorded c.args.config.now (take c.loop-entry.entry-index entries) c.loop-entry.recorder c.loop-entry.invariant.0 c.loop-entry.invariant.1 in
-    subst (λ (x : Execution). AreEven (length x.journal) c.in_ok-finish.field-0.columns.items) (is ∙ ap (upto c.args.config.now) all)
-    (c.in_ok-finish.ensures.even c.loop-entry.invariant.2).0
+    let picture = c.in_ok-finish.field-0 in
+    subst (λ (x : Execution). AreEven (length x.journal) picture.columns.items × IsSomeAnd picture.width (IsWidth (length x.journal)))
+    (is ∙ ap (upto c.args.config.now) all) (c.in_ok-finish.ensures.even c.loop-entry.invariant.2)
 
 pub returns-clause-legal : goal.returns-clause-legal
 returns-clause-legal c =
