@@ -30,6 +30,10 @@ type events struct {
 	// buffer has what isn't in the file yet.
 	buffer []byte
 	keyed  bool // a key is in the buffer
+	// taken is what a writer writes next, or wrote last.
+	taken   []byte
+	isTaken bool
+	hasKeys bool // in what is taken
 }
 
 // openEvents reads the file beside an audit of so many entries, and cuts what goes beyond them.
@@ -112,7 +116,9 @@ func (its *events) read(count int) (whole int64, err error) {
 		}
 		switch {
 		case whole == 0 && event.Began != nil:
-			its.begun = time.UnixMilli(int64(*event.Began * 1000))
+			// Behind it a clock that is set changes nothing: what is kept goes by the monotonic one.
+			now := time.Now()
+			its.begun = now.Add(time.UnixMilli(int64(*event.Began * 1000)).Sub(now))
 		case whole == 0 || event.Entry == nil, *event.Entry < next, count <= *event.Entry:
 			return whole, nil
 		default:
@@ -159,18 +165,24 @@ func appendTime(text []byte, seconds float64) []byte {
 	return append(text, byte('0'+rest/100), byte('0'+rest/10%10), byte('0'+rest%10))
 }
 
-// write brings the keys to the disk. Times alone are written once there are many.
+// take takes what a write has to bring to the file: keys, and times once there are many.
+func (its *events) take() {
+	its.isTaken, its.hasKeys = its.keyed || len(its.buffer) >= fullBuffer, its.keyed
+	if its.isTaken {
+		its.buffer, its.taken = its.taken[:0], its.buffer
+		its.keyed = false
+	}
+}
+
+// write brings what was taken to the file, and keys to the disk.
 func (its *events) write() error {
-	if !its.keyed && len(its.buffer) < fullBuffer {
+	if !its.isTaken {
 		return nil
 	}
-	if err := its.flush(); err != nil {
+	its.isTaken = false
+	if _, err := its.file.Write(its.taken); err != nil || !its.hasKeys {
 		return err
 	}
-	if !its.keyed {
-		return nil
-	}
-	its.keyed = false
 	return onDisk(its.file)
 }
 
