@@ -80,18 +80,13 @@ fn ended(rt: &HostRuntime, done: Result<bool, Stop>) -> ExitCode
 
 /// Answers the asks on standard input.
 fn judge_input(rt: &HostRuntime) -> Result<bool, Stop> {
-    match run_judge(rt.alloc(), &mut rt.stdin(), &mut rt.stdout()) {
-        Ok(done) => Ok(done),
-        Err(stop) => Err(Stop::from(stop)),
-    }
+    Ok(run_judge(rt.alloc(), &mut rt.stdin(), &mut rt.stdout())?)
 }
 
 /// Runs the script on standard input on the cluster of a file.
 fn run_file(rt: &HostRuntime, path: &str) -> Result<bool, Stop> {
-    match open_config(rt, path) {
-        Ok(config) => run_script(rt.alloc(), &config, &mut rt.stdin(), &mut rt.stdout()),
-        Err(stop) => Err(stop),
-    }
+    let config = open_config(rt, path)?;
+    run_script(rt.alloc(), &config, &mut rt.stdin(), &mut rt.stdout())
 }
 
 /// Lets the actors of the cluster of a file take turns, as a seed says.
@@ -102,60 +97,44 @@ fn simulate_file(
     acts: u64,
     plan: Plan,
 ) -> Result<bool, Stop> {
-    match open_config(rt, path) {
-        Ok(config) => run_simulate(rt.alloc(), &config, seed, plan, acts, &mut rt.stdout()),
-        Err(stop) => Err(stop),
-    }
+    let config = open_config(rt, path)?;
+    run_simulate(rt.alloc(), &config, seed, plan, acts, &mut rt.stdout())
 }
 
 /// Checks the audit on standard input against the cluster of a file.
 fn check_file(rt: &HostRuntime, path: &str) -> Result<bool, Stop> {
-    match open_config(rt, path) {
-        Ok(config) => run_check(rt.alloc(), &config, &mut rt.stdin(), &mut rt.stdout()),
-        Err(stop) => Err(stop),
-    }
+    let config = open_config(rt, path)?;
+    run_check(rt.alloc(), &config, &mut rt.stdin(), &mut rt.stdout())
 }
 
 /// Draws the audit on standard input on the cluster of a file, by the times of a file of events
 /// where one is named.
 fn show_file(rt: &HostRuntime, path: &str, times: Option<&str>) -> Result<bool, Stop> {
-    let config = match open_config(rt, path) {
-        Ok(config) => config,
-        Err(stop) => return Err(stop),
-    };
+    let config = open_config(rt, path)?;
     let (alloc, mut input, mut output) = (rt.alloc(), rt.stdin(), rt.stdout());
     let Some(times) = times else {
         return run_show(alloc, &config, &mut input, &mut output);
     };
-    match open_file(rt, times) {
-        Ok(mut events) => run_show_by_time(alloc, &config, &mut input, &mut events, &mut output),
-        Err(stop) => Err(stop),
-    }
+    let mut events = open_file(rt, times)?;
+    run_show_by_time(alloc, &config, &mut input, &mut events, &mut output)
 }
 
 /// Says what the cluster of a file bears, after an audit where one is named.
 fn bears_file(rt: &HostRuntime, path: &str, form: Form, after: Option<&str>) -> Result<bool, Stop> {
-    let config = match open_config(rt, path) {
-        Ok(config) => config,
-        Err(stop) => return Err(stop),
-    };
+    let config = open_config(rt, path)?;
     let Some(after) = after else {
         return run_bears(rt.alloc(), &config, &form, &mut rt.stdout());
     };
-    match open_file(rt, after) {
-        Ok(mut audit) => run_bears_after(rt.alloc(), &config, &form, &mut audit, &mut rt.stdout()),
-        Err(stop) => Err(stop),
-    }
+    let mut audit = open_file(rt, after)?;
+    run_bears_after(rt.alloc(), &config, &form, &mut audit, &mut rt.stdout())
 }
 
 /// Answers the script on standard input, line by line, on the cluster of a file.
 fn guard_file(rt: &HostRuntime, path: &str) -> Result<bool, Stop> {
-    let config = match open_config(rt, path) {
-        Ok(config) => config,
-        Err(stop) => return Err(stop),
-    };
+    let config = open_config(rt, path)?;
     let alloc = rt.alloc();
-    // It holds what `read` gave beyond a line, and waits for no more than there is.
+    // It holds what `read` gave beyond a line, and waits for no more than there is. Its making
+    // fails for want of memory alone, which the type of its error doesn't say.
     let Ok(mut lines) = BufReader::new(alloc, rt.stdin()) else {
         return Err(Stop::NoMemory);
     };
@@ -235,10 +214,8 @@ fn unopened(kind: ErrorKind) -> Stop
 fn open_config(rt: &HostRuntime, path: &str) -> Result<Config, Stop>
     ensures { IfErr result IsConfigStop }
 {
-    match open_file(rt, path) {
-        Ok(mut file) => load_config(rt.alloc(), &mut file),
-        Err(stop) => Err(stop),
-    }
+    let mut file = open_file(rt, path)?;
+    load_config(rt.alloc(), &mut file)
 }
 
 /// The words of the command line, the program's name first, or the status to end with.

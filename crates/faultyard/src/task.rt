@@ -310,10 +310,7 @@ pub fn read_task<'a>(alloc: Global, words: &'a [String]) -> Result<Task<'a>, cla
         (IsTaskOf (subcommand_of faultyard_command (map string_bytes words.now))) }
     ensures refused { FailsBy (fault_of faultyard_command (map string_bytes words.now)) result }
 {
-    let matches = match faultyard(alloc)?.try_get_matches_from(words) {
-        Ok(matches) => matches,
-        Err(error) => return Err(error),
-    };
+    let matches = faultyard(alloc)?.try_get_matches_from(words)?;
     let Some((name, given)) = matches.subcommand() else {
         unreachable!();
     };

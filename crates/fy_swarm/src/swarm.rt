@@ -152,12 +152,8 @@ fn run_all_actors<R: Threads + Wait + Sync>(
     ensures swarm { IfOk result (λ cluster. IsSwarm config.now seed cluster.journal) }
     ensures no_other { IfErr result (λ stop. stop ≡ Stop.NoMemory) }
 {
-    let Ok((shared, seats)) = open(alloc, config) else {
-        return Err(Stop::NoMemory);
-    };
-    let Ok(seats) = run_players(rt, alloc, config, seed, &shared, seats) else {
-        return Err(Stop::NoMemory);
-    };
+    let (shared, seats) = open(alloc, config)?;
+    let seats = run_players(rt, alloc, config, seed, &shared, seats)?;
     parts_are_kept();
     close(shared, seats)
 }
@@ -197,12 +193,6 @@ pub fn run_swarm<R: Threads + Wait + Sync, W: Write>(
         (AppendsProperPrefix (W.contents writer.old) (W.contents writer.new)) }
     ensures no_other { IfErr result IsOutputStop }
 {
-    let cluster = match run_all_actors(rt, alloc, config, seed) {
-        Ok(cluster) => cluster,
-        Err(stop) => return Err(stop),
-    };
-    match write_audit(alloc, cluster.journal(), writer) {
-        Ok(done) => Ok(done),
-        Err(stop) => Err(stop),
-    }
+    let cluster = run_all_actors(rt, alloc, config, seed)?;
+    write_audit(alloc, cluster.journal(), writer)
 }

@@ -1,119 +1,123 @@
 use Rattle.std.proofs.Common.{inl, inr, map}
 use Rattle.std.specs.Prelude.{string_bytes}
+use Rattle.std.proofs.lemmas.Result.{err_from_is_err_and}
 use Rattle.faultyard.proofs.CommandLemmas.{faultless, fails_by, has_config, has_seed, is_task_of, met_task}
 use Rattle.faultyard.specs.declared.task.Task.TheVariants.{Judge, Run, Check, Swarm, Simulate, Guard, Show, Bears}
 use Rattle.faultyard.proofs.task.read_task.Goals as goal
 
 pub returns-in-judge-clause-refused : goal.returns-in-judge-clause-refused
-returns-in-judge-clause-refused c = faultless _ (map string_bytes c.args.words.now) c.in_ok-faultyard.ensures c.in-Ok.ensures.kinds
+returns-in-judge-clause-refused c = faultless _ (map string_bytes c.args.words.now) c.in_ok-faultyard.ensures c.in_ok-matches.ensures.kinds
 
 pub returns-in-run-clause-refused : goal.returns-in-run-clause-refused
-returns-in-run-clause-refused c = faultless _ (map string_bytes c.args.words.now) c.in_ok-faultyard.ensures c.in-Ok.ensures.kinds
+returns-in-run-clause-refused c = faultless _ (map string_bytes c.args.words.now) c.in_ok-faultyard.ensures c.in_ok-matches.ensures.kinds
 
 pub returns-in-check-clause-refused : goal.returns-in-check-clause-refused
-returns-in-check-clause-refused c = faultless _ (map string_bytes c.args.words.now) c.in_ok-faultyard.ensures c.in-Ok.ensures.kinds
+returns-in-check-clause-refused c = faultless _ (map string_bytes c.args.words.now) c.in_ok-faultyard.ensures c.in_ok-matches.ensures.kinds
 
 pub returns-in-swarm-clause-refused : goal.returns-in-swarm-clause-refused
-returns-in-swarm-clause-refused c = faultless _ (map string_bytes c.args.words.now) c.in_ok-faultyard.ensures c.in-Ok.ensures.kinds
+returns-in-swarm-clause-refused c = faultless _ (map string_bytes c.args.words.now) c.in_ok-faultyard.ensures c.in_ok-matches.ensures.kinds
 
 pub returns-in-simulate-clause-refused : goal.returns-in-simulate-clause-refused
-returns-in-simulate-clause-refused c = faultless _ (map string_bytes c.args.words.now) c.in_ok-faultyard.ensures c.in-Ok.ensures.kinds
+returns-in-simulate-clause-refused c = faultless _ (map string_bytes c.args.words.now) c.in_ok-faultyard.ensures c.in_ok-matches.ensures.kinds
 
 pub returns-in-guard-clause-refused : goal.returns-in-guard-clause-refused
-returns-in-guard-clause-refused c = faultless _ (map string_bytes c.args.words.now) c.in_ok-faultyard.ensures c.in-Ok.ensures.kinds
+returns-in-guard-clause-refused c = faultless _ (map string_bytes c.args.words.now) c.in_ok-faultyard.ensures c.in_ok-matches.ensures.kinds
 
 pub returns-in-show-clause-refused : goal.returns-in-show-clause-refused
-returns-in-show-clause-refused c = faultless _ (map string_bytes c.args.words.now) c.in_ok-faultyard.ensures c.in-Ok.ensures.kinds
+returns-in-show-clause-refused c = faultless _ (map string_bytes c.args.words.now) c.in_ok-faultyard.ensures c.in_ok-matches.ensures.kinds
 
 pub returns-in-bears-clause-refused : goal.returns-in-bears-clause-refused
-returns-in-bears-clause-refused c = faultless _ (map string_bytes c.args.words.now) c.in_ok-faultyard.ensures c.in-Ok.ensures.kinds
+returns-in-bears-clause-refused c = faultless _ (map string_bytes c.args.words.now) c.in_ok-faultyard.ensures c.in_ok-matches.ensures.kinds
 
-pub returns-in-Err-clause-refused : goal.returns-in-Err-clause-refused
-returns-in-Err-clause-refused c = fails_by _ (map string_bytes c.args.words.now) c.in-Err.error c.in_ok-faultyard.ensures c.in-Err.ensures.kinds
+pub returns-in_err-matches-clause-refused : goal.returns-in_err-matches-clause-refused
+returns-in_err-matches-clause-refused c =
+    let p = err_from_is_err_and c.from_residual-in_err-matches.result c.from_residual-in_err-matches.ensures.1 in
+    rw (p.1, p.2)
+    (fails_by _ (map string_bytes c.args.words.now) c.in_err-matches.field-0.0 c.in_ok-faultyard.ensures c.in_err-matches.ensures.kinds)
 
 pub returns-in-judge-clause-task : goal.returns-in-judge-clause-task
-returns-in-judge-clause-task c = is_task_of _ (map string_bytes c.args.words.now) c.in-Ok.matches c.in-Some.name.now c.in-Some.given.now Judge c.in_ok-faultyard.ensures
-    c.in-Ok.ensures.matches c.in-Some.ensures.name c.in-Some.ensures.rows c.in-judge.is
+returns-in-judge-clause-task c = is_task_of _ (map string_bytes c.args.words.now) c.in_ok-matches.matches c.in-Some.name.now c.in-Some.given.now Judge c.in_ok-faultyard.ensures
+    c.in_ok-matches.ensures.matches c.in-Some.ensures.name c.in-Some.ensures.rows c.in-judge.is
 
 pub returns-in-run-clause-task : goal.returns-in-run-clause-task
-returns-in-run-clause-task c = is_task_of _ (map string_bytes c.args.words.now) c.in-Ok.matches c.in-Some.name.now c.in-Some.given.now (Run c.config_of.result) c.in_ok-faultyard.ensures
-    c.in-Ok.ensures.matches c.in-Some.ensures.name c.in-Some.ensures.rows (c.in-run.is, c.config_of.ensures)
+returns-in-run-clause-task c = is_task_of _ (map string_bytes c.args.words.now) c.in_ok-matches.matches c.in-Some.name.now c.in-Some.given.now (Run c.config_of.result) c.in_ok-faultyard.ensures
+    c.in_ok-matches.ensures.matches c.in-Some.ensures.name c.in-Some.ensures.rows (c.in-run.is, c.config_of.ensures)
 
 pub returns-in-check-clause-task : goal.returns-in-check-clause-task
-returns-in-check-clause-task c = is_task_of _ (map string_bytes c.args.words.now) c.in-Ok.matches c.in-Some.name.now c.in-Some.given.now (Check c.config_of-in-check.result) c.in_ok-faultyard.ensures
-    c.in-Ok.ensures.matches c.in-Some.ensures.name c.in-Some.ensures.rows (c.in-check.is, c.config_of-in-check.ensures)
+returns-in-check-clause-task c = is_task_of _ (map string_bytes c.args.words.now) c.in_ok-matches.matches c.in-Some.name.now c.in-Some.given.now (Check c.config_of-in-check.result) c.in_ok-faultyard.ensures
+    c.in_ok-matches.ensures.matches c.in-Some.ensures.name c.in-Some.ensures.rows (c.in-check.is, c.config_of-in-check.ensures)
 
 pub returns-in-swarm-clause-task : goal.returns-in-swarm-clause-task
-returns-in-swarm-clause-task c = is_task_of _ (map string_bytes c.args.words.now) c.in-Ok.matches c.in-Some.name.now c.in-Some.given.now (Swarm c.config_of-in-swarm.result c.seed_of.result) c.in_ok-faultyard.ensures
-    c.in-Ok.ensures.matches c.in-Some.ensures.name c.in-Some.ensures.rows (c.in-swarm.is, c.config_of-in-swarm.ensures, c.seed_of.ensures)
+returns-in-swarm-clause-task c = is_task_of _ (map string_bytes c.args.words.now) c.in_ok-matches.matches c.in-Some.name.now c.in-Some.given.now (Swarm c.config_of-in-swarm.result c.seed_of.result) c.in_ok-faultyard.ensures
+    c.in_ok-matches.ensures.matches c.in-Some.ensures.name c.in-Some.ensures.rows (c.in-swarm.is, c.config_of-in-swarm.ensures, c.seed_of.ensures)
 
 pub returns-in-simulate-clause-task : goal.returns-in-simulate-clause-task
-returns-in-simulate-clause-task c = is_task_of _ (map string_bytes c.args.words.now) c.in-Ok.matches c.in-Some.name.now c.in-Some.given.now
+returns-in-simulate-clause-task c = is_task_of _ (map string_bytes c.args.words.now) c.in_ok-matches.matches c.in-Some.name.now c.in-Some.given.now
     (Simulate c.config_of-in-simulate.result c.seed_of-in-simulate.result c.acts_of.result c.plan_of.result) c.in_ok-faultyard.ensures
-    c.in-Ok.ensures.matches c.in-Some.ensures.name c.in-Some.ensures.rows
+    c.in_ok-matches.ensures.matches c.in-Some.ensures.name c.in-Some.ensures.rows
     (c.in-simulate.is, c.config_of-in-simulate.ensures, c.seed_of-in-simulate.ensures, c.acts_of.ensures, c.plan_of.ensures)
 
 pub returns-in-guard-clause-task : goal.returns-in-guard-clause-task
-returns-in-guard-clause-task c = is_task_of _ (map string_bytes c.args.words.now) c.in-Ok.matches c.in-Some.name.now c.in-Some.given.now (Guard c.config_of-in-guard.result c.after_of.result) c.in_ok-faultyard.ensures
-    c.in-Ok.ensures.matches c.in-Some.ensures.name c.in-Some.ensures.rows (c.in-guard.is, c.config_of-in-guard.ensures, c.after_of.ensures)
+returns-in-guard-clause-task c = is_task_of _ (map string_bytes c.args.words.now) c.in_ok-matches.matches c.in-Some.name.now c.in-Some.given.now (Guard c.config_of-in-guard.result c.after_of.result) c.in_ok-faultyard.ensures
+    c.in_ok-matches.ensures.matches c.in-Some.ensures.name c.in-Some.ensures.rows (c.in-guard.is, c.config_of-in-guard.ensures, c.after_of.ensures)
 
 pub returns-in-show-clause-task : goal.returns-in-show-clause-task
-returns-in-show-clause-task c = is_task_of _ (map string_bytes c.args.words.now) c.in-Ok.matches c.in-Some.name.now c.in-Some.given.now (Show c.config_of-in-show.result c.times_of.result) c.in_ok-faultyard.ensures
-    c.in-Ok.ensures.matches c.in-Some.ensures.name c.in-Some.ensures.rows (c.in-show.is, c.config_of-in-show.ensures, c.times_of.ensures)
+returns-in-show-clause-task c = is_task_of _ (map string_bytes c.args.words.now) c.in_ok-matches.matches c.in-Some.name.now c.in-Some.given.now (Show c.config_of-in-show.result c.times_of.result) c.in_ok-faultyard.ensures
+    c.in_ok-matches.ensures.matches c.in-Some.ensures.name c.in-Some.ensures.rows (c.in-show.is, c.config_of-in-show.ensures, c.times_of.ensures)
 
 pub returns-in-bears-clause-task : goal.returns-in-bears-clause-task
-returns-in-bears-clause-task c = is_task_of _ (map string_bytes c.args.words.now) c.in-Ok.matches c.in-Some.name.now c.in-Some.given.now (Bears c.config_of-in-bears.result c.form_of.result c.after_of-in-bears.result) c.in_ok-faultyard.ensures
-    c.in-Ok.ensures.matches c.in-Some.ensures.name c.in-Some.ensures.rows (c.in-bears.is, c.config_of-in-bears.ensures, c.form_of.ensures, c.after_of-in-bears.ensures)
+returns-in-bears-clause-task c = is_task_of _ (map string_bytes c.args.words.now) c.in_ok-matches.matches c.in-Some.name.now c.in-Some.given.now (Bears c.config_of-in-bears.result c.form_of.result c.after_of-in-bears.result) c.in_ok-faultyard.ensures
+    c.in_ok-matches.ensures.matches c.in-Some.ensures.name c.in-Some.ensures.rows (c.in-bears.is, c.config_of-in-bears.ensures, c.form_of.ensures, c.after_of-in-bears.ensures)
 
 pub config_of-requires-in-check : goal.config_of-requires-in-check
 config_of-requires-in-check c = has_config c.in-Some.name.now c.in-Some.given.now c.in-check.not-judge
-    (met_task _ (map string_bytes c.args.words.now) c.in-Ok.matches c.in-Some.name.now c.in-Some.given.now c.in_ok-faultyard.ensures
-    c.in-Ok.ensures.kinds c.in-Ok.ensures.matches c.in-Some.ensures.name c.in-Some.ensures.rows)
+    (met_task _ (map string_bytes c.args.words.now) c.in_ok-matches.matches c.in-Some.name.now c.in-Some.given.now c.in_ok-faultyard.ensures
+    c.in_ok-matches.ensures.kinds c.in_ok-matches.ensures.matches c.in-Some.ensures.name c.in-Some.ensures.rows)
 
 pub config_of-requires-in-swarm : goal.config_of-requires-in-swarm
 config_of-requires-in-swarm c = has_config c.in-Some.name.now c.in-Some.given.now c.in-swarm.not-judge
-    (met_task _ (map string_bytes c.args.words.now) c.in-Ok.matches c.in-Some.name.now c.in-Some.given.now c.in_ok-faultyard.ensures
-    c.in-Ok.ensures.kinds c.in-Ok.ensures.matches c.in-Some.ensures.name c.in-Some.ensures.rows)
+    (met_task _ (map string_bytes c.args.words.now) c.in_ok-matches.matches c.in-Some.name.now c.in-Some.given.now c.in_ok-faultyard.ensures
+    c.in_ok-matches.ensures.kinds c.in_ok-matches.ensures.matches c.in-Some.ensures.name c.in-Some.ensures.rows)
 
 pub config_of-requires-in-simulate : goal.config_of-requires-in-simulate
 config_of-requires-in-simulate c = has_config c.in-Some.name.now c.in-Some.given.now c.in-simulate.not-judge
-    (met_task _ (map string_bytes c.args.words.now) c.in-Ok.matches c.in-Some.name.now c.in-Some.given.now c.in_ok-faultyard.ensures
-    c.in-Ok.ensures.kinds c.in-Ok.ensures.matches c.in-Some.ensures.name c.in-Some.ensures.rows)
+    (met_task _ (map string_bytes c.args.words.now) c.in_ok-matches.matches c.in-Some.name.now c.in-Some.given.now c.in_ok-faultyard.ensures
+    c.in_ok-matches.ensures.kinds c.in_ok-matches.ensures.matches c.in-Some.ensures.name c.in-Some.ensures.rows)
 
 pub seed_of-requires-in-simulate : goal.seed_of-requires-in-simulate
 seed_of-requires-in-simulate c = has_seed c.in-Some.name.now c.in-Some.given.now (inr c.in-simulate.is)
-    (met_task _ (map string_bytes c.args.words.now) c.in-Ok.matches c.in-Some.name.now c.in-Some.given.now c.in_ok-faultyard.ensures
-    c.in-Ok.ensures.kinds c.in-Ok.ensures.matches c.in-Some.ensures.name c.in-Some.ensures.rows)
+    (met_task _ (map string_bytes c.args.words.now) c.in_ok-matches.matches c.in-Some.name.now c.in-Some.given.now c.in_ok-faultyard.ensures
+    c.in_ok-matches.ensures.kinds c.in_ok-matches.ensures.matches c.in-Some.ensures.name c.in-Some.ensures.rows)
 
 pub config_of-requires-in-guard : goal.config_of-requires-in-guard
 config_of-requires-in-guard c = has_config c.in-Some.name.now c.in-Some.given.now c.in-guard.not-judge
-    (met_task _ (map string_bytes c.args.words.now) c.in-Ok.matches c.in-Some.name.now c.in-Some.given.now c.in_ok-faultyard.ensures
-    c.in-Ok.ensures.kinds c.in-Ok.ensures.matches c.in-Some.ensures.name c.in-Some.ensures.rows)
+    (met_task _ (map string_bytes c.args.words.now) c.in_ok-matches.matches c.in-Some.name.now c.in-Some.given.now c.in_ok-faultyard.ensures
+    c.in_ok-matches.ensures.kinds c.in_ok-matches.ensures.matches c.in-Some.ensures.name c.in-Some.ensures.rows)
 
 pub config_of-requires-in-show : goal.config_of-requires-in-show
 config_of-requires-in-show c = has_config c.in-Some.name.now c.in-Some.given.now c.in-show.not-judge
-    (met_task _ (map string_bytes c.args.words.now) c.in-Ok.matches c.in-Some.name.now c.in-Some.given.now c.in_ok-faultyard.ensures
-    c.in-Ok.ensures.kinds c.in-Ok.ensures.matches c.in-Some.ensures.name c.in-Some.ensures.rows)
+    (met_task _ (map string_bytes c.args.words.now) c.in_ok-matches.matches c.in-Some.name.now c.in-Some.given.now c.in_ok-faultyard.ensures
+    c.in_ok-matches.ensures.kinds c.in_ok-matches.ensures.matches c.in-Some.ensures.name c.in-Some.ensures.rows)
 
 pub config_of-requires-in-bears : goal.config_of-requires-in-bears
 config_of-requires-in-bears c = has_config c.in-Some.name.now c.in-Some.given.now c.in-bears.not-judge
-    (met_task _ (map string_bytes c.args.words.now) c.in-Ok.matches c.in-Some.name.now c.in-Some.given.now c.in_ok-faultyard.ensures
-    c.in-Ok.ensures.kinds c.in-Ok.ensures.matches c.in-Some.ensures.name c.in-Some.ensures.rows)
+    (met_task _ (map string_bytes c.args.words.now) c.in_ok-matches.matches c.in-Some.name.now c.in-Some.given.now c.in_ok-faultyard.ensures
+    c.in_ok-matches.ensures.kinds c.in_ok-matches.ensures.matches c.in-Some.ensures.name c.in-Some.ensures.rows)
 
 pub seed_of-requires : goal.seed_of-requires
 seed_of-requires c = has_seed c.in-Some.name.now c.in-Some.given.now (inl c.in-swarm.is)
-    (met_task _ (map string_bytes c.args.words.now) c.in-Ok.matches c.in-Some.name.now c.in-Some.given.now c.in_ok-faultyard.ensures
-    c.in-Ok.ensures.kinds c.in-Ok.ensures.matches c.in-Some.ensures.name c.in-Some.ensures.rows)
+    (met_task _ (map string_bytes c.args.words.now) c.in_ok-matches.matches c.in-Some.name.now c.in-Some.given.now c.in_ok-faultyard.ensures
+    c.in_ok-matches.ensures.kinds c.in_ok-matches.ensures.matches c.in-Some.ensures.name c.in-Some.ensures.rows)
 
 pub config_of-requires : goal.config_of-requires
 config_of-requires c = has_config c.in-Some.name.now c.in-Some.given.now c.in-run.not-judge
-    (met_task _ (map string_bytes c.args.words.now) c.in-Ok.matches c.in-Some.name.now c.in-Some.given.now c.in_ok-faultyard.ensures
-    c.in-Ok.ensures.kinds c.in-Ok.ensures.matches c.in-Some.ensures.name c.in-Some.ensures.rows)
+    (met_task _ (map string_bytes c.args.words.now) c.in_ok-matches.matches c.in-Some.name.now c.in-Some.given.now c.in_ok-faultyard.ensures
+    c.in_ok-matches.ensures.kinds c.in_ok-matches.ensures.matches c.in-Some.ensures.name c.in-Some.ensures.rows)
 
 pub unreachable-requires-in_default-name : goal.unreachable-requires-in_default-name
 unreachable-requires-in_default-name c =
-    let task = met_task _ (map string_bytes c.args.words.now) c.in-Ok.matches c.in-Some.name.now c.in-Some.given.now c.in_ok-faultyard.ensures
-    c.in-Ok.ensures.kinds c.in-Ok.ensures.matches c.in-Some.ensures.name c.in-Some.ensures.rows in
+    let task = met_task _ (map string_bytes c.args.words.now) c.in_ok-matches.matches c.in-Some.name.now c.in-Some.given.now c.in_ok-faultyard.ensures
+    c.in_ok-matches.ensures.kinds c.in_ok-matches.ensures.matches c.in-Some.ensures.name c.in-Some.ensures.rows in
     elim task [
       | inl judge ↦ absurd (c.in_default-name.not-judge judge)
       | inr has ↦ elim has.0 [
