@@ -158,6 +158,13 @@ func (book *Book) Patience() time.Duration {
 	return patience(book.last)
 }
 
+// IsQuick says whether the last sync took so little that nobody has to be waited for.
+func (book *Book) IsQuick() bool {
+	book.lock.Lock()
+	defer book.lock.Unlock()
+	return book.last > 0 && patience(book.last) == 0
+}
+
 func patience(last time.Duration) time.Duration {
 	if patience := last / gatherPart; patience >= leastGather {
 		return patience

@@ -105,7 +105,7 @@ func (its *loop) add(connection net.Conn) error {
 	client.output = append(client.output, book.Header...)
 	client.canBeHeard = canBeHeard(descriptor)
 	if err = client.send(); err == nil {
-		err = its.watch(client, syscall.EPOLL_CTL_ADD)
+		err = its.watch(client, syscall.EPOLL_CTL_ADD, syscall.EPOLLIN)
 	}
 	if err != nil {
 		_ = syscall.Close(descriptor)
@@ -118,16 +118,29 @@ func (its *loop) add(connection net.Conn) error {
 	return nil
 }
 
-// watch has epoll tell when a client can be read, or where it has to read, written to.
-func (its *loop) watch(client *client, how int) error {
-	event := syscall.EpollEvent{Events: syscall.EPOLLIN, Fd: int32(client.descriptor)}
+// count is how many clients it serves.
+func (its *loop) count() int {
+	its.lock.Lock()
+	defer its.lock.Unlock()
+	return len(its.clients)
+}
+
+// watch has epoll tell of events of a client.
+func (its *loop) watch(client *client, how int, events uint32) error {
+	event := syscall.EpollEvent{Events: events, Fd: int32(client.descriptor)}
+	return syscall.EpollCtl(its.poll, how, client.descriptor, &event)
+}
+
+// watchAgain has it tell what a client waits for now.
+func (its *loop) watchAgain(client *client) error {
+	events := uint32(syscall.EPOLLIN)
 	switch {
 	case client.isFull:
-		event.Events = syscall.EPOLLOUT
+		events = syscall.EPOLLOUT
 	case client == its.heard:
-		event.Events |= edge | syscall.EPOLLRDHUP
+		events |= edge | syscall.EPOLLRDHUP
 	}
-	return syscall.EpollCtl(its.poll, how, client.descriptor, &event)
+	return its.watch(client, syscall.EPOLL_CTL_MOD, events)
 }
 
 // taken is the descriptor of a connection, out of the runtime's hands.
@@ -186,7 +199,7 @@ func (its *loop) hear() error {
 	if client == nil {
 		client = last
 	}
-	return its.watch(client, syscall.EPOLL_CTL_MOD)
+	return its.watchAgain(client)
 }
 
 // alone is the client where nobody else is connected. The lock is held.
@@ -382,7 +395,7 @@ func (its *loop) finish(client *client) {
 	if isFull := len(client.output) > 0; err == nil && isFull != client.isFull {
 		client.isFull = isFull
 		if client != its.heard || isFull {
-			err = its.watch(client, syscall.EPOLL_CTL_MOD)
+			err = its.watchAgain(client)
 		}
 	}
 	if err != nil {
