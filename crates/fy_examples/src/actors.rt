@@ -5,7 +5,7 @@ use fy_actors::{
 };
 use fy_acts::{Act, Reply};
 use fy_cluster::Cluster;
-use fy_kinds::{Kind, Rule};
+use fy_kinds::{Kind, Rule, Target};
 use fy_locality::{Map, ProcId};
 use std::test::Fail;
 
@@ -43,7 +43,8 @@ fn plans_are_acts(rt: HostRuntime) -> Result<(), Fail> {
     let plan = SwizzlePlan { clogs, frees };
     let acts = swizzle_acts(alloc, &map, &plan, 10)?;
     assert!(rt; acts.first() == Some(&Act::Clog { target, ticks: 10 }));
-    let machines = [target.value];
+    let Target { key: _, value } = process_target(&map, p0);
+    let machines = [value];
     let kills = attrition_acts(alloc, &machines, Kind::KillInstantly, Kind::Reboot, 0)?;
     assert_eq!(rt; kills.len(), 1);
     Ok(())

@@ -6,8 +6,9 @@ as, constants, definitions, lemmas, of its own crate and of the crates below; wh
 turn, and so on. Of a lemma it is what that states: its proof is the gate's to check. A search uses
 no lemma that isn't named, by an answer or an attribute. A name counts wherever it stands, so the
 digest may name more than the prover reads, and not less. Functions whose calls lead back to
-themselves have one proof, so the bodies of all are part of it. Comments and tests are no part of
-it. The layout that is read is that of rt fmt.
+themselves have one proof, so the bodies of all are part of it. Of a type that has a model, a crate
+above sees what it is seen as, and neither its fields nor how these make it. Comments and tests are
+no part of it. The layout that is read is that of rt fmt.
 """
 import hashlib, os, re, subprocess, textwrap
 from functools import cache
@@ -27,6 +28,7 @@ UNNAMED = re.compile(
 )
 FUNCTION = re.compile(r"(?:pub(?:\([\w :]+\))? )?(?:const )?(?:unsafe )?(?:extern \"C\" )?fn (\w+)")
 CYCLE = re.compile(r"#\[cycle\((\w+)\)\]")
+MODELLED = re.compile(r"(?m)^impl\b.*\bModel for (\w+)")
 # What can stand before the name of a definition. The body of one without any, or with `pub` alone,
 # is not seen elsewhere.
 MARK = r"(?:abbrev|axiom|data|infix[lr]? \d+|opaque|private|pub|record|ruleset|unfoldable)"
@@ -39,10 +41,12 @@ MUTUAL = re.compile(r"(?:\w+ )*mutual\n")
 
 class Part:
     """A piece of a text: the names by which others name it (none: all of its crate depend on it),
-    what it says to them, and whether a crate above can depend on it."""
+    what it says to them, and whether a crate above can depend on it. One that is said elsewhere
+    too, by its type, is reached by no name."""
 
-    def __init__(self, names, text, is_public, body=""):
+    def __init__(self, names, text, is_public, body="", is_said_elsewhere=False):
         self.names, self.text, self.is_public, self.body = frozenset(names), text, is_public, body
+        self.is_said_elsewhere = is_said_elsewhere
         self.words, self.imports = frozenset(WORD.findall(text)), []
 
 
@@ -86,11 +90,29 @@ def parted(function, indent):
     return function, ""
 
 
-def parts_of_source(text):
-    """The parts of a file of src/, and its imports."""
+def seen_above(block, head, modelled):
+    """What a crate above sees of an item: of a type with a value of its own, and no field that is
+    public, the value."""
+    model = MODELLED.match(head)
+    if model and model[1] in modelled:
+        inner = block.split("\n")[block.split("\n").index(head) + 1 : -1]
+        seen = [it for it in blocks_of(inner, 4) if it.lstrip().startswith("ghost Value")]
+        return "\n".join([head, *seen, "}"])
+    named = re.match(r"(?:pub )?struct (\w+)", head)
+    if named and named[1] in modelled:
+        return block[: block.index(head)] + head.removesuffix(";").removesuffix("{").rstrip() + ";"
+    return block
+
+
+def parts_of_source(text, modelled=None):
+    """The parts of a file of src/, and its imports; for a crate above, where the types that have a
+    model are given."""
     imports, parts = [], []
     for block in blocks_of(without_comments(text).split("\n"), 0):
         head = first_line(block, 0)
+        if modelled is not None:
+            block = seen_above(block, head, modelled)
+            head = first_line(block, 0)
         kind = MARGIN_ITEM.match(head)
         kind = kind[1] if kind else ""
         if kind in ("use", "ghost use"):
@@ -109,6 +131,12 @@ def parts_of_source(text):
         elif kind != "mod" or block != head or block.endswith("}"):
             parts.append(Part((), block, True))
     return parts, imports
+
+
+def ghosts_in(items):
+    """The ghost members among the items of a trait or an impl."""
+    found = (re.match(r"\s*(?:pub )?ghost (\w+)", it) for it in items)
+    return {it[1] for it in found if it and it[1] != "use"}
 
 
 def parts_of_block(head, block, kind):
@@ -143,11 +171,16 @@ def parts_of_block(head, block, kind):
     if of_trait:
         trait = re.match(r"(?:unsafe )?impl(?:<[^>]*>)? (.*?) for ", head)
         if not trait or UNNAMED.match(trait[1]):
+            # whoever has a value of the type has it from what names the type
+            for part in parts:
+                part.is_said_elsewhere = trait is not None
+            names = {owner} if trait else {owner, *ghosts_in(rest)}
             return [
-                Part({owner}, "\n".join([head_of_all, *rest, *(it.text for it in parts)]), True),
+                Part(names, "\n".join([head_of_all, *rest, *(it.text for it in parts)]), True),
                 *parts,
             ]
-        names = {owner, re.match(r"(?:\w+::)*(\w+)", trait[1])[1]}
+        # whoever uses a trait names it, a function of it, or a ghost of it
+        names = {re.match(r"(?:\w+::)*(\w+)", trait[1])[1], *ghosts_in(rest)}
         return [Part(names, "\n".join([head_of_all, *rest]), True), *parts]
     if rest:
         parts.append(Part({owner}, "\n".join([head_of_all, *rest]), True))
@@ -242,15 +275,33 @@ def with_imports(parts, imports):
 
 
 @cache
-def parts_of(crate, folders):
-    """The parts of these folders of a crate; of answers, which are those of one function, none."""
-    found = []
+def modelled_in(crate):
+    """The types of a crate whose model is a value of its own, and that have no public field."""
+    texts = (without_comments(read(file)) for file in files_of(f"crates/{crate}", ("src",)))
+    blocks = [it for text in texts for it in blocks_of(text.split("\n"), 0)]
+    valued = {found[1] for it in blocks if (found := MODELLED.search(it)) and "ghost Value" in it}
+    is_open = re.compile(r"(?m)^    pub \w+:|\(pub ")
+    opened = {
+        found[1]
+        for it in blocks
+        if (found := re.search(r"(?m)^(?:pub )?struct (\w+)", it)) and is_open.search(it)
+    }
+    return frozenset(valued - opened)
+
+
+@cache
+def parts_of(crate, folders, is_above=False):
+    """The parts of these folders of a crate, or what a crate above sees of them; of answers, which
+    are those of one function, none."""
+    found, modelled = [], modelled_in(crate) if is_above else None
     for file in files_of(f"crates/{crate}", folders):
         folder = file.split("/")[2]
         if folder != "proofs" or file.count("/") == 3:
             text = without_tests(file, read(file))
             parts, imports = (
-                parts_of_source(text) if folder == "src" else definitions(text, folder == "proofs")
+                parts_of_source(text, modelled)
+                if folder == "src"
+                else definitions(text, folder == "proofs")
             )
             found += with_imports(parts, imports)
     return found
@@ -288,7 +339,7 @@ def kit():
 
 def said_to(crate, below):
     """What the crates below say to a crate."""
-    said = [it for low in below for it in parts_of(low, ("src", "specs")) if it.is_public]
+    said = [it for low in below for it in parts_of(low, ("src", "specs"), True) if it.is_public]
     return said + [it for low in cited_by(crate, below) for it in parts_of(low, ("proofs",))]
 
 
@@ -299,6 +350,8 @@ class Reach:
         self.own = parts_of(crate, PARTS)
         self.always, self.named = [], {}
         for part in [*self.own, *said_to(crate, below)]:
+            if part.is_said_elsewhere:
+                continue
             if not part.names:
                 self.always.append(part)
             for name in part.names:
