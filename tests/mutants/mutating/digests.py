@@ -125,7 +125,9 @@ def parts_of_source(text, modelled=None):
             parts += parts_of_block(head, block, kind)
         elif kind in ("struct", "enum", "union", "type", "const", "static", "const fn"):
             name = re.search(rf"\b{kind} (?:mut )?(\w+)", head)[1]
-            variants = re.findall(r"(?m)^    (\w+)[ ,({]", block) if kind == "enum" else []
+            # what is private in a crate below is used through what names its type
+            has_variants = kind == "enum" and (modelled is None or head.startswith("pub "))
+            variants = re.findall(r"(?m)^    (\w+)[ ,({]", block) if has_variants else []
             # (what is private stands behind what is public, as a constant's value does)
             parts.append(Part({name, *variants}, block, True))
         elif kind != "mod" or block != head or block.endswith("}"):
