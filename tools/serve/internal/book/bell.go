@@ -46,8 +46,8 @@ func (its channel) waitFor(patience time.Duration) {
 	}
 }
 
-// futex is the bell of a thread. The scheduler would take some fifty microseconds to wake a goroutine
-// while the one who rings goes on.
+// futex is the bell of a thread. The scheduler would take some fifty microseconds to wake a
+// goroutine while the one who rings goes on.
 type futex struct{ rung uint32 }
 
 // The calls of futex(2), among the threads of a process.

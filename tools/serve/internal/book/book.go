@@ -1,7 +1,7 @@
 // Package book keeps the audit of one guard on the disk, for many who ask at once.
 //
-// An answer goes out only once its entry is on the disk. The acts of those who ask while a sync runs
-// are made beside it, and one sync then serves all of them.
+// An answer goes out only once its entry is on the disk. The acts of those who ask while a sync
+// runs are made beside it, and one sync then serves all of them.
 package book
 
 import (

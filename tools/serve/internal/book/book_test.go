@@ -307,8 +307,8 @@ func TestAKeyWithoutItsEntryIsTakenOut(test *testing.T) {
 	same(test, "and left alone", its.read(its.path+".events"), "something else\n")
 }
 
-// TestActsAreMadeWhileASyncRuns has a turn come in the middle of a write: its act is made at once, and it
-// is answered behind a write of its own, as is a view that waits meanwhile.
+// TestActsAreMadeWhileASyncRuns has a turn come in the middle of a write: its act is made at once,
+// and it is answered behind a write of its own, as is a view that waits meanwhile.
 func TestActsAreMadeWhileASyncRuns(test *testing.T) {
 	book := begin(test).must()
 	book.lock.Lock()

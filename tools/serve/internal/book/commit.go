@@ -15,7 +15,8 @@ const (
 	leastGather = 20 * time.Microsecond
 )
 
-// Party is the turns of several clients for whom one goroutine asks. It may be used again and again.
+// Party is the turns of several clients for whom one goroutine asks. It may be used again and
+// again.
 type Party struct {
 	Turns []*Turn
 	bell  bell
@@ -25,14 +26,15 @@ type Party struct {
 // NewParty is a party of these turns.
 func NewParty(turns ...*Turn) *Party { return &Party{Turns: turns, bell: newChannel()} }
 
-// NewThreadParty is a party whose goroutine keeps its thread while it waits, and so is woken sooner.
+// NewThreadParty is a party whose goroutine keeps its thread while it waits, and so is woken
+// sooner.
 func NewThreadParty() *Party { return &Party{bell: new(futex)} }
 
 // Submit makes the acts of a turn in their order, and returns once each entry is on the disk.
 func (book *Book) Submit(turn *Turn) { book.SubmitAll(NewParty(turn)) }
 
-// SubmitAll does so for each turn of a party, in their order. Whoever finds that nobody writes, writes
-// for all whose acts are made by then.
+// SubmitAll does so for each turn of a party, in their order. Whoever finds that nobody writes,
+// writes for all whose acts are made by then.
 func (book *Book) SubmitAll(party *Party) {
 	for _, turn := range party.Turns {
 		book.make(turn)
@@ -105,8 +107,9 @@ func (book *Book) lead(party *Party) {
 	book.ended()
 }
 
-// gather waits for those who are likely to ask soon: as many as were answered by the last write, beside
-// those who waited then. One sync then serves all of them. The lock is held before and after.
+// gather waits for those who are likely to ask soon: as many as were answered by the last write,
+// beside those who waited then. One sync then serves all of them. The lock is held before and
+// after.
 func (book *Book) gather(party *Party) {
 	patience := patience(book.last)
 	if patience == 0 || len(book.waiting)+1 >= book.wanted {
@@ -150,8 +153,8 @@ func (book *Book) ended() {
 	book.waiting = others
 }
 
-// Patience is how long it is worth to wait for others before a party is submitted: a part of the last
-// sync's time, or nothing.
+// Patience is how long it is worth to wait for others before a party is submitted: a part of the
+// last sync's time, or nothing.
 func (book *Book) Patience() time.Duration {
 	book.lock.Lock()
 	defer book.lock.Unlock()
@@ -181,9 +184,9 @@ func (book *Book) take() batch {
 	return batch
 }
 
-// write brings a batch to the disk, behind the keys of its acts, and answers how long that took. Where
-// the disk takes less, the audit is cut to what was answered before: nobody is answered what is taken
-// out.
+// write brings a batch to the disk, behind the keys of its acts, and answers how long that took.
+// Where the disk takes less, the audit is cut to what was answered before: nobody is answered what
+// is taken out.
 func (book *Book) write(batch batch) (time.Duration, error) {
 	begun := time.Since(book.events.begun)
 	err := book.events.write()

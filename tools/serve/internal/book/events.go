@@ -116,7 +116,8 @@ func (its *events) read(count int) (whole int64, err error) {
 		}
 		switch {
 		case whole == 0 && event.Began != nil:
-			// Behind it a clock that is set changes nothing: what is kept goes by the monotonic one.
+			// Behind it a clock that is set changes nothing: what is kept goes by the monotonic
+			// one.
 			now := time.Now()
 			its.begun = now.Add(time.UnixMilli(int64(*event.Began * 1000)).Sub(now))
 		case whole == 0 || event.Entry == nil, *event.Entry < next, count <= *event.Entry:

@@ -42,8 +42,8 @@ const (
 // tooLong is a line that the guard finds too long. It stands for one that isn't held.
 var tooLong = bytes.Repeat([]byte("x"), mostLine+1)
 
-// loop serves clients of a socket by one thread, which waits for all of them at once. A goroutine for
-// each client would cost another change of threads for each line.
+// loop serves clients of a socket by one thread, which waits for all of them at once. A goroutine
+// for each client would cost another change of threads for each line.
 type loop struct {
 	lines   *Lines
 	poll    int // the descriptor of epoll
@@ -183,8 +183,8 @@ func (its *loop) run() error {
 }
 
 // hear leaves the input of a client who is alone at its socket, and only looks at it. A client that
-// waits in a read is woken when what it sent is taken off, and sleeps again before its answer wakes it.
-// So that is done once there is enough of it, and before anybody else is served.
+// waits in a read is woken when what it sent is taken off, and sleeps again before its answer wakes
+// it. So that is done once there is enough of it, and before anybody else is served.
 func (its *loop) hear() error {
 	client := its.only.Load()
 	if client != nil && (client.isFull || !client.canBeHeard) {
@@ -310,7 +310,8 @@ func (its *loop) look(client *client) {
 }
 
 // gather waits for as many clients as the last batch served, at most for a part of the last sync's
-// time: clients that were answered together ask together again, and then one sync serves all of them.
+// time: clients that were answered together ask together again, and then one sync serves all of
+// them.
 func (its *loop) gather() {
 	if len(its.ready) == 0 || len(its.ready) >= its.lastReady {
 		return
@@ -429,8 +430,8 @@ func (its *loop) forget(client *client) {
 	_ = syscall.Close(client.descriptor)
 }
 
-// moved receives into a part of memory or sends it, as the flags say. Where the thread never waits the
-// scheduler isn't told of the call: that takes as long as a short call itself.
+// moved receives into a part of memory or sends it, as the flags say. Where the thread never waits
+// the scheduler isn't told of the call: that takes as long as a short call itself.
 func moved(call uintptr, descriptor int, part []byte, flags uintptr) (int, error) {
 	if len(part) == 0 {
 		return 0, nil

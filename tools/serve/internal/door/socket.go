@@ -88,8 +88,8 @@ func (lines *Lines) Serve(listener net.Listener) error {
 	}
 }
 
-// loopCount is how many threads serve the clients of the socket: while one waits for the disk, another
-// reads and answers. Where there are few processors, the clients need theirs.
+// loopCount is how many threads serve the clients of the socket: while one waits for the disk,
+// another reads and answers. Where there are few processors, the clients need theirs.
 func loopCount() int {
 	if runtime.GOMAXPROCS(0) < 2*mostLoops {
 		return 1
@@ -97,8 +97,8 @@ func loopCount() int {
 	return mostLoops
 }
 
-// forNext is the loop that serves the next client: the one with the fewest where the disk is quick, and
-// the first has several. Else it is the first: what one thread gathered is served by one sync.
+// forNext is the loop that serves the next client: the one with the fewest where the disk is quick,
+// and the first has several. Else it is the first: what one thread gathered is served by one sync.
 func (lines *Lines) forNext(loops []*loop) *loop {
 	next := loops[0]
 	if next.count() < fewClients || !lines.Book.IsQuick() {
