@@ -4,8 +4,9 @@ The prover checks the function that a mutant turns from its own text, the answer
 and what all that names: contracts of functions (never their bodies), types with what they are seen
 as, constants, definitions, lemmas, of its own crate and of the crates below; what these name in
 turn, and so on. Of a lemma it is what that states: its proof is the gate's to check. A search uses
-no lemma that isn't named, by an answer or an attribute. A name counts wherever it stands, so the
-digest may name more than the prover reads, and not less. Functions whose calls lead back to
+no lemma that isn't named, by an answer or an attribute. A name counts wherever it stands, that of a
+definition or a lemma where the file names its module too, so the digest may name more than the
+prover reads, and not less. Functions whose calls lead back to
 themselves have one proof, so the bodies of all are part of it. Of a type that has a model, a crate
 above sees what it is seen as, and neither its fields nor how these make it. Comments and tests are
 no part of it. The layout that is read is that of rt fmt.
@@ -48,6 +49,15 @@ class Part:
         self.names, self.text, self.is_public, self.body = frozenset(names), text, is_public, body
         self.is_said_elsewhere = is_said_elsewhere
         self.words, self.imports = frozenset(WORD.findall(text)), []
+        # the file of a definition, by whose module others bring it in, and what its own file names
+        self.module, self.modules = "", frozenset()
+        # whose it is, and whether it is seen there alone
+        self.crate, self.is_private = "", False
+
+    def sees(self, other):
+        """Whether this may use the other by a name of it."""
+        is_open = not other.is_private or other.crate == self.crate
+        return is_open and (not other.module or other.module in self.modules)
 
 
 def blocks_of(lines, indent):
@@ -130,6 +140,7 @@ def parts_of_source(text, modelled=None):
             variants = re.findall(r"(?m)^    (\w+)[ ,({]", block) if has_variants else []
             # (what is private stands behind what is public, as a constant's value does)
             parts.append(Part({name, *variants}, block, True))
+            parts[-1].is_private = not head.startswith("pub ")
         elif kind != "mod" or block != head or block.endswith("}"):
             parts.append(Part((), block, True))
     return parts, imports
@@ -306,6 +317,11 @@ def parts_of(crate, folders, is_above=False):
                 else definitions(text, folder == "proofs")
             )
             found += with_imports(parts, imports)
+            named = frozenset(WORD.findall("\n".join(imports)))
+            module = os.path.basename(file).removesuffix(".antt") if folder != "src" else ""
+            for part in parts:
+                part.module, part.crate = module, crate
+                part.modules = named | {module} | set(WORD.findall(part.text + part.body))
     return found
 
 
@@ -359,18 +375,15 @@ class Reach:
             for name in part.names:
                 self.named.setdefault(name, []).append(part)
 
-    def of(self, words):
-        """The texts of the parts that these words name, of those that these name, and so on."""
-        found, left = list(self.always), set(words)
-        for part in self.always:
-            left |= part.words
-        done = set()
+    def of(self, users):
+        """The texts of the parts that these parts may use, of those that these may use, and so on."""
+        found, left = set(self.always), [*users, *self.always]
         while left:
-            word = left.pop()
-            done.add(word)
-            for part in self.named.get(word, ()):
-                found.append(part)
-                left |= part.words - done
+            user = left.pop()
+            used = (it for word in user.words for it in self.named.get(word, ()) if user.sees(it))
+            new = set(used) - found
+            found |= new
+            left += new
         return {part.text for part in found}
 
 
@@ -395,17 +408,27 @@ def summed(texts):
     return said.hexdigest()[:32]
 
 
+def user_of(crate, text, modules=frozenset()):
+    """A text that uses others and has no name itself, with the modules that its file names."""
+    user = Part((), text, False)
+    user.crate, user.modules = crate, modules | user.words
+    return user
+
+
 def digest(crate, below, edit_text, functions):
     """The digest of what a mutant's refusal at a goal of one of these functions depends on."""
     its = reach(crate, tuple(below))
     groups = {it for part in its.own if part.names & functions for it in CYCLE.findall(part.text)}
     turned = [it for it in its.own if it.names & functions or groups & set(CYCLE.findall(it.text))]
-    texts = [edit_text, *tactics_of(crate), *(f"{it.text}\n{it.body}" for it in turned)]
+    modules = frozenset().union(*(it.modules for it in turned))
+    users = [user_of(crate, it, modules) for it in (edit_text, *tactics_of(crate))]
+    users += [user_of(crate, f"{it.text}\n{it.body}", it.modules) for it in turned]
     words = set(WORD.findall(edit_text))
-    texts += sorted({said for it in turned for name, said in it.imports if name in words})
+    brought = sorted({said for it in turned for name, said in it.imports if name in words})
+    users += [user_of(crate, it, modules) for it in brought]
     for folder in sorted({*functions, *groups, *(name for it in turned for name in it.names)}):
-        texts += answers_of(crate).get(folder, [])
-    return summed([*texts, *sorted(its.of(WORD.findall("\n".join(texts))))])
+        users += [user_of(crate, it) for it in answers_of(crate).get(folder, [])]
+    return summed([*(it.text for it in users), *sorted(its.of(users))])
 
 
 @cache
