@@ -31,9 +31,6 @@ func Version() (major, minor, patch uint32) {
 type Guard struct {
 	lock    sync.Mutex
 	library C.fy_guard // its pointer is nil once it is closed
-	// answer and told are where the library writes an entry's line, and how long that is.
-	answer []byte
-	told   C.size_t
 }
 
 // Open opens a guard of a cluster in which nothing happened yet, by the text of a cluster file.
@@ -315,24 +312,20 @@ func (guard *Guard) Heal(actor, process uint32) error {
 // ErrNoMemory may take the place of any but the first. After ErrUnwritten the act stands in the
 // journal.
 func (guard *Guard) Act(line []byte) ([]byte, error) {
-	if guard == nil {
-		return nil, ErrClosed
-	}
-	guard.lock.Lock()
-	defer guard.lock.Unlock()
-	if guard.library.at == nil {
-		return nil, ErrClosed
-	}
-	if room := len(line) + C.FY_MOST_REPLY; len(guard.answer) < room {
-		guard.answer = make([]byte, 2*room)
-	}
 	text, length := bytesOf(line)
-	status := C.fy_act(&guard.library, text, length,
-		pointerTo(guard.answer), C.size_t(len(guard.answer)), &guard.told)
-	if status != C.FY_DONE {
-		return nil, Status(status)
+	answer := make([]byte, len(line)+C.FY_MOST_REPLY)
+	var status C.uint32_t
+	var told C.size_t
+	err := guard.do(func(its *C.fy_guard) {
+		status = C.fy_act(its, text, length, pointerTo(answer), C.size_t(len(answer)), &told)
+	})
+	if err == nil {
+		err = errorOf(status)
 	}
-	return append([]byte(nil), guard.answer[:guard.told]...), nil
+	if err != nil {
+		return nil, err
+	}
+	return answer[:told], nil
 }
 
 // IsDestroyed says whether a process is destroyed: struck by a kind that empties its disk, and not
