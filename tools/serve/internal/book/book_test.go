@@ -345,6 +345,16 @@ func TestActsAreMadeWhileASyncRuns(test *testing.T) {
 	same(test, "the file", begin(test).read(book.audit.Name()), Header+entry(0, 1)+entry(1, 2))
 }
 
+func TestAViewThatPanicsHoldsUpNobody(test *testing.T) {
+	book := begin(test).must()
+	func() {
+		defer func() { same(test, "the panic", recover(), "a fault") }()
+		book.View(func() { panic("a fault") })
+	}()
+	same(test, "the next act", string(ask(book, up(1, "")).Line), entry(0, 1))
+	_ = book.Close()
+}
+
 func TestThoseWhoWaitShareASync(test *testing.T) {
 	its := begin(test)
 	book := its.must()

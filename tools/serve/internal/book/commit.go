@@ -65,7 +65,8 @@ func (turn *Turn) refuse(err error) {
 	}
 }
 
-// View calls a function while nobody acts and all that was done is on the disk.
+// View calls a function while nobody acts and all that was done is on the disk. Others go on where
+// the function panics.
 func (book *Book) View(look func()) {
 	party := NewParty()
 	party.end = math.MaxInt64
@@ -78,6 +79,12 @@ func (book *Book) View(look func()) {
 	book.lock.Unlock()
 
 	book.acting.Lock()
+	defer func() {
+		book.acting.Unlock()
+		book.lock.Lock()
+		book.ended()
+		book.lock.Unlock()
+	}()
 	if stop == nil && len(book.made.lines) > 0 {
 		batch := book.take()
 		took, err := book.write(batch)
@@ -86,11 +93,6 @@ func (book *Book) View(look func()) {
 		book.lock.Unlock()
 	}
 	look()
-	book.acting.Unlock()
-
-	book.lock.Lock()
-	book.ended()
-	book.lock.Unlock()
 }
 
 // lead writes all that was made. The lock is held before and after.
