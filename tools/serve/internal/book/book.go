@@ -1,20 +1,27 @@
 // Package book keeps the audit of one guard on the disk, for many who ask at once.
 //
-// An answer goes out only once its entry is on the disk. The acts of those who ask while a sync
-// runs are made beside it, and one sync then serves all of them.
+// An answer goes out only once its entry is on the disk. Those who ask while a sync runs wait for
+// the next one together: one sync serves all of them.
 package book
 
 import (
 	"errors"
+	"fmt"
 	"io"
 	"os"
 	"sync"
-	"sync/atomic"
 	"time"
 )
 
 // Header is the first line of an audit that a book begins or goes on with.
 const Header = "{\"audit\":2}\n"
+
+const (
+	// gatherPart is which part of the last sync's time others are waited for.
+	gatherPart = 4
+	// leastGather is the least time that is worth a wait.
+	leastGather = 20 * time.Microsecond
+)
 
 // Guard makes acts, and keeps the entry of each. Goroutines may share it.
 type Guard interface {
@@ -72,11 +79,20 @@ type Answer struct {
 type Turn struct {
 	Asks    []Ask
 	Answers []Answer
-	end     int64 // how long the audit is once the turn's entries are on the disk
+	view    func()
 }
 
 // NewTurn is a turn without asks.
 func NewTurn() *Turn { return new(Turn) }
+
+// Party is the turns of several clients for whom one goroutine asks. It may be used again and again.
+type Party struct {
+	Turns []*Turn
+	woken chan bool // true where the party is to lead
+}
+
+// NewParty is a party of these turns.
+func NewParty(turns ...*Turn) *Party { return &Party{turns, make(chan bool, 1)} }
 
 // Stats counts what a book did since it was opened.
 type Stats struct {
@@ -90,120 +106,226 @@ type Stats struct {
 
 // Book is an open audit. Goroutines may share it.
 type Book struct {
-	guard Guard
-	audit *os.File
-
-	// acting is held by who makes an act. It guards what isn't on its way to the disk yet.
-	acting sync.Mutex
+	guard  Guard
+	audit  *os.File
 	events *events
-	made   batch
-	end    int64 // how long the audit is with all that was made
-	halted atomic.Bool
 
-	written []byte // what is written or was last: who writes owns it
-
-	// lock guards what is on the disk, and who waits for it. It may be taken while acting is held.
 	lock    sync.Mutex
-	writes  bool     // somebody writes
-	waiting []*Party // for a write to end
-	gathers *Party   // who writes next, and waits for others
-	wanted  int      // how many parties are likely to be there at the next write
-	stop    error    // why nothing is made any more
+	waiting []*Party
+	led     bool
+	stop    error // why nothing is made any more
 	stopped chan struct{}
 	grown   chan struct{} // closed once there are more entries
 	stats   Stats
-	length  int64         // of the audit in bytes, as far as it is on the disk
-	last    time.Duration // how long the last sync took
+	length  int64 // of the audit in bytes, as far as it is on the disk
+	// lastSync is how long the last sync took.
+	lastSync time.Duration
+	spare    []*Party
+
+	// Who leads owns these.
+	count  int // of the entries that the guard has
+	buffer []byte
+	turns  []*Turn
 }
 
-// batch is what one write brings to the disk.
-type batch struct {
-	lines   []byte
-	entries int // of the audit, with those of the batch
-	acts    uint64
-}
+// Submit makes the acts of a turn in their order, and returns once each entry is on the disk.
+func (book *Book) Submit(turn *Turn) { book.SubmitAll(NewParty(turn)) }
 
-// make makes the acts of a turn, in their order.
-func (book *Book) make(turn *Turn) {
-	book.acting.Lock()
-	defer book.acting.Unlock()
-	turn.Answers = turn.Answers[:0]
-	book.events.look()
-	for _, ask := range turn.Asks {
-		if book.halted.Load() {
-			break
+// SubmitAll does so for each turn of a party, in their order.
+func (book *Book) SubmitAll(party *Party) {
+	book.lock.Lock()
+	book.waiting = append(book.waiting, party)
+	if book.led {
+		book.lock.Unlock()
+		if leads := <-party.woken; !leads {
+			return
 		}
-		answer, err := book.act(ask)
-		if err != nil {
-			book.halt(err)
-			break
-		}
-		turn.Answers = append(turn.Answers, answer)
+		book.lock.Lock()
 	}
-	turn.end = book.end
+	book.led = true
+	parties, stop := book.waiting, book.stop
+	book.waiting = book.spare[:0]
+	book.lock.Unlock()
+
+	book.turns = book.turns[:0]
+	for _, its := range parties {
+		book.turns = append(book.turns, its.Turns...)
+	}
+	book.serve(book.turns, stop)
+	for _, other := range parties {
+		if other != party {
+			other.woken <- false
+		}
+	}
+	book.handOn(parties)
 }
 
-// act makes one act, unless its actor gave its key to an act before.
-func (book *Book) act(ask Ask) (Answer, error) {
+// Patience is how long it is worth to wait for others before a party is submitted: a part of the last
+// sync's time, or nothing.
+func (book *Book) Patience() time.Duration {
+	book.lock.Lock()
+	defer book.lock.Unlock()
+	if patience := book.lastSync / gatherPart; patience >= leastGather {
+		return patience
+	}
+	return 0
+}
+
+// handOn lets the first of those who wait lead. The list of those who were served is used again.
+func (book *Book) handOn(served []*Party) {
+	book.lock.Lock()
+	defer book.lock.Unlock()
+	book.spare = served
+	book.led = len(book.waiting) > 0
+	if book.led {
+		book.waiting[0].woken <- true
+	}
+}
+
+// View calls a function while nobody acts and all that was done is on the disk.
+func (book *Book) View(look func()) {
+	turn := NewTurn()
+	turn.view = look
+	book.Submit(turn)
+}
+
+// serve answers the turns, and calls the views behind the sync.
+func (book *Book) serve(turns []*Turn, stop error) {
+	if stop == nil {
+		var stats Stats
+		stop = book.commit(turns, &stats)
+		book.publish(stats, stop)
+	}
+	for _, turn := range turns {
+		if stop != nil {
+			turn.refuse(stop)
+		}
+		if turn.view != nil {
+			turn.view()
+		}
+	}
+}
+
+// refuse answers every ask of a turn with one error.
+func (turn *Turn) refuse(err error) {
+	turn.Answers = turn.Answers[:0]
+	for range turn.Asks {
+		turn.Answers = append(turn.Answers, Answer{Err: err})
+	}
+}
+
+// commit makes the acts of the turns, and brings their entries to the disk.
+func (book *Book) commit(turns []*Turn, stats *Stats) error {
+	book.buffer = book.buffer[:0]
+	book.events.look()
+	for _, turn := range turns {
+		turn.Answers = turn.Answers[:0]
+		for _, ask := range turn.Asks {
+			answer, err := book.make(ask, stats)
+			if err != nil {
+				return err
+			}
+			turn.Answers = append(turn.Answers, answer)
+		}
+	}
+	if len(book.buffer) == 0 {
+		return nil
+	}
+	begun := time.Now()
+	if err := book.write(); err != nil {
+		return err
+	}
+	stats.Syncs, stats.Synced = 1, time.Since(begun)
+	return nil
+}
+
+// make makes one act, unless its actor gave its key to an act before.
+func (book *Book) make(ask Ask, stats *Stats) (Answer, error) {
 	asked, fault := readAsk(ask)
 	if fault != "" {
-		return book.refused(fault), nil
+		stats.Refused++
+		return Answer{Err: fault}, nil
 	}
 	if asked.once != "" {
 		if at, known := book.events.keys[asked.once]; known {
-			return book.repeat(asked, at)
+			return book.repeat(asked, at, stats)
 		}
 	}
 	line, err := book.guard.Act(asked.line)
 	if err != nil {
 		if fault, is := FaultOf(err); is {
-			return book.refused(fault), nil
+			stats.Refused++
+			return Answer{Err: fault}, nil
 		}
 		return Answer{}, err
 	}
-	book.events.add(book.made.entries, asked.once)
-	book.made.entries++
-	book.made.acts++
-	book.made.lines = append(book.made.lines, line...)
-	book.end += int64(len(line))
+	book.events.add(book.count, asked.once)
+	book.count++
+	book.buffer = append(book.buffer, line...)
+	stats.Made++
 	return Answer{Line: line}, nil
 }
 
-// refused counts an ask that no entry is made of.
-func (book *Book) refused(fault Fault) Answer {
-	book.lock.Lock()
-	book.stats.Refused++
-	book.lock.Unlock()
-	return Answer{Err: fault}
-}
-
 // repeat answers the entry that the act with the same key made.
-func (book *Book) repeat(asked asked, at int) (Answer, error) {
+func (book *Book) repeat(asked asked, at int, stats *Stats) (Answer, error) {
 	line, err := book.guard.Entry(at)
 	if err != nil {
 		return Answer{}, err
 	}
 	if !asked.made(line) {
-		return book.refused(OnceOther), nil
+		stats.Refused++
+		return Answer{Err: OnceOther}, nil
 	}
-	book.lock.Lock()
-	book.stats.Repeated++
-	book.lock.Unlock()
+	stats.Repeated++
 	return Answer{Line: line, Repeated: true}, nil
 }
 
-// halt has every later act refused.
-func (book *Book) halt(why error) {
-	book.lock.Lock()
-	defer book.lock.Unlock()
-	book.stopFor(why)
+// write brings the buffer to the disk, behind the keys of its acts. Where the disk takes less, the
+// audit is cut to what was answered before: nobody is answered what is taken out.
+func (book *Book) write() error {
+	err := book.events.write()
+	if err == nil {
+		// A write that a signal breaks off is made again, so it says where.
+		_, err = book.audit.WriteAt(book.buffer, book.length)
+	}
+	if err == nil {
+		return nil
+	}
+	if cut := book.audit.Truncate(book.length); cut != nil {
+		return fmt.Errorf("%w, and then %v", err, cut)
+	}
+	return err
 }
 
-// stopFor does so where the lock is held.
-func (book *Book) stopFor(why error) {
+// publish tells those who look on what a commit did.
+func (book *Book) publish(stats Stats, stop error) {
+	book.lock.Lock()
+	defer book.lock.Unlock()
+	if stop != nil {
+		book.halt(stop)
+		return
+	}
+	book.length += int64(len(book.buffer))
+	its := &book.stats
+	its.Entries = book.count
+	its.Made += stats.Made
+	its.Refused += stats.Refused
+	its.Repeated += stats.Repeated
+	its.Syncs += stats.Syncs
+	if stats.Syncs > 0 {
+		book.lastSync = stats.Synced
+	}
+	its.Synced += stats.Synced
+	if stats.Made > 0 && book.grown != nil {
+		close(book.grown)
+		book.grown = nil
+	}
+}
+
+// halt has every later act refused. The lock is held.
+func (book *Book) halt(why error) {
 	if book.stop == nil {
 		book.stop = why
-		book.halted.Store(true)
 		close(book.stopped)
 	}
 }
@@ -259,10 +381,12 @@ func (book *Book) Drawn() (audit, times io.Reader, err error) {
 	return audit, times, err
 }
 
-// flush writes the times that aren't in their file yet. Only a view calls it.
+// flush writes the times that aren't in their file yet. Whoever calls it leads.
 func (book *Book) flush() error {
 	err := book.events.flush()
 	if err != nil {
+		book.lock.Lock()
+		defer book.lock.Unlock()
 		book.halt(err)
 	}
 	return err
@@ -286,10 +410,12 @@ func (book *Book) keepTimes() {
 	}
 }
 
-// Close ends the book once the write that runs is done. Later asks are answered ErrEnded.
+// Close ends the book once those who lead are done. Later asks are answered ErrEnded.
 func (book *Book) Close() error {
 	var err error
+	book.lock.Lock()
 	book.halt(ErrEnded)
+	book.lock.Unlock()
 	book.View(func() {
 		err = book.flush()
 		if closed := book.audit.Close(); err == nil {

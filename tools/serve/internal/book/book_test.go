@@ -307,54 +307,6 @@ func TestAKeyWithoutItsEntryIsTakenOut(test *testing.T) {
 	same(test, "and left alone", its.read(its.path+".events"), "something else\n")
 }
 
-// TestActsAreMadeWhileASyncRuns has a turn come in the middle of a write: its act is made at once,
-// and it is answered behind a write of its own, as is a view that waits meanwhile.
-func TestActsAreMadeWhileASyncRuns(test *testing.T) {
-	book := begin(test).must()
-	book.lock.Lock()
-	book.writes = true // As if somebody wrote.
-	book.lock.Unlock()
-	done, seen := make(chan Answer, 2), make(chan int, 1)
-	party := NewThreadParty()
-	go func() {
-		first, second := NewTurn(), NewTurn()
-		first.Asks = []Ask{{Line: []byte(up(1, ""))}}
-		second.Asks = []Ask{{Line: []byte(up(2, ""))}}
-		party.Turns = []*Turn{first, second}
-		book.SubmitAll(party)
-		done <- first.Answers[0]
-		done <- second.Answers[0]
-	}()
-	go book.View(func() { seen <- book.stats.Entries })
-	for waiting := 0; waiting < 2; {
-		book.lock.Lock()
-		waiting = len(book.waiting)
-		book.lock.Unlock()
-	}
-	book.acting.Lock()
-	same(test, "both acts are made", string(book.made.lines), entry(0, 1)+entry(1, 2))
-	book.acting.Unlock()
-	same(test, "and nobody is answered", len(done)+len(seen), 0)
-	book.lock.Lock()
-	book.ended()
-	book.lock.Unlock()
-	same(test, "the first", string((<-done).Line), entry(0, 1))
-	same(test, "the second", string((<-done).Line), entry(1, 2))
-	same(test, "what a view sees is on the disk", <-seen, 2)
-	_ = book.Close()
-	same(test, "the file", begin(test).read(book.audit.Name()), Header+entry(0, 1)+entry(1, 2))
-}
-
-func TestAViewThatPanicsHoldsUpNobody(test *testing.T) {
-	book := begin(test).must()
-	func() {
-		defer func() { same(test, "the panic", recover(), "a fault") }()
-		book.View(func() { panic("a fault") })
-	}()
-	same(test, "the next act", string(ask(book, up(1, "")).Line), entry(0, 1))
-	_ = book.Close()
-}
-
 func TestThoseWhoWaitShareASync(test *testing.T) {
 	its := begin(test)
 	book := its.must()

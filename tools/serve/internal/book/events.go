@@ -30,10 +30,6 @@ type events struct {
 	// buffer has what isn't in the file yet.
 	buffer []byte
 	keyed  bool // a key is in the buffer
-	// taken is what a writer writes next, or wrote last.
-	taken   []byte
-	isTaken bool
-	hasKeys bool // in what is taken
 }
 
 // openEvents reads the file beside an audit of so many entries, and cuts what goes beyond them.
@@ -116,10 +112,7 @@ func (its *events) read(count int) (whole int64, err error) {
 		}
 		switch {
 		case whole == 0 && event.Began != nil:
-			// Behind it a clock that is set changes nothing: what is kept goes by the monotonic
-			// one.
-			now := time.Now()
-			its.begun = now.Add(time.UnixMilli(int64(*event.Began * 1000)).Sub(now))
+			its.begun = time.UnixMilli(int64(*event.Began * 1000))
 		case whole == 0 || event.Entry == nil, *event.Entry < next, count <= *event.Entry:
 			return whole, nil
 		default:
@@ -166,24 +159,18 @@ func appendTime(text []byte, seconds float64) []byte {
 	return append(text, byte('0'+rest/100), byte('0'+rest/10%10), byte('0'+rest%10))
 }
 
-// take takes what a write has to bring to the file: keys, and times once there are many.
-func (its *events) take() {
-	its.isTaken, its.hasKeys = its.keyed || len(its.buffer) >= fullBuffer, its.keyed
-	if its.isTaken {
-		its.buffer, its.taken = its.taken[:0], its.buffer
-		its.keyed = false
-	}
-}
-
-// write brings what was taken to the file, and keys to the disk.
+// write brings the keys to the disk. Times alone are written once there are many.
 func (its *events) write() error {
-	if !its.isTaken {
+	if !its.keyed && len(its.buffer) < fullBuffer {
 		return nil
 	}
-	its.isTaken = false
-	if _, err := its.file.Write(its.taken); err != nil || !its.hasKeys {
+	if err := its.flush(); err != nil {
 		return err
 	}
+	if !its.keyed {
+		return nil
+	}
+	its.keyed = false
 	return onDisk(its.file)
 }
 

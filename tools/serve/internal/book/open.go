@@ -62,7 +62,7 @@ func Open(files Files) (*Book, error) {
 		_ = audit.Close()
 		return nil, err
 	}
-	book.stats.Entries, book.end = book.made.entries, book.length
+	book.stats.Entries = book.count
 	go book.keepTimes()
 	return book, nil
 }
@@ -96,7 +96,7 @@ func (book *Book) goOn(files Files) error {
 	if err := book.cut(files); err != nil {
 		return fmt.Errorf("%s: %w", files.Audit, err)
 	}
-	events, err := openEvents(files.Audit+".events", book.made.entries)
+	events, err := openEvents(files.Audit+".events", book.count)
 	if err != nil {
 		return err
 	}
@@ -142,8 +142,8 @@ func (book *Book) openGuard(files Files) (err error) {
 	if len(text) == 0 {
 		text = []byte(Header)
 	}
-	book.made.entries = bytes.Count(text, []byte("\n")) - 1
-	if book.made.entries > 0 {
+	book.count = bytes.Count(text, []byte("\n")) - 1
+	if book.count > 0 {
 		if err := files.begunUnderIt(); err != nil {
 			return err
 		}

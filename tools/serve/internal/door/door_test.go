@@ -623,62 +623,8 @@ func TestALineIsAnsweredAsAGuardDoes(test *testing.T) {
 	same(test, "a full journal", full, wanted)
 }
 
-// TestOneIsAloneAndThenNot has others come and go while one asks: what it said before is taken
-// once, and each sees the end of the talk and no error.
-func TestOneIsAloneAndThenNot(test *testing.T) {
-	web := begin(test, 1000)
-	path := filepath.Join(test.TempDir(), "socket")
-	listener, err := ListenSocket(path)
-	if err != nil {
-		test.Fatal(err)
-	}
-	defer listener.Close()
-	go func() { _ = web.Lines.Serve(listener) }()
-	at := 0
-	talks := func() (asks func(), ends func()) {
-		connection, err := net.Dial("unix", path)
-		if err != nil {
-			test.Fatal(err)
-		}
-		_ = connection.SetDeadline(time.Now().Add(time.Minute))
-		reader := bufio.NewReader(connection)
-		if header, err := reader.ReadString('\n'); header != book.Header {
-			test.Fatal(header, err)
-		}
-		asks = func() {
-			_, _ = io.WriteString(connection, up[:9])
-			_, _ = io.WriteString(connection, up[9:]+"\n")
-			told, _ := reader.ReadString('\n')
-			wanted := fmt.Sprintf(`{"act":{"up":{"process":0}},"at":%d,"by":1,"reply":"done"}`+"\n", at)
-			same(test, "the answer", told, wanted)
-			at++
-		}
-		ends = func() {
-			_ = connection.(*net.UnixConn).CloseWrite()
-			rest, err := io.ReadAll(reader)
-			same(test, "nothing follows", string(rest), "")
-			same(test, "and no error", err, nil)
-			_ = connection.Close()
-		}
-		return asks, ends
-	}
-	one, oneEnds := talks()
-	for round := 0; round < 20; round++ {
-		for count := 0; count < round; count++ {
-			one()
-		}
-		other, otherEnds := talks()
-		other()
-		one()
-		other()
-		otherEnds()
-	}
-	oneEnds()
-	same(test, "the entries", web.Book.Stats().Entries, at)
-}
-
-// TestMuchIsAskedBeforeAnythingIsRead has clients ask for more than a socket holds, in pieces of
-// any length, and read late. Each is answered all of it in its order, and none waits for another.
+// TestMuchIsAskedBeforeAnythingIsRead has clients ask for more than a socket holds, in pieces of any
+// length, and read late. Each is answered all of it in its order, and none waits for another.
 func TestMuchIsAskedBeforeAnythingIsRead(test *testing.T) {
 	const clients, acts = 6, 1000
 	web := begin(test, clients*(acts+1))
@@ -733,8 +679,8 @@ func TestMuchIsAskedBeforeAnythingIsRead(test *testing.T) {
 	}
 }
 
-// hears says that the lines of a client of the test above are right: the header, then an entry and
-// a fault for each act, the entries that there are, and the answer to the last act.
+// hears says that the lines of a client of the test above are right: the header, then an entry and a
+// fault for each act, the entries that there are, and the answer to the last act.
 func hears(test *testing.T, lines []string, acts int) {
 	last := -1
 	place := func(line string) int {
@@ -770,8 +716,8 @@ func hears(test *testing.T, lines []string, acts int) {
 	}
 }
 
-// TestOneIsAloneAndThenBesideOthers has others come to a client that stays, and go again. Whatever
-// the client said alone is answered once.
+// TestOneIsAloneAndThenBesideOthers has others come to a client that stays, and go again. Whatever the
+// client said alone is answered once.
 func TestOneIsAloneAndThenBesideOthers(test *testing.T) {
 	web := begin(test, 10_000)
 	path := filepath.Join(test.TempDir(), "socket")

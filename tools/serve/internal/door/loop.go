@@ -6,7 +6,6 @@ import (
 	"fmt"
 	"net"
 	"sync"
-	"sync/atomic"
 	"syscall"
 	"time"
 	"unsafe"
@@ -30,28 +29,23 @@ const (
 	mostEvents = 128
 	// atOnce are the flags of who doesn't wait.
 	atOnce = syscall.MSG_DONTWAIT | syscall.MSG_NOSIGNAL
-	// mostHeld is how many bytes stay at a socket at most, once they were heard.
-	mostHeld = 800
-	// peekOff is the option SO_PEEK_OFF: each look at a socket goes on behind the last.
-	peekOff = 42
-	edge    = 1 << 31 // EPOLLET of epoll: what comes is told once
-	// hungUp are the events of who sends no more. What was sent before may stand there.
-	hungUp = syscall.EPOLLRDHUP | syscall.EPOLLHUP | syscall.EPOLLERR
+	// aloneFor is how long the loop waits for a client who is alone, in microseconds. The system
+	// makes a few milliseconds of it.
+	aloneFor = 1000
 )
 
 // tooLong is a line that the guard finds too long. It stands for one that isn't held.
 var tooLong = bytes.Repeat([]byte("x"), mostLine+1)
 
-// loop serves clients of a socket by one thread, which waits for all of them at once. A goroutine
-// for each client would cost another change of threads for each line.
+// loop serves the clients of a socket by one thread, which waits for all of them at once. A goroutine
+// for each client would cost another change of threads for each line, and several loops one for each
+// sync.
 type loop struct {
 	lines   *Lines
 	poll    int // the descriptor of epoll
 	events  [mostEvents]syscall.EpollEvent
 	lock    sync.Mutex
 	clients map[int]*client
-	only    atomic.Pointer[client] // the one who is connected, where nobody else is
-	heard   *client                // who is alone, and whose input stays at its socket for a while
 	// again are clients that have something to do without an event. lastReady is how many clients
 	// the last batch served.
 	again, ready []*client
@@ -59,7 +53,7 @@ type loop struct {
 	party        *book.Party
 	// looked and served are lists that are used again.
 	looked, served []*client
-	waste          [mostHeld + firstInput]byte // for what is received a second time
+	waste          [firstInput]byte // for what is received a second time
 }
 
 // client is one who is connected.
@@ -74,13 +68,10 @@ type client struct {
 	skips      bool // the rest of a line that is too long is passed over
 	ends       bool // no more input comes
 	isReady    bool // it is in the batch that is gathered
-	isAgain    bool // it is looked at without an event
 	isFull     bool // it has to read before more is done for it
 	failed     error
 	canBeHeard bool
-	held       int  // how many bytes of its input still stand at the socket
-	hasMore    bool // more than those may stand there
-	hangsUp    bool // it sends no more
+	held       int // how many bytes of its input still stand at the socket, until it is answered
 }
 
 // newLoop is a loop without clients.
@@ -90,7 +81,7 @@ func newLoop(lines *Lines) (*loop, error) {
 		return nil, err
 	}
 	return &loop{
-		lines: lines, poll: poll, clients: map[int]*client{}, party: book.NewThreadParty(),
+		lines: lines, poll: poll, clients: map[int]*client{}, party: book.NewParty(),
 	}, nil
 }
 
@@ -105,42 +96,17 @@ func (its *loop) add(connection net.Conn) error {
 	client.output = append(client.output, book.Header...)
 	client.canBeHeard = canBeHeard(descriptor)
 	if err = client.send(); err == nil {
-		err = its.watch(client, syscall.EPOLL_CTL_ADD, syscall.EPOLLIN)
+		event := syscall.EpollEvent{Events: syscall.EPOLLIN, Fd: int32(descriptor)}
+		err = syscall.EpollCtl(its.poll, syscall.EPOLL_CTL_ADD, descriptor, &event)
 	}
 	if err != nil {
 		_ = syscall.Close(descriptor)
 		return err
 	}
 	its.lock.Lock()
-	defer its.lock.Unlock()
 	its.clients[descriptor] = client
-	its.only.Store(its.alone())
+	its.lock.Unlock()
 	return nil
-}
-
-// count is how many clients it serves.
-func (its *loop) count() int {
-	its.lock.Lock()
-	defer its.lock.Unlock()
-	return len(its.clients)
-}
-
-// watch has epoll tell of events of a client.
-func (its *loop) watch(client *client, how int, events uint32) error {
-	event := syscall.EpollEvent{Events: events, Fd: int32(client.descriptor)}
-	return syscall.EpollCtl(its.poll, how, client.descriptor, &event)
-}
-
-// watchAgain has it tell what a client waits for now.
-func (its *loop) watchAgain(client *client) error {
-	events := uint32(syscall.EPOLLIN)
-	switch {
-	case client.isFull:
-		events = syscall.EPOLLOUT
-	case client == its.heard:
-		events |= edge | syscall.EPOLLRDHUP
-	}
-	return its.watch(client, syscall.EPOLL_CTL_MOD, events)
 }
 
 // taken is the descriptor of a connection, out of the runtime's hands.
@@ -162,9 +128,11 @@ func taken(connection net.Conn) (descriptor int, err error) {
 	return int(copied), err
 }
 
-// canBeHeard says whether the system can go on behind what it showed of a socket.
+// canBeHeard makes a descriptor one that hear may wait at, where the system can.
 func canBeHeard(descriptor int) bool {
-	return syscall.SetsockoptInt(descriptor, syscall.SOL_SOCKET, peekOff, 0) == nil
+	limit := syscall.Timeval{Usec: aloneFor}
+	err := syscall.SetsockoptTimeval(descriptor, syscall.SOL_SOCKET, syscall.SO_RCVTIMEO, &limit)
+	return err == nil && syscall.SetNonblock(descriptor, false) == nil
 }
 
 // run serves until epoll fails, which it never does.
@@ -174,36 +142,41 @@ func (its *loop) run() error {
 		if len(its.again) > 0 {
 			patience = 0
 		}
-		if err := its.collect(patience); err != nil {
-			return err
+		if patience == 0 || !its.hear() {
+			if err := its.collect(patience); err != nil {
+				return err
+			}
 		}
 		its.gather()
 		its.serve()
 	}
 }
 
-// hear leaves the input of a client who is alone at its socket, and only looks at it. A client that
-// waits in a read is woken when what it sent is taken off, and sleeps again before its answer wakes
-// it. So that is done once there is enough of it, and before anybody else is served.
-func (its *loop) hear() error {
-	client := its.only.Load()
-	if client != nil && (client.isFull || !client.canBeHeard) {
-		client = nil
+// hear waits a moment for a client who is alone, in the call that receives, and says whether it spoke:
+// that is a call less than by epoll. Others who come meanwhile are served behind that moment.
+//
+// The call only peeks. A client that waits in a read is woken when what it sent is taken off the
+// socket, and would sleep again before its answer wakes it. So that is done behind the answer.
+func (its *loop) hear() bool {
+	client := its.alone()
+	if client == nil || client.isFull || !client.canBeHeard {
+		return false
 	}
-	if client == its.heard {
-		return nil
+	client.held = client.fill(syscall.MSG_PEEK)
+	if client.held == 0 && !client.ends && client.failed == nil {
+		return false
 	}
-	last := its.heard
-	its.takeOff()
-	its.heard = client
-	if client == nil {
-		client = last
+	its.look(client)
+	if !client.isReady {
+		its.takeOff(client)
 	}
-	return its.watchAgain(client)
+	return true
 }
 
-// alone is the client where nobody else is connected. The lock is held.
+// alone is the client where nobody else is connected.
 func (its *loop) alone() *client {
+	its.lock.Lock()
+	defer its.lock.Unlock()
 	if len(its.clients) == 1 {
 		for _, client := range its.clients {
 			return client
@@ -213,9 +186,8 @@ func (its *loop) alone() *client {
 }
 
 // takeOff takes off a client's socket what was heard there.
-func (its *loop) takeOff() {
-	client := its.heard
-	for client != nil && client.held > 0 {
+func (its *loop) takeOff(client *client) {
+	for client.held > 0 {
 		part := its.waste[:]
 		if client.held < len(part) {
 			part = part[:client.held]
@@ -231,9 +203,6 @@ func (its *loop) takeOff() {
 
 // collect waits for events, and reads what came.
 func (its *loop) collect(milliseconds int) error {
-	if err := its.hear(); err != nil {
-		return err
-	}
 	count, err := syscall.EpollWait(its.poll, its.events[:], milliseconds)
 	if err != nil && err != syscall.EINTR {
 		return err
@@ -241,59 +210,22 @@ func (its *loop) collect(milliseconds int) error {
 	again := its.again
 	its.again, its.looked = its.looked[:0], again
 	for _, client := range again {
-		client.isAgain = false
-		if client.hasMore && !client.isFull {
-			its.receive(client)
-		} else {
-			its.look(client)
-		}
+		its.look(client)
 	}
 	for at := 0; at < count; at++ {
 		its.lock.Lock()
 		client := its.clients[int(its.events[at].Fd)]
 		its.lock.Unlock()
-		if client == nil {
-			continue // It was let go just now.
-		}
-		client.hangsUp = its.events[at].Events&hungUp != 0
 		switch {
-		case client.isReady:
-			client.hasMore = client == its.heard // Its turn comes first.
+		case client == nil, client.isReady: // It was let go just now, or its turn comes first.
 		case client.isFull:
 			its.finish(client)
 		default:
-			its.receive(client)
+			client.fill(atOnce)
+			its.look(client)
 		}
 	}
 	return nil
-}
-
-// receive reads what a client sent.
-func (its *loop) receive(client *client) {
-	if client != its.heard {
-		client.hasMore = false
-		client.fill(atOnce)
-		its.look(client)
-		return
-	}
-	if client.held >= mostHeld {
-		its.takeOff()
-	}
-	read := client.fill(atOnce | syscall.MSG_PEEK)
-	client.held += read
-	client.hasMore = read > 0 && (client.hangsUp || len(client.input) == cap(client.input))
-	its.look(client)
-	if client.hasMore && !client.isReady {
-		its.repeat(client)
-	}
-}
-
-// repeat has a client looked at again without an event.
-func (its *loop) repeat(client *client) {
-	if !client.isAgain {
-		client.isAgain = true
-		its.again = append(its.again, client)
-	}
 }
 
 // look puts a client into the batch where it has something to ask, and ends it where it ended.
@@ -310,8 +242,7 @@ func (its *loop) look(client *client) {
 }
 
 // gather waits for as many clients as the last batch served, at most for a part of the last sync's
-// time: clients that were answered together ask together again, and then one sync serves all of
-// them.
+// time: clients that were answered together ask together again, and then one sync serves all of them.
 func (its *loop) gather() {
 	if len(its.ready) == 0 || len(its.ready) >= its.lastReady {
 		return
@@ -390,25 +321,25 @@ func (its *loop) answer(client *client) {
 // finish sends what there is to send, and sees to it that the client is looked at again.
 func (its *loop) finish(client *client) {
 	err := client.send()
-	if client.held >= mostHeld {
-		its.takeOff()
-	}
+	its.takeOff(client)
 	if isFull := len(client.output) > 0; err == nil && isFull != client.isFull {
 		client.isFull = isFull
-		if client != its.heard || isFull {
-			err = its.watchAgain(client)
+		event := syscall.EpollEvent{Events: syscall.EPOLLIN, Fd: int32(client.descriptor)}
+		if isFull {
+			event.Events = syscall.EPOLLOUT
 		}
+		err = syscall.EpollCtl(its.poll, syscall.EPOLL_CTL_MOD, client.descriptor, &event)
 	}
 	if err != nil {
 		its.remove(client)
 	} else if !client.isFull && client.isBusy() {
-		its.repeat(client)
+		its.again = append(its.again, client)
 	}
 }
 
 // isBusy says whether there is something to do for a client before it says more.
 func (its *client) isBusy() bool {
-	return its.ends || its.failed != nil || its.next < its.to || its.hasMore ||
+	return its.ends || its.failed != nil || its.next < its.to ||
 		bytes.IndexByte(its.input[its.from:], '\n') >= 0
 }
 
@@ -419,19 +350,14 @@ func (its *loop) remove(client *client) {
 }
 
 func (its *loop) forget(client *client) {
-	if its.heard == client {
-		its.takeOff()
-		its.heard = nil
-	}
 	its.lock.Lock()
 	delete(its.clients, client.descriptor)
-	its.only.Store(its.alone())
 	its.lock.Unlock()
 	_ = syscall.Close(client.descriptor)
 }
 
-// moved receives into a part of memory or sends it, as the flags say. Where the thread never waits
-// the scheduler isn't told of the call: that takes as long as a short call itself.
+// moved receives into a part of memory or sends it, as the flags say. Where the thread never waits the
+// scheduler isn't told of the call: that takes as long as a short call itself.
 func moved(call uintptr, descriptor int, part []byte, flags uintptr) (int, error) {
 	if len(part) == 0 {
 		return 0, nil

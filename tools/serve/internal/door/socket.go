@@ -8,7 +8,6 @@ import (
 	"fmt"
 	"net"
 	"os"
-	"runtime"
 	"sync/atomic"
 	"syscall"
 	"time"
@@ -16,14 +15,8 @@ import (
 	"faultyard-serve/internal/book"
 )
 
-const (
-	// acceptPause is how long nobody is let in once a descriptor is lacking.
-	acceptPause = 10 * time.Millisecond
-	// mostLoops is how many threads serve the clients of the socket.
-	mostLoops = 2
-	// fewClients is how many one thread serves before another begins.
-	fewClients = 8
-)
+// acceptPause is how long nobody is let in once a descriptor is lacking.
+const acceptPause = 10 * time.Millisecond
 
 // Lines answers the lines of `faultyard guard` to each who connects to a socket.
 type Lines struct {
@@ -62,54 +55,26 @@ func ListenSocket(path string) (net.Listener, error) {
 
 // Serve answers all who connect, until the listener is closed.
 func (lines *Lines) Serve(listener net.Listener) error {
-	failed := make(chan error, mostLoops)
-	loops := make([]*loop, loopCount())
-	for at := range loops {
-		its, err := newLoop(lines)
-		if err != nil {
-			return err
-		}
-		loops[at] = its
-		go func() {
-			failed <- its.run()
-			_ = listener.Close()
-		}()
+	its, err := newLoop(lines)
+	if err != nil {
+		return err
 	}
+	failed := make(chan error, 1)
+	go func() {
+		failed <- its.run()
+		_ = listener.Close()
+	}()
 	for {
 		connection, err := listener.Accept()
 		switch {
 		case err == nil:
-			lines.admit(connection, lines.forNext(loops))
+			lines.admit(connection, its)
 		case isShort(err):
 			time.Sleep(acceptPause)
 		default:
 			return ended(err, failed)
 		}
 	}
-}
-
-// loopCount is how many threads serve the clients of the socket: while one waits for the disk,
-// another reads and answers. Where there are few processors, the clients need theirs.
-func loopCount() int {
-	if runtime.GOMAXPROCS(0) < 2*mostLoops {
-		return 1
-	}
-	return mostLoops
-}
-
-// forNext is the loop that serves the next client: the one with the fewest where the disk is quick,
-// and the first has several. Else it is the first: what one thread gathered is served by one sync.
-func (lines *Lines) forNext(loops []*loop) *loop {
-	next := loops[0]
-	if next.count() < fewClients || !lines.Book.IsQuick() {
-		return next
-	}
-	for _, its := range loops {
-		if its.count() < next.count() {
-			next = its
-		}
-	}
-	return next
 }
 
 // admit lets a client in, unless too many are there or it has gone.
