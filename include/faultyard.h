@@ -57,7 +57,7 @@ typedef struct fy_guard {
 /* How a call ended. */
 typedef enum fy_status {
     FY_DONE = 0,            /* It did what it says. */
-    FY_NO_MEMORY = 1,       /* There was no memory. */
+    FY_NO_MEMORY = 1,       /* An allocation failed. */
     FY_JOURNAL_FULL = 2,    /* The journal has as many entries as the cluster file allows. */
     FY_REFUSED = 3,         /* The act is refused, and stands in the journal with its refusal. */
     FY_SHORT = 4,           /* The buffer is too short; how long it has to be is told. */
@@ -488,7 +488,7 @@ static inline fy_status fy_guard_kill(fy_guard *guard, uint32_t actor, fy_key ke
 }
 
 /* What fy_guard_kill would answer now to the same order, if the journal had room. It enters nothing,
- * and asks for no memory. `*struck`, `*rule` and `*named` are those of fy_guard_kill.
+ * and doesn't allocate. `*struck`, `*rule` and `*named` are those of fy_guard_kill.
  *
  * In this order: FY_CLOSED; FY_ARGUMENT where the key, the kind or the floor is none; FY_NAME;
  * FY_FLOOR; FY_REFUSED where there is no actor with this number. */
@@ -520,7 +520,7 @@ static inline fy_status fy_guard_kill_process(fy_guard *guard, uint32_t actor, u
 }
 
 /* What fy_guard_kill_process would answer now to the same order, if the journal had room. It enters
- * nothing, and asks for no memory. `*struck`, `*rule` and `*named` are those of fy_guard_kill.
+ * nothing, and doesn't allocate. `*struck`, `*rule` and `*named` are those of fy_guard_kill.
  *
  * In this order: FY_CLOSED; FY_ARGUMENT where the kind or the floor is none, or no process has this
  * number; FY_FLOOR; FY_REFUSED where there is no actor with this number. */
@@ -540,7 +540,7 @@ static inline fy_status fy_guard_judge_process(const fy_guard *guard, uint32_t a
  * that order. Each process is judged by itself: once one is killed, fewer may be.
  *
  * `*told` is how many processes there are. The buffer has room for so many bytes, and what is behind
- * the processes in it stays as it was. It enters nothing, and asks for no memory.
+ * the processes in it stays as it was. It enters nothing, and doesn't allocate.
  *
  * In this order: FY_CLOSED; FY_REFUSED where there is no actor with this number; FY_SHORT where the
  * buffer has fewer bytes than there are processes. Nothing is written to the buffer then. */

@@ -337,7 +337,7 @@ constexpr std::string_view to_string(Status status) noexcept
 }
 
 /* What a call throws that did not do what it says. But for Refused and Unwritten nothing changed
- * then. It takes no memory. */
+ * then. It doesn't allocate. */
 class Error : public std::exception {
 public:
     explicit Error(Status status, std::optional<Refusal> refusal = std::nullopt) noexcept

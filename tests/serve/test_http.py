@@ -124,16 +124,17 @@ class Answers(Case):
         self.assertEqual(server.ask("GET", "/healthz"), (200, b'{"status":"ok"}\n'))
 
 
-class Doors(Case):
-    def tokens(self):
-        """Words for a server with tokens of the actors 0 and 1, and one that reads."""
-        path = common.written(self.folder, "tokens", "")
-        path.chmod(0o600)
-        path.write_text("zero-zero-zero-zero 0\none-one-one-one-one 1\nread-read-read-read -\n")
-        return "--tokens", str(path)
+def tokens(folder):
+    """Words for a server with tokens of the actors 0 and 1, and one that reads."""
+    path = common.written(folder, "tokens", "")
+    path.chmod(0o600)
+    path.write_text("zero-zero-zero-zero 0\none-one-one-one-one 1\nread-read-read-read -\n")
+    return "--tokens", str(path)
 
+
+class Doors(Case):
     def test_a_token_orders_for_its_actor_and_the_grants_of_the_file_hold(self):
-        server = self.server(*self.tokens()).start()
+        server = self.server(*tokens(self.folder)).start()
         zero, one = "Bearer zero-zero-zero-zero", "Bearer one-one-one-one-one"
         act = kill(0)[len(b'{"by":1,') :]
         status, text = server.ask("POST", "/v1/acts", b"{" + act, Authorization=one)
@@ -154,7 +155,7 @@ class Doors(Case):
         self.assertEqual(server.ask("GET", "/v1/status", **reads)[0], 200)
 
     def test_an_address_of_ipv4_takes_nobody_by_ipv6(self):
-        server = self.server(*self.tokens())
+        server = self.server(*tokens(self.folder))
         server.words[-1] = server.words[-1].replace("127.0.0.1", "0.0.0.0")
         server.start()
         port = int(server.address.removeprefix("0.0.0.0:"))
@@ -188,6 +189,7 @@ class Doors(Case):
             "--tls-cert", files[0], "--tls-key", files[0],
         )  # fmt: skip
         self.assertEqual(wrong[0], 1)
+        self.assertFalse((self.folder / "b").exists())
 
     def test_a_port_that_is_taken_is_told(self):
         server = self.server().start()
@@ -207,12 +209,16 @@ WORDS = (
 ).split(b" ")
 
 
+ONE = "Bearer one-one-one-one-one"
+
+
 class Wrong(Case):
     """What comes from those who err or mean ill. The server answers on, and enters legal acts."""
 
     def request(self, chance):
         """A request that is right but for a few changes, or something else altogether."""
-        body = chance.choice((kill(chance.randrange(6)), up(chance.randrange(9)), b"[]", b"\0\xff"))
+        bodies = kill(chance.randrange(6)), kill(1)[:-2], up(chance.randrange(9)), b"\0\xff"
+        body = chance.choice((*bodies, b"null", b"[]", b'{"act":null}'))
         if chance.random() < 0.2:
             return b" ".join(chance.choices(WORDS, k=chance.randrange(30)))
         path = chance.choice(WORDS[9:19] + [b"/v1/acts"] * 9)
@@ -220,10 +226,11 @@ class Wrong(Case):
             b"%s %s HTTP/1.1" % (chance.choice((b"POST", b"POST", b"GET", b"PUT")), path),
             b"Host: 127.0.0.1",
             b"Content-Type: application/json",
+            b"Authorization: " + ONE.encode(),
             b"Content-Length: %d" % (len(body) + chance.choice((0, 0, 0, 1, -1, 1 << 40))),
         ]
         if chance.random() < 0.5:
-            head.insert(chance.randrange(1, 5), b" ".join(chance.choices(WORDS, k=3)))
+            head.insert(chance.randrange(1, 6), b" ".join(chance.choices(WORDS, k=3)))
         if chance.random() < 0.05:
             head.append(b"X: " + b"x" * chance.randrange(40_000))
         text = bytearray(b"\r\n".join(head) + b"\r\n\r\n" + body)
@@ -252,14 +259,20 @@ class Wrong(Case):
                 pass  # It may have been turned away.
 
     def test_wrong_requests_leave_it_answering(self):
-        server = self.server().start()
+        self.wrong(self.server().start())
+
+    def test_wrong_requests_with_a_token_leave_it_answering(self):
+        self.wrong(self.server(*tokens(self.folder)).start())
+
+    def wrong(self, server):
+        """Half of the wrong requests."""
         slow = [self.slow(server) for _ in range(20)]
         failed = []
 
         def ask(number):
             chance = random.Random(number)
             try:
-                for _ in range(REQUESTS // 8):
+                for _ in range(REQUESTS // 16):
                     self.send(server, chance, self.request(chance))
             except BaseException as fault:
                 failed.append(fault)
@@ -271,10 +284,10 @@ class Wrong(Case):
             thread.join()
         self.assertEqual(failed, [])
         self.assertIsNone(server.process.poll())
-        status, text = server.ask("POST", "/v1/acts", kill(0))
+        status, text = server.ask("POST", "/v1/acts", kill(0), Authorization=ONE)
         self.assertEqual(status, 200)
         count = json.loads(text)["at"] + 1
-        self.assertGreater(count, REQUESTS // 20)  # Some were right.
+        self.assertGreater(count, REQUESTS // 60)  # Some were right.
         self.assertEqual(json.loads(server.talk().ask(kill(0)))["at"], count)
         for client in slow:
             client.close()

@@ -7,6 +7,7 @@ import functools
 import json
 import os
 import random
+import signal
 import subprocess
 import threading
 import time
@@ -161,6 +162,31 @@ class Power(Case):
         self.assertEqual(server.end(), 0)
         disk.cut()
         self.assertEqual(copy.read_bytes(), server.config.read_bytes())
+
+    def test_it_can_be_ended_while_its_disk_hangs(self) -> None:
+        disk, server = self.begun()
+        disk.start()
+        self.addCleanup(run, "fusermount3", "-uz", "--", disk.mount)
+        self.addCleanup(disk.process.kill)
+        talk = server.start().talk()
+        first = talk.ask(kill(0))
+        disk.process.send_signal(signal.SIGSTOP)
+        talk.socket.sendall(kill(1))
+        talk.socket.settimeout(0.5)
+        with self.assertRaises(TimeoutError):
+            talk.socket.recv(1)
+        assert server.process
+        server.process.terminate()
+        with self.assertRaises(subprocess.TimeoutExpired):
+            server.process.wait(0.5)
+        server.process.terminate()
+        time.sleep(0.5)
+        disk.process.send_signal(signal.SIGCONT)  # Else the system keeps what has ended.
+        self.assertEqual(server.process.wait(60), -signal.SIGTERM)
+        server.start()
+        self.assertEqual(server.lines()[0], first)
+        self.assertEqual(server.end(), 0)
+        disk.cut()
 
     def test_a_disk_that_lies_loses_answers(self) -> None:
         """So the test above can fail."""

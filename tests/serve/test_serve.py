@@ -7,6 +7,7 @@ import random
 import resource
 import signal
 import socket
+import subprocess
 import threading
 import time
 import uuid
@@ -96,6 +97,23 @@ class Answers(Case):
             by_pipe = run(PROGRAM, "guard", server.config, input=text.decode())
             self.assertIn(wanted.rpartition(": ")[2], by_pipe.stdout + by_pipe.stderr)
             self.assertIn(wanted, talk.ask(text).decode())
+
+    def test_no_line_makes_an_audit_that_it_cant_go_on_with(self):
+        server = self.server().start()
+        talk, told = server.talk(), []
+        for by in (0, 1):
+            for length in range(65_400, 65_537, 8):
+                shell = line({"by": by, "act": {"begin": {"payload": "", "team": 0}}})
+                payload = b'"' + b"0" * ((length + 1 - len(shell)) // 2 * 2) + b'"'
+                told.append(json.loads(talk.ask(shell.replace(b'""', payload))))
+        status, text = server.ask("POST", "/v1/acts", shell.replace(b'""', payload))
+        self.assertEqual((status, "TooLong" in text.decode()), (413, True))
+        made = [it for it in told if "act" in it]
+        refused = [it["refused"].rpartition(": ")[2] for it in told if "refused" in it]
+        self.assertEqual((set(refused), len(made) + len(refused)), ({"TooLong"}, len(told)))
+        self.assertGreater(len(made), 1)
+        self.assertEqual(server.end(), 0)
+        self.assertEqual(json.loads(server.start().talk().ask(kill(0)))["at"], len(made))
 
     def test_a_faulty_line_ends_nobody(self):
         server = self.server(config=cluster(limit=2)).start()
@@ -228,6 +246,53 @@ class Files(Case):
         self.assertTrue(server.talk().ask(kill(0)))
         self.assertEqual(server.end(), 0)
         self.assertEqual(server.check(), f"legal {len(answers) + 1}")
+
+    def test_it_ends_with_its_status_also_where_nobody_reads_what_it_says(self):
+        server = self.server(http=False)
+        server.start()
+        self.assertEqual(server.end(), 0)
+        limit = resource.RLIMIT_FSIZE, (server.file.stat().st_size + 1,) * 2
+        words = dict(stderr=subprocess.PIPE, preexec_fn=lambda: resource.setrlimit(*limit))
+        server.process = subprocess.Popen(server.words, **words)
+        self.assertIn(b"0 entries; socket", server.process.stderr.readline())
+        server.process.stderr.close()
+        self.assertEqual(server.talk().ask(kill(0)), b"")
+        self.assertEqual(server.process.wait(PATIENCE), 3)
+
+    def test_a_full_disk_answers_nobody_of_those_who_ask_together(self):
+        server = self.server()
+        server.limit = lambda: resource.setrlimit(resource.RLIMIT_FSIZE, (300_000, 300_000))
+        server.start()
+        answers, ended = [], []
+
+        def ask(number):
+            """Ten acts at once, by the socket, or one by HTTP, until the server is gone."""
+            act, own = kill(number % 6), []
+            with suppress(OSError, AssertionError, ValueError, http.client.HTTPException):
+                talk = server.talk()
+                while len(own) % 10 == 0:
+                    if number % 4 == 0:
+                        status, text = server.ask("POST", "/v1/acts", act)
+                        own += [text] * (10 if status == 200 else 1)
+                        continue
+                    talk.socket.sendall(act * 10)
+                    own += [it for it in (talk.file.readline() for _ in range(10)) if it]
+            answers.extend(it for it in own if it.startswith(b'{"act":'))
+            ended.append(number)
+
+        threads = [threading.Thread(target=ask, args=(it,), daemon=True) for it in range(24)]
+        for thread in threads:
+            thread.start()
+        for thread in threads:
+            thread.join(PATIENCE)
+        self.assertEqual(sorted(ended), list(range(24)))
+        self.assertEqual(server.process.wait(PATIENCE), 3)
+        self.assertIn("file too large", server.said.read_text())
+        entries = server.lines()
+        self.assertGreater(len(entries), 1000)
+        for answer in answers:
+            self.assertEqual(entries[json.loads(answer)["at"]], answer)
+        self.assertEqual(server.check(), f"legal {len(entries)}")
 
     def test_too_few_descriptors_end_nobody(self):
         server = self.server(http=False)

@@ -11,7 +11,7 @@ import (
 	"faultyard-serve/internal/cluster"
 )
 
-// The statuses by which the server ends, which are those of the program.
+// The statuses by which the server ends, which are those of the program, and one of its own.
 const (
 	ended    = 0
 	refused  = 1
@@ -19,6 +19,7 @@ const (
 	ioFailed = 3
 	noMemory = 4
 	badEntry = 5
+	broken   = 6 // a panic: the server is at fault
 )
 
 // failure is why the server ends, and its status.

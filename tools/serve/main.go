@@ -20,6 +20,7 @@ import (
 	"faultyard-serve/internal/book"
 	"faultyard-serve/internal/cluster"
 	"faultyard-serve/internal/door"
+	"faultyard-serve/internal/panics"
 )
 
 const (
@@ -32,7 +33,7 @@ const (
 func main() {
 	words, err := parsed(os.Args[1:], os.Stdout)
 	if err == nil && words != nil {
-		err = serve(words)
+		err = panics.Caught(func() error { return serve(words) })
 	}
 	os.Exit(report(err))
 }
@@ -45,7 +46,11 @@ func report(err error) int {
 	say(err.Error())
 	var known failure
 	var refusal book.Refusal
+	var caught panics.Error
 	switch {
+	case errors.As(err, &caught):
+		fmt.Fprint(os.Stderr, caught.Where)
+		return broken
 	case errors.As(err, &known):
 		return known.status
 	case errors.As(err, &refusal):
@@ -66,6 +71,8 @@ type server struct {
 	lines  *door.Lines
 	web    *door.Web
 	http   *http.Server
+	// certificate is nil without TLS.
+	certificate *tls.Config
 	// socket and network are nil where nobody is let in there.
 	socket, network net.Listener
 }
@@ -75,6 +82,8 @@ func serve(words *words) error {
 	signals := make(chan os.Signal, 1)
 	signal.Notify(signals, syscall.SIGTERM, syscall.SIGINT, syscall.SIGHUP)
 	signal.Ignore(syscall.SIGXFSZ) // A limit of a file is an error of the write.
+	// And so is a standard error that nobody reads. What isn't ignored, no program inherits.
+	signal.Notify(make(chan os.Signal, 1), syscall.SIGPIPE)
 	its := &server{words: words}
 	defer its.end()
 	if err := its.open(); err != nil {
@@ -84,14 +93,17 @@ func serve(words *words) error {
 		return err
 	}
 	failed := make(chan error, 2)
-	go func() { failed <- its.lines.Serve(its.socket) }()
+	answer := func(serve func() error) { failed <- panics.Caught(serve) }
+	go answer(func() error { return its.lines.Serve(its.socket) })
 	if its.network != nil {
-		go func() { failed <- its.http.Serve(its.network) }()
+		go answer(func() error { return its.http.Serve(its.network) })
 	}
 	say(its.ready())
 	notify("READY=1")
 	select {
 	case <-signals:
+		// A disk may take long. Another signal ends the server at once, as a kill does.
+		signal.Stop(signals)
 		return its.book.Close()
 	case <-its.book.Stopped():
 		return its.book.Stop()
@@ -117,6 +129,9 @@ func (its *server) open() (err error) {
 			return failure{refused, err.Error()}
 		}
 	}
+	if err := its.readCertificate(); err != nil {
+		return failure{refused, err.Error()}
+	}
 	if err := its.goOn(); err != nil {
 		return err
 	}
@@ -125,7 +140,7 @@ func (its *server) open() (err error) {
 	its.web = &door.Web{
 		Book: its.book, Processes: processes, Guard: places{its.guard}, Tokens: tokens,
 		Program: program(its.config), Version: libraryVersion(), Lines: its.lines,
-		Most: mostConnected,
+		Most: mostConnected, Say: say,
 	}
 	return nil
 }
@@ -154,18 +169,20 @@ func (its *server) after(audit []byte) (book.Guard, error) {
 	return library{guard}, nil
 }
 
+// readCertificate reads the files of TLS, where there are any.
+func (its *server) readCertificate() error {
+	if its.words.certificate == "" {
+		return nil
+	}
+	pair, err := tls.LoadX509KeyPair(its.words.certificate, its.words.privateKey)
+	its.certificate = &tls.Config{
+		Certificates: []tls.Certificate{pair}, MinVersion: tls.VersionTLS12,
+	}
+	return err
+}
+
 // listen opens the doors.
 func (its *server) listen() (err error) {
-	var certificate *tls.Config
-	if its.words.certificate != "" {
-		pair, err := tls.LoadX509KeyPair(its.words.certificate, its.words.privateKey)
-		if err != nil {
-			return failure{refused, err.Error()}
-		}
-		certificate = &tls.Config{
-			Certificates: []tls.Certificate{pair}, MinVersion: tls.VersionTLS12,
-		}
-	}
 	if its.socket, err = door.ListenSocket(its.words.socket); err != nil {
 		return err
 	}
@@ -176,9 +193,9 @@ func (its *server) listen() (err error) {
 		return err
 	}
 	its.network = its.web.Limited(its.network)
-	its.http = its.web.Server(certificate)
-	if certificate != nil {
-		its.network = tls.NewListener(its.network, certificate)
+	its.http = its.web.Server(its.certificate)
+	if its.certificate != nil {
+		its.network = tls.NewListener(its.network, its.certificate)
 	}
 	return nil
 }

@@ -14,13 +14,13 @@ done_status (Ok false) = 5
 done_status (Err stop) = stop_status stop
 
 -- the status of words that name no task: help and the version are written, or the writer failed;
--- memory was refused; or the words are wrong
+-- an allocation failed; or the words are wrong
 abbrev pub IsAnsweredStatus : ErrorKind → ℕ → Type 0
 IsAnsweredStatus DisplayHelp status = (status ≡ 0) ⊎ (status ≡ stop_status Write)
 IsAnsweredStatus DisplayVersion status = (status ≡ 0) ⊎ (status ≡ stop_status Write)
 IsAnsweredStatus OutOfMemory status = status ≡ stop_status NoMemory
 IsAnsweredStatus _ status = status ≡ 2
 
--- the status where the words can't be had: they are no texts, or memory was refused
+-- the status where the words can't be had: they are no texts, or an allocation failed
 abbrev pub IsUnreadStatus : ℕ → Type 0
 IsUnreadStatus status = (status ≡ 2) ⊎ (status ≡ stop_status NoMemory)

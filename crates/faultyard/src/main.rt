@@ -134,7 +134,7 @@ fn guard_file(rt: &HostRuntime, path: &str) -> Result<bool, Stop> {
     let config = open_config(rt, path)?;
     let alloc = rt.alloc();
     // It holds what `read` gave beyond a line, and waits for no more than there is. Its making
-    // fails for want of memory alone, which the type of its error doesn't say.
+    // fails by an allocation failure alone, which the type of its error doesn't say.
     let Ok(mut lines) = BufReader::new(alloc, rt.stdin()) else {
         return Err(Stop::NoMemory);
     };

@@ -304,7 +304,7 @@ fn faultyard<'a>(alloc: Global) -> Result<Command<'a>, AllocError>
 /// # Errors
 ///
 /// The errors of `clap`, for help and the version too, whose kinds are `DisplayHelp` and
-/// `DisplayVersion`. Want of memory has the kind `OutOfMemory`.
+/// `DisplayVersion`. An allocation failure has the kind `OutOfMemory`.
 pub fn read_task<'a>(alloc: Global, words: &'a [String]) -> Result<Task<'a>, clap::Error>
     ensures task { IfOk result
         (IsTaskOf (subcommand_of faultyard_command (map string_bytes words.now))) }

@@ -1,4 +1,4 @@
--- the desk at which actors take their turns
+-- the desk: the cluster, held by one actor at a time
 use Rattle.std.specs.Prelude.{◌≡◌, ℕ, ◌==◌, List, [], ◌∷◌, ◌++◌, length, filter}
 use Rattle.std.specs.List.{AllByRecursion}
 use Rattle.fy_acts.specs.declared.act.Act.{Act}

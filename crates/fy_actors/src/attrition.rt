@@ -14,7 +14,7 @@ use std::alloc::{AllocError, Global};
 pub enum AttritionFault {
     /// The floor is above the kind.
     Floor,
-    /// There was no memory.
+    /// An allocation failed.
     NoMemory,
 }
 
@@ -36,7 +36,7 @@ impl From<AllocError> for AttritionFault {
 ///
 /// # Errors
 ///
-/// `AllocError` only where memory is refused.
+/// `AllocError` only where an allocation fails.
 pub fn attrition_acts(
     alloc: Global,
     machines: &[Name],

@@ -1,4 +1,4 @@
-//! The desk at which actors take their turns.
+//! The desk: the cluster, held by one actor at a time.
 ghost use Rattle.std.specs.Prelude.{◌≡◌, ◌↔◌, ◌≤◌, length, Err, IfOk, IsTrue, OnOk, OnErr};
 ghost use Rattle.fy_cluster.specs.Replies.{Legal};
 ghost use Rattle.fy_cluster.specs.Execution.{history_of};
@@ -43,8 +43,9 @@ pub trait FaultActor: Drop {
         ensures worked { Worked desk.old desk.new };
 }
 
-/// A cluster, the number of the actor whose turn it is, and that actor's receipts: the entries of
-/// its acts. It keeps its allocator.
+/// The cluster as it is handed from actor to actor: with the number of the actor whose turn it is,
+/// and that actor's receipts, the entries of its own acts. Actors reach the cluster by it alone. It
+/// keeps its allocator.
 pub struct Desk {
     alloc: Global,
     cluster: Cluster,
@@ -83,7 +84,7 @@ impl Drop for Desk {
 }
 
 impl Desk {
-    /// The desk of a cluster, for actor 0, without receipts. Takes no memory.
+    /// The desk of a cluster, for actor 0, without receipts. Doesn't allocate.
     pub fn make(alloc: Global, cluster: Cluster) -> Desk
         ensures { result ≡ new_desk cluster }
     {
@@ -95,7 +96,7 @@ impl Desk {
         }
     }
 
-    /// Seats the actor with this number, and swaps the receipts with the list. Takes no memory.
+    /// Seats the actor with this number, and swaps the receipts with the list. Doesn't allocate.
     pub fn sit(&mut self, actor: u32, receipts: &mut Vec<Entry>)
         ensures desk { self.new
             ≡ record self.old { actor = actor; receipts = receipts.old.items } }
@@ -105,7 +106,7 @@ impl Desk {
         std::mem::swap(&mut self.receipts, receipts);
     }
 
-    /// The cluster. Takes no memory.
+    /// The cluster. Doesn't allocate.
     pub fn into_cluster(self) -> Cluster
         ensures { result ≡ execution_of self }
     {
@@ -118,14 +119,14 @@ impl Desk {
         cluster
     }
 
-    /// The time, and what there is to do next. Takes no memory.
+    /// The time, and what there is to do next. Doesn't allocate.
     pub fn sight(&self) -> Sight
         ensures { Sees self.now.setup (history_of (execution_of self.now)) result }
     {
         self.cluster.sight()
     }
 
-    /// How many entries the cluster's journal has. It is legal. Takes no memory.
+    /// How many entries the cluster's journal has. It is legal. Doesn't allocate.
     pub fn journal_len(&self) -> usize
         ensures length { result ≡ length self.now.journal }
         ensures legal { Legal self.now.setup self.now.journal }
@@ -143,7 +144,7 @@ impl Desk {
         self.cluster.survives();
     }
 
-    /// Whether the journal has as many entries as it may have. Takes no memory.
+    /// Whether the journal has as many entries as it may have. Doesn't allocate.
     pub fn is_full(&self) -> bool
         ensures { IsTrue result ↔ (self.now.setup.limit ≤ length self.now.journal) }
     {

@@ -10,7 +10,7 @@ use std::alloc::{AllocError, Global};
 ///
 /// # Errors
 ///
-/// `AllocError` only where memory is refused.
+/// `AllocError` only where an allocation fails.
 #[tactic(auto, using(crate::proofs::PlansOfAll::one_process_more))]
 pub fn everyone(alloc: Global, map: &Map) -> Result<Vec<ProcId>, AllocError>
     ensures { IfOk result (λ all. all.items ≡ everyone map.now) }
@@ -26,7 +26,7 @@ pub fn everyone(alloc: Global, map: &Map) -> Result<Vec<ProcId>, AllocError>
 ///
 /// # Errors
 ///
-/// `AllocError` only where memory is refused.
+/// `AllocError` only where an allocation fails.
 pub fn draw_swizzle(
     alloc: Global,
     map: &Map,
@@ -39,6 +39,7 @@ pub fn draw_swizzle(
 {
     let words = words(alloc, seed, stream, 2 * map.len() as usize)?;
     let all = everyone(alloc, map)?;
+    // The words are enough, which no `From` of the fault could know.
     match swizzle_plan(alloc, &words, &all) {
         Ok(plan) => Ok(plan),
         Err(PlanFault::NoMemory) => Err(AllocError),
@@ -50,7 +51,7 @@ pub fn draw_swizzle(
 ///
 /// # Errors
 ///
-/// `AllocError` only where memory is refused.
+/// `AllocError` only where an allocation fails.
 pub fn draw_attrition(
     alloc: Global,
     map: &Map,
@@ -63,6 +64,7 @@ pub fn draw_attrition(
         ≡ machines_to_kill (plan_words map.now seed stream) map.now to_kill to_leave) }
 {
     let words = words(alloc, seed, stream, 2 * map.len() as usize)?;
+    // The words are enough, which no `From` of the fault could know.
     match attrition_plan(alloc, &words, map, to_kill, to_leave) {
         Ok(plan) => Ok(plan),
         Err(PlanFault::NoMemory) => Err(AllocError),

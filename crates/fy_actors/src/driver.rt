@@ -106,7 +106,7 @@ pub fn next_move(sight: Sight, ticks: u64) -> Act
 impl StorageDriver {
     /// The actor that forms a team of these members under the policy with this number, begins a
     /// record for each payload, and makes `acts` acts in all. Where the team is refused it makes no
-    /// further act; a refused begin isn't tried again. Takes no memory.
+    /// further act; a refused begin isn't tried again. Doesn't allocate.
     pub fn make(
         alloc: Global,
         members: Members,

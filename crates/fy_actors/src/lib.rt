@@ -1,4 +1,5 @@
-//! Fault actors: what they plan, the desk at which they take turns, and the actors themselves.
+//! Fault actors: what they plan, the desk (the cluster, held by one actor at a time), and the actors
+//! themselves.
 #![tactic(auto)]
 
 mod attrition;

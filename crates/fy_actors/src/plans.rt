@@ -12,7 +12,7 @@ use std::alloc::{AllocError, Global};
 pub enum PlanFault {
     /// The plan takes so many words, and fewer were given.
     WordsShort { need: usize },
-    /// There was no memory.
+    /// An allocation failed.
     NoMemory,
 }
 

@@ -32,7 +32,7 @@ pub fn generator(seed: u64, stream: u64) -> ChaCha8Rng
 ///
 /// # Errors
 ///
-/// `AllocError` only where the memory for them is refused.
+/// `AllocError` only where an allocation of them fails.
 #[tactic(auto, using(crate::proofs::Drawing::no_words, crate::proofs::Drawing::one_word_more))]
 pub fn words(alloc: Global, seed: u64, stream: u64, count: usize) -> Result<Vec<u32>, AllocError>
     ensures { IfOk result (λ made. made.items ≡ stream_outputs seed stream count) }

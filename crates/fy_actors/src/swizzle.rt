@@ -31,7 +31,7 @@ pub fn process_target(map: &Map, p: ProcId) -> Target
 ///
 /// # Errors
 ///
-/// `AllocError` only where memory is refused.
+/// `AllocError` only where an allocation fails.
 pub fn swizzle_acts(
     alloc: Global,
     map: &Map,
@@ -62,7 +62,7 @@ impl Schedule {
     ///
     /// # Errors
     ///
-    /// `AllocError` only where memory is refused.
+    /// `AllocError` only where an allocation fails.
     pub fn swizzle(
         alloc: Global,
         map: &Map,

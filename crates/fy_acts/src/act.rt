@@ -125,7 +125,7 @@ impl Drop for Act {
 }
 
 impl Act {
-    /// Copies the act. Only the members of a `Form` and the payload of a `Begin` take memory.
+    /// Copies the act. Only the members of a `Form` and the payload of a `Begin` are allocated.
     ///
     /// # Errors
     ///

@@ -33,7 +33,7 @@ impl Entry {
     ///
     /// # Errors
     ///
-    /// `AllocError` where there is no memory for what the act holds in lists.
+    /// `AllocError` where an allocation for the act's lists fails.
     pub fn try_copy(&self, alloc: Global) -> Result<Entry, AllocError>
         ensures equal { IfOk result (λ copy. copy ≡ self.now) }
         ensures plain { holds_list self.now.act ≡ false → IsOk result }

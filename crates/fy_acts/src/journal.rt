@@ -41,21 +41,21 @@ impl Drop for Journal {
 }
 
 impl Journal {
-    /// A journal of the second version, without entries and without room. Takes no memory.
+    /// A journal of the second version, without entries and without room. Doesn't allocate.
     pub fn make(alloc: Global) -> Journal
         ensures { result ≡ empty_journal Second }
     {
         Journal::of_version(alloc, Version::Second)
     }
 
-    /// A journal of the first version, without entries and without room. Takes no memory.
+    /// A journal of the first version, without entries and without room. Doesn't allocate.
     pub fn make_first(alloc: Global) -> Journal
         ensures { result ≡ empty_journal First }
     {
         Journal::of_version(alloc, Version::First)
     }
 
-    /// A journal of a version, without entries and without room. Takes no memory.
+    /// A journal of a version, without entries and without room. Doesn't allocate.
     pub fn of_version(alloc: Global, version: Version) -> Journal
         ensures { result ≡ empty_journal version }
     {
@@ -115,7 +115,7 @@ impl Journal {
     }
 
     /// Appends an act by the actor with this number, with its reply. It uses up one place of the
-    /// room, and takes no memory.
+    /// room, and doesn't allocate.
     pub fn push(&mut self, by: u32, act: Act, reply: Reply)
         requires { 0 < self.old.room }
         ensures { self.new ≡ entered by act reply self.old }

@@ -97,7 +97,7 @@ AuditOf bytes (Err (Line number fault)) =
     (length bytes ≤ MOST_AUDIT_BYTES) × LineIsFaulty bytes number fault
 AuditOf bytes (Err NoMemory) = ⊥
 
--- what a reader may answer: what the bytes are, or that there was no memory
+-- what a reader may answer: what the bytes are, or that an allocation failed
 abbrev pub AuditAnswers : List ℕ → Result Audit AuditFault → Type 0
 AuditAnswers bytes (Err NoMemory) = ⊤
 AuditAnswers bytes answer = AuditOf bytes answer

@@ -28,7 +28,7 @@ pub record ReadsEntry (entry : Entry) (old new : ReaderState) : Type 0 where
   pub place : new.place ≡ old.place + 1
 
 -- why no entry is read of what is left: its first line, which has number place + 2, is faulty, or
--- there is no memory
+-- an allocation failed
 abbrev pub Stops : ReaderState → AuditFault → Type 0
 Stops reader_state TooLong = ⊥
 Stops reader_state (Line number fault) =

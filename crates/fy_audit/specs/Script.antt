@@ -36,7 +36,7 @@ ScriptOf bytes (Err (Line number fault)) =
     (length bytes ≤ MOST_SCRIPT_BYTES) × FirstFaulty (lines_of bytes) number fault
 ScriptOf bytes (Err NoMemory) = ⊥
 
--- what a reader may answer: what the bytes are, or that there was no memory, which takes the place
+-- what a reader may answer: what the bytes are, or that an allocation failed, which takes the place
 -- of any answer but TooLong
 abbrev pub ScriptAnswers : List ℕ → Result (List Command) ScriptFault → Type 0
 ScriptAnswers bytes (Err NoMemory) = length bytes ≤ MOST_SCRIPT_BYTES

@@ -28,7 +28,7 @@ pub enum AuditFault {
     TooLong,
     /// The first faulty line, counted from 1, and its first fault.
     Line { number: u32, fault: AuditLineFault },
-    /// There is no memory for the audit.
+    /// An allocation for the audit failed.
     NoMemory,
 }
 
@@ -36,7 +36,7 @@ pub enum AuditFault {
 ///
 /// # Errors
 ///
-/// `NoMemory` where there is no memory for it.
+/// `NoMemory` where an allocation fails.
 fn enter(journal: &mut Journal, entry: Entry) -> Result<(), JournalFault>
     requires place { entry.at ≡ length journal.old.entries }
     requires few { length journal.old.entries < MOST_ENTRIES }
@@ -54,7 +54,7 @@ fn enter(journal: &mut Journal, entry: Entry) -> Result<(), JournalFault>
 ///
 /// # Errors
 ///
-/// In this order: `TooLong`; `Line` for the first faulty line; `NoMemory` where memory is refused
+/// In this order: `TooLong`; `Line` for the first faulty line; `NoMemory` where an allocation fails
 /// before.
 pub fn read_audit(alloc: Global, bytes: &[u8]) -> Result<Journal, AuditFault>
     ensures read { IfOk result (λ journal. AuditOf bytes.now (Ok (audit_of journal))) }

@@ -25,7 +25,7 @@ pub fn audit_text_is_injective()
 }
 
 /// Bytes are one audit, or have one first fault: so where they are the text of a journal within
-/// the limits, a reader that finds memory reads that journal.
+/// the limits, a reader whose allocations succeed reads that journal.
 pub fn audits_are_unambiguous()
     ensures { AuditIsUnambiguous }
 {

@@ -48,7 +48,7 @@ impl<'b> Model for AuditReader<'b> {
 enum NoEntry {
     /// The first line of what is left is faulty.
     Faulty(AuditLineFault),
-    /// There is no memory for the entry.
+    /// An allocation for the entry failed.
     NoMemory,
 }
 
@@ -139,8 +139,8 @@ fn has_entry(version: Version, entry: &Entry) -> bool
 ///
 /// # Errors
 ///
-/// `Syntax` where the line isn't the text of such an entry; `NoMemory` in its place, where memory
-/// is refused.
+/// `Syntax` where the line isn't the text of such an entry; `NoMemory` in its place, where an
+/// allocation fails.
 pub fn read_entry_at(
     alloc: Global,
     line: &[u8],
@@ -269,7 +269,7 @@ impl<'b> AuditReader<'b> {
     ///
     /// # Errors
     ///
-    /// `Line` for the next line, where it is faulty; `NoMemory` where memory is refused before.
+    /// `Line` for the next line, where it is faulty; `NoMemory` where an allocation fails before.
     pub fn next_entry(&mut self) -> Result<Entry, AuditFault>
         requires { 0 < length self.old.rest }
         ensures read { IfOk result (λ entry. ReadsEntry entry self.old self.new) }

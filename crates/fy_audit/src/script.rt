@@ -16,7 +16,7 @@ pub enum ScriptFault {
     TooLong,
     /// The first faulty line, counted from 1, and its first fault.
     Line { number: u32, fault: LineFault },
-    /// There is no memory for the script.
+    /// An allocation for the script failed.
     NoMemory,
 }
 
@@ -36,7 +36,7 @@ impl<T: Drop> From<AllocFailed<T>> for ScriptFault {
 ///
 /// # Errors
 ///
-/// In this order: `TooLong`; `Line` for the first faulty line; `NoMemory` where memory is refused
+/// In this order: `TooLong`; `Line` for the first faulty line; `NoMemory` where an allocation fails
 /// before.
 pub fn read_script(alloc: Global, bytes: &[u8]) -> Result<Vec<Command>, ScriptFault>
     ensures read { IfOk result (λ commands. ScriptOf bytes.now (Ok commands.items)) }

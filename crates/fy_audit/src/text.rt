@@ -20,8 +20,8 @@ pub fn header_text(version: Version) -> &'static str
 ///
 /// # Errors
 ///
-/// `AllocError` where there is no memory for it, and the text's capacity is too small for it; the
-/// text then has what it had.
+/// `AllocError` where an allocation fails, and the text's capacity is too small for it; the text
+/// then has what it had.
 pub fn push_entry_line(text: &mut Vec<u8>, entry: &Entry) -> Result<(), AllocError>
     ensures ok { OnOk result (text.new.items ≡ text.old.items ++ entry_line entry.now) }
     ensures err { OnErr result (text.new.items ≡ text.old.items) }

@@ -47,7 +47,7 @@ fn write_told<S: Spelling, W: Write>(
 ///
 /// # Errors
 ///
-/// `NoMemory` where memory is refused: nothing is written then. `Write` where the writer fails or
+/// `NoMemory` where an allocation fails: nothing is written then. `Write` where the writer fails or
 /// takes no byte: a front of the text is out, and never all of it.
 pub fn run_bears<S: Spelling, W: Write>(
     alloc: Global,

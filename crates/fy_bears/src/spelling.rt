@@ -19,7 +19,7 @@ pub trait Spelling {
     ///
     /// # Errors
     ///
-    /// Want of memory.
+    /// An allocation failed.
     fn spell(&self, alloc: Global, config: &Config, told: &Told) -> Result<String, AllocError>
         ensures { IfOk result (λ text. spells self.now config.now told.now (string_bytes text)) };
 }

@@ -30,7 +30,7 @@ pub(crate) fn told_at_start(alloc: Global, config: &Config) -> Result<Told, Stop
     ensures memory { IfErr result (λ stop. stop ≡ Stop.NoMemory) }
 {
     let (map, policies) = (config.map(), config.policies());
-    // All processes of a configuration satisfy its policies, so only memory can lack.
+    // All processes of a configuration satisfy its policies, so only an allocation can fail.
     let Ok(dead) = DeadBook::make(alloc, map, policies) else {
         return Err(Stop::NoMemory);
     };
@@ -45,7 +45,7 @@ pub(crate) fn told_at_start(alloc: Global, config: &Config) -> Result<Told, Stop
 ///
 /// # Errors
 ///
-/// The faults of `DeadBook::make`, of which only want of memory occurs.
+/// The faults of `DeadBook::make`, of which only the allocation failure occurs.
 fn book_in(
     alloc: Global,
     cluster: &ClusterState,
@@ -71,7 +71,7 @@ fn told_of(alloc: Global, cluster: &ClusterState) -> Result<Told, Stop>
     ensures memory { IfErr result (λ stop. stop ≡ Stop.NoMemory) }
 {
     let losses = losses_in(cluster);
-    // A cluster survives its losses, so only memory can lack here too.
+    // A cluster survives its losses, so only an allocation can fail here too.
     let Ok(dead) = book_in(alloc, cluster, &losses) else {
         return Err(Stop::NoMemory);
     };

@@ -41,7 +41,7 @@ ok_differs : (answer : Result Setup ConfigFault) (setup : Setup) (fault : Config
     answer ≡ Ok setup → answer ≡ Err fault → ⊥
 ok_differs answer setup fault is other = cc
 
--- there was no memory once a file was read
+-- an allocation failed once a file was read
 pub had_none_left : (bytes : List ℕ) (answer : Result Setup ConfigFault) (setup : Setup) →
     answer ≡ Ok setup → IsLong bytes answer → IsNoText bytes answer →
     NotOpened bytes status.NoMemory
@@ -49,7 +49,7 @@ had_none_left bytes answer setup is long text =
     had_none bytes answer long text (ok_differs answer setup TooLong is)
     (ok_differs answer setup Toml is)
 
--- a reader of cluster files answers a fault: it is the file's, or there was no memory
+-- a reader of cluster files answers a fault: it is the file's, or an allocation failed
 pub not_begun : (bytes : List ℕ) (answer : Result Setup ConfigFault) (fault : ConfigFault) →
     answer ≡ Err fault → IsLong bytes answer → IsNoText bytes answer →
     Answers bytes (Err fault) → NotOpened bytes (config_status fault)

@@ -9,7 +9,6 @@ mod Followed
 mod KindBits
 mod Lined
 mod Lines
-mod Lost
 mod Made
 mod Missing
 mod Opened

@@ -1,19 +1,22 @@
 -- why a line has no answer, and an entry no line
 use Rattle.std.proofs.Common.{◌≡◌, ◌∙◌, ◌≤◌, ◌<◌, ◌+◌, ◌-◌, ℕ, zero, suc, List, [], ◌∷◌, ◌++◌, length, length-append, refl, ap, arith, slice_get, Some, None, inl, inr}
 use Rattle.std.proofs.lemmas.Bool.{cases_lt}
-use Rattle.std.specs.Prelude.{Result, Ok, Err}
+use Rattle.std.specs.Prelude.{Ok, Err}
+use Rattle.fy_acts.specs.declared.act.Act.{Act}
+use Rattle.fy_acts.specs.declared.entry.Entry.{Entry}
 use Rattle.fy_spelling.specs.Command.{LineOf, LineAnswers}
 use Rattle.fy_spelling.specs.declared.command.Command.{Command}
 use Rattle.fy_spelling.specs.declared.command.CommandFault.{CommandFault}
 use Rattle.fy_spelling.specs.declared.command.CommandFault.TheVariants.{Line, NoMemory}
 use Rattle.fy_cluster.specs.declared.fault.Fault.{Fault}
 use Rattle.fy_cluster.specs.declared.fault.Fault.TheVariants as fault
-use Rattle.fy_cluster.specs.Execution.{Execution}
-use Rattle.fy_c.specs.Acting.{HasRoom, NotMade, NoAnswer, NotEntered, NoLine, Acts, room_for, line_status, command_status}
+use Rattle.fy_cluster.specs.Execution.{Execution, next_entry, entered}
+use Rattle.fy_c.specs.Acting.{HasRoom, NotEntered, NoLine, Acts, room_for}
+use Rattle.fy_c.specs.Statuses.{line_status, command_status, entering_status}
 use Rattle.fy_c.specs.declared.status.Status.{Status}
 use Rattle.fy_c.specs.declared.status.Status.TheVariants as status
 
--- a reader of lines answers a fault: it is the line's, or there was no memory
+-- a reader of lines answers a fault: it is the line's, or an allocation failed
 pub faulty_line : (execution : Execution) (line : List ℕ) (room : ℕ) (fault : CommandFault) →
     LineAnswers line (Err fault) → NoLine execution execution line room (command_status fault)
 faulty_line execution line room (Line fault) is =
@@ -21,20 +24,14 @@ faulty_line execution line room (Line fault) is =
 faulty_line execution line room NoMemory is =
     NoLine.not_entered status.NoMemory NotEntered.no_memory refl
 
-not_made : (old new : Execution) (line : List ℕ) (room : ℕ) (command : Command) (why : Status) →
-    LineOf line (Ok command) → new ≡ old → NotMade old why → NoLine old new line room why
-not_made old new line room command _ is kept (NotMade.full full) =
-    NoLine.not_entered status.JournalFull (NotEntered.full command is full) kept
-not_made old new line room command _ is kept (NotMade.no_memory left) =
+-- nor has one whose command isn't entered
+pub no_entry : (old new : Execution) (line : List ℕ) (room : ℕ) (command : Command) (why : Fault) →
+    LineOf line (Ok command) → (why ≡ fault.JournalFull → old.setup.limit ≤ length old.journal) →
+    new ≡ old → NoLine old new line room (entering_status why)
+no_entry old new line room command fault.JournalFull is full kept =
+    NoLine.not_entered status.JournalFull (NotEntered.full command is (full refl)) kept
+no_entry old new line room command fault.NoMemory is full kept =
     NoLine.not_entered status.NoMemory NotEntered.no_memory kept
-
--- the command of a line has no answer
-pub no_answer : (old new : Execution) (line : List ℕ) (room : ℕ) (command : Command) (why : Status) →
-    LineOf line (Ok command) → NoAnswer old new command room why → NoLine old new line room why
-no_answer old new line room command _ is (NoAnswer.not_made why none kept) =
-    not_made old new line room command why is kept none
-no_answer old new line room command _ is (NoAnswer.unwritten left made long) =
-    NoLine.unwritten command is left made long
 
 -- a line that has no answer, in a buffer with room for one
 pub acts_none : (old new : Execution) (line before after : List ℕ) (told : ℕ) (why : Status) →
@@ -67,7 +64,7 @@ same_some : {X : Type 0} (y x : X) → Some y ≡ Some x → y ≡ x
 same_some y x is = cc
 
 -- and is its last from then on
-pub last_is : {X : Type 0} (ys xs : List X) (x y : X) → ys ≡ xs ++ x ∷ [] →
+last_is : {X : Type 0} (ys xs : List X) (x y : X) → ys ≡ xs ++ x ∷ [] →
     Some y ≡ slice_get ys (length ys - 1) → y ≡ x
 last_is ys xs x y is found =
     let count : length (xs ++ x ∷ []) ≡ length xs + 1 = length-append xs (x ∷ []) in
@@ -76,15 +73,17 @@ last_is ys xs x y is found =
     (found ∙ ap (λ zs. slice_get zs (length zs - 1)) is ∙ ap (slice_get (xs ++ x ∷ [])) place
     ∙ at_end xs x)
 
--- want of memory is no full journal
-pub not_full : {A : Type 0} (result : Result A Fault) (why : Fault) → result ≡ Err why →
-    why ≡ fault.NoMemory → result ≡ Err fault.JournalFull → ⊥
-not_full result why is memory full = cc
+-- the last entry of a journal in which an act was entered is that of the act
+pub last_entry : (old new : Execution) (by : ℕ) (act : Act) (entries : List Entry) (entry : Entry) →
+    new ≡ entered old by act → entries ≡ new.journal →
+    Some entry ≡ slice_get entries (length entries - 1) → entry ≡ next_entry old by act
+last_entry old new by act entries entry enters its found =
+    last_is entries old.journal (next_entry old by act) entry
+    (its ∙ ap (λ (it : Execution). it.journal) enters) found
 
--- nor is an answer
-pub not_full_ok : {A : Type 0} (result : Result A Fault) (answer : A) → result ≡ Ok answer →
-    result ≡ Err fault.JournalFull → ⊥
-not_full_ok result answer is full = cc
+-- an answer is no full journal
+pub not_full : {A : Type 0} (answer : A) → Ok answer ≡ Err fault.JournalFull → ⊥
+not_full answer full = cc
 
 -- what isn't full has room
 pub has_room : (execution : Execution) → (execution.setup.limit ≤ length execution.journal → ⊥) →

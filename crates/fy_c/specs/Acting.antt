@@ -4,36 +4,13 @@ use Rattle.fy_acts.specs.declared.entry.Entry.{Entry}
 use Rattle.fy_spelling.specs.Command.{LineOf}
 use Rattle.fy_spelling.specs.declared.command.Command.{Command}
 use Rattle.fy_spelling.specs.declared.command.LineFault.{LineFault}
-use Rattle.fy_spelling.specs.declared.command.LineFault.TheVariants as line
-use Rattle.fy_spelling.specs.declared.command.CommandFault.{CommandFault}
-use Rattle.fy_spelling.specs.declared.command.CommandFault.TheVariants as command_fault
-use Rattle.fy_spelling.specs.declared.command.CommandFault.TheVariants.{Line}
 use Rattle.fy_audit.specs.AuditText.{entry_line}
-use Rattle.fy_cluster.specs.Execution.{Execution, replied, entered}
+use Rattle.fy_cluster.specs.Execution.{Execution, next_entry, entered}
 use Rattle.fy_cluster.specs.Survival.{Survives}
+use Rattle.fy_c.specs.Statuses.{line_status}
 use Rattle.fy_c.specs.declared.acting.TheConstants.{MOST_REPLY_BYTES}
 use Rattle.fy_c.specs.declared.status.Status.{Status}
-use Rattle.fy_c.specs.declared.status.Status.TheVariants.{Done, NoMemory, JournalFull, Short, Unwritten, NoEntry, Floor, LineTooLong, LineSyntax}
-
--- the status for a line that is no command
-abbrev pub line_status : LineFault → Status
-line_status line.TooLong = LineTooLong
-line_status line.Syntax = LineSyntax
-line_status line.Floor = Floor
-
--- the status for a line of which no command is read
-abbrev pub command_status : CommandFault → Status
-command_status (Line fault) = line_status fault
-command_status command_fault.NoMemory = NoMemory
-
--- the entry that a command comes to
-abbrev pub entry_of : Execution → Command → Entry
-entry_of execution command = record {
-  at = length execution.journal;
-  by = command.by;
-  act = command.act;
-  reply = replied execution command.by command.act;
-}
+use Rattle.fy_c.specs.declared.status.Status.TheVariants.{Done, NoMemory, JournalFull, Short, Unwritten, NoEntry}
 
 -- the journal has fewer entries than it may have
 abbrev pub HasRoom : Execution → Type 0
@@ -44,20 +21,11 @@ pub record IsMade (old new : Execution) (command : Command) : Type 0 where
   pub entered : new ≡ entered old command.by command.act
   pub survives : Survives new.setup new.journal
 
--- why a command makes no entry: the journal is full, or there was no memory
-pub data NotMade (old : Execution) : Status → Type 0 where
-  full : old.setup.limit ≤ length old.journal → NotMade old JournalFull
-  no_memory : HasRoom old → NotMade old NoMemory
+-- the line of the entry that a command makes next
+abbrev pub answer_line : Execution → Command → List ℕ
+answer_line execution command = entry_line (next_entry execution command.by command.act)
 
--- a command has no answer: it makes no entry, or its entry's line could not be had, which is longer
--- than the room that a text had for it
-pub data NoAnswer (old new : Execution) (command : Command) (room : ℕ) : Status → Type 0 where
-  not_made : (status : Status) → NotMade old status → new ≡ old →
-      NoAnswer old new command room status
-  unwritten : HasRoom old → IsMade old new command →
-      room < length (entry_line (entry_of old command)) → NoAnswer old new command room Unwritten
-
--- why a line makes no entry: it is no command, the journal is full, or there was no memory
+-- why a line makes no entry: it is no command, the journal is full, or an allocation failed
 pub data NotEntered (old : Execution) (line : List ℕ) : Status → Type 0 where
   faulty : (fault : LineFault) → LineOf line (Err fault) → NotEntered old line (line_status fault)
   full : (command : Command) → LineOf line (Ok command) → old.setup.limit ≤ length old.journal →
@@ -70,7 +38,7 @@ pub data NoLine (old new : Execution) (line : List ℕ) (room : ℕ) : Status �
   not_entered : (status : Status) → NotEntered old line status → new ≡ old →
       NoLine old new line room status
   unwritten : (command : Command) → LineOf line (Ok command) → HasRoom old →
-      IsMade old new command → room < length (entry_line (entry_of old command)) →
+      IsMade old new command → room < length (answer_line old command) →
       NoLine old new line room Unwritten
 
 -- a line is answered by a text: it is a command, which is entered where there is room, and the text
@@ -80,7 +48,7 @@ pub record IsAnswered (old new : Execution) (line text : List ℕ) : Type 0 wher
   pub asked : LineOf line (Ok command)
   pub room : HasRoom old
   pub made : IsMade old new command
-  pub text_is : text ≡ entry_line (entry_of old command)
+  pub text_is : text ≡ answer_line old command
 
 -- the text is written to the front of a buffer, whose other bytes stay, and its length is told
 pub record Tells (before after : List ℕ) (told : ℕ) (text : List ℕ) : Type 0 where
@@ -99,7 +67,7 @@ room_for line = length line + MOST_REPLY_BYTES
 
 -- what a line came to. Where the buffer has too few bytes, nothing else is looked at. Else it came
 -- to an act whose entry's line is told; to an act whose entry's line could not be had, as it has
--- more bytes than the buffer has to have, and there was no memory for it or it is longer than the
+-- more bytes than the buffer has to have, and an allocation for it failed or it is longer than the
 -- buffer; or to none, and nothing changed. But for a line that is told, or longer than the buffer,
 -- what is told is how many bytes the buffer has to have
 pub data Acts (old new : Execution) (line before after : List ℕ) (told : ℕ) : Status → Type 0 where
@@ -109,7 +77,7 @@ pub data Acts (old new : Execution) (line before after : List ℕ) (told : ℕ) 
       Tells before after told text → Acts old new line before after told Done
   unwritten : room_for line ≤ length before → (command : Command) → LineOf line (Ok command) →
       HasRoom old → IsMade old new command →
-      room_for line < length (entry_line (entry_of old command)) → after ≡ before →
+      room_for line < length (answer_line old command) → after ≡ before →
       told ≡ room_for line → Acts old new line before after told Unwritten
   too_long : room_for line ≤ length before → (text : List ℕ) → IsAnswered old new line text →
       IsShort before (length text) told → after ≡ before →
@@ -124,7 +92,8 @@ pub record HasLine (journal : List Entry) (at : ℕ) (line : List ℕ) : Type 0 
   pub there : slice_get journal at ≡ Some entry
   pub line_is : line ≡ entry_line entry
 
--- why the line of an entry isn't had: there is no entry at this place; or there is, and no memory
+-- why the line of an entry isn't had: there is no entry at this place; or there is, and an
+-- allocation failed
 pub data NotRead (journal : List Entry) (at : ℕ) : Status → Type 0 where
   no_entry : length journal ≤ at → NotRead journal at NoEntry
   no_memory : at < length journal → NotRead journal at NoMemory

@@ -53,7 +53,7 @@ pub record IsBorneNow (execution : Execution) (told : FyBorne) : Type 0 where
   pub emptied : IsBorneBy dead Emptied told.emptied told.emptied_exact
   pub gone : IsBorneBy dead Gone told.gone told.gone_exact
 
--- the numbers are told, or there was no memory
+-- the numbers are told, or an allocation failed
 pub data Bears (execution : Execution) (before after : FyBorne) : Status → Type 0 where
   told : IsBorneNow execution after → Bears execution before after Done
   no_memory : after ≡ before → Bears execution before after NoMemory

@@ -90,7 +90,7 @@ pub record MayBeRead (WasRead : List ℕ → Type 0) (number : ℕ) (line : List
   pub begins : number ≡ 1 → (version : Version) × (rest : List ℕ) × (line ≡ header version ++ rest)
 
 -- why a line of this number isn't read behind bytes that were read, in order: there are too many
--- with it; it is faulty; nothing is given; more follows its line feed. Or there was no memory, and
+-- with it; it is faulty; nothing is given; more follows its line feed. Or an allocation failed, and
 -- all that is asked before holds
 pub data Refuses (WasRead : List ℕ → Type 0) (number : ℕ) (line : List ℕ) : Status → Type 0 where
   too_long : ((bytes : List ℕ) → WasRead bytes → AuditOf (bytes ++ line) (Err audit.TooLong)) →

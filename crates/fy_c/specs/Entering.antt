@@ -11,12 +11,12 @@ use Rattle.fy_cluster.specs.Execution.{Execution, history_of, replied, entered}
 use Rattle.fy_cluster.specs.Sights.{needed_of}
 use Rattle.fy_cluster.specs.Survival.{Survives}
 use Rattle.fy_c.specs.Numbers.{refusal_number}
-use Rattle.fy_c.specs.Statuses.{number}
+use Rattle.fy_c.specs.Statuses.{number, entering_status}
 use Rattle.fy_c.specs.declared.status.Status.{Status}
-use Rattle.fy_c.specs.declared.status.Status.TheVariants.{Done, NoMemory, JournalFull, Refused}
+use Rattle.fy_c.specs.declared.status.Status.TheVariants.{Done, Refused}
 
 -- the act is entered with its reply, and no acknowledged record is lost; or nothing changed, since
--- the journal is full or there was no memory
+-- the journal is full or an allocation failed
 abbrev pub Applies : Execution → Execution → ℕ → Act → Result Reply Fault → Type 0
 Applies old new by act (Ok reply) =
     (new ≡ entered old by act) × (reply ≡ replied old by act) × Survives new.setup new.journal
@@ -27,8 +27,7 @@ Applies old new by act (Err why) =
 abbrev pub status_of : Result Reply Fault → Status
 status_of (Ok (No refusal)) = Refused
 status_of (Ok _) = Done
-status_of (Err fault.JournalFull) = JournalFull
-status_of (Err fault.NoMemory) = NoMemory
+status_of (Err why) = entering_status why
 
 -- why an act is refused, 0 where it isn't
 abbrev pub refusal_of : Result Reply Fault → ℕ

@@ -42,8 +42,8 @@ place_of (config.Policy index) = index
 place_of (config.PolicyUnmet index) = index
 place_of config.NoMemory = 0
 
--- the bytes are a cluster file; or their first fault is told, with its part and place; or there was
--- no memory
+-- the bytes are a cluster file; or their first fault is told, with its part and place; or an
+-- allocation failed
 pub data Faults (bytes : List ℕ) (part place : ℕ) : Status → Type 0 where
   none : (setup : Setup) → ConfigOf bytes (Ok setup) → part ≡ 0 → place ≡ 0 →
       Faults bytes part place Done

@@ -102,7 +102,7 @@ pub record IsFormOf (members : List ℕ) (policy : ℕ) (act : Act) : Type 0 whe
   pub act_is : act ≡ Form (processes members) policy
 
 -- why no team is formed, the first that holds: the numbers don't rise or are too many, the journal
--- is full, or there was no memory
+-- is full, or an allocation failed
 pub data NoForm (old : Execution) (members : List ℕ) : Status → Type 0 where
   no_members : ¬ AreMembers (processes members) → NoForm old members Argument
   full : AreMembers (processes members) → old.setup.limit ≤ length old.journal →
@@ -115,7 +115,7 @@ pub record IsBeginOf (team : ℕ) (payload : List ℕ) (act : Act) : Type 0 wher
   pub act_is : act ≡ Begin team payload
 
 -- why no record is begun, the first that holds: the bytes are too many for a line of an audit, the
--- journal is full, or there was no memory
+-- journal is full, or an allocation failed
 pub data NoBegin (old : Execution) (payload : List ℕ) : Status → Type 0 where
   too_long : MOST_PAYLOAD < length payload → NoBegin old payload Argument
   full : length payload ≤ MOST_PAYLOAD → old.setup.limit ≤ length old.journal →

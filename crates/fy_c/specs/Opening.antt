@@ -15,7 +15,7 @@ abbrev pub Begins : List ℕ → Execution → Type 0
 Begins bytes execution = ConfigOf bytes (Ok execution.setup) × (execution ≡ opened execution.setup)
 
 -- why no guard is opened for these bytes: they are no cluster file, by the first reason that holds;
--- or there was no memory, which is asked for once they are known to be few enough and UTF-8
+-- or an allocation failed, which is tried once they are known to be few enough and UTF-8
 pub data NotOpened (bytes : List ℕ) : Status → Type 0 where
   refused : (fault : ConfigFault) → ConfigOf bytes (Err fault) →
       NotOpened bytes (config_status fault)

@@ -21,7 +21,7 @@ use Rattle.fy_c.specs.declared.planning.FyOrder.{FyOrder}
 use Rattle.fy_c.specs.declared.status.Status.{Status}
 use Rattle.fy_c.specs.declared.status.Status.TheVariants.{Done, NoMemory, Short, Argument, Floor}
 
--- there are as many words as before, the first of a stream of the seed; or there was no memory
+-- there are as many words as before, the first of a stream of the seed; or an allocation failed
 pub data Draws (seed stream : ℕ) (before after : List ℕ) : Status → Type 0 where
   drawn : after ≡ stream_outputs seed stream (length before) → Draws seed stream before after Done
   no_memory : after ≡ before → Draws seed stream before after NoMemory
@@ -143,7 +143,7 @@ pub data Gives (orders before after : List FyOrder) (told : ℕ) : Status → Ty
   short : length before < length orders → told ≡ length orders → after ≡ before →
       Gives orders before after told Short
 
--- a plan is given, or there was no memory for it
+-- a plan is given, or an allocation failed for it
 pub data Plans (IsPlan : List FyOrder → Type 0) (before after : List FyOrder) (told : ℕ)
     (status : Status) : Type 0 where
   planned : (orders : List FyOrder) → IsPlan orders → Gives orders before after told status →
@@ -151,7 +151,7 @@ pub data Plans (IsPlan : List FyOrder → Type 0) (before after : List FyOrder) 
   no_memory : status ≡ NoMemory → told ≡ 0 → after ≡ before →
       Plans IsPlan before after told status
 
--- an attrition is given, or there was no memory; or none is asked for, and why is told
+-- an attrition is given, or an allocation failed; or none is asked for, and why is told
 pub data PlansAttrition (processes : List Locality) (asked : Asked) (before after : List FyOrder)
     (told : ℕ) (status : Status) : Type 0 where
   asked_for : (kind floor : Kind) → (are : AreKinds asked kind floor) →
@@ -177,8 +177,8 @@ pub record AreOrdersOf (processes : List Locality) (plan : Plan) (seed actor cou
   pub turns : length acts ≡ count
   pub told : orders ≡ orders_of acts
 
--- a buffer is filled with such orders; or the number is that of no plan; or it is one's, and there
--- was no memory
+-- a buffer is filled with such orders; or the number is that of no plan; or it is one's, and an
+-- allocation failed
 pub data FillsWithOrders (processes : List Locality) (number seed actor : ℕ)
     (before after : List FyOrder) : Status → Type 0 where
   filled : (plan : Plan) → number ≡ plan_number plan →

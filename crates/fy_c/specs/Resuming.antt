@@ -47,7 +47,7 @@ pub record Refutes (setup : Setup) (audit : List ℕ) (at : ℕ) : Type 0 where
   pub place : at ≡ length before
 
 -- why an audit isn't followed, in order: it is too long; it has no header; it is of the first
--- version; it begins with a legal journal, and the next line is faulty. Or there was no memory,
+-- version; it begins with a legal journal, and the next line is faulty. Or an allocation failed,
 -- which is asked for once all entries so far are a legal journal
 pub data NotFollowed (setup : Setup) (audit : List ℕ) : Status → Type 0 where
   too_long : AuditOf audit (Err TooLong) → NotFollowed setup audit AuditTooLong

@@ -1,5 +1,11 @@
 -- the numbers that calls answer
 use Rattle.std.specs.Prelude.{◌≡◌, ℕ}
+use Rattle.fy_spelling.specs.declared.command.LineFault.{LineFault}
+use Rattle.fy_spelling.specs.declared.command.LineFault.TheVariants as line
+use Rattle.fy_spelling.specs.declared.command.CommandFault.{CommandFault}
+use Rattle.fy_spelling.specs.declared.command.CommandFault.TheVariants as command
+use Rattle.fy_cluster.specs.declared.fault.Fault.{Fault}
+use Rattle.fy_cluster.specs.declared.fault.Fault.TheVariants as cluster
 use Rattle.fy_config.specs.declared.fault.ConfigFault.{ConfigFault}
 use Rattle.fy_config.specs.declared.fault.ConfigFault.TheVariants as config
 use Rattle.fy_c.specs.declared.status.Status.{Status}
@@ -44,3 +50,19 @@ config_status (config.Name part index) = ConfigName
 config_status (config.Policy index) = ConfigPolicy
 config_status (config.PolicyUnmet index) = ConfigUnmet
 config_status config.NoMemory = NoMemory
+
+-- the status for a line that is no command
+abbrev pub line_status : LineFault → Status
+line_status line.TooLong = LineTooLong
+line_status line.Syntax = LineSyntax
+line_status line.Floor = Floor
+
+-- the status for a line of which no command is read
+abbrev pub command_status : CommandFault → Status
+command_status (command.Line fault) = line_status fault
+command_status command.NoMemory = NoMemory
+
+-- the status for an act that isn't entered
+abbrev pub entering_status : Fault → Status
+entering_status cluster.JournalFull = JournalFull
+entering_status cluster.NoMemory = NoMemory

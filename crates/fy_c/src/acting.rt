@@ -2,40 +2,19 @@
 ghost use Rattle.std.specs.Prelude.{◌≡◌, ◌≢◌, ◌<◌, length, vec_capacity, IsTrue, IsFalse, IfOk, IfErr, OnOk, OnErr};
 ghost use Rattle.std.specs.Ptr.{null_ptr};
 ghost use Rattle.fy_audit.specs.AuditText.{entry_line};
-ghost use Rattle.fy_c.specs.Acting.{entry_of, HasRoom, IsMade, NotMade, NoAnswer, NoLine, IsAnswered, Tells, IsShort, Acts, HasLine, NotRead, Reads, line_status, command_status};
+ghost use Rattle.fy_c.specs.Acting.{NoLine, IsAnswered, Tells, IsShort, Acts, HasLine, NotRead, Reads};
 ghost use Rattle.fy_c.specs.Statuses.{Answers};
 
 use crate::handle::FyGuard;
 use crate::status::Status;
 use fy_acts::Journal;
 use fy_audit::push_entry_line;
-use fy_cluster::{Cluster, Fault};
-use fy_spelling::{Command, CommandFault, Entry, LineFault, read_command};
+use fy_cluster::Cluster;
+use fy_spelling::{Entry, read_command};
 use std::alloc::{AllocError, Global};
 
 /// How many bytes the line of an entry may have beyond those of the line that asked for it: 128.
 pub const MOST_REPLY_BYTES: usize = 128;
-
-/// The status for a line that is no command.
-fn line_status(fault: LineFault) -> Status
-    ensures { result ≡ line_status fault }
-{
-    match fault {
-        LineFault::TooLong => Status::LineTooLong,
-        LineFault::Syntax => Status::LineSyntax,
-        LineFault::Floor => Status::Floor,
-    }
-}
-
-/// The status for a line of which no command is read.
-fn command_status(fault: CommandFault) -> Status
-    ensures { result ≡ command_status fault }
-{
-    match fault {
-        CommandFault::Line(fault) => line_status(fault),
-        CommandFault::NoMemory => Status::NoMemory,
-    }
-}
 
 /// Puts an entry's line into a text, in place of what it has.
 fn put_line(text: &mut Vec<u8>, entry: &Entry) -> Result<(), AllocError>
@@ -46,49 +25,43 @@ fn put_line(text: &mut Vec<u8>, entry: &Entry) -> Result<(), AllocError>
     push_entry_line(text, entry)
 }
 
-/// Applies a command.
-fn make(cluster: &mut Cluster, command: Command) -> Result<(), Status>
-    ensures made { OnOk result (IsMade cluster.old cluster.new command) }
-    ensures room { OnOk result (HasRoom cluster.old) }
-    ensures not_made { IfErr result (NotMade cluster.old) }
-    ensures kept { OnErr result (cluster.new ≡ cluster.old) }
+/// Applies the command of a line, and puts the line of its entry into a text, in place of what it
+/// has.
+///
+/// # Errors
+///
+/// In order: `LineTooLong`, `LineSyntax` and `Floor` for a line that is no command, `JournalFull`;
+/// and `NoMemory`: nothing changed then. `Unwritten` where the act is made and an allocation for the
+/// line failed, which has more bytes than the text has room for.
+fn answer(
+    alloc: Global,
+    cluster: &mut Cluster,
+    line: &[u8],
+    text: &mut Vec<u8>,
+) -> Result<(), Status>
+    ensures answered { OnOk result
+        (IsAnswered cluster.old cluster.new line.now text.new.items) }
+    ensures err { IfErr result
+        (NoLine cluster.old cluster.new line.now (vec_capacity text.old)) }
 {
+    let command = read_command(alloc, line)?;
     let (by, act) = command.into_parts();
-    match cluster.apply(by, act) {
-        Ok(_) => Ok(()),
-        Err(Fault::JournalFull) => Err(Status::JournalFull),
-        Err(Fault::NoMemory) => Err(Status::NoMemory),
-    }
-}
-
-/// Applies a command, and puts its entry's line into a text.
-fn answer(cluster: &mut Cluster, command: Command, text: &mut Vec<u8>) -> Result<(), Status>
-    ensures made { OnOk result (IsMade cluster.old cluster.new command) }
-    ensures room { OnOk result (HasRoom cluster.old) }
-    ensures text { OnOk result (text.new.items ≡ entry_line (entry_of cluster.old command)) }
-    ensures err { IfErr result (NoAnswer cluster.old cluster.new command (vec_capacity text.old)) }
-{
-    match make(cluster, command) {
-        Ok(()) => {}
-        Err(status) => return Err(status),
-    }
+    cluster.apply(by, act)?;
     let Some(entry) = cluster.journal().entries().last() else {
         unreachable!();
     };
+    // The act is made, so no `From` says what an allocation failure is here.
     match put_line(text, entry) {
         Ok(()) => Ok(()),
         Err(_) => Err(Status::Unwritten),
     }
 }
 
-/// Applies the command of a line, and gives the line of its entry. The room is how many bytes that
-/// line is thought to have.
+/// Answers a line as `answer` does, by a text that has room for so many bytes.
 ///
 /// # Errors
 ///
-/// In order: `LineTooLong`, `LineSyntax` and `Floor` for a line that is no command, `JournalFull`;
-/// and `NoMemory`: nothing changed then. `Unwritten` where the act is made and the line couldn't be
-/// had: it has more bytes than that room, and there was no memory for it.
+/// `NoMemory` where that room can't be had, and those of `answer`.
 fn act(alloc: Global, guard: &mut FyGuard, line: &[u8], room: usize) -> Result<Vec<u8>, Status>
     requires { guard.old.at ≢ null_ptr }
     ensures open { guard.new.at ≢ null_ptr }
@@ -99,14 +72,8 @@ fn act(alloc: Global, guard: &mut FyGuard, line: &[u8], room: usize) -> Result<V
     let Ok(mut text) = Vec::with_capacity(alloc, room) else {
         return Err(Status::NoMemory);
     };
-    let command = match read_command(alloc, line) {
-        Ok(command) => command,
-        Err(fault) => return Err(command_status(fault)),
-    };
-    match answer(guard.cluster(), command, &mut text) {
-        Ok(()) => Ok(text),
-        Err(status) => Err(status),
-    }
+    answer(alloc, guard.cluster(), line, &mut text)?;
+    Ok(text)
 }
 
 /// Copies a text into the front of a buffer and says so, where it fits; tells how long it is.
@@ -133,7 +100,7 @@ fn tell(text: &[u8], buffer: &mut [u8], told: &mut usize) -> bool
 /// `LineTooLong`, `LineSyntax` and `Floor` for a line that is no command, and `JournalFull`.
 /// `NoMemory` can take the place of any but the first. Nothing changed then. `Unwritten` where the
 /// act is made and stands in the journal, and its line couldn't be had: it has over 128 bytes more
-/// than `line`, and there was no memory for it or it is longer than the buffer. Its length goes to
+/// than `line`, and an allocation for it failed or it is longer than the buffer. Its length goes to
 /// `told` where it is longer, and after each other error the length that the buffer has to have.
 #[unsafe(no_mangle)]
 pub extern "C" fn fy_act(

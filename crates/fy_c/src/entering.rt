@@ -31,8 +31,7 @@ pub(crate) fn status_of(answer: Result<Reply, Fault>) -> Status
     match answer {
         Ok(Reply::No(_)) => Status::Refused,
         Ok(_) => Status::Done,
-        Err(Fault::JournalFull) => Status::JournalFull,
-        Err(Fault::NoMemory) => Status::NoMemory,
+        Err(fault) => Status::from(fault),
     }
 }
 

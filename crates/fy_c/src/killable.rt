@@ -50,7 +50,7 @@ fn killable(cluster: &Cluster, actor: u32, kinds: &mut [u8]) -> Status
 /// Writes to place p of the buffer the number of the kind by which a kill of process p alone would
 /// strike now, ordered by this actor by `KillInstantly` with the floor `RebootProcess`; 0 where
 /// none would strike. Each is for itself: once one is killed, fewer may be. How many processes
-/// there are goes to `told`. It enters nothing, and takes no memory.
+/// there are goes to `told`. It enters nothing, and doesn't allocate.
 ///
 /// # Errors
 ///

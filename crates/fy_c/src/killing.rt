@@ -195,7 +195,7 @@ fn expected_outcome(
 }
 
 /// What `fy_kill` would answer now to the same order, if the journal had room. It enters nothing,
-/// and takes no memory. The three numbers are those of `fy_kill`.
+/// and doesn't allocate. The three numbers are those of `fy_kill`.
 ///
 /// # Errors
 ///

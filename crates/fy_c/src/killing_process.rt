@@ -170,7 +170,7 @@ pub(crate) fn judge_process(
 }
 
 /// What `fy_kill_process` would answer now to the same order, if the journal had room. It enters
-/// nothing, and takes no memory. The three numbers are those of `fy_kill`.
+/// nothing, and doesn't allocate. The three numbers are those of `fy_kill`.
 ///
 /// # Errors
 ///

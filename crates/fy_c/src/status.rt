@@ -2,14 +2,16 @@
 ghost use Rattle.std.specs.Prelude.{◌≡◌};
 ghost use Rattle.fy_c.specs.Statuses.{number, config_status};
 
+use fy_cluster::Fault;
 use fy_config::ConfigFault;
+use fy_spelling::{CommandFault, LineFault};
 
 /// How a call ended. But for `Done`, `Refused` and `Unwritten` nothing changed.
 #[derive(Clone, Copy, PartialEq, Eq, Debug)]
 pub enum Status {
     /// The call did what its name says.
     Done,
-    /// There was no memory.
+    /// An allocation failed.
     NoMemory,
     /// The journal has as many entries as it may have.
     JournalFull,
@@ -51,6 +53,34 @@ pub enum Status {
     AuditTooLong,
     /// An entry of an audit isn't what the rules give.
     Refuted,
+}
+
+impl From<CommandFault> for Status {
+    ghost use Rattle.fy_c.specs.Statuses.{command_status};
+
+    ghost from_gives = { λ fault status. status ≡ command_status fault };
+
+    fn from(fault: CommandFault) -> Status {
+        match fault {
+            CommandFault::Line(LineFault::TooLong) => Status::LineTooLong,
+            CommandFault::Line(LineFault::Syntax) => Status::LineSyntax,
+            CommandFault::Line(LineFault::Floor) => Status::Floor,
+            CommandFault::NoMemory => Status::NoMemory,
+        }
+    }
+}
+
+impl From<Fault> for Status {
+    ghost use Rattle.fy_c.specs.Statuses.{entering_status};
+
+    ghost from_gives = { λ fault status. status ≡ entering_status fault };
+
+    fn from(fault: Fault) -> Status {
+        match fault {
+            Fault::JournalFull => Status::JournalFull,
+            Fault::NoMemory => Status::NoMemory,
+        }
+    }
 }
 
 impl Status {

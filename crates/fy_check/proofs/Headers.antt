@@ -1,7 +1,7 @@
 -- whether an audit has a header, by what is held of it
-use Rattle.std.proofs.Common.{◌≡◌, ◌∙◌, ◌<◌, ℕ, List, [], ◌∷◌, ◌++◌, length, refl, sym, ap, arith, append_assoc, length-append, codes}
+use Rattle.std.proofs.Common.{◌≡◌, ◌∙◌, ◌<◌, ℕ, List, [], ◌∷◌, ◌++◌, length, refl, sym, ap, arith, append_assoc, codes}
 use Rattle.fy_lines.specs.Lines.{lines_of, IsLine}
-use Rattle.fy_lines.proofs.SplitLemmas.{lines_of_ended, lines_of_lone}
+use Rattle.fy_lines.proofs.SplitLemmas.{lines_of_ended}
 use Rattle.fy_lines.proofs.FeedLemmas.{begins}
 use Rattle.fy_audit.specs.Audit.{HasNoHeader}
 use Rattle.fy_audit.specs.AuditText.{header}
@@ -23,10 +23,6 @@ headed Second rest = refl
 title_long : (version : Version) → length (title version) ≡ 11
 title_long First = refl
 title_long Second = refl
-
-header_long : (version : Version) → length (header version) ≡ 12
-header_long First = refl
-header_long Second = refl
 
 same_first : (a b : List ℕ) (c d : List (List ℕ)) → a ∷ c ≡ b ∷ d → a ≡ b
 same_first a b c d e = cc
@@ -55,19 +51,4 @@ long_line held front after more split whole long version rest is =
     let same = ap length (first_title (held ++ more) rest first.0 first.1 version (ap lines_of all ∙ first.2) is) in
     let longer = first.3 in
     let short = title_long version in
-    absurd (omega arith)
-
--- all that there is has no line feed
-pub last_line : (held : List ℕ) → IsLine held → HasNoHeader held
-last_line [] whole version rest is =
-    let long = ap length is in
-    let parts = length-append (header version) rest in
-    let some = header_long version in
-    absurd (omega arith)
-last_line (x ∷ xs) whole version rest is =
-    let same = ap length (first_title (x ∷ xs) rest (x ∷ xs) [] version (lines_of_lone (x ∷ xs) (omega arith) whole) is) in
-    let long = ap length is in
-    let parts = length-append (header version) rest in
-    let title = title_long version in
-    let some = header_long version in
     absurd (omega arith)

@@ -23,7 +23,7 @@ use Rattle.fy_audit.proofs.Steps.{one_line_more, one_more_from}
 use Rattle.fy_acts.specs.declared.version.Version.{Version}
 use Rattle.fy_streams.specs.declared.stop.Stop.{Stop}
 use Rattle.fy_streams.specs.declared.stop.Stop.TheVariants.{Audit, Read}
-use Rattle.fy_check.specs.Inputs.{InputState, HasTaken, IsReadInto, IsRefused, IsInputStop, TellsFault, input_stop}
+use Rattle.fy_check.specs.Inputs.{InputState, HasTaken, IsReadInto, IsRefused, TellsFault, input_stop}
 
 -- an audit of this version, of which so many entries were taken, behind this window
 abbrev pub behind : Version → ℕ → WindowState → InputState
@@ -259,16 +259,6 @@ pub refused_unread : (number read : ℕ) (fault : AuditLineFault) (left : Option
 refused_unread number read fault left stop (IsRefused.faulty is end few) unread = few
 refused_unread number read fault left stop (IsRefused.cut why is cut) unread = cut_unread read why cut (sym is ∙ unread)
 
-own_cut : (why : InputFault) → IsInputStop (input_stop why)
-own_cut input.TooLong = tt
-own_cut input.Reader = tt
-own_cut input.NoMemory = tt
-
-pub own_refused : (number read : ℕ) (fault : AuditLineFault) (left : Option (List ℕ)) (stop : Stop)
-    → IsRefused number fault read left stop → IsInputStop stop
-own_refused number read fault left stop (IsRefused.faulty is end few) = subst IsInputStop (sym is) tt
-own_refused number read fault left stop (IsRefused.cut why is cut) = subst IsInputStop (sym is) (own_cut why)
-
 -- ---- at the beginning
 
 pub on_after_slide : (first old new : WindowState) (start before left : Option (List ℕ)) → Slides first old start before
@@ -347,18 +337,3 @@ header_tells known before left first held new stop slides none zero on (IsRefuse
     subst (TellsFault known) (sym is) (no_header_known known before left first held new slides none zero on end few unheaded)
 header_tells known before left first held new stop slides none zero on (IsRefused.cut why is cut) unheaded =
     subst (TellsFault known) (sym is) (first_cut known left first new why (on_after_slide first held new known before left slides on) zero cut)
-
--- all was read, and has no line feed
-pub last_tells : (known left : Option (List ℕ)) (first held : WindowState) → Slides first held known left → first.held ≡ []
-    → first.read ≡ 0 → IsAtEnd left → held.read ≤ MOST_AUDIT_BYTES → HasNoHeader held.held
-    → TellsFault known (Audit (Line 1 of_line.Header))
-last_tells None left first held slides none zero end few unheaded = tt
-last_tells (Some bytes) None first held slides none zero end few unheaded = absurd slides.consumed
-last_tells (Some bytes) (Some rest) first held slides none zero end few unheaded =
-    let all : held.held ≡ slides.more = slides.held ∙ ap (λ l. l ++ slides.more) none in
-    let whole : bytes ≡ held.held =
-    slides.consumed ∙ ap (λ l. slides.more ++ l) end ∙ append-nil slides.more ∙ sym all in
-    let long = ap length whole in
-    let same = ap length all in
-    let one = slides.counted in
-    (omega arith, (refl, subst HasNoHeader (sym whole) unheaded))

@@ -151,9 +151,9 @@ pub fn write_finding<W: Write>(finding: Finding, writer: &mut W) -> Result<bool,
 ///
 /// # Errors
 ///
-/// `Audit` for an audit that is refused, `Read` where the reader fails, `NoMemory` where memory is
-/// refused: nothing is written then. `Write` where the writer fails or takes no byte: a front of
-/// the line is out, and never all of it.
+/// `Audit` for an audit that is refused, `Read` where the reader fails, `NoMemory` where an
+/// allocation fails: nothing is written then. `Write` where the writer fails or takes no byte: a
+/// front of the line is out, and never all of it.
 pub fn run_check<R: Read, W: Write>(
     alloc: Global,
     config: &Config,

@@ -42,7 +42,8 @@ impl Model for AuditInput {
     ghost invariant = { IsWithin };
 }
 
-/// The stop for an audit of which not all can be read.
+/// The stop for an audit of which not all can be read. What is too long differs by what is read, so
+/// no `From` says it.
 pub fn input_stop(fault: InputFault) -> Stop
     ensures stop { result ≡ input_stop fault }
     ensures own { IsInputStop result }
@@ -85,7 +86,7 @@ impl AuditInput {
     /// # Errors
     ///
     /// `Audit` where the audit is too long, wherever that shows, or its first line isn't a header;
-    /// `Read` where the reader fails; `NoMemory` where memory is refused.
+    /// `Read` where the reader fails; `NoMemory` where an allocation fails.
     pub fn begin<R: Read>(alloc: Global, reader: &mut R) -> Result<AuditInput, Stop>
         ensures begun { IfOk result
             (HasTaken (R.remaining reader.old) (R.remaining reader.new) []) }
@@ -140,7 +141,7 @@ impl AuditInput {
     ///
     /// `Audit` where the audit is too long, wherever that shows, or its next line is faulty; `Read`
     /// where the reader fails, in place of a faulty line too: the rest is read for that. `NoMemory`
-    /// where memory is refused.
+    /// where an allocation fails.
     fn next_entry<R: Read>(&mut self, reader: &mut R) -> Result<Option<Entry>, Stop>
         requires { self.old.read ≤ MOST_AUDIT_BYTES }
         ensures taken { IfOk result (λ next. IfSome next
@@ -196,7 +197,7 @@ impl AuditInput {
     /// # Errors
     ///
     /// `Audit` where the audit is too long, wherever that shows, or has a faulty line; `Read` where
-    /// the reader fails, in place of a faulty line too; `NoMemory` where memory is refused.
+    /// the reader fails, in place of a faulty line too; `NoMemory` where an allocation fails.
     pub fn read_into<R: Read, S: Sink>(&mut self, reader: &mut R, sink: &mut S) -> Result<u32, Stop>
         requires first { (known : Option (List ℕ))
             × HasTaken known (R.remaining reader.old) [] self.old }

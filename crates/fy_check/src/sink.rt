@@ -15,7 +15,7 @@ pub trait Sink {
     ///
     /// # Errors
     ///
-    /// Want of memory.
+    /// An allocation failed.
     fn enter(&mut self, entry: Entry) -> Result<(), AllocError>
         requires { (begun : Self) × (so_far : List Entry) × has_taken begun so_far self.old
             × (entry.at ≡ length so_far) }

@@ -1,5 +1,5 @@
 -- whether an entry may come next
-use Rattle.std.proofs.Common.{◌≡◌, ◌↔◌, ℕ, ◌+◌, ◌<◌, ◌≤◌, Bool, true, false, List, [], ◌∷◌, ◌++◌, length, take, get_or, slice_get, Some, IsTrue, sym, ◌∙◌, ap, subst, arith}
+use Rattle.std.proofs.Common.{◌≡◌, ◌↔◌, ℕ, ◌+◌, ◌<◌, ◌≤◌, Bool, true, false, List, [], ◌∷◌, ◌++◌, length, take, get_or, IsTrue, sym, ◌∙◌, subst, arith}
 use Rattle.std.specs.Bool.{Decides}
 use Rattle.std.proofs.lemmas.Bool.{false≢true}
 use Rattle.std.proofs.lemmas.List.{length-take-le}
@@ -13,7 +13,6 @@ use Rattle.fy_cluster.specs.Replies.{reply}
 use Rattle.fy_cluster.specs.Versions.{LegalUnder, NextLegalUnder}
 use Rattle.fy_acts.specs.Versions.{knows}
 use Rattle.fy_replay.specs.Check.{IsFirstBad}
-use Rattle.std.proofs.lemmas.Option.{slice_get-get_or}
 use Rattle.fy_check_by_rules.proofs.Lists.{one_more}
 
 -- the entry with its journal is legal where the test is true
@@ -27,14 +26,6 @@ not_known law version c journal e l k = (
 )
 
 -- ---- the entries one after another
-
--- each entry is numbered by its place
-abbrev pub AreNumbered : List Entry → Type 0
-AreNumbered entries = (place : ℕ) (entry : Entry) → slice_get entries place ≡ Some entry → entry.at ≡ place
-
-pub place_is : (entries : List Entry) (i : ℕ) (e : Entry) → i < length entries → e ≡ get_or entries i e → AreNumbered entries → e.at ≡ length (take i entries)
-place_is entries i e l is numbered =
-    numbered i e (slice_get-get_or entries i e l ∙ ap Some (sym is)) ∙ sym (length-take-le i entries (omega arith))
 
 -- an entry that may not come next is the first bad one
 pub first_bad : (version : Version) (c : Setup) (entries : List Entry) (i : ℕ) (e : Entry) (next : Bool) → i < length entries → e ≡ get_or entries i e → e.at ≡ length (take i entries)

@@ -1,40 +1,14 @@
 -- what was written, read off what came later, is what the fates of the writes say
-use Rattle.std.proofs.Common.{◌≡◌, ℕ, ◌+◌, Bool, true, false, cond, ◌&&◌, ◌||◌, not, List, [], ◌∷◌, ◌++◌, length, map, filter, find, Option, Some, None, is_some, is_none, refl, sym, ◌∙◌, ap, ap₂, inl, inr, option_to_list, option_map, if◌then◌else◌, append-nil, length-append, ◌==◌}
-use Rattle.std.proofs.lemmas.Bool.{false≢true, true≢false, not-true, or_right, or_cases, and_parts}
+use Rattle.std.proofs.Common.{◌≡◌, ℕ, ◌+◌, Bool, true, false, cond, ◌&&◌, ◌||◌, not, List, [], ◌∷◌, ◌++◌, length, map, find, Option, Some, None, is_some, is_none, refl, sym, ◌∙◌, ap, ap₂, inl, inr, option_to_list, option_map, if◌then◌else◌, append-nil, length-append}
+use Rattle.std.proofs.lemmas.Bool.{true≢false, not-true, or_cases, and_parts}
 use Rattle.std.proofs.lemmas.List.{map-append}
-use Rattle.std.specs.Prelude.{option_and_then}
 use Rattle.std.specs.List.{list_any}
-use Rattle.fy_kinds.specs.declared.kind.Kind.{Kind}
-use Rattle.fy_kinds.specs.declared.kind.Kind.TheVariants.{RebootProcess, Reboot, RebootAndDelete, KillInstantly}
-use Rattle.fy_kinds.specs.Kinds.{is_destroying}
-use Rattle.fy_acts.specs.declared.act.Act.{Act}
-use Rattle.fy_acts.specs.declared.act.Act.TheVariants.{Deliver, Sync}
-use Rattle.fy_acts.specs.declared.reply.Reply.{Reply}
 use Rattle.fy_disk.specs.declared.item.Item.{Item}
-use Rattle.fy_cluster.specs.History.{History, Step, some_is, struck_by, syncs, syncs_at, strikes, destroys, is_closing, closes, close_keeps, delivers, is_stored, store_to, writes, written_item, Fate, is_pending, is_durable, fate_after, Write, write_after, items_with, new_write, writes_to, synced, unsynced}
+use Rattle.fy_cluster.specs.History.{History, Step, some_is, syncs_at, destroys, closes, close_keeps, writes, written_item, Fate, is_pending, is_durable, fate_after, Write, write_after, items_with, new_write, writes_to, synced, unsynced}
+use Rattle.fy_cluster.proofs.DiskSteps.{destroys_closes, sync_strikes_none, closer_writes_none, items_with-cons, items_with-append}
 use Rattle.fy_check_by_rules.specs.Written.{place, is_open, is_kept, written}
 
 -- ---- what an entry does to pending writes
-
--- What destroys a process closes its writes.
-destroys_closes : (p : ℕ) (m : Step) → destroys m p ≡ true → closes p m ≡ true
-destroys_closes p m d = or_right (syncs_at m p) _ (kind (strikes m p) d)
-  where
-    kind : (o : Option Kind) → some_is is_destroying o ≡ true → some_is is_closing o ≡ true
-    kind None d = d
-    kind (Some KillInstantly) d = refl
-    kind (Some RebootAndDelete) d = refl
-    kind (Some Reboot) d = refl
-    kind (Some RebootProcess) d = d
-
--- A Sync strikes nobody.
-sync_strikes_none : (m : Step) (p : ℕ) → syncs_at m p ≡ true → destroys m p ≡ false
-sync_strikes_none m p s = at m.entry.act m.entry.reply (m.targets p) s
-  where
-    at : (act : Act) (r : Reply) (b : Bool) → some_is (λ q. q == p) (syncs act r) ≡ true → some_is is_destroying (if b then struck_by act r else None) ≡ false
-    at (Sync q) r true s = refl
-    at (Sync q) r false s = refl
-    at _ r b s = absurd (false≢true s)
 
 -- An entry that keeps a write destroys nobody.
 kept_spares : (p i : ℕ) (m : Step) → close_keeps p i m ≡ true → destroys m p ≡ false
@@ -42,16 +16,6 @@ kept_spares p i m k = elim (or_cases (syncs_at m p) _ k) [
   | inl s ↦ sync_strikes_none m p s
   | inr a ↦ not-true _ (and_parts (not (destroys m p)) _ a).0
 ]
-
--- An entry that closes writes nothing.
-closer_writes_none : (m : Step) (p : ℕ) → closes p m ≡ true → writes m p ≡ None
-closer_writes_none m p c = at m.entry.act m.entry.reply (m.targets p) c
-  where
-    at : (act : Act) (r : Reply) (b : Bool) → (some_is (λ q. q == p) (syncs act r) || some_is is_closing (if b then struck_by act r else None)) ≡ true
-        → (if is_some (delivers act r) && is_stored r then option_and_then (store_to p) m.message else None) ≡ None
-    at (Deliver n) r true e = absurd (false≢true e)
-    at (Deliver n) r false e = absurd (false≢true e)
-    at _ r b e = refl
 
 -- ---- the fate of one write
 
@@ -107,26 +71,6 @@ kept_through p i (m ∷ later) = at (closes p m) (close_keeps p i m) (destroys m
     at false k false ec ek ed e = e
 
 -- ---- lists of writes
-
-items_with-cons : (f : Fate → Bool) (w : Write) (ws : List Write) → items_with f (w ∷ ws) ≡ cond (f w.fate) (w.item ∷ items_with f ws) (items_with f ws)
-items_with-cons f w ws = at (f w.fate)
-  where
-    rest : List Write
-    rest = filter (λ w. f w.fate) ws
-
-    at : (b : Bool) → map (λ (w : Write). w.item) (cond b (w ∷ rest) rest) ≡ cond b (w.item ∷ items_with f ws) (items_with f ws)
-    at true = refl
-    at false = refl
-
-items_with-append : (f : Fate → Bool) (xs ys : List Write) → items_with f (xs ++ ys) ≡ items_with f xs ++ items_with f ys
-items_with-append f [] ys = refl
-items_with-append f (x ∷ xs) ys =
-    items_with-cons f x (xs ++ ys) ∙ at (f x.fate) (items_with-append f xs ys) ∙ ap (λ l. l ++ items_with f ys) (sym (items_with-cons f x xs))
-  where
-    at : (b : Bool) → items_with f (xs ++ ys) ≡ items_with f xs ++ items_with f ys
-        → cond b (x.item ∷ items_with f (xs ++ ys)) (items_with f (xs ++ ys)) ≡ cond b (x.item ∷ items_with f xs) (items_with f xs) ++ items_with f ys
-    at true e = ap (λ l. x.item ∷ l) e
-    at false e = e
 
 -- the writes through later entries
 abbrev through : ℕ → List Step → List Write → List Write

@@ -8,7 +8,7 @@ use Rattle.fy_kinds.specs.declared.verdict.Rule.{Rule}
 use Rattle.fy_kinds.specs.declared.verdict.Rule.TheVariants.{NoTarget, NoGrant, Protected, TooManyDestroyed, TooFewLeft}
 use Rattle.fy_kinds.specs.Kinds.{Deed, Striking, is_kill_which, is_destroying, destroys_for_good}
 use Rattle.fy_kinds.specs.Orders.{Order}
-use Rattle.fy_decide.specs.Verdicts.{Situation, numbers, least, is_granted_to, too_many_destroyed, too_few_left, first_rule, aimed_at, bar, hardest, verdict}
+use Rattle.fy_decide.specs.Verdicts.{Situation, numbers, least, is_granted_to, too_many_destroyed, too_few_left, first_rule, order_targets, bar, hardest, verdict}
 
 -- a rule of the least that was found
 pub of_least : (rule : ProcId → Rule) (found least : Option ℕ) (p : ℕ) → found ≡ Some p → found ≡ least → Some (rule (record { 0 = p })) ≡ option_map rule (option_map (λ q. record { 0 = q }) least)
@@ -32,7 +32,7 @@ pub of_no_targets : (rule : Rule) (b any : Bool) → b ≡ any → b ≡ false �
 of_no_targets rule b any is missing = ap (λ t. if t then None else Some rule) (sym missing ∙ is)
 
 -- the verdict of what strikes and what bars
-pub judged : (situation : Situation) (order : Order) (s : ℕ → Bool) (kind : Kind) (struck : Option Kind) (rule : Option Rule) → ((p : ℕ) → s p ≡ aimed_at situation order p) → kind ≡ order.kind → struck ≡ hardest situation order s → rule ≡ bar situation (Striking kind) s
+pub judged : (situation : Situation) (order : Order) (s : ℕ → Bool) (kind : Kind) (struck : Option Kind) (rule : Option Rule) → ((p : ℕ) → s p ≡ order_targets situation order p) → kind ≡ order.kind → struck ≡ hardest situation order s → rule ≡ bar situation (Striking kind) s
     → record { struck = struck; rule = rule } ≡ verdict situation order
 unfolding verdict
 judged situation order s kind struck rule each is strikes bars = λ i. record {

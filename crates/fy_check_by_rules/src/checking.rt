@@ -81,7 +81,7 @@ fn put_last(steps: &mut Vec<FoundStep>, step: FoundStep) -> Result<(), AllocErro
 ///
 /// `BadEntry` at the first entry whose reply isn't the one that the rules give, whose act the
 /// version doesn't have, or whose place is the journal limit. `NoMemory`, in place of any answer,
-/// where there is no memory for what is read off.
+/// where an allocation fails for what is read off.
 pub fn check(alloc: Global, config: &Config, journal: &Journal) -> Result<(), CheckFault>
     ensures { ChecksOrOom journal.now.version config.now journal.now.entries result }
 {

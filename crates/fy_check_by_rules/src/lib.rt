@@ -11,8 +11,8 @@
 //!   before say. What one entry did is `fy_cluster::effects`.
 //! - `laws`: what is synced, by the places of entries.
 //!
-//! A private function that answers a `Result` fails in one way: with `AllocError`, where there is
-//! no memory for a list that it reads off.
+//! A private function that answers a `Result` fails in one way: with `AllocError`, where an
+//! allocation fails for a list that it reads off.
 #![tactic(auto)]
 
 mod asked;

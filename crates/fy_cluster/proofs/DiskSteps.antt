@@ -29,7 +29,7 @@ destroys_closes p m d = or_right (syncs_at m p) _ (kind (strikes m p) d)
     kind (Some RebootProcess) d = d
 
 -- A Sync strikes nobody.
-sync_strikes_none : (m : Step) (p : ℕ) → syncs_at m p ≡ true → destroys m p ≡ false
+pub sync_strikes_none : (m : Step) (p : ℕ) → syncs_at m p ≡ true → destroys m p ≡ false
 sync_strikes_none m p s = at m.entry.act m.entry.reply (m.targets p) s
   where
     at : (act : Act) (r : Reply) (b : Bool) → some_is (λ q. q == p) (syncs act r) ≡ true → some_is is_destroying (if b then struck_by act r else None) ≡ false
@@ -42,7 +42,7 @@ abbrev pub own : Step → History → ℕ → List Item
 own m h p = option_to_list (option_map (λ rec. record { rec = rec; payload = payload_of h rec }) (writes m p))
 
 -- An entry that closes writes nothing.
-closer_writes_none : (m : Step) (p : ℕ) → closes p m ≡ true → writes m p ≡ None
+pub closer_writes_none : (m : Step) (p : ℕ) → closes p m ≡ true → writes m p ≡ None
 closer_writes_none m p c = at m.entry.act m.entry.reply (m.targets p) c
   where
     at : (act : Act) (r : Reply) (b : Bool) → (some_is (λ q. q == p) (syncs act r) || some_is is_closing (if b then struck_by act r else None)) ≡ true
@@ -53,7 +53,7 @@ closer_writes_none m p c = at m.entry.act m.entry.reply (m.targets p) c
 
 -- ---- lists of writes
 
-items_with-cons : (f : Fate → Bool) (w : Write) (ws : List Write) → items_with f (w ∷ ws) ≡ cond (f w.fate) (w.item ∷ items_with f ws) (items_with f ws)
+pub items_with-cons : (f : Fate → Bool) (w : Write) (ws : List Write) → items_with f (w ∷ ws) ≡ cond (f w.fate) (w.item ∷ items_with f ws) (items_with f ws)
 items_with-cons f w ws = at (f w.fate)
   where
     rest : List Write
@@ -63,7 +63,7 @@ items_with-cons f w ws = at (f w.fate)
     at true = refl
     at false = refl
 
-items_with-append : (f : Fate → Bool) (xs ys : List Write) → items_with f (xs ++ ys) ≡ items_with f xs ++ items_with f ys
+pub items_with-append : (f : Fate → Bool) (xs ys : List Write) → items_with f (xs ++ ys) ≡ items_with f xs ++ items_with f ys
 items_with-append f [] ys = refl
 items_with-append f (x ∷ xs) ys =
     items_with-cons f x (xs ++ ys) ∙ at (f x.fate) (items_with-append f xs ys) ∙ ap (λ l. l ++ items_with f ys) (sym (items_with-cons f x xs))

@@ -1,5 +1,5 @@
 -- one entry more in a legal journal
-use Rattle.std.proofs.Common.{IsTrue, ◌↔◌, ◌≤◌, inl, inr, ◌≡◌, ℕ, zero, suc, ◌+◌, ◌<◌, true, false, List, [], ◌∷◌, ◌++◌, length, Some, None, Result, Ok, Err, IfOk, OnOk, OnErr, Option, Bool, not, refl, sym, ◌∙◌, ap, subst, arith, nat_le, slice_get, length-append}
+use Rattle.std.proofs.Common.{IsTrue, ◌↔◌, ◌≤◌, inl, inr, ◌≡◌, ℕ, zero, suc, ◌+◌, ◌<◌, true, false, List, [], ◌∷◌, ◌++◌, length, Some, None, Result, Ok, Err, IfOk, OnErr, Option, Bool, not, refl, sym, ◌∙◌, ap, subst, arith, nat_le, slice_get, length-append}
 use Rattle.std.specs.Prelude.{is_some}
 use Rattle.std.proofs.lemmas.Bool.{cases_lt, false≢true}
 use Rattle.std.proofs.lemmas.Bool.Decides.{nat_tests}
@@ -15,19 +15,19 @@ use Rattle.fy_cluster.specs.declared.machine.Machine.{Machine}
 use Rattle.fy_cluster.specs.Setup.{Setup}
 use Rattle.fy_cluster.specs.History.{History, step_of, history}
 use Rattle.fy_cluster.specs.Replies.{first_refusal_or, refusals, reasons, answer, reply, no_actor, may}
-use Rattle.fy_cluster.specs.Execution.{Execution, next_entry}
+use Rattle.fy_cluster.specs.Execution.{Execution}
 use Rattle.fy_cluster.specs.Standing.{Refines, Point, StepsToOrOom, RepliesOrOom, EntersOrOom, entry_of, RefinesJournal, IsReachable}
 use Rattle.fy_cluster.proofs.Journals.{after-append, length-history, legal-push}
 use Rattle.fy_cluster.proofs.Refusals.{unmoved_by}
 
 -- ---- the two reasons that come before all
 
-past_roles : {X : Type 0} (xs : List X) (i : ℕ) → slice_get xs i ≡ None → nat_le (length xs) i ≡ true
+pub past_roles : {X : Type 0} (xs : List X) (i : ℕ) → slice_get xs i ≡ None → nat_le (length xs) i ≡ true
 past_roles [] i e = grind (arith, nat_tests)
 past_roles (x ∷ xs) zero e = absurd (cc)
 past_roles (x ∷ xs) (suc i) e = let more = past_roles xs i e in grind (arith, nat_tests)
 
-within_roles : {X : Type 0} (xs : List X) (i : ℕ) (x : X) → slice_get xs i ≡ Some x → nat_le (length xs) i ≡ false
+pub within_roles : {X : Type 0} (xs : List X) (i : ℕ) (x : X) → slice_get xs i ≡ Some x → nat_le (length xs) i ≡ false
 within_roles xs i x e = let l = slice_get_within xs i x e in grind (arith, nat_tests)
 
 pub stranger : (c : Setup) (h : History) (by : ℕ) (act : Act) → slice_get c.roles by ≡ None → reply c h by act ≡ No Stranger
@@ -95,15 +95,3 @@ kept_after_act c journal entries by act (Ok entry) m old k room a entered err =
     let same : e ≡ entry = ap (λ answered. record { at = length journal; by = by; act = act; reply = answered }) right ∙ sym a.0 in
     rw entered (subst (λ (x : Entry). RefinesJournal c (journal ++ x ∷ []) m) same (kept_on c journal by act entry.reply m old k room (right, a.1)))
 kept_after_act c journal entries by act (Err fault) m old k room a entered err = rw err (record { setup = k.setup; legal = k.legal; stands = a.1 })
-
--- the entry that was made is the next
-pub entry_is_next : (execution : Execution) (by : ℕ) (act : Act) (result : Result Entry Fault) (m : Machine) → EntersOrOom (point_after execution.setup execution.journal by) (length execution.journal) by act result m
-    → IfOk result (λ entry. entry ≡ next_entry execution by act)
-entry_is_next execution by act (Ok entry) m a = a.0
-entry_is_next execution by act (Err fault) m a = tt
-
--- and the journal ends with it
-pub ends_with_next : (execution : Execution) (entries : List Entry) (by : ℕ) (act : Act) (result : Result Entry Fault) (m : Machine) → EntersOrOom (point_after execution.setup execution.journal by) (length execution.journal) by act result m
-    → IfOk result (λ entry. entries ≡ execution.journal ++ entry ∷ []) → OnOk result (entries ≡ execution.journal ++ next_entry execution by act ∷ [])
-ends_with_next execution entries by act (Ok entry) m a entered = entered ∙ ap (λ (x : Entry). execution.journal ++ x ∷ []) a.0
-ends_with_next execution entries by act (Err fault) m a entered = tt

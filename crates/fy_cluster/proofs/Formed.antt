@@ -30,7 +30,7 @@ use Rattle.fy_cluster.proofs.Refusals.{refuse}
 use Rattle.fy_cluster.proofs.Results.{ok_not_err}
 use Rattle.fy_cluster.proofs.Starts.{gone_is}
 
--- a reply, where memory was there
+-- a reply, where no allocation failed
 abbrev pub said : Reply → Result Reply Fault
 said r = Ok r
 

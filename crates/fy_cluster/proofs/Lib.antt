@@ -8,6 +8,7 @@ pub mod Entering
 pub mod Finding
 pub mod Flights
 pub mod Formed
+pub mod Gone
 pub mod Grants
 pub mod Healed
 pub mod Journals

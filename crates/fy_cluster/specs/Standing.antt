@@ -183,20 +183,20 @@ pub record StepsTo (point : Point) (act : Act) (reply : Reply) (m : Machine) : T
       (answer point.setup point.before point.by act)
   pub stands : Refines point.setup (following point act reply) m
 
--- it got its reply, or there was no memory and the machine keeps the history as it was
+-- it got its reply, or an allocation failed and the machine keeps the history as it was
 abbrev pub StepsToOrOom : Point → Act → Result Reply Fault → Machine → Type 0
 StepsToOrOom point act (Ok reply) m = StepsTo point act reply m
 StepsToOrOom point act (Err fault) m = (fault ≡ NoMemory) × Refines point.setup point.before m
 
--- the act's reply to whoever asked, with the two reasons that come before all, or there was no
--- memory
+-- the act's reply to whoever asked, with the two reasons that come before all, or an allocation
+-- failed
 abbrev pub RepliesOrOom : Point → Act → Result Reply Fault → Machine → Type 0
 RepliesOrOom point act (Ok answered) m =
     (answered ≡ reply point.setup point.before point.by act)
     × Refines point.setup (following point act answered) m
 RepliesOrOom point act (Err fault) m = (fault ≡ NoMemory) × Refines point.setup point.before m
 
--- the act's entry, made at this place with its reply, or there was no memory
+-- the act's entry, made at this place with its reply, or an allocation failed
 abbrev pub EntersOrOom : Point → (at by : ℕ) → Act → Result Entry Fault → Machine → Type 0
 EntersOrOom point at by act (Ok entry) m =
     (entry ≡ record {

@@ -41,8 +41,8 @@ impl Machine {
     }
 
     /// Replies to a kill of the process that an order names alone, and appends both to the trail,
-    /// as `enter` does. The entry is the caller's to make. The name isn't looked up. Takes no
-    /// memory.
+    /// as `enter` does. The entry is the caller's to make. The name isn't looked up. Doesn't
+    /// allocate.
     pub(crate) fn enter_kill(
         &mut self,
         trail: &mut Trail,

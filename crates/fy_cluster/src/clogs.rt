@@ -34,8 +34,8 @@ fn unclog_targets(net: &mut Net, targets: &ProcSet)
 }
 
 impl Machine {
-    /// The processes of a target that are left, or the rule of leave that bars a clog of them and
-    /// its end.
+    /// The processes of a target that are left, or the rule of permission that bars a clog of them
+    /// and its end.
     fn permitted_to_clog(&self, map: &Map, by: u32, target: &Target) -> Result<ProcSet, Rule>
         requires map { map.now ≡ self.now.dead.processes }
         requires book { self.now.book.processes ≡ self.now.dead.processes }
@@ -50,7 +50,7 @@ impl Machine {
         }
     }
 
-    /// Clogs the processes of a target for some ticks, if no rule of leave bars it.
+    /// Clogs the processes of a target for some ticks, if no rule of permission bars it.
     pub(crate) fn clog(&mut self, map: &Map, by: u32, target: &Target, ticks: u64) -> Reply
         ghost point: { Point }
         requires stands { Refines point.setup point.before self.old }
@@ -67,7 +67,7 @@ impl Machine {
         }
     }
 
-    /// Ends the clogs of a target's processes, if no rule of leave bars it.
+    /// Ends the clogs of a target's processes, if no rule of permission bars it.
     pub(crate) fn unclog(&mut self, map: &Map, by: u32, target: &Target) -> Reply
         ghost point: { Point }
         requires stands { Refines point.setup point.before self.old }

@@ -72,7 +72,7 @@ fn make_place(journal: &mut Journal, state: &ClusterState) -> Result<(), Fault>
     }
     match journal.reserve(1) {
         Ok(()) => Ok(()),
-        // Want of memory, since a cluster's limit is far below that of the type.
+        // An allocation failure, since a cluster's limit is far below that of the type.
         Err(_) => Err(Fault::NoMemory),
     }
 }
@@ -82,7 +82,7 @@ impl Cluster {
     ///
     /// # Errors
     ///
-    /// `AllocError` where there is no memory for it.
+    /// `AllocError` where an allocation fails.
     pub fn make(alloc: Global, config: Config) -> Result<Cluster, AllocError>
         ensures { IfOk result (λ cluster. cluster ≡ opened config) }
     {
@@ -98,7 +98,7 @@ impl Cluster {
     ///
     /// # Errors
     ///
-    /// `AllocError` where there is no memory for it.
+    /// `AllocError` where an allocation fails.
     pub fn try_copy(&self, alloc: Global) -> Result<Cluster, AllocError>
         ensures { IfOk result (λ copy. copy ≡ self.now) }
     {
@@ -165,7 +165,7 @@ impl Cluster {
     ///
     /// # Errors
     ///
-    /// `AllocError` where there is no memory for it.
+    /// `AllocError` where an allocation fails.
     pub fn make_room(&mut self, count: usize) -> Result<(), AllocError>
         ensures { self.new ≡ self.old }
     {
@@ -173,7 +173,7 @@ impl Cluster {
         let most = limit.saturating_sub(self.journal.len());
         match self.journal.reserve(count.min(most)) {
             Ok(()) => Ok(()),
-            // Want of memory, as in `make_place`.
+            // An allocation failure, as in `make_place`.
             Err(_) => Err(AllocError),
         }
     }
@@ -239,7 +239,7 @@ impl Cluster {
     }
 
     /// The record that a process still needs before it may be healed: of its teams' records, the
-    /// least acknowledged one that it hasn't synced. Takes no memory.
+    /// least acknowledged one that it hasn't synced. Doesn't allocate.
     pub fn needed(&self, process: ProcId) -> Option<u32>
         ensures { result ≡ needed_of self.now.setup (history_of self.now) process.0 }
     {
@@ -247,7 +247,7 @@ impl Cluster {
     }
 
     /// The reply that a kill by the actor with this number would get now. It enters nothing, and
-    /// takes no memory.
+    /// doesn't allocate.
     pub fn judge(&self, by: u32, order: &KillOrder) -> Reply
         ensures { result ≡ replied self.now by (Kill order.now) }
     {
@@ -256,7 +256,7 @@ impl Cluster {
 
     /// What `judge` answers for an order that names the process with this number alone, by its
     /// name: by this kind, or where that is barred by a milder one down to the floor. `None` where
-    /// there is no such process. It enters nothing, takes no memory, and looks up no name.
+    /// there is no such process. It enters nothing, doesn't allocate, and looks up no name.
     pub fn judge_process(&self, by: u32, process: ProcId, kind: Kind, floor: Kind) -> Option<Reply>
         requires { rank floor ≤ rank kind }
         ensures none { (length self.now.setup.processes ≤ process.0) ↔ (result ≡ None) }
@@ -283,7 +283,7 @@ impl Cluster {
     }
 
     /// Of an acknowledged record, the least member of its team that isn't destroyed and has the
-    /// record synced; none of any other record. Takes no memory.
+    /// record synced; none of any other record. Doesn't allocate.
     pub fn keeper(&self, rec: u32) -> Option<ProcId>
         ensures keeper { result ≡ keeper self.now.setup (history_of self.now) rec }
         ensures acked { IsSome result ↔ IsTrue (acked (history_of self.now) rec) }
@@ -293,7 +293,7 @@ impl Cluster {
     }
 
     /// The time, and what there is to do next: the least message to deliver, the least process to
-    /// sync and the least one to start. Takes no memory.
+    /// sync and the least one to start. Doesn't allocate.
     pub fn sight(&self) -> Sight
         ensures { Sees self.now.setup (history_of self.now) result }
     {

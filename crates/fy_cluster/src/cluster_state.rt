@@ -76,7 +76,7 @@ impl ClusterState {
     ///
     /// # Errors
     ///
-    /// `AllocError` where there is no memory for it.
+    /// `AllocError` where an allocation fails.
     pub fn make(alloc: Global, config: Config) -> Result<ClusterState, AllocError>
         ensures { IfOk result (λ state. state ≡ opened config) }
     {
@@ -94,7 +94,7 @@ impl ClusterState {
     ///
     /// # Errors
     ///
-    /// `AllocError` where there is no memory for it.
+    /// `AllocError` where an allocation fails.
     pub(crate) fn try_copy(
         &self,
         alloc: Global,
@@ -135,7 +135,7 @@ impl ClusterState {
     }
 
     /// Does what `enter` does with an order that names this process alone. Its name isn't looked
-    /// up. Takes no memory.
+    /// up. Doesn't allocate.
     ///
     /// # Errors
     ///
@@ -167,7 +167,7 @@ impl ClusterState {
     }
 
     /// Does what `kill_process` does where there is room for an entry, and leaves the entry to the
-    /// caller. Takes no memory.
+    /// caller. Doesn't allocate.
     pub(crate) fn strike_process(&mut self, by: u32, process: ProcId, order: &KillOrder) -> Reply
         requires named { NamesProcess self.old.setup.processes process.0 order.now }
         requires room { length self.old.journal < self.old.setup.limit }
@@ -224,7 +224,7 @@ impl ClusterState {
     }
 
     /// Forgets whose clogs have ended, so that `clogged` asks nobody else from then on than who is
-    /// clogged now, or will be. Nothing that a state is seen as changes. Takes no memory.
+    /// clogged now, or will be. Nothing that a state is seen as changes. Doesn't allocate.
     pub fn forget_ended(&mut self)
         ensures { self.new ≡ self.old }
     {
@@ -233,7 +233,7 @@ impl ClusterState {
 
     /// The record of the acknowledgement that this act would deliver now: `None` where it is no
     /// `Deliver`, or no acknowledgement in flight has that number. Once the act is entered, no
-    /// other record is acknowledged that wasn't. Takes no memory.
+    /// other record is acknowledged that wasn't. Doesn't allocate.
     pub fn marks(&self, act: &Act) -> Option<u32>
         ensures marked { result ≡ record_marked (history_of self.now) act.now }
         ensures others { (by r : ℕ) → result ≢ Some r
@@ -257,7 +257,7 @@ impl ClusterState {
     }
 
     /// The record that a process still needs before it may be healed: of its teams' records, the
-    /// least acknowledged one that it hasn't synced. Takes no memory.
+    /// least acknowledged one that it hasn't synced. Doesn't allocate.
     pub fn needed(&self, process: ProcId) -> Option<u32>
         ensures { result ≡ needed_of self.now.setup (history_of self.now) process.0 }
     {
@@ -269,7 +269,7 @@ impl ClusterState {
     }
 
     /// The reply that a kill by the actor with this number would get now. It enters nothing, and
-    /// takes no memory.
+    /// doesn't allocate.
     pub fn judge(&self, by: u32, order: &KillOrder) -> Reply
         ensures { result ≡ replied self.now by (Kill order.now) }
     {
@@ -304,7 +304,7 @@ impl ClusterState {
     }
 
     /// Of an acknowledged record, the least member of its team that isn't destroyed and has the
-    /// record synced; none of any other record. Takes no memory.
+    /// record synced; none of any other record. Doesn't allocate.
     pub fn keeper(&self, rec: u32) -> Option<ProcId>
         ensures keeper { result ≡ keeper self.now.setup (history_of self.now) rec }
         ensures acked { IsSome result ↔ IsTrue (acked (history_of self.now) rec) }
@@ -315,7 +315,7 @@ impl ClusterState {
     }
 
     /// The time, and what there is to do next: the least message to deliver, the least process to
-    /// sync and the least one to start. Takes no memory.
+    /// sync and the least one to start. Doesn't allocate.
     pub fn sight(&self) -> Sight
         ensures { Sees self.now.setup (history_of self.now) result }
     {

@@ -126,7 +126,7 @@ impl Parts<'_> {
 }
 
 impl Config {
-    /// The configuration of these parts. Takes no memory.
+    /// The configuration of these parts. Doesn't allocate.
     ///
     /// # Errors
     ///
@@ -174,7 +174,7 @@ impl Config {
         })
     }
 
-    /// An equal configuration, or no memory.
+    /// An equal configuration, or an allocation failure.
     pub fn try_copy(&self, alloc: Global) -> Result<Config, AllocError>
         ensures { IfOk result (λ copy. copy ≡ self.now) }
     {

@@ -6,7 +6,7 @@ use std::alloc::AllocError;
 pub enum Fault {
     /// The journal is at its limit.
     JournalFull,
-    /// There was no memory.
+    /// An allocation failed.
     NoMemory,
 }
 

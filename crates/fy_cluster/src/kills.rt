@@ -16,7 +16,7 @@ ghost use Rattle.fy_cluster.specs.Standing.{Point, Refines, StepsTo, RepliesOrOo
 use crate::Config;
 use crate::machine::Machine;
 use fy_acts::{Refusal, Reply};
-use fy_decide::{DeadBook, Loss, Targets, judge_aimed};
+use fy_decide::{DeadBook, Loss, Targets, judge_targets};
 use fy_disk::Disks;
 use fy_kinds::{KillOrder, Kind};
 use fy_locality::{Map, ProcId, ProcSet};
@@ -102,7 +102,7 @@ impl Machine {
         ensures { StepsTo point (Kill order.now) result self.new }
     {
         fy_decide::laws::struck_may_be_destroyed();
-        let verdict = judge_aimed(&self.dead, &self.book, by, order, found);
+        let verdict = judge_targets(&self.dead, &self.book, by, order, found);
         let Some(kind) = verdict.struck else {
             return Reply::Verdict(verdict);
         };
@@ -120,12 +120,12 @@ impl Machine {
         requires by { by ≡ point.by }
         ensures { StepsTo point (Kill order.now) result self.new }
     {
-        let found = self.dead.aimed_at(map, &order.target());
+        let found = self.dead.find_targets(map, &order.target());
         self.strike(by, order, &found)
     }
 
     /// Strikes the process that an order names alone, as `kill` does. An unknown actor is refused
-    /// first. The name isn't looked up. Takes no memory.
+    /// first. The name isn't looked up. Doesn't allocate.
     pub(crate) fn kill_process(
         &mut self,
         config: &Config,
@@ -143,7 +143,7 @@ impl Machine {
         if config.role(by).is_none() {
             return Reply::No(Refusal::Stranger);
         }
-        let found = self.dead.aimed_at_process(process);
+        let found = self.dead.process_targets(process);
         self.strike(by, order, &found)
     }
 }

@@ -57,8 +57,8 @@ fn take_out(net: &mut Net, message: u64)
     };
 }
 
-/// Writes an item to the disk of a process, or leaves all disks as they were where there is no
-/// memory.
+/// Writes an item to the disk of a process, or leaves all disks as they were where an allocation
+/// fails.
 fn write_to(disks: &mut Disks, p: ProcId, item: Item) -> Result<(), Fault>
     requires { p.0 < length disks.old }
     ensures written { OnOk result
@@ -68,7 +68,7 @@ fn write_to(disks: &mut Disks, p: ProcId, item: Item) -> Result<(), Fault>
 {
     match disks.write(p, item) {
         Ok(()) => Ok(()),
-        // The item comes back where there was no memory for it.
+        // The item comes back where an allocation fails.
         Err(_) => Err(Fault::NoMemory),
     }
 }

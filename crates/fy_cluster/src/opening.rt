@@ -90,7 +90,7 @@ fn quiet_net(alloc: Global, processes: u32) -> Result<Net, AllocError>
 {
     match Net::make(alloc, processes) {
         Ok(net) => Ok(net),
-        // `Net::make` fails for lack of memory alone.
+        // `Net::make` fails by an allocation failure alone.
         Err(_) => Err(AllocError),
     }
 }

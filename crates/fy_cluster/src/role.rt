@@ -18,7 +18,7 @@ pub enum Role {
 
 impl Role {
     /// Whether this role may make the act. Whether the act is refused for another reason is not
-    /// asked here. Takes no memory.
+    /// asked here. Doesn't allocate.
     pub fn may(self, act: &Act) -> bool
         ensures { result ≡ may self act.now }
     {

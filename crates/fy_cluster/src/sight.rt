@@ -21,7 +21,7 @@ pub struct Sight {
 }
 
 impl Machine {
-    /// What there is to do next. Takes no memory.
+    /// What there is to do next. Doesn't allocate.
     pub(crate) fn sight(&self) -> Sight
         ensures { (c : Setup) (h : History) → Refines c h self.now → Sees c h result }
     {

@@ -9,7 +9,7 @@ use std::marker::Model;
 use std::snapshot::Snapshot;
 
 /// The entries of a journal as clauses see them, the oldest first. A snapshot has no bytes, so a
-/// trail takes no memory, however many entries it has: only their number is there at run time.
+/// trail takes no space, however many entries it has: only their number is there at run time.
 #[derive(Drop)]
 pub(crate) struct Trail {
     entries: Vec<Snapshot<Entry>>,
@@ -58,7 +58,7 @@ impl Trail {
         Ok(trail)
     }
 
-    /// Appends an entry. Takes no memory.
+    /// Appends an entry. Doesn't allocate.
     pub(crate) fn push(&mut self, entry: &Entry)
         requires { length self.old < MOST_JOURNAL_ENTRIES }
         ensures { self.new ≡ self.old ++ entry.now ∷ [] }

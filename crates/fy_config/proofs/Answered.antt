@@ -18,7 +18,7 @@ use Rattle.fy_config.specs.Config.{Fields, fields_of, FieldsAre, DocumentIs, Nam
 use Rattle.fy_config.specs.declared.reading.Numbered.{Numbered}
 use Rattle.fy_config.specs.Named.{IsNameFault, IsPolicyFault, IsNumbered, IsMade}
 
--- ---- answers that want of memory can take the place of
+-- ---- answers that an allocation failure can take the place of
 
 pub unless : {A : Type 0} (Holds : Result A ConfigFault → Type 0) (answer : Result A ConfigFault) → Holds answer → UnlessOom Holds answer
 unless Holds (Ok x) h = h

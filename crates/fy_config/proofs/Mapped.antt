@@ -63,7 +63,7 @@ pushed_good occur processes process result number refused ok =
         absurd (let c : ⊥ = cc in c)
     go false is = sym (taken_is occur processes process.process) ∙ is
 
--- where there was room, a process that was refused is bad, or memory ran out
+-- where there was room, a process that was refused is bad, or an allocation failed
 pub refused_bad :
     ValuesOccur → (processes : List Locality) (process : Locality) (result : Result ProcId MapFault)
     → length processes < MOST_PROCESSES

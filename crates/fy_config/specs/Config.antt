@@ -236,12 +236,12 @@ ConfigOf bytes answer =
     (length bytes ≤ MOST_FILE_BYTES)
     × (ms : Entries) × IsDocument bytes ms × DocumentIs ms answer
 
--- what holds of an answer, save where want of memory takes its place
+-- what holds of an answer, save where an allocation failure takes its place
 abbrev pub UnlessOom : {A : Type 0}
     → (Result A ConfigFault → Type 0) → Result A ConfigFault → Type 0
 UnlessOom Holds (Err NoMemory) = Unit {0}
 UnlessOom Holds answer = Holds answer
 
--- an answer is what the bytes are; want of memory can take the place of any
+-- an answer is what the bytes are; an allocation failure can take the place of any
 abbrev pub Answers : List ℕ → Result Setup ConfigFault → Type 0
 Answers bytes answer = UnlessOom (ConfigOf bytes) answer

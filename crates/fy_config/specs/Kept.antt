@@ -24,7 +24,7 @@ pub record HoldsFields (given : GivenFields) (f : Fields) : Type 0 where
   pub actors : map actor_kept given.actors.items ≡ map actor_given f.actors
   pub protections : given.protections.items ≡ map protection_given f.protections
 
--- the answer is what the parts spell; want of memory can take the place of any
+-- the answer is what the parts spell; an allocation failure can take the place of any
 abbrev pub FieldsOrOom : Result GivenFields ConfigFault → Result Fields ConfigFault → Type 0
 FieldsOrOom (Ok given) spelt = (f : Fields) × (spelt ≡ Ok f) × HoldsFields given f
 FieldsOrOom (Err NoMemory) spelt = Unit {0}

@@ -12,7 +12,7 @@ use Rattle.fy_config.specs.declared.given.GivenGrant.{GivenGrant}
 use Rattle.fy_config.specs.declared.reading.Numbered.{Numbered}
 use Rattle.fy_config.specs.Config.{Fields, bad_name_at, first_bad_name, grants_of, protection_in, IsFirstRefused}
 
--- a bad name at the first place of a part that is bad; want of memory can take its place
+-- a bad name at the first place of a part that is bad; an allocation failure can take its place
 abbrev pub IsNameFault : Part → Option ℕ → ConfigFault → Type 0
 IsNameFault part bad NoMemory = Unit {0}
 IsNameFault part bad fault = bad_name_at part bad ≡ Some fault
@@ -36,7 +36,7 @@ grant_by number given =
 abbrev pub have_scopes : List GivenGrant → Bool
 have_scopes grants = list_all (λ grant. is_some grant.scope) grants
 
--- the fault of the first text that is of no policy; want of memory can take its place
+-- the fault of the first text that is of no policy; an allocation failure can take its place
 abbrev pub IsPolicyFault : List (List ℕ) → ConfigFault → Type 0
 IsPolicyFault texts NoMemory = Unit {0}
 IsPolicyFault texts (Policy index) = IsFirstRefused texts index

@@ -46,7 +46,8 @@ impl fmt::Display for Part {
 }
 
 /// Why bytes are no cluster file. The first that holds is given, in this order, and of one kind the
-/// first part, and of one part the least place; want of memory can take the place of any answer.
+/// first part, and of one part the least place; an allocation failure can take the place of any
+/// answer.
 #[derive(Clone, Copy, PartialEq, Eq, Debug, Error)]
 pub enum ConfigFault {
     #[error("the file is longer than 1,048,576 bytes")]

@@ -26,7 +26,7 @@ use std::alloc::{AllocError, Global};
 ///
 /// # Errors
 ///
-/// Want of memory.
+/// An allocation failed.
 fn push_process(map: &mut Map, process: Option<Locality>) -> Result<bool, AllocError>
     requires { length map.old < MOST_PROCESSES }
     ensures good { IfOk result (λ pushed. pushed ≡ not (is_bad_given map.old process)) }
@@ -71,7 +71,7 @@ pub(crate) fn map_of(alloc: Global, given: &[Option<Locality>]) -> Result<Map, C
 ///
 /// # Errors
 ///
-/// Want of memory.
+/// An allocation failed.
 pub(crate) fn roles_of(alloc: Global, actors: &[GivenActor]) -> Result<Vec<Role>, AllocError>
     ensures { IfOk result (λ roles. roles.items ≡ map_list (λ actor. actor.role) actors.now) }
 {
@@ -91,7 +91,7 @@ fn push_grant(grants: &mut Vec<Grant>, grant: Grant) -> Result<(), AllocError>
 ///
 /// # Errors
 ///
-/// Want of memory.
+/// An allocation failed.
 fn push_grants(grants: &mut Vec<Grant>, number: u32, actor: &GivenActor) -> Result<bool, AllocError>
     ensures good { IfOk result (λ pushed. pushed ≡ have_scopes actor.now.grants.items) }
     ensures last { IfOk result (λ pushed. IsTrue pushed → grants.new.items
@@ -198,7 +198,7 @@ pub(crate) fn protections_of(
 ///
 /// # Errors
 ///
-/// Want of memory.
+/// An allocation failed.
 fn policy_of(alloc: Global, text: &str) -> Result<Option<Policy>, AllocError>
     ensures { IfOk result (λ found. MatchOption found (IsRefused text.now)
         (λ policy. Reads text.now (Ok policy))) }

@@ -11,7 +11,7 @@ use Rattle.fy_policy.specs.Laws.{EmptySatisfiesNone, MoreSatisfies, TestIsSatisf
 use Rattle.fy_policy.specs.Sat.{Sat, satisfies}
 use Rattle.fy_decide.specs.declared.dead_book.Loss.{Loss}
 use Rattle.fy_decide.specs.declared.dead_book.Loss.TheVariants.{Emptied, Gone}
-use Rattle.fy_decide.specs.Safety.{AreShort, AreSatisfied, all_short, all_satisfied, with_set, without_set, everyone, MayDestroy, may_destroy}
+use Rattle.fy_decide.specs.Safety.{AreShort, AreSatisfied, with_set, without_set, everyone, MayDestroy, may_destroy}
 use Rattle.fy_decide.specs.DeadBook.{Losses, IsSafe, healed}
 
 pub union_is : (s t : sets.FinSet nat_cmp) → sets.contains (sets.union s t) ≡ with_set (sets.contains s) (sets.contains t)
@@ -45,19 +45,6 @@ module _ (dead : Losses) (s : sets.FinSet nat_cmp) where
   enough_back : AreSatisfied dead.processes dead.policies (without_set (sets.contains dead.left) (sets.contains s)) → Enough dead s
   enough_back = subst (λ t. AreSatisfied dead.processes dead.policies t) (sym (difference_is dead.left s))
 
-  -- what the code tests, of its own copies of these
-  pub as_short : (policies : List Tree) (u : sets.FinSet nat_cmp) (b : Bool) → policies ≡ dead.policies → u ≡ sets.union dead.destroyed s → (b ≡ true) ↔ AreShort dead.processes policies (sets.contains u) → (b ≡ true) ↔ Short dead s
-  as_short policies u b e f law = subst (λ t. (b ≡ true) ↔ AreShort dead.processes dead.policies (sets.contains t)) f (subst (λ qs. (b ≡ true) ↔ AreShort dead.processes qs (sets.contains u)) e law)
-
-  pub as_short_test : (policies : List Tree) (u : sets.FinSet nat_cmp) (b : Bool) → policies ≡ dead.policies → u ≡ sets.union dead.destroyed s → b ≡ all_short dead.processes policies (sets.contains u) → b ≡ all_short dead.processes dead.policies (sets.contains (sets.union dead.destroyed s))
-  as_short_test policies u b e f law = law ∙ ap (λ qs. all_short dead.processes qs (sets.contains u)) e ∙ ap (λ t. all_short dead.processes dead.policies (sets.contains t)) f
-
-  pub as_enough : (policies : List Tree) (u : sets.FinSet nat_cmp) (b : Bool) → policies ≡ dead.policies → u ≡ sets.difference dead.left s → (b ≡ true) ↔ AreSatisfied dead.processes policies (sets.contains u) → (b ≡ true) ↔ Enough dead s
-  as_enough policies u b e f law = subst (λ t. (b ≡ true) ↔ AreSatisfied dead.processes dead.policies (sets.contains t)) f (subst (λ qs. (b ≡ true) ↔ AreSatisfied dead.processes qs (sets.contains u)) e law)
-
-  pub as_enough_test : (policies : List Tree) (u : sets.FinSet nat_cmp) (b : Bool) → policies ≡ dead.policies → u ≡ sets.difference dead.left s → b ≡ all_satisfied dead.processes policies (sets.contains u) → b ≡ all_satisfied dead.processes dead.policies (sets.contains (sets.difference dead.left s))
-  as_enough_test policies u b e f law = law ∙ ap (λ qs. all_satisfied dead.processes qs (sets.contains u)) e ∙ ap (λ t. all_satisfied dead.processes dead.policies (sets.contains t)) f
-
   -- not short
   pub refused : (loss : Loss) (b : Bool) → b ≡ false → (b ≡ true) ↔ Short dead s → (false ≡ true) ↔ May dead s loss
   refused loss b fails law = (λ e. absurd (true≢false (sym e)), λ m. absurd (true≢false (sym (law.1 (short_back (first loss m))) ∙ fails)))
@@ -66,33 +53,13 @@ module _ (dead : Losses) (s : sets.FinSet nat_cmp) where
       first Emptied m = m
       first Gone m = m.0
 
-  pub refused_test : (loss : Loss) (b : Bool) → b ≡ false → b ≡ all_short dead.processes dead.policies (sets.contains (sets.union dead.destroyed s)) → false ≡ may dead s loss
-  refused_test loss b off is = go loss
-    where
-      fails : all_short dead.processes dead.policies (with_set (sets.contains dead.destroyed) (sets.contains s)) ≡ false
-      fails = ap (λ t. all_short dead.processes dead.policies t) (sym (union_is dead.destroyed s)) ∙ sym is ∙ off
-
-      go : (loss : Loss) → false ≡ may dead s loss
-      go Emptied = sym fails
-      go Gone = sym (ap (λ b. b && all_satisfied dead.processes dead.policies (without_set (sets.contains dead.left) (sets.contains s))) fails)
-
   -- short, and emptied
   pub emptied : (loss : Loss) (b : Bool) → loss ≡ Emptied → b ≡ true → (b ≡ true) ↔ Short dead s → (true ≡ true) ↔ May dead s loss
   emptied loss b is on law = (λ _. subst (May dead s) (sym is) (short (law.0 on)), λ _. refl)
 
-  pub emptied_test : (loss : Loss) (b : Bool) → loss ≡ Emptied → b ≡ true → b ≡ all_short dead.processes dead.policies (sets.contains (sets.union dead.destroyed s)) → true ≡ may dead s loss
-  emptied_test loss b is on test = sym (ap (may dead s) is ∙ ap (λ t. all_short dead.processes dead.policies t) (sym (union_is dead.destroyed s)) ∙ sym test ∙ on)
-
   -- short, and gone
   pub gone : (loss : Loss) (b r : Bool) → loss ≡ Gone → b ≡ true → (b ≡ true) ↔ Short dead s → (r ≡ true) ↔ Enough dead s → (r ≡ true) ↔ May dead s loss
   gone loss b r is on law left = (λ e. subst (May dead s) (sym is) (short (law.0 on), enough (left.0 e)), λ m. left.1 (enough_back (subst (May dead s) is m).1))
-
-  pub gone_test : (loss : Loss) (b r : Bool) → loss ≡ Gone → b ≡ true → b ≡ all_short dead.processes dead.policies (sets.contains (sets.union dead.destroyed s)) → r ≡ all_satisfied dead.processes dead.policies (sets.contains (sets.difference dead.left s)) → r ≡ may dead s loss
-  gone_test loss b r is on test left =
-      left
-      ∙ ap (λ t. all_satisfied dead.processes dead.policies t) (difference_is dead.left s)
-      ∙ sym (ap (λ b. b && all_satisfied dead.processes dead.policies (without_set (sets.contains dead.left) (sets.contains s))) (ap (λ t. all_short dead.processes dead.policies t) (sym (union_is dead.destroyed s)) ∙ sym test ∙ on))
-      ∙ sym (ap (may dead s) is)
 
   -- a strike keeps a dead book safe
   pub IsSafe-emptied : (loss : Loss) → loss ≡ Emptied → IsSafe dead → May dead s loss → IsSafe (record dead { destroyed = sets.union dead.destroyed s })

@@ -19,7 +19,7 @@ use Rattle.fy_kinds.specs.declared.verdict.Verdict.{Verdict}
 use Rattle.fy_grants.specs.Least.{LeastWith, IsLeastWith, least_with}
 use Rattle.fy_grants.specs.Changes.{LeastIsFirst}
 use Rattle.fy_decide.specs.Safety.{with_set, without_set}
-use Rattle.fy_decide.specs.Verdicts.{Situation, is_granted_to, aimed_at, verdict, bar, hardest_first, is_allowed, first_rule, numbers, least, too_many_destroyed, too_few_left}
+use Rattle.fy_decide.specs.Verdicts.{Situation, is_granted_to, order_targets, verdict, bar, hardest_first, is_allowed, first_rule, numbers, least, too_many_destroyed, too_few_left}
 use Rattle.fy_decide.proofs.Deciding.{none_found, each_satisfied}
 use Rattle.fy_decide.proofs.Judging.{each_short, both_true, none_of}
 use Rattle.fy_decide.specs.Hardest.{HasTarget, AreGranted, AreUnprotected, StayShort, StaySatisfied, MayStrike, IsAllowed, StrikesHardest, IsFirstPolicy, FirstRule, AnswersOrder}
@@ -408,7 +408,7 @@ module _ (situation : Situation) (order : Order) (s : ℕ → Bool) where
     find_is_hardest = found_hardest (t KillInstantly) (t RebootAndDelete) (t Reboot) (t RebootProcess) refl refl refl refl
 
 abbrev SmallTargets : Type 0
-SmallTargets = (situation : Situation) (order : Order) (q : ℕ) → aimed_at situation order q ≡ true → q < length situation.processes
+SmallTargets = (situation : Situation) (order : Order) (q : ℕ) → order_targets situation order q ≡ true → q < length situation.processes
 
 pub targets_small : ProcessesHaveValues → SmallTargets
 targets_small law situation order q is = go (cases_lt q (length situation.processes))
@@ -421,7 +421,7 @@ targets_small law situation order q is = go (cases_lt q (length situation.proces
 
 module _ (law : TestIsSatisfaction) (order_law : LeastIsFirst) (valued : ProcessesHaveValues) (situation : Situation) (order : Order) where
   abbrev targets : ℕ → Bool
-  targets = aimed_at situation order
+  targets = order_targets situation order
 
   first_is : (kind : Kind) → FirstRule situation kind targets (bar situation (Striking kind) targets)
   first_is = bar_is_first law situation targets order_law (targets_small valued situation order)

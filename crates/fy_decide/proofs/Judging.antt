@@ -86,7 +86,7 @@ first_of_both [] ys = refl
 first_of_both (None ∷ xs) ys = first_of_both xs ys
 first_of_both (Some x ∷ xs) ys = refl
 
--- the rules of leave, by what was found
+-- the rules of permission, by what was found
 module _ (law : FirstFound) (situation : Situation) (deed : Deed) (s : ℕ → Bool) (small : (q : ℕ) → s q ≡ true → q < length situation.processes) where
   least_is : (test : ℕ → Bool) (found : Option ProcId) → LeastWith s test found → least situation s test ≡ found
   least_is test found is = ap (option_map (λ p. record { 0 = p })) (sym ((law (length situation.processes) s test found small).0 is)) ∙ back found
@@ -100,17 +100,17 @@ module _ (law : FirstFound) (situation : Situation) (deed : Deed) (s : ℕ → B
   abbrev protected : Option Rule
   protected = option_map Protected (least situation s (λ p. situation.is_protected p deed))
 
-  pub leave_untargeted : list_any s (numbers situation) ≡ false → Some NoTarget ≡ first_rule (permission_rules situation deed s)
-  leave_untargeted e = ap (λ c. first_rule (cond c None (Some NoTarget) ∷ no_grant ∷ protected ∷ [])) (sym e)
+  pub permission_untargeted : list_any s (numbers situation) ≡ false → Some NoTarget ≡ first_rule (permission_rules situation deed s)
+  permission_untargeted e = ap (λ c. first_rule (cond c None (Some NoTarget) ∷ no_grant ∷ protected ∷ [])) (sym e)
 
   some_target : list_any s (numbers situation) ≡ true → first_rule (permission_rules situation deed s) ≡ first_rule (no_grant ∷ protected ∷ [])
   some_target e = ap (λ c. first_rule (cond c None (Some NoTarget) ∷ no_grant ∷ protected ∷ [])) e
 
-  pub leave_uncovered : list_any s (numbers situation) ≡ true → (u : Option ProcId) (p : ProcId) → LeastWith s (λ q. not (granted q)) u → u ≡ Some p → Some (NoGrant p) ≡ first_rule (permission_rules situation deed s)
-  leave_uncovered any u p found is = sym (some_target any ∙ ap (λ r. first_rule (option_map NoGrant r ∷ protected ∷ [])) (least_is (λ q. not (granted q)) u found ∙ is))
+  pub permission_uncovered : list_any s (numbers situation) ≡ true → (u : Option ProcId) (p : ProcId) → LeastWith s (λ q. not (granted q)) u → u ≡ Some p → Some (NoGrant p) ≡ first_rule (permission_rules situation deed s)
+  permission_uncovered any u p found is = sym (some_target any ∙ ap (λ r. first_rule (option_map NoGrant r ∷ protected ∷ [])) (least_is (λ q. not (granted q)) u found ∙ is))
 
-  pub leave_covered : list_any s (numbers situation) ≡ true → (u b : Option ProcId) → LeastWith s (λ q. not (granted q)) u → u ≡ None → LeastWith s (λ q. situation.is_protected q deed) b → first_rule (option_map Protected b ∷ []) ≡ first_rule (permission_rules situation deed s)
-  leave_covered any u b found is barred =
+  pub permission_covered : list_any s (numbers situation) ≡ true → (u b : Option ProcId) → LeastWith s (λ q. not (granted q)) u → u ≡ None → LeastWith s (λ q. situation.is_protected q deed) b → first_rule (option_map Protected b ∷ []) ≡ first_rule (permission_rules situation deed s)
+  permission_covered any u b found is barred =
       sym (some_target any
       ∙ ap (λ r. first_rule (option_map NoGrant r ∷ protected ∷ [])) (least_is (λ q. not (granted q)) u found ∙ is)
       ∙ ap (λ r. first_rule (option_map Protected r ∷ [])) (least_is (λ q. situation.is_protected q deed) b barred))
@@ -127,18 +127,18 @@ module _ (law : FirstFound) (one : (kinds : KindSet) (deed : Deed) → has_some 
       (subst (λ ks. LeastWith (sets.contains s) (λ q. not (is_covered rights.processes (grants_of rights actor) ks q)) u) single found)
 
   pub uncovered_by : (u : Option ProcId) (p : ProcId) → LeastWith (sets.contains s) (λ q. not (is_covered rights.processes (grants_of rights actor) kinds q)) u → u ≡ Some p → Some (NoGrant p) ≡ first_rule (permission_rules (situation_of dead rights actor) deed (sets.contains s))
-  uncovered_by u p found is = leave_uncovered law (situation_of dead rights actor) deed (sets.contains s) small there u p (as_asked u found) is
+  uncovered_by u p found is = permission_uncovered law (situation_of dead rights actor) deed (sets.contains s) small there u p (as_asked u found) is
 
   pub barred_by : (u b found : Option ProcId) → LeastWith (sets.contains s) (λ q. not (is_covered rights.processes (grants_of rights actor) kinds q)) u → u ≡ None → LeastWith (sets.contains s) (is_protected rights kinds) b → b ≡ found → first_rule (option_map Protected found ∷ []) ≡ first_rule (permission_rules (situation_of dead rights actor) deed (sets.contains s))
   barred_by u b found none is barred answer =
       ap (λ o. first_rule (option_map Protected o ∷ [])) (sym answer)
-      ∙ leave_covered law (situation_of dead rights actor) deed (sets.contains s) small there u b (as_asked u none) is
+      ∙ permission_covered law (situation_of dead rights actor) deed (sets.contains s) small there u b (as_asked u none) is
       (subst (λ t. LeastWith (sets.contains s) t b) (λ i q. (ap (has_some (protections_of rights q)) single ∙ one (protections_of rights q) deed) i) barred)
 
 -- ---- the bar of a kind
-pub bar_of_leave : (situation : Situation) (deed : Deed) (s : ℕ → Bool) (found : Option Rule) (rule : Rule) → found ≡ first_rule (permission_rules situation deed s) → found ≡ Some rule → Some rule ≡ bar situation deed s
+pub bar_of_permission : (situation : Situation) (deed : Deed) (s : ℕ → Bool) (found : Option Rule) (rule : Rule) → found ≡ first_rule (permission_rules situation deed s) → found ≡ Some rule → Some rule ≡ bar situation deed s
 unfolding bar
-bar_of_leave situation deed s found rule is some = sym (first_of_both (permission_rules situation deed s) (loss_rules situation deed s) ∙ ap (λ r. option_or r (first_rule (loss_rules situation deed s))) (sym is ∙ some))
+bar_of_permission situation deed s found rule is some = sym (first_of_both (permission_rules situation deed s) (loss_rules situation deed s) ∙ ap (λ r. option_or r (first_rule (loss_rules situation deed s))) (sym is ∙ some))
 
 pub bar_of_loss : (situation : Situation) (deed : Deed) (s : ℕ → Bool) (found lost : Option Rule) → found ≡ first_rule (permission_rules situation deed s) → found ≡ None → lost ≡ first_rule (loss_rules situation deed s) → lost ≡ bar situation deed s
 unfolding bar
@@ -210,8 +210,8 @@ module _ (situation : Situation) (s : ℕ → Bool) where
   bar_is KillInstantly = refl
 
   -- without a target there is none for any kind
-  pub aimless_too : (other kind : Kind) (rule : Rule) → rule ≡ NoTarget → bar situation (Striking other) s ≡ Some rule → bar situation (Striking kind) s ≢ None
-  aimless_too other kind rule is barred free = true≢false
+  pub untargeted_too : (other kind : Kind) (rule : Rule) → rule ≡ NoTarget → bar situation (Striking other) s ≡ Some rule → bar situation (Striking kind) s ≢ None
+  untargeted_too other kind rule is barred free = true≢false
       (sym (free_by has_target (ungranted kind) (shielded kind) (of_destroying kind many) (of_killing kind few) (sym (bar_is kind) ∙ free)).0
       ∙ untargeted_by has_target (ungranted other) (shielded other) (of_destroying other many) (of_killing other few) (sym (bar_is other) ∙ barred ∙ ap Some is))
 
@@ -235,50 +235,9 @@ module _ (situation : Situation) (s : ℕ → Bool) where
       cc
 
 -- ---- a kind in place of the ordered one
-abbrev KindsByRank : Type 0
-KindsByRank = (k l : Kind) → rank k ≡ rank l → k ≡ l
-
-second_off : (a b c : Bool) → b ≡ false → false ≡ ((a && b) && c)
-second_off true b c e = sym (ap (λ x. x && c) e)
-second_off false b c e = refl
-
-first_off : (a b c : Bool) → a ≡ false → false ≡ ((a && b) && c)
-first_off a b c e = sym (ap (λ x. (x && b) && c) e)
-
-last_off : (a c : Bool) → c ≡ false → false ≡ (a && c)
-last_off true c e = sym e
-last_off false c e = refl
-
-some_off : {X : Type 0} (o : Option X) → (o ≡ None → ⊥) → is_none o ≡ false
-some_off None some = absurd (some refl)
-some_off (Some x) some = refl
-
 module _ (situation : Situation) (order : Order) (kind : Kind) (s : ℕ → Bool) where
   abbrev passes : Bool
   passes = is_none (bar situation (Striking kind) s)
-
-  pub not_milder : KindsByRank → (rule : Rule) → nat_lt (rank kind) (rank order.kind) ≡ false → bar situation (Striking order.kind) s ≡ Some rule → false ≡ (is_allowed order kind && passes)
-  not_milder law rule off barred = elim (cases_lt (rank order.kind) (rank kind)) [
-    | inl harder ↦ second_off (nat_le (rank order.floor) (rank kind)) (nat_le (rank kind) (rank order.kind)) passes (above (rank kind) (rank order.kind) harder)
-    | inr not ↦
-        let same : kind ≡ order.kind = law kind order.kind (level (rank kind) (rank order.kind) off not) in
-        last_off (is_allowed order kind) passes (ap (λ k. is_none (bar situation (Striking k) s)) same ∙ ap is_none barred)
-  ]
-    where
-      above : (a b : ℕ) → b < a → nat_le a b ≡ false
-      above a b h = grind (arith, nat_tests)
-
-      level : (a b : ℕ) → nat_lt a b ≡ false → a ≤ b → a ≡ b
-      level a b off h = grind (arith, nat_tests)
-
-  pub below_floor : nat_lt (rank kind) (rank order.floor) ≡ true → false ≡ (is_allowed order kind && passes)
-  below_floor under = first_off (nat_le (rank order.floor) (rank kind)) (nat_le (rank kind) (rank order.kind)) passes (above (rank order.floor) (rank kind) under)
-    where
-      above : (a b : ℕ) → nat_lt b a ≡ true → nat_le a b ≡ false
-      above a b h = grind (arith, nat_tests)
-
-  pub barred_too : (bar situation (Striking kind) s ≢ None) → false ≡ (is_allowed order kind && passes)
-  barred_too some = last_off (is_allowed order kind) passes (some_off (bar situation (Striking kind) s) some)
 
   pub allowed : (found : Option Rule) → nat_lt (rank kind) (rank order.kind) ≡ true → nat_lt (rank kind) (rank order.floor) ≡ false → found ≡ bar situation (Striking kind) s → is_none found ≡ (is_allowed order kind && passes)
   allowed found milder above is = ap is_none is ∙ sym (ap (λ b. b && passes) (both (rank kind) (rank order.kind) (rank order.floor) milder above))
@@ -319,13 +278,6 @@ pub between : (situation : Situation) (order : Order) (s : ℕ → Bool) (kind f
     → find (λ milder. (nat_le (rank floor) (rank milder) && nat_le (rank milder) (rank kind)) && is_none (bar situation (Striking milder) s)) hardest_first ≡ hardest situation order s
 between situation order s kind floor kind_is floor_is =
     ap₂ (λ k f. find (λ milder. (nat_le (rank f) (rank milder) && nat_le (rank milder) (rank k)) && is_none (bar situation (Striking milder) s)) hardest_first) (sym kind_is) (sym floor_is)
-
--- where only the ordered kind is allowed and is barred, none strikes
-pub only_ordered : (kind floor : Kind) (f : Kind → Bool) → kind ≡ floor → f kind ≡ false → None ≡ find (λ k. (nat_le (rank floor) (rank k) && nat_le (rank k) (rank kind)) && f k) hardest_first
-only_ordered KillInstantly floor f same barred = subst (λ g. None ≡ find (λ k. (nat_le (rank g) (rank k) && nat_le (rank k) 3) && f k) hardest_first) same (rw barred refl)
-only_ordered RebootAndDelete floor f same barred = subst (λ g. None ≡ find (λ k. (nat_le (rank g) (rank k) && nat_le (rank k) 2) && f k) hardest_first) same (rw barred refl)
-only_ordered Reboot floor f same barred = subst (λ g. None ≡ find (λ k. (nat_le (rank g) (rank k) && nat_le (rank k) 1) && f k) hardest_first) same (rw barred refl)
-only_ordered RebootProcess floor f same barred = subst (λ g. None ≡ find (λ k. (nat_le (rank g) (rank k) && nat_le (rank k) 0) && f k) hardest_first) same (rw barred refl)
 
 -- whom the order is about
 abbrev those : Situation → Order → ℕ → Bool

@@ -12,7 +12,7 @@ use Rattle.fy_kinds.specs.declared.verdict.Rule.TheVariants.{NoTarget, NoGrant, 
 use Rattle.fy_kinds.specs.declared.verdict.Verdict.{Verdict}
 use Rattle.fy_grants.specs.Least.{IsLeastWith}
 use Rattle.fy_decide.specs.Safety.{AreShort, AreSatisfied, with_set, without_set}
-use Rattle.fy_decide.specs.Verdicts.{Situation, is_granted_to, aimed_at, verdict}
+use Rattle.fy_decide.specs.Verdicts.{Situation, is_granted_to, order_targets, verdict}
 
 -- there is a target
 abbrev pub HasTarget : (ℕ → Bool) → Type 0
@@ -99,8 +99,8 @@ pub data FirstRule (situation : Situation) (kind : Kind) (targets : ℕ → Bool
 -- a verdict answers an order: it strikes with the hardest kind that may strike the order's targets,
 -- and names the first rule that bars the ordered kind
 pub record AnswersOrder (situation : Situation) (order : Order) (verdict : Verdict) : Type 0 where
-  pub struck : StrikesHardest situation order (aimed_at situation order) verdict.struck
-  pub rule : FirstRule situation order.kind (aimed_at situation order) verdict.rule
+  pub struck : StrikesHardest situation order (order_targets situation order) verdict.struck
+  pub rule : FirstRule situation order.kind (order_targets situation order) verdict.rule
 
 -- ---- what the law of the verdict states
 

@@ -115,8 +115,8 @@ hardest situation order s =
     find (λ kind. is_allowed order kind && is_none (bar situation (Striking kind) s)) hardest_first
 
 -- those of an order's target that are left
-abbrev pub aimed_at : Situation → Order → ℕ → Bool
-aimed_at situation order = targets situation.processes situation.left order.target
+abbrev pub order_targets : Situation → Order → ℕ → Bool
+order_targets situation order = targets situation.processes situation.left order.target
 
 -- an order names process p alone, by its name
 pub record NamesProcess (processes : List Locality) (p : ℕ) (order : Order) : Type 0 where
@@ -126,8 +126,8 @@ pub record NamesProcess (processes : List Locality) (p : ℕ) (order : Order) : 
 -- the verdict on an order: what strikes its targets, and the bar of the ordered kind
 unfoldable pub verdict : Situation → Order → Verdict
 verdict situation order = record {
-  struck = hardest situation order (aimed_at situation order);
-  rule = bar situation (Striking order.kind) (aimed_at situation order);
+  struck = hardest situation order (order_targets situation order);
+  rule = bar situation (Striking order.kind) (order_targets situation order);
 }
 
 -- the loss that a kind brings, where it destroys
@@ -154,4 +154,4 @@ MayBeLost situation s loss =
 abbrev pub StruckMayBeDestroyed : Type 0
 StruckMayBeDestroyed = (situation : Situation) (order : Order) (kind : Kind) (loss : Loss)
     → (verdict situation order).struck ≡ Some kind → loss_of kind ≡ Some loss
-    → MayBeLost situation (aimed_at situation order) loss
+    → MayBeLost situation (order_targets situation order) loss

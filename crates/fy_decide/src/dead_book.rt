@@ -137,7 +137,7 @@ fn first_short(policies: &[Policy], map: &Map, set: &ProcSet) -> Option<usize>
 }
 
 /// The place of the first policy that all processes together don't satisfy. Where there is none,
-/// each is within the limits of a policy and met. Takes no memory.
+/// each is within the limits of a policy and met. Doesn't allocate.
 pub fn first_unmet(policies: &[Policy], map: &Map) -> Option<usize>
     ensures place { result ≡ first_unmet map.now policies.now }
     ensures met { result ≡ None → AreMet map.now policies.now (everyone map.now) }
@@ -185,7 +185,7 @@ impl DeadBook {
     ///
     /// # Errors
     ///
-    /// Want of memory.
+    /// An allocation failed.
     pub fn try_copy(&self, alloc: Global) -> Result<DeadBook, AllocError>
         ensures { IfOk result (λ copy. copy ≡ self.now) }
     {
@@ -203,7 +203,7 @@ impl DeadBook {
     }
 
     /// Whether the set may be lost: the destroyed with it are short of every policy and, where it
-    /// is gone, those left without it satisfy each. Takes no memory.
+    /// is gone, those left without it satisfy each. Doesn't allocate.
     pub fn may_destroy(&self, set: &ProcSet, loss: Loss) -> bool
         ensures relation { IsTrue result ↔ MayLose self.now (sets.contains set.now) loss }
         ensures test { result ≡ may_lose self.now (sets.contains set.now) loss }
@@ -250,7 +250,7 @@ impl DeadBook {
 
     /// The targets of an order, found once for whoever judges it and then strikes them; the map is
     /// the one that the book was made of. One that is named alone is known to be alone.
-    pub fn aimed_at(&self, map: &Map, target: &Target) -> Targets
+    pub fn find_targets(&self, map: &Map, target: &Target) -> Targets
         requires { map.now ≡ self.now.processes }
         ensures { (p : ℕ) → sets.contains (targeted result) p
             ≡ targets self.now.processes (sets.contains self.now.left) target.now p }
@@ -265,7 +265,7 @@ impl DeadBook {
 
     /// The targets of an order that names this process alone: the process where it is left, and
     /// else nobody. The name isn't looked up.
-    pub fn aimed_at_process(&self, p: ProcId) -> Targets
+    pub fn process_targets(&self, p: ProcId) -> Targets
         requires { p.0 < length self.now.processes }
         ensures members { (q : ℕ) → sets.contains (targeted result) q ≡ true
             → q < length self.now.processes }
@@ -303,7 +303,7 @@ impl DeadBook {
         if left.contains(p) { Some(p) } else { None }
     }
 
-    /// Records the loss of a set. Takes no memory.
+    /// Records the loss of a set. Doesn't allocate.
     pub fn strike(&mut self, set: &ProcSet, loss: Loss)
         requires { MayLose self.old (sets.contains set.now) loss }
         ensures { self.new ≡ struck self.old set.now loss }
@@ -319,8 +319,8 @@ impl DeadBook {
         }
     }
 
-    /// Takes down that a destroyed process has its data again: it isn't destroyed any more. Takes
-    /// no memory.
+    /// Takes down that a destroyed process has its data again: it isn't destroyed any more. Doesn't
+    /// allocate.
     ///
     /// Asks for a process that is destroyed and not gone.
     pub fn heal(&mut self, p: ProcId)

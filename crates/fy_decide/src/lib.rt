@@ -10,4 +10,4 @@ mod verdict;
 
 pub use dead_book::{DeadBook, Loss, MakeFault, first_unmet};
 pub use targets::Targets;
-pub use verdict::{judge, judge_aimed, judge_clog, judge_clog_at, judge_process};
+pub use verdict::{judge, judge_clog, judge_clog_at, judge_process, judge_targets};

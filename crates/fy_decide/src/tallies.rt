@@ -8,7 +8,7 @@ ghost use Rattle.fy_policy.specs.Sat.{satisfies};
 ghost use Rattle.fy_decide.specs.Tallies.{tallied, with_all, without_all};
 ghost use Rattle.fy_decide.specs.Targets.{targeted};
 
-use crate::targets::{Aim, Targets};
+use crate::targets::{Kept, Targets};
 use fy_locality::{Map, ProcId, ProcSet};
 use fy_policy::{Policy, Tally};
 use std::alloc::{AllocError, Global};
@@ -18,7 +18,7 @@ use std::sync::Arc;
 ///
 /// # Errors
 ///
-/// Want of memory.
+/// An allocation failed.
 pub(crate) fn tallies_of(
     alloc: Global,
     map: &Arc<Map>,
@@ -41,7 +41,7 @@ pub(crate) fn tallies_of(
 ///
 /// # Errors
 ///
-/// Want of memory.
+/// An allocation failed.
 pub(crate) fn copied_tallies(
     alloc: Global,
     map: &Arc<Map>,
@@ -57,7 +57,7 @@ pub(crate) fn copied_tallies(
     Ok(copies)
 }
 
-/// Puts a set into a tally. Takes no memory.
+/// Puts a set into a tally. Doesn't allocate.
 fn put_all(tally: &mut Tally, set: &ProcSet)
     ensures { tally.new ≡ with_all set.now tally.old }
 {
@@ -68,7 +68,7 @@ fn put_all(tally: &mut Tally, set: &ProcSet)
     }
 }
 
-/// Takes a set out of a tally. Takes no memory.
+/// Takes a set out of a tally. Doesn't allocate.
 fn drop_all(tally: &mut Tally, set: &ProcSet)
     ensures { tally.new ≡ without_all set.now tally.old }
 {
@@ -79,7 +79,7 @@ fn drop_all(tally: &mut Tally, set: &ProcSet)
     }
 }
 
-/// Puts a set into each tally. Takes no memory.
+/// Puts a set into each tally. Doesn't allocate.
 pub(crate) fn put_in_each(tallies: &mut [Tally], set: &ProcSet)
     ensures { tallies.new ≡ map (with_all set.now) tallies.old }
 {
@@ -88,7 +88,7 @@ pub(crate) fn put_in_each(tallies: &mut [Tally], set: &ProcSet)
     }
 }
 
-/// Takes a set out of each tally. Takes no memory.
+/// Takes a set out of each tally. Doesn't allocate.
 pub(crate) fn drop_from_each(tallies: &mut [Tally], set: &ProcSet)
     ensures { tallies.new ≡ map (without_all set.now) tallies.old }
 {
@@ -97,19 +97,20 @@ pub(crate) fn drop_from_each(tallies: &mut [Tally], set: &ProcSet)
     }
 }
 
-/// The place of the first policy that the tallies' set with this one satisfies. Takes no memory.
+/// The place of the first policy that the tallies' set with this one satisfies. Doesn't allocate.
 pub(crate) fn first_satisfied_with(tallies: &[Tally], targets: &Targets) -> Option<usize>
     ensures { result ≡ position (λ tally.
         satisfies tally.processes tally.policy
         (sets.contains (sets.union tally.set (targeted targets.now)))) tallies.now }
 {
-    match &targets.aim {
-        Aim::One(p) => first_satisfied_with_one(tallies, *p),
-        Aim::Many(set) => tallies.iter().position(|tally| tally.satisfied_with(set)),
+    match &targets.kept {
+        Kept::One(p) => first_satisfied_with_one(tallies, *p),
+        Kept::Set(set) => tallies.iter().position(|tally| tally.satisfied_with(set)),
     }
 }
 
-/// The place of the first policy that the tallies' set with one process satisfies. Takes no memory.
+/// The place of the first policy that the tallies' set with one process satisfies. Doesn't
+/// allocate.
 fn first_satisfied_with_one(tallies: &[Tally], p: ProcId) -> Option<usize>
     requires { p.0 < MOST_PROCESSES }
     ensures { result ≡ position (λ tally.
@@ -119,23 +120,23 @@ fn first_satisfied_with_one(tallies: &[Tally], p: ProcId) -> Option<usize>
     tallies.iter().position(|tally| tally.satisfied_with_one(p))
 }
 
-/// The place of the first policy that the tallies' set without this one is short of. Takes no
-/// memory.
+/// The place of the first policy that the tallies' set without this one is short of. Doesn't
+/// allocate.
 pub(crate) fn first_short_without(tallies: &[Tally], targets: &Targets) -> Option<usize>
     ensures { result ≡ position (λ tally. not
         (satisfies tally.processes tally.policy
         (sets.contains (sets.difference tally.set (targeted targets.now))))) tallies.now }
 {
-    match &targets.aim {
-        Aim::One(p) => first_short_without_one(tallies, *p),
-        Aim::Many(set) => tallies
+    match &targets.kept {
+        Kept::One(p) => first_short_without_one(tallies, *p),
+        Kept::Set(set) => tallies
             .iter()
             .position(|tally| !tally.satisfied_without(set)),
     }
 }
 
-/// The place of the first policy that the tallies' set without one process is short of. Takes no
-/// memory.
+/// The place of the first policy that the tallies' set without one process is short of. Doesn't
+/// allocate.
 fn first_short_without_one(tallies: &[Tally], p: ProcId) -> Option<usize>
     requires { p.0 < MOST_PROCESSES }
     ensures { result ≡ position (λ tally. not

@@ -3,23 +3,23 @@ ghost use Rattle.std.specs.Prelude.{◌≡◌, ◌<◌, IfSome, Some};
 ghost use Rattle.std.specs.FinSet as sets;
 ghost use Rattle.fy_locality.specs.declared.ProcId.{ProcId};
 ghost use Rattle.fy_locality.specs.declared.TheConstants.{MOST_PROCESSES};
-ghost use Rattle.fy_decide.specs.declared.targets.Aim.TheVariants.{One};
+ghost use Rattle.fy_decide.specs.declared.targets.Kept.TheVariants.{One};
 
 use fy_locality::{ProcId, ProcSet, SET_WORDS};
 
-/// One process, or a set of them.
+/// How targets are kept: one process by its number, or a set of any.
 #[derive(Clone, Copy)]
-pub(crate) enum Aim {
+pub(crate) enum Kept {
     One(ProcId),
-    Many(ProcSet),
+    Set(ProcSet),
 }
 
 /// Processes that an order is about, or that may be lost. One that is known to be alone is kept by
 /// its number, and no set is made of it until somebody asks for one.
 #[derive(Clone, Copy)]
 pub struct Targets {
-    pub(crate) aim: Aim,
-    ghost small: { (p : ProcId) → aim ≡ One p → p.0 < MOST_PROCESSES },
+    pub(crate) kept: Kept,
+    ghost small: { (p : ProcId) → kept ≡ One p → p.0 < MOST_PROCESSES },
 }
 
 impl Targets {
@@ -30,9 +30,9 @@ impl Targets {
         ensures { targeted result ≡ set.now }
     {
         match sole(set) {
-            Some(p) => Targets { aim: Aim::One(p) },
+            Some(p) => Targets { kept: Kept::One(p) },
             None => Targets {
-                aim: Aim::Many(*set),
+                kept: Kept::Set(*set),
             },
         }
     }
@@ -43,7 +43,7 @@ impl Targets {
         ensures targeted { targeted result ≡ sets.insert sets.empty p.0 }
         ensures lone { lone result ≡ Some p }
     {
-        Targets { aim: Aim::One(p) }
+        Targets { kept: Kept::One(p) }
     }
 
     /// Nobody.
@@ -51,7 +51,7 @@ impl Targets {
         ensures { targeted result ≡ sets.empty }
     {
         Targets {
-            aim: Aim::Many(ProcSet::empty()),
+            kept: Kept::Set(ProcSet::empty()),
         }
     }
 
@@ -61,9 +61,9 @@ impl Targets {
         ensures small { IfSome result (λ p. p.0 < MOST_PROCESSES) }
         ensures alone { IfSome result (λ p. targeted self.now ≡ sets.insert sets.empty p.0) }
     {
-        match &self.aim {
-            Aim::One(p) => Some(*p),
-            Aim::Many(_) => None,
+        match &self.kept {
+            Kept::One(p) => Some(*p),
+            Kept::Set(_) => None,
         }
     }
 
@@ -71,9 +71,9 @@ impl Targets {
     pub fn set(&self) -> ProcSet
         ensures { result ≡ targeted self.now }
     {
-        match &self.aim {
-            Aim::One(p) => only(*p),
-            Aim::Many(set) => *set,
+        match &self.kept {
+            Kept::One(p) => only(*p),
+            Kept::Set(set) => *set,
         }
     }
 
@@ -81,9 +81,9 @@ impl Targets {
     pub fn drop_from(&self, set: &mut ProcSet)
         ensures { set.new ≡ sets.difference set.old (targeted self.now) }
     {
-        match &self.aim {
-            Aim::One(p) => set.drop_one(*p),
-            Aim::Many(targets) => *set = set.difference(targets),
+        match &self.kept {
+            Kept::One(p) => set.drop_one(*p),
+            Kept::Set(targets) => *set = set.difference(targets),
         }
     }
 }

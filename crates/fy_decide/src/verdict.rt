@@ -10,7 +10,7 @@ ghost use Rattle.fy_decide.specs.Targets.{targeted};
 ghost use Rattle.fy_decide.specs.Verdicts.{Situation, NamesProcess, situation_of, targets, bar, hardest_first, verdict, first_rule, permission_rules, loss_rules};
 
 use crate::DeadBook;
-use crate::targets::{Aim, Targets};
+use crate::targets::{Kept, Targets};
 use fy_grants::Book;
 use fy_kinds::{HARDEST_FIRST, KillOrder, Kind, KindSet, Rule, Target, Verdict};
 use fy_locality::{Map, ProcId, ProcSet};
@@ -39,15 +39,15 @@ impl Case<'_> {
             (λ q. not (is_covered self.now.book.now.processes
             (grants_of self.now.book.now self.now.actor) kinds q)) result }
     {
-        match &self.targets.aim {
-            Aim::One(p) => {
+        match &self.targets.kept {
+            Kept::One(p) => {
                 if self.book.covers(self.actor, kinds, *p) {
                     None
                 } else {
                     Some(*p)
                 }
             }
-            Aim::Many(set) => self.book.uncovered(self.actor, kinds, set),
+            Kept::Set(set) => self.book.uncovered(self.actor, kinds, set),
         }
     }
 
@@ -57,29 +57,29 @@ impl Case<'_> {
         ensures { LeastWith (sets.contains (targeted self.now.targets.now))
             (is_protected self.now.book.now kinds) result }
     {
-        match &self.targets.aim {
-            Aim::One(p) => {
+        match &self.targets.kept {
+            Kept::One(p) => {
                 if self.book.protects(kinds, *p) {
                     Some(*p)
                 } else {
                     None
                 }
             }
-            Aim::Many(set) => self.book.barred(kinds, set),
+            Kept::Set(set) => self.book.barred(kinds, set),
         }
     }
 
     /// Whether there is no target.
-    fn is_aimless(&self) -> bool
+    fn has_no_target(&self) -> bool
         ensures { IsTrue result ↔ (targeted self.now.targets.now ≡ sets.empty) }
     {
-        match &self.targets.aim {
-            Aim::One(_) => false,
-            Aim::Many(set) => set.is_empty(),
+        match &self.targets.kept {
+            Kept::One(_) => false,
+            Kept::Set(set) => set.is_empty(),
         }
     }
 
-    /// The bar of a deed by the first three rules, those of leave.
+    /// The bar of a deed by the first three rules, those of permission.
     #[inline(always)]
     fn permission_bar(&self, kinds: KindSet) -> Option<Rule>
         ensures { (deed : Deed) → kinds ≡ only deed → result
@@ -90,7 +90,7 @@ impl Case<'_> {
         // To be protected from some of one kind is to be protected from it.
         fy_kinds::laws::one_deed();
         fy_grants::laws::least_is_first_found();
-        if self.is_aimless() {
+        if self.has_no_target() {
             return Some(Rule::NoTarget);
         }
         if let Some(process) = self.uncovered(kinds) {
@@ -228,19 +228,19 @@ fn bars_too(rule: Rule, kind: Kind) -> bool
 
 /// The verdict on an order of an actor: the hardest kind, from the ordered one down to its floor,
 /// that has no bar at the order's targets, and the bar of the ordered kind. It changes nothing; the
-/// caller strikes. The map is the one that both books were made of. Takes no memory.
+/// caller strikes. The map is the one that both books were made of. Doesn't allocate.
 pub fn judge(dead: &DeadBook, book: &Book, map: &Map, actor: u32, order: &KillOrder) -> Verdict
     requires map { map.now ≡ dead.now.processes }
     requires book { book.now.processes ≡ dead.now.processes }
     ensures { result ≡ verdict (situation_of dead.now book.now actor) order.now }
 {
-    let targets = dead.aimed_at(map, &order.target());
-    judge_aimed(dead, book, actor, order, &targets)
+    let targets = dead.find_targets(map, &order.target());
+    judge_targets(dead, book, actor, order, &targets)
 }
 
-/// The verdict of [`judge`] on an order whose targets [`DeadBook::aimed_at`] found before, for
-/// whoever goes on to strike them. Takes no memory.
-pub fn judge_aimed(
+/// The verdict of [`judge`] on an order whose targets [`DeadBook::find_targets`] found before, for
+/// whoever goes on to strike them. Doesn't allocate.
+pub fn judge_targets(
     dead: &DeadBook,
     book: &Book,
     actor: u32,
@@ -263,7 +263,7 @@ pub fn judge_aimed(
 }
 
 /// The verdict of [`judge`] on an order that names this process alone, by these two kinds. No name
-/// is looked up, and no set is made. Takes no memory.
+/// is looked up, and no set is made. Doesn't allocate.
 pub fn judge_process(
     dead: &DeadBook,
     book: &Book,
@@ -283,13 +283,13 @@ pub fn judge_process(
         dead,
         book,
         actor,
-        targets: &dead.aimed_at_process(process),
+        targets: &dead.process_targets(process),
     };
     case.verdict(kind, floor)
 }
 
 /// Why an actor may not clog a target: the first three rules. The map is the one that both books
-/// were made of. Takes no memory.
+/// were made of. Doesn't allocate.
 pub fn judge_clog(
     dead: &DeadBook,
     book: &Book,
@@ -307,7 +307,7 @@ pub fn judge_clog(
 }
 
 /// What [`judge_clog`] answers of a target whose processes were found before, for whoever goes on
-/// to clog them. Takes no memory.
+/// to clog them. Doesn't allocate.
 pub fn judge_clog_at(
     dead: &DeadBook,
     book: &Book,

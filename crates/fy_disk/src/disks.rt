@@ -143,7 +143,7 @@ impl Disks {
         Ok(())
     }
 
-    /// Syncs every unsynced item of a process and returns how many they were. Takes no memory.
+    /// Syncs every unsynced item of a process and returns how many they were. Doesn't allocate.
     pub fn sync(&mut self, p: ProcId) -> usize
         requires there { p.0 < length self.old }
         ensures count { result ≡ length (disk_of self.old p.0).unsynced }
@@ -155,7 +155,7 @@ impl Disks {
         disk.sync()
     }
 
-    /// Crashes a process's disk, as `Disk::crash` does. Takes no memory.
+    /// Crashes a process's disk, as `Disk::crash` does. Doesn't allocate.
     pub fn crash(&mut self, p: ProcId, tear: u64)
         requires there { p.0 < length self.old }
         ensures { self.new ≡ slice_set self.old p.0 (crashed tear (disk_of self.old p.0)) }
@@ -167,7 +167,7 @@ impl Disks {
         self.with_unsynced.drop_one(p);
     }
 
-    /// Erases every item of a process. Takes no memory.
+    /// Erases every item of a process. Doesn't allocate.
     pub fn wipe(&mut self, p: ProcId)
         requires there { p.0 < length self.old }
         ensures { self.new ≡ slice_set self.old p.0 empty_disk }

@@ -112,7 +112,7 @@ EventsOf count bytes (Err (Line number fault)) =
     (length bytes ≤ MOST_EVENTS_BYTES) × FirstFaulty count (lines_of bytes) number fault
 EventsOf count bytes (Err NoMemory) = ⊥
 
--- what a reader may answer: what the bytes are, or that there was no memory, which takes the place
+-- what a reader may answer: what the bytes are, or that an allocation failed, which takes the place
 -- of any answer but TooLong
 abbrev pub EventsAnswers : (count : ℕ) → List ℕ → Result (List Event) EventsFault → Type 0
 EventsAnswers count bytes (Err NoMemory) = length bytes ≤ MOST_EVENTS_BYTES

@@ -92,7 +92,7 @@ fn entry_at(events: &[Event], at: usize, count: u32) -> u32
 ///
 /// # Errors
 ///
-/// `AllocError` where there is no memory for them.
+/// `AllocError` where an allocation fails.
 pub fn columns_by_time(
     alloc: Global,
     events: &[Event],

@@ -56,7 +56,7 @@ pub enum EventFault {
 pub(crate) enum NoAnswer {
     /// The line is faulty.
     Faulty(EventFault),
-    /// There is no memory to read it.
+    /// An allocation failed while it was read.
     NoMemory,
 }
 
@@ -154,7 +154,7 @@ fn told(count: u32, last: Option<Event>, value: &Value<'_>) -> Result<Option<Eve
 ///
 /// # Errors
 ///
-/// `Faulty` with the line's first fault; `NoMemory` where memory is refused before.
+/// `Faulty` with the line's first fault; `NoMemory` where an allocation fails before.
 pub(crate) fn read_line(
     alloc: Global,
     count: u32,

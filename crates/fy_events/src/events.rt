@@ -15,7 +15,7 @@ pub enum EventsFault {
     TooLong,
     /// The first faulty line, counted from 1, and its first fault.
     Line { number: u32, fault: EventFault },
-    /// There is no memory for the events.
+    /// An allocation for the events failed.
     NoMemory,
 }
 
@@ -35,7 +35,7 @@ impl<T: Drop> From<AllocFailed<T>> for EventsFault {
 ///
 /// # Errors
 ///
-/// In this order: `TooLong`; `Line` for the first faulty line; `NoMemory` where memory is refused
+/// In this order: `TooLong`; `Line` for the first faulty line; `NoMemory` where an allocation fails
 /// before.
 pub fn read_events(alloc: Global, bytes: &[u8], count: u32) -> Result<Vec<Event>, EventsFault>
     ensures read { IfOk result (λ events. EventsOf count bytes.now (Ok events.items)) }

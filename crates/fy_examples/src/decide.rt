@@ -1,7 +1,7 @@
 //! Verdicts on a cluster of two processes, of which one may be destroyed.
 ghost use Rattle.std.specs.Prelude.{◌≡◌};
 
-use fy_decide::{DeadBook, Loss, judge, judge_aimed, judge_clog, judge_clog_at, judge_process};
+use fy_decide::{DeadBook, Loss, judge, judge_clog, judge_clog_at, judge_process, judge_targets};
 use fy_grants::{Book, Grant, Scope};
 use fy_kinds::{KillOrder, Kind, KindSet, Rule, Target, Verdict};
 use fy_locality::{Key, Map, Name};
@@ -55,8 +55,8 @@ fn judge_found(dead: &DeadBook, book: &Book, map: &Map, order: &KillOrder) -> Ve
     requires map { map.now ≡ dead.now.processes }
     requires book { book.now.processes ≡ dead.now.processes }
 {
-    let found = dead.aimed_at(map, &order.target());
-    judge_aimed(dead, book, 0, order, &found)
+    let found = dead.find_targets(map, &order.target());
+    judge_targets(dead, book, 0, order, &found)
 }
 
 #[test]
@@ -77,7 +77,7 @@ fn a_verdict_is_the_same_by_number(rt: HostRuntime) -> Result<(), Fail> {
     let by_number = judge_process(&dead, &book, 0, p0, order.kind(), order.floor());
     assert!(rt; by_number == verdict);
     assert!(rt; judge_found(&dead, &book, &map, &order) == verdict);
-    let lone = dead.aimed_at_process(p0).alone();
+    let lone = dead.process_targets(p0).alone();
     assert!(rt; lone == Some(p0));
     assert_eq!(rt; verdict.rule, Some(Rule::NoGrant { process: p0 }));
     Ok(())

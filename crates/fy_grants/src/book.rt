@@ -70,7 +70,7 @@ impl Book {
     ///
     /// # Errors
     ///
-    /// Where there is no memory.
+    /// Where an allocation fails.
     pub fn make(alloc: Global, actors: u32, map: &Map) -> Result<Book, AllocError>
         ensures { IfOk result (λ book. book ≡ no_rights actors map.now) }
     {
@@ -87,7 +87,7 @@ impl Book {
     ///
     /// # Errors
     ///
-    /// Where there is no memory.
+    /// Where an allocation fails.
     pub fn try_copy(&self, alloc: Global) -> Result<Book, AllocError>
         ensures { IfOk result (λ copy. copy ≡ self.now) }
     {

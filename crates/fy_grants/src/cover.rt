@@ -46,7 +46,7 @@ impl Cover {
         }
     }
 
-    /// The cover of some grants, one after another. Takes no memory.
+    /// The cover of some grants, one after another. Doesn't allocate.
     pub(crate) fn of(grants: &[Grant], map: &Map) -> Cover
         ensures { IsCoverOf map.now grants.now result }
     {
@@ -57,7 +57,7 @@ impl Cover {
         cover
     }
 
-    /// Adds what one more grant covers. Takes no memory.
+    /// Adds what one more grant covers. Doesn't allocate.
     pub(crate) fn add(&mut self, grant: &Grant, map: &Map)
         ensures { (deed : Deed) (p : ℕ) → covers self.new deed p
             ≡ (covers self.old deed p || is_granted map.now grant.now (only deed) p) }
@@ -99,8 +99,8 @@ impl Cover {
     }
 
     /// The processes of a set that no grant with this kind covers, where one kind is asked about;
-    /// else nothing, since a question about several kinds wants one grant that has them all. Takes
-    /// no memory.
+    /// else nothing, since a question about several kinds wants one grant that has them all.
+    /// Doesn't allocate.
     pub(crate) fn uncovered_in(&self, kinds: KindSet, set: &ProcSet) -> Option<ProcSet>
         ensures { IfSome result (LeavesOpen self.now kinds set.now) }
     {

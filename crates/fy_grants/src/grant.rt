@@ -13,7 +13,7 @@ pub enum Scope {
     Where(Target),
 }
 
-/// The leave of an actor, by its number, for some kinds on the processes of a scope.
+/// The permission of an actor, by its number, for some kinds on the processes of a scope.
 #[derive(Clone, Copy, PartialEq, Eq)]
 pub struct Grant {
     pub actor: u32,
@@ -21,7 +21,7 @@ pub struct Grant {
     pub scope: Scope,
 }
 
-/// Puts a grant last, or leaves the list as it was where there is no memory.
+/// Puts a grant last, or leaves the list as it was where an allocation fails.
 pub(crate) fn push_last(own: &mut Vec<Grant>, grant: Grant) -> Result<(), AllocError>
     ensures ok { OnOk result (own.new.items ≡ own.old.items ++ grant ∷ []) }
     ensures err { OnErr result (own.new.items ≡ own.old.items) }

@@ -42,7 +42,7 @@ impl Protections {
     ///
     /// # Errors
     ///
-    /// Where there is no memory.
+    /// Where an allocation fails.
     pub(crate) fn make(alloc: Global, processes: u32) -> Result<Protections, AllocError>
         requires { processes ≤ MOST_PROCESSES }
         ensures { IfOk result (λ made. made ≡ replicate processes no_deed) }
@@ -56,7 +56,7 @@ impl Protections {
     ///
     /// # Errors
     ///
-    /// Where there is no memory.
+    /// Where an allocation fails.
     pub(crate) fn try_copy(&self, alloc: Global) -> Result<Protections, AllocError>
         ensures { IfOk result (λ copy. copy ≡ self.now) }
     {

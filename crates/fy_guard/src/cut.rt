@@ -29,8 +29,8 @@ pub struct Cut {
 ///
 /// # Errors
 ///
-/// `Audit` where the audit is too long, `Read` where its reader fails, `NoMemory` where memory is
-/// refused.
+/// `Audit` where the audit is too long, `Read` where its reader fails, `NoMemory` where an
+/// allocation fails.
 pub fn cut_line<A: Read>(alloc: Global, audit: &mut A) -> Result<Option<Cut>, Stop>
     ensures found { IfOk result (λ cut. IfSome cut (λ cut. IfSome (A.remaining audit.old)
         (λ bytes. IsCutAt bytes cut.line cut.whole))) }

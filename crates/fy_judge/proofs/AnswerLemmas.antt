@@ -40,14 +40,6 @@ module _ (i : Input) (granted : List Ask) (book : Losses) (a : Ask) (stands : Re
   left_is : sets.contains book.left a.process.0 ≡ not (gone_by granted a.process.0)
   left_is = stands.left a.process.0 ∙ ap (λ b. b && not (gone_by granted a.process.0)) there
 
-  -- it was gone
-  pub was_gone : sets.contains book.left a.process.0 ≡ false → WasGone ≡ answer_of i granted a
-  was_gone gone = sym (ap (λ b. cond b WasGone (cond (may_destroy i.processes i.policies (destroyed_by granted) (left_by i granted) (λ p. eqb p a.process.0) a.loss) Yes No)) (yes_of _ (sym left_is ∙ gone)))
-    where
-      yes_of : (b : Bool) → not b ≡ false → b ≡ true
-      yes_of true e = refl
-      yes_of false e = absurd (let x : ⊥ = cc in x)
-
   pub not_gone : sets.contains book.left a.process.0 ≡ true → gone_by granted a.process.0 ≡ false
   not_gone left = no_of _ (sym left_is ∙ left)
     where

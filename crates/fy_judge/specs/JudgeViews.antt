@@ -18,7 +18,7 @@ use Rattle.fy_locality.specs.declared.map.MapFault.TheVariants.{Twice as map_twi
 abbrev pub IsToken : List ℕ → Type 0
 IsToken bytes = AllByRecursion (λ b. b ≢ 32) bytes
 
--- a fact for a line's fault; none for want of memory
+-- a fact for a line's fault; none for an allocation failure
 abbrev pub IfFault : TakeFault → (JudgeFault → Type 0) → Type 0
 IfFault (Fault fault) P = P fault
 IfFault NoMemory P = Unit {0}

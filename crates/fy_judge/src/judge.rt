@@ -96,10 +96,10 @@ fn answer_bytes(alloc: Global, bytes: &[u8]) -> Result<Vec<u8>, JudgeStop>
 ///
 /// # Errors
 ///
-/// `TooLong` over 1,048,576 bytes, and `Line` for the first faulty line: nothing is
-/// written then. `Read` where the reader fails, `NoMemory` where memory was refused: nothing is
-/// written then either. `Write` where the writer fails or takes no byte: a front of the answers is
-/// out, and never all of them.
+/// `TooLong` over 1,048,576 bytes, and `Line` for the first faulty line: nothing is written then.
+/// `Read` where the reader fails, `NoMemory` where an allocation failed: nothing is written then
+/// either. `Write` where the writer fails or takes no byte: a front of the answers is out, and
+/// never all of them.
 #[tactic(auto, using(crate::proofs::LineLemmas::known_long))]
 pub fn run_judge<R: Read, W: Write>(
     alloc: Global,

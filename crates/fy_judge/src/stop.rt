@@ -33,7 +33,7 @@ pub enum JudgeStop {
     Read,
     /// A call of `write` failed, or took no byte.
     Write,
-    /// There is no memory for the work.
+    /// An allocation for the work failed.
     NoMemory,
 }
 

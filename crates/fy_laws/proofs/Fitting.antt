@@ -14,7 +14,7 @@ use Rattle.fy_kinds.specs.declared.verdict.Rule.TheVariants.{NoTarget, NoGrant, 
 use Rattle.fy_policy.specs.Tree.{Tree}
 use Rattle.fy_disk.specs.declared.item.Item.{Item}
 use Rattle.fy_team.specs.Teams.{Team, is_among}
-use Rattle.fy_decide.specs.Verdicts.{targets, numbers, is_granted_to, permission_rules, loss_rules, too_many_destroyed, too_few_left, first_rule, bar, verdict, aimed_at}
+use Rattle.fy_decide.specs.Verdicts.{targets, numbers, is_granted_to, permission_rules, loss_rules, too_many_destroyed, too_few_left, first_rule, bar, verdict, order_targets}
 use Rattle.fy_acts.specs.declared.act.Act.{Act}
 use Rattle.fy_acts.specs.declared.act.Act.TheVariants.{Kill, Clog, Unclog, Form, Begin, Deliver, Lose, Resend, Sync, Up, Tick, Give, Take, Protect, Unprotect, CopyTo, Replace, Heal}
 use Rattle.fy_acts.specs.declared.reply.Refusal.{Refusal}
@@ -319,7 +319,7 @@ answer_fits : (c : Setup) (h : History) (by : ℕ) (act : Act) → IsSmall c →
     length h ≤ 1048576 → NoneHolds (refusals c h act) → FitsReply (answer c h by act)
 unfolding refusals answer verdict
 answer_fits c h by (Kill order) small counted room none =
-    bar_fits c h by (Striking order.kind) (aimed_at (situation c h by) order) small
+    bar_fits c h by (Striking order.kind) (order_targets (situation c h by) order) small
 answer_fits c h by (Clog target n) small counted room none =
     bar_fits c h by Clogging (targets c.processes (left c h) target) small
 answer_fits c h by (Unclog target) small counted room none =

@@ -11,7 +11,7 @@ use Rattle.fy_kinds.specs.declared.kind.Kind.TheVariants.{RebootAndDelete, KillI
 use Rattle.fy_kinds.specs.declared.verdict.Rule.{Rule}
 use Rattle.fy_kinds.specs.declared.verdict.Rule.TheVariants.{NoTarget, NoGrant, Protected, TooManyDestroyed, TooFewLeft}
 use Rattle.fy_decide.specs.Safety.{with_set, without_set}
-use Rattle.fy_decide.specs.Verdicts.{aimed_at}
+use Rattle.fy_decide.specs.Verdicts.{order_targets}
 use Rattle.fy_decide.specs.Hardest.{MayStrike, IsAllowed, VerdictAnswers}
 use Rattle.fy_laws.specs.Clusters.{six, four, in_two_zones, six_processes, four_processes, process}
 use Rattle.fy_laws.specs.Strikes.{one_zone, second_kill}
@@ -25,7 +25,7 @@ use Rattle.fy_laws.proofs.FromWords.{right_strikes, right_names, struck_allowed,
 killed_allowed : IsAllowed first_kill KillInstantly
 killed_allowed = record { floor = leb-true 1 3 refl; ordered = leb-true 3 3 refl }
 
-may_be_killed : VerdictAnswers → MayStrike (situation_after six [] 1) KillInstantly (aimed_at (situation_after six [] 1) first_kill)
+may_be_killed : VerdictAnswers → MayStrike (situation_after six [] 1) KillInstantly (order_targets (situation_after six [] 1) first_kill)
 unfolding cluster_on_literals
 may_be_killed law = struck_may _ first_kill _ (Some KillInstantly) KillInstantly refl (right_strikes law six [] 1 first_kill (Some KillInstantly) refl)
 
@@ -36,7 +36,7 @@ pub nobody_struck : VerdictAnswers → (found : Option Kind) → found ≡ None 
 nobody_struck law found e it = none_struck _ first_kill _ found e it KillInstantly killed_allowed (may_be_killed law)
 
 -- with the second zone the destroyed would be in two zones
-two_destroyed : Sat six_processes in_two_zones (with_set (situation_after six one_zone 1).destroyed (aimed_at (situation_after six one_zone 1) second_kill))
+two_destroyed : Sat six_processes in_two_zones (with_set (situation_after six one_zone 1).destroyed (order_targets (situation_after six one_zone 1) second_kill))
 unfolding Sat IsDistinct
 two_destroyed = record {
   names = codes "z0" ∷ codes "z1" ∷ [];
@@ -94,13 +94,13 @@ pub few_destroyed : VerdictAnswers → (found : Option Rule) → found ≡ Some 
 few_destroyed law found e it =
     let s = situation_after six [] 1 in
     let first = (destroyed_named _ KillInstantly _ found 0 e it).2 in
-    ((may_be_killed law).short refl).0 (subst (λ P. Sat six_processes P (with_set s.destroyed (aimed_at s first_kill))) (the_policy first.policy first.at) first.holds)
+    ((may_be_killed law).short refl).0 (subst (λ P. Sat six_processes P (with_set s.destroyed (order_targets s first_kill))) (the_policy first.policy first.at) first.holds)
 
 pub enough_left : VerdictAnswers → (found : Option Rule) → found ≡ Some (TooFewLeft 0) → NamesAfter six [] 1 first_kill found → ⊥
 enough_left law found e it =
     let s = situation_after six [] 1 in
     let first = (left_named _ KillInstantly _ found 0 e it).1 in
-    subst (λ P. Sat six_processes P (without_set s.left (aimed_at s first_kill)) → ⊥) (the_policy first.policy first.at) first.holds ((may_be_killed law).satisfied refl).0
+    subst (λ P. Sat six_processes P (without_set s.left (order_targets s first_kill)) → ⊥) (the_policy first.policy first.at) first.holds ((may_be_killed law).satisfied refl).0
 
 pub no_rule_named : (found : Option Rule) → found ≡ None → NamesAfter six one_zone 1 second_kill found → ⊥
 no_rule_named found e it = ((none_named _ KillInstantly _ found e it).short refl).0 two_destroyed
@@ -120,7 +120,7 @@ replication_before_grant found e it = false≢true ((destroyed_named _ KillInsta
 pub replication_before_protection : (found : Option Rule) → found ≡ Some (TooManyDestroyed 0) → NamesAfter six emptied_and_protected 1 second_kill found → ⊥
 replication_before_protection found e it = true≢false ((destroyed_named _ KillInstantly _ found 0 e it).1 3 refl)
 
-four_destroyed : Sat four_processes in_two_zones (with_set (situation_after four one_emptied 1).destroyed (aimed_at (situation_after four one_emptied 1) second_kill))
+four_destroyed : Sat four_processes in_two_zones (with_set (situation_after four one_emptied 1).destroyed (order_targets (situation_after four one_emptied 1) second_kill))
 unfolding Sat IsDistinct
 four_destroyed = record {
   names = codes "z0" ∷ codes "z1" ∷ [];

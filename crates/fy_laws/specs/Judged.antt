@@ -6,7 +6,7 @@ use Rattle.fy_kinds.specs.declared.kind.Kind.{Kind}
 use Rattle.fy_kinds.specs.declared.kind.Kind.TheVariants.{Reboot, RebootAndDelete, KillInstantly}
 use Rattle.fy_kinds.specs.declared.verdict.Rule.{Rule}
 use Rattle.fy_kinds.specs.Orders.{Order}
-use Rattle.fy_decide.specs.Verdicts.{Situation, aimed_at}
+use Rattle.fy_decide.specs.Verdicts.{Situation, order_targets}
 use Rattle.fy_decide.specs.Hardest.{StrikesHardest, FirstRule}
 use Rattle.fy_acts.specs.declared.act.Act.TheVariants.{Kill, Protect}
 use Rattle.fy_acts.specs.declared.reply.Reply.{Reply}
@@ -29,13 +29,13 @@ situation_after c before by = situation c (history c before) by
 abbrev pub StrikesAfter : Setup → List Entry → ℕ → Order → Option Kind → Type 0
 StrikesAfter c before by given kind =
     let s = situation_after c before by in
-    StrikesHardest s given (aimed_at s given) kind
+    StrikesHardest s given (order_targets s given) kind
 
 -- by the words of the verdict this rule is named against the ordered kind
 abbrev pub NamesAfter : Setup → List Entry → ℕ → Order → Option Rule → Type 0
 NamesAfter c before by given rule =
     let s = situation_after c before by in
-    FirstRule s given.kind (aimed_at s given) rule
+    FirstRule s given.kind (order_targets s given) rule
 
 -- the entry of the order with a reply
 abbrev pub killing : List Entry → ℕ → Order → Reply → Entry

@@ -15,7 +15,7 @@ pub enum InputFault {
     TooLong,
     /// A call of `read` failed, by whatever error: none is tried again.
     Reader,
-    /// There is no memory for the bytes.
+    /// An allocation for the bytes failed.
     NoMemory,
 }
 

@@ -12,7 +12,7 @@ use std::io::Write;
 #[derive(Clone, Copy, Debug, PartialEq, Eq)]
 pub struct OutputFault;
 
-/// Writes all the bytes. It takes no memory, buffers nothing and does not flush.
+/// Writes all the bytes. It doesn't allocate, buffers nothing and does not flush.
 ///
 /// # Errors
 ///

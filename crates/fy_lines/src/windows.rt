@@ -93,7 +93,7 @@ impl Window {
     ///
     /// # Errors
     ///
-    /// `AllocError` where there is no memory for its buffer, which never grows.
+    /// `AllocError` where the allocation of its buffer fails, which never grows.
     pub fn make(alloc: Global) -> Result<Window, AllocError>
         ensures held { IfOk result (λ window. window.held ≡ []) }
         ensures read { IfOk result (λ window. window.read ≡ 0) }

@@ -1,11 +1,9 @@
 -- words whose lowest bits are 1: the set of all numbers below one
-use Rattle.std.proofs.Common.{◌≡◌, ℕ, ◌+◌, ◌-◌, ◌*◌, ◌/◌, ◌%◌, ◌^◌, ◌<◌, ◌≤◌, Bool, ◌&&◌, List, length, inl, inr, sym, ap, ◌∙◌, arith, eqb, ltb, get_or}
+use Rattle.std.proofs.Common.{◌≡◌, ℕ, ◌-◌, ◌*◌, ◌/◌, ◌%◌, ◌^◌, ◌<◌, ◌≤◌, Bool, ◌&&◌, List, inl, inr, ap, ◌∙◌, arith, eqb, ltb, get_or}
 use Rattle.std.specs.Int.{bit_at}
 use Rattle.std.specs.FinSet as sets
-use Rattle.std.proofs.Math.ListN.{set as put_at}
 use Rattle.std.proofs.lemmas.Nat.Bits.{bit_at_ones, bit_at_ones_above}
-use Rattle.std.proofs.lemmas.List.{length-set, get_or-set_same, get_or-set_other}
-use Rattle.std.proofs.lemmas.Bool.{cases_lt, cases_eq}
+use Rattle.std.proofs.lemmas.Bool.{cases_lt}
 use Rattle.std.proofs.lemmas.Bool.Decides.{nat_tests}
 use Rattle.fy_locality.specs.Members.{has_bit, members, AreWords}
 use Rattle.fy_locality.specs.MembersInverse.{contains-members}
@@ -27,24 +25,6 @@ low_all count many i h = let e : bit_at (2 ^ 64 - 1) i ≡ 1 = bit_at_ones 64 i 
 pub record HasLowest (count n : ℕ) (ws : List ℕ) : Type 0 where
   pub words : AreWords ws
   pub low : (k : ℕ) → k < n → IsLow (count - k * 64) (get_or ws k 0)
-
-pub lowest_one : (count n : ℕ) (ws : List ℕ) (w : ℕ) → n < 16 → w < 2 ^ 64 → IsLow (count - n * 64) w → HasLowest count n ws → HasLowest count (n + 1) (put_at ws n w)
-lowest_one count n ws w in_words fits is are = record {
-  words = record {
-    count = length-set ws n w ∙ are.words.count;
-    fit = λ k. elim (cases_eq k n) [
-      | inl e ↦ let v : get_or (put_at ws n w) k 0 ≡ w = here k e in omega arith
-      | inr ne ↦ let v : get_or (put_at ws n w) k 0 ≡ get_or ws k 0 = get_or-set_other ws n k w 0 ne in let f : get_or ws k 0 < 2 ^ 64 = are.words.fit k in omega arith
-    ];
-  };
-  low = λ k below i h. elim (cases_eq k n) [
-    | inl e ↦ ap (λ v. eqb (bit_at v i) 1) (here k e) ∙ is i h ∙ ap (λ j. ltb i (count - j * 64)) (sym e)
-    | inr ne ↦ ap (λ v. eqb (bit_at v i) 1) (get_or-set_other ws n k w 0 ne) ∙ are.low k (omega arith) i h
-  ];
-}
-  where
-    here : (k : ℕ) → k ≡ n → get_or (put_at ws n w) k 0 ≡ w
-    here k e = ap (λ j. get_or (put_at ws n w) j 0) e ∙ get_or-set_same ws n w 0 (let c : length ws ≡ 16 = are.words.count in omega arith)
 
 pub contains_lowest : (count n : ℕ) (ws : List ℕ) → count ≤ 1024 → 16 ≤ n → HasLowest count n ws → (q : ℕ) → sets.contains (members ws) q ≡ ltb q count
 contains_lowest count n ws few all are q = contains-members ws q ∙ elim (cases_lt q 1024) [

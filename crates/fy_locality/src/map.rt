@@ -52,7 +52,7 @@ impl Indexes {
     ///
     /// # Errors
     ///
-    /// Want of memory.
+    /// An allocation failed.
     fn try_copy(&self) -> Result<Indexes, AllocError>
         ensures { IfOk result (HasSameEntries self.now) }
     {
@@ -175,7 +175,7 @@ impl Map {
     }
 
     /// The processes with the value that a process has of a key, itself among them; none where
-    /// there is no such process, or where it has no value of the key. Takes no memory and compares
+    /// there is no such process, or where it has no value of the key. Doesn't allocate and compares
     /// no names.
     pub fn peers(&self, p: ProcId, key: Key) -> Option<ProcSet>
         ensures some { IfSome result (ArePeers self.now key p.0) }
@@ -232,7 +232,7 @@ impl Map {
     ///
     /// # Errors
     ///
-    /// Want of memory.
+    /// An allocation failed.
     pub fn try_copy(&self, alloc: Global) -> Result<Map, AllocError>
         ensures { IfOk result (λ copy. copy ≡ self.now) }
     {

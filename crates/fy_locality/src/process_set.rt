@@ -11,7 +11,7 @@ use std::marker::Model;
 /// How many words of 64 bits have a bit for each process.
 pub const SET_WORDS: usize = MOST_PROCESSES as usize / 64;
 
-/// A set of processes, each below 1024. It takes no memory and is `Copy`.
+/// A set of processes, each below 1024. It doesn't allocate and is `Copy`.
 #[derive(Clone, Copy)]
 pub struct ProcSet {
     words: [u64; SET_WORDS],

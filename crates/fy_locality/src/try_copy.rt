@@ -9,7 +9,7 @@ pub trait TryCopy {
     ///
     /// # Errors
     ///
-    /// Want of memory.
+    /// An allocation failed.
     fn try_copy(&self, alloc: Global) -> Result<Self, AllocError>
         ensures { IfOk result (λ copy. copy ≡ self.now) };
 }
@@ -18,7 +18,7 @@ pub trait TryCopy {
 ///
 /// # Errors
 ///
-/// Want of memory.
+/// An allocation failed.
 pub fn try_copy_each<T: TryCopy + Drop>(alloc: Global, items: &[T]) -> Result<Vec<T>, AllocError>
     ensures { IfOk result (λ copies. copies.items ≡ items.now) }
 {

@@ -15,7 +15,7 @@ use Rattle.fy_net.specs.declared.pool.Ends.{Ends}
 use Rattle.fy_net.specs.declared.pool.Pool.{Pool}
 use Rattle.fy_net.specs.Net.{process_of}
 use Rattle.fy_net.specs.Pool.{chain_of, no_ends, has_first, is_busy, lower_of, IsFirst, IsThereOnChain, IsFreeOf, IsPool}
-use Rattle.fy_net.proofs.Candidates.{FreeAmong, none_among, same_among, one_more}
+use Rattle.fy_net.proofs.Candidates.{FreeAmong, same_among, one_more}
 use Rattle.fy_net.proofs.Flights.{eqb_same, eqb_other}
 
 abbrev pub Set : Type 0
@@ -73,15 +73,15 @@ busy_there : (processes : ℕ) (ends : List Ends) (p : ℕ) → p < MOST_PROCESS
 busy_there processes ends p small lt = rw (below_is p MOST_PROCESSES small, below_is p processes lt) refl
 
 -- by the ends that were read
-pub busy_read : (processes : ℕ) (ends : List Ends) (p : ℕ) (store word : Ends) (r : Option ℕ) → p < MOST_PROCESSES → p < processes → length ends ≡ processes + processes
-    → store ≡ get_or ends p store → word ≡ get_or ends (processes + p) word → r ≡ lower_of store.first word.first → is_busy processes ends p ≡ is_some r
-busy_read processes ends p store word r small lt wide store_is word_is is =
+pub busy_read : (processes : ℕ) (ends : List Ends) (p : ℕ) (store ack : Ends) (r : Option ℕ) → p < MOST_PROCESSES → p < processes → length ends ≡ processes + processes
+    → store ≡ get_or ends p store → ack ≡ get_or ends (processes + p) ack → r ≡ lower_of store.first ack.first → is_busy processes ends p ≡ is_some r
+busy_read processes ends p store ack r small lt wide store_is ack_is is =
     let one : get_or ends p no_ends ≡ store = get_or_default ends p no_ends store (omega arith) ∙ sym store_is in
-    let other : get_or ends (processes + p) no_ends ≡ word = get_or_default ends (processes + p) no_ends word (omega arith) ∙ sym word_is in
+    let other : get_or ends (processes + p) no_ends ≡ ack = get_or_default ends (processes + p) no_ends ack (omega arith) ∙ sym ack_is in
     busy_there processes ends p small lt
     ∙ ap (λ (e : Ends). is_some e.first || has_first ends (processes + p)) one
     ∙ ap (λ (e : Ends). is_some store.first || is_some e.first) other
-    ∙ sym (ap is_some is ∙ lower_some store.first word.first)
+    ∙ sym (ap is_some is ∙ lower_some store.first ack.first)
 
 -- a process that is busy is there, and a set can have it
 pub busy_small : (processes : ℕ) (ends : List Ends) (p : ℕ) → is_busy processes ends p ≡ true → (p < MOST_PROCESSES) × (p < processes)
@@ -152,7 +152,7 @@ module _ (pool : Pool) (is_pool : IsPool pool) where
 
       go : IsThereOnChain pool.processes pool.slots.items p k ⊎ IsThereOnChain pool.processes pool.slots.items (pool.processes + p) k → ⊥
       go (inl store) = no_first (IsThereOnChain pool.processes pool.slots.items p) (length pool.slots.items) _ none.0 (is_pool.chained.first p (omega (arith, is_pool.chained.wide))) k within store
-      go (inr word) = no_first (IsThereOnChain pool.processes pool.slots.items (pool.processes + p)) (length pool.slots.items) _ none.1 (is_pool.chained.first (pool.processes + p) (omega (arith, is_pool.chained.wide))) k within word
+      go (inr ack) = no_first (IsThereOnChain pool.processes pool.slots.items (pool.processes + p)) (length pool.slots.items) _ none.1 (is_pool.chained.first (pool.processes + p) (omega (arith, is_pool.chained.wide))) k within ack
 
 -- a process that a set can have isn't in it any more
 abbrev pub NotIn : Set → ℕ → Type 0
@@ -164,12 +164,6 @@ pub record Walked (pool : Pool) (until : List ℕ) (now : ℕ) (up : ℕ → Boo
   pub found : IsFirst (FreeAmong until now up pool.slots.items (NotIn rest)) 0 (length pool.slots.items) first
 
 module _ (pool : Pool) (is_pool : IsPool pool) (until : List ℕ) (now : ℕ) (up : ℕ → Bool) where
-  pub walked_none : Walked pool until now up pool.busy None
-  walked_none = record {
-    within = λ q there. there;
-    found = none_among pool until now up is_pool.known (NotIn pool.busy) (λ p k asked. none_where pool is_pool p k asked.0 asked.1);
-  }
-
   pub walked_small : (rest : Set) (p : ℕ) (r : Option ℕ) → IsLeast rest p → Walked pool until now up rest r → (p < MOST_PROCESSES) × (p < pool.processes)
   walked_small rest p r least walked = busy_small pool.processes pool.ends.items p (sym (is_pool.noted p) ∙ walked.within p least.present)
 

@@ -10,7 +10,7 @@ use Rattle.fy_net.specs.declared.pool.Pool.{Pool}
 use Rattle.fy_net.specs.declared.slot.Slot.{Slot}
 use Rattle.fy_net.specs.Net.{process_of, receiver_is_up}
 use Rattle.fy_net.specs.Places.{may_be_taken}
-use Rattle.fy_net.specs.Pool.{chain_of, chain_at, is_there, lower_of, IsFirst, IsThereOnChain, IsReachedOf, IsFreeOf}
+use Rattle.fy_net.specs.Pool.{chain_of, chain_at, is_there, lower_of, IsFirst, IsReachedOf, IsFreeOf}
 use Rattle.fy_net.specs.Slots.{there_of}
 use Rattle.fy_net.proofs.Chains.{first_same}
 use Rattle.fy_net.proofs.Slots.{some_slot, found_none, found_first}
@@ -51,14 +51,6 @@ module _ (pool : Pool) (until : List ℕ) (now : ℕ) (up : ℕ → Bool) where
     chain_is : (k : ℕ) → k < length pool.slots.items → chain_at pool.processes pool.slots.items k ≡ chain_of pool.processes (body_at k)
     chain_is k lt = get_or-map (λ (x : Slot). chain_of pool.processes x.message.body) pool.slots.items k some_slot 0 lt
 
-    -- none of those that were asked has a message that is there
-    of_chains : (k : ℕ) (b : Body) → chain_at pool.processes pool.slots.items k ≡ chain_of pool.processes b → is_there pool.slots.items k ≡ true → IsThereOnChain pool.processes pool.slots.items (process_of b) k ⊎ IsThereOnChain pool.processes pool.slots.items (pool.processes + process_of b) k
-    of_chains k (Store rec to) chain there = inl (chain, there)
-    of_chains k (Synced rec from) chain there = inr (chain, there)
-
-    pub none_among : (Asked : ℕ → Type 0) → ((p k : ℕ) → Asked p → p < pool.processes → k < length pool.slots.items → IsThereOnChain pool.processes pool.slots.items p k ⊎ IsThereOnChain pool.processes pool.slots.items (pool.processes + p) k → ⊥) → IsFirst (Among Asked) 0 (length pool.slots.items) None
-    none_among Asked none = λ k _ lt holds. none (process_of (body_at k)) k holds.2 (known k some_slot lt) lt (of_chains k (body_at k) (chain_is k lt) holds.0)
-
     -- others were asked, of which the same holds
     pub same_among : (Asked Asked' : ℕ → Type 0) (r : Option ℕ) → ((x : ℕ) → Asked x → Asked' x) → ((x : ℕ) → Asked' x → Asked x) → IsFirst (Among Asked) 0 (length pool.slots.items) r → IsFirst (Among Asked') 0 (length pool.slots.items) r
     same_among Asked Asked' r there back = first_same (Among Asked) (Among Asked') 0 (length pool.slots.items) r (λ k _ _ holds. (holds.0, holds.1, there _ holds.2)) (λ k _ _ holds. (holds.0, holds.1, back _ holds.2))
@@ -69,11 +61,11 @@ module _ (pool : Pool) (until : List ℕ) (now : ℕ) (up : ℕ → Bool) where
     reached_if p k (Synced rec from) chain there is reached = inl (chain ∙ ap (λ x. pool.processes + x) is, there)
 
     reached_only : (p k : ℕ) (b : Body) → p < pool.processes → process_of b < pool.processes → chain_at pool.processes pool.slots.items k ≡ chain_of pool.processes b → IsReachedOf pool p (up p) k → (process_of b ≡ p) × (receiver_is_up up b ≡ true)
-    reached_only p k (Store rec to) below lt chain (inl word) = absurd (omega (arith, word.0))
+    reached_only p k (Store rec to) below lt chain (inl ack) = absurd (omega (arith, ack.0))
     reached_only p k (Store rec to) below lt chain (inr store) =
         let is : to.0 ≡ p = sym chain ∙ store.0.0 in
         (is, ap up is ∙ store.1)
-    reached_only p k (Synced rec from) below lt chain (inl word) = (omega (arith, word.0), refl)
+    reached_only p k (Synced rec from) below lt chain (inl ack) = (omega (arith, ack.0), refl)
     reached_only p k (Synced rec from) below lt chain (inr store) = absurd (omega (arith, store.0.0))
 
     -- one more is asked
@@ -85,7 +77,7 @@ module _ (pool : Pool) (until : List ℕ) (now : ℕ) (up : ℕ → Bool) where
         (lower_is (Among Asked) (IsFreeOf pool until now up p) 0 (length pool.slots.items) r q first own)
       where
         reached_there : (k : ℕ) → IsReachedOf pool p (up p) k → is_there pool.slots.items k ≡ true
-        reached_there k (inl word) = word.1
+        reached_there k (inl ack) = ack.1
         reached_there k (inr store) = store.0.1
 
         to : (k : ℕ) → k < length pool.slots.items → Among Asked k ⊎ IsFreeOf pool until now up p k → Among Asked' k

@@ -120,8 +120,3 @@ module _ (chain : ℕ → ℕ) (there there' : ℕ → Bool) (n i : ℕ) (stays 
           not_yet : (j : ℕ) → j < i + 1 → (chain j ≡ chain i) × (there' j ≡ true) → ⊥
           not_yet = below_more (λ j. (chain j ≡ chain i) × (there' j ≡ true) → ⊥) i (λ j lt holds. first.3 j (omega arith) lt (holds.0, left_there j holds.1)) (λ holds. false≢true (sym left ∙ holds.1))
       past k lt holds (inr above) = next.3 k above lt holds
-
--- ---- the sooner of two
-
-sooner : Option ℕ → Option ℕ → Option ℕ
-sooner a b = a

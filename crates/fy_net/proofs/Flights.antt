@@ -1,21 +1,18 @@
 -- messages whose numbers rise: where one stands, and what stays true as they come and go
-use Rattle.std.proofs.Common.{◌≡◌, ◌≢◌, ℕ, zero, suc, ◌+◌, ◌<◌, ◌≤◌, Bool, true, false, cond, not, eqb, List, [], ◌∷◌, ◌++◌, length, get_or, find, filter, Some, None, option_map, Result, Ok, Err, IfSome, IfNone, IsTrue, refl, sym, ap, ◌∙◌, arith}
+use Rattle.std.proofs.Common.{◌≡◌, ◌≢◌, ℕ, zero, suc, ◌+◌, ◌<◌, ◌≤◌, Bool, true, false, cond, not, eqb, List, [], ◌∷◌, ◌++◌, length, get_or, find, filter, Some, option_map, IfSome, IsTrue, refl, sym, ap, ◌∙◌, arith}
 use Rattle.std.proofs.lemmas.Bool.{false≢true}
 use Rattle.std.proofs.lemmas.Option.{IfSome_then}
 use Rattle.std.proofs.lemmas.List.{length_push}
 use Rattle.std.proofs.lemmas.List.Elements.{All-cons, All-head, All-tail, All-weaker, All-push, All-filter}
 use Rattle.std.proofs.lemmas.List.Sorted.{IsNonDecreasingBy-from_default}
 use Rattle.std.proofs.lemmas.Bool.Decides.{nat_tests}
-use Rattle.std.proofs.lemmas.Cmp.{ranked}
 use Rattle.std.specs.List.{All}
-use Rattle.std.specs.List.Sorted.{IsSearchInRange, IsBinarySearchResult, IsNonDecreasingBy}
+use Rattle.std.specs.List.Sorted.{IsNonDecreasingBy}
 use Rattle.std.specs.Ordering.{nat_cmp, ordering_index}
-use Rattle.std.specs.Result.{result_ok}
 use Rattle.fy_net.specs.declared.message.Body.{Body}
 use Rattle.fy_net.specs.declared.message.Body.TheVariants.{Store}
 use Rattle.fy_net.specs.declared.message.Message.{Message}
 use Rattle.fy_net.specs.Net.{NetState, Rises, IsNetState, body_of, without, process_of, without_message, with_sent, is_free, first_free_of}
-use Rattle.fy_net.specs.Places.{IsAt}
 
 some_message : Message
 some_message = record { number = 0; body = Store 0 (record { 0 = 0 }) }
@@ -51,50 +48,11 @@ without_lower number low (m ∷ ms) lt rising =
     let other : eqb m.number number ≡ false = eqb_other m.number number (λ same. omega (arith, rising.0)) in
     rw other (ap (λ rest. m ∷ rest) (without_lower number (m.number + 1) ms (omega (arith, rising.0)) rising.1))
 
--- the message at a place whose number is the one asked for
-pub is_at : (low : ℕ) (ms : List Message) (number i : ℕ) → Rises low ms → i < length ms → ((d : Message) → (get_or ms i d).number ≡ number) → IsAt ms number i
-is_at low [] number i rising within here = absurd (omega arith)
-is_at low (m ∷ ms) number zero rising within here =
-    let same : eqb m.number number ≡ true = eqb_same m.number number (here m) in
-    record {
-      within = within;
-      says = λ other. rw same refl;
-      others = rw same (sym (without_lower number (m.number + 1) ms (omega (arith, here m)) rising.1));
-    }
-is_at low (m ∷ ms) number (suc i) rising within here =
-    let before : m.number + 1 ≤ (get_or ms i m).number = rises_at (m.number + 1) ms i m rising.1 (omega arith) in
-    let other : eqb m.number number ≡ false = eqb_other m.number number (λ same. omega (arith, here m)) in
-    let later : IsAt ms number i = is_at (m.number + 1) ms number i rising.1 (omega arith) here in
-    record {
-      within = within;
-      says = λ d. rw other (later.says d);
-      others = rw other (ap (λ rest. m ∷ rest) later.others);
-    }
-
--- no message has the number
-pub is_nowhere : (ms : List Message) (number : ℕ) → ((k : ℕ) (d : Message) → k < length ms → (get_or ms k d).number ≢ number) → body_of ms number ≡ None
-is_nowhere [] number none_has = refl
-is_nowhere (m ∷ ms) number none_has =
-    let other : eqb m.number number ≡ false = eqb_other m.number number (none_has 0 m (omega arith)) in
-    rw other (is_nowhere ms number (λ k d within. none_has (suc k) d (omega arith)))
-
 module _ (ms : List Message) (rising : Rises 0 ms) (number : ℕ) where
   comparisons_rise : IsNonDecreasingBy (λ m. ordering_index (nat_cmp m.number number)) ms
   comparisons_rise = IsNonDecreasingBy-from_default (λ m. ordering_index (nat_cmp m.number number)) ms some_message (λ i j le within.
       let numbers_rise : (get_or ms i some_message).number ≤ (get_or ms j some_message).number = grind (arith, rises_between 0 ms i j some_message rising, λ (same : i ≡ j). ap (λ k. (get_or ms k some_message).number) same) in
       grind (arith, nat_tests))
-
-  -- a binary search by number finds the message, or that there is none
-  pub searched_found : (r : Result ℕ ℕ) → IsSearchInRange r (length ms) → IsBinarySearchResult (λ m. nat_cmp m.number number) ms r → IfSome (result_ok r) (IsAt ms number)
-  searched_found (Ok at) within equal = is_at 0 ms number at rising within (λ d. ranked _ number _ (sym (equal d)))
-  searched_found (Err at) within parted = tt
-
-  pub searched_missing : (r : Result ℕ ℕ) → IsSearchInRange r (length ms) → IsBinarySearchResult (λ m. nat_cmp m.number number) ms r → IfNone (result_ok r) (body_of ms number ≡ None)
-  searched_missing (Ok at) within equal = tt
-  searched_missing (Err at) within parted =
-      let before : (k : ℕ) (d : Message) → k < at → (get_or ms k d).number < number = λ k d lt. ranked _ number _ (sym ((parted comparisons_rise).0 k d (omega arith) lt)) in
-      let behind : (k : ℕ) (d : Message) → at ≤ k → k < length ms → number < (get_or ms k d).number = λ k d le lt. ranked _ number _ (sym ((parted comparisons_rise).1 k d le lt)) in
-      is_nowhere ms number (λ k d lt same. grind (arith, before k d, behind k d))
 
 -- the first that passes has the least number of those that pass
 first_is_least : (p : Message → Bool) (low : ℕ) (ms : List Message) → Rises low ms → IfSome (option_map (λ m. m.number) (find p ms)) (λ number. All (λ m. IsTrue (p m) → number ≤ m.number) ms)

@@ -36,7 +36,7 @@ known_there processes slots k s known lt is =
     let here : process_of (get_or slots k s).message.body < processes = known k s lt in
     omega (arith, ap (λ (x : Slot). process_of x.message.body) is)
 
--- a word's chain tells whose word it is
+-- an acknowledgement's chain tells whose it is
 pub ack_of_chain : (processes p : ℕ) (body : Body) → process_of body < processes → chain_of processes body ≡ processes + p → is_ack_from p body ≡ true
 ack_of_chain processes p (Store rec to) lt is = absurd (omega arith)
 ack_of_chain processes p (Synced rec from) lt is = grind (arith, nat_tests)
@@ -103,22 +103,22 @@ all_stay stays (s ∷ ss) stay =
       | false ↦ λ e. rest
     ] refl)
 
--- no word of p is there
+-- no acknowledgement by p is there
 pub no_acks : (processes p : ℕ) (ss : List Slot) → ((k : ℕ) → k < length ss → chain_at processes ss k ≡ processes + p → is_there ss k ≡ true → ⊥) → filter (λ m. not (is_ack_from p m.body)) (there_of ss) ≡ there_of ss
-no_acks processes p ss none = all_stay (λ m. not (is_ack_from p m.body)) ss (λ k d lt there. no_word k d lt there (is_ack_from p (get_or ss k d).message.body) refl)
+no_acks processes p ss none = all_stay (λ m. not (is_ack_from p m.body)) ss (λ k d lt there. no_ack k d lt there (is_ack_from p (get_or ss k d).message.body) refl)
   where
-    no_word : (k : ℕ) (d : Slot) → k < length ss → (get_or ss k d).there ≡ true → (b : Bool) → is_ack_from p (get_or ss k d).message.body ≡ b → not (is_ack_from p (get_or ss k d).message.body) ≡ true
-    no_word k d lt there true is =
+    no_ack : (k : ℕ) (d : Slot) → k < length ss → (get_or ss k d).there ≡ true → (b : Bool) → is_ack_from p (get_or ss k d).message.body ≡ b → not (is_ack_from p (get_or ss k d).message.body) ≡ true
+    no_ack k d lt there true is =
         absurd (none k lt (get_or-map (λ (x : Slot). chain_of processes x.message.body) ss k d 0 lt ∙ chain_of_ack processes p (get_or ss k d).message.body is) (get_or-map (λ (x : Slot). x.there) ss k d false lt ∙ there))
-    no_word k d lt there false is = ap not is
+    no_ack k d lt there false is = ap not is
 
--- words of no process that is there
+-- acknowledgements by no process that is there
 pub no_such_acks : (processes p : ℕ) (ss : List Slot) → processes ≤ p → All (λ s. process_of s.message.body < processes) ss → filter (λ m. not (is_ack_from p m.body)) (there_of ss) ≡ there_of ss
-no_such_acks processes p ss beyond known = all_stay (λ m. not (is_ack_from p m.body)) ss (λ k d lt there. no_word k d lt (is_ack_from p (get_or ss k d).message.body) refl)
+no_such_acks processes p ss beyond known = all_stay (λ m. not (is_ack_from p m.body)) ss (λ k d lt there. no_ack k d lt (is_ack_from p (get_or ss k d).message.body) refl)
   where
-    no_word : (k : ℕ) (d : Slot) → k < length ss → (b : Bool) → is_ack_from p (get_or ss k d).message.body ≡ b → not (is_ack_from p (get_or ss k d).message.body) ≡ true
-    no_word k d lt true is = absurd (omega (arith, ack_is_of p (get_or ss k d).message.body is, known k d lt))
-    no_word k d lt false is = ap not is
+    no_ack : (k : ℕ) (d : Slot) → k < length ss → (b : Bool) → is_ack_from p (get_or ss k d).message.body ≡ b → not (is_ack_from p (get_or ss k d).message.body) ≡ true
+    no_ack k d lt true is = absurd (omega (arith, ack_is_of p (get_or ss k d).message.body is, known k d lt))
+    no_ack k d lt false is = ap not is
 
 -- ---- what is kept
 
@@ -167,7 +167,7 @@ pool_left old new place s pool within is there slots count sent processes chaine
       noted = noted;
     }
 
--- ---- words
+-- ---- acknowledgements
 
 pub like_both : (a b c : Pool) → KeepsRoom a b → KeepsRoom b c → KeepsRoom a c
 like_both a b c one other = record {
@@ -182,7 +182,7 @@ first_of_chain pool c e r is_pool lt is first =
     let own : (get_or pool.ends.items c no_ends).first ≡ r = ap (λ (x : Ends). x.first) (get_or_default pool.ends.items c no_ends e lt ∙ sym is) ∙ first in
     rw own at (is_pool.chained.first c lt)
 
--- the message at a place is a word of p
+-- the message at a place is an acknowledgement by p
 pub ack_leaves : (pool : Pool) (p place : ℕ) → IsPool pool → place < length pool.slots.items → chain_at pool.processes pool.slots.items place ≡ pool.processes + p → not (is_ack_from p (get_or pool.slots.items place some_slot).message.body) ≡ false
 ack_leaves pool p place is_pool within is =
     let body = (get_or pool.slots.items place some_slot).message.body in

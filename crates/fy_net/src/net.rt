@@ -164,8 +164,8 @@ impl Net {
         Ok(())
     }
 
-    /// Drops every acknowledgement by a process, clogged or not. Stores to it stay. Takes no
-    /// memory.
+    /// Drops every acknowledgement by a process, clogged or not. Stores to it stay. Doesn't
+    /// allocate.
     pub fn void(&mut self, p: ProcId)
         ensures { self.new ≡ without_acks_of p.0 self.old }
     {
@@ -217,7 +217,7 @@ impl Net {
     }
 
     /// Forgets whose clogs have ended, so that `all_clogged` asks nobody else from then on than who
-    /// is clogged now, or will be. Nothing that a network is seen as changes. Takes no memory.
+    /// is clogged now, or will be. Nothing that a network is seen as changes. Doesn't allocate.
     pub fn forget_ended(&mut self)
         ensures { self.new ≡ self.old }
     {

@@ -220,8 +220,8 @@ impl Pool {
         if p.0 >= MOST_PROCESSES {
             return;
         }
-        let word = self.ends[self.processes as usize + p.0 as usize].first;
-        if lower(self.ends[p.0 as usize].first, word).is_some() {
+        let ack = self.ends[self.processes as usize + p.0 as usize].first;
+        if lower(self.ends[p.0 as usize].first, ack).is_some() {
             self.busy.put(p);
         } else {
             self.busy.drop_one(p);
@@ -340,8 +340,8 @@ impl Pool {
         ensures like { KeepsRoom self.old self.new }
     {
         if p.0 < self.processes {
-            let words = self.processes as usize + p.0 as usize;
-            while let Some(place) = self.ends[words].first {
+            let acks = self.processes as usize + p.0 as usize;
+            while let Some(place) = self.ends[acks].first {
                 self.vacate(place);
             }
         }
@@ -354,11 +354,11 @@ impl Pool {
         requires process { p.0 < self.now.processes }
         ensures { IsFirst (IsReachedOf self.now p.0 up) 0 (vec_len self.now.slots) result }
     {
-        let word = self.ends[self.processes as usize + p.0 as usize].first;
+        let ack = self.ends[self.processes as usize + p.0 as usize].first;
         if up {
-            lower(word, self.ends[p.0 as usize].first)
+            lower(ack, self.ends[p.0 as usize].first)
         } else {
-            word
+            ack
         }
     }
 

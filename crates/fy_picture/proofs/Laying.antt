@@ -1,6 +1,6 @@
 -- columns that end where they are to end
 use Rattle.std.proofs.Common.{◌≡◌, ◌∙◌, ◌+◌, ◌*◌, ◌^◌, ◌<◌, ◌≤◌, ◌⊎◌, ℕ, zero, suc, inl, inr, Some, None, option_map, List, [], ◌∷◌, ◌++◌, length, take, get_or, slice_get, min, refl, sym, ap, subst, arith}
-use Rattle.std.specs.Prelude.{IsSomeAnd}
+use Rattle.std.specs.Prelude.{IsSome, IsSomeAnd}
 use Rattle.std.proofs.lemmas.Bool.{cases_lt}
 use Rattle.std.proofs.lemmas.List.{map-append, length-map, length-append}
 use Rattle.std.proofs.lemmas.Nat.{pow_pos}
@@ -310,6 +310,11 @@ ended_laid (Even width) n columns ends laid ended order = absurd (let bad : ⊥ 
 ended_laid (Laid listed) n columns ends laid ended order =
     let same : listed.items ≡ ends = cc in
     subst (λ es. AreAllMade es n columns) same (ended (subst AreInOrder (sym same) order))
+
+-- where ends are listed, columns have no width
+pub no_width : (plan : Plan) → IsSome (laid_by plan) → width_in plan ≡ None
+no_width (Even width) laid = absurd (let bad : ⊥ = cc in bad)
+no_width (Laid ends) laid = refl
 
 -- columns that end where others do are laid out as these
 pub ended_alike : (plan : Plan) (n : ℕ) (old new : List Column) → ends_of new ≡ ends_of old → AreEnded plan n old → AreEnded plan n new

@@ -1,11 +1,14 @@
 -- who is shown destroyed and left, and how many more a policy could bear
-use Rattle.std.proofs.Common.{◌≡◌, ◌∙◌, ◌+◌, ◌<◌, ◌==◌, ◌&&◌, ◌||◌, ℕ, zero, suc, inl, inr, Bool, true, false, not, cond, List, [], ◌∷◌, ◌++◌, length, length-append, filter, get_or, slice_get, slice_set, Some, refl, sym, subst, ap, ap₂, arith, true≢false, add-one, if◌then◌else◌}
+use Rattle.std.proofs.Common.{◌≡◌, ◌∙◌, ◌+◌, ◌<◌, ◌==◌, ◌&&◌, ◌||◌, ℕ, zero, suc, inl, inr, Bool, true, false, not, cond, List, [], ◌∷◌, ◌++◌, length, length-append, filter, get_or, slice_get, slice_set, Some, refl, sym, subst, ap, ap₂, arith, true≢false, add-one, if◌then◌else◌, map, option_map, take, Vec, Global}
 use Rattle.std.specs.List.{range_with_len}
+use Rattle.std.specs.Vec.{with_items}
 use Rattle.std.specs.Ordering.{nat_cmp}
 use Rattle.std.specs.FinSet as sets
 use Rattle.std.proofs.Math.Seq.{map-set_same}
 use Rattle.std.proofs.lemmas.Bool.{cases_lt, eq-eqb, ne_eqb}
+use Rattle.std.proofs.lemmas.List.{length-map, map-append, with_items_is}
 use Rattle.std.proofs.lemmas.List.Elements.{filter-append}
+use Rattle.std.proofs.lemmas.Option.{slice_get-map}
 use Rattle.fy_locality.specs.declared.locality.Locality.{Locality}
 use Rattle.fy_policy.specs.Tree.{Tree}
 use Rattle.fy_policy.specs.Sat.{satisfies}
@@ -15,24 +18,15 @@ use Rattle.fy_cluster.specs.History.{History}
 use Rattle.fy_picture.specs.declared.column.Column.{Column}
 use Rattle.fy_picture.specs.declared.column.States.{States}
 use Rattle.fy_picture.specs.Columns.{AreCounts, AreStates}
+use Rattle.fy_picture.specs.Counters.{Counting, counted_in}
 use Rattle.fy_picture.specs.Killable.{is_killable, killable_by, killable, killable_at, AreCounted, AreCountsAt, HaveSameLosses, states_in}
 use Rattle.fy_picture.specs.Layouts.{ends_of}
 use Rattle.fy_picture.proofs.Acking.{after_set}
-use Rattle.std.specs.Cmp.{nat_cmp_total, unsigned_tied}
+use Rattle.fy_picture.proofs.Afters.{one_more}
+use Rattle.fy_picture.proofs.Moving.{insert_has, remove_has}
+use Rattle.std.specs.Cmp.{nat_cmp_total}
 
 -- ---- sets
-
-or_false : (b : Bool) → (b || false) ≡ b
-or_false true = refl
-or_false false = refl
-
--- a set with one process more
-pub insert_has : (s : sets.FinSet nat_cmp) (p q : ℕ) → sets.contains (sets.insert s p) q ≡ (q == p || sets.contains s q)
-insert_has s p q = sets.contains-insert nat_cmp_total s p q ∙ ap (λ b. b || sets.contains s q) (unsigned_tied q p)
-
--- the set of one process
-pub one_has : (p q : ℕ) → sets.contains {R = nat_cmp} (sets.insert sets.empty p) q ≡ (q == p)
-one_has p q = insert_has sets.empty p q ∙ ap (λ b. q == p || b) (sets.contains-empty nat_cmp q) ∙ or_false (q == p)
 
 -- where neither has what the other hasn't
 pub same_of : (a b : Bool) → (a && not b) ≡ false → (b && not a) ≡ false → a ≡ b
@@ -67,11 +61,23 @@ count_next f n = ap (λ ms. length (filter f ms)) (range_next n) ∙ ap length (
 
 -- ---- one policy
 
-with_is : (s : sets.FinSet nat_cmp) (p : ℕ) → sets.contains (sets.union s (sets.insert sets.empty p)) ≡ with_set (sets.contains s) (λ q. q == p)
-with_is s p = λ i q. (sets.contains-union nat_cmp_total s (sets.insert sets.empty p) q ∙ ap (λ b. sets.contains s q || b) (one_has p q)) i
+or_swap : (a b : Bool) → (a || b) ≡ (b || a)
+or_swap true true = refl
+or_swap true false = refl
+or_swap false true = refl
+or_swap false false = refl
 
-without_is : (s : sets.FinSet nat_cmp) (p : ℕ) → sets.contains (sets.difference s (sets.insert sets.empty p)) ≡ without_set (sets.contains s) (λ q. q == p)
-without_is s p = λ i q. (sets.contains-difference nat_cmp_total s (sets.insert sets.empty p) q ∙ ap (λ b. sets.contains s q && not b) (one_has p q)) i
+and_swap : (a b : Bool) → (a && b) ≡ (b && a)
+and_swap true true = refl
+and_swap true false = refl
+and_swap false true = refl
+and_swap false false = refl
+
+with_is : (s : sets.FinSet nat_cmp) (p : ℕ) → sets.contains (sets.insert s p) ≡ with_set (sets.contains s) (λ q. q == p)
+with_is s p = λ i q. (insert_has s p q ∙ or_swap (q == p) (sets.contains s q)) i
+
+without_is : (s : sets.FinSet nat_cmp) (p : ℕ) → sets.contains (sets.remove s p) ≡ without_set (sets.contains s) (λ q. q == p)
+without_is s p = λ i q. (remove_has s p q ∙ and_swap (not (q == p)) (sets.contains s q)) i
 
 ands : (x y : Bool) → (not x && y) ≡ ((not x && true) && (y && true))
 ands true true = refl
@@ -93,8 +99,8 @@ module _ (processes : List Locality) (P : Tree) (destroyed left : sets.FinSet na
 
   -- the destroyed with it are short of the policy
   pub goes_by_left : (a b : Bool) → sets.contains left p ≡ true → sets.contains destroyed p ≡ false
-      → a ≡ satisfies processes P (sets.contains (sets.union destroyed (sets.insert sets.empty p)))
-      → b ≡ satisfies processes P (sets.contains (sets.difference left (sets.insert sets.empty p)))
+      → a ≡ satisfies processes P (sets.contains (sets.insert destroyed p))
+      → b ≡ satisfies processes P (sets.contains (sets.remove left p))
       → a ≡ false → b ≡ is_killable processes P (sets.contains destroyed) (sets.contains left) p
   goes_by_left a b is_left is_whole with_is_a without_is_b short =
       without_is_b ∙ ap (λ s. satisfies processes P s) (without_is left p)
@@ -103,7 +109,7 @@ module _ (processes : List Locality) (P : Tree) (destroyed left : sets.FinSet na
 
   -- they satisfy it
   pub stays : (a : Bool) → sets.contains left p ≡ true → sets.contains destroyed p ≡ false
-      → a ≡ satisfies processes P (sets.contains (sets.union destroyed (sets.insert sets.empty p)))
+      → a ≡ satisfies processes P (sets.contains (sets.insert destroyed p))
       → a ≡ true → not a ≡ is_killable processes P (sets.contains destroyed) (sets.contains left) p
   stays a is_left is_whole with_is_a enough =
       ap not enough
@@ -117,6 +123,34 @@ killable_same processes P one other same = λ i. killable_by processes P (λ p. 
 -- the states of a history leave the number of the history
 killable_of : (c : Setup) (h : History) (P : Tree) (states : States) → AreStates c h states → killable_at c.processes P states ≡ killable c h P
 killable_of c h P states are = λ i. killable_by c.processes P (λ p. are.destroyed p i) (λ p. are.left p i)
+
+-- ---- counters
+
+-- a counter by a policy
+abbrev pub counting : List Locality → Tree → Counting
+counting processes P = record { processes = processes; policy = P }
+
+map-map : {X Y Z : Type 0} (g : Y → Z) (f : X → Y) (xs : List X) → map g (map f xs) ≡ map (λ x. g (f x)) xs
+map-map g f [] = refl
+map-map g f (x ∷ xs) = ap (λ rest. g (f x) ∷ rest) (map-map g f xs)
+
+-- a list that stays as it was
+pub kept_items : {X : Type 0} (v : Vec X Global) (old new : List X) → new ≡ old → old ≡ v.items → (with_items v new).items ≡ v.items
+kept_items v old new is same = with_items_is v new (ap length (is ∙ same) ∙ sym v.ok.0) ∙ is ∙ same
+
+-- the next item's image is put behind those of the items before it
+pub mapped_next : {X Y : Type 0} (f : X → Y) (xs : List X) (i : ℕ) (x : X) → i < length xs → x ≡ get_or xs i x → map f (take i xs) ++ f x ∷ [] ≡ map f (take (i + 1) xs)
+mapped_next f xs i x within is = sym (map-append f (take i xs) (x ∷ [])) ∙ ap (map f) (sym (one_more xs i x within is))
+
+-- counts by each policy
+pub counts_by : (processes : List Locality) (policies : List Tree) (states : States) (counts : List ℕ) → counts ≡ map (counted_in states) (map (counting processes) policies) → AreCountsAt processes policies states counts
+counts_by processes policies states counts is =
+    let f = λ (P : Tree). killable_at processes P states in
+    let all : counts ≡ map f policies = is ∙ map-map (counted_in states) (counting processes) policies in
+    record {
+      count = ap length all ∙ length-map policies f;
+      each = λ place P there. ap (λ ns. slice_get ns place) all ∙ slice_get-map f policies place ∙ ap (option_map f) there;
+    }
 
 -- counts at losses that are the same
 pub counts_same : (processes : List Locality) (policies : List Tree) (one other : States) (counts : List ℕ) → HaveSameLosses one other → AreCountsAt processes policies one counts → AreCountsAt processes policies other counts

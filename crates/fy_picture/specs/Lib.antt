@@ -1,4 +1,5 @@
 pub mod Columns
+pub mod Counters
 pub mod Glyphs
 pub mod Keeping
 pub mod Killable

@@ -12,6 +12,7 @@ recording recorder = record {
   execution = recorder.recorded.state;
   first_bad = recorder.replayer.first_bad;
   columns = columns_of recorder.recorded;
+  is_whole = recorder.is_whole;
 }
 
 -- the good entries are a legal journal and recorded, and while no entry is bad, all are good
@@ -22,6 +23,6 @@ pub record IsSound (recorder : Inside) : Type 0 where
   pub same : recorder.replayer.first_bad ≡ None →
       recorder.replayer.execution ≡ recorder.recorded.state
 
--- that, unless there was no memory for an entry
+-- that, unless an allocation failed for an entry
 abbrev pub IsSoundIfWhole : Inside → Type 0
 IsSoundIfWhole recorder = recorder.is_whole ≡ true → IsSound recorder

@@ -1,5 +1,5 @@
 -- a journal whose picture is recorded while it is checked entry by entry
-use Rattle.std.specs.Prelude.{◌≡◌, ℕ, List, length, take, Option, None, unwrap_or}
+use Rattle.std.specs.Prelude.{◌≡◌, ℕ, Bool, true, List, length, take, Option, None, unwrap_or}
 use Rattle.fy_acts.specs.declared.entry.Entry.{Entry}
 use Rattle.fy_acts.specs.declared.version.Version.{Version}
 use Rattle.fy_cluster.specs.Setup.{Setup}
@@ -7,13 +7,14 @@ use Rattle.fy_cluster.specs.Execution.{Execution, opened}
 use Rattle.fy_replay.specs.Replayed.{HasFirstBad}
 use Rattle.fy_picture.specs.SoFar.{ColumnsSoFar, DueHaveEnded, no_columns, with_room}
 
--- the journal's version, the cluster with its good entries, its first bad entry, and the columns so
--- far
+-- the journal's version, the cluster with its good entries, its first bad entry, the columns so far,
+-- and whether no call failed midway
 pub record Recording : Type 0 where
   pub version : Version
   pub execution : Execution
   pub first_bad : Option ℕ
   pub columns : ColumnsSoFar
+  pub is_whole : Bool
 
 -- the recording before any entry, whose columns end as listed or are even
 abbrev pub begun : Version → Setup → Option (List ℕ) → Recording
@@ -22,6 +23,7 @@ begun version setup laid = record {
   execution = opened setup;
   first_bad = None;
   columns = no_columns laid;
+  is_whole = true;
 }
 
 -- these entries were checked, and those before the first bad one, or all, were recorded

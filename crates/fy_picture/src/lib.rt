@@ -11,6 +11,7 @@ mod named;
 mod picture;
 mod recorded;
 mod recorder;
+mod tallied_set;
 
 pub use column::{Column, States};
 pub use glyph::{rule_of, struck_as_ordered};

@@ -33,7 +33,7 @@ pub struct Picture {
 /// # Errors
 ///
 /// `BadEntry` at the first entry that isn't what the rules give, as `fy_replay::replay`; `NoMemory`
-/// where there is no memory for it.
+/// where an allocation fails.
 pub fn draw(alloc: Global, config: &Config, journal: &Journal) -> Result<Picture, CheckFault>
     ensures picture { IfOk result (IsPicture config.now journal.now.entries) }
     ensures even { IfOk result (λ picture.

@@ -1,5 +1,5 @@
 //! What a recorder keeps of the good entries of a journal.
-ghost use Rattle.std.specs.Prelude.{◌≡◌, ◌++◌, ◌∷◌, [], List, ℕ, None, Some, IfOk, OnOk, IsSomeAnd, length};
+ghost use Rattle.std.specs.Prelude.{◌≡◌, ◌++◌, ◌∷◌, [], List, ℕ, None, Some, IfOk, OnOk, IsSome, IsSomeAnd, length};
 ghost use Rattle.fy_cluster.specs.Execution.{opened};
 ghost use Rattle.fy_cluster.specs.Replies.{Legal};
 ghost use Rattle.fy_picture.specs.Layouts.{AreAllMade, AreEnded, AreEven, AreInOrder, HasRoom, IsFresh, IsLate, IsWidth, laid_by};
@@ -176,6 +176,8 @@ impl Recorded {
         ensures laid { (ends : List ℕ) → laid_by self.plan ≡ Some ends → AreInOrder ends
             → IfOk result (λ picture.
             AreAllMade ends (length self.state.journal) picture.columns.items) }
+        ensures uneven { IsSome (laid_by self.plan) → IfOk result (λ picture.
+            picture.width ≡ None) }
     {
         self.end_due()?;
         self.end_last()?;

@@ -1,5 +1,5 @@
 //! Records the picture of a journal while it is checked entry by entry.
-ghost use Rattle.std.specs.Prelude.{◌≡◌, ◌++◌, ◌∷◌, [], List, ℕ, None, Some, IfOk, OnOk, OnErr, IsSome, IsSomeAnd, length};
+ghost use Rattle.std.specs.Prelude.{◌≡◌, ◌++◌, ◌∷◌, [], List, ℕ, None, Some, IfOk, OnOk, OnErr, IsFalse, IsSome, IsSomeAnd, IsTrue, length};
 ghost use Rattle.fy_acts.specs.declared.entry.Entry.{Entry};
 ghost use Rattle.fy_cluster.specs.Setup.{Setup};
 ghost use Rattle.fy_picture.specs.Layouts.{AreAllMade, AreEven, AreInOrder, IsFresh, IsWidth, laid_by};
@@ -53,7 +53,7 @@ impl Recorder {
     ///
     /// # Errors
     ///
-    /// `AllocError` where there is no memory for it.
+    /// `AllocError` where an allocation fails.
     pub fn begin(alloc: Global, config: Config, version: Version) -> Result<Recorder, AllocError>
         ensures begun { IfOk result (λ recorder. recorder ≡ begun version config None) }
         ensures recorded { IfOk result (HasRecorded config []) }
@@ -66,7 +66,7 @@ impl Recorder {
     ///
     /// # Errors
     ///
-    /// `AllocError` where there is no memory for it.
+    /// `AllocError` where an allocation fails.
     pub fn begin_laid(
         alloc: Global,
         config: Config,
@@ -132,6 +132,7 @@ impl Recorder {
         ensures folded { IfOk result (λ folded.
             folded ≡ is_full (length self.old.execution.journal) self.old.columns) }
         ensures kept { OnErr result (self.new ≡ self.old) }
+        ensures apart { OnErr result (IsFalse self.old.is_whole) }
     {
         if !self.is_whole {
             return Err(AllocError);
@@ -143,7 +144,7 @@ impl Recorder {
     ///
     /// # Errors
     ///
-    /// `AllocError` where there is no memory for it, or where an earlier call left the two clusters
+    /// `AllocError` where an allocation fails, or where an earlier call left the two clusters
     /// apart.
     pub fn end_due(&mut self) -> Result<(), AllocError>
         ensures { OnOk result (HasEndedDue self.old self.new) }
@@ -162,7 +163,7 @@ impl Recorder {
     ///
     /// # Errors
     ///
-    /// `AllocError` where there is no memory for it, or where an earlier call left the two clusters
+    /// `AllocError` where an allocation fails, or where an earlier call left the two clusters
     /// apart.
     pub fn enter(&mut self, entry: Entry) -> Result<(), AllocError>
         requires { self.old.first_bad ≡ None → entry.at ≡ length self.old.execution.journal }
@@ -170,6 +171,7 @@ impl Recorder {
             → HasRecorded setup so_far self.old
             → HasRecorded setup (so_far ++ entry ∷ []) self.new) }
         ensures version { OnOk result (self.new.version ≡ self.old.version) }
+        ensures whole { OnOk result (IsTrue self.new.is_whole) }
         ensures laid { OnOk result (self.new.columns.laid ≡ self.old.columns.laid) }
         ensures past { IsSome self.old.first_bad → OnOk result (self.new ≡ self.old) }
         ensures good { self.new.first_bad ≡ None → OnOk result (DueHaveEnded
@@ -197,7 +199,7 @@ impl Recorder {
     ///
     /// # Errors
     ///
-    /// `AllocError` where there is no memory for it, or where an earlier call left the two clusters
+    /// `AllocError` where an allocation fails, or where an earlier call left the two clusters
     /// apart.
     pub fn finish(self) -> Result<Picture, AllocError>
         ensures picture { IfOk result (IsPicture self.execution.setup self.execution.journal) }
@@ -207,6 +209,8 @@ impl Recorder {
         ensures laid { (ends : List ℕ) → self.columns.laid ≡ Some ends → AreInOrder ends
             → IfOk result (λ picture.
             AreAllMade ends (length self.execution.journal) picture.columns.items) }
+        ensures uneven { IsSome self.columns.laid → IfOk result (λ picture.
+            picture.width ≡ None) }
     {
         if !self.is_whole {
             return Err(AllocError);

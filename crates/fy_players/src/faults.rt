@@ -211,7 +211,7 @@ impl FaultPlayer {
     ///
     /// # Errors
     ///
-    /// `AllocError` where there is no memory for it.
+    /// `AllocError` where an allocation fails.
     pub fn ready(&mut self, map: &Map, words: Words) -> Result<(), AllocError>
         ensures { OnOk result (self.new ≡ readied map.now words self.old) }
     {
@@ -236,7 +236,7 @@ impl FaultPlayer {
     ///
     /// # Errors
     ///
-    /// `AllocError` where there is no memory for it.
+    /// `AllocError` where an allocation fails.
     pub fn next(&self, map: &Map, words: Words) -> Result<Act, AllocError>
         ensures { IfOk result (λ made. Strikes map.now self.now words self.now.plan made) }
     {

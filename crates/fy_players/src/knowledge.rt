@@ -148,7 +148,7 @@ impl Knowledge {
     ///
     /// # Errors
     ///
-    /// `AllocError` where there is no memory for it.
+    /// `AllocError` where an allocation fails.
     pub(crate) fn learn(&mut self, note: Note, reply: Reply) -> Result<(), AllocError>
         ensures { OnOk result (self.new ≡ learned self.old note reply) }
     {

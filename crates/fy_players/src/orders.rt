@@ -50,7 +50,7 @@ impl Orders {
     ///
     /// # Errors
     ///
-    /// `AllocError` where there is no memory for it.
+    /// `AllocError` where an allocation fails.
     pub fn next(&mut self, map: &Map) -> Result<Act, AllocError>
         ensures { IfOk result (λ made. StrikesOnce map.now self.old self.new made) }
     {

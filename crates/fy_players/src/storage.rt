@@ -450,7 +450,7 @@ impl StoragePlayer {
     ///
     /// # Errors
     ///
-    /// `AllocError` where there is no memory for them.
+    /// `AllocError` where an allocation fails.
     pub fn next(&self, cluster: &Cluster, words: Words) -> Result<(Act, Note), AllocError>
         ensures { IfOk result (λ made. (sight : Sight)
             × Sees cluster.now.setup (history_of cluster.now) sight
@@ -478,7 +478,7 @@ impl StoragePlayer {
     ///
     /// # Errors
     ///
-    /// `AllocError` where there is no memory for it.
+    /// `AllocError` where an allocation fails.
     pub fn learn(&mut self, note: Note, reply: Reply) -> Result<(), AllocError>
         ensures { OnOk result (self.new ≡ learned self.old note reply) }
     {

@@ -27,9 +27,6 @@ inside_send = declared_send inside.the_type (field_send, tt)
 pub policy_send : IsSend policy.the_row
 policy_send = search (inside_send, field_send, shape_send, declared_send, sendable, crosses) depth 20
 
-node_send : IsSend node.the_row
-node_send = search (send-Node, sendable, crosses) depth 20
-
 node_field_send : IsSend (as_row node.the_field)
 node_field_send = search (hole_send-Node, send-Node, as_row_send, sendable, crosses) depth 20
 

@@ -109,7 +109,7 @@ TextIsShort = (t : Tree) → IsPolicy t → length (text t) ≤ MOST_TEXT_BYTES
 abbrev pub TextReadsBack : Type 0
 TextReadsBack = (t : Tree) → IsPolicy t → Reads (text t) (Ok t)
 
--- two answers for the same bytes are one, where neither is want of memory
+-- two answers for the same bytes are one, where neither is an allocation failure
 abbrev pub ReadingIsSettled : Type 0
 ReadingIsSettled =
     (bytes : List ℕ) (a b : Result Tree PolicyFault)

@@ -11,7 +11,7 @@ pub record IsTextOf (bytes : List ℕ) (tree : Tree) : Type 0 where
   pub same : bytes ≡ text tree
   pub parts : HasParts tree
 
--- what reading the bytes may answer; want of memory can take the place of any answer
+-- what reading the bytes may answer; an allocation failure can take the place of any answer
 unfoldable pub Reads : List ℕ → Result Tree PolicyFault → Type 0
 Reads bytes (Ok tree) = (length bytes ≤ MOST_READ_BYTES) × (bytes ≡ text tree) × IsPolicy tree
 Reads bytes (Err TooLong) = MOST_READ_BYTES < length bytes

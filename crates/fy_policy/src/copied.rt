@@ -11,7 +11,7 @@ use std::alloc::{AllocError, Global};
 ///
 /// # Errors
 ///
-/// Want of memory.
+/// An allocation failed.
 fn copied(alloc: Global, shape: &Shape) -> Result<Shape, AllocError>
     ensures { IfOk result (λ copy. tree_of copy ≡ tree_of shape.now) }
 {
@@ -37,7 +37,7 @@ impl Policy {
     ///
     /// # Errors
     ///
-    /// Want of memory.
+    /// An allocation failed.
     pub fn try_copy(&self, alloc: Global) -> Result<Policy, AllocError>
         ensures equal { IfOk result (λ copy. copy ≡ self.now) }
         ensures limits { IsPolicy self.now }
@@ -51,7 +51,7 @@ impl Policy {
 ///
 /// # Errors
 ///
-/// Want of memory.
+/// An allocation failed.
 pub fn try_copy_all(alloc: Global, policies: &[Policy]) -> Result<Vec<Policy>, AllocError>
     ensures { IfOk result (λ copies. copies.items ≡ policies.now) }
 {

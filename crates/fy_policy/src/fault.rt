@@ -1,8 +1,8 @@
 //! Why a text is no policy.
 use std::alloc::{AllocError, AllocFailed};
 
-/// Why a text was not read as a policy. The first that holds is given, in this order; want of
-/// memory can take the place of any answer.
+/// Why a text was not read as a policy. The first that holds is given, in this order; an allocation
+/// failure can take the place of any answer.
 #[derive(Clone, Copy, PartialEq, Eq, Debug)]
 pub enum PolicyFault {
     /// The text has over 4096 bytes.
@@ -15,7 +15,7 @@ pub enum PolicyFault {
     Depth,
     /// The policy has over 64 nodes.
     Nodes,
-    /// There was no memory for the policy.
+    /// An allocation for the policy failed.
     NoMemory,
 }
 

@@ -298,7 +298,7 @@ pub(crate) fn representatives_by_key(
 ///
 /// # Errors
 ///
-/// Want of memory.
+/// An allocation failed.
 pub(crate) fn copied_node(alloc: Global, node: &Node) -> Result<Node, AllocError>
     ensures { IfOk result (CountsAlike node.now) }
 {

@@ -58,7 +58,7 @@ impl Policy {
     }
 }
 
-/// Whether the set satisfies the policy. Takes no memory.
+/// Whether the set satisfies the policy. Doesn't allocate.
 pub fn satisfied(policy: &Policy, map: &Map, set: &ProcSet) -> bool
     ensures satisfaction { IsTrue result ↔ Sat map.now policy.now (sets.contains set.now) }
     ensures test { result ≡ satisfies map.now policy.now (sets.contains set.now) }

@@ -8,7 +8,7 @@ ghost use Rattle.fy_policy.specs.Tree.{IsWellFormed, across, one};
 use crate::shape::Shape;
 use fy_locality::{Key, Map, ProcSet, laws};
 
-/// Whether the set satisfies the policy. Takes no memory.
+/// Whether the set satisfies the policy. Doesn't allocate.
 #[cycle(satisfaction)]
 pub(crate) fn shape_satisfied(shape: &Shape, map: &Map, set: &ProcSet) -> bool
     ensures { IsWellFormed (tree_of shape.now)

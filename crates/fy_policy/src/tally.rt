@@ -63,7 +63,7 @@ impl Tally {
     ///
     /// # Errors
     ///
-    /// Want of memory.
+    /// An allocation failed.
     pub fn make(alloc: Global, policy: &Policy, map: &Map) -> Result<Tally, AllocError>
         ensures { IfOk result (λ t. (t.processes ≡ map.now)
             × (t.policy ≡ policy.now) × (t.set ≡ sets.empty)) }
@@ -76,7 +76,7 @@ impl Tally {
     ///
     /// # Errors
     ///
-    /// Want of memory.
+    /// An allocation failed.
     pub fn make_shared(alloc: Global, policy: &Policy, map: &Arc<Map>) -> Result<Tally, AllocError>
         ensures { IfOk result (λ t. (t.processes ≡ arc_value map.now)
             × (t.policy ≡ policy.now) × (t.set ≡ sets.empty)) }
@@ -100,7 +100,7 @@ impl Tally {
     ///
     /// # Errors
     ///
-    /// Want of memory.
+    /// An allocation failed.
     pub fn try_copy_shared(&self, alloc: Global, map: &Arc<Map>) -> Result<Tally, AllocError>
         requires { arc_value map.now ≡ self.now.processes }
         ensures { IfOk result (λ copy. copy ≡ self.now) }
@@ -114,7 +114,7 @@ impl Tally {
         })
     }
 
-    /// Puts a process in. Takes no memory.
+    /// Puts a process in. Doesn't allocate.
     pub fn add(&mut self, p: ProcId)
         requires { p.0 < MOST_PROCESSES }
         ensures { self.new ≡ record self.old { set = sets.insert self.old.set p.0 } }
@@ -126,7 +126,7 @@ impl Tally {
         self.set.put(p);
     }
 
-    /// Takes a process out. Takes no memory.
+    /// Takes a process out. Doesn't allocate.
     pub fn remove(&mut self, p: ProcId)
         requires { p.0 < MOST_PROCESSES }
         ensures { self.new ≡ record self.old { set = sets.remove self.old.set p.0 } }
@@ -138,7 +138,7 @@ impl Tally {
         self.set.drop_one(p);
     }
 
-    /// Whether the set satisfies the policy. Takes no memory.
+    /// Whether the set satisfies the policy. Doesn't allocate.
     pub fn satisfied(&self) -> bool
         ensures { result
             ≡ satisfies self.now.processes self.now.policy (sets.contains self.now.set) }
@@ -146,7 +146,7 @@ impl Tally {
         is_satisfied_at(&self.node, 0)
     }
 
-    /// Whether the set with those given would satisfy the policy. Takes no memory.
+    /// Whether the set with those given would satisfy the policy. Doesn't allocate.
     pub fn satisfied_with(&self, given: &ProcSet) -> bool
         ensures { result ≡ satisfies self.now.processes self.now.policy
             (sets.contains (sets.union self.now.set given.now)) }
@@ -155,7 +155,7 @@ impl Tally {
         satisfied_after_toggle(&self.node, &self.map, 0, &comers, true)
     }
 
-    /// Whether the set with one process would satisfy the policy. Takes no memory, and makes no
+    /// Whether the set with one process would satisfy the policy. Doesn't allocate, and makes no
     /// set.
     pub fn satisfied_with_one(&self, p: ProcId) -> bool
         requires { p.0 < MOST_PROCESSES }
@@ -169,7 +169,7 @@ impl Tally {
         }
     }
 
-    /// Whether the set without those given would satisfy the policy. Takes no memory.
+    /// Whether the set without those given would satisfy the policy. Doesn't allocate.
     pub fn satisfied_without(&self, given: &ProcSet) -> bool
         ensures { result ≡ satisfies self.now.processes self.now.policy
             (sets.contains (sets.difference self.now.set given.now)) }
@@ -178,7 +178,7 @@ impl Tally {
         satisfied_after_toggle(&self.node, &self.map, 0, &goers, false)
     }
 
-    /// Whether the set without one process would satisfy the policy. Takes no memory, and makes no
+    /// Whether the set without one process would satisfy the policy. Doesn't allocate, and makes no
     /// set.
     pub fn satisfied_without_one(&self, p: ProcId) -> bool
         requires { p.0 < MOST_PROCESSES }

@@ -12,7 +12,7 @@ use std::alloc::{AllocError, Global};
 ///
 /// # Errors
 ///
-/// Want of memory.
+/// An allocation failed.
 pub fn policy_text(alloc: Global, policy: &Policy) -> Result<String, AllocError>
     ensures { IfOk result (λ written. string_bytes written ≡ text policy.now) }
 {

@@ -16,7 +16,7 @@ pub fn text_reads_back()
     ensures { TextReadsBack }
 {}
 
-/// Where memory doesn't run out, what a text reads as is settled by its bytes.
+/// Where no allocation fails, what a text reads as is settled by its bytes.
 pub fn reading_is_settled()
     ensures { ReadingIsSettled }
 {}

@@ -20,7 +20,7 @@ Checks version c entries (Ok done) = LegalUnder version c entries
 Checks version c entries (Err (BadEntry at)) = IsFirstBad version c entries at
 Checks version c entries (Err NoMemory) = ⊥
 
--- that answer, or there was no memory for it
+-- that answer, or an allocation failed for it
 abbrev pub ChecksOrOom : Version → Setup → List Entry → Result (Unit {0}) CheckFault → Type 0
 ChecksOrOom version c entries (Err NoMemory) = Unit {0}
 ChecksOrOom version c entries result = Checks version c entries result

@@ -8,7 +8,7 @@ pub enum CheckFault {
     /// Either the journal is at its limit before it, or the version has no such act, or its reply
     /// isn't the one that the rules give.
     BadEntry { at: u32 },
-    /// There was no memory.
+    /// An allocation failed.
     NoMemory,
 }
 

@@ -68,7 +68,7 @@ impl Replayer {
     ///
     /// # Errors
     ///
-    /// `AllocError` where there is no memory for the cluster.
+    /// `AllocError` where an allocation fails for the cluster.
     pub fn begin(alloc: Global, config: Config, version: Version) -> Result<Replayer, AllocError>
         ensures begun { IfOk result (HasReplayed config []) }
         ensures none { IfOk result (λ replayer. replayer.first_bad ≡ None) }
@@ -121,7 +121,7 @@ impl Replayer {
     ///
     /// # Errors
     ///
-    /// `AllocError` where there is no memory for its act. The entry isn't checked then.
+    /// `AllocError` where an allocation for its act fails. The entry isn't checked then.
     pub fn enter(&mut self, entry: Entry) -> Result<(), AllocError>
         requires { self.old.first_bad ≡ None → entry.at ≡ length self.old.execution.journal }
         ensures entered { OnOk result ((setup : Setup) (so_far : List Entry)
@@ -151,7 +151,7 @@ impl Replayer {
 ///
 /// `BadEntry` at the first entry whose reply isn't the one that the rules give, whose act the
 /// version doesn't have, or whose place is the journal limit. `NoMemory`, in place of any answer,
-/// where there is no memory for the cluster or for one of its acts.
+/// where an allocation fails for the cluster or for one of its acts.
 pub fn replay(alloc: Global, config: &Config, journal: &Journal) -> Result<(), CheckFault>
     ensures { ChecksOrOom journal.now.version config.now journal.now.entries result }
 {

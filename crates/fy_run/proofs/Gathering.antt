@@ -80,7 +80,7 @@ not_full execution command rest commands here room full =
     let count : length commands ≡ suc (length rest) = ap length here in
     omega arith
 
--- where there is room, an act isn't entered for want of memory alone
+-- where there is room, an act isn't entered by an allocation failure alone
 pub only_memory : (fault : Fault) → (fault ≡ cluster.JournalFull → ⊥) →
     IsOutputStop (entering_stop fault)
 only_memory cluster.JournalFull room = absurd (room refl)

@@ -23,14 +23,18 @@ use Rattle.fy_audit.specs.declared.script.ScriptFault.TheVariants.{Line}
 use Rattle.fy_cluster.specs.Setup.{Setup, is_between, is_in_range}
 use Rattle.fy_cluster.specs.Replies.{Legal}
 use Rattle.fy_cluster.specs.Survival.{by_and_act}
-use Rattle.fy_cluster.specs.Execution.{Execution, opened, entered}
+use Rattle.fy_cluster.specs.Execution.{Execution, opened, next_entry, entered}
 use Rattle.fy_run.specs.RunTexts.{asked, lines_of_entries, IfRunRefusal}
-use Rattle.fy_run.specs.GuardTexts.{Answered, AnsweredFrom, room_in, StopsAtLine, AllAnswered, AreBefore, AnsweredBefore, FirstAnswered, AreInTurn, AnswersAll, AnswersBefore, AnswersSome, AppendsAtLeast, entry_of, GivesCommand, NoCommand, NoAnswer}
+use Rattle.fy_run.specs.GuardTexts.{Answered, AnsweredFrom, room_in, StopsAtLine, AllAnswered, AreBefore, AnsweredBefore, FirstAnswered, AreInTurn, AnswersAll, AnswersBefore, AnswersSome, AppendsAtLeast, GivesCommand, NoCommand, NoAnswer}
 use Rattle.fy_cluster.specs.declared.fault.Fault.{Fault}
 use Rattle.fy_cluster.specs.declared.fault.Fault.TheVariants as cluster_fault
 use Rattle.fy_streams.specs.Stops.{entering_stop, command_stop, IsRunStop}
 use Rattle.fy_streams.specs.declared.stop.Stop.{Stop}
 use Rattle.fy_streams.specs.declared.stop.Stop.TheVariants.{JudgeTooLong, JudgeLine, Config, Script, JournalFull, Audit, Events, SwarmClose, Read, Write, NoMemory}
+
+-- the entry that a command makes next
+abbrev pub entry_of : Execution → Command → Entry
+entry_of execution command = next_entry execution command.by command.act
 
 -- some first lines were read and no byte behind them, and the entries that were made are of their acts
 abbrev pub HasRead : Option (List ℕ) → Option (List ℕ) → List Entry → Type 0
@@ -365,7 +369,7 @@ still_out {from} {old} {left} {before} {out} {short} {execution} {now} {command}
     let (front, rest, is, grown, some) = stops in
     (front, Appends-trans before out short (lines_of_entries has.made) front has.written grown)
 
--- and where there was no memory, nothing more
+-- and where an allocation fails, nothing more
 pub none_out : {from : Execution} {old left before out short : Option (List ℕ)} {execution now : Execution}
     {command : Command} {stop : Stop} → (has : HasAnswered from old left before out execution) →
     NoAnswer execution command now out short stop → stop ≡ NoMemory →

@@ -14,7 +14,7 @@ use Rattle.fy_audit.specs.Script.{AreCommands}
 use Rattle.fy_audit.specs.declared.script.ScriptFault.TheVariants.{Line}
 use Rattle.fy_cluster.specs.Setup.{Setup}
 use Rattle.fy_cluster.specs.Replies.{Legal}
-use Rattle.fy_cluster.specs.Execution.{Execution, replied, entered}
+use Rattle.fy_cluster.specs.Execution.{Execution, next_entry, entered}
 use Rattle.fy_cluster.specs.Survival.{by_and_act}
 use Rattle.fy_run.specs.RunTexts.{asked, lines_of_entries, IsAuditOf}
 use Rattle.fy_streams.specs.declared.stop.Stop.{Stop}
@@ -144,15 +144,6 @@ AppendsAtLeast old new text = (more : List ℕ) × Appends old new (text ++ more
 
 -- ---- a line at a time
 
--- the entry that a command comes to
-abbrev pub entry_of : Execution → Command → Entry
-entry_of execution command = record {
-  at = length execution.journal;
-  by = command.by;
-  act = command.act;
-  reply = replied execution command.by command.act;
-}
-
 -- the next line is the command, and no byte behind it was read
 abbrev pub GivesCommand : Option (List ℕ) → Option (List ℕ) → Command → Type 0
 GivesCommand old new command =
@@ -174,5 +165,6 @@ pub data NoAnswer (execution : Execution) (command : Command) (now : Execution)
       NoAnswer execution command now old new stop
   no_memory : stop ≡ NoMemory → Keeps old new → NoAnswer execution command now old new stop
   short : stop ≡ Write → now ≡ entered execution command.by command.act →
-      Legal now.setup now.journal → AppendsProperPrefix old new (entry_line (entry_of execution command)) →
+      Legal now.setup now.journal →
+      AppendsProperPrefix old new (entry_line (next_entry execution command.by command.act)) →
       NoAnswer execution command now old new stop

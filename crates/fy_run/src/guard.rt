@@ -7,9 +7,9 @@ ghost use Rattle.fy_lines.specs.Readings.{ReadsWithinLine, ReadsInsideLine};
 ghost use Rattle.fy_spelling.specs.declared.command.TheConstants.{MOST_LINE_BYTES};
 ghost use Rattle.fy_audit.specs.AuditText.{entry_line};
 ghost use Rattle.fy_audit.specs.declared.script.ScriptFault.TheVariants.{Line};
-ghost use Rattle.fy_cluster.specs.Execution.{entered};
+ghost use Rattle.fy_cluster.specs.Execution.{next_entry, entered};
 ghost use Rattle.fy_cluster.specs.Replies.{Legal};
-ghost use Rattle.fy_run.specs.GuardTexts.{AllAnswered, AnsweredBefore, FirstAnswered, AnsweredInTurn, AnsweredBeforeCut, AnsweredFrom, room_in, AnswersAll, AnswersBefore, AnswersSome, AnswersInTurn, AnswersBeforeCut, ReadNothing, AppendsAtLeast, entry_of, GivesCommand, NoCommand, NoAnswer};
+ghost use Rattle.fy_run.specs.GuardTexts.{AllAnswered, AnsweredBefore, FirstAnswered, AnsweredInTurn, AnsweredBeforeCut, AnsweredFrom, room_in, AnswersAll, AnswersBefore, AnswersSome, AnswersInTurn, AnswersBeforeCut, ReadNothing, AppendsAtLeast, GivesCommand, NoCommand, NoAnswer};
 ghost use Rattle.fy_run.specs.RunTexts.{IfRunRefusal};
 ghost use Rattle.fy_streams.specs.Stops.{command_stop, IsRunStop};
 
@@ -90,7 +90,7 @@ fn answer<W: Write>(
     ensures room { OnOk result (length cluster.old.journal + 1 ≤ cluster.old.setup.limit) }
     ensures legal { OnOk result (Legal cluster.new.setup cluster.new.journal) }
     ensures out { OnOk result (Appends (W.contents writer.old) (W.contents writer.new)
-        (entry_line (entry_of cluster.old command))) }
+        (entry_line (next_entry cluster.old command.by command.act))) }
     ensures err { IfErr result (NoAnswer cluster.old command cluster.new
         (W.contents writer.old) (W.contents writer.new)) }
 {
@@ -111,7 +111,7 @@ fn answer<W: Write>(
 /// `Script` at the first line that is no command, and `JournalFull` at the first command for which
 /// the journal has no place: what is out are then the entries of the lines before. `Read` where the
 /// reader fails: they are then those of the lines before the one that was being read. `NoMemory`
-/// where memory is refused: so are they then. `Write` where the writer fails or takes no byte: a
+/// where an allocation fails: so are they then. `Write` where the writer fails or takes no byte: a
 /// front of such entries is out, and never all of them.
 pub fn answer_lines<R: BufRead, W: Write>(
     alloc: Global,
@@ -160,7 +160,7 @@ pub fn answer_lines<R: BufRead, W: Write>(
 /// `Script` at the first line that is no command, and `JournalFull` at the first command for which
 /// the journal has no place: what is out is then the audit of the lines before. `Read` where the
 /// reader fails: it is then that of the lines before the one that was being read. `NoMemory` where
-/// memory is refused: nothing is out, or the audit of the lines before. `Write` where the writer
+/// an allocation fails: nothing is out, or the audit of the lines before. `Write` where the writer
 /// fails or takes no byte: a front of such an audit is out, and never all of it.
 pub fn run_guard<R: BufRead, W: Write>(
     alloc: Global,

@@ -25,7 +25,7 @@ use std::io::{Read, Write};
 ///
 /// # Errors
 ///
-/// `NoMemory` at the first command for which there is no memory, `Write` where the writer fails or
+/// `NoMemory` at the first command for which an allocation fails, `Write` where the writer fails or
 /// takes no byte: a front of what was gathered and of the lines is out then, and never all of it.
 fn answer_all<W: Write>(
     cluster: &mut ClusterState,
@@ -55,8 +55,8 @@ fn answer_all<W: Write>(
 ///
 /// # Errors
 ///
-/// `NoMemory` where memory is refused, `Write` where the writer fails or takes no byte: a front of
-/// the audit is out then, and never all of it.
+/// `NoMemory` where an allocation fails, `Write` where the writer fails or takes no byte: a front
+/// of the audit is out then, and never all of it.
 fn write_answers<W: Write>(
     alloc: Global,
     config: &Config,
@@ -119,7 +119,7 @@ fn load_script<R: Read>(alloc: Global, reader: &mut R) -> Result<Vec<Command>, S
 /// `Script` for a script that is refused, `JournalFull` where it has more lines than the journal
 /// may have entries, `Read` where the reader fails: nothing is written then. `Write` where the
 /// writer fails or takes no byte: a front of the audit is out, and never all of it. `NoMemory`
-/// where memory is refused: nothing is out, or a front of the audit and never all of it.
+/// where an allocation fails: nothing is out, or a front of the audit and never all of it.
 pub fn run_script<R: Read, W: Write>(
     alloc: Global,
     config: &Config,

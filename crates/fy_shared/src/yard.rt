@@ -96,7 +96,7 @@ pub struct Closed {
     pub seats: Vec<Seat>,
 }
 
-/// There was no memory. `meet` never answers it.
+/// An allocation failed. `meet` never answers it.
 #[derive(Clone, Copy, PartialEq, Eq, Debug)]
 pub struct NoMemory;
 
@@ -105,7 +105,7 @@ pub struct NoMemory;
 pub enum CloseFault {
     /// Some actor's seat isn't among those handed in.
     SeatsMissing(Shared, Vec<Seat>),
-    /// There was no memory. `close` never answers it.
+    /// An allocation failed. `close` never answers it.
     NoMemory(Shared, Vec<Seat>),
 }
 
@@ -255,7 +255,7 @@ impl Shared {
     ///
     /// # Errors
     ///
-    /// The cluster, as it was, where there is no memory.
+    /// The cluster, as it was, where an allocation fails.
     pub fn open(alloc: Global, cluster: Cluster) -> Result<(Shared, Vec<Seat>), Cluster>
         requires { cluster.journal ≡ [] }
         ensures setup { IfOk result (λ made. made.0.setup ≡ cluster.setup) }
@@ -372,7 +372,7 @@ impl Shared {
     }
 
     /// Two seats tell each other what they have seen: of their two journals one begins with the
-    /// other, and both have then seen the longer. It takes no memory, waits for nobody and always
+    /// other, and both have then seen the longer. It doesn't allocate, waits for nobody and always
     /// answers `Ok`. Both seats have to be of this cluster's.
     pub fn meet(&self, one: &mut Seat, other: &mut Seat) -> Result<(), NoMemory>
         requires { (one.old.of ≡ Some self.now) × (other.old.of ≡ Some self.now) }
@@ -393,7 +393,7 @@ impl Shared {
 
     /// Ends the sharing, where each actor's seat is handed in; each has to be one of this
     /// cluster's. The journal is then legal, begins with what each seat had seen, and its entries
-    /// of each actor are the receipts of that actor's seat. It takes no memory and waits for
+    /// of each actor are the receipts of that actor's seat. It doesn't allocate and waits for
     /// nobody.
     ///
     /// # Errors

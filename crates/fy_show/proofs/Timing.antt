@@ -14,7 +14,7 @@ use Rattle.fy_check.specs.CheckTexts.{IsFound}
 use Rattle.fy_check.specs.declared.check.Finding.{Finding}
 use Rattle.fy_streams.specs.declared.stop.Stop.{Stop}
 use Rattle.fy_streams.specs.declared.stop.Stop.TheVariants.{JudgeTooLong, JudgeLine, Config, Script, JournalFull, Audit as AuditStop, Events, SwarmClose, Read, Write, NoMemory}
-use Rattle.fy_streams.specs.Stops.{IfAuditFault, IfEventsFault, IsCheckStop, IsTimesStop}
+use Rattle.fy_streams.specs.Stops.{IfAuditFault, IfEventsFault}
 use Rattle.fy_picture.specs.Recording.{Recording}
 use Rattle.fy_svg.specs.Documents.{IsDocument}
 use Rattle.fy_show.specs.Shows.{HasTimedDocument, AreRefused, IsDrawnByTime}
@@ -48,34 +48,6 @@ no_audit SwarmClose P none = tt
 no_audit Read P none = tt
 no_audit Write P none = tt
 no_audit NoMemory P none = tt
-
--- a stop for an audit is for no fault of the events
-pub no_events : (stop : Stop) (P : EventsFault → Type 0) → IsCheckStop stop → IfEventsFault stop P
-no_events JudgeTooLong P own = tt
-no_events (JudgeLine line fault) P own = tt
-no_events (Config fault) P own = tt
-no_events (Script fault) P own = tt
-no_events JournalFull P own = tt
-no_events (AuditStop fault) P own = tt
-no_events (Events fault) P own = absurd own
-no_events SwarmClose P own = tt
-no_events Read P own = tt
-no_events Write P own = tt
-no_events NoMemory P own = tt
-
--- a stop for an audit is one of an audit with events
-pub times_stop : (stop : Stop) → IsCheckStop stop → IsTimesStop stop
-times_stop JudgeTooLong own = own
-times_stop (JudgeLine line fault) own = own
-times_stop (Config fault) own = own
-times_stop (Script fault) own = own
-times_stop JournalFull own = own
-times_stop (AuditStop fault) own = own
-times_stop (Events fault) own = tt
-times_stop SwarmClose own = own
-times_stop Read own = own
-times_stop Write own = own
-times_stop NoMemory own = own
 
 -- what isn't read gives nothing
 pub reads_none : (known : Option (List ℕ)) (most : ℕ) → ReadsAtMost known known most
@@ -114,14 +86,6 @@ are_refused setup None events bytes finding fault read_audit found refused = tt
 are_refused setup (Some known) None bytes finding fault read_audit found refused = tt
 are_refused setup (Some known) (Some lines) bytes finding fault read_audit found refused =
     (finding, subst (λ xs. IsFound setup xs finding) read_audit found, refused)
-
--- what is known of lines is known of those that were read
-pub of_lines : (events : Option (List ℕ)) (lines : List ℕ) (count : ℕ) (fault : EventsFault) →
-    IfSome events (λ known. lines ≡ known) → EventsOf count lines (Err fault) →
-    IfSome events (λ known. EventsOf count known (Err fault))
-of_lines None lines count fault read refused = tt
-of_lines (Some known) lines count fault read refused =
-    subst (λ xs. EventsOf count xs (Err fault)) read refused
 
 -- an audit, and no fault of one
 abbrev IsRead : Result Audit AuditFault → Type 0

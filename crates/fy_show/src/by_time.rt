@@ -43,6 +43,7 @@ fn load_events<R: Read>(alloc: Global, reader: &mut R) -> Result<Vec<u8>, Stop>
     ensures no_further { ReadsAtMost (R.remaining reader.old) (R.remaining reader.new)
         (MOST_EVENTS_BYTES + 1) }
 {
+    // What is too long differs by what is read, so no `From` says it.
     match read_limited(alloc, reader, MOST_EVENTS_BYTES) {
         Ok(bytes) => Ok(bytes),
         Err(InputFault::TooLong) => Err(Stop::Events {
@@ -159,7 +160,7 @@ fn document(
 /// # Errors
 ///
 /// `Audit` for an audit that is refused: no event is read then. `Events` for a file of events that
-/// is refused, `Read` where one of the readers fails, `NoMemory` where memory is refused. Nothing
+/// is refused, `Read` where one of the readers fails, `NoMemory` where an allocation fails. Nothing
 /// is written but after `Write`, when a front of the document is out, and never all of it.
 pub fn run_show_by_time<R: Read, E: Read, W: Write>(
     alloc: Global,

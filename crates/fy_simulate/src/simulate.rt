@@ -182,9 +182,9 @@ fn play(
 ///
 /// # Errors
 ///
-/// `NoMemory` where memory is refused: nothing is out, or a front of the audit and never all of it.
-/// `Write` where the writer fails or takes no byte: a front of the audit is out, and never all of
-/// it.
+/// `NoMemory` where an allocation fails: nothing is out, or a front of the audit and never all of
+/// it. `Write` where the writer fails or takes no byte: a front of the audit is out, and never all
+/// of it.
 pub fn run_simulate<W: Write>(
     alloc: Global,
     config: &Config,

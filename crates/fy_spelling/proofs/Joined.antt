@@ -46,7 +46,7 @@ short_of o p t a more grown whole short =
 
 -- ---- one piece after another
 
--- a writer that ends for want of memory leaves what stood there
+-- a writer that ends at an allocation failure leaves what stood there
 pub refused : {A E Z : Type 0} (Q : E → Type 0) (r : Result A E) (t : List ℕ) (o q : Vec ℕ Z) → IsErrAnd r Q
     → IsPrefixOf o.items q.items → IsShort o t → AppendsOrOom r o q t
 refused Q (Ok x) t o q is kept short = absurd is

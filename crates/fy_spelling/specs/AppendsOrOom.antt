@@ -5,8 +5,8 @@ use Rattle.std.specs.Prelude.{◌≡◌, ℕ, ◌+◌, ◌<◌, ◌≤◌, List,
 abbrev pub IsPrefixOf : List ℕ → List ℕ → Type 0
 IsPrefixOf old new = (more : List ℕ) × (new ≡ old ++ more)
 
--- the text is put behind what stood there, in no less room; for want of memory a part of it may be,
--- and then there was no room for all of it
+-- the text is put behind what stood there, in no less room; after an allocation failure a part of
+-- it may be, and then there was no room for all of it
 abbrev pub AppendsOrOom : {A E Z : Type 0} → Result A E → Vec ℕ Z → Vec ℕ Z → List ℕ → Type 0
 AppendsOrOom (Ok done) old new text =
     (new.items ≡ old.items ++ text) × (vec_capacity old ≤ vec_capacity new)

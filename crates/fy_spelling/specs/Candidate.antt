@@ -177,23 +177,6 @@ u64_in key d = one key d >>= u64_from
 abbrev pub process_in : Data → Option ProcId
 process_in d = one (codes "process") d >>= process_from
 
--- two numbers of 32 bits at these keys
-abbrev pub two_u32_in : List ℕ → List ℕ → Data → Option (ℕ × ℕ)
-two_u32_in first second d = do
-  values ← two first second d
-  a ← u32_from values.0
-  b ← u32_from values.1
-  Some (a, b)
-
--- three numbers of 32 bits at these keys
-abbrev pub three_u32_in : List ℕ → List ℕ → List ℕ → Data → Option (ℕ × ℕ × ℕ)
-three_u32_in first second third d = do
-  values ← three first second third d
-  a ← u32_from values.0
-  b ← u32_from values.1
-  c ← u32_from values.2
-  Some (a, b, c)
-
 -- the target of an object of a key and a value
 abbrev pub target_in : Data → Option Target
 target_in d = do

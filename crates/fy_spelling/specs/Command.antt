@@ -59,7 +59,7 @@ LineOf line (Err Syntax) =
     × (ParsesAsInverted line → ⊥)
 LineOf line (Err Floor) = (length line ≤ MOST_LINE_BYTES) × ParsesAsInverted line
 
--- what a reader may answer: what the line comes to, or that there was no memory, which takes the
+-- what a reader may answer: what the line comes to, or that an allocation failed, which takes the
 -- place of any answer but TooLong
 abbrev pub LineAnswers : List ℕ → Result Command CommandFault → Type 0
 LineAnswers line (Ok command) = LineOf line (Ok command)

@@ -17,7 +17,7 @@ EntryOf line (Ok entry) = IsTextOf line entry
 EntryOf line (Err Syntax) = (entry : Entry) → IsTextOf line entry → ⊥
 EntryOf line (Err NoMemory) = ⊥
 
--- what a reader may answer: what the line is, or that there was no memory
+-- what a reader may answer: what the line is, or that an allocation failed
 abbrev pub EntryAnswers : List ℕ → Result Entry EntryFault → Type 0
 EntryAnswers line (Err NoMemory) = ⊤
 EntryAnswers line answer = EntryOf line answer

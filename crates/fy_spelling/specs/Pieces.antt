@@ -57,14 +57,14 @@ target_text head target tail =
 abbrev pub keys_text : List ℕ → List ℕ → List ℕ
 keys_text key kind = codes "\",\"key\":\"" ++ (key ++ (codes "\",\"kind\":\"" ++ kind))
 
--- a floor, a key and a kind
-abbrev pub words_text : List ℕ → List ℕ → List ℕ → List ℕ
-words_text floor key kind = codes "{\"kill\":{\"floor\":\"" ++ (floor ++ keys_text key kind)
+-- the head of a kill: its floor, a key and its kind
+abbrev pub kill_head_text : List ℕ → List ℕ → List ℕ → List ℕ
+kill_head_text floor key kind = codes "{\"kill\":{\"floor\":\"" ++ (floor ++ keys_text key kind)
 
 -- an order to kill
 abbrev pub order_text : Order → List ℕ
 order_text o =
-    words_text (kind_text o.floor) (key_text o.target.key) (kind_text o.kind)
+    kill_head_text (kind_text o.floor) (key_text o.target.key) (kind_text o.kind)
     ++ valued_text (codes "\",\"tear\":") o.tear o.target.value
 
 -- a clog of a target, for so many ticks

@@ -49,7 +49,7 @@ pub enum LineFault {
 pub enum CommandFault {
     /// The line asks for nothing.
     Line(LineFault),
-    /// There is no memory to read the line.
+    /// An allocation failed while the line was read.
     NoMemory,
 }
 

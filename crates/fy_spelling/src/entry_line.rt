@@ -15,7 +15,7 @@ use std::alloc::{AllocError, Global};
 pub enum EntryFault {
     /// The line is the text of no entry.
     Syntax,
-    /// There is no memory to read the line.
+    /// An allocation failed while the line was read.
     NoMemory,
 }
 
@@ -44,8 +44,8 @@ fn is_text_of(line: &[u8], entry: &Entry, room: &mut Vec<u8>) -> Result<bool, Al
 ///
 /// # Errors
 ///
-/// `Syntax` where the line is the text of no entry; `NoMemory` in its place, where memory is
-/// refused.
+/// `Syntax` where the line is the text of no entry; `NoMemory` in its place, where an allocation
+/// fails.
 pub fn read_entry_by_value(
     alloc: Global,
     line: &[u8],
@@ -68,7 +68,7 @@ pub fn read_entry_by_value(
 ///
 /// `Syntax` where the line is the text of no entry: it is no JSON, has blanks, members in another
 /// order, a number with a leading zero or at its bound, kinds twice or in another order, a kill
-/// whose floor is above its kind. `NoMemory` in its place, where memory is refused.
+/// whose floor is above its kind. `NoMemory` in its place, where an allocation fails.
 pub fn read_entry(alloc: Global, line: &[u8], room: &mut Vec<u8>) -> Result<Entry, EntryFault>
     ensures { EntryAnswers line.now result }
 {

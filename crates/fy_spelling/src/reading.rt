@@ -358,7 +358,7 @@ fn value_of(alloc: Global, line: &[u8]) -> Result<Option<Value>, AllocError>
 /// # Errors
 ///
 /// `Line` of `TooLong`, `Syntax` or `Floor`, in order; `NoMemory` in place of any of them but the
-/// first, where memory is refused.
+/// first, where an allocation fails.
 pub fn read_command_by_value(alloc: Global, line: &[u8]) -> Result<Command, CommandFault>
     ensures { LineAnswers line.now result }
 {

@@ -8,14 +8,14 @@ ghost use Rattle.fy_spelling.specs.EntryLine.{IsTextOf};
 mod acts;
 mod lists;
 mod replies;
-mod words;
+mod tokens;
 
 use crate::fits::{act_fits, u32_fits};
 use crate::{Command, Entry};
 use acts::act;
 use replies::reply;
 use std::alloc::Global;
-use words::{is_exactly, skip, u32_after};
+use tokens::{is_exactly, skip, u32_after};
 
 /// The command that a line asks for, where it is in its plain spelling.
 pub(crate) fn scan_command(alloc: Global, line: &[u8]) -> Option<Command>

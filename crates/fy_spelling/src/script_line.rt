@@ -14,8 +14,8 @@ use std::alloc::Global;
 ///
 /// `Line`, in order: `TooLong` for more than 65,536 bytes; `Syntax` for what is no JSON object with
 /// exactly the members of a command, or has a member that isn't as it has to be; `Floor` for a kill
-/// whose floor is above its kind. `NoMemory` in place of any of them but the first, where memory is
-/// refused.
+/// whose floor is above its kind. `NoMemory` in place of any of them but the first, where an
+/// allocation fails.
 pub fn read_command(alloc: Global, line: &[u8]) -> Result<Command, CommandFault>
     ensures { LineAnswers line.now result }
 {

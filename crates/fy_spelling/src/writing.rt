@@ -67,7 +67,7 @@ fn put_one(out: &mut Vec<u8>, head: &str, n: u64) -> Result<(), AllocError>
     put_between(out, head, n, "}}")
 }
 
-/// Writes a command; where memory is refused, a part of it may stay.
+/// Writes a command; where an allocation fails, a part of it may stay.
 fn put_pieces(out: &mut Vec<u8>, command: &Command) -> Result<(), AllocError>
     ensures text { AppendsOrOom result out.old out.new (asked_text command.now) }
     ensures bare { OnOk result (NeedsNoEscape command.now.act) }
@@ -78,7 +78,7 @@ fn put_pieces(out: &mut Vec<u8>, command: &Command) -> Result<(), AllocError>
     put(out, "}")
 }
 
-/// What a writer answered; where it was refused memory, the buffer is cut back to this length.
+/// What a writer answered; where an allocation failed, the buffer is cut back to this length.
 fn all_or_nothing(
     out: &mut Vec<u8>,
     length: usize,
@@ -102,7 +102,7 @@ fn all_or_nothing(
 ///
 /// # Errors
 ///
-/// `AllocError` where there is no memory for it; the buffer then has what it had.
+/// `AllocError` where an allocation fails; the buffer then has what it had.
 pub fn put_command(out: &mut Vec<u8>, command: &Command) -> Result<(), AllocError>
     ensures ok { OnOk result (out.new.items ≡ out.old.items ++ command_text command.now) }
     ensures err { OnErr result (out.new.items ≡ out.old.items) }
@@ -123,7 +123,7 @@ fn put_front(out: &mut Vec<u8>, entry: &Entry) -> Result<(), AllocError>
     put_number(out, ",\"by\":", entry.by as u64)
 }
 
-/// Writes an entry; where memory is refused, a part of it may stay.
+/// Writes an entry; where an allocation fails, a part of it may stay.
 fn put_entry_pieces(out: &mut Vec<u8>, entry: &Entry) -> Result<(), AllocError>
     ensures text { AppendsOrOom result out.old out.new (entry_pieces entry.now) }
     ensures bare { OnOk result (NeedsNoEscape entry.now.act) }
@@ -136,7 +136,7 @@ fn put_entry_pieces(out: &mut Vec<u8>, entry: &Entry) -> Result<(), AllocError>
 ///
 /// # Errors
 ///
-/// `AllocError` where there is no memory for it, and the buffer's capacity is too small for it; the
+/// `AllocError` where an allocation fails, and the buffer's capacity is too small for it; the
 /// buffer then has what it had.
 pub fn put_entry(out: &mut Vec<u8>, entry: &Entry) -> Result<(), AllocError>
     ensures ok { OnOk result (out.new.items ≡ out.old.items ++ text_of entry.now) }
@@ -155,7 +155,7 @@ pub fn put_entry(out: &mut Vec<u8>, entry: &Entry) -> Result<(), AllocError>
 ///
 /// # Errors
 ///
-/// `AllocError` where there is no memory for it.
+/// `AllocError` where an allocation fails.
 pub fn entry_text(alloc: Global, entry: &Entry) -> Result<String, AllocError>
     ensures { IfOk result (λ text. string_bytes text ≡ text_of entry.now) }
 {

@@ -8,6 +8,6 @@ use Rattle.fy_streams.specs.declared.stop.Stop.TheVariants.{Write, NoMemory}
 abbrev pub FlushesFront : Option (List ℕ) → Option (List ℕ) → List ℕ → List ℕ → Type 0
 FlushesFront old new text kept = (front : List ℕ) × Appends old new front × (text ≡ front ++ kept)
 
--- the writer failed, or there was no memory
+-- the writer failed, or an allocation failed
 abbrev pub IsOutputStop : Stop → Type 0
 IsOutputStop stop = (stop ≡ Write) ⊎ (stop ≡ NoMemory)

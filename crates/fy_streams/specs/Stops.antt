@@ -121,7 +121,8 @@ stop_text Read = codes "read fault\n"
 stop_text Write = codes "write fault\n"
 stop_text NoMemory = codes "no memory\n"
 
--- the status: 1 refused input, or a swarm that isn't closed, 3 read or write fault, 4 memory
+-- the status: 1 refused input, or a swarm that isn't closed, 3 read or write fault, 4 an
+-- allocation failure
 abbrev pub stop_status : Stop → ℕ
 stop_status JudgeTooLong = 1
 stop_status (JudgeLine line fault) = 1
@@ -166,11 +167,6 @@ command_stop number command.NoMemory = NoMemory
 abbrev pub script_stop : ScriptFault → Stop
 script_stop script.NoMemory = NoMemory
 script_stop fault = Script fault
-
--- the stop for an audit that is refused
-abbrev pub audit_stop : AuditFault → Stop
-audit_stop audit.NoMemory = NoMemory
-audit_stop fault = Audit fault
 
 -- a fact for the fault of a cluster file; none for other stops
 abbrev pub IfConfigFault : Stop → (ConfigFault → Type 0) → Type 0

@@ -34,7 +34,7 @@ impl AuditBuffer {
     ///
     /// # Errors
     ///
-    /// `AllocError` where there is no memory for it.
+    /// `AllocError` where an allocation fails.
     pub fn begin(alloc: Global, version: Version) -> Result<AuditBuffer, AllocError>
         ensures { IfOk result (λ buffer. buffer ≡ header version) }
     {
@@ -76,8 +76,8 @@ impl AuditBuffer {
     ///
     /// # Errors
     ///
-    /// `Write` where the writer fails or takes no byte, `NoMemory` where there is no memory for the
-    /// line: a front of what was gathered and of the line is out then, and never all of both.
+    /// `Write` where the writer fails or takes no byte, `NoMemory` where an allocation fails for
+    /// the line: a front of what was gathered and of the line is out then, and never all of both.
     pub fn push<W: Write>(&mut self, writer: &mut W, entry: &Entry) -> Result<(), Stop>
         ensures ok { OnOk result (FlushesFront (W.contents writer.old) (W.contents writer.new)
             (self.old ++ entry_line entry.now) self.new) }

@@ -17,7 +17,7 @@ use std::io::Read;
 /// # Errors
 ///
 /// `Config` for a file that is refused, `TooLong` among them; `Read` where the reader fails;
-/// `NoMemory` where memory is refused.
+/// `NoMemory` where an allocation fails.
 pub fn load_config<R: Read>(alloc: Global, reader: &mut R) -> Result<Config, Stop>
     ensures loaded { IfOk result (λ config. IfSome (R.remaining reader.old)
         (λ bytes. ConfigOf bytes (Ok config))) }

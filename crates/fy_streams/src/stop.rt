@@ -38,7 +38,7 @@ pub enum Stop {
     Read,
     /// A call of `write` failed, or took no byte.
     Write,
-    /// There is no memory for the work.
+    /// An allocation for the work failed.
     NoMemory,
 }
 
@@ -131,7 +131,7 @@ fn judge_line_ending(fault: JudgeFault) -> &'static str
 
 impl Stop {
     /// The status with which the program exits: 1 for a refused input and for a swarm that can't be
-    /// closed, 3 for a read or write fault, 4 for want of memory.
+    /// closed, 3 for a read or write fault, 4 for an allocation failure.
     pub fn status(&self) -> u8
         ensures { result ≡ stop_status self.now }
     {
@@ -346,7 +346,7 @@ fn write_events_fault<W: Write>(fault: EventsFault, writer: &mut W) -> Result<()
     }
 }
 
-/// Writes the stop's fault line with its line feed. It takes no memory.
+/// Writes the stop's fault line with its line feed. It doesn't allocate.
 ///
 /// # Errors
 ///

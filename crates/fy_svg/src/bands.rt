@@ -1,5 +1,6 @@
 //! The bands of a row.
 use crate::layout::{ROW, x_of};
+use crate::pieces::put;
 use fy_cluster::Status;
 use fy_locality::{ProcId, ProcSet};
 use fy_picture::{Column, States};
@@ -27,11 +28,15 @@ fn write_stripe(
 ) -> Result<(), AllocError> {
     let x = x_of(from);
     let width = x_of(to).saturating_sub(x);
-    write!(text, "<rect class=\"{class}\" x=\"{x}\" y=\"{y}\" ")?;
-    writeln!(
-        text,
-        "width=\"{width}\" height=\"{height}\" data-from=\"{from}\" data-to=\"{to}\"/>"
-    )
+    text.push_str("<rect class=\"")?;
+    text.push_str(class)?;
+    put(text, "\" x=\"", x)?;
+    put(text, "\" y=\"", y)?;
+    put(text, "\" width=\"", width)?;
+    put(text, "\" height=\"", height)?;
+    put(text, "\" data-from=\"", from as u64)?;
+    put(text, "\" data-to=\"", to as u64)?;
+    text.push_str("\"/>\n")
 }
 
 /// What a process was like from one column up to another.

@@ -88,7 +88,7 @@ impl Drawing {
     ///
     /// # Errors
     ///
-    /// `AllocError` where there is no memory for it.
+    /// `AllocError` where an allocation fails.
     pub fn begin(alloc: Global, config: &Config, version: Version) -> Result<Drawing, AllocError>
         ensures begun { IfOk result (λ drawing. drawing ≡ begun version config.now None) }
         ensures recorded { IfOk result (HasRecorded config.now []) }
@@ -101,7 +101,7 @@ impl Drawing {
     ///
     /// # Errors
     ///
-    /// `AllocError` where there is no memory for it.
+    /// `AllocError` where an allocation fails.
     pub fn begin_by_time(
         alloc: Global,
         config: &Config,
@@ -231,7 +231,7 @@ impl Drawing {
     ///
     /// # Errors
     ///
-    /// `AllocError` where there is no memory for it.
+    /// `AllocError` where an allocation fails.
     pub fn enter(&mut self, entry: Entry) -> Result<(), AllocError>
         requires { self.old.first_bad ≡ None → entry.at ≡ length self.old.execution.journal }
         ensures entered { OnOk result ((setup : Setup) (so_far : List Entry)
@@ -257,7 +257,7 @@ impl Drawing {
     ///
     /// # Errors
     ///
-    /// `AllocError` where there is no memory for it.
+    /// `AllocError` where an allocation fails.
     pub fn finish(mut self, config: &Config) -> Result<String, AllocError>
         ensures { IfOk result (λ text. IsDocument self (string_bytes text)) }
     {
@@ -299,7 +299,7 @@ impl Drawing {
 /// # Errors
 ///
 /// `BadEntry` at the first entry that isn't what the rules give, as `fy_replay::replay`; `NoMemory`
-/// where there is no memory for it.
+/// where an allocation fails.
 pub fn svg(alloc: Global, config: &Config, journal: &Journal) -> Result<String, CheckFault>
     ensures document { IfOk result (λ text. EndsDocument (string_bytes text)) }
     ensures legal { OnOk result

@@ -1,9 +1,10 @@
 //! The glyphs of orders, at the processes that they name.
 use crate::layout::{ROW, middle_of, y_of};
+use crate::pieces::put;
 use crate::words::{write_floor, write_order};
 use fy_acts::{Act, Entry, Reply};
 use fy_kinds::Kind;
-use fy_locality::ProcSet;
+use fy_locality::{MOST_PROCESSES, ProcId, ProcSet};
 use fy_picture::struck_as_ordered;
 use std::alloc::{AllocError, Global};
 use std::mem::swap;
@@ -97,12 +98,13 @@ fn write_glyph(
     };
     let x = middle_of(column);
     let y = y_of(row).saturating_add(ROW / 2 - 2);
-    let shape = outline(entry);
-    let at = entry.at;
-    write!(
-        text,
-        "<path class=\"order {class}\" data-entry=\"{at}\" d=\"M{x} {y}{shape}\"><title>"
-    )?;
+    text.push_str("<path class=\"order ")?;
+    text.push_str(class)?;
+    put(text, "\" data-entry=\"", u64::from(entry.at))?;
+    put(text, "\" d=\"M", x)?;
+    put(text, " ", y)?;
+    text.push_str(outline(entry))?;
+    text.push_str("\"><title>")?;
     write_order(text, entry)?;
     if count > 1 {
         write!(text, "; the hardest of {count} orders here")?;
@@ -111,32 +113,65 @@ fn write_glyph(
     text.push_str("</title></path>\n")
 }
 
-/// Joins a mark with the one at its process: the harder order stands for both, of two equals the
-/// earlier, and their counts add up. The answer is whether the new mark's order stands.
-fn put(open: &mut [Mark], mark: Mark) -> bool {
-    let Some(there) = open.get_mut(mark.process) else {
-        return false;
-    };
-    let count = there.count.saturating_add(mark.count);
-    let is_harder = mark.weight > there.weight;
-    if is_harder {
-        *there = mark;
-    }
-    there.count = count;
-    is_harder
+/// What an open column has of each process, and of nobody.
+#[derive(Drop)]
+struct Open {
+    marks: Vec<Mark>,
+    /// The processes that have a mark. When the column ends no others are looked at.
+    marked: ProcSet,
 }
 
-/// Takes all marks, in the order of processes.
-fn take_marks(alloc: Global, open: &mut [Mark]) -> Result<Vec<Mark>, AllocError> {
-    let mut marks = Vec::new(alloc);
-    for place in 0..open.len() {
-        let mark = open[place];
+/// Takes the mark at a place, where there is one.
+fn take_mark(marks: &mut [Mark], place: usize, taken: &mut Vec<Mark>) -> Result<(), AllocError> {
+    if place < marks.len() {
+        let mark = marks[place];
         if mark.weight > 0 {
-            marks.push(mark)?;
-            open[place] = NO_MARK;
+            taken.push(mark)?;
+            marks[place] = NO_MARK;
         }
     }
-    Ok(marks)
+    Ok(())
+}
+
+impl Open {
+    /// A column without a mark at so many places, of which nobody has the last.
+    fn begin(alloc: Global, places: usize) -> Result<Open, AllocError> {
+        Ok(Open {
+            marks: vec![in alloc; NO_MARK; places]?,
+            marked: ProcSet::empty(),
+        })
+    }
+
+    /// Joins a mark with the one at its process: the harder order stands for both, of two equals
+    /// the earlier, and their counts add up. The answer is whether the new mark's order stands.
+    fn put(&mut self, mark: Mark) -> bool {
+        let Some(there) = self.marks.get_mut(mark.process) else {
+            return false;
+        };
+        let count = there.count.saturating_add(mark.count);
+        let is_harder = mark.weight > there.weight;
+        if is_harder {
+            *there = mark;
+        }
+        there.count = count;
+        if mark.process < MOST_PROCESSES as usize {
+            self.marked.put(ProcId(mark.process as u32));
+        }
+        is_harder
+    }
+
+    /// Takes all marks, in the order of processes.
+    fn take(&mut self, alloc: Global) -> Result<Vec<Mark>, AllocError> {
+        let mut taken = Vec::new(alloc);
+        for p in self.marked.iter() {
+            take_mark(&mut self.marks, p.0 as usize, &mut taken)?;
+        }
+        self.marked = ProcSet::empty();
+        // Beside 1024 processes nobody's number is in no set.
+        let nobody = self.marks.len().saturating_sub(1);
+        take_mark(&mut self.marks, nobody, &mut taken)?;
+        Ok(taken)
+    }
 }
 
 /// The new place of each order that a mark names, in the same order; `None` for the others.
@@ -191,7 +226,7 @@ fn with_named(
 /// Makes two columns one, of this number.
 fn merge(
     alloc: Global,
-    open: &mut [Mark],
+    open: &mut Open,
     column: usize,
     first: Marked,
     second: Marked,
@@ -207,18 +242,18 @@ fn merge(
         orders: more,
     } = second;
     for mark in early.iter().copied() {
-        put(open, mark);
+        open.put(mark);
     }
     let before = orders.len();
     for mark in late.iter().copied() {
         let mut mark = mark;
         mark.order = mark.order.saturating_add(before);
-        put(open, mark);
+        open.put(mark);
     }
     for order in more.into_iter() {
         orders.push(order)?;
     }
-    let marks = take_marks(alloc, open)?;
+    let marks = open.take(alloc)?;
     with_named(alloc, column, marks, orders)
 }
 
@@ -229,8 +264,7 @@ pub(crate) struct Glyphs {
     alloc: Global,
     /// At which row each process stands.
     rows: Vec<usize>,
-    /// What the open column has of each process, and of nobody.
-    open: Vec<Mark>,
+    open: Open,
     /// The orders of the open column that are or were the hardest of a process: at most eight a
     /// process, whatever the column has.
     orders: Vec<Entry>,
@@ -240,7 +274,7 @@ pub(crate) struct Glyphs {
 
 impl Glyphs {
     pub(crate) fn begin(alloc: Global, rows: Vec<usize>) -> Result<Glyphs, AllocError> {
-        let open = vec![in alloc; NO_MARK; rows.len().saturating_add(1)]?;
+        let open = Open::begin(alloc, rows.len().saturating_add(1))?;
         Ok(Glyphs {
             alloc,
             rows,
@@ -260,11 +294,11 @@ impl Glyphs {
         };
         let mut is_hardest = false;
         if named.is_empty() {
-            is_hardest = put(&mut self.open, mark);
+            is_hardest = self.open.put(mark);
         }
         for p in named.iter() {
             mark.process = p.0 as usize;
-            if put(&mut self.open, mark) {
+            if self.open.put(mark) {
                 is_hardest = true;
             }
         }
@@ -280,7 +314,7 @@ impl Glyphs {
         if self.orders.is_empty() {
             return Ok(());
         }
-        let marks = take_marks(self.alloc, &mut self.open)?;
+        let marks = self.open.take(self.alloc)?;
         if marks.is_empty() {
             return Ok(());
         }
@@ -293,7 +327,7 @@ impl Glyphs {
 
     /// Makes each two columns that have ended one.
     pub(crate) fn fold(&mut self) -> Result<(), AllocError> {
-        let mut open = vec![in self.alloc; NO_MARK; self.open.len()]?;
+        let mut open = Open::begin(self.alloc, self.open.marks.len())?;
         let mut ended = Vec::new(self.alloc);
         swap(&mut ended, &mut self.ended);
         for next in ended.into_iter() {
@@ -323,7 +357,7 @@ impl Glyphs {
 /// Folds the next column into the last folded one where the two are a pair, and else alone.
 fn fold_next(
     alloc: Global,
-    open: &mut [Mark],
+    open: &mut Open,
     folded: &mut Vec<Marked>,
     next: Marked,
 ) -> Result<Marked, AllocError> {

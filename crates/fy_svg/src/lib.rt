@@ -11,6 +11,7 @@ mod lanes;
 mod layout;
 mod marks;
 mod otherwise;
+mod pieces;
 mod policies;
 mod sheet;
 mod ups;

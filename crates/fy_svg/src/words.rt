@@ -1,4 +1,5 @@
 //! Orders, rules and numbers in words.
+use crate::pieces::put;
 use fy_acts::{Act, Entry, Refusal, Reply};
 use fy_kinds::{Kind, Rule, Target};
 use fy_picture::rule_of;
@@ -38,17 +39,17 @@ fn write_rule(text: &mut String, rule: Rule) -> Result<(), AllocError> {
 
 /// A target, by its key and value.
 fn write_target(text: &mut String, target: Target) -> Result<(), AllocError> {
-    let key = target.key.text();
-    let value = target.value.as_str();
-    write!(text, "{key} {value}")
+    text.push_str(target.key.text())?;
+    text.push_str(" ")?;
+    text.push_str(target.value.as_str())
 }
 
 /// The kind by which a kill struck.
 fn write_struck(text: &mut String, struck: Option<Kind>) -> Result<(), AllocError> {
     match struck {
         Some(kind) => {
-            let kind = kind.text();
-            write!(text, ": struck by {kind}")
+            text.push_str(": struck by ")?;
+            text.push_str(kind.text())
         }
         None => text.push_str(": struck nobody"),
     }
@@ -77,8 +78,8 @@ fn write_ruled(text: &mut String, reply: Reply) -> Result<(), AllocError> {
 fn write_deed(text: &mut String, entry: &Entry) -> Result<(), AllocError> {
     match entry.act {
         Act::Kill { order } => {
-            let kind = order.kind().text();
-            write!(text, "{kind} of ")?;
+            text.push_str(order.kind().text())?;
+            text.push_str(" of ")?;
             write_target(text, order.target())?;
             match entry.reply {
                 Reply::Verdict(verdict) => write_struck(text, verdict.struck),
@@ -101,9 +102,9 @@ fn write_deed(text: &mut String, entry: &Entry) -> Result<(), AllocError> {
 
 /// An order: what struck, and why nothing harder did.
 pub(crate) fn write_order(text: &mut String, entry: &Entry) -> Result<(), AllocError> {
-    let at = entry.at;
-    let by = entry.by;
-    write!(text, "entry {at}, actor {by}: ")?;
+    put(text, "entry ", u64::from(entry.at))?;
+    put(text, ", actor ", u64::from(entry.by))?;
+    text.push_str(": ")?;
     write_deed(text, entry)?;
     match rule_of(entry) {
         Some(rule) => {

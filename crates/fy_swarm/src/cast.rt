@@ -109,7 +109,7 @@ fn faults_before(config: &Config, actor: u32) -> u32
 ///
 /// # Errors
 ///
-/// `AllocError` only where memory is refused.
+/// `AllocError` only where an allocation fails.
 pub fn player_of(
     alloc: Global,
     config: &Config,

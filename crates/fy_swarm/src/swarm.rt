@@ -67,7 +67,7 @@ fn run_posts<R: Threads + Wait + Sync>(rt: &R, shared: &Shared, posts: &mut Vec<
 ///
 /// # Errors
 ///
-/// `AllocError` where memory is refused, or was refused to a post.
+/// `AllocError` where an allocation fails, also one of a post.
 fn collect_seats(posts: Vec<Post>, back: Vec<Seat>) -> Result<Vec<Seat>, AllocError>
     ensures { IfOk result (λ seats.
         (seats.items ≡ back.items ++ map (λ post. post.seat) posts.items)
@@ -94,7 +94,7 @@ fn collect_seats(posts: Vec<Post>, back: Vec<Seat>) -> Result<Vec<Seat>, AllocEr
 ///
 /// # Errors
 ///
-/// `AllocError` where memory is refused, to an actor too.
+/// `AllocError` where an allocation fails, also one of an actor.
 fn run_players<R: Threads + Wait + Sync>(
     rt: &R,
     alloc: Global,
@@ -172,10 +172,10 @@ fn run_all_actors<R: Threads + Wait + Sync>(
 ///
 /// # Errors
 ///
-/// `NoMemory` where memory is refused, to an actor too: nothing is out, or a front of the audit and
-/// never all of it. `Write` where the writer fails or takes no byte: a front of the audit is out,
-/// and never all of it. It is never `SwarmClose`: every seat is handed in, so the cluster is
-/// closed.
+/// `NoMemory` where an allocation fails, also one of an actor: nothing is out, or a front of the
+/// audit and never all of it. `Write` where the writer fails or takes no byte: a front of the audit
+/// is out, and never all of it. It is never `SwarmClose`: every seat is handed in, so the cluster
+/// is closed.
 pub fn run_swarm<R: Threads + Wait + Sync, W: Write>(
     rt: &R,
     alloc: Global,

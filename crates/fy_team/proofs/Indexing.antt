@@ -94,9 +94,6 @@ places_apart at t (n ∷ ns) k within = go (λ j less. places_apart (at + 1) t n
 abbrev pub teams_of : List Counted → List ℕ
 teams_of records = map (λ it. it.team) (map held records)
 
-team_in : Option Counted → ℕ → Bool
-team_in found t = option_map_or (λ n. eqb n t) (option_map (λ (it : Record). it.team) (option_map held found)) false
-
 pub listed : (records : List Counted) (t i : ℕ) → list_any (λ n. eqb n i) (places_from 0 t (teams_of records)) ≡ option_map_or (λ n. eqb n t) (option_map (λ (it : Record). it.team) (option_map held (slice_get records i))) false
 listed records t i =
     ap (λ k. list_any (λ n. eqb n k) (places_from 0 t (teams_of records))) (let e : i ≡ 0 + i = omega arith in e)

@@ -43,14 +43,6 @@ TeamsKept-none counts = record {
 
 -- ---- a team more
 
-pub TeamsKept-listed : (teams : List Team) (records : List Counted) (numbers : List (List ℕ)) (marked : Sets) → TeamsKept teams records numbers marked → TeamsKept teams records (numbers ++ [] ∷ []) marked
-TeamsKept-listed teams records numbers marked kept = record {
-  counts = kept.counts;
-  lists = omega (arith, kept.lists, length-append numbers ([] ∷ []));
-  each = λ team. read_more numbers [] team ∙ kept.each team;
-  blocks = kept.blocks;
-}
-
 pub TeamsKept-formed : (teams : List Team) (records : List Counted) (numbers : List (List ℕ)) (marked : Sets) (team : Team) → TeamsInvariant (teams ++ team ∷ []) records → TeamsKept teams records numbers marked
     → TeamsKept (teams ++ team ∷ []) records (numbers ++ [] ∷ []) marked
 TeamsKept-formed teams records numbers marked team counts kept = record {

@@ -1,5 +1,5 @@
 -- who has marked a record
-use Rattle.std.proofs.Common.{◌≡◌, ◌↔◌, ℕ, zero, suc, ◌<◌, ◌≤◌, Bool, true, false, cond, ◌&&◌, ◌||◌, not, eqb, List, [], ◌∷◌, ◌++◌, length, map, get_or, set, take, drop, refl, sym, ap, ◌∙◌, arith}
+use Rattle.std.proofs.Common.{◌≡◌, ◌↔◌, ℕ, zero, suc, ◌<◌, Bool, true, false, cond, ◌&&◌, ◌||◌, not, eqb, List, [], ◌∷◌, ◌++◌, length, map, get_or, set, refl, sym, ap, ◌∙◌, arith}
 use Rattle.std.specs.Prelude.{Option, Some, None, option_map, slice_get}
 use Rattle.std.specs.List.{All, list_all}
 use Rattle.std.specs.Option.{option_map_or}
@@ -277,23 +277,3 @@ healed-acked roster p r =
     acked_is : (found : Option Record) → acked_in found ≡ option_map_or (λ (b : Bool). b) (option_map (λ (it : Record). it.acked) found) false
     acked_is None = refl
     acked_is (Some it) = refl
-
--- a list of which the first i items are mapped, and the next one is
-mapped_next : {X : Type 0} (f : X → X) (xs : List X) (i : ℕ) (d : X) → i < length xs
-    → (get_or (map f (take i xs) ++ drop i xs) i d ≡ get_or xs i d) × (set (map f (take i xs) ++ drop i xs) i (f (get_or xs i d)) ≡ map f (take (suc i) xs) ++ drop (suc i) xs)
-mapped_next f [] i d within = absurd (omega arith)
-mapped_next f (x ∷ xs) zero d within = (refl, refl)
-mapped_next f (x ∷ xs) (suc i) d within = let later = mapped_next f xs i d (omega arith) in (later.0, ap (λ rest. f x ∷ rest) later.1)
-
-pub mapped-next : {X : Type 0} (f : X → X) (xs ys : List X) (i : ℕ) (d : X) → i < length xs → ys ≡ map f (take i xs) ++ drop i xs → set ys i (f (get_or ys i d)) ≡ map f (take (suc i) xs) ++ drop (suc i) xs
-mapped-next f xs ys i d within is =
-    let next = mapped_next f xs i d within in
-    ap (λ zs. set zs i (f (get_or zs i d))) is
-    ∙ ap (λ x. set (map f (take i xs) ++ drop i xs) i (f x)) next.0
-    ∙ next.1
-
-pub mapped-all : {X : Type 0} (f : X → X) (xs : List X) (i : ℕ) → length xs ≤ i → map f (take i xs) ++ drop i xs ≡ map f xs
-mapped-all f [] zero past = refl
-mapped-all f [] (suc i) past = refl
-mapped-all f (x ∷ xs) zero past = absurd (omega arith)
-mapped-all f (x ∷ xs) (suc i) past = ap (λ rest. f x ∷ rest) (mapped-all f xs i (omega arith))

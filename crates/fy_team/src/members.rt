@@ -90,7 +90,7 @@ impl Members {
         }
     }
 
-    /// Replaces a member by another process. Takes no memory.
+    /// Replaces a member by another process. Doesn't allocate.
     ///
     /// `out` must be a member, and `into` must not.
     pub fn replace(&mut self, out: ProcId, into: ProcId)

@@ -27,7 +27,7 @@ impl TryCopy for Numbers {
 }
 
 impl Numbers {
-    /// No number. Takes no memory.
+    /// No number. Doesn't allocate.
     pub(crate) fn make(alloc: Global) -> Numbers
         ensures { result ≡ [] }
     {

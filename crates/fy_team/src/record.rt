@@ -63,7 +63,7 @@ impl TryCopy for KeptRecord {
 }
 
 impl KeptRecord {
-    /// A record without marks, not acknowledged, of a team with these members. Takes no memory.
+    /// A record without marks, not acknowledged, of a team with these members. Doesn't allocate.
     pub(crate) fn make(team: u32, payload: Payload, members: &Members) -> KeptRecord
         ensures held { result.held ≡ unmarked team payload }
         ensures counted { CountsMissing members.now result }

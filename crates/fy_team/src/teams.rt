@@ -68,7 +68,7 @@ impl Drop for Teams {
 }
 
 impl Teams {
-    /// No team and no record. Takes no memory.
+    /// No team and no record. Doesn't allocate.
     pub fn make(alloc: Global) -> Teams
         ensures { result ≡ no_teams }
     {
@@ -145,7 +145,7 @@ impl Teams {
         Ok(number)
     }
 
-    /// Whether `begin` would accept such a record if no allocation fails. Takes no memory.
+    /// Whether `begin` would accept such a record if no allocation fails. Doesn't allocate.
     ///
     /// # Errors
     ///
@@ -196,7 +196,8 @@ impl Teams {
     }
 
     /// Marks a record by a process, a member of its team or not, and returns whether the record is
-    /// acknowledged now: it was already, or each member of its team has marked it. Takes no memory.
+    /// acknowledged now: it was already, or each member of its team has marked it. Doesn't
+    /// allocate.
     ///
     /// There must be such a record, and the process's number must be below 1024.
     pub fn mark(&mut self, rec: u32, p: ProcId) -> bool
@@ -225,7 +226,7 @@ impl Teams {
     }
 
     /// Replaces a member of a team by another process. Marks stay, and no record becomes
-    /// acknowledged. Takes no memory.
+    /// acknowledged. Doesn't allocate.
     ///
     /// There must be such a team, `out` must be a member and `into` a process of the map that isn't
     /// one, and with `into` for `out` the team must satisfy its policy.
@@ -242,7 +243,7 @@ impl Teams {
         recount(&mut self.records, numbers, team, out, into, members);
     }
 
-    /// Takes a process's mark off each record that isn't acknowledged. Takes no memory.
+    /// Takes a process's mark off each record that isn't acknowledged. Doesn't allocate.
     pub fn heal(&mut self, p: ProcId)
         ensures { self.new ≡ healed p.0 self.old }
     {

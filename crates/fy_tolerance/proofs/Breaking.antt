@@ -11,11 +11,11 @@ use Rattle.fy_policy.specs.Counted.{number_of, passing}
 use Rattle.fy_policy.specs.Sat.{Sat, group, outside, satisfies}
 use Rattle.fy_policy.specs.Laws.{KeylessPassNothing, MoreSatisfies, NobodyPasses, TestIsSatisfaction, ValuesPassApart}
 use Rattle.fy_policy.specs.Tree.{Tree, one, across, IsWellFormed}
+use Rattle.fy_policy.proofs.Walk.{satisfies-across}
 use Rattle.fy_tolerance.specs.Costs.{IsBreaking, IsWithin, lies_in}
 use Rattle.fy_tolerance.specs.declared.parts.Part.{Part}
 use Rattle.fy_tolerance.proofs.Sufficing.{more_pass}
 use Rattle.fy_tolerance.proofs.Taking.{count_push, lies_within}
-use Rattle.fy_tolerance.proofs.Values.{satisfies-across}
 
 -- a group without a set
 abbrev pub kept : (all : ℕ → Bool) → sets.FinSet nat_cmp → ℕ → Bool

@@ -10,10 +10,11 @@ use Rattle.fy_policy.specs.Counted.{number_of, passing}
 use Rattle.fy_policy.specs.Sat.{Sat, group, outside, satisfies}
 use Rattle.fy_policy.specs.Laws.{KeylessPassNothing, NobodyPasses, TestIsSatisfaction, ValuesPassApart}
 use Rattle.fy_policy.specs.Tree.{Tree, one, across, IsWellFormed}
+use Rattle.fy_policy.proofs.Walk.{satisfies-across}
 use Rattle.fy_tolerance.specs.Costs.{IsWithin, LacksAtLeast, IsLeastOf}
 use Rattle.fy_tolerance.specs.declared.parts.Part.{Part}
 use Rattle.fy_tolerance.proofs.Costing.{number-more, number-split, short-push, least-taken}
-use Rattle.fy_tolerance.proofs.Values.{satisfies-across, too_few}
+use Rattle.fy_tolerance.proofs.Values.{too_few}
 
 module _ (processes : List Locality) (key : Key) (q : Tree) where
   -- how many of a group a set lacks

@@ -12,10 +12,11 @@ use Rattle.fy_policy.specs.Counted.{number_of, passing}
 use Rattle.fy_policy.specs.Sat.{Sat, group, outside, satisfies}
 use Rattle.fy_policy.specs.Laws.{KeylessPassNothing, NobodyPasses, TestIsSatisfaction, ValuesPassApart}
 use Rattle.fy_policy.specs.Tree.{Tree, one, across, IsWellFormed}
+use Rattle.fy_policy.proofs.Walk.{satisfies-across}
 use Rattle.fy_tolerance.specs.Costs.{IsWithin, NeedsAtLeast, IsLeastOf}
 use Rattle.fy_tolerance.specs.declared.parts.Part.{Part}
 use Rattle.fy_tolerance.proofs.Costing.{number-more, number-split, number-some, short-push, least-taken}
-use Rattle.fy_tolerance.proofs.Values.{satisfies-across, at_least}
+use Rattle.fy_tolerance.proofs.Values.{at_least}
 
 module _ (processes : List Locality) (key : Key) (q : Tree) (free : ℕ → Bool) where
   -- whom a set costs

@@ -1,7 +1,6 @@
 -- the parts of a shape
-use Rattle.std.proofs.Common.{◌≡◌, List, [], ◌∷◌, Global, Vec, Bool, true, false, ◌&&◌, ℕ, ◌<◌, ◌≤◌, Box, zero, suc, length, get_or, refl, sym, ap, subst, ◌∙◌, arith}
+use Rattle.std.proofs.Common.{◌≡◌, List, Global, Vec, Bool, true, false, ℕ, ◌<◌, ◌≤◌, Box, length, get_or, refl, sym, ap, subst, ◌∙◌}
 use Rattle.std.specs.List.{list_all}
-use Rattle.std.proofs.lemmas.List.Folds.{list_all_at}
 use Rattle.fy_locality.specs.declared.locality.Locality.{Locality}
 use Rattle.fy_locality.specs.declared.key.Key.{Key}
 use Rattle.fy_policy.specs.declared.shape.Shape.{Shape, Across, And}
@@ -9,14 +8,8 @@ use Rattle.fy_policy.specs.Sat.{satisfies}
 use Rattle.fy_policy.specs.Shape.{tree_of}
 use Rattle.fy_policy.specs.Tree.{IsWellFormed}
 use Rattle.fy_policy.specs.Laws.{AndIsEach, PartsAreWellFormed}
+use Rattle.fy_policy.proofs.Shapes.{one_fails}
 use Rattle.fy_tolerance.specs.Costs.{HasNoAnd}
-
-pub all_pass : (test : Shape → Bool) (qs : List Shape) → ((k : ℕ) (d : Shape) → k < length qs → test (get_or qs k d) ≡ true) → list_all test qs ≡ true
-all_pass test [] each = refl
-all_pass test (q ∷ qs) each = ap (λ b. b && list_all test qs) (each zero q (omega arith)) ∙ all_pass test qs (λ k d h. each (suc k) d (omega arith))
-
-pub one_fails : (test : Shape → Bool) (qs : List Shape) (k : ℕ) (q : Shape) → k < length qs → q ≡ get_or qs k q → test q ≡ false → list_all test qs ≡ false
-one_fails test qs k q within is fails = list_all_at test qs k q within (ap test (sym is) ∙ fails)
 
 pub inner_counted : (shape : Shape) (wanted : ℕ) (key : Key) (inner : Box Shape Global) → shape ≡ Across wanted key inner → IsWellFormed (tree_of shape) → (1 ≤ wanted) × IsWellFormed (tree_of inner.value)
 inner_counted shape wanted key inner is h = let c : IsWellFormed (tree_of (Across wanted key inner)) = subst (λ q. IsWellFormed (tree_of q)) is h in (c.0, c.2)

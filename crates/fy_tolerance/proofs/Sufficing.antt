@@ -14,12 +14,12 @@ use Rattle.fy_policy.specs.Counted.{number_of, passing}
 use Rattle.fy_policy.specs.Sat.{Sat, group, outside, satisfies}
 use Rattle.fy_policy.specs.Laws.{KeylessPassNothing, MoreSatisfies, TestIsSatisfaction, ValuesPassApart}
 use Rattle.fy_policy.specs.Tree.{Tree, one, across, IsWellFormed}
+use Rattle.fy_policy.proofs.Walk.{satisfies-across}
 use Rattle.fy_decide.specs.Safety.{everyone}
 use Rattle.fy_tolerance.specs.Costs.{IsEnough, IsWithin, lies_in}
 use Rattle.fy_tolerance.specs.declared.parts.Part.{Part}
 use Rattle.fy_tolerance.proofs.Taking.{count_push, lies_within, number_empty}
 use Rattle.fy_tolerance.proofs.Tolerating.{in_one, is_in_one, len_one, number_in_set}
-use Rattle.fy_tolerance.proofs.Values.{satisfies-across}
 
 -- what a smaller set satisfies, as a test
 pub more_pass : TestIsSatisfaction → MoreSatisfies → (processes : List Locality) (policy : Tree) (s t : ℕ → Bool) → IsWithin s t → satisfies processes policy s ≡ true → satisfies processes policy t ≡ true

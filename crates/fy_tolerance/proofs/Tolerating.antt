@@ -209,13 +209,6 @@ all_bear dead loss s (policy ∷ policies) (one ∷ found) most all few =
     (all.0.any s (let small : number_of s (length dead.processes) ≤ least_any (min most one.any) found = few in omega arith))
     (all_bear dead loss s policies found (min most one.any) all.1 few)
 
--- one more of each list
-pub zip_more : {A B : Type 0} (R : A → B → Type 0) (xs : List A) (ys : List B) (x : A) (y : B) → AllZip R xs ys → R x y → AllZip R (xs ++ x ∷ []) (ys ++ y ∷ [])
-zip_more R [] [] x y all one = (one, tt)
-zip_more R [] (z ∷ ys) x y all one = absurd all
-zip_more R (z ∷ xs) [] x y all one = absurd all
-zip_more R (z ∷ xs) (w ∷ ys) x y all one = (all.0, zip_more R xs ys x y all.1 one)
-
 -- a policy at a place of a list is the one that was read there
 pub read_at : (ps qs : List Tree) (i : ℕ) (policy found : Tree) → found ≡ get_or ps i found → ps ≡ qs → slice_get qs i ≡ Some policy → found ≡ policy
 read_at ps qs i policy found is same at = is ∙ ap (λ xs. get_or xs i found) same ∙ get_or_from_slice_get qs i policy found at

@@ -1,5 +1,6 @@
 pub mod Bears
 pub mod Costs
+pub mod Taken
 pub use Rattle.fy_decide.specs.DeadBook
 pub use Rattle.fy_decide.specs.Safety
 pub use Rattle.fy_locality.specs.Locality

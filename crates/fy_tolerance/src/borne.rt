@@ -40,7 +40,7 @@ pub struct Findings {
 ///
 /// # Errors
 ///
-/// Want of memory.
+/// An allocation failed.
 pub fn tolerances_of(
     alloc: Global,
     dead: &DeadBook,
@@ -76,7 +76,7 @@ pub fn least_any(processes: u32, tolerances: &[Tolerance]) -> u32
 ///
 /// # Errors
 ///
-/// Want of memory.
+/// An allocation failed.
 pub(crate) fn borne_of(
     alloc: Global,
     dead: &DeadBook,
@@ -106,7 +106,7 @@ pub(crate) fn borne_of(
 ///
 /// # Errors
 ///
-/// Want of memory.
+/// An allocation failed.
 pub fn findings_of(
     alloc: Global,
     dead: &DeadBook,

@@ -7,6 +7,7 @@ ghost use Rattle.fy_policy.specs.Shape.{tree_of};
 ghost use Rattle.fy_policy.specs.Tree.{IsWellFormed, one};
 ghost use Rattle.fy_tolerance.specs.Costs.{HasNoAnd, IsEnough, IsWithin, NeedsAtLeast};
 
+use crate::key_values::take_value;
 use crate::parts::{MORE_THAN_ALL, Part, least_of};
 use fy_locality::{MOST_PROCESSES, Map, ProcSet};
 use fy_policy::{Shape, laws};
@@ -19,7 +20,7 @@ use std::alloc::{AllocError, Global};
 ///
 /// # Errors
 ///
-/// Want of memory.
+/// An allocation failed.
 pub(crate) fn fewest_to_satisfy(
     alloc: Global,
     shape: &Shape,
@@ -49,12 +50,9 @@ pub(crate) fn fewest_to_satisfy(
             let mut values = Vec::new(alloc);
             let mut rest = *group;
             while let Some(p) = rest.least() {
-                let Some(peers) = map.peers(p, *key) else {
-                    rest.drop_one(p);
+                let Some(with_value) = take_value(map, *key, p, &mut rest) else {
                     continue;
                 };
-                let with_value = rest.intersection(&peers);
-                rest = rest.difference(&with_value);
                 let part = fewest_to_satisfy(alloc, inner, map, &with_value, free)?;
                 values.push(part)?;
             }

@@ -55,7 +55,7 @@ fn left_of_each(
 ///
 /// # Errors
 ///
-/// Want of memory.
+/// An allocation failed.
 pub fn borne_alone(
     alloc: Global,
     dead: &DeadBook,
@@ -103,7 +103,7 @@ fn row_of(
 ///
 /// # Errors
 ///
-/// Want of memory.
+/// An allocation failed.
 pub fn borne_in_pairs(
     alloc: Global,
     dead: &DeadBook,
@@ -130,7 +130,7 @@ pub fn borne_in_pairs(
 ///
 /// # Errors
 ///
-/// Want of memory.
+/// An allocation failed.
 pub(crate) fn group_of(
     alloc: Global,
     dead: &DeadBook,

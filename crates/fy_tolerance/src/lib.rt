@@ -8,6 +8,7 @@ mod fewest_to_break;
 mod fewest_to_satisfy;
 mod groups;
 mod json;
+mod key_values;
 pub mod laws;
 mod parts;
 mod reports;

@@ -28,7 +28,7 @@ pub(crate) struct Case<'a> {
 ///
 /// # Errors
 ///
-/// Want of memory.
+/// An allocation failed.
 pub fn write_findings(
     alloc: Global,
     map: &Map,

@@ -42,7 +42,7 @@ impl Tolerance {
 ///
 /// # Errors
 ///
-/// Want of memory.
+/// An allocation failed.
 pub fn tolerance_of(
     alloc: Global,
     dead: &DeadBook,

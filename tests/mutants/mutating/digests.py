@@ -17,6 +17,8 @@ from functools import cache
 from mutating.sources import PARTS, files_of, read, without_comments, without_tests
 
 WORD = re.compile(r"[\w'](?:[\w'-]*[\w'])?")
+# What a path begins with, where that is a crate or a module: a function may have the same name.
+PATH_ROOT = re.compile(r"\bRattle\.\w+(?=\.)|(?<![\w:.])[a-z]\w*(?=::)")
 MARGIN_ITEM = re.compile(
     r"(?:pub(?:\([\w :]+\))? )?(?:unsafe )?(?:extern \"C\" )?(const fn|fn|struct|enum|union|type|const|static|trait|impl|mod|use|ghost use)\b"
 )
@@ -40,6 +42,11 @@ DEFINED = re.compile(rf"(?:{MARK} )*([^\s:({{]+)")
 MUTUAL = re.compile(r"(?:\w+ )*mutual\n")
 
 
+def words_in(text):
+    """The words of a text that may be names of parts."""
+    return frozenset(WORD.findall(PATH_ROOT.sub("", text)))
+
+
 class Part:
     """A piece of a text: the names by which others name it (none: all of its crate depend on it),
     what it says to them, and whether a crate above can depend on it. One that is said elsewhere
@@ -48,7 +55,7 @@ class Part:
     def __init__(self, names, text, is_public, body="", is_said_elsewhere=False):
         self.names, self.text, self.is_public, self.body = frozenset(names), text, is_public, body
         self.is_said_elsewhere = is_said_elsewhere
-        self.words, self.imports = frozenset(WORD.findall(text)), []
+        self.words, self.imports = words_in(text), []
         # the file of a definition, by whose module others bring it in, and what its own file names
         self.module, self.modules = "", frozenset()
         # whose it is, and whether it is seen there alone
@@ -281,7 +288,7 @@ def with_imports(parts, imports):
                 used.append(said)
                 # another name for it names it too
                 if " as " in said:
-                    part.words |= set(WORD.findall(said))
+                    part.words |= words_in(said)
         part.text = "\n".join([*sorted(used), part.text])
         part.imports = brought
     return parts

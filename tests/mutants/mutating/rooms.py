@@ -104,16 +104,33 @@ class Said:
         )
 
 
+def list_of_copy(listed, name, below):
+    """The crates.txt of a copy, from that of the repository, in which the crates below, lowest
+    first, are built: they name each other only so far that rt finds all, in the order it had.
+
+    rt reads a crate again on each way that leads down to it, several times in each check: from the
+    program there are 7,000 ways.
+    """
+    lines = {re.split(r"[ :#]", it)[0]: it.split("#")[0] for it in listed.splitlines()}
+    stands_on, left = {}, list(below)
+    for low in (it for it in lines[name].partition(":")[2].split() if it in below):
+        if low in left:
+            place = left.index(low)
+            stands_on[low], left = left[:place], left[place + 1 :]
+    made = []
+    for low in below:
+        head, _, others = lines[low].partition(":")
+        of_kit = [it for it in others.split() if it not in below]
+        made.append(" ".join([f"{head}:", *stands_on.get(low, []), *of_kit]))
+    return "\n".join([*made, lines[name], ""])
+
+
 def copied(folder, name, below):
     """Copies a crate to where rt check finds the crates below it built, and its own kept proofs."""
     os.makedirs(f"{folder}/.git")
     shutil.copy("HANDLES", folder)
-    with open(f"{folder}/crates.txt", "w") as its:
-        its.writelines(
-            it + "\n"
-            for it in read("crates.txt").splitlines()
-            if re.split(r"[ :#]", it)[0] in (*below, name)
-        )
+    with open(f"{folder}/crates.txt", "w", encoding="utf-8") as its:
+        its.write(list_of_copy(read("crates.txt"), name, below))
     for low in [*below, name]:
         for part in (*PARTS, "out/rlib", *(["out/incremental"] if low == name else [])):
             if os.path.isdir(f"crates/{low}/{part}"):
@@ -137,8 +154,8 @@ def toolchain():
 
 
 def stamp_all(folder, below):
-    """Marks the libraries of a copy as those of its text. `rt ci` has just built them, and leaves
-    no mark, so rt would build them anew.
+    """Marks the libraries of a copy as those of its text, which have just been built: `rt ci` leaves
+    no mark, and one of `rt check` is by another crates.txt, so rt would build them anew.
 
     The copy is whole in itself: no other copy takes a library from it, since rt compares what each
     was built over.
@@ -396,14 +413,10 @@ def try_unturned(room, members, tell):
 def make_whole(folder, name, below, is_after_gate):
     """Makes the copy of which a crate's rooms are copies, with the crate proved in it but after the
     gate, and gives why that fails, if it does."""
-    if is_after_gate:
-        copied(folder, name, below)
-        with proving:
-            stamp_all(folder, below)
-        return None
     # a check of another crate writes below those that this copy reads
     with proving:
-        why = unproved(f"crates/{name}")
+        why = None if is_after_gate else unproved(f"crates/{name}")
         if not why:
             copied(folder, name, below)
+            stamp_all(folder, below)
     return why

@@ -2,10 +2,10 @@
 ghost use Rattle.std.specs.Prelude.{◌≡◌, ◌++◌, IfSome, codes};
 ghost use Rattle.fy_locality.specs.Key.{key_text};
 ghost use Rattle.fy_kinds.specs.Kinds.{kind_text};
-ghost use Rattle.fy_spelling.specs.Pieces.{one_text, two_text, three_text, valued_text, words_text, scope_text, act_text};
+ghost use Rattle.fy_spelling.specs.Pieces.{one_text, two_text, three_text, valued_text, kill_head_text, scope_text, act_text};
 
 use super::lists::{kinds, payload, processes};
-use super::words::{key_after, kind_after, name_after, skip, string_after, u32_after, u64_after};
+use super::tokens::{key_after, kind_after, name_after, skip, string_after, u32_after, u64_after};
 use crate::Act;
 use fy_grants::{Grant, Scope};
 use fy_kinds::{KillOrder, Kind, Target};
@@ -90,11 +90,11 @@ fn target_after<'l>(line: &'l [u8], head: &str) -> Option<(Key, Name, &'l [u8])>
     Some((key, value, rest))
 }
 
-/// The floor, the key and the kind of a kill.
+/// The head of a kill: its floor, its key and its kind.
 #[inline(always)]
-fn kill_words(line: &[u8]) -> Option<(Kind, Key, Kind, &[u8])>
+fn kill_head(line: &[u8]) -> Option<(Kind, Key, Kind, &[u8])>
     ensures { IfSome result (λ p.
-        line.now ≡ words_text (kind_text p.0) (key_text p.1) (kind_text p.2)
+        line.now ≡ kill_head_text (kind_text p.0) (key_text p.1) (kind_text p.2)
         ++ (codes "\"" ++ p.3.now)) }
 {
     let (floor, rest) = kind_after(line, "{\"kill\":{\"floor\":\"")?;
@@ -110,7 +110,7 @@ const NAME: usize = 2;
 fn kill(line: &[u8]) -> Option<(Act, &[u8])>
     ensures { IfSome result (λ p. line.now ≡ act_text p.0 ++ p.1.now) }
 {
-    let (floor, key, kind, rest) = kill_words(line)?;
+    let (floor, key, kind, rest) = kill_head(line)?;
     let Some((tear, value, rest)) = valued(rest, ",\"tear\":") else {
         return None;
     };

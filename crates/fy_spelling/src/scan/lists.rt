@@ -5,7 +5,7 @@ ghost use Rattle.hex.specs.Hex.{encode_lower, lower_digits};
 ghost use Rattle.fy_spelling.specs.Values.{in_order};
 ghost use Rattle.fy_spelling.specs.Pieces.{processes_text, deeds_text};
 
-use super::words::{skip, u32_after};
+use super::tokens::{skip, u32_after};
 use fy_disk::Payload;
 use fy_kinds::{KindSet, MILDEST_FIRST};
 use fy_locality::ProcId;
@@ -40,14 +40,14 @@ pub(super) fn processes(alloc: Global, line: &[u8]) -> Option<(Vec<ProcId>, &[u8
     Some((found, rest))
 }
 
-/// A word of a list, behind a comma where one stands before it: what is behind its quote.
+/// A string of a list, behind a comma where one stands before it: what is behind its quote.
 #[inline(always)]
-fn listed<'l>(line: &'l [u8], later: bool, word: &str) -> Option<&'l [u8]>
+fn listed<'l>(line: &'l [u8], later: bool, string: &str) -> Option<&'l [u8]>
     ensures { IfSome result (λ rest.
-        line.now ≡ comma_if later ++ (codes "\"" ++ (word.now ++ (codes "\"" ++ rest.now)))) }
+        line.now ≡ comma_if later ++ (codes "\"" ++ (string.now ++ (codes "\"" ++ rest.now)))) }
 {
     let rest = skip(line, if later { ",\"" } else { "\"" })?;
-    let rest = skip(rest, word)?;
+    let rest = skip(rest, string)?;
     skip(rest, "\"")
 }
 

@@ -5,7 +5,7 @@ ghost use Rattle.std.specs.Prelude.{◌≡◌, ◌++◌, IfSome, codes};
 ghost use Rattle.fy_spelling.specs.Fits.{FitsRule, FitsRefusal, FitsReply};
 ghost use Rattle.fy_spelling.specs.Pieces.{between_text, rule_text, struck_text, refusal_text, reply_text};
 
-use super::words::{is_exactly, kind_after, skip, string_after, u32_after, u64_after};
+use super::tokens::{is_exactly, kind_after, skip, string_after, u32_after, u64_after};
 use crate::{Refusal, Reply};
 use fy_kinds::{Kind, Rule, Verdict};
 use fy_locality::ProcId;
@@ -191,8 +191,8 @@ fn marked(line: &[u8]) -> Option<Reply>
     }
 }
 
-/// A reply that is a word.
-fn worded(line: &[u8]) -> Option<Reply>
+/// A reply that is a string.
+fn string_reply(line: &[u8]) -> Option<Reply>
     ensures reads { IfSome result (λ reply. line.now ≡ reply_text reply) }
     ensures fits { IfSome result (λ reply. FitsReply reply) }
 {
@@ -205,95 +205,95 @@ fn worded(line: &[u8]) -> Option<Reply>
     }
 }
 
-// A refusal without a number is told by its word. The words are asked for in a chain of four
+// A refusal without a number is told by its name. The names are asked for in a chain of four
 // functions, from processes over teams and actors to healing: each goes on with the next where it
-// hasn't the word, so the first answers for all four. The order of the chain is free.
+// hasn't the name, so the first answers for all four. The order of the chain is free.
 
 /// Any refusal without a number: one of processes and messages, or whatever `refusal_from_teams`
 /// finds.
-fn refusal_from_processes(word: &[u8]) -> Option<Refusal>
+fn refusal_from_processes(name: &[u8]) -> Option<Refusal>
     ensures reads { IfSome result (λ refusal.
-        refusal_text refusal ≡ codes ",\"reply\":{\"no\":[\"" ++ (word.now ++ codes "\"]}}")) }
+        refusal_text refusal ≡ codes ",\"reply\":{\"no\":[\"" ++ (name.now ++ codes "\"]}}")) }
     ensures fits { IfSome result (λ refusal. FitsRefusal refusal) }
 {
-    if is_exactly(word, "Clogged") {
+    if is_exactly(name, "Clogged") {
         Some(Refusal::Clogged)
-    } else if is_exactly(word, "NotUp") {
+    } else if is_exactly(name, "NotUp") {
         Some(Refusal::NotUp)
-    } else if is_exactly(word, "IsUp") {
+    } else if is_exactly(name, "IsUp") {
         Some(Refusal::IsUp)
-    } else if is_exactly(word, "Gone") {
+    } else if is_exactly(name, "Gone") {
         Some(Refusal::Gone)
-    } else if is_exactly(word, "NoMessage") {
+    } else if is_exactly(name, "NoMessage") {
         Some(Refusal::NoMessage)
-    } else if is_exactly(word, "NoProcess") {
+    } else if is_exactly(name, "NoProcess") {
         Some(Refusal::NoProcess)
-    } else if is_exactly(word, "NetFull") {
+    } else if is_exactly(name, "NetFull") {
         Some(Refusal::NetFull)
     } else {
-        refusal_from_teams(word)
+        refusal_from_teams(name)
     }
 }
 
 /// A refusal of teams and records, or whatever `refusal_from_actors` finds.
-fn refusal_from_teams(word: &[u8]) -> Option<Refusal>
+fn refusal_from_teams(name: &[u8]) -> Option<Refusal>
     ensures reads { IfSome result (λ refusal.
-        refusal_text refusal ≡ codes ",\"reply\":{\"no\":[\"" ++ (word.now ++ codes "\"]}}")) }
+        refusal_text refusal ≡ codes ",\"reply\":{\"no\":[\"" ++ (name.now ++ codes "\"]}}")) }
     ensures fits { IfSome result (λ refusal. FitsRefusal refusal) }
 {
-    if is_exactly(word, "NoTeam") {
+    if is_exactly(name, "NoTeam") {
         Some(Refusal::NoTeam)
-    } else if is_exactly(word, "NoRecord") {
+    } else if is_exactly(name, "NoRecord") {
         Some(Refusal::NoRecord)
-    } else if is_exactly(word, "NotMember") {
+    } else if is_exactly(name, "NotMember") {
         Some(Refusal::NotMember)
-    } else if is_exactly(word, "Acked") {
+    } else if is_exactly(name, "Acked") {
         Some(Refusal::Acked)
-    } else if is_exactly(word, "Payload") {
+    } else if is_exactly(name, "Payload") {
         Some(Refusal::Payload)
-    } else if is_exactly(word, "TooMany") {
+    } else if is_exactly(name, "TooMany") {
         Some(Refusal::TooMany)
-    } else if is_exactly(word, "NoPolicy") {
+    } else if is_exactly(name, "NoPolicy") {
         Some(Refusal::NoPolicy)
     } else {
-        refusal_from_actors(word)
+        refusal_from_actors(name)
     }
 }
 
 /// A refusal of actors and the clock, or whatever `refusal_of_healing` finds.
-fn refusal_from_actors(word: &[u8]) -> Option<Refusal>
+fn refusal_from_actors(name: &[u8]) -> Option<Refusal>
     ensures reads { IfSome result (λ refusal.
-        refusal_text refusal ≡ codes ",\"reply\":{\"no\":[\"" ++ (word.now ++ codes "\"]}}")) }
+        refusal_text refusal ≡ codes ",\"reply\":{\"no\":[\"" ++ (name.now ++ codes "\"]}}")) }
     ensures fits { IfSome result (λ refusal. FitsRefusal refusal) }
 {
-    if is_exactly(word, "WrongRole") {
+    if is_exactly(name, "WrongRole") {
         Some(Refusal::WrongRole)
-    } else if is_exactly(word, "Stranger") {
+    } else if is_exactly(name, "Stranger") {
         Some(Refusal::Stranger)
-    } else if is_exactly(word, "NoActor") {
+    } else if is_exactly(name, "NoActor") {
         Some(Refusal::NoActor)
-    } else if is_exactly(word, "ClockEnd") {
+    } else if is_exactly(name, "ClockEnd") {
         Some(Refusal::ClockEnd)
-    } else if is_exactly(word, "Full") {
+    } else if is_exactly(name, "Full") {
         Some(Refusal::Full)
-    } else if is_exactly(word, "NoSuch") {
+    } else if is_exactly(name, "NoSuch") {
         Some(Refusal::NoSuch)
     } else {
-        refusal_of_healing(word)
+        refusal_of_healing(name)
     }
 }
 
 /// A refusal of copies, replacements and healing: the end of the chain.
-fn refusal_of_healing(word: &[u8]) -> Option<Refusal>
+fn refusal_of_healing(name: &[u8]) -> Option<Refusal>
     ensures reads { IfSome result (λ refusal.
-        refusal_text refusal ≡ codes ",\"reply\":{\"no\":[\"" ++ (word.now ++ codes "\"]}}")) }
+        refusal_text refusal ≡ codes ",\"reply\":{\"no\":[\"" ++ (name.now ++ codes "\"]}}")) }
     ensures fits { IfSome result (λ refusal. FitsRefusal refusal) }
 {
-    if is_exactly(word, "NoCopy") {
+    if is_exactly(name, "NoCopy") {
         Some(Refusal::NoCopy)
-    } else if is_exactly(word, "IsMember") {
+    } else if is_exactly(name, "IsMember") {
         Some(Refusal::IsMember)
-    } else if is_exactly(word, "NotDestroyed") {
+    } else if is_exactly(name, "NotDestroyed") {
         Some(Refusal::NotDestroyed)
     } else {
         None
@@ -317,9 +317,9 @@ fn refusal(line: &[u8]) -> Option<Refusal>
     ensures reads { IfSome result (λ refusal. line.now ≡ refusal_text refusal) }
     ensures fits { IfSome result (λ refusal. FitsRefusal refusal) }
 {
-    let (word, rest) = string_after(line, ",\"reply\":{\"no\":[\"")?;
+    let (name, rest) = string_after(line, ",\"reply\":{\"no\":[\"")?;
     if is_exactly(rest, "]}}") {
-        refusal_from_processes(word)
+        refusal_from_processes(name)
     } else {
         refusal_of_number(line)
     }
@@ -358,7 +358,7 @@ pub(super) fn reply(line: &[u8]) -> Option<Reply>
     ensures fits { IfSome result (λ reply. FitsReply reply) }
 {
     if *line.get(VALUE)? != b'{' {
-        return worded(line);
+        return string_reply(line);
     }
     match *line.get(NAME)? {
         b'v' => verdict(line),

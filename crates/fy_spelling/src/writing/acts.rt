@@ -8,7 +8,7 @@ ghost use Rattle.fy_acts.specs.declared.act.Act.TheVariants.{Resend, Take, CopyT
 ghost use Rattle.fy_spelling.specs.Fits.{IsByte, FitsTarget, FitsScope};
 ghost use Rattle.fy_spelling.specs.Values.{in_order};
 ghost use Rattle.fy_spelling.specs.AppendsOrOom.{AppendsOrOom};
-ghost use Rattle.fy_spelling.specs.Pieces.{two_text, valued_text, target_text, keys_text, words_text, order_text, clog_text, processes_text, deeds_text, form_text, begin_text, scope_text, give_text, protection_text, act_text, NeedsNoEscape};
+ghost use Rattle.fy_spelling.specs.Pieces.{two_text, valued_text, target_text, keys_text, kill_head_text, order_text, clog_text, processes_text, deeds_text, form_text, begin_text, scope_text, give_text, protection_text, act_text, NeedsNoEscape};
 
 use super::{put, put_decimal, put_number, put_one, put_word};
 use crate::Act;
@@ -67,8 +67,8 @@ fn put_keys(out: &mut Vec<u8>, key: &str, kind: &str) -> Result<(), AllocError>
 }
 
 /// Writes a kill's floor, and then its target's key and its kind.
-fn put_words(out: &mut Vec<u8>, floor: &str, key: &str, kind: &str) -> Result<(), AllocError>
-    ensures { AppendsOrOom result out.old out.new (words_text floor.now key.now kind.now) }
+fn put_kill_head(out: &mut Vec<u8>, floor: &str, key: &str, kind: &str) -> Result<(), AllocError>
+    ensures { AppendsOrOom result out.old out.new (kill_head_text floor.now key.now kind.now) }
 {
     put_word(out, "{\"kill\":{\"floor\":\"", floor)?;
     put_keys(out, key, kind)
@@ -80,7 +80,7 @@ fn put_kill(out: &mut Vec<u8>, order: &KillOrder) -> Result<(), AllocError>
     ensures name { OnOk result (FitsTarget order.now.target) }
 {
     let target = order.target();
-    put_words(
+    put_kill_head(
         out,
         order.floor().text(),
         target.key.text(),

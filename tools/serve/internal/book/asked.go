@@ -51,6 +51,21 @@ func readAsk(ask Ask) (asked, Fault) {
 	return asked{line: line, once: string(members["by"]) + " " + key}, ""
 }
 
+// mostReply is how many bytes the line of an entry has at most more than that of its act.
+const mostReply = 128
+
+// fits says whether the entry of a line is no longer than a line of an audit. An entry has no blanks.
+func fits(line []byte) bool {
+	if len(line)+mostReply <= mostLine {
+		return true
+	}
+	var compact bytes.Buffer
+	if json.Compact(&compact, line) != nil {
+		return true // There won't be any.
+	}
+	return compact.Len()+mostReply <= mostLine
+}
+
 // made says whether the entry of a line is that of this act.
 func (asked asked) made(entry []byte) bool {
 	return canonical(asked.line) == canonical(entry)

@@ -11,6 +11,8 @@ import (
 	"os"
 	"sync"
 	"time"
+
+	"faultyard-serve/internal/panics"
 )
 
 // Header is the first line of an audit that a book begins or goes on with.
@@ -79,7 +81,9 @@ type Answer struct {
 type Turn struct {
 	Asks    []Ask
 	Answers []Answer
-	view    func()
+	// view is called with why the book makes no more acts, or nil. What it panics with is broken.
+	view   func(stop error)
+	broken error
 }
 
 // NewTurn is a turn without asks.
@@ -182,26 +186,48 @@ func (book *Book) handOn(served []*Party) {
 	}
 }
 
-// View calls a function while nobody acts and all that was done is on the disk.
-func (book *Book) View(look func()) {
+// View calls a function while nobody acts and all that was done is on the disk. Where the disk failed,
+// the guard has acts that aren't there: then it isn't called, and the error says why.
+func (book *Book) View(look func()) (err error) {
+	book.alone(func(stop error) {
+		if stop != nil && stop != ErrEnded {
+			err = stop
+			return
+		}
+		look()
+	})
+	return err
+}
+
+// alone calls a function while nobody acts, with why the book makes no more acts, or nil. It may be
+// called by somebody else who leads, so its panic is caught there, and goes on here.
+func (book *Book) alone(look func(stop error)) {
 	turn := NewTurn()
 	turn.view = look
 	book.Submit(turn)
+	if turn.broken != nil {
+		panic(turn.broken)
+	}
 }
 
-// serve answers the turns, and calls the views behind the sync.
+// serve answers the turns, and calls the views behind the sync. Whatever panics meanwhile, it
+// returns: who leads has to hand on. A panic that isn't a view's ends the book.
 func (book *Book) serve(turns []*Turn, stop error) {
 	if stop == nil {
-		var stats Stats
-		stop = book.commit(turns, &stats)
-		book.publish(stats, stop)
+		stop = panics.Caught(func() error { return book.commit(turns) })
+		if stop != nil {
+			book.fail(stop)
+		}
 	}
 	for _, turn := range turns {
 		if stop != nil {
 			turn.refuse(stop)
 		}
-		if turn.view != nil {
-			turn.view()
+		if view := turn.view; view != nil {
+			turn.broken = panics.Caught(func() error {
+				view(stop)
+				return nil
+			})
 		}
 	}
 }
@@ -215,27 +241,28 @@ func (turn *Turn) refuse(err error) {
 }
 
 // commit makes the acts of the turns, and brings their entries to the disk.
-func (book *Book) commit(turns []*Turn, stats *Stats) error {
+func (book *Book) commit(turns []*Turn) error {
+	var stats Stats
 	book.buffer = book.buffer[:0]
 	book.events.look()
 	for _, turn := range turns {
 		turn.Answers = turn.Answers[:0]
 		for _, ask := range turn.Asks {
-			answer, err := book.make(ask, stats)
+			answer, err := book.make(ask, &stats)
 			if err != nil {
 				return err
 			}
 			turn.Answers = append(turn.Answers, answer)
 		}
 	}
-	if len(book.buffer) == 0 {
-		return nil
+	if len(book.buffer) > 0 {
+		begun := time.Now()
+		if err := book.write(); err != nil {
+			return err
+		}
+		stats.Syncs, stats.Synced = 1, time.Since(begun)
 	}
-	begun := time.Now()
-	if err := book.write(); err != nil {
-		return err
-	}
-	stats.Syncs, stats.Synced = 1, time.Since(begun)
+	book.publish(stats)
 	return nil
 }
 
@@ -251,6 +278,10 @@ func (book *Book) make(ask Ask, stats *Stats) (Answer, error) {
 			return book.repeat(asked, at, stats)
 		}
 	}
+	if fault := book.unread(asked.line); fault != "" {
+		stats.Refused++
+		return Answer{Err: fault}, nil
+	}
 	line, err := book.guard.Act(asked.line)
 	if err != nil {
 		if fault, is := FaultOf(err); is {
@@ -264,6 +295,18 @@ func (book *Book) make(ask Ask, stats *Stats) (Answer, error) {
 	book.buffer = append(book.buffer, line...)
 	stats.Made++
 	return Answer{Line: line}, nil
+}
+
+// unread is the fault of an act with whose entry the audit might not be read again: the guard answers
+// to lines and writes audits that are longer.
+func (book *Book) unread(line []byte) Fault {
+	if !fits(line) {
+		return TooLong
+	}
+	if book.length+int64(len(book.buffer))+mostLine > mostAudit {
+		return JournalFull
+	}
+	return ""
 }
 
 // repeat answers the entry that the act with the same key made.
@@ -298,13 +341,9 @@ func (book *Book) write() error {
 }
 
 // publish tells those who look on what a commit did.
-func (book *Book) publish(stats Stats, stop error) {
+func (book *Book) publish(stats Stats) {
 	book.lock.Lock()
 	defer book.lock.Unlock()
-	if stop != nil {
-		book.halt(stop)
-		return
-	}
 	book.length += int64(len(book.buffer))
 	its := &book.stats
 	its.Entries = book.count
@@ -320,6 +359,13 @@ func (book *Book) publish(stats Stats, stop error) {
 		close(book.grown)
 		book.grown = nil
 	}
+}
+
+// fail has every later act refused.
+func (book *Book) fail(why error) {
+	book.lock.Lock()
+	defer book.lock.Unlock()
+	book.halt(why)
 }
 
 // halt has every later act refused. The lock is held.
@@ -369,7 +415,7 @@ func (book *Book) Audit() (io.ReadSeeker, int64) {
 
 // Drawn is the audit and what `faultyard show --times` reads beside it: when each entry came.
 func (book *Book) Drawn() (audit, times io.Reader, err error) {
-	book.View(func() {
+	stop := book.View(func() {
 		if err = book.flush(); err != nil {
 			return
 		}
@@ -378,24 +424,25 @@ func (book *Book) Drawn() (audit, times io.Reader, err error) {
 		audit = io.NewSectionReader(book.audit, 0, book.length)
 		times = io.NewSectionReader(book.events.file, 0, length)
 	})
+	if stop != nil {
+		err = stop
+	}
 	return audit, times, err
 }
 
 // flush writes the times that aren't in their file yet. Whoever calls it leads.
 func (book *Book) flush() error {
-	err := book.events.flush()
+	err := panics.Caught(func() error { return book.events.flush() })
 	if err != nil {
-		book.lock.Lock()
-		defer book.lock.Unlock()
-		book.halt(err)
+		book.fail(err)
 	}
 	return err
 }
 
-// keepTimes writes the times of new entries once a second, so that a crash takes few of them.
-func (book *Book) keepTimes() {
+// keepTimes writes the times of new entries once a second, so that a crash takes few of them. The
+// first entries are those after which a channel is closed.
+func (book *Book) keepTimes(grown <-chan struct{}) {
 	for {
-		_, grown := book.Grown()
 		select {
 		case <-book.stopped:
 			return
@@ -405,7 +452,8 @@ func (book *Book) keepTimes() {
 		case <-book.stopped:
 			return
 		case <-time.After(time.Second):
-			book.View(func() { _ = book.flush() })
+			_, grown = book.Grown() // Before they are written: else one that comes between is missed.
+			book.alone(func(error) { _ = book.flush() })
 		}
 	}
 }
@@ -413,10 +461,8 @@ func (book *Book) keepTimes() {
 // Close ends the book once those who lead are done. Later asks are answered ErrEnded.
 func (book *Book) Close() error {
 	var err error
-	book.lock.Lock()
-	book.halt(ErrEnded)
-	book.lock.Unlock()
-	book.View(func() {
+	book.fail(ErrEnded)
+	book.alone(func(error) {
 		err = book.flush()
 		if closed := book.audit.Close(); err == nil {
 			err = closed

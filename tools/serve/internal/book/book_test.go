@@ -10,6 +10,7 @@ import (
 	"strings"
 	"sync"
 	"testing"
+	"time"
 
 	"faultyard-serve/internal/scribe"
 )
@@ -226,7 +227,7 @@ func TestACopyOfTheClusterFileIsWholeAfterACrash(test *testing.T) {
 	}
 }
 
-func TestACopyOfTheClusterFileHasTheModeOfItsAudit(test *testing.T) {
+func TestWhatStandsBesideAnAuditHasItsMode(test *testing.T) {
 	for _, mode := range []os.FileMode{0o600, 0o640, 0o666} {
 		its := begin(test)
 		its.write(its.path, "")
@@ -234,11 +235,13 @@ func TestACopyOfTheClusterFileHasTheModeOfItsAudit(test *testing.T) {
 			test.Fatal(err)
 		}
 		_ = its.must().Close()
-		info, err := os.Stat(its.path + ".cluster")
-		if err != nil {
-			test.Fatal(err)
+		for _, end := range []string{".cluster", ".events"} {
+			info, err := os.Stat(its.path + end)
+			if err != nil {
+				test.Fatal(err)
+			}
+			same(test, "the mode of "+end, info.Mode().Perm(), mode)
 		}
-		same(test, "the mode", info.Mode().Perm(), mode)
 	}
 }
 
@@ -407,4 +410,291 @@ func TestTimesHaveThreeDigits(test *testing.T) {
 		wanted := fmt.Sprintf("x%.3f", seconds)
 		same(test, wanted, string(appendTime([]byte("x"), seconds)), wanted)
 	}
+}
+
+// panicky is a guard that panics at an act of its process 13.
+type panicky struct{ *guard }
+
+func (its panicky) Act(line []byte) ([]byte, error) {
+	if bytes.Contains(line, []byte(`{"process":13}`)) {
+		panic("thirteen")
+	}
+	return its.guard.Act(line)
+}
+
+// mustPanicky opens a book of such a guard.
+func (its *kept) mustPanicky() *Book {
+	its.Helper()
+	book := its.must()
+	book.guard = panicky{book.guard.(*guard)}
+	return book
+}
+
+// crowd is several who ask a book at once, each by a goroutine that catches panics, as a handler of
+// net/http does.
+type crowd struct {
+	*testing.T
+	book   *Book
+	breaks func() // is called before those who wait are let go, if it is there
+	all    sync.WaitGroup
+	caught []any
+}
+
+// come has somebody ask, who gets a place in the line of those who wait.
+func (its *crowd) come(ask func()) {
+	its.Helper()
+	its.all.Add(1)
+	number := len(its.caught)
+	its.caught = append(its.caught, nil)
+	go func() {
+		defer its.all.Done()
+		defer func() { its.caught[number] = recover() }()
+		ask()
+	}()
+	its.waits(number + 1)
+}
+
+// waits returns once so many wait.
+func (its *crowd) waits(count int) {
+	its.Helper()
+	its.soon(func() bool {
+		its.book.lock.Lock()
+		defer its.book.lock.Unlock()
+		return len(its.book.waiting) >= count
+	})
+}
+
+// soon returns once something holds.
+func (its *crowd) soon(holds func() bool) {
+	its.Helper()
+	until := time.Now().Add(10 * time.Second)
+	for !holds() {
+		if time.Now().After(until) {
+			its.Fatal("it hangs")
+		}
+		time.Sleep(time.Millisecond)
+	}
+}
+
+// together has everybody wait behind one who looks, who is let go then; and returns once all are
+// answered.
+func (its *crowd) together(asks ...func()) {
+	its.Helper()
+	looks, let := make(chan bool), make(chan bool)
+	go its.book.View(func() {
+		looks <- true
+		<-let
+		if its.breaks != nil {
+			its.breaks()
+		}
+	})
+	<-looks
+	for _, ask := range asks {
+		its.come(ask)
+	}
+	let <- true
+	done := make(chan bool)
+	go func() {
+		its.all.Wait()
+		close(done)
+	}()
+	its.ends(done)
+}
+
+// ends returns once a channel is closed.
+func (its *crowd) ends(done <-chan bool) {
+	its.Helper()
+	select {
+	case <-done:
+	case <-time.After(10 * time.Second):
+		its.Fatal("it hangs")
+	}
+}
+
+// within has a function return soon.
+func (its *crowd) within(do func()) {
+	its.Helper()
+	done := make(chan bool)
+	go func() {
+		defer close(done)
+		do()
+	}()
+	its.ends(done)
+}
+
+func TestAPanicOfAViewIsItsCallersAlone(test *testing.T) {
+	its := begin(test)
+	book := its.must()
+	// The one who looks leads, or somebody else does who asks, or who looks.
+	for leader := 0; leader < 3; leader++ {
+		crowd := &crowd{T: test, book: book}
+		var first, last Answer
+		looked := false
+		asks := []func(){
+			func() { book.View(func() { panic("of a view") }) },
+			func() { first = ask(book, up(1, "")) },
+			func() { book.View(func() { looked = true }) },
+		}
+		asks = append(asks[leader:], asks[:leader]...)
+		asks = append(asks, func() { last = ask(book, up(2, "")) })
+		before := book.Stats().Entries
+		crowd.together(asks...)
+		for number, caught := range crowd.caught {
+			isIts := number == (3-leader)%3
+			same(test, "it panics", caught != nil, isIts)
+			if caught != nil {
+				same(test, "what it panics with", caught, "panic: of a view")
+			}
+		}
+		same(test, "the first answer", string(first.Line), entry(before, 1))
+		same(test, "the last answer", string(last.Line), entry(before+1, 2))
+		same(test, "another looks", looked, true)
+	}
+	same(test, "the book goes on", book.Stop(), nil)
+	crowd := &crowd{T: test, book: book}
+	crowd.within(func() { same(test, "its end", book.Close(), nil) })
+}
+
+func TestAPanicOfTheGuardEndsTheBook(test *testing.T) {
+	its := begin(test)
+	book := its.mustPanicky()
+	ask(book, up(1, ""))
+	crowd := &crowd{T: test, book: book}
+	answers := make([]Answer, 3)
+	looked := false
+	crowd.together(
+		func() { answers[0] = ask(book, up(2, "k")) },
+		func() { answers[1] = ask(book, up(13, "")) },
+		func() { book.View(func() { looked = true }) },
+		func() { answers[2] = ask(book, up(3, "")) },
+	)
+	for number, answer := range answers {
+		same(test, fmt.Sprint("answer ", number), answer.Err, "panic: thirteen")
+		same(test, "its line", len(answer.Line), 0)
+	}
+	same(test, "nobody panics", crowd.caught, []any{nil, nil, nil, nil})
+	same(test, "nobody looks at what isn't on the disk", looked, false)
+	crowd.within(func() { <-book.Stopped() })
+	same(test, "why it stops", book.Stop(), "panic: thirteen")
+	same(test, "the audit", its.read(its.path), Header+entry(0, 1))
+	same(test, "a later act", ask(book, up(4, "")).Err, "panic: thirteen")
+	crowd.within(func() { _ = book.Close() })
+	book = its.must()
+	same(test, "the key isn't known", string(ask(book, up(2, "k")).Line), entry(1, 2))
+	_ = book.Close()
+}
+
+func TestAPanicOfTheBookEndsIt(test *testing.T) {
+	its := begin(test)
+	book := its.must()
+	ask(book, up(1, ""))
+	kept := book.events
+	crowd := &crowd{T: test, book: book, breaks: func() { book.events = nil }}
+	answers := make([]Answer, 2)
+	crowd.together(
+		func() { answers[0] = ask(book, up(2, "")) },
+		func() { answers[1] = ask(book, up(3, "")) },
+	)
+	for _, answer := range answers {
+		is := answer.Err != nil && strings.HasPrefix(answer.Err.Error(), "panic: runtime error")
+		same(test, "a panic is the answer", is, true)
+	}
+	same(test, "the audit", its.read(its.path), Header+entry(0, 1))
+	book.alone(func(error) { book.events = kept })
+	crowd.within(func() { _ = book.Close() })
+	same(test, "why it stops", book.Stop(), answers[0].Err)
+}
+
+func TestAPanicOfTheTimesEndsTheBook(test *testing.T) {
+	its := begin(test)
+	book := its.must()
+	kept := book.events
+	book.alone(func(error) {
+		book.events = nil
+		_ = book.flush()
+	})
+	crowd := &crowd{T: test, book: book}
+	crowd.within(func() { <-book.Stopped() })
+	is := strings.HasPrefix(book.Stop().Error(), "panic: runtime error")
+	same(test, "a panic is why", is, true)
+	book.alone(func(error) { book.events = kept })
+	crowd.within(func() { _ = book.Close() })
+}
+
+func TestNobodyLooksAtWhatIsntOnTheDisk(test *testing.T) {
+	its := begin(test)
+	book := its.must()
+	audit, err := os.Open(its.path) // It can't be written to.
+	if err != nil {
+		test.Fatal(err)
+	}
+	_ = book.audit.Close()
+	book.audit = audit
+	ask(book, up(2, ""))
+	looked := false
+	err = book.View(func() { looked = true })
+	same(test, "the view", fmt.Sprint(looked, err), fmt.Sprint(false, book.Stop()))
+	_, _, err = book.Drawn()
+	same(test, "what is drawn", err, book.Stop())
+	_ = book.Close()
+	book = its.must()
+	_ = book.Close()
+	same(test, "the view of a closed book", book.View(func() { looked = true }), nil)
+	same(test, "is looked at", looked, true)
+}
+
+func TestAnEntryIsNoLongerThanIsRead(test *testing.T) {
+	its := begin(test)
+	book := its.must()
+	const shell = `{"by":0,"act":{"begin":{"payload":"","team":0}}}`
+	begins := func(length int) string {
+		payload := strings.Repeat("0", length-len(shell))
+		return strings.Replace(shell, `""`, `"`+payload+`"`, 1)
+	}
+	longest := mostLine - mostReply
+	blanks := strings.Repeat(" ", mostLine-1-longest)
+	for _, row := range []struct {
+		line   string
+		wanted error
+	}{
+		{begins(mostLine - 1), TooLong},
+		{begins(longest + 1), TooLong},
+		{begins(longest+1) + blanks[1:], TooLong},
+		{begins(longest), nil},
+		{strings.Repeat("x", mostLine-1), Syntax},
+		{strings.Repeat("x", mostLine), TooLong},
+	} {
+		name := fmt.Sprintf("%.40s, of %d bytes", row.line, len(row.line))
+		same(test, name, ask(book, row.line).Err, row.wanted)
+	}
+	for _, line := range strings.SplitAfter(its.read(its.path), "\n") {
+		same(test, "its length", len(line) <= mostLine, true)
+	}
+	_ = book.Close()
+	for _, line := range []string{begins(longest) + blanks, blanks + begins(longest)} {
+		same(test, "blanks are in no entry", fits([]byte(line)), true)
+	}
+}
+
+func TestAnAuditGrowsNoLongerThanIsRead(test *testing.T) {
+	its := begin(test)
+	book := its.must()
+	// The file gets a hole, so it takes no room.
+	book.length = mostAudit - mostLine - int64(len(entry(0, 1)))
+	turn := NewTurn()
+	for process := 1; process < 4; process++ {
+		turn.Asks = append(turn.Asks, Ask{Line: []byte(up(process, ""))})
+	}
+	book.Submit(turn)
+	same(test, "the first", turn.Answers[0].Err, nil)
+	same(test, "the second", turn.Answers[1].Err, nil)
+	same(test, "the third", turn.Answers[2].Err, JournalFull)
+	same(test, "later ones", ask(book, up(1, "")).Err, JournalFull)
+	book.alone(func(error) { book.length = mostAudit - mostLine + 1 })
+	same(test, "a byte too few", ask(book, up(1, "")).Err, JournalFull)
+	same(test, "the entries", book.Stats().Entries, 2)
+	same(test, "and the book goes on", book.Stop(), nil)
+	info, _ := os.Stat(its.path)
+	same(test, "it can be read again", info.Size() <= mostAudit, true)
+	_ = book.Close()
 }

@@ -6,6 +6,7 @@ import (
 	"encoding/json"
 	"fmt"
 	"io"
+	"io/fs"
 	"os"
 	"strconv"
 	"time"
@@ -32,8 +33,9 @@ type events struct {
 	keyed  bool // a key is in the buffer
 }
 
-// openEvents reads the file beside an audit of so many entries, and cuts what goes beyond them.
-func openEvents(path string, count int) (*events, error) {
+// openEvents reads the file beside an audit of so many entries and this mode, and cuts what goes
+// beyond them. One that is begun has the mode of the audit.
+func openEvents(path string, count int, mode fs.FileMode) (*events, error) {
 	file, err := openFile(path, 0)
 	if err != nil {
 		return nil, err
@@ -45,6 +47,9 @@ func openEvents(path string, count int) (*events, error) {
 	}
 	if err == nil {
 		err = cut(file, whole)
+	}
+	if err == nil && whole == 0 {
+		err = file.Chmod(mode)
 	}
 	if err == nil && whole == 0 {
 		its.begin()

@@ -63,7 +63,8 @@ func Open(files Files) (*Book, error) {
 		return nil, err
 	}
 	book.stats.Entries = book.count
-	go book.keepTimes()
+	_, grown := book.Grown()
+	go book.keepTimes(grown)
 	return book, nil
 }
 
@@ -96,7 +97,11 @@ func (book *Book) goOn(files Files) error {
 	if err := book.cut(files); err != nil {
 		return fmt.Errorf("%s: %w", files.Audit, err)
 	}
-	events, err := openEvents(files.Audit+".events", book.count)
+	info, err := book.audit.Stat()
+	if err != nil {
+		return err
+	}
+	events, err := openEvents(files.Audit+".events", book.count, info.Mode().Perm())
 	if err != nil {
 		return err
 	}

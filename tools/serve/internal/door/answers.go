@@ -75,7 +75,8 @@ func (web *Web) act(writer http.ResponseWriter, request *http.Request) {
 func (web *Web) lineOf(body []byte, request *http.Request) (line []byte, status int, why string) {
 	var compact bytes.Buffer
 	var members map[string]json.RawMessage
-	if json.Compact(&compact, body) != nil || json.Unmarshal(body, &members) != nil {
+	if json.Compact(&compact, body) != nil || json.Unmarshal(body, &members) != nil ||
+		members == nil {
 		return nil, http.StatusBadRequest, faultLine(book.Syntax, 1)
 	}
 	actor, known := request.Context().Value(actorKey{}).(int)
@@ -102,7 +103,12 @@ func (web *Web) lineOf(body []byte, request *http.Request) (line []byte, status 
 
 // status answers who is up, down, destroyed and gone.
 func (web *Web) status(writer http.ResponseWriter, _ *http.Request) {
-	writeJSON(writer, http.StatusOK, web.state())
+	state, err := web.state()
+	if err != nil {
+		failOf(writer, err)
+		return
+	}
+	writeJSON(writer, http.StatusOK, state)
 }
 
 // state is what the page shows of the processes.
@@ -113,15 +119,15 @@ type state struct {
 }
 
 // state is the state that is on the disk.
-func (web *Web) state() state {
+func (web *Web) state() (state, error) {
 	its := state{Version: web.Version, Processes: append([]cluster.Process{}, web.Processes...)}
-	web.Book.View(func() {
+	err := web.Book.View(func() {
 		its.Entries = web.Book.Stats().Entries
 		for number := range its.Processes {
 			its.Processes[number].State = web.Guard.State(number)
 		}
 	})
-	return its
+	return its, err
 }
 
 // audit answers the audit, or its entries from one on.
@@ -157,7 +163,7 @@ func (web *Web) entries(writer http.ResponseWriter, request *http.Request, from 
 	for at, count := from, web.Book.Stats().Entries; at < count; at++ {
 		line, err := web.Book.Entry(at)
 		if err != nil {
-			return
+			panic(http.ErrAbortHandler) // So that nobody takes it for all.
 		}
 		if at%256 == 0 {
 			patience(request, answerSeconds)
@@ -174,7 +180,7 @@ func (web *Web) targets(writer http.ResponseWriter, request *http.Request) {
 	key, value := query.Get("key"), query.Get("value")
 	found := []map[string]any{}
 	var err error
-	web.Book.View(func() {
+	stop := web.Book.View(func() {
 		var numbers []int
 		numbers, err = web.Guard.Targets(key, value)
 		for _, number := range numbers {
@@ -182,6 +188,10 @@ func (web *Web) targets(writer http.ResponseWriter, request *http.Request) {
 			found = append(found, map[string]any{"number": number, "processid": its.Name})
 		}
 	})
+	if stop != nil {
+		failOf(writer, stop)
+		return
+	}
 	if err != nil {
 		fail(writer, http.StatusBadRequest, err.Error())
 		return
@@ -211,7 +221,14 @@ func (web *Web) events(writer http.ResponseWriter, request *http.Request) {
 		return
 	}
 	writer.Header().Set("Content-Type", "text/event-stream")
+	writer.WriteHeader(http.StatusOK)
+	if request.Method == http.MethodHead {
+		return
+	}
 	staysOpen(request)
+	// So that a client that is gone is seen.
+	still := time.NewTicker(idleSeconds / 4)
+	defer still.Stop()
 	for {
 		stats, grown := web.Book.Grown()
 		patience(request, answerSeconds)
@@ -231,8 +248,7 @@ func (web *Web) events(writer http.ResponseWriter, request *http.Request) {
 			return
 		case <-web.Book.Stopped():
 			return
-		case <-time.After(idleSeconds / 4):
-			// So that a client that is gone is seen.
+		case <-still.C:
 			if _, err := io.WriteString(writer, ": still here\n\n"); err != nil {
 				return
 			}

@@ -27,9 +27,17 @@ import (
 )
 
 // guard is the guard of a test: a scribe, of two processes that nothing ever strikes.
-type guard struct{ scribe.Scribe }
+type guard struct {
+	scribe.Scribe
+	failed error // what each act ends in, if anything
+	blind  error // what each look at an entry ends in, if anything
+	broken any   // what each look at a process panics with, if anything
+}
 
 func (its *guard) Act(line []byte) ([]byte, error) {
+	if its.failed != nil {
+		return nil, its.failed
+	}
 	entry, fault := its.Scribe.Act(line)
 	if fault != "" {
 		return nil, book.Fault(fault)
@@ -39,7 +47,19 @@ func (its *guard) Act(line []byte) ([]byte, error) {
 
 func (its *guard) ProcessCount() int { return 2 }
 
-func (its *guard) State(int) cluster.State { return cluster.State{Up: true} }
+func (its *guard) Entry(at int) ([]byte, error) {
+	if its.blind != nil {
+		return nil, its.blind
+	}
+	return its.Scribe.Entry(at)
+}
+
+func (its *guard) State(int) cluster.State {
+	if its.broken != nil {
+		panic(its.broken)
+	}
+	return cluster.State{Up: true}
+}
 
 func (its *guard) Targets(key, value string) ([]int, error) {
 	first, known := map[string]string{"processid": "p", "machineid": "m", "zoneid": "z"}[key]
@@ -55,7 +75,7 @@ func (its *guard) Targets(key, value string) ([]int, error) {
 
 // begin is a web over a new book, which has room for so many entries.
 func begin(test *testing.T, most int) *Web {
-	its := &guard{scribe.Scribe{Most: most}}
+	its := &guard{Scribe: scribe.Scribe{Most: most}}
 	path := filepath.Join(test.TempDir(), "audit")
 	kept, err := book.Open(book.Files{
 		Audit: path,
@@ -69,7 +89,7 @@ func begin(test *testing.T, most int) *Web {
 	config := []byte(`p0 m0 z0, p1 m1 z1`)
 	return &Web{
 		Book: kept, Guard: its, Processes: cluster.Processes(config, its), Version: "1.2.3",
-		Lines: &Lines{Book: kept, Most: 8}, Most: 8,
+		Lines: &Lines{Book: kept, Most: 8}, Most: 8, Say: func(what string) { test.Error(what) },
 	}
 }
 
@@ -269,6 +289,12 @@ func apiCases(test *testing.T) map[string][]*httptest.ResponseRecorder {
 	add(web, up, "POST /v1/acts")
 	add(web, "", "GET /v1/events")
 	add(web, "", "GET /healthz")
+	web = begin(test, 2)
+	web.Guard.(*guard).failed = errors.New("the disk is full")
+	add(web, up, "POST /v1/acts")
+	for _, path := range []string{"/v1/status", "/v1/targets?key=processid&value=p1", "/metrics"} {
+		add(web, "", "GET "+path)
+	}
 	return told
 }
 
@@ -342,6 +368,9 @@ func TestNobodyOrdersWithoutATokenOfItsActor(test *testing.T) {
 		{`{"act":{"up":{"process":0}}}`, "Authorization: bearer one-one-one-one-one", 200},
 		{up, two, 403},
 		{strings.Replace(up, "1", "1.0", 1), one, 403},
+		{"null", one, 400},
+		{"[]", one, 400},
+		{"", one, 400},
 		{up, read, 403},
 		{up, "X: y", 401},
 		{up, "Authorization: Bearer ", 401},
@@ -753,6 +782,9 @@ func TestOneIsAloneAndThenBesideOthers(test *testing.T) {
 		for number := 0; number < round; number++ {
 			_, _ = io.WriteString(one, up+"\n")
 			hears(its)
+			if number%8 == 7 {
+				time.Sleep(time.Millisecond) // Longer than the loop spins.
+			}
 		}
 		_, _ = io.WriteString(one, up[:round%len(up)])
 		other, others := come()
@@ -847,5 +879,142 @@ func TestTheMetricsAreThePrometheusFormat(test *testing.T) {
 		"faultyard_sync_seconds_count 1\n",
 	} {
 		same(test, wanted, bytes.Contains(text, []byte(wanted)), true)
+	}
+}
+
+// soon says whether something holds soon.
+func soon(holds func() bool) bool {
+	for until := time.Now().Add(10 * time.Second); time.Now().Before(until); {
+		if holds() {
+			return true
+		}
+		time.Sleep(time.Millisecond)
+	}
+	return false
+}
+
+func TestAPanicOfAHandlerIsToldAndEndsNobodyElse(test *testing.T) {
+	web := begin(test, 100)
+	its := web.Guard.(*guard)
+	var said []string
+	web.Say = func(what string) { said = append(said, what) }
+	its.broken = "it breaks"
+	answer := ask(web, "", "GET /v1/status")
+	same(test, "the status", answer.Code, 500)
+	same(test, "the answer", answer.Body, "{\"error\":\"the server is at fault\"}\n")
+	first, where, _ := strings.Cut(strings.Join(said, ""), "\n")
+	same(test, "what is said", first, "GET /v1/status: panic: it breaks")
+	same(test, "where", strings.Contains(where, "door.(*guard).State("), true)
+	its.broken = nil
+	same(test, "an act", ask(web, up, "POST /v1/acts").Code, 200)
+	same(test, "then", ask(web, "", "GET /v1/status").Code, 200)
+	told := ask(web, "", "GET /metrics").Body.String()
+	const counted = `faultyard_http_requests_total{status="500"} 1`
+	same(test, "it is counted", strings.Contains(told, counted), true)
+}
+
+func TestAnAnswerThatIsCutOffIsSeenToBe(test *testing.T) {
+	web := begin(test, 100)
+	server := httptest.NewServer(web)
+	defer server.Close()
+	for number := 0; number < 3; number++ {
+		ask(web, up, "POST /v1/acts")
+	}
+	web.Guard.(*guard).blind = errors.New("no memory")
+	answer, err := http.Get(server.URL + "/v1/audit?from=1")
+	if err == nil {
+		_, err = io.ReadAll(answer.Body)
+		_ = answer.Body.Close()
+	}
+	same(test, "there is an error", err != nil, true)
+}
+
+// TestOneWhoseEntriesCantBeReadIsLetGo has a client that is told entries, of which one can't be read.
+func TestOneWhoseEntriesCantBeReadIsLetGo(test *testing.T) {
+	web := begin(test, 100)
+	ask(web, up, "POST /v1/acts")
+	ask(web, up, "POST /v1/acts")
+	web.Guard.(*guard).blind = errors.New("no memory")
+	done := make(chan string)
+	go func() { done <- talk(test, web, "{\"from\":0}\n") }()
+	select {
+	case told := <-done:
+		same(test, "what is told", told, book.Header+"{\"from\":0,\"to\":2}\n")
+	case <-time.After(10 * time.Second):
+		test.Fatal("it hangs")
+	}
+	same(test, "nobody is connected", soon(func() bool { return web.Lines.Count() == 0 }), true)
+}
+
+func TestOneWhoAsksOnlyForTheHeadOfEventsIsAnswered(test *testing.T) {
+	web := begin(test, 100)
+	server := httptest.NewServer(web)
+	defer server.Close()
+	client := http.Client{Timeout: 10 * time.Second}
+	for number := 0; number < 2; number++ {
+		answer, err := client.Head(server.URL + "/v1/events")
+		if err != nil {
+			test.Fatal(err)
+		}
+		same(test, "its type", answer.Header.Get("Content-Type"), "text/event-stream")
+	}
+	ended := func() bool {
+		return strings.Contains(ask(web, "", "GET /metrics").Body.String(),
+			`faultyard_http_requests_total{status="200"} 2`)
+	}
+	same(test, "both are over", ended() || soon(ended), true)
+}
+
+func TestOneWhoIsGoneWaitsForNoPicture(test *testing.T) {
+	web := begin(test, 100)
+	mark := filepath.Join(test.TempDir(), "mark")
+	web.Program = script(test, "echo > "+mark+"; while [ -e "+mark+" ]; do sleep 0.01; done; echo x")
+	server := httptest.NewServer(web)
+	defer server.Close()
+	patient := make(chan int)
+	come := func() {
+		answer, err := http.Get(server.URL + "/picture.svg")
+		if err != nil {
+			test.Error(err)
+			patient <- 0
+			return
+		}
+		patient <- answer.StatusCode
+	}
+	go come()
+	drawing := func() bool {
+		_, err := os.Stat(mark)
+		return err == nil
+	}
+	same(test, "it is drawn", soon(drawing), true)
+	go come()
+	client := http.Client{Timeout: 100 * time.Millisecond}
+	for number := 0; number < 3; number++ {
+		if _, err := client.Get(server.URL + "/picture.svg"); err == nil {
+			test.Error("it is answered")
+		}
+	}
+	gone := func() bool {
+		var count uint64
+		web.requests.each(func(_ int, its uint64) { count += its })
+		return count == 3
+	}
+	same(test, "those who are gone wait no longer", soon(gone), true)
+	_ = os.Remove(mark)
+	same(test, "the first", <-patient, 200)
+	same(test, "the second", <-patient, 200)
+}
+
+func TestAProgramThatHangsIsEndedWithWhatItStarted(test *testing.T) {
+	web := begin(test, 100)
+	web.Program = script(test, "sleep 1000 & sleep 1000")
+	web.Program.Patience = 50 * time.Millisecond
+	done := make(chan int)
+	go func() { done <- ask(web, "", "GET /v1/bears").Code }()
+	select {
+	case status := <-done:
+		same(test, "the status", status, 503)
+	case <-time.After(10 * time.Second):
+		test.Fatal("it hangs")
 	}
 }

@@ -5,6 +5,7 @@ import (
 	"errors"
 	"fmt"
 	"net"
+	"runtime"
 	"sync"
 	"syscall"
 	"time"
@@ -32,6 +33,11 @@ const (
 	// aloneFor is how long the loop waits for a client who is alone, in microseconds. The system
 	// makes a few milliseconds of it.
 	aloneFor = 1000
+	// spinFor is how long the loop looks for what such a client says next before it sleeps: longer
+	// than one takes that asks as soon as it is answered.
+	spinFor = 50 * time.Microsecond
+	// looksATime is how many looks at a socket there are to one at the clock.
+	looksATime = 16
 )
 
 // tooLong is a line that the guard finds too long. It stands for one that isn't held.
@@ -50,7 +56,9 @@ type loop struct {
 	// the last batch served.
 	again, ready []*client
 	lastReady    int
-	party        *book.Party
+	// isQuick is: the client who is alone spoke within spinFor.
+	isQuick bool
+	party   *book.Party
 	// looked and served are lists that are used again.
 	looked, served []*client
 	waste          [firstInput]byte // for what is received a second time
@@ -152,18 +160,14 @@ func (its *loop) run() error {
 	}
 }
 
-// hear waits a moment for a client who is alone, in the call that receives, and says whether it spoke:
-// that is a call less than by epoll. Others who come meanwhile are served behind that moment.
-//
-// The call only peeks. A client that waits in a read is woken when what it sent is taken off the
-// socket, and would sleep again before its answer wakes it. So that is done behind the answer.
+// hear waits a moment for a client who is alone, and says whether it spoke. Others who come meanwhile
+// are served behind that moment.
 func (its *loop) hear() bool {
 	client := its.alone()
 	if client == nil || client.isFull || !client.canBeHeard {
 		return false
 	}
-	client.held = client.fill(syscall.MSG_PEEK)
-	if client.held == 0 && !client.ends && client.failed == nil {
+	if !its.spin(client) && !its.sleep(client) {
 		return false
 	}
 	its.look(client)
@@ -172,6 +176,36 @@ func (its *loop) hear() bool {
 	}
 	return true
 }
+
+// spin looks again and again for what a quick client says next: to sleep and be woken takes as long as
+// all else of a round trip. Where there is one processor, the client would wait for it.
+func (its *loop) spin(client *client) bool {
+	if !its.isQuick || runtime.NumCPU() == 1 {
+		return false
+	}
+	for until := time.Now().Add(spinFor); time.Now().Before(until); {
+		for look := 0; look < looksATime; look++ {
+			if client.fill(atOnce) > 0 || client.isOver() {
+				return true
+			}
+		}
+	}
+	return false
+}
+
+// sleep waits in the call that receives, which is a call less than by epoll.
+//
+// The call only peeks. A client that waits in a read is woken when what it sent is taken off the
+// socket, and would sleep again before its answer wakes it. So that is done behind the answer.
+func (its *loop) sleep(client *client) bool {
+	began := time.Now()
+	client.held = client.fill(syscall.MSG_PEEK)
+	its.isQuick = time.Since(began) < spinFor
+	return client.held > 0 || client.isOver()
+}
+
+// isOver says whether a client says no more.
+func (its *client) isOver() bool { return its.ends || its.failed != nil }
 
 // alone is the client where nobody else is connected.
 func (its *loop) alone() *client {
@@ -233,10 +267,10 @@ func (its *loop) look(client *client) {
 	if client.isReady || client.isFull {
 		return
 	}
-	if client.next < client.to || client.failed == nil && client.take() {
+	if client.failed == nil && (client.next < client.to || client.take()) {
 		client.isReady = true
 		its.ready = append(its.ready, client)
-	} else if client.ends || client.failed != nil {
+	} else if client.isOver() {
 		its.remove(client)
 	}
 }
@@ -339,7 +373,7 @@ func (its *loop) finish(client *client) {
 
 // isBusy says whether there is something to do for a client before it says more.
 func (its *client) isBusy() bool {
-	return its.ends || its.failed != nil || its.next < its.to ||
+	return its.isOver() || its.next < its.to ||
 		bytes.IndexByte(its.input[its.from:], '\n') >= 0
 }
 

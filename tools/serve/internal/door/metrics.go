@@ -58,7 +58,12 @@ func (web *Web) metrics(writer http.ResponseWriter, _ *http.Request) {
 		fmt.Fprintf(&text, "# HELP faultyard_%s %s\n", name, help)
 		fmt.Fprintf(&text, "# TYPE faultyard_%s %s\n", name, kind)
 	}
-	its, stats := web.state(), web.Book.Stats()
+	its, err := web.state()
+	if err != nil {
+		failOf(writer, err)
+		return
+	}
+	stats := web.Book.Stats()
 	metric("entries", "gauge", "Entries of the audit.")
 	fmt.Fprintf(&text, "faultyard_entries %d\n", its.Entries)
 	metric("acts_total", "counter", "Acts that were asked for, by what came of them.")

@@ -13,6 +13,7 @@ import (
 	"time"
 
 	"faultyard-serve/internal/book"
+	"faultyard-serve/internal/panics"
 )
 
 // acceptPause is how long nobody is let in once a descriptor is lacking.
@@ -61,7 +62,7 @@ func (lines *Lines) Serve(listener net.Listener) error {
 	}
 	failed := make(chan error, 1)
 	go func() {
-		failed <- its.run()
+		failed <- panics.Caught(its.run)
 		_ = listener.Close()
 	}()
 	for {

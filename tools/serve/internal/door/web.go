@@ -4,6 +4,7 @@ import (
 	"context"
 	"crypto/tls"
 	"encoding/json"
+	"fmt"
 	"log"
 	"net"
 	"net/http"
@@ -13,6 +14,7 @@ import (
 
 	"faultyard-serve/internal/book"
 	"faultyard-serve/internal/cluster"
+	"faultyard-serve/internal/panics"
 )
 
 // The limits of what a client of the network may take.
@@ -38,7 +40,9 @@ type Web struct {
 	// Lines is the other door, whose clients are counted too.
 	Lines *Lines
 	// Most is how many may be connected at once.
-	Most     int32
+	Most int32
+	// Say tells what went wrong in the server itself.
+	Say      func(what string)
 	count    atomic.Int32
 	requests requests
 	pictures cache
@@ -139,6 +143,11 @@ func (its *counted) Close() error {
 func (web *Web) ServeHTTP(writer http.ResponseWriter, request *http.Request) {
 	its := &told{ResponseWriter: writer, status: http.StatusOK}
 	defer func() { web.requests.add(its.status) }()
+	defer func() {
+		if why := recover(); why != nil {
+			web.breaks(its, request, why)
+		}
+	}()
 	patience(request, answerSeconds)
 	header := its.Header()
 	header.Set("Cache-Control", "no-store")
@@ -150,16 +159,40 @@ func (web *Web) ServeHTTP(writer http.ResponseWriter, request *http.Request) {
 	web.dispatch(its, request)
 }
 
-// told remembers the status of an answer.
+// breaks tells of a panic, and answers it. Whoever has got a part of an answer sees that the rest is
+// missing.
+func (web *Web) breaks(its *told, request *http.Request, why any) {
+	isTold := its.isTold
+	its.status = http.StatusInternalServerError
+	if why == http.ErrAbortHandler {
+		panic(why)
+	}
+	broken := panics.Of(why)
+	web.Say(fmt.Sprintf("%s %s: %v\n%s", request.Method, request.URL.Path, broken, broken.Where))
+	if isTold {
+		panic(http.ErrAbortHandler)
+	}
+	its.Header().Del("Content-Length")
+	fail(its, http.StatusInternalServerError, "the server is at fault")
+}
+
+// told remembers the status of an answer, and whether any of it was sent.
 type told struct {
 	http.ResponseWriter
 	status int
+	isTold bool
 }
 
 // WriteHeader sends the status.
 func (its *told) WriteHeader(status int) {
-	its.status = status
+	its.status, its.isTold = status, true
 	its.ResponseWriter.WriteHeader(status)
+}
+
+// Write sends a part of the answer.
+func (its *told) Write(text []byte) (int, error) {
+	its.isTold = true
+	return its.ResponseWriter.Write(text)
 }
 
 // dispatch finds the route of a request, and who asks.

@@ -7,8 +7,8 @@ use Rattle.fy_cluster.specs.Execution.{history_of}
 use Rattle.fy_cluster.specs.History.{History, destroyed, gone, left}
 use Rattle.fy_cluster.specs.Setup.{Setup}
 use Rattle.fy_cluster.specs.Survival.{IsSafeAfter}
+use Rattle.fy_cluster.proofs.Gone.{gone_are_destroyed, left_of_gone}
 use Rattle.fy_tolerance.specs.Bears.{HasLost, IsAfterLosses}
-use Rattle.fy_c.proofs.Lost.{gone_are_destroyed, left_of_gone}
 use Rattle.fy_c.proofs.bearing.book_in.Goals as goal
 
 pub returns-in-Ok : goal.returns-in-Ok

@@ -1,9 +1,10 @@
 use Rattle.std.proofs.Common.{◌≡◌, ◌<◌, ◌∷◌, ◌++◌, length, [], take, get_or, refl, sym, ◌∙◌, ap, subst, rules}
 use Rattle.std.specs.Prelude.{List, Option, is_some, IfSome}
 use Rattle.fy_replay.specs.Check.{IsFirstBad}
+use Rattle.fy_replay.proofs.Nexts.{place_is}
 use Rattle.fy_check_by_rules.specs.declared.step.FoundStep.{FoundStep}
 use Rattle.fy_check_by_rules.specs.Steps.{AreStepsOf}
-use Rattle.fy_check_by_rules.proofs.Nexts.{place_is, first_bad}
+use Rattle.fy_check_by_rules.proofs.Nexts.{first_bad}
 use Rattle.fy_check_by_rules.proofs.Following.{none_yet, one_further}
 use Rattle.fy_check_by_rules.proofs.checking.check.Goals as goal
 

@@ -6,5 +6,5 @@ use Rattle.fy_decide.proofs.verdict.judge_process.Goals as goal
 pub returns : goal.returns
 returns c = λ order kind_is floor_is named.
     c.verdict.ensures order kind_is floor_is (λ p.
-    c.aimed_at_process.ensures.those order.target.value named.name p
+    c.process_targets.ensures.those order.target.value named.name p
     ∙ ap (λ key. targets c.args.dead.now.processes (sets.contains c.args.dead.now.left) (record { key = key; value = order.target.value }) p) (sym named.key))

@@ -6,5 +6,5 @@ use Rattle.fy_picture.proofs.killable.count_killable.Given as goal
 
 abbrev pub invariant-loop-p : goal.invariant-loop-p
 invariant-loop-p l =
-    (l.count ≡ length (filter (is_killable l.map l.policy (sets.contains l.states.destroyed) (sets.contains l.states.left)) (range_with_len 0 l.p)))
+    (l.count ≡ length (filter (is_killable l.destroyed.processes l.destroyed.policy (sets.contains l.destroyed.set) (sets.contains l.left.set)) (range_with_len 0 l.p)))
     × (l.count ≤ l.p)

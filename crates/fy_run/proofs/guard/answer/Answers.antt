@@ -4,8 +4,8 @@ use Rattle.fy_lines.specs.Prefixes.{AppendsProperPrefix}
 use Rattle.fy_audit.specs.AuditText.{entry_line}
 use Rattle.std.proofs.lemmas.Result.{err_from_is_err_and}
 use Rattle.fy_cluster.specs.Execution.{entered, next_entry}
-use Rattle.fy_run.proofs.Guarding.{no_entry}
-use Rattle.fy_run.specs.GuardTexts.{NoAnswer, entry_of}
+use Rattle.fy_run.proofs.Guarding.{entry_of, no_entry}
+use Rattle.fy_run.specs.GuardTexts.{NoAnswer}
 use Rattle.fy_run.proofs.guard.answer.Goals as goal
 
 pub returns-in_err-entry-clause-err : goal.returns-in_err-entry-clause-err

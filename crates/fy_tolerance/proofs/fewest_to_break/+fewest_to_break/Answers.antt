@@ -7,13 +7,16 @@ use Rattle.fy_policy.specs.Counted.{number_of}
 use Rattle.fy_policy.specs.Sat.{group, outside, satisfies}
 use Rattle.fy_policy.specs.Shape.{tree_of}
 use Rattle.fy_policy.specs.Tree.{Tree, across, IsWellFormed}
+use Rattle.fy_policy.proofs.Walk.{no_least}
+use Rattle.fy_policy.proofs.Shapes.{all_pass}
 use Rattle.fy_tolerance.specs.Costs.{AreSized, IsBreaking, IsLeastOf, IsSized, IsTaken, LacksAtLeast}
+use Rattle.fy_tolerance.specs.Taken.{HasTaken}
 use Rattle.fy_tolerance.specs.declared.parts.Part.{Part}
 use Rattle.fy_tolerance.proofs.Breaking.{BrokenSoFar, broken-begins, broken-ends, broken-goes-on, broken-skips, one-broken}
 use Rattle.fy_tolerance.proofs.Lacking.{LackSoFar, lack-begins, lack-goes-on, lack-skips, lack-ends, one-gone}
-use Rattle.fy_tolerance.proofs.Shapes.{inner_counted, part_is_counted', part_passes, all_pass}
+use Rattle.fy_tolerance.proofs.Shapes.{inner_counted, part_is_counted', part_passes}
 use Rattle.fy_tolerance.proofs.Taking.{all_with}
-use Rattle.fy_tolerance.proofs.Values.{fewer-dropped, fewer-members, few_present, contains-members, contains-others, dropped-others, dropped-itself, no_least, empty_has, present}
+use Rattle.fy_tolerance.proofs.Values.{fewer-dropped, fewer-taken, few_present, dropped-others, dropped-itself, empty_has, present}
 use Rattle.fy_tolerance.proofs.fewest_to_break.+fewest_to_break.Goals as goal
 
 pub loop-p-init : goal.loop-p-init
@@ -31,20 +34,20 @@ loop-p-init t c = record {
     begins : (n : ℕ) → n ≤ 1024 → 0 + n ≤ 1024
     begins n h = omega arith
 
-pub loop-p-smaller-in_default-peers : goal.loop-p-smaller-in_default-peers
-loop-p-smaller-in_default-peers t c = fewer-dropped c.loop-p.rest _ c.in-Some.p.0 c.drop_one.ensures c.in-Some.ensures.some.present c.in-Some.ensures.small
+pub loop-p-smaller-in_default-take_value : goal.loop-p-smaller-in_default-take_value
+loop-p-smaller-in_default-take_value t c = fewer-dropped c.loop-p.rest _ c.in-Some.p.0 c.in_default-take_value.ensures.none.left c.in-Some.ensures.some.present c.in-Some.ensures.small
 
-pub loop-p-preserved-in_default-peers : goal.loop-p-preserved-in_default-peers
-loop-p-preserved-in_default-peers t c = record {
+pub loop-p-preserved-in_default-take_value : goal.loop-p-preserved-in_default-take_value
+loop-p-preserved-in_default-take_value t c = record {
   least = λ counted s level within.
-      lack-skips c.args.map.now c.in-Across.key (tree_of c.in-Across.inner.value) c.keyless_pass_nothing.ensures (sets.contains c.loop-p.rest) _ c.in-Some.p.0 c.in_default-peers.ensures.none
-      (dropped-others c.loop-p.rest _ c.in-Some.p.0 c.drop_one.ensures) (dropped-itself c.loop-p.rest _ c.in-Some.p.0 c.drop_one.ensures)
+      lack-skips c.args.map.now c.in-Across.key (tree_of c.in-Across.inner.value) c.keyless_pass_nothing.ensures (sets.contains c.loop-p.rest) _ c.in-Some.p.0 c.in_default-take_value.ensures.none.none
+      (dropped-others c.loop-p.rest _ c.in-Some.p.0 c.in_default-take_value.ensures.none.left) (dropped-itself c.loop-p.rest _ c.in-Some.p.0 c.in_default-take_value.ensures.none.left)
       c.loop-p.values.items (sets.contains c.args.group.now) s level (c.loop-p.invariant.least counted s level within);
-  few = no_more _ _ _ (fewer-dropped c.loop-p.rest _ c.in-Some.p.0 c.drop_one.ensures c.in-Some.ensures.some.present c.in-Some.ensures.small) c.loop-p.invariant.few;
+  few = no_more _ _ _ (fewer-dropped c.loop-p.rest _ c.in-Some.p.0 c.in_default-take_value.ensures.none.left c.in-Some.ensures.some.present c.in-Some.ensures.small) c.loop-p.invariant.few;
   sized = c.loop-p.invariant.sized;
   broken = λ counted set.
-      broken-skips c.args.map.now c.in-Across.key (tree_of c.in-Across.inner.value) (sets.contains c.args.group.now) c.keyless_pass_nothing.ensures (sets.contains c.loop-p.rest) _ c.in-Some.p.0 c.in_default-peers.ensures.none
-      (dropped-others c.loop-p.rest _ c.in-Some.p.0 c.drop_one.ensures) c.loop-p.values.items set (c.loop-p.invariant.broken counted set);
+      broken-skips c.args.map.now c.in-Across.key (tree_of c.in-Across.inner.value) (sets.contains c.args.group.now) c.keyless_pass_nothing.ensures (sets.contains c.loop-p.rest) _ c.in-Some.p.0 c.in_default-take_value.ensures.none.none
+      (dropped-others c.loop-p.rest _ c.in-Some.p.0 c.in_default-take_value.ensures.none.left) c.loop-p.values.items set (c.loop-p.invariant.broken counted set);
 }
   where
     no_more : (n a b : ℕ) → a < b → n + b ≤ 1024 → n + a ≤ 1024
@@ -52,19 +55,17 @@ loop-p-preserved-in_default-peers t c = record {
 
 pub loop-p-smaller : goal.loop-p-smaller
 loop-p-smaller t c =
-    fewer-members c.args.map.now c.in-Across.key c.loop-p.rest c.in-Some-peers.peers c.intersection-with_value.result c.difference-rest.result c.in-Some.p.0 c.in-Some-peers.ensures.some.value
-    c.in-Some-peers.ensures.some.had c.in-Some-peers.ensures.some.those c.intersection-with_value.ensures c.difference-rest.ensures c.in-Some.ensures.some.present c.in-Some.ensures.small
+    fewer-taken c.args.map.now c.in-Across.key c.in-Some.p.0 c.loop-p.rest _ _ c.in-Some-take_value.ensures.some c.in-Some.ensures.some.present c.in-Some.ensures.small
 
 pub loop-p-preserved : goal.loop-p-preserved
 loop-p-preserved t c =
     let q : Tree = tree_of c.in-Across.inner.value in
-    let members : sets.FinSet nat_cmp = c.intersection-with_value.result in
-    let value : List ℕ = c.in-Some-peers.ensures.some.value in
+    let members : sets.FinSet nat_cmp = c.in-Some-take_value.with_value in
+    let value : List ℕ = c.in-Some-take_value.ensures.some.value in
     let part : Part = c.in_ok-part-in-Across.part in
-    let found : (x : ℕ) → sets.contains members x ≡ group c.args.map.now c.in-Across.key value (sets.contains c.loop-p.rest) x = contains-members c.args.map.now c.in-Across.key c.loop-p.rest c.in-Some-peers.peers members c.difference-rest.result c.in-Some.p.0 value
-    c.in-Some-peers.ensures.some.had c.in-Some-peers.ensures.some.those c.intersection-with_value.ensures c.difference-rest.ensures in
-    let left : (x : ℕ) → sets.contains c.difference-rest.result x ≡ outside c.args.map.now c.in-Across.key value (sets.contains c.loop-p.rest) x = contains-others c.args.map.now c.in-Across.key c.loop-p.rest c.in-Some-peers.peers members c.difference-rest.result c.in-Some.p.0 value
-    c.in-Some-peers.ensures.some.had c.in-Some-peers.ensures.some.those c.intersection-with_value.ensures c.difference-rest.ensures in
+    let taken : HasTaken c.args.map.now c.in-Across.key c.in-Some.p.0 c.loop-p.rest members c.take_value.new.rest = c.in-Some-take_value.ensures.some in
+    let found : (x : ℕ) → sets.contains members x ≡ group c.args.map.now c.in-Across.key value (sets.contains c.loop-p.rest) x = taken.taken in
+    let left : (x : ℕ) → sets.contains c.take_value.new.rest x ≡ outside c.args.map.now c.in-Across.key value (sets.contains c.loop-p.rest) x = taken.left in
     let below : IsWellFormed (tree_of c.args.shape.now) → IsWellFormed (tree_of c.deref.result.now) = (λ counted. subst (λ r. IsWellFormed (tree_of r)) (sym c.deref.ensures) (inner_counted _ _ _ _ c.in-Across.is counted).1) in
     let breaking : IsWellFormed (tree_of c.args.shape.now) → part.least ≤ 1024 → IsBreaking c.args.map.now q (sets.contains members) part =
     (λ counted few. subst (λ r. IsBreaking c.args.map.now (tree_of r) (sets.contains members) part) c.deref.ensures (c.in_ok-part-in-Across.ensures.breaking (below counted) few)) in
@@ -72,20 +73,19 @@ loop-p-preserved t c =
       least = λ counted s level within.
           let lacked : LacksAtLeast c.args.map.now q (sets.contains members) part.least =
           subst (λ r. LacksAtLeast c.args.map.now (tree_of r) (sets.contains members) part.least) c.deref.ensures (c.in_ok-part-in-Across.ensures.least (below counted)) in
-          subst (λ parts. LackSoFar c.args.map.now c.in-Across.key q (sets.contains c.args.group.now) (sets.contains c.difference-rest.result) parts s level) (sym c.in_ok-push-in-Across.ensures.items)
-          (lack-goes-on c.args.map.now c.in-Across.key q c.values_pass_apart.ensures (inner_counted _ _ _ _ c.in-Across.is counted).1 (sets.contains c.loop-p.rest) (sets.contains members) (sets.contains c.difference-rest.result)
-          value c.in-Some.p.0 c.in-Some-peers.ensures.some.had found left c.loop-p.values.items part lacked (sets.contains c.args.group.now) s level (c.loop-p.invariant.least counted s level within));
+          subst (λ parts. LackSoFar c.args.map.now c.in-Across.key q (sets.contains c.args.group.now) (sets.contains c.take_value.new.rest) parts s level) (sym c.in_ok-push-in-Across.ensures.items)
+          (lack-goes-on c.args.map.now c.in-Across.key q c.values_pass_apart.ensures (inner_counted _ _ _ _ c.in-Across.is counted).1 (sets.contains c.loop-p.rest) (sets.contains members) (sets.contains c.take_value.new.rest)
+          value c.in-Some.p.0 c.in-Some-take_value.ensures.some.had found left c.loop-p.values.items part lacked (sets.contains c.args.group.now) s level (c.loop-p.invariant.least counted s level within));
       few = one_more _ _ _ _ (ap length c.in_ok-push-in-Across.ensures.items ∙ length-append c.loop-p.values.items (part ∷ []))
-          (fewer-members c.args.map.now c.in-Across.key c.loop-p.rest c.in-Some-peers.peers members c.difference-rest.result c.in-Some.p.0 value
-          c.in-Some-peers.ensures.some.had c.in-Some-peers.ensures.some.those c.intersection-with_value.ensures c.difference-rest.ensures c.in-Some.ensures.some.present c.in-Some.ensures.small)
+          (fewer-taken c.args.map.now c.in-Across.key c.in-Some.p.0 c.loop-p.rest members c.take_value.new.rest taken c.in-Some.ensures.some.present c.in-Some.ensures.small)
           c.loop-p.invariant.few;
       sized = λ counted.
           subst (λ parts. AreSized (length c.args.map.now) parts) (sym c.in_ok-push-in-Across.ensures.items)
           (all_with (IsSized (length c.args.map.now)) c.loop-p.values.items part (c.loop-p.invariant.sized counted) (λ few. (breaking counted few).small));
       broken = λ counted set.
-          subst (λ parts. BrokenSoFar c.args.map.now c.in-Across.key q (sets.contains c.args.group.now) (sets.contains c.difference-rest.result) parts set) (sym c.in_ok-push-in-Across.ensures.items)
+          subst (λ parts. BrokenSoFar c.args.map.now c.in-Across.key q (sets.contains c.args.group.now) (sets.contains c.take_value.new.rest) parts set) (sym c.in_ok-push-in-Across.ensures.items)
           (broken-goes-on c.args.map.now c.in-Across.key q (sets.contains c.args.group.now) c.values_pass_apart.ensures c.test_is_satisfaction-in-Across.ensures c.more_satisfies.ensures (inner_counted _ _ _ _ c.in-Across.is counted).1
-          (sets.contains c.loop-p.rest) (sets.contains members) (sets.contains c.difference-rest.result) value c.in-Some.p.0 c.in-Some-peers.ensures.some.had found left
+          (sets.contains c.loop-p.rest) (sets.contains members) (sets.contains c.take_value.new.rest) value c.in-Some.p.0 c.in-Some-take_value.ensures.some.had found left
           c.loop-p.values.items part (breaking counted) set (c.loop-p.invariant.broken counted set));
     }
   where

@@ -7,13 +7,15 @@ use Rattle.fy_policy.specs.Counted.{number_of}
 use Rattle.fy_policy.specs.Sat.{group, outside, satisfies}
 use Rattle.fy_policy.specs.Shape.{tree_of}
 use Rattle.fy_policy.specs.Tree.{Tree, across, IsWellFormed}
+use Rattle.fy_policy.proofs.Walk.{no_least}
 use Rattle.fy_tolerance.specs.Costs.{AreSized, HasNoAnd, IsEnough, IsLeastOf, IsSized, IsTaken, IsWithin, NeedsAtLeast}
+use Rattle.fy_tolerance.specs.Taken.{HasTaken}
 use Rattle.fy_tolerance.specs.declared.parts.Part.{Part}
 use Rattle.fy_tolerance.proofs.Needing.{NeedSoFar, fewest_to_satisfy-begins, fewest_to_satisfy-goes-on, fewest_to_satisfy-skips, fewest_to_satisfy-ends}
 use Rattle.fy_tolerance.proofs.Shapes.{count_within, inner_counted, inner_has_no_and, part_is_counted', part_passes}
 use Rattle.fy_tolerance.proofs.Sufficing.{EnoughSoFar, enough-begins, enough-ends, enough-goes-on, enough-skips, kept-within, none-within, union-within}
 use Rattle.fy_tolerance.proofs.Taking.{all_with}
-use Rattle.fy_tolerance.proofs.Values.{fewer-dropped, fewer-members, contains-members, contains-others, dropped-others, dropped-itself, no_least, empty_has}
+use Rattle.fy_tolerance.proofs.Values.{fewer-dropped, fewer-taken, dropped-others, dropped-itself, empty_has}
 use Rattle.fy_tolerance.proofs.fewest_to_satisfy.+fewest_to_satisfy.Goals as goal
 
 pub loop-p-init : goal.loop-p-init
@@ -29,39 +31,37 @@ loop-p-init t c = record {
       (enough-begins c.args.map.now c.in-Across.key (tree_of c.in-Across.inner.value) (sets.contains c.args.group.now) (sets.contains c.args.free.now) set within);
 }
 
-pub loop-p-smaller-in_default-peers : goal.loop-p-smaller-in_default-peers
-loop-p-smaller-in_default-peers t c = fewer-dropped c.loop-p.rest _ c.in-Some.p.0 c.drop_one.ensures c.in-Some.ensures.some.present c.in-Some.ensures.small
+pub loop-p-smaller-in_default-take_value : goal.loop-p-smaller-in_default-take_value
+loop-p-smaller-in_default-take_value t c = fewer-dropped c.loop-p.rest _ c.in-Some.p.0 c.in_default-take_value.ensures.none.left c.in-Some.ensures.some.present c.in-Some.ensures.small
 
-pub loop-p-preserved-in_default-peers : goal.loop-p-preserved-in_default-peers
-loop-p-preserved-in_default-peers t c = record {
+pub loop-p-preserved-in_default-take_value : goal.loop-p-preserved-in_default-take_value
+loop-p-preserved-in_default-take_value t c = record {
   least = (λ counted s level within.
-      fewest_to_satisfy-skips c.args.map.now c.in-Across.key (tree_of c.in-Across.inner.value) (sets.contains c.args.free.now) c.keyless_pass_nothing.ensures (sets.contains c.loop-p.rest) _ c.in-Some.p.0 c.in_default-peers.ensures.none
-      (dropped-others c.loop-p.rest _ c.in-Some.p.0 c.drop_one.ensures) (dropped-itself c.loop-p.rest _ c.in-Some.p.0 c.drop_one.ensures)
+      fewest_to_satisfy-skips c.args.map.now c.in-Across.key (tree_of c.in-Across.inner.value) (sets.contains c.args.free.now) c.keyless_pass_nothing.ensures (sets.contains c.loop-p.rest) _ c.in-Some.p.0 c.in_default-take_value.ensures.none.none
+      (dropped-others c.loop-p.rest _ c.in-Some.p.0 c.in_default-take_value.ensures.none.left) (dropped-itself c.loop-p.rest _ c.in-Some.p.0 c.in_default-take_value.ensures.none.left)
       c.loop-p.values.items s level (c.loop-p.invariant.least counted s level within));
-  inside = λ x h. c.loop-p.invariant.inside x (kept-within (sets.contains c.loop-p.rest) _ c.in-Some.p.0 (dropped-others c.loop-p.rest _ c.in-Some.p.0 c.drop_one.ensures) (dropped-itself c.loop-p.rest _ c.in-Some.p.0 c.drop_one.ensures) x h);
+  inside = λ x h. c.loop-p.invariant.inside x (kept-within (sets.contains c.loop-p.rest) _ c.in-Some.p.0 (dropped-others c.loop-p.rest _ c.in-Some.p.0 c.in_default-take_value.ensures.none.left) (dropped-itself c.loop-p.rest _ c.in-Some.p.0 c.in_default-take_value.ensures.none.left) x h);
   within = c.loop-p.invariant.within;
   sized = c.loop-p.invariant.sized;
   enough = λ counted bare inside set within.
-      enough-skips c.args.map.now c.in-Across.key (tree_of c.in-Across.inner.value) (sets.contains c.args.group.now) (sets.contains c.args.free.now) c.keyless_pass_nothing.ensures (sets.contains c.loop-p.rest) _ c.in-Some.p.0 c.in_default-peers.ensures.none
-      (dropped-others c.loop-p.rest _ c.in-Some.p.0 c.drop_one.ensures)
+      enough-skips c.args.map.now c.in-Across.key (tree_of c.in-Across.inner.value) (sets.contains c.args.group.now) (sets.contains c.args.free.now) c.keyless_pass_nothing.ensures (sets.contains c.loop-p.rest) _ c.in-Some.p.0 c.in_default-take_value.ensures.none.none
+      (dropped-others c.loop-p.rest _ c.in-Some.p.0 c.in_default-take_value.ensures.none.left)
       c.loop-p.values.items set (c.loop-p.invariant.enough counted bare inside set within);
 }
 
 pub loop-p-smaller : goal.loop-p-smaller
 loop-p-smaller t c =
-    fewer-members c.args.map.now c.in-Across.key c.loop-p.rest c.in-Some-peers.peers c.intersection-with_value.result c.difference-rest.result c.in-Some.p.0 c.in-Some-peers.ensures.some.value
-    c.in-Some-peers.ensures.some.had c.in-Some-peers.ensures.some.those c.intersection-with_value.ensures c.difference-rest.ensures c.in-Some.ensures.some.present c.in-Some.ensures.small
+    fewer-taken c.args.map.now c.in-Across.key c.in-Some.p.0 c.loop-p.rest _ _ c.in-Some-take_value.ensures.some c.in-Some.ensures.some.present c.in-Some.ensures.small
 
 pub loop-p-preserved : goal.loop-p-preserved
 loop-p-preserved t c =
     let q : Tree = tree_of c.in-Across.inner.value in
-    let members : sets.FinSet nat_cmp = c.intersection-with_value.result in
-    let value : List ℕ = c.in-Some-peers.ensures.some.value in
+    let members : sets.FinSet nat_cmp = c.in-Some-take_value.with_value in
+    let value : List ℕ = c.in-Some-take_value.ensures.some.value in
     let part : Part = c.in_ok-part-in-Across.part in
-    let found : (x : ℕ) → sets.contains members x ≡ group c.args.map.now c.in-Across.key value (sets.contains c.loop-p.rest) x = contains-members c.args.map.now c.in-Across.key c.loop-p.rest c.in-Some-peers.peers members c.difference-rest.result c.in-Some.p.0 value
-    c.in-Some-peers.ensures.some.had c.in-Some-peers.ensures.some.those c.intersection-with_value.ensures c.difference-rest.ensures in
-    let left : (x : ℕ) → sets.contains c.difference-rest.result x ≡ outside c.args.map.now c.in-Across.key value (sets.contains c.loop-p.rest) x = contains-others c.args.map.now c.in-Across.key c.loop-p.rest c.in-Some-peers.peers members c.difference-rest.result c.in-Some.p.0 value
-    c.in-Some-peers.ensures.some.had c.in-Some-peers.ensures.some.those c.intersection-with_value.ensures c.difference-rest.ensures in
+    let taken : HasTaken c.args.map.now c.in-Across.key c.in-Some.p.0 c.loop-p.rest members c.take_value.new.rest = c.in-Some-take_value.ensures.some in
+    let found : (x : ℕ) → sets.contains members x ≡ group c.args.map.now c.in-Across.key value (sets.contains c.loop-p.rest) x = taken.taken in
+    let left : (x : ℕ) → sets.contains c.take_value.new.rest x ≡ outside c.args.map.now c.in-Across.key value (sets.contains c.loop-p.rest) x = taken.left in
     let of_group : IsWithin (sets.contains members) (sets.contains c.args.group.now) = (λ x h. c.loop-p.invariant.inside x (first (sets.contains c.loop-p.rest x) _ (sym (found x) ∙ h))) in
     let below : IsWellFormed (tree_of c.args.shape.now) → IsWellFormed (tree_of c.deref.result.now) = (λ counted. subst (λ r. IsWellFormed (tree_of r)) (sym c.deref.ensures) (inner_counted _ _ _ _ c.in-Across.is counted).1) in
     let enough : IsWellFormed (tree_of c.args.shape.now) → HasNoAnd (tree_of c.args.shape.now) → IsWithin (sets.contains c.args.group.now) (everyone c.args.map.now) → part.least ≤ 1024 → IsEnough c.args.map.now q (sets.contains members) (sets.contains c.args.free.now) part =
@@ -71,9 +71,9 @@ loop-p-preserved t c =
       least = λ counted s level within.
           let needed : NeedsAtLeast c.args.map.now q (sets.contains members) (sets.contains c.args.free.now) part.least =
           subst (λ r. NeedsAtLeast c.args.map.now (tree_of r) (sets.contains members) (sets.contains c.args.free.now) part.least) c.deref.ensures (c.in_ok-part-in-Across.ensures.least (below counted)) in
-          subst (λ parts. NeedSoFar c.args.map.now c.in-Across.key q (sets.contains c.args.free.now) (sets.contains c.difference-rest.result) parts s level) (sym c.in_ok-push-in-Across.ensures.items)
-          (fewest_to_satisfy-goes-on c.args.map.now c.in-Across.key q (sets.contains c.args.free.now) c.values_pass_apart.ensures (inner_counted _ _ _ _ c.in-Across.is counted).1 (sets.contains c.loop-p.rest) (sets.contains members) (sets.contains c.difference-rest.result)
-          value c.in-Some.p.0 c.in-Some-peers.ensures.some.had found left c.loop-p.values.items part needed s level (c.loop-p.invariant.least counted s level within));
+          subst (λ parts. NeedSoFar c.args.map.now c.in-Across.key q (sets.contains c.args.free.now) (sets.contains c.take_value.new.rest) parts s level) (sym c.in_ok-push-in-Across.ensures.items)
+          (fewest_to_satisfy-goes-on c.args.map.now c.in-Across.key q (sets.contains c.args.free.now) c.values_pass_apart.ensures (inner_counted _ _ _ _ c.in-Across.is counted).1 (sets.contains c.loop-p.rest) (sets.contains members) (sets.contains c.take_value.new.rest)
+          value c.in-Some.p.0 c.in-Some-take_value.ensures.some.had found left c.loop-p.values.items part needed s level (c.loop-p.invariant.least counted s level within));
       inside = λ x h. c.loop-p.invariant.inside x (first (sets.contains c.loop-p.rest x) _ (sym (left x) ∙ h));
       within = subst (λ parts. AllByRecursion (λ (one : Part). IsWithin (sets.contains one.set) (sets.contains c.args.group.now)) parts) (sym c.in_ok-push-in-Across.ensures.items)
           (all_with (λ (one : Part). IsWithin (sets.contains one.set) (sets.contains c.args.group.now)) c.loop-p.values.items part c.loop-p.invariant.within (λ x h. of_group x (c.in_ok-part-in-Across.ensures.within x h)));
@@ -81,9 +81,9 @@ loop-p-preserved t c =
           subst (λ parts. AreSized (length c.args.map.now) parts) (sym c.in_ok-push-in-Across.ensures.items)
           (all_with (IsSized (length c.args.map.now)) c.loop-p.values.items part (c.loop-p.invariant.sized counted bare inside) (λ few. (enough counted bare inside few).small));
       enough = λ counted bare inside set within.
-          subst (λ parts. EnoughSoFar c.args.map.now c.in-Across.key q (sets.contains c.args.group.now) (sets.contains c.args.free.now) (sets.contains c.difference-rest.result) parts set) (sym c.in_ok-push-in-Across.ensures.items)
+          subst (λ parts. EnoughSoFar c.args.map.now c.in-Across.key q (sets.contains c.args.group.now) (sets.contains c.args.free.now) (sets.contains c.take_value.new.rest) parts set) (sym c.in_ok-push-in-Across.ensures.items)
           (enough-goes-on c.args.map.now c.in-Across.key q (sets.contains c.args.group.now) (sets.contains c.args.free.now) c.values_pass_apart.ensures c.test_is_satisfaction.ensures c.more_satisfies.ensures (inner_counted _ _ _ _ c.in-Across.is counted).1
-          (sets.contains c.loop-p.rest) (sets.contains members) (sets.contains c.difference-rest.result) value c.in-Some.p.0 c.in-Some-peers.ensures.some.had found left c.loop-p.invariant.inside
+          (sets.contains c.loop-p.rest) (sets.contains members) (sets.contains c.take_value.new.rest) value c.in-Some.p.0 c.in-Some-take_value.ensures.some.had found left c.loop-p.invariant.inside
           c.loop-p.values.items part c.in_ok-part-in-Across.ensures.within (enough counted bare inside) set (c.loop-p.invariant.enough counted bare inside set within));
     }
   where

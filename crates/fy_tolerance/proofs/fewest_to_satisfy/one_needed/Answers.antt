@@ -3,8 +3,8 @@ use Rattle.std.specs.Ordering.{nat_cmp}
 use Rattle.std.specs.FinSet as sets
 use Rattle.fy_tolerance.proofs.Needing.{one-costs, one-lacks}
 use Rattle.fy_tolerance.proofs.Sufficing.{none-within, one-alone, one-free, one-within}
-use Rattle.fy_tolerance.proofs.Values.{no_least}
 use Rattle.fy_tolerance.proofs.fewest_to_satisfy.one_needed.Goals as goal
+use Rattle.fy_policy.proofs.Walk.{no_least}
 
 pub returns-in-Some-clause-within : goal.returns-in-Some-clause-within
 returns-in-Some-clause-within c = none-within c.args.group.now c.empty.result c.empty.ensures

@@ -244,6 +244,8 @@ async function main() {
 
 at("door").addEventListener("submit", (event) => {
   event.preventDefault();
+  if (at("door").hidden) return; // It was sent already.
+  at("door").hidden = true;
   token = at("token").value;
   sessionStorage.setItem("token", token);
   main();

@@ -12,8 +12,8 @@ pub returns-then-is_none : goal.returns-then-is_none
 returns-then-is_none g c =
     by_stranger g.point c.args.by (Kill c.args.order.now) _ c.requires.0 c.requires.1.1.0 (ap (λ (s : Setup). slice_get s.roles c.args.by) (sym c.requires.1.0) ∙ sym c.role.ensures ∙ none_when c.role.result c.is_none.result c.is_none.ensures c.if-is_none.true)
 
-pub aimed_at_process-found-requires : goal.aimed_at_process-found-requires
-aimed_at_process-found-requires g c =
+pub process_targets-found-requires : goal.process_targets-found-requires
+process_targets-found-requires g c =
     subst (λ processes. c.args.process.0 < length processes) (sym c.requires.0.dead.processes) (named_within g.point.setup.processes c.args.process.0 _ c.requires.1.1.1.name)
 
 pub strike-requires : goal.strike-requires
@@ -23,7 +23,7 @@ strike-requires g c =
       (
         c.requires.1.1.0,
         λ p.
-            c.aimed_at_process-found.ensures.those value
+            c.process_targets-found.ensures.those value
             (subst (λ processes. value_of processes Process c.args.process.0 ≡ Some value) (sym c.requires.0.dead.processes) c.requires.1.1.1.name) p
             ∙ ap (λ key. targets_by c.args.self.now (record { key = key; value = value }) p) (sym c.requires.1.1.1.key),
       ),

@@ -1,11 +1,11 @@
 use Rattle.std.proofs.Common.{◌≡◌, ◌∙◌, ◌≤◌, length, sym, subst, ap, arith}
-use Rattle.std.specs.Prelude.{IsSomeAnd}
+use Rattle.std.specs.Prelude.{IsSome, IsSomeAnd}
 use Rattle.fy_cluster.specs.Execution.{Execution}
 use Rattle.fy_picture.specs.Keeping.{AreAckedAt}
 use Rattle.fy_picture.specs.Killable.{AreCounted}
-use Rattle.fy_picture.specs.Layouts.{AreAllMade, AreEven, IsWidth, width_in}
+use Rattle.fy_picture.specs.Layouts.{AreAllMade, AreEven, IsWidth, laid_by, width_in}
 use Rattle.fy_picture.specs.Pictures.{ShowEnds}
-use Rattle.fy_picture.proofs.Laying.{ended_alike, ended_even, ended_laid}
+use Rattle.fy_picture.proofs.Laying.{ended_alike, ended_even, ended_laid, no_width}
 use Rattle.fy_picture.proofs.Recordings.{counted_show, few_told, keepers_are}
 use Rattle.fy_picture.proofs.recorded.Recorded.finish.Goals as goal
 
@@ -56,3 +56,8 @@ returns-clause-laid c = λ ends laid order.
     let ended = ended_alike mid.plan (length mid.state.journal) last.columns.items columns c.in_ok-count_columns.ensures.ends c.in_ok-end_last.ensures.ended in
     subst (λ k. AreAllMade ends k columns) n
     (ended_laid mid.plan (length mid.state.journal) columns ends (c.in_ok-end_due.ensures.laid ∙ laid) ended order)
+
+pub returns-clause-uneven : goal.returns-clause-uneven
+returns-clause-uneven c = λ laid.
+    c.width_of-width.ensures
+    ∙ no_width c.end_last.new.self.plan (subst IsSome (sym (ap laid_by c.in_ok-end_last.ensures.same.plan ∙ c.in_ok-end_due.ensures.laid)) laid)
