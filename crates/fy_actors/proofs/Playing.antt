@@ -1,5 +1,5 @@
 -- parts that actors play
-use Rattle.std.proofs.Common.{◌≡◌, ◌≢◌, ◌⊎◌, inl, inr, ◌≤◌, ℕ, ◌+◌, ◌==◌, Bool, true, false, nat_lt, cond, if◌then◌else◌, List, [], ◌∷◌, ◌++◌, length, Option, Some, None, Result, Ok, Err, slice_get, refl, sym, ap, ◌∙◌, subst, arith, eq-eqb, append-nil, length-append}
+use Rattle.std.proofs.Common.{◌≡◌, ◌⊎◌, inl, inr, ◌≤◌, ℕ, ◌==◌, Bool, true, false, nat_lt, cond, if◌then◌else◌, List, [], ◌∷◌, ◌++◌, length, Option, Some, None, Result, Ok, Err, refl, sym, ap, ◌∙◌, subst, arith, eq-eqb, append-nil, length-append}
 use Rattle.std.proofs.lemmas.Bool.Decides.{nat_tests}
 use Rattle.std.proofs.lemmas.List.Elements.{filter-append}
 use Rattle.std.proofs.lemmas.Option.{slice_get_cases}
@@ -14,9 +14,8 @@ use Rattle.fy_actors.specs.declared.desk.Turn.{Turn}
 use Rattle.fy_actors.specs.declared.desk.Turn.TheVariants.{More, Ended}
 use Rattle.fy_actors.specs.declared.driver.Team.{Team}
 use Rattle.fy_actors.specs.declared.driver.Team.TheVariants.{Unformed, Formed, Refused}
-use Rattle.fy_actors.specs.Desk.{DeskState, desk_reply, receipt, after_act, entries_by}
+use Rattle.fy_actors.specs.Desk.{DeskState, receipt, entries_by}
 use Rattle.fy_actors.specs.Turns.{TakesTurn, more_if}
-use Rattle.fy_actors.specs.Schedules.{Schedule, next_of, has_next, one_made, FollowsSchedule}
 use Rattle.fy_actors.specs.Drives.{Drive, act_while, next_act, driven, is_refused, goes_on, Drives}
 use Rattle.fy_actors.specs.Parts.{Part, after_reply, has_next_act, ComesNext, PlaysTurn, played, Obeys, KeepsTo, Tells, TurnsKeepTo, OthersChangeNoPart, AnswersTell}
 use Rattle.fy_actors.specs.Parts.Part.{Acts, Stores, Unspecified}

@@ -169,12 +169,8 @@ impl Desk {
         if self.is_full() {
             return Err(Fault::JournalFull);
         }
-        if self.receipts.reserve(1).is_err() {
-            return Err(Fault::NoMemory);
-        }
-        let Ok(copy) = act.try_copy(self.alloc) else {
-            return Err(Fault::NoMemory);
-        };
+        self.receipts.reserve(1)?;
+        let copy = act.try_copy(self.alloc)?;
         let at = self.journal_len() as u32;
         let by = self.actor;
         let reply = self.cluster.apply(by, act)?;

@@ -184,9 +184,7 @@ impl StorageDriver {
         if desk.is_full() {
             return Err(Fault::JournalFull);
         }
-        let Ok(act) = self.next(sight) else {
-            return Err(Fault::NoMemory);
-        };
+        let act = self.next(sight)?;
         let reply = desk.act(act)?;
         self.team = self.team.after(reply);
         self.made += 1;

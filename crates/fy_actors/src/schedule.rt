@@ -69,9 +69,7 @@ impl FaultActor for Schedule {
         if desk.is_full() {
             return Err(Fault::JournalFull);
         }
-        let Ok(act) = act.try_copy(self.alloc) else {
-            return Err(Fault::NoMemory);
-        };
+        let act = act.try_copy(self.alloc)?;
         desk.act(act)?;
         self.made += 1;
         Ok(if self.made < self.acts.len() {
