@@ -1,7 +1,7 @@
 -- the next line, by what the parts of the input say
-use Rattle.std.proofs.Common.{◌≡◌, ◌≢◌, ◌∙◌, ◌<◌, ◌⊎◌, inl, inr, Bool, true, false, cond, eqb, leb, ℕ, List, [], ◌∷◌, ◌++◌, length, Option, Some, None, refl, sym, ap, subst, arith}
+use Rattle.std.proofs.Common.{◌≡◌, ◌∙◌, ◌⊎◌, inl, inr, Bool, true, false, cond, eqb, leb, ℕ, List, [], ◌∷◌, length, Option, Some, None, refl, sym, ap, subst, arith}
 use Rattle.std.specs.Prelude.{Result, Ok, Err, IfErr}
-use Rattle.std.specs.List.{AllByRecursion}
+use Rattle.std.specs.Option.{ok_or}
 use Rattle.std.specs.Set.{is_member}
 use Rattle.std.specs.Str.{bytes_eq}
 use Rattle.std.proofs.lemmas.Bool.Decides.{nat_tests}
@@ -9,12 +9,12 @@ use Rattle.fy_locality.specs.declared.ProcId.{ProcId}
 use Rattle.fy_locality.specs.declared.locality.Locality.{Locality}
 use Rattle.fy_locality.specs.declared.key.Key.TheVariants.{Process}
 use Rattle.fy_locality.specs.declared.map.MapFault.{MapFault}
-use Rattle.fy_locality.specs.declared.map.MapFault.TheVariants.{Name, Twice, TooMany, NoMemory}
+use Rattle.fy_locality.specs.declared.map.MapFault.TheVariants.{Twice, TooMany, NoMemory}
 use Rattle.fy_locality.specs.Locality.{values_of, id_refusal}
-use Rattle.fy_judge.specs.declared.line.Ask.{Ask}
 use Rattle.fy_policy.specs.declared.fault.PolicyFault.{PolicyFault}
 use Rattle.fy_policy.specs.declared.fault.PolicyFault.TheVariants.{TooLong as PolicyTooLong, Syntax as PolicySyntax, Count as PolicyCount, Depth as PolicyDepth, Nodes as PolicyNodes, NoMemory as PolicyNoMemory}
 use Rattle.fy_policy.specs.Reading.{Reads}
+use Rattle.fy_judge.specs.declared.stop.JudgeFault.{JudgeFault}
 use Rattle.fy_judge.specs.declared.stop.JudgeFault.TheVariants.{Syntax}
 use Rattle.fy_judge.specs.declared.line.Keyword.{Keyword}
 use Rattle.fy_judge.specs.JudgeLines.{Input, policy, process, tokens_of, keyword_of, parse_arguments, parse_tokens, parse_line, Step, unread, policy_refused, process_twice, process_too_many}
@@ -46,14 +46,6 @@ two_reasons processes id f e = go (is_member bytes_eq (values_of processes Proce
     go false true e = inr (let x : f ≡ TooMany = cc in x)
     go false false e = absurd (let x : ⊥ = cc in x)
 
-pub no_bad_name : (processes : List Locality) (id : List ℕ) (f : MapFault) → (f ≡ NoMemory) ⊎ (id_refusal processes id ≡ Some f) → f ≡ Name → ⊥
-no_bad_name processes id f (inl e) is = let x : ⊥ = cc in x
-no_bad_name processes id f (inr e) is = go (two_reasons processes id f e)
-  where
-    go : (f ≡ Twice) ⊎ (f ≡ TooMany) → ⊥
-    go (inl h) = let x : ⊥ = cc in x
-    go (inr h) = let x : ⊥ = cc in x
-
 -- the fault of a process's line
 pub process_refused : (i : Input) (new : Locality) (f : MapFault) → (i.policies ≡ [] → ⊥) → i.asks ≡ [] → (f ≡ NoMemory) ⊎ (id_refusal i.processes new.process ≡ Some f) → IfFault (process_fault_of f) (λ fault. Step i (Some (process new)) (Err fault))
 process_refused i new f some none (inl e) = subst (λ g. IfFault (process_fault_of g) (λ fault. Step i (Some (process new)) (Err fault))) (sym e) tt
@@ -82,6 +74,11 @@ empty_list (x ∷ xs) n b test is e = absurd (let z : eqb n 0 ≡ true = sym tes
 
 pub full_list : {X : Type 0} (xs : List X) (n : ℕ) (b : Bool) → b ≡ eqb n 0 → n ≡ length xs → b ≡ false → xs ≡ [] → ⊥
 full_list xs n b test is e none = let l : n ≡ 0 = is ∙ ap length none in let z : eqb n 0 ≡ false = sym test ∙ e in let x : ⊥ = grind (arith, nat_tests) in x
+
+-- where `ok_or` gives a fault there is nothing, and it is that fault
+pub missing : {T : Type 0} (o : Option T) (r : Result T JudgeFault) (fault e : JudgeFault) → r ≡ ok_or o fault → r ≡ Err e → (o ≡ None) × (e ≡ fault)
+missing None r fault e given is = (refl, let same : e ≡ fault = cc in same)
+missing (Some x) r fault e given is = absurd (let none : ⊥ = cc in none)
 
 -- ---- a line that says nothing
 pub unsaid : (i : Input) (line : List ℕ) → parse_line line ≡ None → Step i (parse_line line) (Err Syntax)

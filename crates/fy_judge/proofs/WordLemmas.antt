@@ -1,7 +1,5 @@
 -- the words of what begins with a word
-use Rattle.std.proofs.Common.{◌≡◌, ◌∙◌, ◌≤◌, ◌⊎◌, inl, inr, zero, suc, Bool, true, false, cond, ◌&&◌, ltb, eqb, ℕ, List, [], ◌∷◌, ◌++◌, length, Option, Some, None, refl, sym, ap, ne_eqb, arith}
-use Rattle.fy_decide.specs.declared.dead_book.Loss.{Loss}
-use Rattle.fy_locality.specs.Locality.{are_names, locality_of}
+use Rattle.std.proofs.Common.{◌≡◌, ◌∙◌, ◌≤◌, zero, suc, Bool, true, false, cond, ◌&&◌, ltb, eqb, ℕ, List, [], ◌∷◌, ◌++◌, length, Option, Some, None, refl, sym, ap, ne_eqb, arith}
 use Rattle.std.specs.List.{list_all}
 use Rattle.std.specs.Str.{IsAscii, IsUtf8}
 use Rattle.std.proofs.lemmas.Str.{IsUtf8-from_ascii}
@@ -9,7 +7,7 @@ use Rattle.std.proofs.lemmas.Bool.Decides.{nat_tests}
 use Rattle.fy_lines.specs.Lines.{onto_first}
 use Rattle.fy_judge.specs.declared.line.Keyword.{Keyword}
 use Rattle.fy_judge.specs.declared.line.Keyword.TheVariants.{Policy as KeywordPolicy, Process as KeywordProcess, Ask as KeywordAsk}
-use Rattle.fy_judge.specs.JudgeLines.{tokens_of, parse_arguments, is_text, known, policy, process}
+use Rattle.fy_judge.specs.JudgeLines.{tokens_of, parse_arguments, is_text}
 use Rattle.fy_judge.specs.JudgeViews.{IsToken}
 
 -- a word, a blank, and the rest

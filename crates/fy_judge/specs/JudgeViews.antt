@@ -6,13 +6,13 @@ use Rattle.fy_judge.specs.declared.stop.JudgeStop.{JudgeStop}
 use Rattle.fy_judge.specs.declared.stop.JudgeStop.TheVariants.{TooLong, Line, Read, NoMemory as StopNoMemory}
 use Rattle.fy_judge.specs.declared.input.TakeFault.{TakeFault}
 use Rattle.fy_judge.specs.declared.input.TakeFault.TheVariants.{Fault, NoMemory}
-use Rattle.fy_judge.specs.declared.stop.JudgeFault.TheVariants.{Policy, Twice, TooMany}
+use Rattle.fy_judge.specs.declared.stop.JudgeFault.TheVariants.{Syntax, Policy, Twice, TooMany}
 use Rattle.fy_lines.specs.declared.input.InputFault.{InputFault}
 use Rattle.fy_lines.specs.declared.input.InputFault.TheVariants.{TooLong as input_too_long, Reader, NoMemory as input_no_memory}
 use Rattle.fy_policy.specs.declared.fault.PolicyFault.{PolicyFault}
 use Rattle.fy_policy.specs.declared.fault.PolicyFault.TheVariants.{NoMemory as no_memory}
 use Rattle.fy_locality.specs.declared.map.MapFault.{MapFault}
-use Rattle.fy_locality.specs.declared.map.MapFault.TheVariants.{Twice as map_twice, TooMany as map_too_many}
+use Rattle.fy_locality.specs.declared.map.MapFault.TheVariants.{Name as map_name, Twice as map_twice, TooMany as map_too_many}
 
 -- no blank
 abbrev pub IsToken : List ℕ → Type 0
@@ -30,6 +30,7 @@ policy_fault_of _ = Fault Policy
 
 -- the fault of a process's line, by why the process was not added
 abbrev pub process_fault_of : MapFault → TakeFault
+process_fault_of map_name = Fault Syntax
 process_fault_of map_twice = Fault Twice
 process_fault_of map_too_many = Fault TooMany
 process_fault_of _ = NoMemory

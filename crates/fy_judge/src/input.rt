@@ -1,7 +1,7 @@
 //! What the lines so far say.
-ghost use Rattle.std.specs.Prelude.{◌≡◌, ◌≢◌, Some, OnOk, IfErr};
+ghost use Rattle.std.specs.Prelude.{◌≡◌, Some, OnOk, IfErr};
 ghost use Rattle.fy_judge.specs.JudgeLines.{policy, process, ask, parse_line, empty_input, Step, IsInput};
-ghost use Rattle.fy_judge.specs.JudgeViews.{IfFault, process_fault_of};
+ghost use Rattle.fy_judge.specs.JudgeViews.{IfFault};
 
 use crate::line::{Ask, Keyword, asked_id, first_word, keyword_in, policy_text, process_of};
 use crate::stop::JudgeFault;
@@ -29,6 +29,17 @@ impl<T: Drop> From<AllocFailed<T>> for TakeFault {
     }
 }
 
+impl From<JudgeFault> for TakeFault {
+    ghost use Rattle.fy_judge.specs.declared.input.TakeFault.TheVariants.{Fault};
+    ghost use Rattle.std.specs.Prelude.{◌≡◌};
+
+    ghost from_gives = { λ fault taken. taken ≡ Fault fault };
+
+    fn from(fault: JudgeFault) -> TakeFault {
+        TakeFault::Fault(fault)
+    }
+}
+
 impl From<PolicyFault> for TakeFault {
     ghost use Rattle.fy_judge.specs.JudgeViews.{policy_fault_of};
     ghost use Rattle.std.specs.Prelude.{◌≡◌};
@@ -43,6 +54,23 @@ impl From<PolicyFault> for TakeFault {
             | PolicyFault::Count
             | PolicyFault::Depth
             | PolicyFault::Nodes => TakeFault::Fault(JudgeFault::Policy),
+        }
+    }
+}
+
+impl From<MapFault> for TakeFault {
+    ghost use Rattle.fy_judge.specs.JudgeViews.{process_fault_of};
+    ghost use Rattle.std.specs.Prelude.{◌≡◌};
+
+    ghost from_gives = { λ fault taken. taken ≡ process_fault_of fault };
+
+    fn from(fault: MapFault) -> TakeFault {
+        match fault {
+            // The reader of a line refuses it first, by the same fault.
+            MapFault::Name => TakeFault::Fault(JudgeFault::Syntax),
+            MapFault::Twice => TakeFault::Fault(JudgeFault::Twice),
+            MapFault::TooMany => TakeFault::Fault(JudgeFault::TooMany),
+            MapFault::NoMemory => TakeFault::NoMemory,
         }
     }
 }
@@ -125,23 +153,20 @@ impl Input {
             (λ e. IfFault e (λ fault. Step self.old (parse_line line.now) (Err fault))) }
     {
         let (word, rest) = first_word(line);
-        let Some(rest) = rest else {
-            return Err(TakeFault::Fault(JudgeFault::Syntax));
-        };
-        match keyword_in(word) {
-            Some(Keyword::Policy) => match policy_text(rest) {
-                Some(text) => self.take_policy(alloc, text),
-                None => Err(TakeFault::Fault(JudgeFault::Syntax)),
-            },
-            Some(Keyword::Process) => match process_of(rest) {
-                Some(locality) => self.take_process(locality),
-                None => Err(TakeFault::Fault(JudgeFault::Syntax)),
-            },
-            Some(Keyword::Ask(loss)) => match asked_id(rest) {
-                Some(id) => self.take_ask(loss, id),
-                None => Err(TakeFault::Fault(JudgeFault::Syntax)),
-            },
-            None => Err(TakeFault::Fault(JudgeFault::Syntax)),
+        let rest = rest.ok_or(JudgeFault::Syntax)?;
+        match keyword_in(word).ok_or(JudgeFault::Syntax)? {
+            Keyword::Policy => {
+                let text = policy_text(rest).ok_or(JudgeFault::Syntax)?;
+                self.take_policy(alloc, text)
+            }
+            Keyword::Process => {
+                let locality = process_of(rest).ok_or(JudgeFault::Syntax)?;
+                self.take_process(locality)
+            }
+            Keyword::Ask(loss) => {
+                let id = asked_id(rest).ok_or(JudgeFault::Syntax)?;
+                self.take_ask(loss, id)
+            }
         }
     }
 
@@ -175,9 +200,7 @@ impl Input {
         if !self.asks.is_empty() {
             return Err(TakeFault::Fault(JudgeFault::Syntax));
         }
-        if let Err(fault) = self.map.push(locality) {
-            return Err(process_fault(fault));
-        }
+        self.map.push(locality)?;
         Ok(())
     }
 
@@ -190,23 +213,8 @@ impl Input {
         if self.map.is_empty() {
             return Err(TakeFault::Fault(JudgeFault::Syntax));
         }
-        let Some(process) = self.map.find(&id) else {
-            return Err(TakeFault::Fault(JudgeFault::Unknown));
-        };
+        let process = self.map.find(&id).ok_or(JudgeFault::Unknown)?;
         self.asks.push(Ask { loss, process })?;
         Ok(())
-    }
-}
-
-/// A process's fault as a fault of its line. Its names are names already.
-fn process_fault(fault: MapFault) -> TakeFault
-    requires { fault ≢ MapFault.Name }
-    ensures { result ≡ process_fault_of fault }
-{
-    match fault {
-        MapFault::Twice => TakeFault::Fault(JudgeFault::Twice),
-        MapFault::TooMany => TakeFault::Fault(JudgeFault::TooMany),
-        MapFault::NoMemory => TakeFault::NoMemory,
-        MapFault::Name => unreachable!(),
     }
 }

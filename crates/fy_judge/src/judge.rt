@@ -41,6 +41,7 @@ fn read_lines(alloc: Global, bytes: &[u8]) -> Result<Input, JudgeStop>
     while !rest.is_empty() {
         let (line, next) = first_line(rest);
         number += 1;
+        // The stop has the line's number, which no `From` of the fault could know.
         if let Err(fault) = input.take_line(alloc, line) {
             return Err(line_stop(number, fault));
         }
@@ -72,6 +73,8 @@ fn answers(alloc: Global, input: &Input) -> Result<Vec<u8>, JudgeStop>
         IfJudgeRefusal stop (Judges bytes (Err stop))) }
     ensures no_other { IfErr result (λ stop. (stop ≢ JudgeStop.Read) × (stop ≢ JudgeStop.Write)) }
 {
+    // The line of a policy that isn't met fits its number because there are at most eight, which no
+    // `From` of the fault could know.
     match DeadBook::make(alloc, input.map(), input.policies()) {
         Ok(mut dead) => Ok(answer_asks(alloc, input, &mut dead)?),
         Err(fault) => Err(dead_book_stop(fault)),

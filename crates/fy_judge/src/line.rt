@@ -70,22 +70,12 @@ fn five_words(line: &[u8]) -> Option<(&[u8], &[u8], &[u8], &[u8], &[u8])>
         (λ w. tokens_of line.now ≡ w.0.now ∷ w.1.now ∷ w.2.now ∷ w.3.now ∷ w.4.now ∷ []) }
     ensures none { IfNone result (length (tokens_of line.now) ≡ 5 → ⊥) }
 {
-    let (first, Some(rest)) = first_word(line) else {
-        return None;
-    };
-    let (second, Some(rest)) = first_word(rest) else {
-        return None;
-    };
-    let (third, Some(rest)) = first_word(rest) else {
-        return None;
-    };
-    let (fourth, Some(rest)) = first_word(rest) else {
-        return None;
-    };
-    match only_word(rest) {
-        Some(fifth) => Some((first, second, third, fourth, fifth)),
-        None => None,
-    }
+    let (first, rest) = first_word(line);
+    let (second, rest) = first_word(rest?);
+    let (third, rest) = first_word(rest?);
+    let (fourth, rest) = first_word(rest?);
+    let fifth = only_word(rest?)?;
+    Some((first, second, third, fourth, fifth))
 }
 
 /// Whether a word is this text.
@@ -166,9 +156,7 @@ pub(crate) fn policy_text(rest: &[u8]) -> Option<&str>
     ensures { option_map (λ text. policy text.now) result
         ≡ parse_arguments (Some Keyword.Policy) (tokens_of rest.now) }
 {
-    let Some(word) = only_word(rest) else {
-        return None;
-    };
+    let word = only_word(rest)?;
     if !is_policy_text(word) {
         return None;
     }
@@ -184,9 +172,8 @@ pub(crate) fn process_of(rest: &[u8]) -> Option<Locality>
     ensures { option_map process result
         ≡ parse_arguments (Some Keyword.Process) (tokens_of rest.now) }
 {
-    let Some((id, machine, zone, hall, data_center)) = five_words(rest) else {
-        return None;
-    };
+    let (id, machine, zone, hall, data_center) = five_words(rest)?;
+    // No `.ok()` here: the borrow checker finds no plan for one of a locality.
     match located(id, machine, zone, hall, data_center) {
         Ok(locality) => Some(locality),
         Err(BadName) => None,
@@ -198,11 +185,6 @@ pub(crate) fn asked_id(rest: &[u8]) -> Option<Name>
     ensures { (loss : Loss) → option_map (ask loss) result
         ≡ parse_arguments (Some (Keyword.Ask loss)) (tokens_of rest.now) }
 {
-    let Some(id) = only_word(rest) else {
-        return None;
-    };
-    match Name::from_bytes(id) {
-        Ok(id) => Some(id),
-        Err(BadName) => None,
-    }
+    let id = only_word(rest)?;
+    Name::from_bytes(id).ok()
 }
