@@ -115,20 +115,6 @@ impl From<AllocError> for Stop {
     }
 }
 
-/// What follows the line's number in the fault line: the fault's word, and the line feed.
-fn judge_line_ending(fault: JudgeFault) -> &'static str
-    ensures { result.now ≡ codes ": " ++ fault_word fault ++ codes "\n" }
-{
-    match fault {
-        JudgeFault::Syntax => ": Syntax\n",
-        JudgeFault::Policy => ": Policy\n",
-        JudgeFault::Twice => ": Twice\n",
-        JudgeFault::TooMany => ": TooMany\n",
-        JudgeFault::Unknown => ": Unknown\n",
-        JudgeFault::PolicyUnmet => ": PolicyUnmet\n",
-    }
-}
-
 impl Stop {
     /// The status with which the program exits: 1 for a refused input and for a swarm that can't be
     /// closed, 3 for a read or write fault, 4 for an allocation failure.
@@ -157,14 +143,52 @@ impl Stop {
     }
 }
 
-/// What follows the line's number in the fault line: the fault's word, and the line feed.
-fn line_ending(fault: LineFault) -> &'static str
-    ensures { result.now ≡ codes ": " ++ line_word fault ++ codes "\n" }
+/// The word for a fault of a line of `judge`'s input.
+fn fault_word(fault: JudgeFault) -> &'static str
+    ensures { result.now ≡ fault_word fault }
 {
     match fault {
-        LineFault::TooLong => ": TooLong\n",
-        LineFault::Syntax => ": Syntax\n",
-        LineFault::Floor => ": Floor\n",
+        JudgeFault::Syntax => "Syntax",
+        JudgeFault::Policy => "Policy",
+        JudgeFault::Twice => "Twice",
+        JudgeFault::TooMany => "TooMany",
+        JudgeFault::Unknown => "Unknown",
+        JudgeFault::PolicyUnmet => "PolicyUnmet",
+    }
+}
+
+/// The word for a fault of a line of a script.
+fn line_word(fault: LineFault) -> &'static str
+    ensures { result.now ≡ line_word fault }
+{
+    match fault {
+        LineFault::TooLong => "TooLong",
+        LineFault::Syntax => "Syntax",
+        LineFault::Floor => "Floor",
+    }
+}
+
+/// The word for a fault of a line of an audit.
+fn audit_line_word(fault: AuditLineFault) -> &'static str
+    ensures { result.now ≡ audit_line_word fault }
+{
+    match fault {
+        AuditLineFault::Header => "Header",
+        AuditLineFault::TooLong => "TooLong",
+        AuditLineFault::Syntax => "Syntax",
+    }
+}
+
+/// The word for a fault of a line of events.
+fn event_word(fault: EventFault) -> &'static str
+    ensures { result.now ≡ event_word fault }
+{
+    match fault {
+        EventFault::Syntax => "Syntax",
+        EventFault::Entry => "Entry",
+        EventFault::Time => "Time",
+        EventFault::Does => "Does",
+        EventFault::Order => "Order",
     }
 }
 
@@ -186,8 +210,8 @@ fn part_word(part: Part) -> &'static str
 fn write_worded<W: Write>(writer: &mut W, head: &str, word: &str) -> Result<(), OutputFault>
     ensures ok { OnOk result
         (Appends (W.contents writer.old) (W.contents writer.new) (worded head.now word.now)) }
-    ensures err { OnErr result
-        (AppendsProperPrefix (W.contents writer.old) (W.contents writer.new) (worded head.now word.now)) }
+    ensures err { OnErr result (AppendsProperPrefix (W.contents writer.old) (W.contents writer.new)
+        (worded head.now word.now)) }
 {
     write_three(writer, head, word, "\n")
 }
@@ -225,18 +249,62 @@ fn write_three<'a, W: Write>(
     )
 }
 
-/// The head of the line for a bad name in a part.
-fn name_head(part: Part) -> &'static str
-    ensures { result.now ≡ codes "config: Name " ++ part_word part ++ codes " " }
+/// Writes a line with two words in it.
+fn write_two_words<'a, W: Write>(
+    writer: &mut W,
+    head: &'a str,
+    first: &'a str,
+    between: &'a str,
+    second: &'a str,
+) -> Result<(), OutputFault>
+    ensures ok { OnOk result (Appends (W.contents writer.old) (W.contents writer.new)
+        (head.now ++ first.now ++ between.now ++ second.now ++ codes "\n")) }
+    ensures err { OnErr result (AppendsProperPrefix (W.contents writer.old) (W.contents writer.new)
+        (head.now ++ first.now ++ between.now ++ second.now ++ codes "\n")) }
 {
-    match part {
-        Part::JournalLimit => "config: Name JournalLimit ",
-        Part::Policies => "config: Name Policies ",
-        Part::Process => "config: Name Process ",
-        Part::Actor => "config: Name Actor ",
-        Part::Protect => "config: Name Protect ",
-        Part::Unknown => "config: Name Unknown ",
-    }
+    write_parts(
+        writer,
+        &[
+            head.as_bytes(),
+            first.as_bytes(),
+            between.as_bytes(),
+            second.as_bytes(),
+            "\n".as_bytes(),
+        ],
+    )
+}
+
+/// Writes the fault line of a refused line: a head, the line's number, and the fault's word.
+fn write_refused_line<W: Write>(
+    writer: &mut W,
+    head: &str,
+    number: u32,
+    word: &str,
+) -> Result<(), OutputFault>
+    ensures ok { OnOk result (Appends (W.contents writer.old) (W.contents writer.new)
+        (numbered head.now number (codes ": " ++ word.now ++ codes "\n"))) }
+    ensures err { OnErr result (AppendsProperPrefix (W.contents writer.old) (W.contents writer.new)
+        (numbered head.now number (codes ": " ++ word.now ++ codes "\n"))) }
+{
+    let mut digits = itoa::Buffer::new();
+    write_two_words(writer, head, digits.format(number), ": ", word)
+}
+
+/// Writes the fault line of a bad name in a part of a cluster file.
+fn write_bad_name<W: Write>(writer: &mut W, part: Part, index: usize) -> Result<(), OutputFault>
+    ensures ok { OnOk result (Appends (W.contents writer.old) (W.contents writer.new)
+        (numbered (codes "config: Name " ++ part_word part ++ codes " ") index (codes "\n"))) }
+    ensures err { OnErr result (AppendsProperPrefix (W.contents writer.old) (W.contents writer.new)
+        (numbered (codes "config: Name " ++ part_word part ++ codes " ") index (codes "\n"))) }
+{
+    let mut digits = itoa::Buffer::new();
+    write_two_words(
+        writer,
+        "config: Name ",
+        part_word(part),
+        " ",
+        digits.format(index),
+    )
 }
 
 /// Writes the line for a cluster file that is refused.
@@ -251,9 +319,7 @@ fn write_config_fault<W: Write>(fault: ConfigFault, writer: &mut W) -> Result<()
         ConfigFault::Toml => write_bytes(writer, b"config: Toml\n"),
         ConfigFault::Field { part } => write_worded(writer, "config: Field ", part_word(part)),
         ConfigFault::Limit { part } => write_worded(writer, "config: Limit ", part_word(part)),
-        ConfigFault::Name { part, index } => {
-            write_numbered(writer, name_head(part), index as u64, "\n")
-        }
+        ConfigFault::Name { part, index } => write_bad_name(writer, part, index),
         ConfigFault::Policy { index } => {
             write_numbered(writer, "config: Policy ", index as u64, "\n")
         }
@@ -274,20 +340,9 @@ fn write_script_fault<W: Write>(fault: ScriptFault, writer: &mut W) -> Result<()
     match fault {
         ScriptFault::TooLong => write_bytes(writer, b"script: TooLong\n"),
         ScriptFault::Line { number, fault } => {
-            write_numbered(writer, "script: line ", number as u64, line_ending(fault))
+            write_refused_line(writer, "script: line ", number, line_word(fault))
         }
         ScriptFault::NoMemory => write_bytes(writer, b"no memory\n"),
-    }
-}
-
-/// What follows the line's number in the fault line: the fault's word, and the line feed.
-fn audit_line_ending(fault: AuditLineFault) -> &'static str
-    ensures { result.now ≡ codes ": " ++ audit_line_word fault ++ codes "\n" }
-{
-    match fault {
-        AuditLineFault::Header => ": Header\n",
-        AuditLineFault::TooLong => ": TooLong\n",
-        AuditLineFault::Syntax => ": Syntax\n",
     }
 }
 
@@ -295,33 +350,15 @@ fn audit_line_ending(fault: AuditLineFault) -> &'static str
 fn write_audit_fault<W: Write>(fault: AuditFault, writer: &mut W) -> Result<(), OutputFault>
     ensures ok { OnOk result
         (Appends (W.contents writer.old) (W.contents writer.new) (audit_fault_text fault)) }
-    ensures err { OnErr result
-        (AppendsProperPrefix (W.contents writer.old) (W.contents writer.new) (audit_fault_text fault)) }
+    ensures err { OnErr result (AppendsProperPrefix (W.contents writer.old) (W.contents writer.new)
+        (audit_fault_text fault)) }
 {
     match fault {
         AuditFault::TooLong => write_bytes(writer, b"audit: TooLong\n"),
         AuditFault::Line { number, fault } => {
-            write_numbered(
-                writer,
-                "audit: line ",
-                number as u64,
-                audit_line_ending(fault),
-            )
+            write_refused_line(writer, "audit: line ", number, audit_line_word(fault))
         }
         AuditFault::NoMemory => write_bytes(writer, b"no memory\n"),
-    }
-}
-
-/// What follows the line's number in the fault line: the fault's word, and the line feed.
-fn events_line_ending(fault: EventFault) -> &'static str
-    ensures { result.now ≡ codes ": " ++ event_word fault ++ codes "\n" }
-{
-    match fault {
-        EventFault::Syntax => ": Syntax\n",
-        EventFault::Entry => ": Entry\n",
-        EventFault::Time => ": Time\n",
-        EventFault::Does => ": Does\n",
-        EventFault::Order => ": Order\n",
     }
 }
 
@@ -335,12 +372,7 @@ fn write_events_fault<W: Write>(fault: EventsFault, writer: &mut W) -> Result<()
     match fault {
         EventsFault::TooLong => write_bytes(writer, b"events: TooLong\n"),
         EventsFault::Line { number, fault } => {
-            write_numbered(
-                writer,
-                "events: line ",
-                number as u64,
-                events_line_ending(fault),
-            )
+            write_refused_line(writer, "events: line ", number, event_word(fault))
         }
         EventsFault::NoMemory => write_bytes(writer, b"no memory\n"),
     }
@@ -362,12 +394,7 @@ pub fn write_stop<W: Write>(stop: &Stop, writer: &mut W) -> Result<(), Stop>
     match *stop {
         Stop::JudgeTooLong => write_bytes(writer, b"judge: TooLong\n")?,
         Stop::JudgeLine { line, fault } => {
-            write_numbered(
-                writer,
-                "judge: line ",
-                line as u64,
-                judge_line_ending(fault),
-            )?
+            write_refused_line(writer, "judge: line ", line, fault_word(fault))?
         }
         Stop::Config { fault } => write_config_fault(fault, writer)?,
         Stop::Script { fault } => write_script_fault(fault, writer)?,

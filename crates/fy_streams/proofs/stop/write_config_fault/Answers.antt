@@ -1,7 +1,7 @@
 use Rattle.std.proofs.Common.{◌∙◌, OnOk, OnErr, codes, sym, ap, subst}
 use Rattle.std.specs.Io.KnownBytes.{Appends}
 use Rattle.fy_lines.specs.Prefixes.{AppendsProperPrefix}
-use Rattle.fy_streams.specs.Stops.{worded, numbered, config_text}
+use Rattle.fy_streams.specs.Stops.{worded, config_text}
 use Rattle.fy_streams.proofs.stop.write_config_fault.Goals as goal
 
 pub returns-in-Field-clause-ok : goal.returns-in-Field-clause-ok
@@ -21,17 +21,16 @@ returns-in-Limit-clause-ok g c =
 pub returns-in-Name-clause-err : goal.returns-in-Name-clause-err
 returns-in-Name-clause-err g c =
     subst
-    (λ text. OnErr c.write_numbered.result (AppendsProperPrefix (g.W.Write.contents c.args.writer.now)
-    (g.W.Write.contents c.write_numbered.new.writer) text))
-    (ap (λ head. numbered head c.in-Name.index (codes "\n")) c.name_head.ensures
-    ∙ ap config_text (sym c.in-Name.is)) c.write_numbered.ensures.err
+    (λ text. OnErr c.write_bad_name.result (AppendsProperPrefix (g.W.Write.contents c.args.writer.now)
+    (g.W.Write.contents c.write_bad_name.new.writer) text))
+    (ap config_text (sym c.in-Name.is)) c.write_bad_name.ensures.err
 
 pub returns-in-Policy-clause-ok : goal.returns-in-Policy-clause-ok
 returns-in-Policy-clause-ok g c =
     subst
-    (λ text. OnOk c.write_numbered-in-Policy.result (Appends (g.W.Write.contents c.args.writer.now)
-    (g.W.Write.contents c.write_numbered-in-Policy.new.writer) text))
-    (ap config_text (sym c.in-Policy.is)) c.write_numbered-in-Policy.ensures.ok
+    (λ text. OnOk c.write_numbered.result (Appends (g.W.Write.contents c.args.writer.now)
+    (g.W.Write.contents c.write_numbered.new.writer) text))
+    (ap config_text (sym c.in-Policy.is)) c.write_numbered.ensures.ok
 
 pub returns-in-PolicyUnmet-clause-ok : goal.returns-in-PolicyUnmet-clause-ok
 returns-in-PolicyUnmet-clause-ok g c =
