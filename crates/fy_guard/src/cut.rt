@@ -86,7 +86,10 @@ pub fn write_whole<A: Read, W: Write>(
     ensures front_out { result ≡ Err Stop.Write → IfSome (A.remaining audit.old) (λ bytes.
         (whole : ℕ) × IsCutAt bytes number whole ×
         AppendsProperPrefix (W.contents writer.old) (W.contents writer.new) (whole_text whole)) }
+    ensures refused { IfErr result (TellsFault (A.remaining audit.old)) }
     ensures no_other { IfErr result IsCheckStop }
+    ensures read_fault { result ≡ Err Stop.Read →
+        ReadsAtMost (A.remaining audit.old) (A.remaining audit.new) MOST_AUDIT_BYTES }
     ensures no_further { ReadsAtMost (A.remaining audit.old) (A.remaining audit.new)
         (MOST_AUDIT_BYTES + 1) }
 {
