@@ -1,5 +1,5 @@
 -- rounds: the acts of a plan that are drawn at once, from a stream of their own
-use Rattle.std.specs.Prelude.{◌≤◌, ℕ, List, ◌++◌, length, map, drop}
+use Rattle.std.specs.Prelude.{ℕ, List, ◌++◌, length, map, drop}
 use Rattle.std.proofs.Common.{lit≤}
 use Rattle.fy_locality.specs.declared.locality.Locality.{Locality}
 use Rattle.fy_kinds.specs.declared.kind.Kind.TheVariants.{Reboot, RebootAndDelete}

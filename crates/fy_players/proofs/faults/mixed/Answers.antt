@@ -1,5 +1,5 @@
 use Rattle.std.proofs.Common.{◌∙◌, ap, subst}
-use Rattle.fy_players.specs.Faults.{IsKill, Mixes}
+use Rattle.fy_players.specs.Faults.{Mixes}
 use Rattle.fy_players.specs.Picks.{floor_of, target_of}
 use Rattle.fy_players.proofs.faults.mixed.Goals as goal
 
