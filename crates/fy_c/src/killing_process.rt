@@ -64,10 +64,7 @@ fn order_on(map: &Map, process: u32, kind: u32, floor: u32, tear: u64) -> Result
         unreachable!();
     };
     let key = Key::Process;
-    match KillOrder::make(Target { key, value }, kind, floor, tear) {
-        Ok(order) => Ok(order),
-        Err(_) => Err(Status::Floor),
-    }
+    Ok(KillOrder::make(Target { key, value }, kind, floor, tear)?)
 }
 
 /// Applies a kill of one process by an actor to the cluster of an open guard. The order names the
@@ -107,6 +104,7 @@ fn kill_process(
 {
     let order = match order {
         Ok(order) => order,
+        // A status comes with what is told, so no `?` hands it on.
         Err(status) => return (*status, UNTOLD),
     };
     let answer = apply_kill(guard, actor, ProcId(process), order);
@@ -160,6 +158,7 @@ pub(crate) fn judge_process(
 {
     let (kind, floor) = match kinds_on(cluster.config().map(), process, kind, floor) {
         Ok(kinds) => kinds,
+        // As in `kill_process`.
         Err(status) => return (status, UNTOLD),
     };
     let Some(reply) = cluster.judge_process(actor, ProcId(process), kind, floor) else {
