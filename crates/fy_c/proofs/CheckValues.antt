@@ -16,16 +16,12 @@ use Rattle.std.specs.Ptr.{if_non_null}
 use Rattle.std.specs.contracts.alloc.Global as heap
 use Rattle.fy_c.specs.contracts.check_handle.FyCheck as handle
 use Rattle.fy_c.specs.contracts.checking.Check as inner
-use Rattle.fy_c.proofs.Values.{single}
+use Rattle.fy_c.proofs.Values.{at_block, single}
 
 abbrev pub Hd : RattleType
 Hd = handle.the_row
 
 module _ {M : Type 1} {𝓤 : Ura M} {𝓛 : Logic 𝓤} {K : Type 0} {Γ : List (Item 𝓤)} {G : Goal 𝓤 𝓛.H} where
-  at_block : K → (p : Ptr) (F : Ptr → base.Fml.Fml) → (p ≡ null_ptr → ⊥) → ((b o : ℕ) → p ≡ block_ptr b o → Seq K 𝓛 (‵ (F (block_ptr b o)) ∷ Γ) G) → Seq K 𝓛 (‵ (F p) ∷ Γ) G
-  at_block t (block_ptr b o) F some k = k b o refl
-  at_block t null_ptr F some k = absurd (some refl)
-
   pub handle_out : K → (d : Hd.Denot) (vs : List Val) → (d.at ≡ null_ptr → ⊥)
       → ((b o : ℕ) → d.at ≡ block_ptr b o → vs ≡ single (vptr b o) ∷ [] → Seq K 𝓛 (‵ (box_owns (ghosts.dealloc_token d.alloc) inner.the_row (block_ptr b o) d.value) ∷ Γ) G)
       → Seq K 𝓛 (‵ (Hd.own_val d vs) ∷ Γ) G

@@ -1,5 +1,5 @@
 -- plans: how many words they take, and what is told of their acts
-use Rattle.std.proofs.Common.{arith, ◌≡◌, ◌∙◌, ◌≤◌, ◌+◌, ◌-◌, ◌*◌, ℕ, zero, suc, List, [], ◌∷◌, ◌++◌, length, map, refl, sym, ap, ap₂, subst}
+use Rattle.std.proofs.Common.{arith, ◌≡◌, ◌∙◌, ◌≤◌, ◌+◌, ◌-◌, ℕ, zero, suc, List, [], ◌∷◌, ◌++◌, length, map, refl, sym, ap, ap₂, subst}
 use Rattle.std.specs.Prelude.{take, drop, replicate}
 use Rattle.std.proofs.lemmas.List.{take_all, length_push}
 use Rattle.std.proofs.lemmas.List.FromFn.{length-map-range_with_len}

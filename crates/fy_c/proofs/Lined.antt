@@ -1,6 +1,6 @@
 -- an audit that is read line by line
 use Rattle.std.proofs.Common.{◌≡◌, ◌∙◌, ◌+◌, ◌-◌, ◌<◌, ◌≤◌, ℕ, List, [], ◌∷◌, ◌++◌, length, refl, sym, ap, ap₂, subst, arith, append_assoc, append-nil, length-append}
-use Rattle.std.specs.Prelude.{◌≢◌, true, false, ◌==◌, Option, Some, None, Ok, Err, codes, ⊤}
+use Rattle.std.specs.Prelude.{◌≢◌, true, false, ◌==◌, Option, Some, None, Result, Ok, Err, OnOk, OnErr, IfErr, codes, ⊤}
 use Rattle.std.proofs.lemmas.Bool.Decides.{nat_tests}
 use Rattle.fy_acts.specs.declared.entry.Entry.{Entry}
 use Rattle.fy_audit.specs.Audit.{Audit, AuditOf, AuditAnswers, MayStandFrom, BeginsWith}
@@ -20,7 +20,8 @@ use Rattle.fy_spelling.specs.declared.command.TheConstants.{MOST_LINE_BYTES}
 use Rattle.fy_c.specs.InStep.{progress}
 use Rattle.fy_c.specs.Progress.{Progress}
 use Rattle.fy_c.specs.declared.checking.Begun.TheInside.{Inside}
-use Rattle.fy_c.specs.Checking.{HasProgress, HasBegun, HasChecked, MayBeRead, Refuses, audit_status, next_number}
+use Rattle.fy_c.specs.Checking.{HasProgress, HasBegun, HasChecked, MayBeRead, ReadsLine, ReadsOn, Refuses, audit_status, bad_of, next_number}
+use Rattle.fy_c.specs.Statuses.{ending}
 use Rattle.fy_c.specs.declared.checking.Check.{Check}
 use Rattle.fy_c.specs.declared.status.Status.{Status}
 use Rattle.fy_c.specs.declared.status.Status.TheVariants.{LineSyntax}
@@ -279,3 +280,13 @@ grown more ends setup bytes line old new before after entry has read step none r
       count = omega arith;
       long = omega arith;
     }
+
+-- what a line comes to, by what was read of it
+pub reads_line : {A : Type 0} (old new : Check) (line : List ℕ) (told : ℕ)
+    (outcome : Result A Status) → OnOk outcome (ReadsOn old new line) →
+    IfErr outcome (Refuses (λ bytes. HasChecked bytes old) (next_number old.begun) line) →
+    OnErr outcome (new ≡ old) → told ≡ bad_of new.begun →
+    ReadsLine old new line told (ending outcome)
+reads_line old new line told (Ok done) on refused same bad = ReadsLine.read refl on bad
+reads_line old new line told (Err status) on refused same bad =
+    ReadsLine.refused refused same (bad ∙ ap (λ (it : Check). bad_of it.begun) same)

@@ -20,7 +20,7 @@ use Rattle.fy_cluster.specs.Replies.{reply, reasons, refusals, answer, first_ref
 use Rattle.fy_cluster.specs.Sights.{needed_at, needed_of}
 use Rattle.fy_cluster.proofs.Journals.{moments_entered}
 use Rattle.fy_cluster.proofs.Still.{or_nothing}
-use Rattle.fy_c.specs.Entering.{Applies, IsMissing, refusal_of}
+use Rattle.fy_c.specs.Entering.{Applies, Enters, IsMissing, refusal_of}
 
 -- ---- a refused heal leaves what its process needs
 
@@ -124,10 +124,17 @@ still_needed old new by process rec applies = record {
     there : nat_lt process (length old.setup.processes) ≡ true
     there = grind (arith, nat_tests, is.0)
 
--- a heal that tells of a record
-pub missing : (old new : Execution) (by process : ℕ) (answer : Result Reply Fault) →
+-- a heal whose answer names a record
+told_missing : (old new : Execution) (by process : ℕ) (answer : Result Reply Fault) →
     Applies old new by (Heal (record { 0 = process })) answer → refusal_of answer ≡ 25 →
     IsMissing old new by process
-missing old new by process (Ok (No (StillNeeds rec))) applies is =
+told_missing old new by process (Ok (No (StillNeeds rec))) applies is =
     still_needed old new by process rec applies
-missing old new by process _ applies is = absurd (omega (arith, is))
+told_missing old new by process _ applies is = absurd (omega (arith, is))
+
+-- and one of which that is told
+pub missing : (old new : Execution) (by process code refusal : ℕ) →
+    Enters old new by (Heal (record { 0 = process })) code refusal → refusal ≡ 25 →
+    IsMissing old new by process
+missing old new by process code refusal enters is =
+    told_missing old new by process enters.answer enters.applies (sym enters.why ∙ is)

@@ -1,6 +1,6 @@
 -- an order on one process by numbers, and what came of it
-use Rattle.std.proofs.Common.{◌≡◌, ◌<◌, ◌≤◌, zero, suc, List, [], ◌∷◌, length, Some, refl, sym, ap, subst, ◌∙◌, arith}
-use Rattle.std.specs.Prelude.{ℕ, Result, Ok, Err, IfOk, IfErr}
+use Rattle.std.proofs.Common.{◌≡◌, ◌<◌, ◌≤◌, zero, suc, List, [], ◌∷◌, length, Some, refl, ap, ◌∙◌, arith}
+use Rattle.std.specs.Prelude.{ℕ, Ok}
 use Rattle.fy_locality.specs.declared.key.Key.TheVariants.{Process}
 use Rattle.fy_locality.specs.declared.locality.Locality.{Locality}
 use Rattle.fy_locality.specs.Locality.{value_of}
@@ -12,8 +12,8 @@ use Rattle.fy_acts.specs.declared.act.Act.TheVariants.{Kill}
 use Rattle.fy_acts.specs.declared.reply.Reply.{Reply}
 use Rattle.fy_cluster.specs.Execution.{Execution, replied}
 use Rattle.fy_c.specs.Entering.{status_of}
-use Rattle.fy_c.specs.Killing.{IsKilled, told_of, untold}
-use Rattle.fy_c.specs.KillingProcess.{GivenProcess, IsOrderOn, AreKindsOn, NoOrderOn, KillsProcess, JudgesProcess}
+use Rattle.fy_c.specs.Killing.{told_of}
+use Rattle.fy_c.specs.KillingProcess.{GivenProcess, AreKindsOn, JudgesProcess}
 use Rattle.fy_c.specs.declared.killing.Told.{Told}
 use Rattle.fy_c.specs.declared.status.Status.{Status}
 
@@ -23,20 +23,6 @@ pub has_name : (processes : List Locality) (p : ℕ) → p < length processes �
 has_name [] p within = absurd (omega arith)
 has_name (x ∷ xs) zero within = (x.process, refl)
 has_name (x ∷ xs) (suc p) within = has_name xs p (let l : p < length xs = omega arith in l)
-
--- an order that was made was killed by, and one that wasn't is told of
-pub kills_process : (old new : Execution) (by : ℕ) (given : GivenProcess)
-    (order : Result Order Status) (answer : Status × Told) →
-    IfOk order (IsOrderOn old.setup.processes given) →
-    IfErr order (NoOrderOn old.setup.processes given) →
-    IfOk order (λ it. IsKilled old new by it answer.0 answer.1) →
-    IfErr order (λ status. (new ≡ old) × (answer ≡ (status, untold))) →
-    KillsProcess old new by given answer.1 answer.0
-kills_process old new by given (Ok order) answer is none killed not_given =
-    KillsProcess.killed order is killed
-kills_process old new by given (Err status) answer is none killed not_given =
-    subst (λ (it : Status × Told). KillsProcess old new by given it.1 it.0) (sym not_given.1)
-    (KillsProcess.not_given none not_given.0 refl)
 
 -- what each order on a process by two kinds would get is what the one that they give would get
 pub judges_process : (execution : Execution) (by : ℕ) (given : GivenProcess) (kind floor : Kind)

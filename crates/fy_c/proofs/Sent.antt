@@ -1,5 +1,4 @@
 -- that a guard and a check may go from thread to thread
-use mathlib.Core.List.{[], ◌∷◌}
 use mir.Raw.{raw as bare}
 use base.Shift.{Keyless}
 use base.Fml.{Fml}

@@ -1,6 +1,6 @@
 -- The machine values of a `Loose` and of a `OnceBox`. Assumes `Logic`.
 use Rattle.std.proofs.Common.{◌≡◌, ℕ, List, [], ◌∷◌, ◌++◌, refl, subst}
-use mathlib.Core.Bool.{Bool, true, false, ◌&&◌}
+use mathlib.Core.Bool.{true, ◌&&◌}
 use lib.Dec.{T}
 use seplogic.Ra.Ura.{Ura}
 use mir.Syntax.{impl, tnil, dnil}
@@ -74,7 +74,8 @@ abbrev pub Hd : RattleType
 Hd = handle.the_row
 
 module _ {M : Type 1} {𝓤 : Ura M} {𝓛 : Logic 𝓤} {K : Type 0} {Γ : List (Item 𝓤)} {G : Goal 𝓤 𝓛.H} where
-  at_block : K → (p : Ptr) (F : Ptr → base.Fml.Fml) → (p ≡ null_ptr → ⊥) → ((b o : ℕ) → p ≡ block_ptr b o → Seq K 𝓛 (‵ (F (block_ptr b o)) ∷ Γ) G) → Seq K 𝓛 (‵ (F p) ∷ Γ) G
+  -- a pointer that isn't null is that of a block
+  pub at_block : K → (p : Ptr) (F : Ptr → base.Fml.Fml) → (p ≡ null_ptr → ⊥) → ((b o : ℕ) → p ≡ block_ptr b o → Seq K 𝓛 (‵ (F (block_ptr b o)) ∷ Γ) G) → Seq K 𝓛 (‵ (F p) ∷ Γ) G
   at_block t (block_ptr b o) F some k = k b o refl
   at_block t null_ptr F some k = absurd (some refl)
 

@@ -1,5 +1,5 @@
 -- orders by numbers, and what is told of a kill
-use Rattle.std.specs.Prelude.{◌≡◌, ◌≢◌, ◌<◌, ℕ, List, IsTrue, Result, Ok, Err}
+use Rattle.std.specs.Prelude.{◌≡◌, ◌≢◌, ◌<◌, ℕ, List, IsTrue, Result, Ok}
 use Rattle.fy_locality.specs.Name.{is_name}
 use Rattle.fy_locality.specs.declared.key.Key.{Key}
 use Rattle.fy_kinds.specs.declared.kind.Kind.{Kind}

@@ -1,5 +1,5 @@
 -- sets of processes by their bits, and whom a target means
-use Rattle.std.specs.Prelude.{◌≡◌, ◌≢◌, ℕ, Bool, ◌&&◌, nat_lt, List, length, IsTrue}
+use Rattle.std.specs.Prelude.{◌≡◌, ◌≢◌, ℕ, ◌&&◌, nat_lt, List, length, IsTrue}
 use Rattle.std.specs.FinSet as sets
 use Rattle.fy_locality.specs.Members.{members}
 use Rattle.fy_locality.specs.Name.{is_name}

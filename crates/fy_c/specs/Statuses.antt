@@ -1,5 +1,5 @@
 -- the numbers that calls answer
-use Rattle.std.specs.Prelude.{◌≡◌, ℕ}
+use Rattle.std.specs.Prelude.{◌≡◌, ℕ, Result, Ok, Err}
 use Rattle.fy_spelling.specs.declared.command.LineFault.{LineFault}
 use Rattle.fy_spelling.specs.declared.command.LineFault.TheVariants as line
 use Rattle.fy_spelling.specs.declared.command.CommandFault.{CommandFault}
@@ -35,6 +35,11 @@ number ConfigUnmet = 18
 number NoHeader = 20
 number AuditTooLong = 21
 number Refuted = 22
+
+-- how a call ended: `Done`, or the status of its error
+abbrev pub ending : {A : Type 0} → Result A Status → Status
+ending (Ok _) = Done
+ending (Err status) = status
 
 -- the number is that of a status of which this holds
 abbrev pub Answers : ℕ → (Status → Type 0) → Type 0

@@ -3,10 +3,10 @@ ghost use Rattle.std.specs.Prelude.{◌≡◌, ◌≢◌, ◌<◌, length, vec_c
 ghost use Rattle.std.specs.Ptr.{null_ptr};
 ghost use Rattle.fy_audit.specs.AuditText.{entry_line};
 ghost use Rattle.fy_c.specs.Acting.{NoLine, IsAnswered, Tells, IsShort, Acts, HasLine, NotRead, Reads};
-ghost use Rattle.fy_c.specs.Statuses.{Answers};
+ghost use Rattle.fy_c.specs.Statuses.{Answers, ending};
 
 use crate::handle::FyGuard;
-use crate::status::Status;
+use crate::status::{Status, number_of};
 use fy_acts::Journal;
 use fy_audit::push_entry_line;
 use fy_cluster::Cluster;
@@ -69,9 +69,7 @@ fn act(alloc: Global, guard: &mut FyGuard, line: &[u8], room: usize) -> Result<V
         IsAnswered guard.old.value guard.new.value line.now text.items) }
     ensures err { IfErr result (NoLine guard.old.value guard.new.value line.now room) }
 {
-    let Ok(mut text) = Vec::with_capacity(alloc, room) else {
-        return Err(Status::NoMemory);
-    };
+    let mut text = Vec::with_capacity(alloc, room)?;
     answer(alloc, guard.cluster(), line, &mut text)?;
     Ok(text)
 }
@@ -88,6 +86,36 @@ fn tell(text: &[u8], buffer: &mut [u8], told: &mut usize) -> bool
     }
     buffer[..text.len()].copy_from_slice(text);
     true
+}
+
+/// Does what `fy_act` says.
+///
+/// # Errors
+///
+/// Those of `fy_act`.
+fn act_into(
+    alloc: Global,
+    guard: &mut FyGuard,
+    line: &[u8],
+    buffer: &mut [u8],
+    told: &mut usize,
+) -> Result<(), Status>
+    requires { guard.old.at ≢ null_ptr }
+    ensures open { guard.new.at ≢ null_ptr }
+    ensures acted { Acts guard.old.value guard.new.value line.now buffer.old buffer.new told.new
+        (ending result) }
+{
+    let room = line.len() + MOST_REPLY_BYTES;
+    *told = room;
+    if buffer.len() < room {
+        return Err(Status::Short);
+    }
+    let text = act(alloc, guard, line, room)?;
+    if tell(&text, buffer, told) {
+        Ok(())
+    } else {
+        Err(Status::Unwritten)
+    }
 }
 
 /// Reads a line of a script, applies its command, and writes the line of its entry, with its line
@@ -115,20 +143,7 @@ pub extern "C" fn fy_act(
     ensures acted { Answers result (Acts guard.old.value guard.new.value line.now
         buffer.old buffer.new told.new) }
 {
-    let room = line.len() + MOST_REPLY_BYTES;
-    *told = room;
-    if buffer.len() < room {
-        return Status::Short.number();
-    }
-    let text = match act(alloc, guard, line, room) {
-        Ok(text) => text,
-        Err(status) => return status.number(),
-    };
-    if tell(&text, buffer, told) {
-        Status::Done.number()
-    } else {
-        Status::Unwritten.number()
-    }
+    number_of(act_into(alloc, guard, line, buffer, told))
 }
 
 /// The line of an entry of a journal.
@@ -144,9 +159,29 @@ fn line_of(alloc: Global, journal: &Journal, at: usize) -> Result<Vec<u8>, Statu
         return Err(Status::NoEntry);
     };
     let mut line = Vec::new(alloc);
-    match put_line(&mut line, entry) {
-        Ok(()) => Ok(line),
-        Err(_) => Err(Status::NoMemory),
+    put_line(&mut line, entry)?;
+    Ok(line)
+}
+
+/// Writes the line of an entry of a journal, as `fy_audit` says.
+///
+/// # Errors
+///
+/// Those of `fy_audit`.
+fn audit_into(
+    alloc: Global,
+    journal: &Journal,
+    at: usize,
+    buffer: &mut [u8],
+    told: &mut usize,
+) -> Result<(), Status>
+    ensures { Reads journal.now.entries at buffer.old buffer.new told.old told.new (ending result) }
+{
+    let line = line_of(alloc, journal, at)?;
+    if tell(&line, buffer, told) {
+        Ok(())
+    } else {
+        Err(Status::Short)
     }
 }
 
@@ -171,15 +206,8 @@ pub extern "C" fn fy_audit(
     ensures read { Answers result (Reads guard.old.value.journal at
         buffer.old buffer.new told.old told.new) }
 {
-    let line = match line_of(alloc, guard.cluster().journal(), at) {
-        Ok(line) => line,
-        Err(status) => return status.number(),
-    };
-    if tell(&line, buffer, told) {
-        Status::Done.number()
-    } else {
-        Status::Short.number()
-    }
+    let journal = guard.cluster().journal();
+    number_of(audit_into(alloc, journal, at, buffer, told))
 }
 
 /// How many entries the journal has.

@@ -4,11 +4,11 @@ ghost use Rattle.std.specs.Ptr.{null_ptr};
 ghost use Rattle.fy_config.specs.Config.{ConfigOf};
 ghost use Rattle.fy_c.specs.Checking.{ReadsLine, BeginsCheck, Finding};
 ghost use Rattle.fy_c.specs.Opening.{NotOpened};
-ghost use Rattle.fy_c.specs.Statuses.{Answers};
+ghost use Rattle.fy_c.specs.Statuses.{Answers, ending};
 
 use crate::check_handle::{FyCheck, closed_up, opened_up};
 use crate::checking::{Check, bad_of, count_of, read_line};
-use crate::status::{Status, config_status};
+use crate::status::{Status, number_of};
 use fy_config::read_config;
 use std::alloc::Global;
 
@@ -18,18 +18,24 @@ fn begun(alloc: Global, config: &[u8]) -> Result<Box<Check>, Status>
     ensures none { IfOk result (λ check. check.value.begun ≡ None) }
     ensures refused { IfErr result (NotOpened config.now) }
 {
-    let config = match read_config(alloc, config) {
-        Ok(config) => config,
-        Err(fault) => return Err(config_status(fault)),
-    };
+    let config = read_config(alloc, config)?;
     let check = Check {
         config,
         begun: None,
     };
-    match Box::new(alloc, check) {
-        Ok(check) => Ok(check),
-        Err(_) => Err(Status::NoMemory),
-    }
+    Ok(Box::new(alloc, check)?)
+}
+
+/// Does what `fy_begin_check` says.
+///
+/// # Errors
+///
+/// Those of `fy_begin_check`.
+fn begin_check(alloc: Global, config: &[u8], check: &mut FyCheck) -> Result<(), Status>
+    ensures { BeginsCheck config.now check.old check.new (ending result) }
+{
+    *check = closed_up(begun(alloc, config)?);
+    Ok(())
 }
 
 /// Begins to check an audit of a cluster that began with this cluster file. What the check was
@@ -42,13 +48,7 @@ fn begun(alloc: Global, config: &[u8]) -> Result<Box<Check>, Status>
 pub extern "C" fn fy_begin_check(alloc: Global, config: &[u8], check: &mut FyCheck) -> u32
     ensures { Answers result (BeginsCheck config.now check.old check.new) }
 {
-    match begun(alloc, config) {
-        Ok(begun) => {
-            *check = closed_up(begun);
-            Status::Done.number()
-        }
-        Err(status) => status.number(),
-    }
+    number_of(begin_check(alloc, config, check))
 }
 
 /// Frees all that an open check holds.
@@ -81,12 +81,9 @@ pub extern "C" fn fy_read_line(
         (ReadsLine check.old.value check.new.value line.now first_bad.new) }
 {
     let held = check.held();
-    let status = match read_line(alloc, held, line) {
-        Ok(()) => Status::Done,
-        Err(status) => status,
-    };
+    let outcome = read_line(alloc, held, line);
     *first_bad = bad_of(&held.begun);
-    status.number()
+    number_of(outcome)
 }
 
 /// What `check` finds of the lines so far: how many entries there are, and the first bad one, as

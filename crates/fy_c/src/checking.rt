@@ -1,7 +1,7 @@
 //! Audits that are checked line by line.
 ghost use Rattle.std.specs.Prelude.{◌≡◌, ◌+◌, ℕ, List, [], ◌++◌, IfOk, IfErr, OnOk, OnErr};
 ghost use Rattle.fy_cluster.specs.Setup.{Setup};
-ghost use Rattle.fy_c.specs.Checking.{HasProgress, HasChecked, bad_number, count_of, bad_of, line_fault_status, audit_status, next_number, Refuses, ReadsOn};
+ghost use Rattle.fy_c.specs.Checking.{HasProgress, HasChecked, bad_number, count_of, bad_of, line_fault_status, next_number, Refuses, ReadsOn};
 
 use crate::status::Status;
 use fy_audit::laws::an_audit_is_read_entry_by_entry;
@@ -63,14 +63,17 @@ fn line_fault_status(fault: AuditLineFault) -> Status
     }
 }
 
-/// The status for an audit that is refused.
-pub(crate) fn audit_status(fault: AuditFault) -> Status
-    ensures { result ≡ audit_status fault }
-{
-    match fault {
-        AuditFault::TooLong => Status::AuditTooLong,
-        AuditFault::Line { number: _, fault } => line_fault_status(fault),
-        AuditFault::NoMemory => Status::NoMemory,
+impl From<AuditFault> for Status {
+    ghost use Rattle.fy_c.specs.Checking.{audit_status};
+
+    ghost from_gives = { λ fault status. status ≡ audit_status fault };
+
+    fn from(fault: AuditFault) -> Status {
+        match fault {
+            AuditFault::TooLong => Status::AuditTooLong,
+            AuditFault::Line { number: _, fault } => line_fault_status(fault),
+            AuditFault::NoMemory => Status::NoMemory,
+        }
     }
 }
 
@@ -94,20 +97,13 @@ fn read_header(alloc: Global, config: &Config, line: &[u8]) -> Result<Begun, Sta
     ensures refused { IfErr result (Refuses (λ bytes. bytes ≡ []) 1 line.now) }
 {
     an_audit_is_read_entry_by_entry();
-    let reader = match AuditReader::begin(alloc, line) {
-        Ok(reader) => reader,
-        Err(fault) => return Err(audit_status(fault)),
-    };
+    let reader = AuditReader::begin(alloc, line)?;
     if !reader.is_at_end() {
         return Err(Status::LineSyntax);
     }
     let version = reader.version();
-    let Ok(config) = config.try_copy(alloc) else {
-        return Err(Status::NoMemory);
-    };
-    let Ok(replayer) = Replayer::begin(alloc, config, version) else {
-        return Err(Status::NoMemory);
-    };
+    let config = config.try_copy(alloc)?;
+    let replayer = Replayer::begin(alloc, config, version)?;
     Ok(Begun {
         version,
         count: 0,
@@ -143,16 +139,11 @@ fn read_entry(alloc: Global, begun: &mut Begun, line: &[u8]) -> Result<(), Statu
         return Err(Status::LineTooLong);
     }
     let mut reader = AuditReader::resume(alloc, begun.version, begun.count, line);
-    let entry = match reader.next_entry() {
-        Ok(entry) => entry,
-        Err(fault) => return Err(audit_status(fault)),
-    };
+    let entry = reader.next_entry()?;
     if !reader.is_at_end() {
         return Err(Status::LineSyntax);
     }
-    let Ok(()) = begun.replayer.enter(entry) else {
-        return Err(Status::NoMemory);
-    };
+    begun.replayer.enter(entry)?;
     begun.count += 1;
     begun.bytes += line.len();
     Ok(())
@@ -171,13 +162,10 @@ pub(crate) fn read_line(alloc: Global, check: &mut Check, line: &[u8]) -> Result
 {
     match &mut check.begun {
         Some(begun) => read_entry(alloc, begun, line),
-        None => match read_header(alloc, &check.config, line) {
-            Ok(begun) => {
-                check.begun = Some(begun);
-                Ok(())
-            }
-            Err(status) => Err(status),
-        },
+        None => {
+            check.begun = Some(read_header(alloc, &check.config, line)?);
+            Ok(())
+        }
     }
 }
 

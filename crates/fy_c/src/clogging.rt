@@ -19,10 +19,8 @@ fn clog_of(key: u32, value: &[u8], ticks: u64) -> Result<Act, Status>
     ensures given { IfOk result (IsClogOf key value.now ticks) }
     ensures not_given { IfErr result (NoTarget key value.now) }
 {
-    match target_of(key, value) {
-        Ok(target) => Ok(Act::Clog { target, ticks }),
-        Err(status) => Err(status),
-    }
+    let target = target_of(key, value)?;
+    Ok(Act::Clog { target, ticks })
 }
 
 /// The end of clogs by numbers.
@@ -34,10 +32,8 @@ fn unclog_of(key: u32, value: &[u8]) -> Result<Act, Status>
     ensures given { IfOk result (IsUnclogOf key value.now) }
     ensures not_given { IfErr result (NoTarget key value.now) }
 {
-    match target_of(key, value) {
-        Ok(target) => Ok(Act::Unclog { target }),
-        Err(status) => Err(status),
-    }
+    let target = target_of(key, value)?;
+    Ok(Act::Unclog { target })
 }
 
 /// Holds back the messages of each process of a target for so many ticks. The rule that bars it and

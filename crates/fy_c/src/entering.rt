@@ -78,6 +78,22 @@ fn refusal_of(answer: Result<Reply, Fault>) -> u32
     }
 }
 
+/// Applies an act by an actor. Why it is refused goes to `refusal`, or 0.
+///
+/// # Errors
+///
+/// `Refused`, and the act stands in the journal all the same; `JournalFull` and `NoMemory`, in this
+/// order, where nothing changed.
+fn enter(guard: &mut FyGuard, actor: u32, act: Act, refusal: &mut u32) -> u32
+    requires { guard.old.at ≢ null_ptr }
+    ensures open { guard.new.at ≢ null_ptr }
+    ensures entered { Enters guard.old.value guard.new.value actor act result refusal.new }
+{
+    let answer = apply(guard, actor, act);
+    *refusal = refusal_of(answer);
+    status_of(answer).number()
+}
+
 /// Applies `Up`: the process runs again. Why it is refused goes to `refusal`, or 0.
 ///
 /// # Errors
@@ -92,9 +108,7 @@ pub extern "C" fn fy_up(guard: &mut FyGuard, actor: u32, process: u32, refusal: 
         result refusal.new }
 {
     let process = ProcId(process);
-    let answer = apply(guard, actor, Act::Up { process });
-    *refusal = refusal_of(answer);
-    status_of(answer).number()
+    enter(guard, actor, Act::Up { process }, refusal)
 }
 
 /// Applies `Heal`: the process has every acknowledged record on its disk again. Why it is refused
@@ -115,7 +129,5 @@ pub extern "C" fn fy_heal(guard: &mut FyGuard, actor: u32, process: u32, refusal
         IsMissing guard.old.value guard.new.value actor process }
 {
     let process = ProcId(process);
-    let answer = apply(guard, actor, Act::Heal { process });
-    *refusal = refusal_of(answer);
-    status_of(answer).number()
+    enter(guard, actor, Act::Heal { process }, refusal)
 }

@@ -3,7 +3,7 @@ ghost use Rattle.std.specs.Prelude.{◌≡◌};
 ghost use Rattle.fy_c.specs.Faults.{part_number, part_of, place_of, Faults};
 ghost use Rattle.fy_c.specs.Statuses.{Answers};
 
-use crate::status::{Status, config_status};
+use crate::status::Status;
 use fy_config::{ConfigFault, Part, read_config};
 use std::alloc::Global;
 
@@ -73,5 +73,5 @@ pub extern "C" fn fy_config_fault(
     };
     *part = part_of(fault);
     *place = place_of(fault);
-    config_status(fault).number()
+    Status::from(fault).number()
 }

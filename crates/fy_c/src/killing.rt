@@ -89,10 +89,7 @@ fn order_of(key: u32, value: &[u8], kind: u32, floor: u32, tear: u64) -> Result<
     let Ok(value) = Name::from_bytes(value) else {
         return Err(Status::Name);
     };
-    match KillOrder::make(Target { key, value }, kind, floor, tear) {
-        Ok(order) => Ok(order),
-        Err(_) => Err(Status::Floor),
-    }
+    Ok(KillOrder::make(Target { key, value }, kind, floor, tear)?)
 }
 
 /// The process that an order names alone, by its name.

@@ -3,11 +3,11 @@ ghost use Rattle.std.specs.Prelude.{◌≡◌, ◌≢◌, IfOk, IfErr, OnOk};
 ghost use Rattle.std.specs.Ptr.{null_ptr};
 ghost use Rattle.fy_cluster.specs.Execution.{opened};
 ghost use Rattle.fy_c.specs.Opening.{Begins, Copies, NotOpened, Opens, Resets};
-ghost use Rattle.fy_c.specs.Statuses.{Answers};
+ghost use Rattle.fy_c.specs.Statuses.{Answers, ending};
 ghost use Rattle.fy_c.specs.declared.status.Status.TheVariants.{NoMemory};
 
 use crate::handle::{FyGuard, closed_up, opened_up};
-use crate::status::{Status, config_status};
+use crate::status::{Status, number_of};
 use fy_cluster::Cluster;
 use fy_config::read_config;
 use std::alloc::{AllocError, Global};
@@ -19,14 +19,21 @@ pub(crate) fn begun(alloc: Global, config: &[u8]) -> Result<Cluster, Status>
     ensures refused { IfErr result (NotOpened config.now) }
     ensures asked { OnOk result (NotOpened config.now NoMemory) }
 {
-    let config = match read_config(alloc, config) {
-        Ok(config) => config,
-        Err(fault) => return Err(config_status(fault)),
-    };
-    match Cluster::make(alloc, config) {
-        Ok(cluster) => Ok(cluster),
-        Err(_) => Err(Status::NoMemory),
-    }
+    let config = read_config(alloc, config)?;
+    Ok(Cluster::make(alloc, config)?)
+}
+
+/// Does what `fy_open` says.
+///
+/// # Errors
+///
+/// Those of `fy_open`.
+fn open(alloc: Global, config: &[u8], guard: &mut FyGuard) -> Result<(), Status>
+    ensures { Opens config.now guard.old guard.new (ending result) }
+{
+    let cluster = begun(alloc, config)?;
+    *guard = closed_up(Box::new(alloc, cluster)?);
+    Ok(())
 }
 
 /// Opens a guard of a cluster in which nothing happened yet. What the guard was before is
@@ -39,17 +46,7 @@ pub(crate) fn begun(alloc: Global, config: &[u8]) -> Result<Cluster, Status>
 pub extern "C" fn fy_open(alloc: Global, config: &[u8], guard: &mut FyGuard) -> u32
     ensures { Answers result (Opens config.now guard.old guard.new) }
 {
-    let cluster = match begun(alloc, config) {
-        Ok(cluster) => cluster,
-        Err(status) => return status.number(),
-    };
-    match Box::new(alloc, cluster) {
-        Ok(cluster) => {
-            *guard = closed_up(cluster);
-            Status::Done.number()
-        }
-        Err(_) => Status::NoMemory.number(),
-    }
+    number_of(open(alloc, config, guard))
 }
 
 /// Frees all that an open guard holds.

@@ -7,11 +7,11 @@ ghost use Rattle.fy_kinds.specs.Kinds.{rank};
 ghost use Rattle.fy_actors.specs.Schedules.{swizzle_acts, attrition_acts};
 ghost use Rattle.fy_c.specs.Numbers.{key_number};
 ghost use Rattle.fy_c.specs.Planning.{Draws, with_zeros, order_of, orders_of, clog_of, unclog_of, kill_of, no_order, IsSwizzleOf, AreKinds, NoKindAndFloor, machines_of, IsAttritionOf, Gives, Plans, PlansAttrition, plan_number, AreOrdersOf, FillsWithOrders};
-ghost use Rattle.fy_c.specs.Statuses.{Answers};
+ghost use Rattle.fy_c.specs.Statuses.{Answers, ending};
 
 use crate::handle::FyGuard;
 use crate::numbers::{kind_number, kind_of};
-use crate::status::Status;
+use crate::status::{Status, number_of};
 use fy_actors::{AttritionPlan, SwizzlePlan, draw_attrition, draw_swizzle, process_target, words};
 use fy_acts::Act;
 use fy_kinds::{KillOrder, Kind, Target};
@@ -92,16 +92,22 @@ fn with_zeros(name: &Name) -> [u8; VALUE_BYTES]
     value
 }
 
-/// The order to clog a process.
-fn clog(map: &Map, p: ProcId, ticks: u64) -> FyOrder
-    requires { p.0 < length map.now }
-    ensures { result ≡ clog_of map.now ticks p }
+/// The order of a clog of this many ticks, or of the end of one.
+fn order_of_clog(act: u32, target: Target, ticks: u64) -> FyOrder
+    ensures { result ≡ record {
+      ticks = ticks;
+      tear = 0;
+      act = act;
+      key = key_number target.key;
+      kind = 0;
+      floor = 0;
+      value = with_zeros target.value;
+    } }
 {
-    let target = process_target(map, p);
     FyOrder {
         ticks,
         tear: 0,
-        act: ORDER_CLOG,
+        act,
         key: key_number(target.key),
         kind: 0,
         floor: 0,
@@ -109,21 +115,20 @@ fn clog(map: &Map, p: ProcId, ticks: u64) -> FyOrder
     }
 }
 
+/// The order to clog a process.
+fn clog(map: &Map, p: ProcId, ticks: u64) -> FyOrder
+    requires { p.0 < length map.now }
+    ensures { result ≡ clog_of map.now ticks p }
+{
+    order_of_clog(ORDER_CLOG, process_target(map, p), ticks)
+}
+
 /// The order to end the clogs of a process.
 fn unclog(map: &Map, p: ProcId) -> FyOrder
     requires { p.0 < length map.now }
     ensures { result ≡ unclog_of map.now p }
 {
-    let target = process_target(map, p);
-    FyOrder {
-        ticks: 0,
-        tear: 0,
-        act: ORDER_UNCLOG,
-        key: key_number(target.key),
-        kind: 0,
-        floor: 0,
-        value: with_zeros(&target.value),
-    }
+    order_of_clog(ORDER_UNCLOG, process_target(map, p), 0)
 }
 
 /// The order to kill a machine.
@@ -178,15 +183,41 @@ fn swizzle(
 }
 
 /// Writes orders to the front of a buffer where they fit; tells how many there are.
-fn give(orders: &[FyOrder], buffer: &mut [FyOrder], told: &mut usize) -> Status
-    ensures { Gives orders.now buffer.old buffer.new told.new result }
+///
+/// # Errors
+///
+/// `Short` where the buffer has room for fewer.
+fn give(orders: &[FyOrder], buffer: &mut [FyOrder], told: &mut usize) -> Result<(), Status>
+    ensures { Gives orders.now buffer.old buffer.new told.new (ending result) }
 {
     *told = orders.len();
     if buffer.len() < orders.len() {
-        return Status::Short;
+        return Err(Status::Short);
     }
     buffer[..orders.len()].copy_from_slice(orders);
-    Status::Done
+    Ok(())
+}
+
+/// Draws a swizzle, and writes its orders as `fy_swizzle_plan` says.
+///
+/// # Errors
+///
+/// Those of `fy_swizzle_plan`.
+fn plan_swizzle(
+    alloc: Global,
+    map: &Map,
+    seed: u64,
+    stream: u64,
+    ticks: u64,
+    orders: &mut [FyOrder],
+    told: &mut usize,
+) -> Result<(), Status>
+    ensures { Plans (IsSwizzleOf map.now seed stream ticks) orders.old orders.new told.new
+        (ending result) }
+{
+    *told = 0;
+    let plan = swizzle(alloc, map, seed, stream, ticks)?;
+    give(&plan, orders, told)
 }
 
 /// Writes the orders of a swizzle to the front of a buffer: those of the first, third, .. fault
@@ -214,12 +245,8 @@ pub extern "C" fn fy_swizzle_plan(
         (IsSwizzleOf guard.old.value.setup.processes seed stream ticks)
         orders.old orders.new told.new) }
 {
-    *told = 0;
     let map = guard.cluster().config().map();
-    match swizzle(alloc, map, seed, stream, ticks) {
-        Ok(plan) => give(&plan, orders, told).number(),
-        Err(_) => Status::NoMemory.number(),
-    }
+    number_of(plan_swizzle(alloc, map, seed, stream, ticks, orders, told))
 }
 
 /// Which machines are killed, and how, as C asks for it.
@@ -303,6 +330,26 @@ fn attrition(
     kill_orders(alloc, &plan.machines, kind, floor, asked.tear)
 }
 
+/// Draws the attrition that is asked for, and writes its orders as `fy_attrition_plan` says.
+///
+/// # Errors
+///
+/// Those of `fy_attrition_plan`.
+fn plan_attrition(
+    alloc: Global,
+    map: &Map,
+    asked: Asked,
+    orders: &mut [FyOrder],
+    told: &mut usize,
+) -> Result<(), Status>
+    ensures { PlansAttrition map.now asked orders.old orders.new told.new (ending result) }
+{
+    *told = 0;
+    let (kind, floor) = kinds_of(asked)?;
+    let plan = attrition(alloc, map, asked, kind, floor)?;
+    give(&plan, orders, told)
+}
+
 /// Writes the orders of an attrition to the front of a buffer: those of the second, fourth, ..
 /// fault actor of a swarm whose number is the stream, where they kill 2 machines and leave 1, by
 /// `KillInstantly` with the floor `Reboot` and the tear 0. How many there are goes to `told`.
@@ -340,7 +387,6 @@ pub extern "C" fn fy_attrition_plan(
           tear = tear;
         }) orders.old orders.new told.new) }
 {
-    *told = 0;
     let asked = Asked {
         seed,
         stream,
@@ -350,14 +396,8 @@ pub extern "C" fn fy_attrition_plan(
         floor,
         tear,
     };
-    let (kind, floor) = match kinds_of(asked) {
-        Ok(kinds) => kinds,
-        Err(status) => return status.number(),
-    };
-    match attrition(alloc, guard.cluster().config().map(), asked, kind, floor) {
-        Ok(plan) => give(&plan, orders, told).number(),
-        Err(_) => Status::NoMemory.number(),
-    }
+    let map = guard.cluster().config().map();
+    number_of(plan_attrition(alloc, map, asked, orders, told))
 }
 
 /// The plan that a program in C gives by its number.
@@ -401,29 +441,6 @@ fn order_of_kill(order: KillOrder) -> FyOrder
         key: key_number(target.key),
         kind: kind_number(order.kind()),
         floor: kind_number(order.floor()),
-        value: with_zeros(&target.value),
-    }
-}
-
-/// The order of a clog of this many ticks, or of the end of one.
-fn order_of_clog(act: u32, target: Target, ticks: u64) -> FyOrder
-    ensures { result ≡ record {
-      ticks = ticks;
-      tear = 0;
-      act = act;
-      key = key_number target.key;
-      kind = 0;
-      floor = 0;
-      value = with_zeros target.value;
-    } }
-{
-    FyOrder {
-        ticks,
-        tear: 0,
-        act,
-        key: key_number(target.key),
-        kind: 0,
-        floor: 0,
         value: with_zeros(&target.value),
     }
 }

@@ -4,12 +4,12 @@ ghost use Rattle.fy_acts.specs.declared.entry.Entry.{Entry};
 ghost use Rattle.fy_cluster.specs.Replies.{Legal};
 ghost use Rattle.fy_acts.specs.declared.version.Version.TheVariants.{Second};
 ghost use Rattle.fy_c.specs.Resuming.{Follows, NotFollowed, OpensAfter, Refutes};
-ghost use Rattle.fy_c.specs.Statuses.{Answers};
+ghost use Rattle.fy_c.specs.Statuses.{Answers, ending};
 
-use crate::checking::{NO_BAD_ENTRY, audit_status};
+use crate::checking::NO_BAD_ENTRY;
 use crate::handle::{FyGuard, closed_up};
 use crate::opening::begun;
-use crate::status::Status;
+use crate::status::{Status, number_of};
 use fy_acts::Entry;
 use fy_audit::laws::an_audit_is_read_entry_by_entry;
 use fy_audit::{AuditReader, Version};
@@ -52,28 +52,43 @@ fn follow(alloc: Global, cluster: &mut Cluster, audit: &[u8]) -> Result<Option<u
     ensures refused { IfErr result (NotFollowed cluster.old.setup audit.now) }
 {
     an_audit_is_read_entry_by_entry();
-    let mut reader = match AuditReader::begin(alloc, audit) {
-        Ok(reader) => reader,
-        Err(fault) => return Err(audit_status(fault)),
-    };
+    let mut reader = AuditReader::begin(alloc, audit)?;
     match reader.version() {
         Version::First => return Err(Status::NoHeader),
         Version::Second => {}
     }
     while !reader.is_at_end() {
-        let entry = match reader.next_entry() {
-            Ok(entry) => entry,
-            Err(fault) => return Err(audit_status(fault)),
-        };
+        let entry = reader.next_entry()?;
         let at = entry.at;
-        let Ok(next) = comes_next(cluster, entry) else {
-            return Err(Status::NoMemory);
-        };
-        if !next {
+        if !comes_next(cluster, entry)? {
             return Ok(Some(at));
         }
     }
     Ok(None)
+}
+
+/// Does what `fy_open_after` says.
+///
+/// # Errors
+///
+/// Those of `fy_open_after`.
+fn open_after(
+    alloc: Global,
+    config: &[u8],
+    audit: &[u8],
+    guard: &mut FyGuard,
+    first_bad: &mut u32,
+) -> Result<(), Status>
+    ensures { OpensAfter config.now audit.now guard.old guard.new first_bad.new (ending result) }
+{
+    *first_bad = NO_BAD_ENTRY;
+    let mut cluster = begun(alloc, config)?;
+    if let Some(at) = follow(alloc, &mut cluster, audit)? {
+        *first_bad = at;
+        return Err(Status::Refuted);
+    }
+    *guard = closed_up(Box::new(alloc, cluster)?);
+    Ok(())
 }
 
 /// Opens a guard whose cluster has the journal of an audit: it goes on where the audit ends. What
@@ -97,24 +112,5 @@ pub extern "C" fn fy_open_after(
     ensures { Answers result
         (OpensAfter config.now audit.now guard.old guard.new first_bad.new) }
 {
-    *first_bad = NO_BAD_ENTRY;
-    let mut cluster = match begun(alloc, config) {
-        Ok(cluster) => cluster,
-        Err(status) => return status.number(),
-    };
-    match follow(alloc, &mut cluster, audit) {
-        Ok(None) => {}
-        Ok(Some(at)) => {
-            *first_bad = at;
-            return Status::Refuted.number();
-        }
-        Err(status) => return status.number(),
-    }
-    match Box::new(alloc, cluster) {
-        Ok(cluster) => {
-            *guard = closed_up(cluster);
-            Status::Done.number()
-        }
-        Err(_) => Status::NoMemory.number(),
-    }
+    number_of(open_after(alloc, config, audit, guard, first_bad))
 }

@@ -1,9 +1,9 @@
 //! Grants and protections, by numbers.
-ghost use Rattle.std.specs.Prelude.{◌≡◌, ◌≢◌, IfOk, IfErr, IfSome, IfNone, if◌then◌else◌};
+ghost use Rattle.std.specs.Prelude.{◌≡◌, ◌≢◌, IfOk, IfErr, if◌then◌else◌};
 ghost use Rattle.std.specs.Ptr.{null_ptr};
 ghost use Rattle.fy_kinds.specs.Kinds.{bits_of, no_deed};
 ghost use Rattle.fy_acts.specs.declared.act.Act.TheVariants.{Take};
-ghost use Rattle.fy_c.specs.Making.{Makes, MakesGiven, AreNoKinds, NoKinds, IsScopeOf, IsGiveOf, NoGive, IsProtectOf, IsUnprotectOf};
+ghost use Rattle.fy_c.specs.Making.{Makes, MakesGiven, NoKinds, IsScopeOf, IsGiveOf, NoGive, IsProtectOf, IsUnprotectOf};
 ghost use Rattle.fy_c.specs.Sets.{NoTarget};
 
 use crate::handle::FyGuard;
@@ -26,19 +26,23 @@ fn asked(is: bool, kinds: KindSet) -> KindSet
 }
 
 /// The set of kinds that a program in C gives by its bits.
-fn kinds_of(bits: u32) -> Option<KindSet>
-    ensures some { IfSome result (λ kinds. bits ≡ bits_of kinds) }
-    ensures none { IfNone result (AreNoKinds bits) }
+///
+/// # Errors
+///
+/// `Argument` where a bit is that of no kind.
+fn kinds_of(bits: u32) -> Result<KindSet, Status>
+    ensures kinds { IfOk result (λ kinds. bits ≡ bits_of kinds) }
+    ensures none { IfErr result (NoKinds bits) }
 {
     if bits >= 32 {
-        return None;
+        return Err(Status::Argument);
     }
     let mild = asked(bits % 2 == 1, KindSet::of(Kind::RebootProcess));
     let reboot = asked(bits / 2 % 2 == 1, KindSet::of(Kind::Reboot));
     let delete = asked(bits / 4 % 2 == 1, KindSet::of(Kind::RebootAndDelete));
     let kill = asked(bits / 8 % 2 == 1, KindSet::of(Kind::KillInstantly));
     let clog = asked(bits / 16 % 2 == 1, KindSet::of_clog());
-    Some(mild.union(reboot).union(delete).union(kill).union(clog))
+    Ok(mild.union(reboot).union(delete).union(kill).union(clog))
 }
 
 /// The scope of a grant by numbers.
@@ -55,10 +59,8 @@ fn scope_of(key: u32, value: &[u8]) -> Result<Scope, Status>
     if key == EVERYONE {
         return Ok(Scope::All);
     }
-    match target_of(key, value) {
-        Ok(target) => Ok(Scope::Where(target)),
-        Err(status) => Err(status),
-    }
+    let target = target_of(key, value)?;
+    Ok(Scope::Where(target))
 }
 
 /// A grant by numbers.
@@ -71,13 +73,8 @@ fn give_of(actor: u32, kinds: u32, key: u32, value: &[u8]) -> Result<Act, Status
     ensures given { IfOk result (IsGiveOf actor kinds key value.now) }
     ensures not_given { IfErr result (NoGive kinds key value.now) }
 {
-    let Some(kinds) = kinds_of(kinds) else {
-        return Err(Status::Argument);
-    };
-    let scope = match scope_of(key, value) {
-        Ok(scope) => scope,
-        Err(status) => return Err(status),
-    };
+    let kinds = kinds_of(kinds)?;
+    let scope = scope_of(key, value)?;
     Ok(Act::Give {
         grant: Grant {
             actor,
@@ -96,11 +93,8 @@ fn protect_of(process: u32, kinds: u32) -> Result<Act, Status>
     ensures given { IfOk result (IsProtectOf process kinds) }
     ensures not_given { IfErr result (NoKinds kinds) }
 {
-    let process = ProcId(process);
-    match kinds_of(kinds) {
-        Some(kinds) => Ok(Act::Protect { process, kinds }),
-        None => Err(Status::Argument),
-    }
+    let (process, kinds) = (ProcId(process), kinds_of(kinds)?);
+    Ok(Act::Protect { process, kinds })
 }
 
 /// The end of a protection by numbers.
@@ -112,11 +106,8 @@ fn unprotect_of(process: u32, kinds: u32) -> Result<Act, Status>
     ensures given { IfOk result (IsUnprotectOf process kinds) }
     ensures not_given { IfErr result (NoKinds kinds) }
 {
-    let process = ProcId(process);
-    match kinds_of(kinds) {
-        Some(kinds) => Ok(Act::Unprotect { process, kinds }),
-        None => Err(Status::Argument),
-    }
+    let (process, kinds) = (ProcId(process), kinds_of(kinds)?);
+    Ok(Act::Unprotect { process, kinds })
 }
 
 /// Gives an actor a grant of kinds, by their bits, on the processes whose key has a value, or on

@@ -5,11 +5,11 @@ ghost use Rattle.std.specs.FinSet as sets;
 ghost use Rattle.fy_cluster.specs.Execution.{history_of};
 ghost use Rattle.fy_cluster.specs.History.{destroyed};
 ghost use Rattle.fy_c.specs.Sets.{AreBitsOf, left_in, up_in, destroyed_in, gone_in, targets_in, IsTargetOf, NoTarget, Targets};
-ghost use Rattle.fy_c.specs.Statuses.{Answers};
+ghost use Rattle.fy_c.specs.Statuses.{Answers, ending};
 
 use crate::handle::FyGuard;
 use crate::numbers::key_of;
-use crate::status::Status;
+use crate::status::{Status, number_of};
 use fy_cluster::Cluster;
 use fy_kinds::Target;
 use fy_locality::{Name, ProcId, ProcSet, SET_WORDS};
@@ -127,6 +127,20 @@ fn found(cluster: &Cluster, target: &Target) -> ProcSet
         .intersection(&cluster.left())
 }
 
+/// Writes the processes that a target means, as `fy_targets` says.
+///
+/// # Errors
+///
+/// Those of `fy_targets`.
+fn write_targets(cluster: &Cluster, key: u32, value: &[u8], set: &mut [u64]) -> Result<(), Status>
+    requires { length set.old ≡ SET_WORDS }
+    ensures { Targets cluster.now key value.now set.old set.new (ending result) }
+{
+    let target = target_of(key, value)?;
+    write_set(&found(cluster, &target), set);
+    Ok(())
+}
+
 /// Writes whom a kill of this key and value would be about, as `fy_left` writes who is left: those
 /// of its value that aren't gone for good.
 ///
@@ -143,10 +157,5 @@ pub extern "C" fn fy_targets(guard: &mut FyGuard, key: u32, value: &[u8], set: &
     ensures told { Answers result
         (Targets guard.old.value key value.now set.old set.new) }
 {
-    let target = match target_of(key, value) {
-        Ok(target) => target,
-        Err(status) => return status.number(),
-    };
-    write_set(&found(guard.cluster(), &target), set);
-    Status::Done.number()
+    number_of(write_targets(guard.cluster(), key, value, set))
 }

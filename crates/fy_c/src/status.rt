@@ -1,10 +1,12 @@
 //! What each call answers: a number of one enumeration.
 ghost use Rattle.std.specs.Prelude.{◌≡◌};
-ghost use Rattle.fy_c.specs.Statuses.{number, config_status};
+ghost use Rattle.fy_c.specs.Statuses.{number, ending};
 
 use fy_cluster::Fault;
 use fy_config::ConfigFault;
+use fy_kinds::Floor;
 use fy_spelling::{CommandFault, LineFault};
+use std::alloc::{AllocError, AllocFailed};
 
 /// How a call ended. But for `Done`, `Refused` and `Unwritten` nothing changed.
 #[derive(Clone, Copy, PartialEq, Eq, Debug)]
@@ -83,6 +85,55 @@ impl From<Fault> for Status {
     }
 }
 
+impl From<ConfigFault> for Status {
+    ghost use Rattle.fy_c.specs.Statuses.{config_status};
+
+    ghost from_gives = { λ fault status. status ≡ config_status fault };
+
+    fn from(fault: ConfigFault) -> Status {
+        match fault {
+            ConfigFault::TooLong => Status::ConfigTooLong,
+            ConfigFault::Toml => Status::ConfigToml,
+            ConfigFault::Field { .. } => Status::ConfigField,
+            ConfigFault::Limit { .. } => Status::ConfigLimit,
+            ConfigFault::Name { .. } => Status::ConfigName,
+            ConfigFault::Policy { .. } => Status::ConfigPolicy,
+            ConfigFault::PolicyUnmet { .. } => Status::ConfigUnmet,
+            ConfigFault::NoMemory => Status::NoMemory,
+        }
+    }
+}
+
+impl From<Floor> for Status {
+    ghost use Rattle.fy_c.specs.declared.status.Status.TheVariants as status_is;
+
+    ghost from_gives = { λ _ status. status ≡ status_is.Floor };
+
+    fn from(_: Floor) -> Status {
+        Status::Floor
+    }
+}
+
+impl From<AllocError> for Status {
+    ghost use Rattle.fy_c.specs.declared.status.Status.TheVariants.{NoMemory};
+
+    ghost from_gives = { λ _ status. status ≡ NoMemory };
+
+    fn from(_: AllocError) -> Status {
+        Status::NoMemory
+    }
+}
+
+impl<T: Drop> From<AllocFailed<T>> for Status {
+    ghost use Rattle.fy_c.specs.declared.status.Status.TheVariants.{NoMemory};
+
+    ghost from_gives = { λ _ status. status ≡ NoMemory };
+
+    fn from(_: AllocFailed<T>) -> Status {
+        Status::NoMemory
+    }
+}
+
 impl Status {
     /// The number by which C knows it.
     pub(crate) fn number(self) -> u32
@@ -115,18 +166,12 @@ impl Status {
     }
 }
 
-/// The status for a cluster file that is refused.
-pub(crate) fn config_status(fault: ConfigFault) -> Status
-    ensures { result ≡ config_status fault }
+/// The number by which C knows how a call ended.
+pub(crate) fn number_of(outcome: Result<(), Status>) -> u32
+    ensures { result ≡ number (ending outcome) }
 {
-    match fault {
-        ConfigFault::TooLong => Status::ConfigTooLong,
-        ConfigFault::Toml => Status::ConfigToml,
-        ConfigFault::Field { .. } => Status::ConfigField,
-        ConfigFault::Limit { .. } => Status::ConfigLimit,
-        ConfigFault::Name { .. } => Status::ConfigName,
-        ConfigFault::Policy { .. } => Status::ConfigPolicy,
-        ConfigFault::PolicyUnmet { .. } => Status::ConfigUnmet,
-        ConfigFault::NoMemory => Status::NoMemory,
+    match outcome {
+        Ok(()) => Status::Done.number(),
+        Err(status) => status.number(),
     }
 }

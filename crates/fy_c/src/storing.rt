@@ -66,9 +66,7 @@ fn form_of(alloc: Global, cluster: &Cluster, members: &[u32], policy: u32) -> Re
     if cluster.is_full() {
         return Err(Status::JournalFull);
     }
-    let Ok(found) = processes(alloc, members) else {
-        return Err(Status::NoMemory);
-    };
+    let found = processes(alloc, members)?;
     match Members::from_vec(found) {
         Ok(members) => Ok(Act::Form { members, policy }),
         Err(_) => unreachable!(),
@@ -90,10 +88,8 @@ fn begin_of(alloc: Global, cluster: &Cluster, team: u32, payload: &[u8]) -> Resu
     if cluster.is_full() {
         return Err(Status::JournalFull);
     }
-    match Payload::make(alloc, payload) {
-        Ok(payload) => Ok(Act::Begin { team, payload }),
-        Err(_) => Err(Status::NoMemory),
-    }
+    let payload = Payload::make(alloc, payload)?;
+    Ok(Act::Begin { team, payload })
 }
 
 /// Forms a team of the processes with these numbers, which rise, under a policy. The team's number

@@ -4,16 +4,19 @@ use Rattle.fy_c.specs.Acting.{NotEntered, NoLine}
 use Rattle.fy_c.specs.declared.status.Status.TheVariants.{NoMemory}
 use Rattle.fy_c.proofs.acting.act.Goals as goal
 
-pub returns-in_default-clause-err : goal.returns-in_default-clause-err
-returns-in_default-clause-err c = NoLine.not_entered NoMemory NotEntered.no_memory refl
+pub returns-in_err-text-clause-err : goal.returns-in_err-text-clause-err
+returns-in_err-text-clause-err c =
+    let p = err_from_is_err_and c.from_residual.result c.from_residual.ensures.1 in
+    rw (p.1, p.2) (NoLine.not_entered NoMemory NotEntered.no_memory refl)
 
 pub returns-in_err-answer-clause-err : goal.returns-in_err-answer-clause-err
 returns-in_err-answer-clause-err c =
     let new = c.answer.new.cluster in
     let line = c.args.line.now in
     let status = c.in_err-answer.field-0.0 in
-    let p = err_from_is_err_and c.from_residual.result c.from_residual.ensures.1 in
+    let p = err_from_is_err_and c.from_residual-in_err-answer.result
+    c.from_residual-in_err-answer.ensures.1 in
     rw (p.1, p.2)
     (subst (λ old. NoLine old new line c.args.room status) c.cluster.ensures.value
-    (subst (λ room. NoLine c.cluster.result.now new line room status) c.in-Ok.ensures.exact
+    (subst (λ room. NoLine c.cluster.result.now new line room status) c.in_ok-text.ensures.exact
     c.in_err-answer.ensures.err))

@@ -12,7 +12,7 @@ returns-in-Ok c =
 pub returns : goal.returns
 returns c = (
   config_status c.in-Err.fault,
-  c.number-2.ensures ∙ ap number c.config_status.ensures,
+  c.number-2.ensures ∙ ap number c.from.ensures,
   faults_of c.args.config.now c.read_config.result c.in-Err.fault c.part_of.result
       c.place_of.result c.in-Err.is c.read_config.ensures.too_long
       c.read_config.ensures.not_text c.in-Err.ensures.answers c.part_of.ensures

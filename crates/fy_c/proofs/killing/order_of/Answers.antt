@@ -1,5 +1,6 @@
 use Rattle.std.proofs.Common.{refl}
 use Rattle.std.proofs.lemmas.Bool.{false≢true}
+use Rattle.std.proofs.lemmas.Result.{err_from_is_err_and}
 use Rattle.fy_c.specs.Killing.{NoOrder}
 use Rattle.fy_c.proofs.killing.order_of.Goals as goal
 
@@ -25,9 +26,11 @@ returns-in_default-from_bytes-clause-none c =
     })
     (λ is. absurd (false≢true (c.in_default-from_bytes.ensures.accepted.1 is)))
 
-pub returns-in-Err-clause-none : goal.returns-in-Err-clause-none
-returns-in-Err-clause-none c =
-    NoOrder.above
+pub returns-in_err-make-clause-none : goal.returns-in_err-make-clause-none
+returns-in_err-make-clause-none c =
+    let p = err_from_is_err_and c.from_residual.result c.from_residual.ensures.1 in
+    rw (p.1, p.2)
+    (NoOrder.above
     (record {
       key = c.in-Some.key;
       kind = c.in-Some-kind_of.kind;
@@ -37,4 +40,4 @@ returns-in-Err-clause-none c =
       floor_is = c.in-Some-kind_of-2.ensures.some;
     })
     (c.in-Ok.ensures.accepted.0 refl)
-    (c.in-Err.ensures.refused.0 refl)
+    (c.in_err-make.ensures.refused.0 refl))

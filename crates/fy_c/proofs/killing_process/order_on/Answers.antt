@@ -1,4 +1,4 @@
-use Rattle.std.proofs.Common.{Some, sym, ap, ◌∙◌}
+use Rattle.std.proofs.Common.{Some, arith, refl, sym, ap, ◌∙◌}
 use Rattle.fy_kinds.specs.declared.order.Target.{Target}
 use Rattle.fy_c.specs.Numbers.{kind_number}
 use Rattle.fy_c.proofs.Processes.{has_name}
@@ -13,10 +13,16 @@ unreachable-requires c =
     (c.in_ok-kind.ensures.given c.args.tear).process in
     c.in_default.not-Some name.0 (c.value.ensures ∙ name.1)
 
-pub returns-in-Ok-clause-order : goal.returns-in-Ok-clause-order
-returns-in-Ok-clause-order c =
+pub returns-in_err-make-clause-none : goal.returns-in_err-make-clause-none
+returns-in_err-make-clause-none c =
+    let above = c.in_err-make.ensures.refused.0 refl in
+    let ordered = c.in_ok-kind.ensures.ordered in
+    absurd (omega (arith, above, ordered))
+
+pub returns-clause-order : goal.returns-clause-order
+returns-clause-order c =
     let are = c.in_ok-kind.ensures.given c.args.tear in
-    let made = c.in-Ok.ensures in
+    let made = c.in_ok-make.ensures in
     record {
       named = record {
         key = ap (λ (target : Target). target.key) made.target;

@@ -4,5 +4,5 @@ use Rattle.fy_c.proofs.rights.scope_of.Goals as goal
 pub returns-then-key-eq-EVERYONE-clause-scope : goal.returns-then-key-eq-EVERYONE-clause-scope
 returns-then-key-eq-EVERYONE-clause-scope c = IsScopeOf.everyone c.if-key-eq-EVERYONE.true
 
-pub returns-in-Ok-clause-scope : goal.returns-in-Ok-clause-scope
-returns-in-Ok-clause-scope c = IsScopeOf.some c.in-Ok.target c.in-Ok.ensures.target
+pub returns-clause-scope : goal.returns-clause-scope
+returns-clause-scope c = IsScopeOf.some c.in_ok-target.target c.in_ok-target.ensures.target

@@ -1,10 +1,10 @@
 -- `cluster` lends what the handle points to, and the guard follows it
-use Rattle.std.proofs.Common.{◌≡◌, ◌≢◌, ℕ, List, [], ◌∷◌, ◌++◌, refl, sym, subst}
+use Rattle.std.proofs.Common.{◌≡◌, ◌≢◌, ℕ, List, [], ◌∷◌, refl, sym}
 use seplogic.Ra.Ura.{Ura}
 use base.Fraction.{full_share}
-use mir.Syntax.{Fn, named}
+use mir.Syntax.{named}
 use mir.Val.{Val, vptr}
-use base.Logic.{SProp, ent, sep, emp}
+use base.Logic.{SProp, ent, sep}
 use base.Fml.{Lft, GName, Share, Fml, ftrue, flft, fsep}
 use prog.Memory.{Memory}
 use prog.Routine.{Routine}
@@ -19,7 +19,7 @@ use contract.Running.{tables}
 use denote.RattleType.{RattleType, owns}
 use denote.Memory.{part_at, mem, cell_at, part_of}
 use denote.RawPtr.{Ptr, block_ptr, null_ptr}
-use denote.Ref.{MutRef, MutBor, mut_vals, mut_Tells}
+use denote.Ref.{MutRef, mut_vals, mut_Tells}
 use denote.Signature.{plain, mut_ref_to}
 use denote.Steps.{nothing, opens, heard}
 use denote.Exit.{no}
@@ -30,7 +30,6 @@ use denote.Triple.Statement.{Contract}
 use mir.Raw.{raw as bare}
 use denote.Memory.{lone}
 use Rattle.std.proofs.raw_atomic.Walks.{proved}
-use Rattle.std_alloc.specs.Box.Ownership.{box_owns}
 use Rattle.std_alloc.proofs.VecSteps.Shapes.{after}
 use Rattle.std.specs.contracts.impls.GlobalAllocator.TheImpl.{ghosts}
 use Rattle.fy_cluster.specs.contracts.cluster.Cluster as inner
