@@ -9,7 +9,7 @@ use Rattle.fy_acts.specs.declared.entry.Entry.{Entry}
 use Rattle.fy_cluster.specs.Setup.{Setup}
 use Rattle.fy_cluster.specs.History.{History, step_of, after, history, some_is, acked}
 use Rattle.fy_cluster.specs.Replies.{MayFollow}
-use Rattle.fy_picture.specs.Keeping.{IsAckedAt, Notes, noted}
+use Rattle.fy_picture.specs.Keeping.{IsAckedAt, noted}
 use Rattle.fy_picture.proofs.Afters.{after-append}
 
 -- an acknowledged record stays acknowledged
@@ -124,9 +124,6 @@ noted_as_it_was : (at : ℕ) (o : Option (Option ℕ)) → o ≡ option_map (not
 noted_as_it_was at None = refl
 noted_as_it_was at (Some None) = refl
 noted_as_it_was at (Some (Some k)) = refl
-
-pub none_noted : (at : ℕ) (xs : List (Option ℕ)) → Notes at (λ r. false) xs xs
-none_noted at xs = record { count = refl; each = λ r. noted_as_it_was at (slice_get xs r) }
 
 -- a place that is noted where none is
 pub noted_is_or : (at : ℕ) (was now : Option ℕ) → now ≡ option_or was (Some at) → now ≡ noted at true was

@@ -1,12 +1,11 @@
 -- histories of journals that are read in parts
-use Rattle.std.proofs.Common.{◌≡◌, ℕ, zero, suc, ◌+◌, ◌*◌, ◌<◌, List, [], ◌∷◌, ◌++◌, length, take, drop, get_or, slice_get, Some, refl, sym, subst, ◌∙◌, ap, add-one, arith}
+use Rattle.std.proofs.Common.{◌≡◌, ℕ, zero, suc, ◌+◌, ◌<◌, List, [], ◌∷◌, ◌++◌, length, take, get_or, slice_get, Some, refl, sym, subst, ◌∙◌, ap}
 use Rattle.std.specs.Prelude.{IsSomeAnd}
 use borrow.Author.Count.{below_more}
-use Rattle.std.proofs.Math.Seq.{take-add, drop-nil}
 use Rattle.std.proofs.lemmas.List.{take_more}
 use Rattle.fy_acts.specs.declared.entry.Entry.{Entry}
 use Rattle.fy_cluster.specs.Setup.{Setup}
-use Rattle.fy_cluster.specs.History.{History, step_of, after, history}
+use Rattle.fy_cluster.specs.History.{History, step_of, after}
 
 pub after-append : (c : Setup) (h : History) (xs ys : List Entry) → after c h (xs ++ ys) ≡ after c (after c h xs) ys
 after-append c h [] ys = refl
@@ -15,31 +14,6 @@ after-append c h (x ∷ xs) ys = after-append c (step_of c h x ∷ h) xs ys
 -- one element more of a list
 pub one_more : {X : Type 0} (xs : List X) (i : ℕ) (x : X) → i < length xs → x ≡ get_or xs i x → take (i + 1) xs ≡ take i xs ++ x ∷ []
 one_more xs i x l is = take_more xs i x l ∙ ap (λ y. take i xs ++ y ∷ []) (sym is)
-
--- one entry more
-pub after_next : (c : Setup) (h : History) (xs : List Entry) (i : ℕ) (x : Entry) → i < length xs → x ≡ get_or xs i x → after c h (take (i + 1) xs) ≡ step_of c (after c h (take i xs)) x ∷ after c h (take i xs)
-after_next c h xs i x l is = ap (after c h) (one_more xs i x l is) ∙ after-append c h (take i xs) (x ∷ [])
-
--- a number of columns and one more
-pub column_more : (i w : ℕ) → (i + 1) * w ≡ i * w + w
-column_more i w = ap (λ n. n * w) (add-one i) ∙ omega arith
-
--- one column more
-pub after_column : (c : Setup) (xs : List Entry) (i w : ℕ) → history c (take ((i + 1) * w) xs) ≡ after c (history c (take (i * w) xs)) (take w (drop (i * w) xs))
-after_column c xs i w = ap (λ n. history c (take n xs)) (column_more i w) ∙ ap (history c) (take-add (i * w) w xs) ∙ after-append c [] (take (i * w) xs) (take w (drop (i * w) xs))
-
-suc-add : (n m : ℕ) → suc n + m ≡ suc (n + m)
-suc-add n m = omega arith
-
--- what is behind n, and then behind m more
-pub drop-add : {X : Type 0} (n m : ℕ) (xs : List X) → drop (n + m) xs ≡ drop m (drop n xs)
-drop-add zero m xs = let e : zero + m ≡ m = omega arith in ap (λ k. drop k xs) e
-drop-add (suc n) m [] = drop-nil (suc n + m) ∙ sym (drop-nil m)
-drop-add (suc n) m (x ∷ xs) = ap (λ k. drop k (x ∷ xs)) (suc-add n m) ∙ drop-add n m xs
-
--- the part behind one column more
-pub drop_column : {X : Type 0} (xs : List X) (i w : ℕ) → drop ((i + 1) * w) xs ≡ drop w (drop (i * w) xs)
-drop_column xs i w = ap (λ n. drop n xs) (column_more i w) ∙ drop-add (i * w) w xs
 
 slice_get-append : {X : Type 0} (xs ys : List X) (i : ℕ) (x : X) → slice_get xs i ≡ Some x → slice_get (xs ++ ys) i ≡ Some x
 slice_get-append [] ys i x e = absurd (cc)

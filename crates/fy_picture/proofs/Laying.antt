@@ -274,11 +274,6 @@ pub so_far_fold : (plan : Plan) (width n : ℕ) (old new : List Column) → AreS
 so_far_fold plan width n old new was full half whole each =
     whole_fold width n old new (subst (λ (p : Plan). AreSoFar p n old) full.even was) full.full full.more half whole each
 
-pub room_after_fold : (plan : Plan) (width n : ℕ) (old new : List Column) → AreSoFar plan n old → IsFull plan (length old) n width → 2 * length new ≤ length old → HasRoom (Even (width * 2)) (length new) n
-room_after_fold plan width n old new was full half =
-    let whole : AreWhole width n old = subst (λ (p : Plan). AreSoFar p n old) full.even was in
-    inl (let few = whole.few in let most = full.full in omega arith)
-
 -- how many ends are listed
 abbrev pub listed : Plan → ℕ
 listed (Even width) = 0

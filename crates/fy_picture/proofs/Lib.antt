@@ -4,8 +4,7 @@ mod Folding
 mod Laying
 mod Losing
 mod Marking
-mod Moving
+pub mod Moving
 pub mod Recorders
 mod Recordings
-pub mod Sets
 pub mod SoFar

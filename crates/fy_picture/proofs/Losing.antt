@@ -1,5 +1,5 @@
 -- who is shown destroyed and left, and how many more a policy could bear
-use Rattle.std.proofs.Common.{◌≡◌, ◌∙◌, ◌+◌, ◌<◌, ◌==◌, ◌&&◌, ◌||◌, ℕ, zero, suc, inl, inr, Bool, true, false, not, cond, List, [], ◌∷◌, ◌++◌, length, length-append, filter, get_or, slice_get, slice_set, Some, refl, sym, subst, ap, ap₂, arith, true≢false, add-one, if◌then◌else◌, map, option_map, take, Vec, Global}
+use Rattle.std.proofs.Common.{◌≡◌, ◌∙◌, ◌+◌, ◌<◌, ◌==◌, ◌&&◌, ◌||◌, ℕ, zero, suc, inl, inr, Bool, true, false, not, cond, List, [], ◌∷◌, ◌++◌, length, length-append, filter, get_or, slice_get, slice_set, Some, refl, sym, subst, ap, ap₂, arith, add-one, if◌then◌else◌, map, option_map, take, Vec, Global}
 use Rattle.std.specs.List.{range_with_len}
 use Rattle.std.specs.Vec.{with_items}
 use Rattle.std.specs.Ordering.{nat_cmp}
@@ -24,23 +24,6 @@ use Rattle.fy_picture.specs.Layouts.{ends_of}
 use Rattle.fy_picture.proofs.Acking.{after_set}
 use Rattle.fy_picture.proofs.Afters.{one_more}
 use Rattle.fy_picture.proofs.Moving.{insert_has, remove_has}
-use Rattle.std.specs.Cmp.{nat_cmp_total}
-
--- ---- sets
-
--- where neither has what the other hasn't
-pub same_of : (a b : Bool) → (a && not b) ≡ false → (b && not a) ≡ false → a ≡ b
-same_of true true e f = refl
-same_of true false e f = absurd (true≢false e)
-same_of false true e f = absurd (true≢false f)
-same_of false false e f = refl
-
--- two sets without differences
-pub same_sets : (s t : sets.FinSet nat_cmp) → sets.difference s t ≡ sets.empty → sets.difference t s ≡ sets.empty → (p : ℕ) → sets.contains s p ≡ sets.contains t p
-same_sets s t e f p =
-    same_of (sets.contains s p) (sets.contains t p)
-    (sym (sets.contains-difference nat_cmp_total s t p) ∙ ap (λ u. sets.contains u p) e ∙ sets.contains-empty nat_cmp p)
-    (sym (sets.contains-difference nat_cmp_total t s p) ∙ ap (λ u. sets.contains u p) f ∙ sets.contains-empty nat_cmp p)
 
 -- ---- counting
 
@@ -118,7 +101,7 @@ module _ (processes : List Locality) (P : Tree) (destroyed left : sets.FinSet na
 
 -- the same losses leave the same number
 killable_same : (processes : List Locality) (P : Tree) (one other : States) → HaveSameLosses one other → killable_at processes P one ≡ killable_at processes P other
-killable_same processes P one other same = λ i. killable_by processes P (λ p. same.destroyed p i) (λ p. same.left p i)
+killable_same processes P one other same = λ i. killable_by processes P (sets.contains (same.destroyed i)) (sets.contains (same.left i))
 
 -- the states of a history leave the number of the history
 killable_of : (c : Setup) (h : History) (P : Tree) (states : States) → AreStates c h states → killable_at c.processes P states ≡ killable c h P

@@ -13,11 +13,9 @@ pub record Counting : Type 0 where
   pub processes : List Locality
   pub policy : Tree
 
--- the destroyed and those left are tallied by one policy
-pub record AreTallied (processes : List Locality) (destroyed left : Tallied) : Type 0 where
-  pub destroyed_among : destroyed.processes ≡ processes
-  pub left_among : left.processes ≡ processes
-  pub policy : left.policy ≡ destroyed.policy
+-- the destroyed and those left are tallied by one policy, among the same processes
+abbrev pub AreTallied : (destroyed left : Tallied) → Type 0
+AreTallied destroyed left = left ≡ record destroyed { set = left.set }
 
 -- how many of them could go
 abbrev pub killable_by_tallies : (destroyed left : Tallied) → ℕ

@@ -43,8 +43,8 @@ pub record AreCountsAt (processes : List Locality) (policies : List Tree) (state
 
 -- the same processes are destroyed and left
 pub record HaveSameLosses (one other : States) : Type 0 where
-  pub destroyed : (p : ℕ) → sets.contains one.destroyed p ≡ sets.contains other.destroyed p
-  pub left : (p : ℕ) → sets.contains one.left p ≡ sets.contains other.left p
+  pub destroyed : one.destroyed ≡ other.destroyed
+  pub left : one.left ≡ other.left
 
 -- what columns show of processes
 abbrev pub states_in : List Column → List States

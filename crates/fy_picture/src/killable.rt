@@ -1,6 +1,6 @@
 //! For each policy, how many processes could each be killed for good next. `fy_tolerance` asks
 //! another question: how many together.
-ghost use Rattle.std.specs.Prelude.{◌≡◌, ◌<◌, ℕ, Some, IfOk, OnOk, IsTrue, length, map, slice_get};
+ghost use Rattle.std.specs.Prelude.{◌≡◌, ◌<◌, Some, IfOk, OnOk, IsTrue, length, map, slice_get};
 ghost use Rattle.std.specs.Arc.{arc_value};
 ghost use Rattle.std.specs.FinSet as sets;
 ghost use Rattle.fy_locality.specs.declared.TheConstants.{MOST_PROCESSES};
@@ -11,7 +11,7 @@ ghost use Rattle.fy_picture.specs.Killable.{AreCounted, AreCountsAt, HaveSameLos
 ghost use Rattle.fy_picture.specs.Layouts.{ends_of};
 
 use crate::column::{Column, States};
-use crate::tallied_set::TalliedSet;
+use crate::tallied_set::{TalliedSet, differing};
 use fy_cluster::Config;
 use fy_locality::{Map, ProcId, ProcSet};
 use fy_policy::Policy;
@@ -21,9 +21,9 @@ use std::sync::Arc;
 
 /// Whether two sets have the same processes.
 fn is_same_set(one: &ProcSet, other: &ProcSet) -> bool
-    ensures { IsTrue result → (p : ℕ) → sets.contains one.now p ≡ sets.contains other.now p }
+    ensures { IsTrue result → one.now ≡ other.now }
 {
-    one.difference(other).is_empty() && other.difference(one).is_empty()
+    differing(one, other).is_empty()
 }
 
 /// Whether the same processes are destroyed and left in two states.
@@ -37,7 +37,7 @@ fn has_same_losses(one: &States, other: &States) -> bool
 /// tallies' policy goes.
 fn is_killable(destroyed: &TalliedSet, left: &TalliedSet, p: ProcId) -> bool
     requires small { p.0 < MOST_PROCESSES }
-    requires tallied { AreTallied destroyed.now.processes destroyed.now left.now }
+    requires tallied { AreTallied destroyed.now left.now }
     ensures { result ≡ is_killable destroyed.now.processes destroyed.now.policy
         (sets.contains destroyed.now.set) (sets.contains left.now.set) p.0 }
 {
@@ -50,7 +50,8 @@ fn is_killable(destroyed: &TalliedSet, left: &TalliedSet, p: ProcId) -> bool
 /// How many processes could each be killed for good next, as far as the tallies' policy goes.
 #[tactic(auto, using(crate::proofs::Losing::count_next))]
 fn count_killable(map: &Map, destroyed: &TalliedSet, left: &TalliedSet) -> u32
-    requires { AreTallied map.now destroyed.now left.now }
+    requires among { destroyed.now.processes ≡ map.now }
+    requires tallied { AreTallied destroyed.now left.now }
     ensures { result ≡ killable_by_tallies destroyed.now left.now }
 {
     let mut count = 0;
@@ -72,6 +73,7 @@ struct Counter {
 }
 
 impl Model for Counter {
+    ghost use Rattle.std.specs.Prelude.{◌≡◌};
     ghost use Rattle.std.specs.Coded.{codes};
     ghost use Rattle.fy_locality.specs.contracts.locality.Locality as e;
     ghost use Rattle.fy_policy.specs.TreeCode.{tree_code};
@@ -83,7 +85,8 @@ impl Model for Counter {
 
     ghost view = { λ c. record { processes = c.map.value; policy = c.destroyed.policy } };
 
-    ghost invariant = { λ c. AreTallied c.map.value c.destroyed c.left };
+    ghost invariant = { λ c.
+        (c.destroyed.processes ≡ c.map.value) × AreTallied c.destroyed c.left };
 }
 
 impl Counter {

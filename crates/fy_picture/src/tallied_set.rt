@@ -38,7 +38,7 @@ impl Model for TalliedSet {
 }
 
 /// Those that are in one of two sets alone.
-fn differing(one: &ProcSet, other: &ProcSet) -> ProcSet
+pub(crate) fn differing(one: &ProcSet, other: &ProcSet) -> ProcSet
     ensures { result ≡ sets.union
         (sets.difference one.now other.now) (sets.difference other.now one.now) }
 {
@@ -70,7 +70,7 @@ impl TalliedSet {
         policy: &Policy,
     ) -> Result<TalliedSet, AllocError>
         ensures { IfOk result (λ tallied. (tallied.processes ≡ arc_value map.now)
-            × (tallied.policy ≡ policy.now)) }
+            × (tallied.policy ≡ policy.now) × (tallied.set ≡ sets.empty)) }
     {
         Ok(TalliedSet {
             set: ProcSet::empty(),

@@ -1,6 +1,6 @@
 //! The bands of a row.
 use crate::layout::{ROW, x_of};
-use crate::pieces::put;
+use crate::pieces::push_text_and_number;
 use fy_cluster::Status;
 use fy_locality::{ProcId, ProcSet};
 use fy_picture::{Column, States};
@@ -30,12 +30,12 @@ fn write_stripe(
     let width = x_of(to).saturating_sub(x);
     text.push_str("<rect class=\"")?;
     text.push_str(class)?;
-    put(text, "\" x=\"", x)?;
-    put(text, "\" y=\"", y)?;
-    put(text, "\" width=\"", width)?;
-    put(text, "\" height=\"", height)?;
-    put(text, "\" data-from=\"", from as u64)?;
-    put(text, "\" data-to=\"", to as u64)?;
+    push_text_and_number(text, "\" x=\"", x)?;
+    push_text_and_number(text, "\" y=\"", y)?;
+    push_text_and_number(text, "\" width=\"", width)?;
+    push_text_and_number(text, "\" height=\"", height)?;
+    push_text_and_number(text, "\" data-from=\"", from as u64)?;
+    push_text_and_number(text, "\" data-to=\"", to as u64)?;
     text.push_str("\"/>\n")
 }
 

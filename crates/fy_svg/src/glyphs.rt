@@ -1,12 +1,18 @@
 //! The glyphs of orders, at the processes that they name.
+ghost use Rattle.std.specs.Prelude.{◌≡◌, ◌+◌, ◌++◌, [], min, replicate, IfOk, OnErr, OnOk, length, slice_get, slice_set};
+ghost use Rattle.std.specs.List.{filter};
+ghost use Rattle.fy_locality.specs.declared.TheConstants.{MOST_PROCESSES};
+ghost use Rattle.fy_svg.specs.Marks.{JoinsMark, is_mark, joined, marks_in, no_mark};
+
 use crate::layout::{ROW, middle_of, y_of};
-use crate::pieces::put;
+use crate::pieces::push_text_and_number;
 use crate::words::{write_floor, write_order};
 use fy_acts::{Act, Entry, Reply};
 use fy_kinds::Kind;
 use fy_locality::{MOST_PROCESSES, ProcId, ProcSet};
 use fy_picture::struck_as_ordered;
 use std::alloc::{AllocError, Global};
+use std::marker::Model;
 use std::mem::swap;
 
 /// What a column has at a process, or at nobody, who has the number behind the last process.
@@ -100,9 +106,9 @@ fn write_glyph(
     let y = y_of(row).saturating_add(ROW / 2 - 2);
     text.push_str("<path class=\"order ")?;
     text.push_str(class)?;
-    put(text, "\" data-entry=\"", u64::from(entry.at))?;
-    put(text, "\" d=\"M", x)?;
-    put(text, " ", y)?;
+    push_text_and_number(text, "\" data-entry=\"", u64::from(entry.at))?;
+    push_text_and_number(text, "\" d=\"M", x)?;
+    push_text_and_number(text, " ", y)?;
     text.push_str(outline(entry))?;
     text.push_str("\"><title>")?;
     write_order(text, entry)?;
@@ -113,6 +119,9 @@ fn write_glyph(
     text.push_str("</title></path>\n")
 }
 
+/// A place for each process, and one for nobody.
+const MOST_PLACES: usize = MOST_PROCESSES as usize + 1;
+
 /// What an open column has of each process, and of nobody.
 #[derive(Drop)]
 struct Open {
@@ -121,52 +130,97 @@ struct Open {
     marked: ProcSet,
 }
 
+impl Model for Open {
+    ghost use Rattle.std.specs.Prelude.{List};
+    ghost use Rattle.fy_svg.specs.declared.glyphs.Mark.{Mark};
+    ghost use Rattle.fy_svg.specs.Marks.{AreMarked};
+
+    ghost Value = { List Mark };
+
+    ghost view = { λ column. column.marks.items };
+
+    ghost invariant = { λ column. AreMarked column.marks.items column.marked };
+}
+
+/// Two marks of a place as one: the harder order stands for both, of two equals the first, and
+/// their counts add up.
+fn joined(first: Mark, second: Mark) -> Mark
+    ensures { result ≡ joined first second }
+{
+    let mut harder = if second.weight > first.weight {
+        second
+    } else {
+        first
+    };
+    harder.count = first.count.saturating_add(second.count);
+    harder
+}
+
 /// Takes the mark at a place, where there is one.
-fn take_mark(marks: &mut [Mark], place: usize, taken: &mut Vec<Mark>) -> Result<(), AllocError> {
-    if place < marks.len() {
-        let mark = marks[place];
-        if mark.weight > 0 {
-            taken.push(mark)?;
-            marks[place] = NO_MARK;
-        }
+fn take_mark(marks: &mut Vec<Mark>, place: usize, taken: &mut Vec<Mark>) -> Result<(), AllocError>
+    ensures marks { OnOk result (marks.new.items ≡ slice_set marks.old.items place no_mark) }
+    ensures taken { OnOk result
+        (taken.new.items ≡ taken.old.items ++ marks_in (slice_get marks.old.items place)) }
+    ensures kept { OnErr result (marks.new.items ≡ marks.old.items) }
+{
+    if place >= marks.len() {
+        return Ok(());
     }
+    let mark = marks[place];
+    if mark.weight > 0 {
+        taken.push(mark)?;
+    }
+    marks[place] = NO_MARK;
     Ok(())
 }
 
 impl Open {
     /// A column without a mark at so many places, of which nobody has the last.
-    fn begin(alloc: Global, places: usize) -> Result<Open, AllocError> {
+    fn begin(alloc: Global, places: usize) -> Result<Open, AllocError>
+        ensures { IfOk result (λ column.
+            column ≡ replicate (min places (MOST_PROCESSES + 1)) no_mark) }
+    {
         Ok(Open {
-            marks: vec![in alloc; NO_MARK; places]?,
+            marks: vec![in alloc; NO_MARK; places.min(MOST_PLACES)]?,
             marked: ProcSet::empty(),
         })
     }
 
-    /// Joins a mark with the one at its process: the harder order stands for both, of two equals
-    /// the earlier, and their counts add up. The answer is whether the new mark's order stands.
-    fn put(&mut self, mark: Mark) -> bool {
-        let Some(there) = self.marks.get_mut(mark.process) else {
+    /// How many places there are.
+    fn places(&self) -> usize
+        ensures { result ≡ length self.now }
+    {
+        self.marks.len()
+    }
+
+    /// Joins a mark with the one at its process, where that has a place. The answer is whether the
+    /// new mark's order stands for both.
+    fn join(&mut self, mark: Mark) -> bool
+        ensures { JoinsMark mark self.old self.new result }
+    {
+        let place = mark.process;
+        if place >= self.marks.len() {
             return false;
-        };
-        let count = there.count.saturating_add(mark.count);
-        let is_harder = mark.weight > there.weight;
-        if is_harder {
-            *there = mark;
         }
-        there.count = count;
-        if mark.process < MOST_PROCESSES as usize {
-            self.marked.put(ProcId(mark.process as u32));
+        let there = self.marks[place];
+        self.marks[place] = joined(there, mark);
+        let is_harder = mark.weight > there.weight;
+        if is_harder && place < MOST_PROCESSES as usize {
+            self.marked.put(ProcId(place as u32));
         }
         is_harder
     }
 
-    /// Takes all marks, in the order of processes.
-    fn take(&mut self, alloc: Global) -> Result<Vec<Mark>, AllocError> {
+    /// Takes all marks, in the order of processes, and nobody's at the end.
+    fn take(&mut self, alloc: Global) -> Result<Vec<Mark>, AllocError>
+        ensures taken { IfOk result (λ taken. taken.items ≡ filter is_mark self.old) }
+        ensures none { OnOk result (filter is_mark self.new ≡ []) }
+    {
         let mut taken = Vec::new(alloc);
-        for p in self.marked.iter() {
+        while let Some(p) = self.marked.least() {
             take_mark(&mut self.marks, p.0 as usize, &mut taken)?;
+            self.marked.drop_one(p);
         }
-        self.marked = ProcSet::empty();
         // Beside 1024 processes nobody's number is in no set.
         let nobody = self.marks.len().saturating_sub(1);
         take_mark(&mut self.marks, nobody, &mut taken)?;
@@ -242,13 +296,13 @@ fn merge(
         orders: more,
     } = second;
     for mark in early.iter().copied() {
-        open.put(mark);
+        open.join(mark);
     }
     let before = orders.len();
     for mark in late.iter().copied() {
         let mut mark = mark;
         mark.order = mark.order.saturating_add(before);
-        open.put(mark);
+        open.join(mark);
     }
     for order in more.into_iter() {
         orders.push(order)?;
@@ -294,11 +348,11 @@ impl Glyphs {
         };
         let mut is_hardest = false;
         if named.is_empty() {
-            is_hardest = self.open.put(mark);
+            is_hardest = self.open.join(mark);
         }
         for p in named.iter() {
             mark.process = p.0 as usize;
-            if self.open.put(mark) {
+            if self.open.join(mark) {
                 is_hardest = true;
             }
         }
@@ -327,7 +381,7 @@ impl Glyphs {
 
     /// Makes each two columns that have ended one.
     pub(crate) fn fold(&mut self) -> Result<(), AllocError> {
-        let mut open = Open::begin(self.alloc, self.open.marks.len())?;
+        let mut open = Open::begin(self.alloc, self.open.places())?;
         let mut ended = Vec::new(self.alloc);
         swap(&mut ended, &mut self.ended);
         for next in ended.into_iter() {

@@ -1,5 +1,5 @@
 //! Orders, rules and numbers in words.
-use crate::pieces::put;
+use crate::pieces::push_text_and_number;
 use fy_acts::{Act, Entry, Refusal, Reply};
 use fy_kinds::{Kind, Rule, Target};
 use fy_picture::rule_of;
@@ -102,8 +102,8 @@ fn write_deed(text: &mut String, entry: &Entry) -> Result<(), AllocError> {
 
 /// An order: what struck, and why nothing harder did.
 pub(crate) fn write_order(text: &mut String, entry: &Entry) -> Result<(), AllocError> {
-    put(text, "entry ", u64::from(entry.at))?;
-    put(text, ", actor ", u64::from(entry.by))?;
+    push_text_and_number(text, "entry ", u64::from(entry.at))?;
+    push_text_and_number(text, ", actor ", u64::from(entry.by))?;
     text.push_str(": ")?;
     write_deed(text, entry)?;
     match rule_of(entry) {

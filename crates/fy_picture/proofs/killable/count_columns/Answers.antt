@@ -1,4 +1,4 @@
-use Rattle.std.proofs.Common.{◌≡◌, ◌∙◌, ◌<◌, Some, rules, length, get_or, refl, sym, ap, subst, slice_get, arith}
+use Rattle.std.proofs.Common.{◌≡◌, ◌∙◌, ◌<◌, Some, rules, length, get_or, refl, sym, ap, subst, slice_get}
 use Rattle.std.proofs.lemmas.List.{length-map}
 use Rattle.std.proofs.lemmas.Option.{slice_get-get_or}
 use Rattle.fy_picture.specs.declared.column.Column.{Column}
@@ -16,7 +16,7 @@ loop-k-preserved c =
     let own = c.index_mut.result.now in
     let count : length now ≡ length start =
     sym (length-map now (λ (x : Column). x.end)) ∙ ap length c.loop-k.invariant.ends ∙ length-map start (λ (x : Column). x.end) in
-    let within : k < length now = let e = c.len-k-end.ensures in let t = c.loop-k-test.true in omega arith in
+    let within : k < length now = search rules in
     let is : own ≡ get_or now k own = search rules in
     let there : slice_get c.deref.result.now k ≡ Some own =
     ap (λ xs. slice_get xs k) c.deref.ensures.value ∙ slice_get-get_or now k own within ∙ ap Some (sym is) in

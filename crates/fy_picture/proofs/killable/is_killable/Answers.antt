@@ -13,7 +13,7 @@ returns-then-not-satisfied_with_one c =
     c.satisfied_with_one.result c.satisfied_without_one.result
     (sym c.contains.ensures ∙ c.if-not-contains.false) (sym c.contains-else-not-contains.ensures ∙ c.if-contains.false)
     c.satisfied_with_one.ensures
-    (c.satisfied_without_one.ensures ∙ (λ i. satisfies (c.requires.tallied.left_among i) (c.requires.tallied.policy i) (sets.contains (sets.remove l.set p))))
+    (c.satisfied_without_one.ensures ∙ (λ i. satisfies (c.requires.tallied i).processes (c.requires.tallied i).policy (sets.contains (sets.remove l.set p))))
     c.if-not-satisfied_with_one.true
 
 pub returns-else-not-satisfied_with_one : goal.returns-else-not-satisfied_with_one
