@@ -1,6 +1,6 @@
 -- a journal that is checked and recorded
 use Rattle.std.proofs.Common.{◌≡◌, ◌∙◌, ◌+◌, ◌<◌, ◌≤◌, ℕ, inl, inr, Option, Some, None, List, [], ◌∷◌, ◌++◌, length, take, drop, get_or, refl, sym, ap, subst, arith}
-use Rattle.std.specs.Prelude.{Bool, true, false, not, is_some, unwrap_or, IfSome, IsSome}
+use Rattle.std.specs.Prelude.{Bool, false, is_some, unwrap_or, IfSome, IsSome}
 use Rattle.std.proofs.lemmas.List.{take_all, take-append-drop, take-append-le}
 use Rattle.std.proofs.lemmas.Bool.{cases_lt, false≢true}
 use Rattle.fy_acts.specs.declared.entry.Entry.{Entry}
@@ -73,10 +73,6 @@ legal_next state behind e none replayed = subst (HasFirstBad behind.version stat
 pub none_of : (o : Option ℕ) (b : Bool) → b ≡ is_some o → b ≡ false → o ≡ None
 none_of None b is not_some = refl
 none_of (Some at) b is not_some = absurd (false≢true (sym not_some ∙ is))
-
-pub whole_of : (b : Bool) → not b ≡ false → b ≡ true
-whole_of true e = refl
-whole_of false e = absurd (false≢true (sym e))
 
 -- a good entry more
 pub good_recorded : (c : Setup) (entries : List Entry) (new : Recording) → HasFirstBad new.version c entries new.first_bad → new.first_bad ≡ None → new.execution ≡ record { setup = c; journal = entries } → HasRecorded c entries new

@@ -121,6 +121,22 @@ impl Recorder {
         self.recorded.ended()
     }
 
+    /// That no earlier call left the two clusters apart.
+    ///
+    /// # Errors
+    ///
+    /// `AllocError` where one did.
+    fn check_whole(&self) -> Result<(), AllocError>
+        ensures whole { OnOk result (IsTrue self.now.is_whole) }
+        ensures apart { OnErr result (IsFalse self.now.is_whole) }
+    {
+        if self.is_whole {
+            Ok(())
+        } else {
+            Err(AllocError)
+        }
+    }
+
     /// Makes each two columns one, where there are as many as there may be and more entries. The
     /// answer is whether it did.
     ///
@@ -133,10 +149,9 @@ impl Recorder {
             folded ≡ is_full (length self.old.execution.journal) self.old.columns) }
         ensures kept { OnErr result (self.new ≡ self.old) }
         ensures apart { OnErr result (IsFalse self.old.is_whole) }
+        ensures was_whole { OnOk result (IsTrue self.old.is_whole) }
     {
-        if !self.is_whole {
-            return Err(AllocError);
-        }
+        self.check_whole()?;
         Ok(self.recorded.make_room())
     }
 
@@ -147,11 +162,10 @@ impl Recorder {
     /// `AllocError` where an allocation fails, or where an earlier call left the two clusters
     /// apart.
     pub fn end_due(&mut self) -> Result<(), AllocError>
-        ensures { OnOk result (HasEndedDue self.old self.new) }
+        ensures ended { OnOk result (HasEndedDue self.old self.new) }
+        ensures was_whole { OnOk result (IsTrue self.old.is_whole) }
     {
-        if !self.is_whole {
-            return Err(AllocError);
-        }
+        self.check_whole()?;
         self.is_whole = false;
         self.recorded.end_due()?;
         self.is_whole = true;
@@ -172,6 +186,7 @@ impl Recorder {
             → HasRecorded setup (so_far ++ entry ∷ []) self.new) }
         ensures version { OnOk result (self.new.version ≡ self.old.version) }
         ensures whole { OnOk result (IsTrue self.new.is_whole) }
+        ensures was_whole { OnOk result (IsTrue self.old.is_whole) }
         ensures laid { OnOk result (self.new.columns.laid ≡ self.old.columns.laid) }
         ensures past { IsSome self.old.first_bad → OnOk result (self.new ≡ self.old) }
         ensures good { self.new.first_bad ≡ None → OnOk result (DueHaveEnded
@@ -179,9 +194,7 @@ impl Recorder {
         ensures bad { IsSome self.new.first_bad → OnOk result
             (self.new ≡ record self.old { first_bad = self.new.first_bad }) }
     {
-        if !self.is_whole {
-            return Err(AllocError);
-        }
+        self.check_whole()?;
         let copy = entry.try_copy(self.alloc)?;
         self.is_whole = false;
         self.replayer.enter(copy)?;
@@ -203,6 +216,7 @@ impl Recorder {
     /// apart.
     pub fn finish(self) -> Result<Picture, AllocError>
         ensures picture { IfOk result (IsPicture self.execution.setup self.execution.journal) }
+        ensures was_whole { OnOk result (IsTrue self.is_whole) }
         ensures even { self.columns.laid ≡ None → IfOk result (λ picture.
             AreEven (length self.execution.journal) picture.columns.items
             × IsSomeAnd picture.width (IsWidth (length self.execution.journal))) }
@@ -212,9 +226,7 @@ impl Recorder {
         ensures uneven { IsSome self.columns.laid → IfOk result (λ picture.
             picture.width ≡ None) }
     {
-        if !self.is_whole {
-            return Err(AllocError);
-        }
+        self.check_whole()?;
         let Recorder {
             alloc: _,
             replayer: _,

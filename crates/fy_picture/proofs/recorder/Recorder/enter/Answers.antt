@@ -1,5 +1,5 @@
 use Rattle.std.proofs.Common.{◌≡◌, ◌∙◌, ◌++◌, ◌∷◌, [], None, length, refl, sym, subst, ap}
-use Rattle.std.specs.Prelude.{is_some, IfSome}
+use Rattle.std.specs.Prelude.{is_some, IfSome, IsTrue}
 use Rattle.fy_acts.specs.declared.entry.Entry.{Entry}
 use Rattle.fy_cluster.specs.Execution.{Execution}
 use Rattle.fy_cluster.specs.Versions.{LegalUnder}
@@ -12,7 +12,7 @@ use Rattle.fy_picture.proofs.recorder.Recorder.enter.Goals as goal
 pub enter-requires-2-clause-legal : goal.enter-requires-2-clause-legal
 enter-requires-2-clause-legal c =
     let inside = c.self.inside in
-    let sound = c.self.invariant c.if-not-self.false in
+    let sound = c.self.invariant (subst (λ (r : Recording). IsTrue r.is_whole) (sym c.self.view_is) c.in_ok-check_whole.ensures.whole) in
     let none = none_of c.enter.new.self.first_bad c.is_some.result (c.is_some.ensures ∙ ap is_some c.first_bad.ensures) c.if-is_some.false in
     (legal_next inside.recorded.state c.enter.new.self c.args.entry none
     (replayed_next inside.recorded.state inside.replayer c.enter.new.self c.args.entry c.in_ok-copy.copy c.in_ok-copy.ensures.equal sound.legal sound.same c.enter.ensures.stays c.in_ok-enter.ensures.entered none)).legal
@@ -20,7 +20,7 @@ enter-requires-2-clause-legal c =
 pub invariant_of-self-2 : goal.invariant_of-self-2
 invariant_of-self-2 c whole =
     let inside = c.self.inside in
-    let sound = c.self.invariant c.if-not-self.false in
+    let sound = c.self.invariant (subst (λ (r : Recording). IsTrue r.is_whole) (sym c.self.view_is) c.in_ok-check_whole.ensures.whole) in
     let none = none_of c.enter.new.self.first_bad c.is_some.result (c.is_some.ensures ∙ ap is_some c.first_bad.ensures) c.if-is_some.false in
     let next = replayed_next inside.recorded.state inside.replayer c.enter.new.self c.args.entry c.in_ok-copy.copy c.in_ok-copy.ensures.equal sound.legal sound.same c.enter.ensures.stays c.in_ok-enter.ensures.entered none in
     let state = c.in_ok-enter-2.ensures.state in
@@ -34,7 +34,7 @@ invariant_of-self-2 c whole =
 pub returns-then-is_some-clause-entered : goal.returns-then-is_some-clause-entered
 returns-then-is_some-clause-entered c = λ s so_far has.
     let inside = c.self.inside in
-    let sound = c.self.invariant c.if-not-self.false in
+    let sound = c.self.invariant (subst (λ (r : Recording). IsTrue r.is_whole) (sym c.self.view_is) c.in_ok-check_whole.ensures.whole) in
     let was : HasRecorded s so_far (recording inside) = subst (HasRecorded s so_far) (sym c.self.view_is) has in
     let replayed = c.in_ok-enter.ensures.entered s so_far (replayed_by s so_far (recording inside) inside.replayer refl refl sound.same was) in
     let copied = subst (λ (x : Entry). HasReplayed s (so_far ++ x ∷ []) c.enter.new.self) c.in_ok-copy.ensures.equal replayed in
@@ -47,7 +47,7 @@ returns-then-is_some-clause-entered c = λ s so_far has.
 pub returns-clause-entered : goal.returns-clause-entered
 returns-clause-entered c = λ s so_far has.
     let inside = c.self.inside in
-    let sound = c.self.invariant c.if-not-self.false in
+    let sound = c.self.invariant (subst (λ (r : Recording). IsTrue r.is_whole) (sym c.self.view_is) c.in_ok-check_whole.ensures.whole) in
     let none = none_of c.enter.new.self.first_bad c.is_some.result (c.is_some.ensures ∙ ap is_some c.first_bad.ensures) c.if-is_some.false in
     let next = replayed_next inside.recorded.state inside.replayer c.enter.new.self c.args.entry c.in_ok-copy.copy c.in_ok-copy.ensures.equal sound.legal sound.same c.enter.ensures.stays c.in_ok-enter.ensures.entered none in
     let was : HasRecorded s so_far (recording inside) = subst (HasRecorded s so_far) (sym c.self.view_is) has in

@@ -1,13 +1,12 @@
 use Rattle.std.proofs.Common.{◌∙◌, length, sym, subst, ap}
-use Rattle.std.specs.Prelude.{IfOk, IsSome}
+use Rattle.std.specs.Prelude.{IfOk, IsSome, IsTrue}
 use Rattle.fy_picture.specs.declared.picture.Picture.{Picture}
 use Rattle.fy_picture.specs.Layouts.{AreAllMade}
 use Rattle.fy_picture.specs.Recording.{Recording}
-use Rattle.fy_picture.proofs.Recorders.{whole_of}
 use Rattle.fy_picture.proofs.recorder.Recorder.finish.Goals as goal
 
 pub finish-requires : goal.finish-requires
-finish-requires c = (c.self.invariant (whole_of c.self.inside.is_whole c.if-not-self.false)).recorded
+finish-requires c = (c.self.invariant (subst (λ (r : Recording). IsTrue r.is_whole) (sym c.self.view_is) c.in_ok-check_whole.ensures.whole)).recorded
 
 pub returns-clause-laid : goal.returns-clause-laid
 returns-clause-laid c = λ ends laid order.
